@@ -1,13 +1,18 @@
-// A library with one function.
+//! What a store is about, whatever it is made of: keys, values, limits, histories of commits, and what a reader noted.
 #![tactic(auto)]
 
-ghost use Rattle.std.specs.Prelude.{◌≡◌};
-ghost use Rattle.vl_model.specs.Echo.{echo_of};
+mod bytes;
+mod change;
+mod counter;
+mod laws;
+mod limits;
+mod way;
 
-// The `ensures` clause is the contract: what `echo` returns is `echo_of` of its argument, a definition
-// in `specs/Echo.antt`, which a caller's clause can cite too.
-pub fn echo(x: usize) -> usize
-    ensures { result ≡ echo_of x }
-{
-    x
-}
+pub use bytes::{Bytes, Key, Value};
+pub use change::Change;
+pub use counter::Counter;
+pub use laws::{contents_agree_with_values, value_after_one_more_commit};
+pub use limits::{
+    MAX_COMMIT_NUMBER, MAX_KEY_BYTES, MAX_TRANSACTION_BYTES, MAX_TRANSACTION_KEYS, MAX_VALUE_BYTES,
+};
+pub use way::Way;

@@ -1,0 +1,106 @@
+-- The script language: which bytes are a line, and the text of an answer.
+use Rattle.std.specs.Prelude.{◌≡◌, ◌+◌, ◌==◌, ◌&&◌, ◌||◌, ℕ, Bool, true, false, nat_le, nat_eq, if◌then◌else◌, List, [], ◌∷◌, ◌++◌, length, codes, Option, Some, None, Result, Ok, Err}
+use Rattle.std.specs.List.{list_all, slice_split, onto_first}
+use Rattle.std.specs.Option.{option_map}
+use Rattle.std.specs.Str.{bytes_eq}
+use Rattle.std.specs.Fmt.{decimal}
+use Rattle.hex.specs.Hex.{decode_of, encode_lower}
+use Rattle.hex.specs.declared.error.FromHexError.{FromHexError}
+use Rattle.vl_model.specs.declared.counter.Counter.{Counter}
+use Rattle.vl_model.specs.declared.counter.Counter.TheVariants.{Commit as CommitNumber, Log, Table, Manifest, Version}
+use Rattle.vl_cli.specs.declared.script.line.Line.{Line}
+use Rattle.vl_cli.specs.declared.script.line.Line.TheVariants.{Begin, View, Get, Set, Commit}
+use Rattle.vl_cli.specs.declared.script.answer.Answer.{Answer}
+use Rattle.vl_cli.specs.declared.script.answer.Answer.TheVariants.{Done, Number, Found, NoValue, Taken, Unknown, ReadOnly, Invalid, TooBig, TooMany, Nothing, Exhausted}
+use Rattle.vl_cli.specs.declared.script.limits.TheConstants.{MAX_LINE_BYTES, MAX_IDENT_BYTES}
+
+-- a line ends with byte 10 or with the input; behind the last byte 10 there is none
+abbrev pub lines_of : List ℕ → List (List ℕ)
+lines_of [] = []
+lines_of (b ∷ bytes) = if b == 10 then [] ∷ lines_of bytes else onto_first b (lines_of bytes)
+
+-- words are separated by one space, so two spaces have an empty word between them
+abbrev pub words_of : List ℕ → List (List ℕ)
+words_of text = slice_split (λ b. b == 32) text
+
+-- a to z and 0 to 9
+abbrev pub is_ident_byte : ℕ → Bool
+is_ident_byte b = (nat_le 97 b && nat_le b 122) || (nat_le 48 b && nat_le b 57)
+
+abbrev pub ident_of : List ℕ → Option (List ℕ)
+ident_of word =
+    if nat_le 1 (length word) && nat_le (length word) MAX_IDENT_BYTES && list_all is_ident_byte word then Some word else None
+
+abbrev pub decoded : Result (List ℕ) FromHexError → Option (List ℕ)
+decoded (Ok bytes) = Some bytes
+decoded (Err e) = None
+
+-- a key or a value: pairs of hexadecimal digits of either case, or - for no bytes
+abbrev pub bytes_of : List ℕ → Option (List ℕ)
+bytes_of [] = None
+bytes_of (b ∷ word) = if bytes_eq (b ∷ word) (codes "-") then Some [] else decoded (decode_of (b ∷ word))
+
+infixl 10 ◌>>=◌
+abbrev pub ◌>>=◌ : {A B : Type 0} → Option A → (A → Option B) → Option B
+None >>= f = None
+Some x >>= f = f x
+
+-- the words behind begin, view and commit
+abbrev pub ident_alone : List (List ℕ) → Option (List ℕ)
+ident_alone (name ∷ []) = ident_of name
+ident_alone words = None
+
+-- the words behind get
+abbrev pub get_of : List (List ℕ) → Option Line
+get_of (name ∷ key ∷ []) = ident_of name >>= λ t. bytes_of key >>= λ k. Some (Get t k)
+get_of words = None
+
+-- the words behind set
+abbrev pub set_of : List (List ℕ) → Option Line
+set_of (name ∷ key ∷ value ∷ []) = ident_of name >>= λ t. bytes_of key >>= λ k. bytes_of value >>= λ v. Some (Set t k v)
+set_of words = None
+
+abbrev pub line_of_words : List (List ℕ) → Option Line
+line_of_words [] = None
+line_of_words (command ∷ words) =
+    if bytes_eq command (codes "begin") then option_map Begin (ident_alone words)
+    else (if bytes_eq command (codes "view") then option_map View (ident_alone words)
+    else (if bytes_eq command (codes "get") then get_of words
+    else (if bytes_eq command (codes "set") then set_of words
+    else (if bytes_eq command (codes "commit") then option_map Commit (ident_alone words)
+    else None))))
+
+-- the line that these bytes are, without the line's end
+abbrev pub line_of : List ℕ → Option Line
+line_of text = if nat_le (length text) MAX_LINE_BYTES then line_of_words (words_of text) else None
+
+-- pairs of lower case digits, or - for no bytes
+abbrev pub bytes_text : List ℕ → List ℕ
+bytes_text [] = codes "-"
+bytes_text (b ∷ bytes) = encode_lower (b ∷ bytes)
+
+abbrev pub counter_text : Counter → List ℕ
+counter_text CommitNumber = codes "commit"
+counter_text Log = codes "log"
+counter_text Table = codes "table"
+counter_text Manifest = codes "manifest"
+counter_text Version = codes "version"
+
+-- an answer without its line's end
+abbrev pub answer_text : Answer → List ℕ
+answer_text Done = codes "ok"
+answer_text (Number number) = codes "ok " ++ decimal number
+answer_text (Found value) = codes "value " ++ bytes_text value
+answer_text NoValue = codes "none"
+answer_text (Taken name) = codes "taken " ++ name
+answer_text (Unknown name) = codes "unknown " ++ name
+answer_text ReadOnly = codes "readonly"
+answer_text Invalid = codes "invalid"
+answer_text TooBig = codes "toobig"
+answer_text TooMany = codes "toomany"
+answer_text Nothing = codes "nothing"
+answer_text (Exhausted counter) = codes "exhausted " ++ counter_text counter
+
+-- what is printed: each printed line ends with byte 10
+abbrev pub text_of : Answer → List ℕ
+text_of answer = answer_text answer ++ (10 ∷ [])

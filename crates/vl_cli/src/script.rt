@@ -1,0 +1,9 @@
+//! The script language: its lines, their answers, and how both are written.
+
+mod answer;
+mod limits;
+mod line;
+
+pub use answer::Answer;
+pub use limits::{MAX_IDENT_BYTES, MAX_LINE_BYTES};
+pub use line::{Ident, Line};

@@ -1,0 +1,31 @@
+use crate::script::Ident;
+use vl_model::{Counter, Value};
+
+/// The answer to a line, as docs/SCRIPT.md spells it.
+#[derive(Drop)]
+pub enum Answer {
+    /// `ok`
+    Done,
+    /// `ok N`: the number of the last commit at a begin, or of the commit that was made.
+    Number { number: u64 },
+    /// `value V`
+    Found { value: Value },
+    /// `none`: the key has no value.
+    NoValue,
+    /// `taken T`: the name is in use.
+    Taken { name: Ident },
+    /// `unknown T`: the name isn't in use.
+    Unknown { name: Ident },
+    /// `readonly`: a view takes no writes.
+    ReadOnly,
+    /// `invalid`: the key or the value is outside its limits.
+    Invalid,
+    /// `toobig`: the transaction would pass a limit.
+    TooBig,
+    /// `toomany`: no more transactions and views may be open.
+    TooMany,
+    /// `nothing`: the transaction had no writes.
+    Nothing,
+    /// `exhausted W`: there is no next number of this kind.
+    Exhausted { counter: Counter },
+}

@@ -1,0 +1,19 @@
+use vl_model::{Bytes, Key, Value};
+
+/// A name that a script gives to a transaction or a view: 1 to 16 of `a` to `z` and `0` to `9`.
+pub type Ident = Bytes;
+
+/// A line of a script, as docs/SCRIPT.md spells it.
+#[derive(Drop)]
+pub enum Line {
+    /// `begin T`: opens a transaction at the last commit.
+    Begin { name: Ident },
+    /// `view T`: opens a view, which only reads, at the last commit.
+    View { name: Ident },
+    /// `get T K`: reads a key.
+    Get { name: Ident, key: Key },
+    /// `set T K V`: writes a key in a transaction.
+    Set { name: Ident, key: Key, value: Value },
+    /// `commit T`: ends a transaction, with its writes as the next commit.
+    Commit { name: Ident },
+}

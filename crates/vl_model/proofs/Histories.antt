@@ -1,0 +1,69 @@
+-- Histories: what stands at a key, as the contents have it and after one more commit.
+use Rattle.std.proofs.Common.{◌≡◌, ◌+◌, ◌-◌, ◌≤◌, ℕ, List, [], ◌∷◌, ◌++◌, length, take, refl, ap, sym, ◌∙◌, cond, Bool, true, false, arith}
+use Rattle.std.proofs.Common.{length-append}
+use Rattle.std.proofs.lemmas.Grind.{common_steps}
+use Rattle.std.specs.Prelude.{Option, Some, None}
+use Rattle.std.specs.FinMap.{get, insert, remove, entries, find, get-insert, get-remove, get-entries}
+use Rattle.std.specs.Cmp.{IsTotalOrder}
+use Rattle.std.specs.Cmp.Lexicographic.{nat_list_cmp_total}
+use Rattle.std.specs.Ordering.{eq_by_cmp}
+use Rattle.vl_model.specs.Keys.{Stored, Pairs, Writes, key_cmp}
+use Rattle.vl_model.specs.History.{History, newer, last_change, value_left, value_at, changed, changed_by, pairs_after, contents_at, commits_up_to, last_number, with_commit}
+use Rattle.vl_model.specs.declared.change.Change.{Change}
+use Rattle.vl_model.specs.declared.change.Change.TheVariants.{Set, Delete}
+
+-- one change reaches its own key and no other
+get-changed : (pairs : Pairs) (key : List ℕ) (change : Change) (q : List ℕ) → get (changed pairs key change) q ≡ cond (eq_by_cmp key_cmp q key) (value_left (get pairs q) (Some change)) (get pairs q)
+get-changed pairs key (Set value) q = get-insert nat_list_cmp_total pairs key value q
+get-changed pairs key Delete q = get-remove nat_list_cmp_total pairs key q
+
+value_left-cond : (b : Bool) (old mid : Option Stored) (change : Change) (later : Option Change) → mid ≡ value_left old later → cond b (value_left mid (Some change)) mid ≡ value_left old (cond b (Some change) later)
+value_left-cond true old mid (Set value) later e = refl
+value_left-cond true old mid Delete later e = refl
+value_left-cond false old mid change later e = e
+
+get-changed_by : (pairs : Pairs) (writes : List (List ℕ × Change)) (q : List ℕ) → get (changed_by pairs writes) q ≡ value_left (get pairs q) (find key_cmp q writes)
+get-changed_by pairs [] q = refl
+get-changed_by pairs (write ∷ others) q =
+    get-changed (changed_by pairs others) write.0 write.1 q
+    ∙ value_left-cond (eq_by_cmp key_cmp q write.0) (get pairs q) (get (changed_by pairs others) q) write.1 (find key_cmp q others) (get-changed_by pairs others q)
+
+-- what came first counts only where nothing came later
+value_left-newer : (old : Option Stored) (first later : Option Change) → value_left (value_left old first) later ≡ value_left old (newer first later)
+value_left-newer old first None = refl
+value_left-newer old first (Some (Set value)) = refl
+value_left-newer old first (Some Delete) = refl
+
+get-pairs_after : (pairs : Pairs) (commits : List Writes) (q : List ℕ) → get (pairs_after pairs commits) q ≡ value_left (get pairs q) (last_change commits q)
+get-pairs_after pairs [] q = refl
+get-pairs_after pairs (writes ∷ later) q =
+    get-pairs_after (changed_by pairs (entries writes)) later q
+    ∙ ap (λ v. value_left v (last_change later q)) (get-changed_by pairs (entries writes) q ∙ ap (value_left (get pairs q)) (sym (get-entries writes q)))
+    ∙ value_left-newer (get pairs q) (get writes q) (last_change later q)
+
+pub get-contents_at : (h : History) (n : ℕ) (q : List ℕ) → get (contents_at h n) q ≡ value_at h n q
+get-contents_at h n q = get-pairs_after h.base (commits_up_to h n) q
+
+-- a commit behind the others is the last that may name the key
+last_change-append : (commits : List Writes) (writes : Writes) (q : List ℕ) → last_change (commits ++ (writes ∷ [])) q ≡ newer (last_change commits q) (get writes q)
+last_change-append [] writes q = newer-none (get writes q)
+  where
+    newer-none : (x : Option Change) → newer x None ≡ newer None x
+    newer-none None = refl
+    newer-none (Some x) = refl
+last_change-append (first ∷ later) writes q =
+    ap (newer (get first q)) (last_change-append later writes q) ∙ newer-newer (get first q) (last_change later q) (get writes q)
+  where
+    newer-newer : (a b c : Option Change) → newer a (newer b c) ≡ newer (newer a b) c
+    newer-newer a b None = refl
+    newer-newer a b (Some c) = refl
+
+take_all : (commits : List Writes) (n : ℕ) → length commits ≤ n → take n commits ≡ commits
+take_all commits n le = grind (arith, common_steps)
+
+pub value_at-with_commit : (h : History) (writes : Writes) (q : List ℕ) → value_at (with_commit h writes) (last_number h + 1) q ≡ value_left (value_at h (last_number h) q) (get writes q)
+value_at-with_commit h writes q =
+    ap (λ cs. value_left (get h.base q) (last_change cs q)) (take_all (h.commits ++ (writes ∷ [])) (h.first + length h.commits + 1 - h.first) (omega (arith, length-append h.commits (writes ∷ []))))
+    ∙ ap (value_left (get h.base q)) (last_change-append h.commits writes q)
+    ∙ sym (value_left-newer (get h.base q) (last_change h.commits q) (get writes q))
+    ∙ ap (λ cs. value_left (value_left (get h.base q) (last_change cs q)) (get writes q)) (sym (take_all h.commits (h.first + length h.commits - h.first) (omega arith)))

@@ -1,0 +1,68 @@
+-- The accepted commits, oldest first, over a base: what each key has after each of them.
+use Rattle.std.specs.Prelude.{◌≡◌, ◌+◌, ◌-◌, ℕ, List, [], ◌∷◌, length, take, Option, Some, None, ◌++◌}
+use Rattle.std.specs.FinMap.{FinMap, get, insert, remove, entries, empty}
+use Rattle.vl_model.specs.Keys.{Stored, Pairs, Writes, key_cmp}
+use Rattle.vl_model.specs.declared.change.Change.{Change}
+use Rattle.vl_model.specs.declared.change.Change.TheVariants.{Set, Delete}
+
+-- the i-th commit, counted from 1, has the number first + i
+pub record History : Type 0 where
+  pub first : ℕ
+  pub base : Pairs
+  pub commits : List Writes
+
+-- the history of an empty disk
+abbrev pub no_history : History
+no_history = record { first = 0; base = empty; commits = [] }
+
+-- the number of the last commit
+abbrev pub last_number : History → ℕ
+last_number h = h.first + length h.commits
+
+-- the history with one more commit
+abbrev pub with_commit : History → Writes → History
+with_commit h writes = record { first = h.first; base = h.base; commits = h.commits ++ (writes ∷ []) }
+
+-- the commits numbered at most n
+abbrev pub commits_up_to : History → ℕ → List Writes
+commits_up_to h n = take (n - h.first) h.commits
+
+-- the second where it is there, else the first
+abbrev pub newer : {A : Type 0} → Option A → Option A → Option A
+newer old None = old
+newer old (Some x) = Some x
+
+-- what the last of these commits that names the key does to it
+abbrev pub last_change : List Writes → List ℕ → Option Change
+last_change [] key = None
+last_change (writes ∷ later) key = newer (get writes key) (last_change later key)
+
+-- the value that a change leaves, over what the key had
+abbrev pub value_left : Option Stored → Option Change → Option Stored
+value_left old None = old
+value_left old (Some (Set value)) = Some value
+value_left old (Some Delete) = None
+
+-- what a key has at a number: the value of the last commit numbered at most n that names it, none where
+-- that commit deletes it, and the base's where there is no such commit
+abbrev pub value_at : History → ℕ → List ℕ → Option Stored
+value_at h n key = value_left (get h.base key) (last_change (commits_up_to h n) key)
+
+-- the pairs after one change
+abbrev pub changed : Pairs → List ℕ → Change → Pairs
+changed pairs key (Set value) = insert pairs key value
+changed pairs key Delete = remove pairs key
+
+-- the pairs after changes to different keys, in whatever order
+abbrev pub changed_by : Pairs → List (List ℕ × Change) → Pairs
+changed_by pairs [] = pairs
+changed_by pairs (write ∷ others) = changed (changed_by pairs others) write.0 write.1
+
+-- the pairs after these commits
+abbrev pub pairs_after : Pairs → List Writes → Pairs
+pairs_after pairs [] = pairs
+pairs_after pairs (writes ∷ later) = pairs_after (changed_by pairs (entries writes)) later
+
+-- all that stands at a number: each key that has a value, with it
+abbrev pub contents_at : History → ℕ → Pairs
+contents_at h n = pairs_after h.base (commits_up_to h n)

@@ -1,0 +1,31 @@
+-- Keys and values as lists of bytes, and which of them are lawful.
+use Rattle.std.specs.Prelude.{◌≡◌, ◌<◌, ◌≤◌, ℕ, List, length, Bool, ◌&&◌, nat_le, All}
+use Rattle.std.specs.FinMap.{FinMap}
+use Rattle.std.specs.Cmp.Lexicographic.{slice_cmp}
+use Rattle.std.specs.Ordering.{nat_cmp}
+use Rattle.std.specs.declared.cmp.Ordering.{Ordering}
+use Rattle.vl_model.specs.declared.limits.TheConstants.{MAX_KEY_BYTES, MAX_VALUE_BYTES}
+use Rattle.vl_model.specs.declared.change.Change.{Change}
+
+-- the value that stands at a key
+abbrev pub Stored : Type 0
+Stored = List ℕ
+
+-- keys in the order of their bytes from the left; a key that begins another is below it
+abbrev pub key_cmp : List ℕ → List ℕ → Ordering
+key_cmp = slice_cmp nat_cmp
+
+-- the values that stand at some keys
+abbrev pub Pairs : Type 0
+Pairs = FinMap key_cmp Stored
+
+-- what one transaction or commit does to the keys that it names
+abbrev pub Writes : Type 0
+Writes = FinMap key_cmp Change
+
+-- a key has 1 byte to MAX_KEY_BYTES
+abbrev pub is_key_length : ℕ → Bool
+is_key_length n = nat_le 1 n && nat_le n MAX_KEY_BYTES
+
+abbrev pub is_value_length : ℕ → Bool
+is_value_length n = nat_le n MAX_VALUE_BYTES
