@@ -2,6 +2,7 @@
 #![tactic(auto)]
 
 mod ending;
+pub mod input;
 pub mod replayer;
 pub mod script;
 

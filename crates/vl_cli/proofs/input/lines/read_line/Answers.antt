@@ -1,0 +1,26 @@
+use Rattle.std.proofs.Common.{◌≡◌, ◌<◌, length, arith, sym}
+use Rattle.std.proofs.lemmas.Bool.{eqb-false}
+use Rattle.vl_cli.proofs.Lines.{read_to_end, read_all, too_long, last_line_read}
+use Rattle.vl_cli.proofs.input.lines.read_line.Goals as goal
+
+pub returns-then-branch-clause-line : goal.returns-then-branch-clause-line
+returns-then-branch-clause-line g c left told =
+    let was = c.loop-line.invariant.told left told in
+    let taken = rw c.if-branch.true at c.in_ok-take_line.ensures in
+    (was.0, was.1, read_to_end _ _ _ _ _ _ was.2 c.loop-line.invariant.unended taken)
+
+pub returns-then-len-gt-MAX_LINE_BYTES-clause-line :
+    goal.returns-then-len-gt-MAX_LINE_BYTES-clause-line
+returns-then-len-gt-MAX_LINE_BYTES-clause-line g c left told =
+    let was = c.loop-line.invariant.told left told in
+    let taken = rw c.if-branch.false at c.in_ok-take_line.ensures in
+    let all = read_all _ _ _ _ _ _ was.2 c.loop-line.invariant.unended taken in
+    too_long _ _ _ _ all.0 all.1 (omega arith)
+
+pub returns-else-is_empty-clause-line : goal.returns-else-is_empty-clause-line
+returns-else-is_empty-clause-line g c left told =
+    let was = c.loop-line.invariant.told left told in
+    let taken = rw c.if-branch.false at c.in_ok-take_line.ensures in
+    let all = read_all _ _ _ _ _ _ was.2 c.loop-line.invariant.unended taken in
+    let filled = rw (c.if-not-branch.true, was.1) at c.in_ok-refill.ensures.bytes in
+    last_line_read _ _ _ _ _ all.0 all.1 (omega (arith, c.take_line.new.line.ok.0, eqb-false _ _ (sym c.if-is_empty.ensures))) filled

@@ -1,0 +1,17 @@
+use Rattle.std.proofs.Common.{◌≡◌, ◌+◌, ◌≤◌, ◌++◌, ℕ, List, length, Option, Some}
+use Rattle.vl_cli.specs.Input.{HasNoLineEnd}
+use Rattle.vl_cli.proofs.input.lines.read_line.Given as goal
+
+-- the line so far, the buffer and what the source has left are what they had before; the line so far has no end
+abbrev pub invariant-loop-line : goal.invariant-loop-line
+invariant-loop-line g l =
+    let left = g.S.Source.left in
+    record {
+      told : (had : List ℕ) → left l.fn.source ≡ Some had → (rest : List ℕ) × (left l.source ≡ Some rest) × (l.fn.buffer ++ had ≡ l.line.items ++ (l.buffer ++ rest));
+      unended : HasNoLineEnd l.line.items;
+      spent : length l.line.items + (length l.buffer + g.S.Source.budget l.source) ≤ length l.fn.buffer + g.S.Source.budget l.fn.source;
+      faults : g.S.Source.faults l.fn.source ≤ g.S.Source.faults l.source;
+    }
+
+abbrev pub decreases-loop-line : goal.decreases-loop-line
+decreases-loop-line g l = g.S.Source.budget l.source

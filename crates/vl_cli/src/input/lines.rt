@@ -1,0 +1,49 @@
+ghost use Rattle.std.specs.Prelude.{◌≡◌, ◌≢◌, ◌+◌, ◌<◌, ◌≤◌, ◌++◌, ℕ, List, length, IfOk, IsErrOf, Option, Some};
+ghost use Rattle.vl_disk.specs.Faults.{Rose};
+ghost use Rattle.vl_cli.specs.Input.{ReadsLine};
+
+use crate::input::{Buffer, InputFail};
+use crate::script::MAX_LINE_BYTES;
+use vl_io::Source;
+
+/// What was found where a line may stand.
+#[derive(Clone, Copy, Debug, PartialEq, Eq)]
+pub enum Next {
+    /// A line.
+    Line,
+    /// A line that is longer than any line of the language. The rest of it isn't read.
+    TooLong,
+    /// The end of the input.
+    End,
+}
+
+/// Reads the next line, without its end, in the place of what `line` held.
+pub fn read_line<S: Source>(
+    buffer: &mut Buffer,
+    source: &mut S,
+    line: &mut Vec<u8>,
+) -> Result<Next, InputFail>
+    ensures line { IfOk result (λ next. (left : List ℕ) → S.left source.old ≡ Some left
+        → ReadsLine next (buffer.old ++ left) line.new.items buffer.new (S.left source.new)) }
+    ensures shorter { IfOk result (λ next. next ≡ Next.Line
+        → length buffer.new + S.budget source.new < length buffer.old + S.budget source.old) }
+    ensures faults { S.faults source.old ≤ S.faults source.new }
+    ensures failed { IsErrOf result InputFail.Fault → Rose (S.faults source.old) (S.faults source.new) }
+{
+    line.clear();
+    loop {
+        if buffer.take_line(line)? {
+            return Ok(Next::Line);
+        }
+        if line.len() > MAX_LINE_BYTES {
+            return Ok(Next::TooLong);
+        }
+        if !buffer.refill(source)? {
+            return Ok(if line.is_empty() {
+                Next::End
+            } else {
+                Next::Line
+            });
+        }
+    }
+}
