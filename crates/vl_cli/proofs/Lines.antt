@@ -115,11 +115,10 @@ regrouped : (line piece new rest : List ℕ) → line ++ ((piece ++ 10 ∷ new) 
 regrouped line piece new rest = simp append_assoc
 
 -- the bytes that are left, where the buffer has a line's end
-pub read_to_end : (had line buffer rest new line' : List ℕ) → had ≡ line ++ (buffer ++ rest) → HasNoLineEnd line → TakesLineEnd true buffer new line line' → lines_of had ≡ line' ∷ lines_of (new ++ rest)
+pub read_to_end : (had line buffer rest new line' : List ℕ) → had ≡ line ++ (buffer ++ rest) → HasNoLineEnd line → TakesLineEnd true buffer new line line' → (had ≡ line' ++ 10 ∷ (new ++ rest)) × HasNoLineEnd line'
 read_to_end had line buffer rest new line' e h (piece, parts, unended, taken) =
-    ap lines_of (e ∙ ap (λ (b : List ℕ). line ++ (b ++ rest)) parts ∙ regrouped line piece new rest)
-    ∙ lines_of-ended (line ++ piece) (new ++ rest) (unended-append line piece h unended)
-    ∙ ap (λ (l : List ℕ). l ∷ lines_of (new ++ rest)) (sym taken)
+    (e ∙ ap (λ (b : List ℕ). line ++ (b ++ rest)) parts ∙ regrouped line piece new rest ∙ ap (λ (l : List ℕ). l ++ 10 ∷ (new ++ rest)) (sym taken),
+      rw taken (unended-append line piece h unended))
 
 -- the same, where it has none and all of it is taken
 pub read_all : (had line buffer rest new line' : List ℕ) → had ≡ line ++ (buffer ++ rest) → HasNoLineEnd line → TakesLineEnd false buffer new line line' → (had ≡ line' ++ rest) × HasNoLineEnd line'
@@ -133,6 +132,5 @@ too_long n had line rest e h long =
     (line ++ first.tail, first.texts, ap lines_of e ∙ first.lines, omega (arith, length-append line first.tail))
 
 -- the source is at its end, and the line so far is the last one
-pub last_line_read : (had line rest given : List ℕ) (left' : Option (List ℕ)) → had ≡ line ++ rest → HasNoLineEnd line → 0 < length line → Refills false (Some rest) left' given → (x : List ℕ) × (left' ≡ Some x) × (lines_of had ≡ line ∷ lines_of (given ++ x))
-last_line_read had line rest given left' e h some (none, was, no_more) =
-    ([], none, ap lines_of (e ∙ ap (λ (r : List ℕ). line ++ r) was ∙ append-nil line) ∙ lines_of-unended line h some ∙ ap (λ (g : List ℕ). line ∷ lines_of (g ++ [])) (sym no_more))
+pub last_line_read : (had line rest given : List ℕ) (left' : Option (List ℕ)) → had ≡ line ++ rest → Refills false (Some rest) left' given → (left' ≡ Some []) × (had ≡ line)
+last_line_read had line rest given left' e (none, was, no_more) = (none, e ∙ ap (λ (r : List ℕ). line ++ r) was ∙ append-nil line)

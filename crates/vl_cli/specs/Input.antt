@@ -3,7 +3,7 @@ use Rattle.std.specs.Prelude.{◌≡◌, ◌≢◌, ◌<◌, ◌≤◌, ◌+◌,
 use Rattle.std.specs.List.{AllByRecursion}
 use Rattle.vl_cli.specs.Script.{lines_of}
 use Rattle.vl_cli.specs.declared.input.lines.Next.{Next}
-use Rattle.vl_cli.specs.declared.input.lines.Next.TheVariants.{Line, TooLong, End}
+use Rattle.vl_cli.specs.declared.input.lines.Next.TheVariants.{Line, LastLine, TooLong, End}
 use Rattle.vl_cli.specs.declared.script.limits.TheConstants.{MAX_LINE_BYTES}
 
 -- no byte of these ends a line
@@ -22,9 +22,14 @@ Refills true (Some left) left' given = (rest : List ℕ) × (left' ≡ Some rest
 Refills false None left' given = (left' ≡ None) × (given ≡ [])
 Refills false (Some left) left' given = (left' ≡ Some []) × (left ≡ []) × (given ≡ [])
 
--- what was found at the front of the bytes that a buffer and a source had: a line, and what is left behind it; a
--- line that is longer than any of the language; or the source's end
+-- what was found at the front of the bytes that a buffer and a source had: a line with its end; a line without one,
+-- which the source's end ends; a line that is longer than any of the language; or the source's end
 abbrev pub ReadsLine : Next → List ℕ → List ℕ → List ℕ → Option (List ℕ) → Type 0
-ReadsLine Line had line buffer left = (rest : List ℕ) × (left ≡ Some rest) × (lines_of had ≡ line ∷ lines_of (buffer ++ rest))
+ReadsLine Line had line buffer left = (rest : List ℕ) × (left ≡ Some rest) × (had ≡ line ++ 10 ∷ (buffer ++ rest)) × HasNoLineEnd line
+ReadsLine LastLine had line buffer left = (left ≡ Some []) × (had ≡ line) × HasNoLineEnd line × (0 < length line)
 ReadsLine TooLong had line buffer left = (text : List ℕ) × (texts : List (List ℕ)) × (lines_of had ≡ text ∷ texts) × (MAX_LINE_BYTES < length text)
-ReadsLine End had line buffer left = (left ≡ Some []) × (lines_of had ≡ [])
+ReadsLine End had line buffer left = (left ≡ Some []) × (had ≡ [])
+
+-- the source failed before a line had ended in what it gave
+abbrev pub FailsWithin : List ℕ → Option (List ℕ) → Type 0
+FailsWithin had left = (given : List ℕ) × (rest : List ℕ) × (left ≡ Some rest) × (had ≡ given ++ rest) × HasNoLineEnd given

@@ -1,4 +1,6 @@
 pub mod Input
 pub mod Replay
+pub mod Represents
 pub mod Script
 pub mod Sequential
+pub mod Steps

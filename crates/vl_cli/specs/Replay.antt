@@ -1,13 +1,13 @@
 -- Whole runs: what is printed for an input, however the run ends.
-use Rattle.std.specs.Prelude.{◌≡◌, ◌+◌, ◌-◌, ◌*◌, ◌^◌, ◌<◌, ◌≤◌, ◌⊎◌, ℕ, Bool, true, false, not, ◌==◌, ◌&&◌, min, if◌then◌else◌, List, [], ◌∷◌, ◌++◌, length, take, codes, map, Option, Some, None, option_and_then, MatchBool}
+use Rattle.std.specs.Prelude.{◌≡◌, ◌+◌, ◌-◌, ◌*◌, ◌^◌, ◌<◌, ◌≤◌, ◌⊎◌, ℕ, Bool, true, false, not, ◌==◌, ◌&&◌, min, if◌then◌else◌, List, [], ◌∷◌, ◌++◌, length, take, codes, count_by, Option, Some, None, option_and_then, MatchBool}
 use Rattle.std.specs.List.{flat_map, AllByRecursion, slice_get}
 use Rattle.std.specs.Str.{bytes_eq}
 use Rattle.std.specs.Fmt.{decimal}
 use Rattle.std.specs.FinMap.{get}
-use Rattle.vl_model.specs.History.{no_history, last_number}
+use Rattle.vl_model.specs.History.{last_number, value_at}
 use Rattle.vl_model.specs.Reads.{Read, IsExplained}
 use Rattle.vl_model.specs.Keys.{Writes}
-use Rattle.vl_cli.specs.Sequential.{State, Outcome, outcome, empty_store, OpenTransaction}
+use Rattle.vl_cli.specs.Sequential.{State, outcome, empty_store, OpenTransaction, OpenView, found}
 use Rattle.vl_cli.specs.Script.{line_of, lines_of, text_of}
 use Rattle.vl_cli.specs.declared.script.line.Line.{Line}
 use Rattle.vl_cli.specs.declared.script.line.Line.TheVariants.{Begin, View, Get, Set, Commit}
@@ -31,7 +31,7 @@ is_printed TooMany = false
 is_printed Nothing = false
 is_printed (Exhausted counter) = false
 
--- a word that is no option
+-- a word that is neither empty nor an option
 abbrev pub is_plain_word : List ℕ → Bool
 is_plain_word [] = false
 is_plain_word (b ∷ bytes) = not (b == 45)
@@ -52,10 +52,15 @@ exchanged s line =
 abbrev pub exchange_at : State → List ℕ → Option Exchange
 exchange_at s text = option_and_then (exchanged s) (line_of text)
 
+-- an exchange, where there is one, and those behind it
+abbrev pub and_later : (Exchange → List Exchange) → Option Exchange → List Exchange
+and_later later None = []
+and_later later (Some e) = e ∷ later e
+
 -- the exchanges from a state on, up to the first bad line
 abbrev pub exchanges_from : State → List (List ℕ) → List Exchange
 exchanges_from s [] = []
-exchanges_from s (text ∷ texts) = elim (exchange_at s text) [ None ↦ [] | Some e ↦ e ∷ exchanges_from e.after texts ]
+exchanges_from s (text ∷ texts) = and_later (λ e. exchanges_from e.after texts) (exchange_at s text)
 
 -- the text of their answers, each one whole
 abbrev pub answers_text : List Exchange → List ℕ
@@ -65,52 +70,61 @@ answers_text exchanges = flat_map (λ e. text_of e.answer) exchanges
 abbrev pub line_number : ℕ → ℕ
 line_number n = min n (2 ^ 64 - 1)
 
--- the last line of a run that ends at the line of this number; a run that is complete, and one whose sink
--- failed, have none
+-- the last lines of runs that don't end with an answer
 abbrev pub usage_line : List ℕ
 usage_line = codes "usage: vlstore replay DIR, trial STOP OUTCOME, bench SEED COUNT or drive CLIENTS TXNS SEED" ++ (10 ∷ [])
 
 abbrev pub bad_line : ℕ → List ℕ
 bad_line n = codes "bad line " ++ decimal (line_number n) ++ (10 ∷ [])
 
-abbrev pub last_line : Ending → ℕ → List ℕ
-last_line Complete n = []
-last_line BadLine n = bad_line n
-last_line BadWords n = usage_line
-last_line NoMemory n = codes "no memory" ++ (10 ∷ [])
-last_line ReadFault n = codes "read fault" ++ (10 ∷ [])
-last_line WriteFault n = []
+abbrev pub no_memory_line : List ℕ
+no_memory_line = codes "no memory" ++ (10 ∷ [])
+
+abbrev pub read_fault_line : List ℕ
+read_fault_line = codes "read fault" ++ (10 ∷ [])
 
 -- a piece's first bytes, none or all of them included
 abbrev pub IsFront : List ℕ → List ℕ → Type 0
 IsFront front piece = (rest : List ℕ) × (piece ≡ front ++ rest)
 
--- what may be printed next after m answers: the next answer; the bad line, where there is one more line and no
--- next answer; or that memory ran out or the source failed
-pub data NextPiece (all : List Exchange) (lines n m : ℕ) : List ℕ → Type 0 where
-  next_answer : (e : Exchange) → slice_get all m ≡ Some e → NextPiece all lines n m (text_of e.answer)
-  next_bad_line : m ≡ length all → length all < lines → NextPiece all lines n m (bad_line (n + length all + 1))
-  next_no_memory : NextPiece all lines n m (last_line NoMemory 0)
-  next_read_fault : NextPiece all lines n m (last_line ReadFault 0)
+-- how many lines end in these bytes
+abbrev pub ended_lines : List ℕ → ℕ
+ended_lines bytes = count_by (λ b. b == 10) bytes
 
--- How a run over so many lines ended, and what it printed, where n lines came before and all are the exchanges up to
--- the first bad line:
---   complete: every line was answered;
---   a bad line: all lines before it were, and there is one more;
---   want of memory or a fault of the source: some lines were, each answer whole;
+-- what may be printed next after m of these answers: the next one; the bad line, where there is one more line and no
+-- next answer; that memory ran out; or that the source failed, where it did
+pub data NextPiece (failed : Type 0) (all : List Exchange) (lines before m : ℕ) : List ℕ → Type 0 where
+  next_answer : (e : Exchange) → slice_get all m ≡ Some e → NextPiece failed all lines before m (text_of e.answer)
+  next_bad_line : m ≡ length all → length all < lines → NextPiece failed all lines before m (bad_line (before + length all + 1))
+  next_no_memory : NextPiece failed all lines before m no_memory_line
+  next_read_fault : failed → NextPiece failed all lines before m read_fault_line
+
+-- How a run over these bytes ended, and what it printed. All are the exchanges up to the first bad line, of so many
+-- lines, and some lines came before. Left is what the source has left in the end.
+--   complete: every line was answered, and the source was read to its end;
+--   a bad line: all lines before it were answered, and there is one more;
+--   want of memory: some lines were answered, each answer whole;
+--   a fault of the source: each line that had ended in the bytes that it gave was;
 --   a fault of the sink: some lines were, and of the next piece some first bytes came out.
-abbrev pub EndsSo : List Exchange → ℕ → ℕ → Ending → List ℕ → Type 0
-EndsSo all lines n Complete printed = (length all ≡ lines) × (printed ≡ answers_text all)
-EndsSo all lines n BadLine printed = (length all < lines) × (printed ≡ answers_text all ++ last_line BadLine (n + length all + 1))
-EndsSo all lines n BadWords printed = ⊥
-EndsSo all lines n NoMemory printed = (m : ℕ) × (m ≤ length all) × (printed ≡ answers_text (take m all) ++ last_line NoMemory 0)
-EndsSo all lines n ReadFault printed = (m : ℕ) × (m ≤ length all) × (printed ≡ answers_text (take m all) ++ last_line ReadFault 0)
-EndsSo all lines n WriteFault printed =
-    (m : ℕ) × (piece : List ℕ) × (front : List ℕ) × (m ≤ length all) × NextPiece all lines n m piece × IsFront front piece × (printed ≡ answers_text (take m all) ++ front)
+abbrev pub EndsSo : Type 0 → List Exchange → ℕ → ℕ → List ℕ → Option (List ℕ) → Ending → List ℕ → Type 0
+EndsSo failed all lines before bytes left Complete printed =
+    (length all ≡ lines) × (left ≡ Some []) × (printed ≡ answers_text all)
+EndsSo failed all lines before bytes left BadLine printed =
+    (length all < lines) × (printed ≡ answers_text all ++ bad_line (before + length all + 1))
+EndsSo failed all lines before bytes left BadWords printed = ⊥
+EndsSo failed all lines before bytes left NoMemory printed =
+    (m : ℕ) × (m ≤ length all) × (printed ≡ answers_text (take m all) ++ no_memory_line)
+EndsSo failed all lines before bytes left ReadFault printed =
+    (given : List ℕ) × (rest : List ℕ) × failed × (bytes ≡ given ++ rest) × (left ≡ Some rest)
+    × (ended_lines given ≤ length all) × (printed ≡ answers_text (take (ended_lines given) all) ++ read_fault_line)
+EndsSo failed all lines before bytes left WriteFault printed =
+    (m : ℕ) × (piece : List ℕ) × (front : List ℕ) × (m ≤ length all) × NextPiece failed all lines before m piece
+    × IsFront front piece × (printed ≡ answers_text (take m all) ++ front)
 
--- what a run prints that answers these lines from a state on, n lines after the script's begin
-abbrev pub Replays : State → ℕ → List (List ℕ) → Ending → List ℕ → Type 0
-Replays s n texts ending printed = EndsSo (exchanges_from s texts) (length texts) n ending printed
+-- what a run prints that answers the lines of these bytes from a state on, some lines after the script's begin
+abbrev pub Replays : Type 0 → State → ℕ → List ℕ → Option (List ℕ) → Ending → List ℕ → Type 0
+Replays failed s before bytes left ending printed =
+    EndsSo failed (exchanges_from s (lines_of bytes)) (length (lines_of bytes)) before bytes left ending printed
 
 -- what a run prints whose words aren't plain
 abbrev pub RefusesWords : Ending → List ℕ → Type 0
@@ -126,10 +140,10 @@ abbrev pub is_plain : List (List ℕ) → Bool
 is_plain (command ∷ folder ∷ []) = bytes_eq command (codes "replay") && is_plain_word folder
 is_plain words = false
 
--- what a run prints for these words and this input
-abbrev pub Runs : List (List ℕ) → List ℕ → Ending → List ℕ → Type 0
-Runs words input ending printed =
-    MatchBool (is_plain words) (Replays empty_store 0 (lines_of input) ending printed) (RefusesWords ending printed)
+-- what a run prints for these words and this input, of which the source has so much left in the end
+abbrev pub Runs : Type 0 → List (List ℕ) → List ℕ → Option (List ℕ) → Ending → List ℕ → Type 0
+Runs failed words input left ending printed =
+    MatchBool (is_plain words) (Replays failed empty_store 0 input left ending printed) (RefusesWords ending printed)
 
 abbrev pub status_of : Ending → ℕ
 status_of Complete = 0
@@ -139,17 +153,19 @@ status_of NoMemory = 5
 status_of ReadFault = 6
 status_of WriteFault = 7
 
--- Where the line is a commit that was answered by its number: what its transaction read is explained by the history
--- at that number less one.
-abbrev pub IsExplainedCommit : Line → Exchange → Type 0
-IsExplainedCommit (Commit name) e =
-    (number : ℕ) (reads : List Read) (writes : Writes) → get e.before.things name ≡ Some (OpenTransaction number reads writes)
-    → (n : ℕ) → e.answer ≡ Number n → IsExplained e.after.history (n - 1) reads
-IsExplainedCommit (Begin name) e = Unit {0}
-IsExplainedCommit (View name) e = Unit {0}
-IsExplainedCommit (Get name key) e = Unit {0}
-IsExplainedCommit (Set name key value) e = Unit {0}
+-- What is read is explained by the history at the reader's number: what a view reads, by that at the view's own
+-- number; what the transaction of an accepted commit has read, by that at the commit's number less one, and no
+-- commit came between.
+abbrev pub IsExplainedExchange : Line → Exchange → Type 0
+IsExplainedExchange (Begin name) e = Unit {0}
+IsExplainedExchange (View name) e = Unit {0}
+IsExplainedExchange (Get name key) e =
+    (number : ℕ) → get e.before.things name ≡ Some (OpenView number) → e.answer ≡ found (value_at e.before.history number key)
+IsExplainedExchange (Set name key value) e = Unit {0}
+IsExplainedExchange (Commit name) e =
+    (number : ℕ) (reads : List Read) (writes : Writes) (n : ℕ) → get e.before.things name ≡ Some (OpenTransaction number reads writes)
+    → e.answer ≡ Number n → IsExplained e.after.history (n - 1) reads × (number ≡ last_number e.before.history)
 
--- so is each commit of these exchanges
+-- so it is in each of these exchanges
 abbrev pub AreExplained : List Exchange → Type 0
-AreExplained exchanges = AllByRecursion (λ e. IsExplainedCommit e.line e) exchanges
+AreExplained exchanges = AllByRecursion (λ e. IsExplainedExchange e.line e) exchanges

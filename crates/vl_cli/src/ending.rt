@@ -16,3 +16,21 @@ pub enum Ending {
     /// Status 7: the sink failed.
     WriteFault,
 }
+
+impl Ending {
+    ghost use Rattle.vl_cli.specs.Replay.{status_of};
+
+    /// The process's status.
+    pub fn status(self) -> u8
+        ensures { result ≡ status_of self }
+    {
+        match self {
+            Ending::Complete => 0,
+            Ending::BadLine => 1,
+            Ending::BadWords => 2,
+            Ending::NoMemory => 5,
+            Ending::ReadFault => 6,
+            Ending::WriteFault => 7,
+        }
+    }
+}

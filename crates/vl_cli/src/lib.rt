@@ -1,9 +1,11 @@
 //! The store's command line: words and a script in, answers out.
 #![tactic(auto)]
 
+mod command_line;
 mod ending;
 pub mod input;
 pub mod replayer;
 pub mod script;
 
+pub use command_line::{Ended, run};
 pub use ending::Ending;

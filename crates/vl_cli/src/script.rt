@@ -3,7 +3,11 @@
 mod answer;
 mod limits;
 mod line;
+mod parse;
+mod print;
 
 pub use answer::Answer;
 pub use limits::{MAX_IDENT_BYTES, MAX_LINE_BYTES};
 pub use line::{Ident, Line};
+pub use parse::parse_line;
+pub use print::{print_answer, print_bad_line};

@@ -1,22 +1,34 @@
-ghost use Rattle.std.specs.Prelude.{◌≡◌, ◌+◌, ◌<◌, ◌≤◌, ℕ, List, Option, length, IfOk, OnErr};
+ghost use Rattle.std.specs.Prelude.{◌≡◌, ◌+◌, ◌<◌, ◌≤◌, [], List, IfOk, IfSome, MatchResult, OnErr, Option, length, take, ℕ};
 ghost use Rattle.vl_disk.specs.Faults.{Rose};
-ghost use Rattle.vl_io.specs.Streams.{Gives};
+ghost use Rattle.vl_io.specs.Source.{Gives};
 
 use vl_disk::Failed;
 
-/// An input.
+/// An input that gives its bytes in order, some in each call.
 pub trait Source {
+    /// The bytes that are left to give, where they are told; `None` claims nothing.
     ghost left: { Self → Option (List ℕ) };
+
+    /// The most bytes that it still gives, so that a loop over it ends.
     ghost budget: { Self → ℕ };
+
+    /// How many of its calls failed. At 2^64 - 1 it stands still, and counts as risen.
     ghost faults: { Self → ℕ };
 
+    /// Writes the next bytes to the front of `out`, and says how many. Zero is the end of the input.
+    /// What `out` holds behind them, and after `Failed`, is not said.
     fn next(&mut self, out: &mut [u8]) -> Result<usize, Failed>
-        requires { 0 < length out.old }
+        requires room { 0 < length out.old }
+
         ensures within { IfOk result (λ n. n ≤ length out.old) }
-        ensures given { IfOk result (λ n. Gives (left self.old) n out.new (left self.new)) }
+        ensures given { IfOk result (λ n. Gives (left self.old) (left self.new) (take n out.new)) }
+        ensures end { IfOk result (λ n. n ≡ 0 → IfSome (left self.old) (λ rest. rest ≡ [])) }
         ensures kept { OnErr result (left self.new ≡ left self.old) }
-        ensures budget { IfOk result (λ n. n + budget self.new ≤ budget self.old) }
-        ensures budget_err { OnErr result (budget self.new ≤ budget self.old) }
-        ensures faults { faults self.old ≤ faults self.new }
+
+        ensures spends { MatchResult result
+            (λ n. budget self.new + n ≤ budget self.old)
+            (λ _. budget self.new ≤ budget self.old) }
+
+        ensures counts { faults self.old ≤ faults self.new }
         ensures failed { OnErr result (Rose (faults self.old) (faults self.new)) };
 }

@@ -69,6 +69,7 @@ impl Buffer {
     /// Asks the source for more bytes, in the place of those that are there. False says that it is at its end.
     pub fn refill<S: Source>(&mut self, source: &mut S) -> Result<bool, Failed>
         ensures bytes { IfOk result (λ more. Refills more (S.left source.old) (S.left source.new) self.new) }
+        ensures kept { OnErr result (S.left source.new ≡ S.left source.old) }
         ensures budget { IfOk result (λ more. length self.new + S.budget source.new ≤ S.budget source.old) }
         ensures faults { S.faults source.old ≤ S.faults source.new }
         ensures failed { OnErr result (Rose (S.faults source.old) (S.faults source.new)) }

@@ -1,6 +1,6 @@
 ghost use Rattle.std.specs.Prelude.{◌≡◌, ◌≢◌, ◌+◌, ◌<◌, ◌≤◌, ◌++◌, ℕ, List, length, IfOk, IsErrOf, Option, Some};
 ghost use Rattle.vl_disk.specs.Faults.{Rose};
-ghost use Rattle.vl_cli.specs.Input.{ReadsLine};
+ghost use Rattle.vl_cli.specs.Input.{ReadsLine, FailsWithin};
 
 use crate::input::{Buffer, InputFail};
 use crate::script::MAX_LINE_BYTES;
@@ -9,8 +9,10 @@ use vl_io::Source;
 /// What was found where a line may stand.
 #[derive(Clone, Copy, Debug, PartialEq, Eq)]
 pub enum Next {
-    /// A line.
+    /// A line with its end.
     Line,
+    /// The last line, which ends with the input.
+    LastLine,
     /// A line that is longer than any line of the language. The rest of it isn't read.
     TooLong,
     /// The end of the input.
@@ -27,6 +29,8 @@ pub fn read_line<S: Source>(
         → ReadsLine next (buffer.old ++ left) line.new.items buffer.new (S.left source.new)) }
     ensures shorter { IfOk result (λ next. next ≡ Next.Line
         → length buffer.new + S.budget source.new < length buffer.old + S.budget source.old) }
+    ensures within { result ≡ Err InputFail.Fault → (left : List ℕ) → S.left source.old ≡ Some left
+        → FailsWithin (buffer.old ++ left) (S.left source.new) }
     ensures faults { S.faults source.old ≤ S.faults source.new }
     ensures failed { IsErrOf result InputFail.Fault → Rose (S.faults source.old) (S.faults source.new) }
 {
@@ -42,7 +46,7 @@ pub fn read_line<S: Source>(
             return Ok(if line.is_empty() {
                 Next::End
             } else {
-                Next::Line
+                Next::LastLine
             });
         }
     }

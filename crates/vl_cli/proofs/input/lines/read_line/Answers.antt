@@ -1,4 +1,4 @@
-use Rattle.std.proofs.Common.{◌≡◌, ◌<◌, length, arith, sym}
+use Rattle.std.proofs.Common.{◌≡◌, ◌<◌, List, ℕ, length, arith, sym, ◌∙◌, ap}
 use Rattle.std.proofs.lemmas.Bool.{eqb-false}
 use Rattle.vl_cli.proofs.Lines.{read_to_end, read_all, too_long, last_line_read}
 use Rattle.vl_cli.proofs.input.lines.read_line.Goals as goal
@@ -7,7 +7,8 @@ pub returns-then-branch-clause-line : goal.returns-then-branch-clause-line
 returns-then-branch-clause-line g c left told =
     let was = c.loop-line.invariant.told left told in
     let taken = rw c.if-branch.true at c.in_ok-take_line.ensures in
-    (was.0, was.1, read_to_end _ _ _ _ _ _ was.2 c.loop-line.invariant.unended taken)
+    let all = read_to_end _ _ _ _ _ _ was.2 c.loop-line.invariant.unended taken in
+    (was.0, was.1, all.0, all.1)
 
 pub returns-then-len-gt-MAX_LINE_BYTES-clause-line :
     goal.returns-then-len-gt-MAX_LINE_BYTES-clause-line
@@ -23,4 +24,5 @@ returns-else-is_empty-clause-line g c left told =
     let taken = rw c.if-branch.false at c.in_ok-take_line.ensures in
     let all = read_all _ _ _ _ _ _ was.2 c.loop-line.invariant.unended taken in
     let filled = rw (c.if-not-branch.true, was.1) at c.in_ok-refill.ensures.bytes in
-    last_line_read _ _ _ _ _ all.0 all.1 (omega (arith, c.take_line.new.line.ok.0, eqb-false _ _ (sym c.if-is_empty.ensures))) filled
+    let last = last_line_read _ _ _ _ _ all.0 filled in
+    (last.0, last.1, all.1, omega (arith, c.take_line.new.line.ok.0, eqb-false _ _ (sym c.if-is_empty.ensures)))

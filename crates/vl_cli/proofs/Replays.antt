@@ -1,0 +1,218 @@
+-- Whole runs: how a run ends at its next line, and how one goes on behind an answered line.
+use Rattle.std.proofs.Common.{append_assoc, append-nil, ◌≡◌, ◌≢◌, ◌+◌, ◌-◌, ◌^◌, ◌<◌, ◌≤◌, ℕ, suc, min, List, [], ◌∷◌, ◌++◌, length, take, drop, refl, ap, sym, ◌∙◌, Bool, true, false, arith, subst, inl, inr, ◌⊎◌, zero-le, add-one, one-add, cond}
+use Rattle.std.proofs.lemmas.List.{take-append-drop}
+use Rattle.std.proofs.lemmas.List.Sums.{sum_by-cons}
+use Rattle.std.proofs.lemmas.Bool.{ne_eqb}
+use Rattle.std.specs.Prelude.{Option, Some, None, codes, ◌==◌, count_by, option_and_then, unwrap_or, nat_le}
+use Rattle.std.specs.Fmt.{decimal}
+use Rattle.vl_io.specs.Sink.{Takes, TakesPrefix}
+use Rattle.vl_cli.specs.Sequential.{State, answer_to, state_after}
+use Rattle.vl_cli.specs.declared.script.line.Line.{Line}
+use Rattle.vl_cli.specs.declared.script.answer.Answer.{Answer}
+use Rattle.vl_cli.specs.Script.{text_of, lines_of, line_of}
+use Rattle.vl_cli.specs.Input.{HasNoLineEnd, ReadsLine}
+use Rattle.vl_cli.specs.Replay.{Exchange, exchange_at, exchanged, is_printed, exchanges_from, and_later, answers_text, line_number, bad_line, no_memory_line, read_fault_line, IsFront, ended_lines, NextPiece, next_answer, next_bad_line, next_no_memory, next_read_fault, EndsSo, Replays}
+use Rattle.vl_cli.specs.Steps.{Finishes, EndsRun, Refuses, StepsOn, GoesOn, IsCaused}
+use Rattle.vl_cli.specs.declared.replayer.store.Replayer.{Replayer}
+use Rattle.vl_cli.specs.declared.input.lines.Next.TheVariants.{Line as WholeLine, LastLine}
+use Rattle.vl_cli.specs.declared.script.limits.TheConstants.{MAX_LINE_BYTES}
+use Rattle.std.proofs.lemmas.Bool.Decides.{nat_tests}
+use Rattle.vl_disk.specs.Faults.{Rose}
+use Rattle.vl_cli.specs.declared.ending.Ending.{Ending}
+use Rattle.vl_cli.specs.declared.ending.Ending.TheVariants.{Complete, BadLine, BadWords, NoMemory, ReadFault, WriteFault}
+use Rattle.vl_cli.proofs.Lines.{lines_of-ended, lines_of-unended}
+
+-- the exchanges from a bad line on, and from an answered one
+stopped : (o : Option Exchange) (f : Exchange → List Exchange) → o ≡ None → and_later f o ≡ []
+stopped None f e = refl
+stopped (Some x) f e = absurd (cc)
+
+gone_on : (o : Option Exchange) (f : Exchange → List Exchange) (x : Exchange) → o ≡ Some x → and_later f o ≡ x ∷ f x
+gone_on None f x e = absurd (cc)
+gone_on (Some y) f x e = ap (λ z. z ∷ f z) (cc)
+
+pub exchanges_from-bad : (s : State) (text : List ℕ) (texts : List (List ℕ)) → exchange_at s text ≡ None → exchanges_from s (text ∷ texts) ≡ []
+exchanges_from-bad s text texts e = stopped (exchange_at s text) (λ x. exchanges_from x.after texts) e
+
+pub exchanges_from-answered : (s : State) (text : List ℕ) (texts : List (List ℕ)) (x : Exchange) → exchange_at s text ≡ Some x → exchanges_from s (text ∷ texts) ≡ x ∷ exchanges_from x.after texts
+exchanges_from-answered s text texts x e = gone_on (exchange_at s text) (λ y. exchanges_from y.after texts) x e
+
+-- what a run that ends in its next piece prints: the piece, or a front of it where the sink failed
+pub finished : (failed : Type 0) (all : List Exchange) (lines before : ℕ) (bytes : List ℕ) (left : Option (List ℕ)) (ending result : Ending) (line : List ℕ) (held held' : Option (List ℕ)) →
+  EndsSo failed all lines before bytes left ending line → NextPiece failed all lines before 0 line → Finishes held line ending result held' →
+  (printed : List ℕ) × Takes held held' printed × EndsSo failed all lines before bytes left result printed
+finished failed all lines before bytes left ending result line held held' whole next (printed, takes, how) =
+    (printed, takes, elim how [
+      | inl same ↦ subst (λ (r : Ending). EndsSo failed all lines before bytes left r printed) (sym same.0) (subst (λ (p : List ℕ). EndsSo failed all lines before bytes left ending p) (sym same.1) whole)
+      | inr cut ↦ subst (λ (r : Ending). EndsSo failed all lines before bytes left r printed) (sym cut.0) (0, line, printed, zero-le, next, cut.1, refl)
+    ])
+
+-- the run ends at a bad line
+pub bad_line_ends : (failed : Type 0) (s : State) (before : ℕ) (bytes text : List ℕ) (texts : List (List ℕ)) (left : Option (List ℕ)) → lines_of bytes ≡ text ∷ texts → exchange_at s text ≡ None →
+  Replays failed s before bytes left BadLine (bad_line (before + 1)) × NextPiece failed (exchanges_from s (lines_of bytes)) (length (lines_of bytes)) before 0 (bad_line (before + 1))
+bad_line_ends failed s before bytes text texts left e bad =
+    let n : before + 0 + 1 ≡ before + 1 = omega arith in
+    rw (e, exchanges_from-bad s text texts bad) ((omega arith, ap bad_line (sym n)), subst (λ (k : ℕ). NextPiece failed [] (length (text ∷ texts)) before 0 (bad_line k)) n (next_bad_line refl (omega arith)))
+
+pub no_memory_ends : (failed : Type 0) (s : State) (before : ℕ) (bytes : List ℕ) (left : Option (List ℕ)) →
+  Replays failed s before bytes left NoMemory no_memory_line × NextPiece failed (exchanges_from s (lines_of bytes)) (length (lines_of bytes)) before 0 no_memory_line
+no_memory_ends failed s before bytes left = ((0, zero-le, refl), next_no_memory)
+
+tested_no : (b : ℕ) → b ≢ 10 → (b == 10) ≡ false
+tested_no b other = ne_eqb b 10 other
+
+counted : (t : Bool) (n : ℕ) → t ≡ false → cond t 1 0 + n ≡ n
+counted true n e = absurd (cc)
+counted false n e = omega arith
+
+-- what ends a line
+abbrev line_end : ℕ → ℕ
+line_end b = cond (b == 10) 1 0
+
+ended_lines-cons : (b : ℕ) (bytes : List ℕ) → ended_lines (b ∷ bytes) ≡ line_end b + ended_lines bytes
+ended_lines-cons b bytes = sum_by-cons line_end b bytes
+
+-- bytes without a line's end have no whole line
+ended_lines-none : (bytes : List ℕ) → HasNoLineEnd bytes → ended_lines bytes ≡ 0
+ended_lines-none [] h = refl
+ended_lines-none (b ∷ bytes) h = ended_lines-cons b bytes ∙ counted (b == 10) (ended_lines bytes) (tested_no b h.0) ∙ ended_lines-none bytes h.1
+
+-- a line with its end is one more
+ended_lines-line : (line rest : List ℕ) → HasNoLineEnd line → ended_lines (line ++ 10 ∷ rest) ≡ suc (ended_lines rest)
+ended_lines-line [] rest h = ended_lines-cons 10 rest ∙ one-add (ended_lines rest)
+ended_lines-line (b ∷ line) rest h = ended_lines-cons b (line ++ 10 ∷ rest) ∙ counted (b == 10) (ended_lines (line ++ 10 ∷ rest)) (tested_no b h.0) ∙ ended_lines-line line rest h.1
+
+-- the run ends where the source fails before a line has ended
+pub read_fault_ends : (failed : Type 0) (s : State) (before : ℕ) (bytes given rest : List ℕ) (left : Option (List ℕ)) → failed → left ≡ Some rest → bytes ≡ given ++ rest → HasNoLineEnd given →
+  Replays failed s before bytes left ReadFault read_fault_line × NextPiece failed (exchanges_from s (lines_of bytes)) (length (lines_of bytes)) before 0 read_fault_line
+read_fault_ends failed s before bytes given rest left fault told parts unended =
+    let none : ended_lines given ≡ 0 = ended_lines-none given unended in
+    ((given, rest, fault, parts, told, rw none zero-le, rw none refl), next_read_fault fault)
+
+-- the sink failed within an answer
+pub answer_cut : (failed : Type 0) (s : State) (before : ℕ) (bytes text : List ℕ) (texts : List (List ℕ)) (left : Option (List ℕ)) (e : Exchange) (held held' : Option (List ℕ)) →
+  lines_of bytes ≡ text ∷ texts → exchange_at s text ≡ Some e → TakesPrefix held held' (text_of e.answer) → EndsRun failed s before bytes left WriteFault held held'
+answer_cut failed s before bytes text texts left e held held' lines is part =
+    let piece = text_of e.answer in
+    (take part.0 piece, part.2, rw (lines, exchanges_from-answered s text texts e is)
+      (0, piece, take part.0 piece, zero-le, next_answer e refl, (drop part.0 piece, sym (take-append-drop part.0 piece)), refl))
+
+-- the input's last line was answered
+pub last_answered : (failed : Type 0) (s : State) (before : ℕ) (bytes text : List ℕ) (left : Option (List ℕ)) (e : Exchange) →
+  lines_of bytes ≡ text ∷ [] → exchange_at s text ≡ Some e → left ≡ Some [] → Replays failed s before bytes left Complete (text_of e.answer)
+last_answered failed s before bytes text left e lines is told =
+    rw (lines, exchanges_from-answered s text [] e is) (refl, told, sym (append-nil (text_of e.answer)))
+
+-- one more answer in front
+later_piece : (failed : Type 0) (e : Exchange) (all : List Exchange) (lines before m : ℕ) (piece : List ℕ) → NextPiece failed all lines (before + 1) m piece → NextPiece failed (e ∷ all) (suc lines) before (suc m) piece
+later_piece failed e all lines before m piece (next_answer x is) = next_answer x is
+later_piece failed e all lines before m piece (next_bad_line at less) =
+    let n : before + suc (length all) + 1 ≡ (before + 1) + length all + 1 = omega arith in
+    subst (λ (k : ℕ). NextPiece failed (e ∷ all) (suc lines) before (suc m) (bad_line k)) n (next_bad_line (ap suc at) (omega arith))
+later_piece failed e all lines before m piece next_no_memory = next_no_memory
+later_piece failed e all lines before m piece (next_read_fault fault) = next_read_fault fault
+
+one_more : (failed : Type 0) (e : Exchange) (all : List Exchange) (lines before : ℕ) (bytes line rest : List ℕ) (left : Option (List ℕ)) (ending : Ending) (printed : List ℕ) →
+  bytes ≡ line ++ 10 ∷ rest → HasNoLineEnd line → EndsSo failed all lines (before + 1) rest left ending printed → EndsSo failed (e ∷ all) (suc lines) before bytes left ending (text_of e.answer ++ printed)
+one_more failed e all lines before bytes line rest left Complete printed parts unended (count, told, text) =
+    (ap suc count, told, ap (λ (p : List ℕ). text_of e.answer ++ p) text)
+one_more failed e all lines before bytes line rest left BadLine printed parts unended (less, text) =
+    let n : (before + 1) + length all + 1 ≡ before + suc (length all) + 1 = omega arith in
+    (omega arith, ap (λ (p : List ℕ). text_of e.answer ++ p) (text ∙ ap (λ (k : ℕ). answers_text all ++ bad_line k) n) ∙ sym (append_assoc (text_of e.answer) (answers_text all) _))
+one_more failed e all lines before bytes line rest left BadWords printed parts unended h = h
+one_more failed e all lines before bytes line rest left NoMemory printed parts unended (m, le, text) =
+    (suc m, omega arith, ap (λ (p : List ℕ). text_of e.answer ++ p) text ∙ sym (append_assoc (text_of e.answer) (answers_text (take m all)) _))
+one_more failed e all lines before bytes line rest left ReadFault printed parts unended (given, rest', fault, split, told, le, text) =
+    let n : ended_lines (line ++ 10 ∷ given) ≡ suc (ended_lines given) = ended_lines-line line given unended in
+    (line ++ 10 ∷ given, rest', fault, parts ∙ ap (λ (r : List ℕ). line ++ 10 ∷ r) split ∙ sym (append_assoc line (10 ∷ given) rest'), told,
+      rw n (omega arith),
+      rw n (ap (λ (p : List ℕ). text_of e.answer ++ p) text ∙ sym (append_assoc (text_of e.answer) (answers_text (take (ended_lines given) all)) _)))
+one_more failed e all lines before bytes line rest left WriteFault printed parts unended (m, piece, front, le, next, cut, text) =
+    (suc m, piece, front, omega arith, later_piece failed e all lines before m piece next, cut,
+      ap (λ (p : List ℕ). text_of e.answer ++ p) text ∙ sym (append_assoc (text_of e.answer) (answers_text (take m all)) front))
+
+-- a run goes on behind an answered line
+pub goes_on : (failed : Type 0) (s : State) (before : ℕ) (bytes line rest : List ℕ) (left : Option (List ℕ)) (e : Exchange) (ending : Ending) (printed : List ℕ) →
+  bytes ≡ line ++ 10 ∷ rest → HasNoLineEnd line → exchange_at s line ≡ Some e → Replays failed e.after (before + 1) rest left ending printed → Replays failed s before bytes left ending (text_of e.answer ++ printed)
+goes_on failed s before bytes line rest left e ending printed parts unended is run =
+    let lines : lines_of bytes ≡ line ∷ lines_of rest = ap lines_of parts ∙ lines_of-ended line rest unended in
+    rw (lines, exchanges_from-answered s line (lines_of rest) e is)
+      (one_more failed e (exchanges_from e.after (lines_of rest)) (length (lines_of rest)) before bytes line rest left ending printed parts unended run)
+
+-- two pieces were taken, one behind the other
+pub takes_both : (held mid held' : Option (List ℕ)) (xs ys : List ℕ) → Takes held mid xs → Takes mid held' ys → Takes held held' (xs ++ ys)
+takes_both None None None xs ys t u = u
+takes_both None None (Some c) xs ys t u = absurd (cc)
+takes_both None (Some b) held' xs ys t u = absurd (cc)
+takes_both (Some a) None held' xs ys t u = absurd t
+takes_both (Some a) (Some b) None xs ys t u = absurd u
+takes_both (Some a) (Some b) (Some c) xs ys t u = u ∙ ap (λ (l : List ℕ). l ++ ys) t ∙ append_assoc a xs ys
+
+-- what is printed as the bad line, with so many lines answered before it
+pub bad_line_text : (answered before number : ℕ) (line : List ℕ) → answered ≡ line_number before → number ≡ min (answered + 1) (2 ^ 64 - 1) → line ≡ codes "bad line " ++ decimal number ++ (10 ∷ []) → line ≡ bad_line (before + 1)
+bad_line_text answered before number line e n text =
+    let same : number ≡ line_number (before + 1) = omega arith in
+    text ∙ ap (λ (k : ℕ). codes "bad line " ++ decimal k ++ (10 ∷ [])) same
+
+chosen_true : {A : Type 0} (t : Bool) (x y : A) → t ≡ true → cond t x y ≡ x
+chosen_true true x y e = refl
+chosen_true false x y e = absurd (cc)
+
+abbrev some_exchange : State → Line → Answer → Option Exchange
+some_exchange s line answer = Some (record { before = s; line = line; answer = answer; after = state_after s line })
+
+-- the exchange that an answered line is
+pub exchange_at-answered : (s : State) (text : List ℕ) (line : Line) (answer : Answer) → line_of text ≡ Some line → answer ≡ answer_to s line → is_printed answer ≡ true →
+  exchange_at s text ≡ Some (record { before = s; line = line; answer = answer; after = state_after s line })
+exchange_at-answered s text line answer spelled answered printed =
+    ap (option_and_then (exchanged s)) spelled
+    ∙ chosen_true (is_printed (answer_to s line)) _ None (ap is_printed (sym answered) ∙ printed)
+    ∙ ap (some_exchange s line) (sym answered)
+
+-- an ending that isn't the source's fault has the same cause, whatever the source did
+pub caused-weaker : (ending : Ending) (source sink : Type 0) → IsCaused ending ⊥ sink → IsCaused ending source sink
+caused-weaker Complete source sink h = h
+caused-weaker BadLine source sink h = h
+caused-weaker BadWords source sink h = h
+caused-weaker NoMemory source sink h = h
+caused-weaker ReadFault source sink h = absurd h
+caused-weaker WriteFault source sink h = h
+
+-- what a read that failed within a line's bytes prints, where the source's count rose since an earlier time
+pub rose_earlier : (f a b : ℕ) → f ≤ a → Rose a b → Rose f b
+rose_earlier f a b le rose = omega arith
+
+-- nothing more was taken
+pub takes_nothing : (held : Option (List ℕ)) → Takes held held []
+takes_nothing None = refl
+takes_nothing (Some bytes) = sym (append-nil bytes)
+
+-- a line that was read with its end was answered, or the run ended there
+pub step_line : (f t : ℕ) (s : State) (before : ℕ) (had line buffer : List ℕ) (left : Option (List ℕ)) (after : Replayer) (ended : Option Ending) (held held' : Option (List ℕ)) →
+  ReadsLine WholeLine had line buffer left → StepsOn s before line after ended held held' → GoesOn (Rose f t) s before had after buffer left ended held held'
+step_line f t s before had line buffer left after None held held' (rest, told, parts, unended) (e, is, stands, takes) =
+    (e, line, rest, told, parts, unended, is, stands, takes)
+step_line f t s before had line buffer left after (Some ending) held held' (rest, told, parts, unended) ends =
+    ends f t had (lines_of (buffer ++ rest)) left (ap lines_of parts ∙ lines_of-ended line (buffer ++ rest) unended)
+
+-- the last line was answered, and so the run is complete, or it ended there
+pub step_last : (f t : ℕ) (s : State) (before : ℕ) (had line buffer : List ℕ) (left : Option (List ℕ)) (after : Replayer) (ended : Option Ending) (result : Ending) (held held' : Option (List ℕ)) →
+  ReadsLine LastLine had line buffer left → StepsOn s before line after ended held held' → result ≡ unwrap_or ended Complete → EndsRun (Rose f t) s before had left result held held'
+step_last f t s before had line buffer left after None result held held' (told, same, unended, some) (e, is, stands, takes) r =
+    (text_of e.answer, takes, subst (λ (x : Ending). Replays (Rose f t) s before had left x (text_of e.answer)) (sym r)
+      (last_answered (Rose f t) s before had line left e (ap lines_of same ∙ lines_of-unended line unended some) is told))
+step_last f t s before had line buffer left after (Some ending) result held held' (told, same, unended, some) ends r =
+    subst (λ (x : Ending). EndsRun (Rose f t) s before had left x held held') (sym r)
+      (ends f t had [] left (ap lines_of same ∙ lines_of-unended line unended some))
+
+chosen_false : {A : Type 0} (b : Bool) (x y : A) → b ≡ false → cond b x y ≡ y
+chosen_false true x y e = absurd (cc)
+chosen_false false x y e = refl
+
+-- a line that is too long is a bad one
+pub too_long_is_bad : (s : State) (text : List ℕ) → MAX_LINE_BYTES < length text → exchange_at s text ≡ None
+too_long_is_bad s text long = ap (option_and_then (exchanged s)) (chosen_false (nat_le (length text) MAX_LINE_BYTES) _ None (grind (arith, nat_tests)))
+
+-- there is no further line
+pub step_end : (failed : Type 0) (s : State) (before : ℕ) (had : List ℕ) (left held : Option (List ℕ)) → left ≡ Some [] → had ≡ [] → EndsRun failed s before had left Complete held held
+step_end failed s before had left held told none = ([], takes_nothing held, rw none (refl, told, refl))

@@ -1,0 +1,16 @@
+use Rattle.std.proofs.Common.{◌≡◌, ◌+◌, ◌≤◌, ℕ, List, length, Some}
+use Rattle.vl_cli.proofs.UnderWay.{UnderWay}
+use Rattle.vl_cli.proofs.command_line.replay.replay.Given as goal
+
+abbrev pub invariant-lines : goal.invariant-lines
+invariant-lines g l =
+    let left = g.S.Source.left in
+    let held = g.K.Sink.held in
+    record {
+      under_way : (input : List ℕ) → left l.fn.source ≡ Some input → UnderWay (g.S.Source.faults l.fn.source) input l.progress.replayer l.progress.answered l.progress.buffer (left l.source) (held l.fn.sink) (held l.sink);
+      faults : g.S.Source.faults l.fn.source ≤ g.S.Source.faults l.source;
+      sink_faults : g.K.Sink.faults l.fn.sink ≤ g.K.Sink.faults l.sink;
+    }
+
+abbrev pub decreases-lines : goal.decreases-lines
+decreases-lines g l = length l.progress.buffer + g.S.Source.budget l.source

@@ -1,0 +1,63 @@
+//! The top call: words and a script in, answers and a status out.
+
+mod answering;
+mod ended;
+mod last_line;
+mod replay;
+mod words;
+
+ghost use Rattle.std.specs.Prelude.{◌≡◌, ◌≢◌, ◌⊎◌, ℕ, List, map, string_bytes, Some, true, false};
+ghost use Rattle.vl_disk.specs.Faults.{Rose};
+ghost use Rattle.vl_io.specs.Sink.{Takes};
+ghost use Rattle.vl_cli.specs.Script.{lines_of};
+ghost use Rattle.vl_cli.specs.Sequential.{empty_store};
+ghost use Rattle.vl_cli.specs.Replay.{Runs, status_of, is_plain, exchanges_from, AreExplained};
+ghost use Rattle.vl_cli.specs.declared.ending.Ending.{Ending as HowEnded};
+
+use crate::Ending;
+use crate::command_line::last_line::finish;
+use crate::command_line::replay::replay;
+use crate::command_line::words::{USAGE, are_plain};
+pub use ended::Ended;
+use std::alloc::Global;
+use vl_io::{Sink, Source};
+
+/// Carries out a command line: its words, without the program's name.
+pub fn run<S: Source, K: Sink, D>(
+    alloc: Global,
+    words: &[String],
+    source: &mut S,
+    sink: &mut K,
+    disk: D,
+) -> Ended<D>
+    // What is printed, and how the run ends, are those of the sequential store over the lines of the input.
+    ensures answers { (input : List ℕ) → S.left source.old ≡ Some input →
+        (ending : HowEnded) × (printed : List ℕ) × (result.status ≡ status_of ending) × Takes (K.held sink.old) (K.held sink.new) printed
+        × Runs (Rose (S.faults source.old) (S.faults source.new)) (map string_bytes words.now) input (S.left source.new) ending printed }
+
+    // What was read is explained by the history at the reader's number.
+    ensures explained { (input : List ℕ) → S.left source.old ≡ Some input → AreExplained (exchanges_from empty_store (lines_of input)) }
+
+    // Status 2 exactly where the words aren't plain, and then nothing is read; but what can't be printed is status 7.
+    ensures plain { is_plain (map string_bytes words.now) ≡ true → result.status ≢ 2 }
+    ensures not_plain { is_plain (map string_bytes words.now) ≡ false → ((result.status ≡ 2) ⊎ (result.status ≡ 7)) × (source.new ≡ source.old) }
+
+    // Faults have a cause.
+    ensures read_fault { result.status ≡ 6 → Rose (S.faults source.old) (S.faults source.new) }
+    ensures write_fault { result.status ≡ 7 → Rose (K.faults sink.old) (K.faults sink.new) }
+
+    // There are no other statuses.
+    ensures status { (ending : HowEnded) × (result.status ≡ status_of ending) }
+
+    ensures disk { result.disk ≡ disk }
+{
+    let ending = if are_plain(words) {
+        replay(alloc, source, sink)
+    } else {
+        finish(sink, USAGE, Ending::BadWords)
+    };
+    Ended {
+        status: ending.status(),
+        disk,
+    }
+}

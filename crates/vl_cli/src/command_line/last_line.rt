@@ -1,0 +1,22 @@
+ghost use Rattle.std.specs.Prelude.{◌≡◌, ◌≤◌, ◌⊎◌};
+ghost use Rattle.vl_disk.specs.Faults.{Rose};
+ghost use Rattle.vl_cli.specs.Steps.{Finishes};
+
+use crate::Ending;
+use vl_io::Sink;
+
+pub const NO_MEMORY: &[u8] = b"no memory\n";
+
+pub const READ_FAULT: &[u8] = b"read fault\n";
+
+/// Puts a run's last line. Where it can't be put, the run ends by the sink's fault.
+pub fn finish<K: Sink>(sink: &mut K, line: &[u8], ending: Ending) -> Ending
+    ensures printed { Finishes (K.held sink.old) line.now ending result (K.held sink.new) }
+    ensures cause { (result ≡ ending) ⊎ ((result ≡ Ending.WriteFault) × Rose (K.faults sink.old) (K.faults sink.new)) }
+    ensures faults { K.faults sink.old ≤ K.faults sink.new }
+{
+    match sink.put(line) {
+        Ok(()) => ending,
+        Err(_) => Ending::WriteFault,
+    }
+}

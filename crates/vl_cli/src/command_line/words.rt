@@ -1,0 +1,27 @@
+ghost use Rattle.std.specs.Prelude.{◌≡◌, map, string_bytes};
+ghost use Rattle.vl_cli.specs.Replay.{is_plain, is_plain_word};
+
+/// Printed where the words aren't plain.
+pub const USAGE: &[u8] =
+    b"usage: vlstore replay DIR, trial STOP OUTCOME, bench SEED COUNT or drive CLIENTS TXNS SEED\n";
+
+/// Whether a word isn't empty and doesn't begin with `-`.
+fn is_plain_word_text(word: &[u8]) -> bool
+    ensures { result ≡ is_plain_word word.now }
+{
+    match word {
+        [] => false,
+        [first, ..] => *first != b'-',
+    }
+}
+
+/// Whether the words are a command with as many further words as it has.
+pub fn are_plain(words: &[String]) -> bool
+    ensures { result ≡ is_plain (map string_bytes words.now) }
+{
+    match words {
+        [command, folder] => command.as_bytes() == b"replay".as_slice()
+            && is_plain_word_text(folder.as_bytes()),
+        _ => false,
+    }
+}
