@@ -173,7 +173,7 @@ exchange_at-answered s text line answer spelled answered printed =
 pub caused-weaker : (ending : Ending) (source sink : Type 0) → IsCaused ending ⊥ sink → IsCaused ending source sink
 caused-weaker Complete source sink h = h
 caused-weaker BadLine source sink h = h
-caused-weaker BadWords source sink h = h
+caused-weaker BadWords source sink h = absurd h
 caused-weaker NoMemory source sink h = h
 caused-weaker ReadFault source sink h = absurd h
 caused-weaker WriteFault source sink h = h

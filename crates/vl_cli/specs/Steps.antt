@@ -48,11 +48,11 @@ GoesOn failed s before bytes after buffer left None held held' =
 GoesOn failed s before bytes after buffer left (Some ending) held held' =
     EndsRun failed s before bytes left ending held held'
 
--- faults of the source and of the sink are counted there
+-- a replay ends with these causes: faults of the source and of the sink are counted there
 abbrev pub IsCaused : Ending → Type 0 → Type 0 → Type 0
 IsCaused Complete source sink = Unit {0}
 IsCaused BadLine source sink = Unit {0}
-IsCaused BadWords source sink = Unit {0}
+IsCaused BadWords source sink = ⊥
 IsCaused NoMemory source sink = Unit {0}
 IsCaused ReadFault source sink = source
 IsCaused WriteFault source sink = sink
