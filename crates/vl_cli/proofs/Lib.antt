@@ -1,3 +1,4 @@
+pub mod Explained
 pub mod Lines
 pub mod Replays
 pub mod UnderWay
