@@ -1,0 +1,31 @@
+//! The program: the command line over the process's words and streams.
+#![tactic(auto)]
+
+use std::env;
+use std::io;
+use std::process::ExitCode;
+use vl_cli::run;
+use vl_disk::MemDisk;
+use vl_io::{StdSink, StdSource};
+
+/// The words after the program's name. Where one isn't UTF-8 there are none, so that the command line is
+/// refused as one that isn't plain.
+fn words(rt: &(impl Env + AllocGlobal)) -> io::Result<Vec<String>> {
+    match env::args(rt) {
+        Ok(mut words) => {
+            words.next();
+            Ok(words.collect(rt.alloc())?)
+        }
+        Err(error) if error.kind() == io::ErrorKind::InvalidData => Ok(Vec::new(rt.alloc())),
+        Err(error) => Err(error),
+    }
+}
+
+fn main(rt: HostRuntime) -> io::Result<ExitCode> {
+    let words = words(&rt)?;
+    let mut source = StdSource::new(rt.reader());
+    let mut sink = StdSink::new(io::writer(&rt));
+    let disk = MemDisk::new(rt.alloc(), Vec::new(rt.alloc()));
+    let ended = run(rt.alloc(), words.as_slice(), &mut source, &mut sink, disk);
+    Ok(ExitCode::from(ended.status))
+}
