@@ -1,4 +1,5 @@
 pub mod Explained
 pub mod Lines
 pub mod Replays
+pub mod ScriptWords
 pub mod UnderWay

@@ -1,4 +1,4 @@
-ghost use Rattle.std.specs.Prelude.{◌≤◌, List, OnErr, OnOk, Option, ℕ};
+ghost use Rattle.std.specs.Prelude.{◌≡◌, ◌≤◌, List, OnErr, OnOk, Option, ℕ};
 ghost use Rattle.vl_disk.specs.Faults.{Rose};
 ghost use Rattle.vl_io.specs.Sink.{Takes, TakesPrefix};
 
@@ -18,5 +18,6 @@ pub trait Sink {
         ensures part { OnErr result (TakesPrefix (held self.old) (held self.new) piece.now) }
 
         ensures counts { faults self.old ≤ faults self.new }
+        ensures steady { OnOk result (faults self.new ≡ faults self.old) }
         ensures failed { OnErr result (Rose (faults self.old) (faults self.new)) };
 }

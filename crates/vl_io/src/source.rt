@@ -1,4 +1,4 @@
-ghost use Rattle.std.specs.Prelude.{◌≡◌, ◌+◌, ◌<◌, ◌≤◌, [], List, IfOk, IfSome, MatchResult, OnErr, Option, length, take, ℕ};
+ghost use Rattle.std.specs.Prelude.{◌≡◌, ◌+◌, ◌<◌, ◌≤◌, [], List, IfOk, IfSome, MatchResult, OnErr, OnOk, Option, length, take, ℕ};
 ghost use Rattle.vl_disk.specs.Faults.{Rose};
 ghost use Rattle.vl_io.specs.Source.{Gives};
 
@@ -30,5 +30,6 @@ pub trait Source {
             (λ _. budget self.new ≤ budget self.old) }
 
         ensures counts { faults self.old ≤ faults self.new }
+        ensures steady { OnOk result (faults self.new ≡ faults self.old) }
         ensures failed { OnErr result (Rose (faults self.old) (faults self.new)) };
 }

@@ -1,13 +1,140 @@
-ghost use Rattle.std.specs.Prelude.{◌≡◌, IfOk};
-ghost use Rattle.vl_cli.specs.Script.{line_of};
+ghost use Rattle.std.specs.Prelude.{◌≡◌, ◌∷◌, [], ◌&&◌, length, nat_le, IfOk};
+ghost use Rattle.std.specs.List.{list_all};
+ghost use Rattle.std.specs.Option.{option_map_or};
+ghost use Rattle.vl_cli.specs.Script.{is_ident_byte, ident_of, bytes_of, ident_alone, get_of, set_of, words_of, line_of};
 
-use crate::script::Line;
+use crate::script::{Ident, Line, MAX_IDENT_BYTES, MAX_LINE_BYTES};
+use hex::FromHexError;
 use std::alloc::{AllocError, Global};
+use vl_model::Bytes;
 
+/// The line that these bytes are, without the line's end; `None` where they are no line of the language.
 pub fn parse_line(alloc: Global, text: &[u8]) -> Result<Option<Line>, AllocError>
     ensures { IfOk result (λ line. line ≡ line_of text.now) }
 {
-    let _ = alloc;
-    let _ = text;
-    Err(AllocError)
+    if text.len() > MAX_LINE_BYTES {
+        return Ok(None);
+    }
+    let (command, rest) = next_word(text);
+    if command == b"begin".as_slice() {
+        let name = parse_ident_alone(alloc, rest)?;
+        Ok(name.map(|name| Line::Begin { name }))
+    } else if command == b"view".as_slice() {
+        let name = parse_ident_alone(alloc, rest)?;
+        Ok(name.map(|name| Line::View { name }))
+    } else if command == b"get".as_slice() {
+        parse_get(alloc, rest)
+    } else if command == b"set".as_slice() {
+        parse_set(alloc, rest)
+    } else if command == b"commit".as_slice() {
+        let name = parse_ident_alone(alloc, rest)?;
+        Ok(name.map(|name| Line::Commit { name }))
+    } else {
+        Ok(None)
+    }
+}
+
+// The first word, and what is behind the space that ends it.
+fn next_word(text: &[u8]) -> (&[u8], Option<&[u8]>)
+    ensures { words_of text.now ≡ result.0.now ∷ option_map_or (λ rest. words_of rest.now) result.1 [] }
+{
+    match text.iter().position(|b| *b == b' ') {
+        Some(end) => (&text[..end], Some(&text[end + 1..])),
+        None => (text, None),
+    }
+}
+
+#[tactic(auto, using(crate::proofs::ScriptWords::ident_alone_of_more))]
+fn parse_ident_alone(alloc: Global, rest: Option<&[u8]>) -> Result<Option<Ident>, AllocError>
+    ensures { IfOk result (λ name. name ≡ ident_alone (option_map_or (λ rest. words_of rest.now) rest.entry [])) }
+{
+    let Some((name, rest)) = rest.map(next_word) else {
+        return Ok(None);
+    };
+    if rest.is_some() {
+        return Ok(None);
+    }
+    parse_ident(alloc, name)
+}
+
+#[tactic(auto, using(crate::proofs::ScriptWords::get_of_more))]
+fn parse_get(alloc: Global, rest: Option<&[u8]>) -> Result<Option<Line>, AllocError>
+    ensures { IfOk result (λ line. line ≡ get_of (option_map_or (λ rest. words_of rest.now) rest.entry [])) }
+{
+    let Some((name, Some(rest))) = rest.map(next_word) else {
+        return Ok(None);
+    };
+    let (key, rest) = next_word(rest);
+    if rest.is_some() {
+        return Ok(None);
+    }
+    let Some(name) = parse_ident(alloc, name)? else {
+        return Ok(None);
+    };
+    let Some(key) = parse_bytes(alloc, key)? else {
+        return Ok(None);
+    };
+    Ok(Some(Line::Get { name, key }))
+}
+
+#[tactic(auto, using(crate::proofs::ScriptWords::set_of_more))]
+fn parse_set(alloc: Global, rest: Option<&[u8]>) -> Result<Option<Line>, AllocError>
+    ensures { IfOk result (λ line. line ≡ set_of (option_map_or (λ rest. words_of rest.now) rest.entry [])) }
+{
+    let Some((name, Some(rest))) = rest.map(next_word) else {
+        return Ok(None);
+    };
+    let (key, Some(rest)) = next_word(rest) else {
+        return Ok(None);
+    };
+    let (value, rest) = next_word(rest);
+    if rest.is_some() {
+        return Ok(None);
+    }
+    let Some(name) = parse_ident(alloc, name)? else {
+        return Ok(None);
+    };
+    let Some(key) = parse_bytes(alloc, key)? else {
+        return Ok(None);
+    };
+    let Some(value) = parse_bytes(alloc, value)? else {
+        return Ok(None);
+    };
+    Ok(Some(Line::Set { name, key, value }))
+}
+
+fn parse_ident(alloc: Global, word: &[u8]) -> Result<Option<Ident>, AllocError>
+    ensures { IfOk result (λ name. name ≡ ident_of word.now) }
+{
+    if is_ident(word) {
+        Ok(Some(Ident::copy_of(alloc, word)?))
+    } else {
+        Ok(None)
+    }
+}
+
+fn is_ident(word: &[u8]) -> bool
+    ensures { result ≡ (nat_le 1 (length word.now) && nat_le (length word.now) MAX_IDENT_BYTES && list_all is_ident_byte word.now) }
+{
+    !word.is_empty()
+        && word.len() <= MAX_IDENT_BYTES
+        && word
+            .iter()
+            .all(|b| b.is_ascii_lowercase() || b.is_ascii_digit())
+}
+
+fn parse_bytes(alloc: Global, word: &[u8]) -> Result<Option<Bytes>, AllocError>
+    ensures { IfOk result (λ bytes. bytes ≡ bytes_of word.now) }
+{
+    if word.is_empty() {
+        return Ok(None);
+    }
+    if word == b"-".as_slice() {
+        return Ok(Some(Bytes::new(Vec::new(alloc))));
+    }
+    match hex::decode(alloc, word) {
+        Ok(bytes) => Ok(Some(Bytes::new(bytes))),
+        Err(FromHexError::OutOfMemory) => Err(AllocError),
+        Err(_) => Ok(None),
+    }
 }

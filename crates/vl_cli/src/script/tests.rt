@@ -1,0 +1,139 @@
+use crate::script::{Answer, Line, parse_line, print_answer, print_bad_line};
+use std::alloc::{AllocError, Global};
+use std::test::Fail;
+use vl_model::{Bytes, Counter};
+
+// A line's command, name, key and value; nothing where there is no line.
+fn parts(line: &Option<Line>) -> (&str, &[u8], &[u8], &[u8]) {
+    match line {
+        None => ("", b"", b"", b""),
+        Some(Line::Begin { name }) => ("begin", name.as_slice(), b"", b""),
+        Some(Line::View { name }) => ("view", name.as_slice(), b"", b""),
+        Some(Line::Get { name, key }) => ("get", name.as_slice(), key.as_slice(), b""),
+        Some(Line::Set { name, key, value }) => {
+            ("set", name.as_slice(), key.as_slice(), value.as_slice())
+        }
+        Some(Line::Commit { name }) => ("commit", name.as_slice(), b"", b""),
+    }
+}
+
+#[test]
+fn parses_lines(rt: HostRuntime) -> Result<(), Fail> {
+    let table: [(&[u8], &str, &[u8], &[u8], &[u8]); 9] = [
+        (b"begin a", "begin", b"a", b"", b""),
+        (b"view 0z9", "view", b"0z9", b"", b""),
+        (b"get t 6A", "get", b"t", &[0x6a], b""),
+        (b"get t 6a", "get", b"t", &[0x6a], b""),
+        (b"set a 61 01", "set", b"a", &[0x61], &[0x01]),
+        (b"set a 61 -", "set", b"a", &[0x61], b""),
+        (b"set a 00fF 0180", "set", b"a", &[0, 255], &[1, 128]),
+        (b"commit a", "commit", b"a", b"", b""),
+        (
+            b"begin 123456789abcdefg",
+            "begin",
+            b"123456789abcdefg",
+            b"",
+            b"",
+        ),
+    ];
+    for (text, command, name, key, value) in table {
+        let line = parse_line(rt.alloc(), text)?;
+        assert_eq!(rt; parts(&line), (command, name, key, value));
+    }
+    Ok(())
+}
+
+#[test]
+fn refuses_what_is_no_line(rt: HostRuntime) -> Result<(), Fail> {
+    let table: [&[u8]; 24] = [
+        b"",
+        b" ",
+        b"begin",
+        b"begin ",
+        b"begin  a",
+        b" begin a",
+        b"begin a ",
+        b"begin a b",
+        b"begin A",
+        b"begin a_b",
+        b"begin 123456789abcdefgh",
+        b"Begin a",
+        b"begi a",
+        b"fetch a 61",
+        b"get a",
+        b"get - -",
+        b"get a 6",
+        b"get a 6g",
+        b"get a ",
+        b"get a 61 62",
+        b"set a 61",
+        b"set a 61 01 02",
+        b"set a 61 01\r",
+        b"commit a\n",
+    ];
+    for text in table {
+        assert!(rt; parse_line(rt.alloc(), text)?.is_none());
+    }
+    Ok(())
+}
+
+fn found(alloc: Global, value: &[u8]) -> Result<Answer, AllocError> {
+    let value = Bytes::copy_of(alloc, value)?;
+    Ok(Answer::Found { value })
+}
+
+fn taken(alloc: Global, name: &[u8]) -> Result<Answer, AllocError> {
+    let name = Bytes::copy_of(alloc, name)?;
+    Ok(Answer::Taken { name })
+}
+
+fn unknown(alloc: Global, name: &[u8]) -> Result<Answer, AllocError> {
+    let name = Bytes::copy_of(alloc, name)?;
+    Ok(Answer::Unknown { name })
+}
+
+fn number(number: u64) -> Answer {
+    Answer::Number { number }
+}
+
+fn exhausted(counter: Counter) -> Answer {
+    Answer::Exhausted { counter }
+}
+
+#[test]
+fn prints_answers(rt: HostRuntime) -> Result<(), Fail> {
+    let alloc = rt.alloc();
+    let table = [
+        (Answer::Done, "ok\n"),
+        (number(0), "ok 0\n"),
+        (number(u64::MAX), "ok 18446744073709551615\n"),
+        (found(alloc, b"\x01")?, "value 01\n"),
+        (found(alloc, b"\xab\xcd")?, "value abcd\n"),
+        (found(alloc, b"")?, "value -\n"),
+        (Answer::NoValue, "none\n"),
+        (taken(alloc, b"a")?, "taken a\n"),
+        (unknown(alloc, b"b2")?, "unknown b2\n"),
+        (Answer::ReadOnly, "readonly\n"),
+        (Answer::Invalid, "invalid\n"),
+        (Answer::TooBig, "toobig\n"),
+        (Answer::TooMany, "toomany\n"),
+        (Answer::Nothing, "nothing\n"),
+        (exhausted(Counter::Commit), "exhausted commit\n"),
+        (exhausted(Counter::Log), "exhausted log\n"),
+        (exhausted(Counter::Table), "exhausted table\n"),
+        (exhausted(Counter::Manifest), "exhausted manifest\n"),
+        (exhausted(Counter::Version), "exhausted version\n"),
+    ];
+    for (answer, wanted) in table {
+        let text = print_answer(alloc, &answer)?;
+        assert!(rt; text.as_slice() == wanted.as_bytes(), "{wanted}");
+    }
+    Ok(())
+}
+
+#[test]
+fn prints_the_number_of_a_bad_line(rt: HostRuntime) -> Result<(), Fail> {
+    let text = print_bad_line(rt.alloc(), 12)?;
+    assert!(rt; text.as_slice() == b"bad line 12\n".as_slice());
+    Ok(())
+}

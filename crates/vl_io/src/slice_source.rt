@@ -1,0 +1,82 @@
+ghost use Rattle.std.specs.Prelude.{◌≡◌, ◌↔◌, ◌+◌, ◌++◌, ◌<◌, ◌≤◌, [], IsErr, IsOk, MatchResult, OnErr, OnOk, IfOk, Some, drop, length, min, take};
+ghost use Rattle.vl_disk.specs.Faults.{Rose};
+ghost use Rattle.vl_io.specs.FaultPlan.{IsDue, new_plan};
+ghost use Rattle.vl_io.specs.SliceSource.{feed_after_failure, feed_after_giving};
+
+use crate::fault_plan::FaultPlan;
+use crate::source::Source;
+use std::marker::Model;
+use vl_disk::Failed;
+
+/// A source over bytes in memory, some calls of which fail.
+#[derive(Drop)]
+pub struct SliceSource<'a> {
+    rest: &'a [u8],
+    plan: FaultPlan,
+}
+
+impl<'a> Model for SliceSource<'a> {
+    ghost use Rattle.vl_io.specs.SliceSource.{Feed};
+
+    ghost Value = { Feed };
+
+    ghost view = { λ s. record { rest = s.rest.now; plan = s.plan } };
+}
+
+impl<'a> SliceSource<'a> {
+    /// Gives these bytes. The calls of `next` that `failing` lists, counted from 1, fail and give nothing.
+    pub fn new(bytes: &'a [u8], failing: Vec<u64>) -> Self
+        ensures bytes { result.rest ≡ bytes.now }
+        ensures plan { result.plan ≡ new_plan failing.items }
+    {
+        SliceSource {
+            rest: bytes,
+            plan: FaultPlan::new(failing),
+        }
+    }
+}
+
+impl Source for SliceSource<'_> {
+    ghost left = { λ s. Some s.rest };
+
+    ghost budget = { λ s. length s.rest };
+
+    ghost faults = { λ s. s.plan.faults };
+
+    /// Gives as many bytes as fit.
+    fn next(&mut self, out: &mut [u8]) -> Result<usize, Failed>
+        requires room { 0 < length out.old }
+
+        // What each source promises.
+        ensures within { IfOk result (λ n. n ≤ length out.old) }
+        ensures given { IfOk result (λ n. self.old.rest ≡ take n out.new ++ self.new.rest) }
+        ensures end { IfOk result (λ n. n ≡ 0 → self.old.rest ≡ []) }
+        ensures kept { OnErr result (Some self.new.rest ≡ Some self.old.rest) }
+        ensures spends { MatchResult result
+            (λ n. length self.new.rest + n ≤ length self.old.rest)
+            (λ _. length self.new.rest ≤ length self.old.rest) }
+        ensures counts { self.old.plan.faults ≤ self.new.plan.faults }
+        ensures steady { OnOk result (self.new.plan.faults ≡ self.old.plan.faults) }
+        ensures failed { OnErr result (Rose self.old.plan.faults self.new.plan.faults) }
+
+        // What this one does exactly.
+        ensures due { IsErr result ↔ IsDue self.old.plan }
+        ensures never { self.old.plan.failing ≡ [] → IsOk result }
+        ensures count { IfOk result (λ n. n ≡ min (length out.old) (length self.old.rest)) }
+        ensures written { IfOk result (λ n. out.new ≡ take n self.old.rest ++ drop n out.old) }
+        ensures unwritten { OnErr result (out.new ≡ out.old) }
+        ensures after { MatchResult result
+            (λ n. self.new ≡ feed_after_giving n self.old)
+            (λ _. self.new ≡ feed_after_failure self.old) }
+    {
+        if self.plan.is_due() {
+            self.plan.count_failure();
+            return Err(Failed);
+        }
+        let count = out.len().min(self.rest.len());
+        out[..count].copy_from_slice(&self.rest[..count]);
+        self.rest = &self.rest[count..];
+        self.plan.count_success();
+        Ok(count)
+    }
+}
