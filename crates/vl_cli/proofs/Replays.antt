@@ -12,7 +12,7 @@ use Rattle.vl_cli.specs.declared.script.answer.Answer.{Answer}
 use Rattle.vl_cli.specs.Script.{text_of, lines_of, line_of}
 use Rattle.vl_cli.specs.Input.{HasNoLineEnd, ReadsLine}
 use Rattle.vl_cli.specs.Replay.{Exchange, exchange_at, exchanged, is_printed, exchanges_from, and_later, answers_text, line_number, bad_line, no_memory_line, read_fault_line, IsFront, ended_lines, NextPiece, next_answer, next_bad_line, next_no_memory, next_read_fault, EndsSo, Replays}
-use Rattle.vl_cli.specs.Steps.{Finishes, EndsRun, Refuses, StepsOn, GoesOn, IsCaused}
+use Rattle.vl_cli.specs.Steps.{Finishes, EndsRun, Refuses, StepsOn, GoesOn, SinkCounts, Counts}
 use Rattle.vl_cli.specs.declared.replayer.store.Replayer.{Replayer}
 use Rattle.vl_cli.specs.declared.input.lines.Next.TheVariants.{Line as WholeLine, LastLine}
 use Rattle.vl_cli.specs.declared.script.limits.TheConstants.{MAX_LINE_BYTES}
@@ -169,14 +169,14 @@ exchange_at-answered s text line answer spelled answered printed =
     ∙ chosen_true (is_printed (answer_to s line)) _ None (ap is_printed (sym answered) ∙ printed)
     ∙ ap (some_exchange s line) (sym answered)
 
--- an ending that isn't the source's fault has the same cause, whatever the source did
-pub caused-weaker : (ending : Ending) (source sink : Type 0) → IsCaused ending ⊥ sink → IsCaused ending source sink
-caused-weaker Complete source sink h = h
-caused-weaker BadLine source sink h = h
-caused-weaker BadWords source sink h = absurd h
-caused-weaker NoMemory source sink h = h
-caused-weaker ReadFault source sink h = absurd h
-caused-weaker WriteFault source sink h = h
+-- what was counted where the source counted nothing
+pub counts_of_sink : (ending : Ending) (source source' sink sink' : ℕ) → source' ≡ source → SinkCounts ending sink sink' → Counts ending source source' sink sink'
+counts_of_sink Complete source source' sink sink' same h = (same, h)
+counts_of_sink BadLine source source' sink sink' same h = (same, h)
+counts_of_sink BadWords source source' sink sink' same h = h
+counts_of_sink NoMemory source source' sink sink' same h = (same, h)
+counts_of_sink ReadFault source source' sink sink' same h = absurd h
+counts_of_sink WriteFault source source' sink sink' same h = h
 
 -- what a read that failed within a line's bytes prints, where the source's count rose since an earlier time
 pub rose_earlier : (f a b : ℕ) → f ≤ a → Rose a b → Rose f b

@@ -48,11 +48,20 @@ GoesOn failed s before bytes after buffer left None held held' =
 GoesOn failed s before bytes after buffer left (Some ending) held held' =
     EndsRun failed s before bytes left ending held held'
 
--- a replay ends with these causes: faults of the source and of the sink are counted there
-abbrev pub IsCaused : Ending → Type 0 → Type 0 → Type 0
-IsCaused Complete source sink = Unit {0}
-IsCaused BadLine source sink = Unit {0}
-IsCaused BadWords source sink = ⊥
-IsCaused NoMemory source sink = Unit {0}
-IsCaused ReadFault source sink = source
-IsCaused WriteFault source sink = sink
+-- what the sink counted in a run that ended so, where the source had no part in it
+abbrev pub SinkCounts : Ending → ℕ → ℕ → Type 0
+SinkCounts Complete before now = now ≡ before
+SinkCounts BadLine before now = now ≡ before
+SinkCounts BadWords before now = ⊥
+SinkCounts NoMemory before now = now ≡ before
+SinkCounts ReadFault before now = ⊥
+SinkCounts WriteFault before now = Rose before now
+
+-- what the source and the sink counted in a replay that ended so: nothing, unless it ended by their fault
+abbrev pub Counts : Ending → ℕ → ℕ → ℕ → ℕ → Type 0
+Counts Complete source source' sink sink' = (source' ≡ source) × (sink' ≡ sink)
+Counts BadLine source source' sink sink' = (source' ≡ source) × (sink' ≡ sink)
+Counts BadWords source source' sink sink' = ⊥
+Counts NoMemory source source' sink sink' = (source' ≡ source) × (sink' ≡ sink)
+Counts ReadFault source source' sink sink' = Rose source source' × (sink' ≡ sink)
+Counts WriteFault source source' sink sink' = Rose sink sink'

@@ -6,7 +6,7 @@ mod last_line;
 mod replay;
 mod words;
 
-ghost use Rattle.std.specs.Prelude.{◌≡◌, ◌≢◌, ◌⊎◌, ℕ, List, map, string_bytes, Some, true, false};
+ghost use Rattle.std.specs.Prelude.{◌≡◌, ◌≢◌, ◌⊎◌, ◌<◌, ℕ, List, map, string_bytes, Some, true, false};
 ghost use Rattle.vl_disk.specs.Faults.{Rose};
 ghost use Rattle.vl_io.specs.Sink.{Takes};
 ghost use Rattle.vl_cli.specs.Script.{lines_of};
@@ -42,9 +42,11 @@ pub fn run<S: Source, K: Sink, D>(
     ensures plain { is_plain (map string_bytes words.now) ≡ true → result.status ≢ 2 }
     ensures not_plain { is_plain (map string_bytes words.now) ≡ false → ((result.status ≡ 2) ⊎ (result.status ≡ 7)) × (source.new ≡ source.old) }
 
-    // Faults have a cause.
+    // Statuses 6 and 7 come only by faults of the source and of the sink, and the others only without.
     ensures read_fault { result.status ≡ 6 → Rose (S.faults source.old) (S.faults source.new) }
     ensures write_fault { result.status ≡ 7 → Rose (K.faults sink.old) (K.faults sink.new) }
+
+    ensures steady { result.status < 6 → (S.faults source.new ≡ S.faults source.old) × (K.faults sink.new ≡ K.faults sink.old) }
 
     // There are no other statuses.
     ensures status { (ending : HowEnded) × (result.status ≡ status_of ending) }

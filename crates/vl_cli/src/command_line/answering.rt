@@ -1,10 +1,9 @@
-ghost use Rattle.std.specs.Prelude.{◌≡◌, ◌≤◌, ℕ, IfOk, IfSome};
+ghost use Rattle.std.specs.Prelude.{◌≡◌, ℕ, IfOk, MatchOption};
 ghost use Rattle.std.specs.Option.{option_map};
-ghost use Rattle.vl_disk.specs.Faults.{Rose};
 ghost use Rattle.vl_cli.specs.Sequential.{State};
 ghost use Rattle.vl_cli.specs.Represents.{Represents};
 ghost use Rattle.vl_cli.specs.Replay.{is_printed, line_number};
-ghost use Rattle.vl_cli.specs.Steps.{Answers, Refuses, StepsOn, IsCaused};
+ghost use Rattle.vl_cli.specs.Steps.{Answers, Refuses, StepsOn, SinkCounts};
 
 use crate::Ending;
 use crate::command_line::last_line::{NO_MEMORY, finish};
@@ -47,8 +46,7 @@ fn answer_text(alloc: Global, replayer: &mut Replayer, text: &[u8]) -> Result<Op
 /// Ends a run at a bad line, with so many lines answered before it.
 pub fn refuse<K: Sink>(alloc: Global, answered: u64, sink: &mut K) -> Ending
     ensures printed { (before : ℕ) → answered ≡ line_number before → Refuses before result (K.held sink.old) (K.held sink.new) }
-    ensures cause { IsCaused result ⊥ (Rose (K.faults sink.old) (K.faults sink.new)) }
-    ensures faults { K.faults sink.old ≤ K.faults sink.new }
+    ensures faults { SinkCounts result (K.faults sink.old) (K.faults sink.new) }
 {
     match print_bad_line(alloc, answered.saturating_add(1)) {
         Ok(line) => finish(sink, &line, Ending::BadLine),
@@ -66,8 +64,7 @@ pub fn answer<K: Sink>(
 ) -> Option<Ending>
     ensures printed { (s : State) (before : ℕ) → Represents replayer.old s → answered ≡ line_number before
         → StepsOn s before text.now replayer.new result (K.held sink.old) (K.held sink.new) }
-    ensures cause { IfSome result (λ ending. IsCaused ending ⊥ (Rose (K.faults sink.old) (K.faults sink.new))) }
-    ensures faults { K.faults sink.old ≤ K.faults sink.new }
+    ensures faults { MatchOption result (K.faults sink.new ≡ K.faults sink.old) (λ ending. SinkCounts ending (K.faults sink.old) (K.faults sink.new)) }
 {
     match answer_text(alloc, replayer, text) {
         Ok(Some(answer)) => match sink.put(&answer) {

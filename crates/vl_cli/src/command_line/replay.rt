@@ -1,9 +1,9 @@
-ghost use Rattle.std.specs.Prelude.{◌≡◌, ◌≢◌, ◌+◌, ◌<◌, ◌≤◌, ◌++◌, ℕ, List, Option, Some, None, IfSome, length};
+ghost use Rattle.std.specs.Prelude.{◌≡◌, ◌≢◌, ◌+◌, ◌<◌, ◌≤◌, ◌++◌, ℕ, List, Option, Some, None, MatchOption, length};
 ghost use Rattle.vl_disk.specs.Faults.{Rose};
 ghost use Rattle.vl_cli.specs.Sequential.{State, empty_store};
 ghost use Rattle.vl_cli.specs.Represents.{Represents};
 ghost use Rattle.vl_cli.specs.Replay.{line_number};
-ghost use Rattle.vl_cli.specs.Steps.{EndsRun, IsCaused, GoesOn, StepsOn};
+ghost use Rattle.vl_cli.specs.Steps.{EndsRun, GoesOn, StepsOn, Counts, SinkCounts};
 
 use crate::Ending;
 use crate::command_line::answering::{answer, refuse};
@@ -31,9 +31,8 @@ impl Progress {
             → GoesOn (Rose f (S.faults source.new)) s before (self.old.buffer ++ had) self.new.replayer self.new.buffer (S.left source.new) result (K.held sink.old) (K.held sink.new) }
         ensures counted { (before : ℕ) → self.old.answered ≡ line_number before → result ≡ None → self.new.answered ≡ line_number (before + 1) }
         ensures shorter { result ≡ None → length self.new.buffer + S.budget source.new < length self.old.buffer + S.budget source.old }
-        ensures cause { IfSome result (λ ending. IsCaused ending (Rose (S.faults source.old) (S.faults source.new)) (Rose (K.faults sink.old) (K.faults sink.new))) }
-        ensures faults { S.faults source.old ≤ S.faults source.new }
-        ensures sink_faults { K.faults sink.old ≤ K.faults sink.new }
+        ensures faults { MatchOption result ((S.faults source.new ≡ S.faults source.old) × (K.faults sink.new ≡ K.faults sink.old))
+            (λ ending. Counts ending (S.faults source.old) (S.faults source.new) (K.faults sink.old) (K.faults sink.new)) }
     {
         match read_line(&mut self.buffer, source, &mut self.line) {
             Ok(Next::Line) => self.answer(sink),
@@ -51,8 +50,7 @@ impl Progress {
             → StepsOn s before self.old.line.items self.new.replayer result (K.held sink.old) (K.held sink.new) }
         ensures counted { (before : ℕ) → self.old.answered ≡ line_number before → result ≡ None → self.new.answered ≡ line_number (before + 1) }
         ensures same { self.new.buffer ≡ self.old.buffer }
-        ensures cause { IfSome result (λ ending. IsCaused ending ⊥ (Rose (K.faults sink.old) (K.faults sink.new))) }
-        ensures faults { K.faults sink.old ≤ K.faults sink.new }
+        ensures faults { MatchOption result (K.faults sink.new ≡ K.faults sink.old) (λ ending. SinkCounts ending (K.faults sink.old) (K.faults sink.new)) }
     {
         let ended = answer(
             self.alloc,
@@ -70,8 +68,7 @@ impl Progress {
 pub fn replay<S: Source, K: Sink>(alloc: Global, source: &mut S, sink: &mut K) -> Ending
     ensures printed { (input : List ℕ) → S.left source.old ≡ Some input
         → EndsRun (Rose (S.faults source.old) (S.faults source.new)) empty_store 0 input (S.left source.new) result (K.held sink.old) (K.held sink.new) }
-    ensures cause { IsCaused result (Rose (S.faults source.old) (S.faults source.new)) (Rose (K.faults sink.old) (K.faults sink.new)) }
-    ensures words { result ≢ Ending.BadWords }
+    ensures faults { Counts result (S.faults source.old) (S.faults source.new) (K.faults sink.old) (K.faults sink.new) }
 {
     let Ok(buffer) = Buffer::new(alloc) else {
         return finish(sink, NO_MEMORY, Ending::NoMemory);

@@ -1,4 +1,4 @@
-ghost use Rattle.std.specs.Prelude.{◌==◌, ◌≡◌, ◌≢◌, ◌+◌, ◌<◌, ◌≤◌, ℕ, List, [], ◌∷◌, ◌++◌, Option, Some, length, IsTrue, IfOk, OnErr, MatchBool, IfSome};
+ghost use Rattle.std.specs.Prelude.{◌==◌, ◌≡◌, ◌≢◌, ◌+◌, ◌<◌, ◌≤◌, ℕ, List, [], ◌∷◌, ◌++◌, Option, Some, length, IsTrue, IfOk, OnOk, OnErr, MatchBool, IfSome};
 ghost use Rattle.std.specs.List.{position};
 ghost use Rattle.vl_disk.specs.Faults.{Rose};
 ghost use Rattle.vl_cli.specs.Input.{TakesLineEnd, Refills};
@@ -71,7 +71,7 @@ impl Buffer {
         ensures bytes { IfOk result (λ more. Refills more (S.left source.old) (S.left source.new) self.new) }
         ensures kept { OnErr result (S.left source.new ≡ S.left source.old) }
         ensures budget { IfOk result (λ more. length self.new + S.budget source.new ≤ S.budget source.old) }
-        ensures faults { S.faults source.old ≤ S.faults source.new }
+        ensures steady { OnOk result (S.faults source.new ≡ S.faults source.old) }
         ensures failed { OnErr result (Rose (S.faults source.old) (S.faults source.new)) }
     {
         let given = source.next(&mut self.bytes)?;

@@ -1,6 +1,5 @@
-ghost use Rattle.std.specs.Prelude.{◌≡◌, ◌≢◌, ◌+◌, ◌<◌, ◌≤◌, ◌++◌, ℕ, List, length, IfOk, IsErrOf, Option, Some};
-ghost use Rattle.vl_disk.specs.Faults.{Rose};
-ghost use Rattle.vl_cli.specs.Input.{ReadsLine, FailsWithin};
+ghost use Rattle.std.specs.Prelude.{◌≡◌, ◌≢◌, ◌+◌, ◌<◌, ◌≤◌, ◌++◌, ℕ, List, length, IfOk, MatchResult, Err, Option, Some};
+ghost use Rattle.vl_cli.specs.Input.{ReadsLine, FailsWithin, CountsFault};
 
 use crate::input::{Buffer, InputFail};
 use crate::script::MAX_LINE_BYTES;
@@ -31,8 +30,8 @@ pub fn read_line<S: Source>(
         → length buffer.new + S.budget source.new < length buffer.old + S.budget source.old) }
     ensures within { result ≡ Err InputFail.Fault → (left : List ℕ) → S.left source.old ≡ Some left
         → FailsWithin (buffer.old ++ left) (S.left source.new) }
-    ensures faults { S.faults source.old ≤ S.faults source.new }
-    ensures failed { IsErrOf result InputFail.Fault → Rose (S.faults source.old) (S.faults source.new) }
+    ensures faults { MatchResult result (λ _. S.faults source.new ≡ S.faults source.old)
+        (λ e. CountsFault e (S.faults source.old) (S.faults source.new)) }
 {
     line.clear();
     loop {

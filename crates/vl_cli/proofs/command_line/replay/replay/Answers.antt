@@ -1,9 +1,9 @@
-use Rattle.std.proofs.Common.{◌≡◌, ◌≢◌, ◌+◌, ℕ, List, [], Option, Some, None, length, arith, subst, sym, ap, ◌∙◌}
+use Rattle.std.proofs.Common.{refl, ◌≡◌, ◌≢◌, ◌+◌, ℕ, List, [], Option, Some, None, length, arith, subst, sym, ap, ◌∙◌}
 use Rattle.vl_disk.specs.Faults.{Rose}
 use Rattle.vl_cli.specs.Sequential.{empty_store}
 use Rattle.vl_cli.specs.Script.{lines_of}
 use Rattle.vl_cli.specs.Replay.{no_memory_line, exchanges_from}
-use Rattle.vl_cli.specs.Steps.{EndsRun, IsCaused, GoesOn}
+use Rattle.vl_cli.specs.Steps.{EndsRun, GoesOn}
 use Rattle.vl_cli.specs.declared.ending.Ending.{Ending}
 use Rattle.vl_cli.specs.declared.ending.Ending.TheVariants.{NoMemory}
 use Rattle.vl_cli.proofs.Replays.{finished, no_memory_ends}
@@ -22,8 +22,8 @@ lines-init g c = record {
   under_way = λ input told.
     subst (λ (b : List ℕ). UnderWay (g.S.Source.faults c.args.source.now) input c.new-3.result 0 b (g.S.Source.left c.args.source.now) (g.K.Sink.held c.args.sink.now) (g.K.Sink.held c.args.sink.now)) (sym c.in-Ok.ensures)
       (begun (g.S.Source.faults c.args.source.now) input c.new-3.result (g.S.Source.left c.args.source.now) (g.K.Sink.held c.args.sink.now) c.new-3.ensures told);
-  faults = omega arith;
-  sink_faults = omega arith; }
+  steady = refl;
+  sink_steady = refl; }
 
 pub returns-in-Some-clause-printed : goal.returns-in-Some-clause-printed
 returns-in-Some-clause-printed g c input told =
@@ -31,7 +31,7 @@ returns-in-Some-clause-printed g c input told =
     let u = c.lines.invariant.under_way input told in
     over f (g.S.Source.faults c.step.new.source) input c.lines.progress.replayer c.step.new.self.replayer c.lines.progress.answered c.step.new.self.answered c.lines.progress.buffer c.step.new.self.buffer
       (g.S.Source.left c.lines.source) (g.S.Source.left c.step.new.source) (g.K.Sink.held c.args.sink.now) (g.K.Sink.held c.lines.sink) (g.K.Sink.held c.step.new.sink)
-      c.in-Some.ending u (c.in-Some.ensures.printed f u.before u.state u.had c.lines.invariant.faults u.stands u.count u.told)
+      c.in-Some.ending u (c.in-Some.ensures.printed f u.before u.state u.had (let same = c.lines.invariant.steady in omega arith) u.stands u.count u.told)
 
 pub lines-preserved : goal.lines-preserved
 lines-preserved g c = record {
@@ -40,6 +40,6 @@ lines-preserved g c = record {
     let u = c.lines.invariant.under_way input told in
     further f (g.S.Source.faults c.step.new.source) input c.lines.progress.replayer c.step.new.self.replayer c.lines.progress.answered c.step.new.self.answered c.lines.progress.buffer c.step.new.self.buffer
       (g.S.Source.left c.lines.source) (g.S.Source.left c.step.new.source) (g.K.Sink.held c.args.sink.now) (g.K.Sink.held c.lines.sink) (g.K.Sink.held c.step.new.sink)
-      u (c.in_default-step.ensures.printed f u.before u.state u.had c.lines.invariant.faults u.stands u.count u.told) (c.step.ensures.counted u.before u.count c.in_default-step.is);
-  faults = omega (arith, c.lines.invariant.faults, c.step.ensures.faults);
-  sink_faults = omega (arith, c.lines.invariant.sink_faults, c.step.ensures.sink_faults); }
+      u (c.in_default-step.ensures.printed f u.before u.state u.had (let same = c.lines.invariant.steady in omega arith) u.stands u.count u.told) (c.step.ensures.counted u.before u.count c.in_default-step.is);
+  steady = c.in_default-step.ensures.faults.0 ∙ c.lines.invariant.steady;
+  sink_steady = c.in_default-step.ensures.faults.1 ∙ c.lines.invariant.sink_steady; }

@@ -1,4 +1,4 @@
-use Rattle.std.proofs.Common.{◌≡◌, ◌+◌, ◌≤◌, ℕ, List, length, Some}
+use Rattle.std.proofs.Common.{◌≡◌, ◌+◌, ℕ, List, length, Some}
 use Rattle.vl_cli.proofs.UnderWay.{UnderWay}
 use Rattle.vl_cli.proofs.command_line.replay.replay.Given as goal
 
@@ -8,8 +8,8 @@ invariant-lines g l =
     let held = g.K.Sink.held in
     record {
       under_way : (input : List ℕ) → left l.fn.source ≡ Some input → UnderWay (g.S.Source.faults l.fn.source) input l.progress.replayer l.progress.answered l.progress.buffer (left l.source) (held l.fn.sink) (held l.sink);
-      faults : g.S.Source.faults l.fn.source ≤ g.S.Source.faults l.source;
-      sink_faults : g.K.Sink.faults l.fn.sink ≤ g.K.Sink.faults l.sink;
+      steady : g.S.Source.faults l.source ≡ g.S.Source.faults l.fn.source;
+      sink_steady : g.K.Sink.faults l.sink ≡ g.K.Sink.faults l.fn.sink;
     }
 
 abbrev pub decreases-lines : goal.decreases-lines

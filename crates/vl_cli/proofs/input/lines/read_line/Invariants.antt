@@ -10,7 +10,7 @@ invariant-loop-line g l =
       told : (had : List ℕ) → left l.fn.source ≡ Some had → (rest : List ℕ) × (left l.source ≡ Some rest) × (l.fn.buffer ++ had ≡ l.line.items ++ (l.buffer ++ rest));
       unended : HasNoLineEnd l.line.items;
       spent : length l.line.items + (length l.buffer + g.S.Source.budget l.source) ≤ length l.fn.buffer + g.S.Source.budget l.fn.source;
-      faults : g.S.Source.faults l.fn.source ≤ g.S.Source.faults l.source;
+      steady : g.S.Source.faults l.source ≡ g.S.Source.faults l.fn.source;
     }
 
 abbrev pub decreases-loop-line : goal.decreases-loop-line

@@ -46,5 +46,5 @@ returns-in-Err-Fault-clause-printed g c f before s had le stands count told =
     let failed = Rose f (g.S.Source.faults c.read_line.new.source) in
     let fault = c.in-Err-Fault.is ∙ ap Err c.in-Err-Fault.field-0-is in
     let within = c.read_line.ensures.within fault had told in
-    let ends = read_fault_ends failed s before bytes within.0 within.1 left (rose_earlier f (g.S.Source.faults c.args.source.now) (g.S.Source.faults c.read_line.new.source) le (c.read_line.ensures.failed fault)) within.2 within.3 within.4 in
+    let ends = read_fault_ends failed s before bytes within.0 within.1 left (rose_earlier f (g.S.Source.faults c.args.source.now) (g.S.Source.faults c.read_line.new.source) le (rw c.in-Err-Fault.field-0-is at c.in-Err-Fault.ensures.faults)) within.2 within.3 within.4 in
     finished failed (exchanges_from s (lines_of bytes)) (length (lines_of bytes)) before bytes left ReadFault c.finish-in-Err-Fault.result read_fault_line (g.K.Sink.held c.args.sink.now) (g.K.Sink.held c.finish-in-Err-Fault.new.sink) ends.0 ends.1 c.finish-in-Err-Fault.ensures.printed
