@@ -3,8 +3,7 @@ use Rattle.std.proofs.Common.{◌≡◌, ◌+◌, ◌-◌, ◌≤◌, ℕ, List,
 use Rattle.std.proofs.Common.{length-append}
 use Rattle.std.proofs.lemmas.Grind.{common_steps}
 use Rattle.std.specs.Prelude.{Option, Some, None}
-use Rattle.std.specs.FinMap.{get, insert, remove, entries, find, get-insert, get-remove, get-entries}
-use Rattle.std.specs.Cmp.{IsTotalOrder}
+use Rattle.std.specs.FinMap.{get, entries, find, get-insert, get-remove, get-entries}
 use Rattle.std.specs.Cmp.Lexicographic.{nat_list_cmp_total}
 use Rattle.std.specs.Ordering.{eq_by_cmp}
 use Rattle.vl_model.specs.Keys.{Stored, Pairs, Writes, key_cmp}
@@ -67,3 +66,6 @@ value_at-with_commit h writes q =
     ∙ ap (value_left (get h.base q)) (last_change-append h.commits writes q)
     ∙ sym (value_left-newer (get h.base q) (last_change h.commits q) (get writes q))
     ∙ ap (λ cs. value_left (value_left (get h.base q) (last_change cs q)) (get writes q)) (sym (take_all h.commits (h.first + length h.commits - h.first) (omega arith)))
+
+pub value_at-first : (h : History) (n : ℕ) (q : List ℕ) → n ≤ h.first → value_at h n q ≡ get h.base q
+value_at-first h n q le = let none : n - h.first ≡ 0 = omega arith in ap (λ m. value_left (get h.base q) (last_change (take m h.commits) q)) none

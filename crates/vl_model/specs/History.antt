@@ -1,7 +1,7 @@
 -- The accepted commits, oldest first, over a base: what each key has after each of them.
-use Rattle.std.specs.Prelude.{◌≡◌, ◌+◌, ◌-◌, ℕ, List, [], ◌∷◌, length, take, Option, Some, None, ◌++◌}
-use Rattle.std.specs.FinMap.{FinMap, get, insert, remove, entries, empty}
-use Rattle.vl_model.specs.Keys.{Stored, Pairs, Writes, key_cmp}
+use Rattle.std.specs.Prelude.{◌+◌, ◌-◌, ℕ, List, [], ◌∷◌, length, take, Option, Some, None, ◌++◌}
+use Rattle.std.specs.FinMap.{get, insert, remove, entries, empty}
+use Rattle.vl_model.specs.Keys.{Stored, Pairs, Writes}
 use Rattle.vl_model.specs.declared.change.Change.{Change}
 use Rattle.vl_model.specs.declared.change.Change.TheVariants.{Set, Delete}
 
@@ -43,7 +43,7 @@ value_left old None = old
 value_left old (Some (Set value)) = Some value
 value_left old (Some Delete) = None
 
--- what a key has at a number: the value of the last commit numbered at most n that names it, none where
+-- What a key has at a number, which is asked from the first number to the last: the value of the last commit numbered at most n that names it, none where
 -- that commit deletes it, and the base's where there is no such commit
 abbrev pub value_at : History → ℕ → List ℕ → Option Stored
 value_at h n key = value_left (get h.base key) (last_change (commits_up_to h n) key)

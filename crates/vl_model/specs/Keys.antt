@@ -1,5 +1,5 @@
 -- Keys and values as lists of bytes, and which of them are lawful.
-use Rattle.std.specs.Prelude.{◌≡◌, ◌<◌, ◌≤◌, ℕ, List, length, Bool, ◌&&◌, nat_le, All}
+use Rattle.std.specs.Prelude.{ℕ, List, Bool, ◌&&◌, nat_le}
 use Rattle.std.specs.FinMap.{FinMap}
 use Rattle.std.specs.Cmp.Lexicographic.{slice_cmp}
 use Rattle.std.specs.Ordering.{nat_cmp}

@@ -1,6 +1,6 @@
 -- What a transaction noted of its reads, and what it means that a history explains them.
-use Rattle.std.specs.Prelude.{◌≡◌, ℕ, Bool, true, ◌&&◌, ◌||◌, not, List, [], ◌∷◌, length, take, reverse, filter, Option, Some, None}
-use Rattle.std.specs.FinMap.{FinMap, entries, retain_keys}
+use Rattle.std.specs.Prelude.{◌≡◌, ℕ, Bool, ◌&&◌, not, List, [], ◌∷◌, take, reverse, Option}
+use Rattle.std.specs.FinMap.{entries, retain_keys}
 use Rattle.std.specs.Ordering.{is_lt}
 use Rattle.std.specs.List.{AllByRecursion}
 use Rattle.vl_model.specs.Keys.{Stored, Pairs, Writes, key_cmp}
@@ -23,7 +23,7 @@ pub data Read : Type 0 where
   KeyRead : List ℕ → Option Stored → Read
   RangeRead : Scan → Read
 
--- whether a key is in an interval
+-- whether a key is in an interval, from low on and below high; an empty high is no end
 abbrev pub is_within : List ℕ → List ℕ → List ℕ → Bool
 is_within low [] key = not (is_lt (key_cmp key low))
 is_within low (b ∷ bs) key = not (is_lt (key_cmp key low)) && is_lt (key_cmp key (b ∷ bs))

@@ -11,8 +11,26 @@ mod way;
 pub use bytes::{Bytes, Key, Value};
 pub use change::Change;
 pub use counter::Counter;
-pub use laws::{contents_agree_with_values, value_after_one_more_commit};
+pub use laws::{contents_agree_with_values, value_after_one_more_commit, value_without_commits};
 pub use limits::{
     MAX_COMMIT_NUMBER, MAX_KEY_BYTES, MAX_TRANSACTION_BYTES, MAX_TRANSACTION_KEYS, MAX_VALUE_BYTES,
 };
 pub use way::Way;
+
+#[cfg(test)]
+mod tests {
+    use super::*;
+    use std::test::Fail;
+
+    #[test]
+    fn bytes_are_kept(rt: HostRuntime) -> Result<(), Fail> {
+        let bytes = Bytes::copy_of(rt.alloc(), b"key")?;
+        assert_eq!(rt; bytes.as_slice(), b"key".as_slice());
+        assert_eq!(rt; bytes.len(), 3);
+        assert!(rt; !bytes.is_empty());
+        let items = bytes.into_vec();
+        assert_eq!(rt; items.as_slice(), b"key".as_slice());
+        assert!(rt; Bytes::new(Vec::new(rt.alloc())).is_empty());
+        Ok(())
+    }
+}

@@ -1,9 +1,9 @@
-use vl_model::{Bytes, Key, Value};
+use vl_model::Bytes;
 
 /// A name that a script gives to a transaction or a view: 1 to 16 of `a` to `z` and `0` to `9`.
 pub type Ident = Bytes;
 
-/// A line of a script, as docs/SCRIPT.md spells it.
+/// A line of a script, as docs/SCRIPT.md spells it. Its key and its value have any length.
 #[derive(Drop)]
 pub enum Line {
     /// `begin T`: opens a transaction at the last commit.
@@ -11,7 +11,7 @@ pub enum Line {
     /// `view T`: opens a view, which only reads, at the last commit.
     View { name: Ident },
     /// `get T K`: reads a key.
-    Get { name: Ident, key: Key },
+    Get { name: Ident, key: Bytes },
     /// `set T K V`: writes a key in a transaction.
     Set { name: Ident, key: Key, value: Value },
     /// `commit T`: ends a transaction, with its writes as the next commit.
