@@ -60,7 +60,9 @@ with_thing-sound s name thing sound now one = record {
   one = one;
   current = λ other x is. elim (inserted (eq_by_cmp key_cmp other name) thing x (get s.things other) (sym (get-insert nat_list_cmp_total s.things name thing other) ∙ is)) [
     | inl same ↦ subst (IsCurrent s.history) same now
-    | inr there ↦ sound.current other x there ] }
+    | inr there ↦ sound.current other x there
+  ];
+}
 
 fewer : (b : Bool) (n : ℕ) → n ≤ 1 → cond b (n - 1) n ≤ 1
 fewer true n le = omega arith
@@ -69,7 +71,8 @@ fewer false n le = le
 without_thing-sound : (s : State) (name : List ℕ) → IsSound s → IsSound (without_thing s name)
 without_thing-sound s name sound = record {
   one = rw (len-remove nat_list_cmp_total s.things name) (fewer (contains_key s.things name) (len s.things) sound.one);
-  current = λ other x is. sound.current other x (removed (eq_by_cmp key_cmp other name) x (get s.things other) (sym (get-remove nat_list_cmp_total s.things name other) ∙ is)) }
+  current = λ other x is. sound.current other x (removed (eq_by_cmp key_cmp other name) x (get s.things other) (sym (get-remove nat_list_cmp_total s.things name other) ∙ is));
+}
 
 -- putting a thing in the place of another leaves as many
 same_len : (s : State) (name : List ℕ) (old new : Thing) → IsSound s → get s.things name ≡ Some old → len (insert s.things name new) ≤ 1
@@ -79,15 +82,15 @@ same_len s name old new sound is = rw (len-insert nat_list_cmp_total s.things na
 opened-sound : (s : State) (name : List ℕ) (thing : Thing) → IsSound s → IsCurrent s.history thing → IsSound (opened s name thing).1
 opened-sound s name thing sound now =
     pick (λ r. IsSound r.1) (contains_key s.things name) _ _ (λ taken. sound) (λ free.
-      pick (λ r. IsSound r.1) (nat_le 1 (len s.things)) _ _ (λ full. sound) (λ room.
-        with_thing-sound s name thing sound now (rw (len-insert nat_list_cmp_total s.things name thing, free) (let few : len s.things < 1 = grind (arith, nat_tests) in omega arith))))
+    pick (λ r. IsSound r.1) (nat_le 1 (len s.things)) _ _ (λ full. sound) (λ room.
+    with_thing-sound s name thing sound now (rw (len-insert nat_list_cmp_total s.things name thing, free) (let few : len s.things < 1 = grind (arith, nat_tests) in omega arith))))
 
 explained-append : (h : History) (n : ℕ) (reads : List Read) (x : Read) → IsExplained h n reads → IsExplainedRead h n x → IsExplained h n (reads ++ (x ∷ []))
 explained-append h n [] x p q = (q, tt)
 explained-append h n (r ∷ reads) x p q = (p.0, explained-append h n reads x p.1 q)
 
 read_in_transaction-sound : (s : State) (name key : List ℕ) (number : ℕ) (reads : List Read) (writes : Writes) (change : Option Change) → IsSound s → get s.things name ≡ Some (OpenTransaction number reads writes) →
-  IsSound (read_in_transaction s name key number reads writes change).1
+    IsSound (read_in_transaction s name key number reads writes change).1
 read_in_transaction-sound s name key number reads writes (Some change) sound is = sound
 read_in_transaction-sound s name key number reads writes None sound is =
     let now = sound.current name (OpenTransaction number reads writes) is in
@@ -107,9 +110,9 @@ written-sound s name key value (Some (OpenView number)) sound is = sound
 written-sound s name key value (Some (OpenTransaction number reads writes)) sound is =
     let now = sound.current name (OpenTransaction number reads writes) is in
     pick (λ r. IsSound r.1) (not (is_key_length (length key) && is_value_length (length value))) _ _ (λ bad. sound) (λ ok.
-      let new : Writes = insert writes key (Put value) in
-      let next : Thing = OpenTransaction number reads new in
-      pick (λ r. IsSound r.1) (fits_transaction new) (Done, with_thing s name next) (TooBig, s) (λ fits. with_thing-sound s name next sound now (same_len s name (OpenTransaction number reads writes) next sound is)) (λ big. sound))
+    let new : Writes = insert writes key (Put value) in
+    let next : Thing = OpenTransaction number reads new in
+    pick (λ r. IsSound r.1) (fits_transaction new) (Done, with_thing s name next) (TooBig, s) (λ fits. with_thing-sound s name next sound now (same_len s name (OpenTransaction number reads writes) next sound is)) (λ big. sound))
 
 -- the outcome of a commit that is made
 abbrev accepted : State → List ℕ → Writes → Outcome
@@ -125,9 +128,10 @@ committed-sound s name None sound is = sound
 committed-sound s name (Some (OpenView number)) sound is = sound
 committed-sound s name (Some (OpenTransaction number reads writes)) sound is =
     pick (λ r. IsSound r.1) (len writes == 0) _ _ (λ nothing. without_thing-sound s name sound) (λ some.
-      pick (λ r. IsSound r.1) (nat_le MAX_COMMIT_NUMBER (last_number s.history)) (Exhausted CommitNumber, s) (accepted s name writes) (λ exhausted. sound) (λ left. record {
-        one = rw (alone s name (OpenTransaction number reads writes) sound is, len-empty key_cmp Thing) zero-le;
-        current = λ other x there. absurd (nothing_there x (sym there ∙ ap (λ (m : FinMap key_cmp Thing). get m other) (alone s name (OpenTransaction number reads writes) sound is) ∙ none_in_empty other)) }))
+    pick (λ r. IsSound r.1) (nat_le MAX_COMMIT_NUMBER (last_number s.history)) (Exhausted CommitNumber, s) (accepted s name writes) (λ exhausted. sound) (λ left. record {
+      one = rw (alone s name (OpenTransaction number reads writes) sound is, len-empty key_cmp Thing) zero-le;
+      current = λ other x there. absurd (nothing_there x (sym there ∙ ap (λ (m : FinMap key_cmp Thing). get m other) (alone s name (OpenTransaction number reads writes) sound is) ∙ none_in_empty other));
+    }))
 
 pub state_after-sound : (s : State) (line : Line) → IsSound s → IsSound (state_after s line)
 state_after-sound s (Begin name) sound = opened-sound s name (OpenTransaction (last_number s.history) [] empty) sound (tt, refl)
@@ -152,21 +156,21 @@ same_reads h writes n (x ∷ reads) le p = (same_read h writes n x le p.0, same_
 view_read : (s : State) (name key : List ℕ) (number : ℕ) (o : Option Thing) → o ≡ Some (OpenView number) → is_printed (read s name key o).0 ≡ true → (read s name key o).0 ≡ found (value_at s.history number key)
 view_read s name key number o is =
     subst (λ (o : Option Thing). is_printed (read s name key o).0 ≡ true → (read s name key o).0 ≡ found (value_at s.history number key)) (sym is)
-      (pick (λ r. is_printed r.0 ≡ true → r.0 ≡ found (value_at s.history number key)) (is_key_length (length key)) _ _ (λ ok printed. refl) (λ bad printed. absurd (cc)))
+    (pick (λ r. is_printed r.0 ≡ true → r.0 ≡ found (value_at s.history number key)) (is_key_length (length key)) _ _ (λ ok printed. refl) (λ bad printed. absurd (cc)))
 
 numbered : (m n : ℕ) → Number m ≡ Number n → m ≡ n
 numbered m n e = cc
 
 -- the reads of a commit are explained at its number less one
 commit_explained : (s : State) (name : List ℕ) (number : ℕ) (reads : List Read) (writes : Writes) (n : ℕ) (o : Option Thing) → IsSound s → get s.things name ≡ Some (OpenTransaction number reads writes) → o ≡ Some (OpenTransaction number reads writes) →
-  (committed s name o).0 ≡ Number n → IsExplained (committed s name o).1.history (n - 1) reads × (number ≡ last_number s.history)
+    (committed s name o).0 ≡ Number n → IsExplained (committed s name o).1.history (n - 1) reads × (number ≡ last_number s.history)
 commit_explained s name number reads writes n o sound is same =
     let now = sound.current name (OpenTransaction number reads writes) is in
     subst (λ (o : Option Thing). (committed s name o).0 ≡ Number n → IsExplained (committed s name o).1.history (n - 1) reads × (number ≡ last_number s.history)) (sym same)
-      (pick (λ r. r.0 ≡ Number n → IsExplained r.1.history (n - 1) reads × (number ≡ last_number s.history)) (len writes == 0) _ _ (λ nothing e. absurd (cc)) (λ some.
-        pick (λ r. r.0 ≡ Number n → IsExplained r.1.history (n - 1) reads × (number ≡ last_number s.history)) (nat_le MAX_COMMIT_NUMBER (last_number s.history)) (Exhausted CommitNumber, s) (accepted s name writes) (λ exhausted e. absurd (cc)) (λ left e.
-          let at : n - 1 ≡ number = let m = numbered (last_number s.history + 1) n e in let c = now.1 in omega arith in
-          (rw at (same_reads s.history writes number reads (let c = now.1 in omega arith) now.0), now.1))))
+    (pick (λ r. r.0 ≡ Number n → IsExplained r.1.history (n - 1) reads × (number ≡ last_number s.history)) (len writes == 0) _ _ (λ nothing e. absurd (cc)) (λ some.
+    pick (λ r. r.0 ≡ Number n → IsExplained r.1.history (n - 1) reads × (number ≡ last_number s.history)) (nat_le MAX_COMMIT_NUMBER (last_number s.history)) (Exhausted CommitNumber, s) (accepted s name writes) (λ exhausted e. absurd (cc)) (λ left e.
+    let at : n - 1 ≡ number = let m = numbered (last_number s.history + 1) n e in let c = now.1 in omega arith in
+    (rw at (same_reads s.history writes number reads (let c = now.1 in omega arith) now.0), now.1))))
 
 exchange_explained : (s : State) (line : Line) → IsSound s → is_printed (answer_to s line) ≡ true → IsExplainedExchange line (record { before = s; line = line; answer = answer_to s line; after = state_after s line })
 exchange_explained s (Begin name) sound printed = tt
@@ -176,7 +180,7 @@ exchange_explained s (Set name key value) sound printed = tt
 exchange_explained s (Commit name) sound printed = λ number reads writes n is e. commit_explained s name number reads writes n (get s.things name) sound is is e
 
 exchange_of : (s : State) (line : Line) (texts : List (List ℕ)) (b : Bool) → is_printed (answer_to s line) ≡ b → IsSound s → ((s' : State) → IsSound s' → AreExplained (exchanges_from s' texts)) →
-  AreExplained (and_later (λ e. exchanges_from e.after texts) (cond b (Some (record { before = s; line = line; answer = answer_to s line; after = state_after s line })) None))
+    AreExplained (and_later (λ e. exchanges_from e.after texts) (cond b (Some (record { before = s; line = line; answer = answer_to s line; after = state_after s line })) None))
 exchange_of s line texts true printed sound ih = (exchange_explained s line sound printed, ih (state_after s line) (state_after-sound s line sound))
 exchange_of s line texts false printed sound ih = tt
 

@@ -116,9 +116,10 @@ regrouped line piece new rest = simp append_assoc
 
 -- the bytes that are left, where the buffer has a line's end
 pub read_to_end : (had line buffer rest new line' : List ℕ) → had ≡ line ++ (buffer ++ rest) → HasNoLineEnd line → TakesLineEnd true buffer new line line' → (had ≡ line' ++ 10 ∷ (new ++ rest)) × HasNoLineEnd line'
-read_to_end had line buffer rest new line' e h (piece, parts, unended, taken) =
-    (e ∙ ap (λ (b : List ℕ). line ++ (b ++ rest)) parts ∙ regrouped line piece new rest ∙ ap (λ (l : List ℕ). l ++ 10 ∷ (new ++ rest)) (sym taken),
-      rw taken (unended-append line piece h unended))
+read_to_end had line buffer rest new line' e h (piece, parts, unended, taken) = (
+  e ∙ ap (λ (b : List ℕ). line ++ (b ++ rest)) parts ∙ regrouped line piece new rest ∙ ap (λ (l : List ℕ). l ++ 10 ∷ (new ++ rest)) (sym taken),
+  rw taken (unended-append line piece h unended),
+)
 
 -- the same, where it has none and all of it is taken
 pub read_all : (had line buffer rest new line' : List ℕ) → had ≡ line ++ (buffer ++ rest) → HasNoLineEnd line → TakesLineEnd false buffer new line line' → (had ≡ line' ++ rest) × HasNoLineEnd line'

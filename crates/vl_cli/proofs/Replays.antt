@@ -39,23 +39,26 @@ exchanges_from-answered s text texts x e = gone_on (exchange_at s text) (λ y. e
 
 -- what a run that ends in its next piece prints: the piece, or a front of it where the sink failed
 pub finished : (failed : Type 0) (all : List Exchange) (lines before : ℕ) (bytes : List ℕ) (left : Option (List ℕ)) (ending result : Ending) (line : List ℕ) (held held' : Option (List ℕ)) →
-  EndsSo failed all lines before bytes left ending line → NextPiece failed all lines before 0 line → Finishes held line ending result held' →
-  (printed : List ℕ) × Takes held held' printed × EndsSo failed all lines before bytes left result printed
-finished failed all lines before bytes left ending result line held held' whole next (printed, takes, how) =
-    (printed, takes, elim how [
-      | inl same ↦ subst (λ (r : Ending). EndsSo failed all lines before bytes left r printed) (sym same.0) (subst (λ (p : List ℕ). EndsSo failed all lines before bytes left ending p) (sym same.1) whole)
-      | inr cut ↦ subst (λ (r : Ending). EndsSo failed all lines before bytes left r printed) (sym cut.0) (0, line, printed, zero-le, next, cut.1, refl)
-    ])
+    EndsSo failed all lines before bytes left ending line → NextPiece failed all lines before 0 line → Finishes held line ending result held' →
+    (printed : List ℕ) × Takes held held' printed × EndsSo failed all lines before bytes left result printed
+finished failed all lines before bytes left ending result line held held' whole next (printed, takes, how) = (
+  printed,
+  takes,
+  elim how [
+    | inl same ↦ subst (λ (r : Ending). EndsSo failed all lines before bytes left r printed) (sym same.0) (subst (λ (p : List ℕ). EndsSo failed all lines before bytes left ending p) (sym same.1) whole)
+    | inr cut ↦ subst (λ (r : Ending). EndsSo failed all lines before bytes left r printed) (sym cut.0) (0, line, printed, zero-le, next, cut.1, refl)
+  ],
+)
 
 -- the run ends at a bad line
 pub bad_line_ends : (failed : Type 0) (s : State) (before : ℕ) (bytes text : List ℕ) (texts : List (List ℕ)) (left : Option (List ℕ)) → lines_of bytes ≡ text ∷ texts → exchange_at s text ≡ None →
-  Replays failed s before bytes left BadLine (bad_line (before + 1)) × NextPiece failed (exchanges_from s (lines_of bytes)) (length (lines_of bytes)) before 0 (bad_line (before + 1))
+    Replays failed s before bytes left BadLine (bad_line (before + 1)) × NextPiece failed (exchanges_from s (lines_of bytes)) (length (lines_of bytes)) before 0 (bad_line (before + 1))
 bad_line_ends failed s before bytes text texts left e bad =
     let n : before + 0 + 1 ≡ before + 1 = omega arith in
     rw (e, exchanges_from-bad s text texts bad) ((omega arith, ap bad_line (sym n)), subst (λ (k : ℕ). NextPiece failed [] (length (text ∷ texts)) before 0 (bad_line k)) n (next_bad_line refl (omega arith)))
 
 pub no_memory_ends : (failed : Type 0) (s : State) (before : ℕ) (bytes : List ℕ) (left : Option (List ℕ)) →
-  Replays failed s before bytes left NoMemory no_memory_line × NextPiece failed (exchanges_from s (lines_of bytes)) (length (lines_of bytes)) before 0 no_memory_line
+    Replays failed s before bytes left NoMemory no_memory_line × NextPiece failed (exchanges_from s (lines_of bytes)) (length (lines_of bytes)) before 0 no_memory_line
 no_memory_ends failed s before bytes left = ((0, zero-le, refl), next_no_memory)
 
 tested_no : (b : ℕ) → b ≢ 10 → (b == 10) ≡ false
@@ -84,22 +87,25 @@ ended_lines-line (b ∷ line) rest h = ended_lines-cons b (line ++ 10 ∷ rest) 
 
 -- the run ends where the source fails before a line has ended
 pub read_fault_ends : (failed : Type 0) (s : State) (before : ℕ) (bytes given rest : List ℕ) (left : Option (List ℕ)) → failed → left ≡ Some rest → bytes ≡ given ++ rest → HasNoLineEnd given →
-  Replays failed s before bytes left ReadFault read_fault_line × NextPiece failed (exchanges_from s (lines_of bytes)) (length (lines_of bytes)) before 0 read_fault_line
+    Replays failed s before bytes left ReadFault read_fault_line × NextPiece failed (exchanges_from s (lines_of bytes)) (length (lines_of bytes)) before 0 read_fault_line
 read_fault_ends failed s before bytes given rest left fault told parts unended =
     let none : ended_lines given ≡ 0 = ended_lines-none given unended in
     ((given, rest, fault, parts, told, rw none zero-le, rw none refl), next_read_fault fault)
 
 -- the sink failed within an answer
 pub answer_cut : (failed : Type 0) (s : State) (before : ℕ) (bytes text : List ℕ) (texts : List (List ℕ)) (left : Option (List ℕ)) (e : Exchange) (held held' : Option (List ℕ)) →
-  lines_of bytes ≡ text ∷ texts → exchange_at s text ≡ Some e → TakesPrefix held held' (text_of e.answer) → EndsRun failed s before bytes left WriteFault held held'
+    lines_of bytes ≡ text ∷ texts → exchange_at s text ≡ Some e → TakesPrefix held held' (text_of e.answer) → EndsRun failed s before bytes left WriteFault held held'
 answer_cut failed s before bytes text texts left e held held' lines is part =
-    let piece = text_of e.answer in
-    (take part.0 piece, part.2, rw (lines, exchanges_from-answered s text texts e is)
-      (0, piece, take part.0 piece, zero-le, next_answer e refl, (drop part.0 piece, sym (take-append-drop part.0 piece)), refl))
+    let piece = text_of e.answer in (
+      take part.0 piece,
+      part.2,
+      rw (lines, exchanges_from-answered s text texts e is)
+          (0, piece, take part.0 piece, zero-le, next_answer e refl, (drop part.0 piece, sym (take-append-drop part.0 piece)), refl),
+    )
 
 -- the input's last line was answered
 pub last_answered : (failed : Type 0) (s : State) (before : ℕ) (bytes text : List ℕ) (left : Option (List ℕ)) (e : Exchange) →
-  lines_of bytes ≡ text ∷ [] → exchange_at s text ≡ Some e → left ≡ Some [] → Replays failed s before bytes left Complete (text_of e.answer)
+    lines_of bytes ≡ text ∷ [] → exchange_at s text ≡ Some e → left ≡ Some [] → Replays failed s before bytes left Complete (text_of e.answer)
 last_answered failed s before bytes text left e lines is told =
     rw (lines, exchanges_from-answered s text [] e is) (refl, told, sym (append-nil (text_of e.answer)))
 
@@ -113,7 +119,7 @@ later_piece failed e all lines before m piece next_no_memory = next_no_memory
 later_piece failed e all lines before m piece (next_read_fault fault) = next_read_fault fault
 
 one_more : (failed : Type 0) (e : Exchange) (all : List Exchange) (lines before : ℕ) (bytes line rest : List ℕ) (left : Option (List ℕ)) (ending : Ending) (printed : List ℕ) →
-  bytes ≡ line ++ 10 ∷ rest → HasNoLineEnd line → EndsSo failed all lines (before + 1) rest left ending printed → EndsSo failed (e ∷ all) (suc lines) before bytes left ending (text_of e.answer ++ printed)
+    bytes ≡ line ++ 10 ∷ rest → HasNoLineEnd line → EndsSo failed all lines (before + 1) rest left ending printed → EndsSo failed (e ∷ all) (suc lines) before bytes left ending (text_of e.answer ++ printed)
 one_more failed e all lines before bytes line rest left Complete printed parts unended (count, told, text) =
     (ap suc count, told, ap (λ (p : List ℕ). text_of e.answer ++ p) text)
 one_more failed e all lines before bytes line rest left BadLine printed parts unended (less, text) =
@@ -123,21 +129,32 @@ one_more failed e all lines before bytes line rest left BadWords printed parts u
 one_more failed e all lines before bytes line rest left NoMemory printed parts unended (m, le, text) =
     (suc m, omega arith, ap (λ (p : List ℕ). text_of e.answer ++ p) text ∙ sym (append_assoc (text_of e.answer) (answers_text (take m all)) _))
 one_more failed e all lines before bytes line rest left ReadFault printed parts unended (given, rest', fault, split, told, le, text) =
-    let n : ended_lines (line ++ 10 ∷ given) ≡ suc (ended_lines given) = ended_lines-line line given unended in
-    (line ++ 10 ∷ given, rest', fault, parts ∙ ap (λ (r : List ℕ). line ++ 10 ∷ r) split ∙ sym (append_assoc line (10 ∷ given) rest'), told,
+    let n : ended_lines (line ++ 10 ∷ given) ≡ suc (ended_lines given) = ended_lines-line line given unended in (
+      line ++ 10 ∷ given,
+      rest',
+      fault,
+      parts ∙ ap (λ (r : List ℕ). line ++ 10 ∷ r) split ∙ sym (append_assoc line (10 ∷ given) rest'),
+      told,
       rw n (omega arith),
-      rw n (ap (λ (p : List ℕ). text_of e.answer ++ p) text ∙ sym (append_assoc (text_of e.answer) (answers_text (take (ended_lines given) all)) _)))
-one_more failed e all lines before bytes line rest left WriteFault printed parts unended (m, piece, front, le, next, cut, text) =
-    (suc m, piece, front, omega arith, later_piece failed e all lines before m piece next, cut,
-      ap (λ (p : List ℕ). text_of e.answer ++ p) text ∙ sym (append_assoc (text_of e.answer) (answers_text (take m all)) front))
+      rw n (ap (λ (p : List ℕ). text_of e.answer ++ p) text ∙ sym (append_assoc (text_of e.answer) (answers_text (take (ended_lines given) all)) _)),
+    )
+one_more failed e all lines before bytes line rest left WriteFault printed parts unended (m, piece, front, le, next, cut, text) = (
+  suc m,
+  piece,
+  front,
+  omega arith,
+  later_piece failed e all lines before m piece next,
+  cut,
+  ap (λ (p : List ℕ). text_of e.answer ++ p) text ∙ sym (append_assoc (text_of e.answer) (answers_text (take m all)) front),
+)
 
 -- a run goes on behind an answered line
 pub goes_on : (failed : Type 0) (s : State) (before : ℕ) (bytes line rest : List ℕ) (left : Option (List ℕ)) (e : Exchange) (ending : Ending) (printed : List ℕ) →
-  bytes ≡ line ++ 10 ∷ rest → HasNoLineEnd line → exchange_at s line ≡ Some e → Replays failed e.after (before + 1) rest left ending printed → Replays failed s before bytes left ending (text_of e.answer ++ printed)
+    bytes ≡ line ++ 10 ∷ rest → HasNoLineEnd line → exchange_at s line ≡ Some e → Replays failed e.after (before + 1) rest left ending printed → Replays failed s before bytes left ending (text_of e.answer ++ printed)
 goes_on failed s before bytes line rest left e ending printed parts unended is run =
     let lines : lines_of bytes ≡ line ∷ lines_of rest = ap lines_of parts ∙ lines_of-ended line rest unended in
     rw (lines, exchanges_from-answered s line (lines_of rest) e is)
-      (one_more failed e (exchanges_from e.after (lines_of rest)) (length (lines_of rest)) before bytes line rest left ending printed parts unended run)
+    (one_more failed e (exchanges_from e.after (lines_of rest)) (length (lines_of rest)) before bytes line rest left ending printed parts unended run)
 
 -- two pieces were taken, one behind the other
 pub takes_both : (held mid held' : Option (List ℕ)) (xs ys : List ℕ) → Takes held mid xs → Takes mid held' ys → Takes held held' (xs ++ ys)
@@ -163,7 +180,7 @@ some_exchange s line answer = Some (record { before = s; line = line; answer = a
 
 -- the exchange that an answered line is
 pub exchange_at-answered : (s : State) (text : List ℕ) (line : Line) (answer : Answer) → line_of text ≡ Some line → answer ≡ answer_to s line → is_printed answer ≡ true →
-  exchange_at s text ≡ Some (record { before = s; line = line; answer = answer; after = state_after s line })
+    exchange_at s text ≡ Some (record { before = s; line = line; answer = answer; after = state_after s line })
 exchange_at-answered s text line answer spelled answered printed =
     ap (option_and_then (exchanged s)) spelled
     ∙ chosen_true (is_printed (answer_to s line)) _ None (ap is_printed (sym answered) ∙ printed)
@@ -189,7 +206,7 @@ takes_nothing (Some bytes) = sym (append-nil bytes)
 
 -- a line that was read with its end was answered, or the run ended there
 pub step_line : (f t : ℕ) (s : State) (before : ℕ) (had line buffer : List ℕ) (left : Option (List ℕ)) (after : Replayer) (ended : Option Ending) (held held' : Option (List ℕ)) →
-  ReadsLine WholeLine had line buffer left → StepsOn s before line after ended held held' → GoesOn (Rose f t) s before had after buffer left ended held held'
+    ReadsLine WholeLine had line buffer left → StepsOn s before line after ended held held' → GoesOn (Rose f t) s before had after buffer left ended held held'
 step_line f t s before had line buffer left after None held held' (rest, told, parts, unended) (e, is, stands, takes) =
     (e, line, rest, told, parts, unended, is, stands, takes)
 step_line f t s before had line buffer left after (Some ending) held held' (rest, told, parts, unended) ends =
@@ -197,13 +214,16 @@ step_line f t s before had line buffer left after (Some ending) held held' (rest
 
 -- the last line was answered, and so the run is complete, or it ended there
 pub step_last : (f t : ℕ) (s : State) (before : ℕ) (had line buffer : List ℕ) (left : Option (List ℕ)) (after : Replayer) (ended : Option Ending) (result : Ending) (held held' : Option (List ℕ)) →
-  ReadsLine LastLine had line buffer left → StepsOn s before line after ended held held' → result ≡ unwrap_or ended Complete → EndsRun (Rose f t) s before had left result held held'
-step_last f t s before had line buffer left after None result held held' (told, same, unended, some) (e, is, stands, takes) r =
-    (text_of e.answer, takes, subst (λ (x : Ending). Replays (Rose f t) s before had left x (text_of e.answer)) (sym r)
-      (last_answered (Rose f t) s before had line left e (ap lines_of same ∙ lines_of-unended line unended some) is told))
+    ReadsLine LastLine had line buffer left → StepsOn s before line after ended held held' → result ≡ unwrap_or ended Complete → EndsRun (Rose f t) s before had left result held held'
+step_last f t s before had line buffer left after None result held held' (told, same, unended, some) (e, is, stands, takes) r = (
+  text_of e.answer,
+  takes,
+  subst (λ (x : Ending). Replays (Rose f t) s before had left x (text_of e.answer)) (sym r)
+      (last_answered (Rose f t) s before had line left e (ap lines_of same ∙ lines_of-unended line unended some) is told),
+)
 step_last f t s before had line buffer left after (Some ending) result held held' (told, same, unended, some) ends r =
     subst (λ (x : Ending). EndsRun (Rose f t) s before had left x held held') (sym r)
-      (ends f t had [] left (ap lines_of same ∙ lines_of-unended line unended some))
+    (ends f t had [] left (ap lines_of same ∙ lines_of-unended line unended some))
 
 chosen_false : {A : Type 0} (b : Bool) (x y : A) → b ≡ false → cond b x y ≡ y
 chosen_false true x y e = absurd (cc)

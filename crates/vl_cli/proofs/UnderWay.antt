@@ -25,20 +25,35 @@ pub record UnderWay (f : ℕ) (input : List ℕ) (replayer : Replayer) (answered
 
 pub begun : (f : ℕ) (input : List ℕ) (replayer : Replayer) (left held : Option (List ℕ)) → Represents replayer empty_store → left ≡ Some input → UnderWay f input replayer 0 [] left held held
 begun f input replayer left held stands told = record {
-  state = empty_store; before = 0; had = input; so_far = []; stands = stands; count = omega arith; told = told; takes = takes_nothing held;
-  later = λ t left' ending printed run. run }
+  state = empty_store;
+  before = 0;
+  had = input;
+  so_far = [];
+  stands = stands;
+  count = omega arith;
+  told = told;
+  takes = takes_nothing held;
+  later = λ t left' ending printed run. run;
+}
 
 module _ (f t : ℕ) (input : List ℕ) (replayer replayer' : Replayer) (answered answered' : ℕ) (buffer buffer' : List ℕ) (left left' first held held' : Option (List ℕ)) where
   pub further : (u : UnderWay f input replayer answered buffer left first held) → GoesOn (Rose f t) u.state u.before (buffer ++ u.had) replayer' buffer' left' None held held' → answered' ≡ line_number (u.before + 1) →
-    UnderWay f input replayer' answered' buffer' left' first held'
+      UnderWay f input replayer' answered' buffer' left' first held'
   further u (e, line, rest, told, parts, unended, is, stands, takes) count = record {
-    state = e.after; before = u.before + 1; had = rest; so_far = u.so_far ++ text_of e.answer; stands = stands; count = count; told = told;
+    state = e.after;
+    before = u.before + 1;
+    had = rest;
+    so_far = u.so_far ++ text_of e.answer;
+    stands = stands;
+    count = count;
+    told = told;
     takes = takes_both first held held' u.so_far (text_of e.answer) u.takes takes;
     later = λ t' left'' ending printed run.
-      subst (λ (p : List ℕ). Replays (Rose f t') empty_store 0 input left'' ending p) (sym (append_assoc u.so_far (text_of e.answer) printed))
-        (u.later t' left'' ending (text_of e.answer ++ printed) (goes_on (Rose f t') u.state u.before (buffer ++ u.had) line (buffer' ++ rest) left'' e ending printed parts unended is run)) }
+        subst (λ (p : List ℕ). Replays (Rose f t') empty_store 0 input left'' ending p) (sym (append_assoc u.so_far (text_of e.answer) printed))
+        (u.later t' left'' ending (text_of e.answer ++ printed) (goes_on (Rose f t') u.state u.before (buffer ++ u.had) line (buffer' ++ rest) left'' e ending printed parts unended is run));
+  }
 
   pub over : (ending : Ending) (u : UnderWay f input replayer answered buffer left first held) → GoesOn (Rose f t) u.state u.before (buffer ++ u.had) replayer' buffer' left' (Some ending) held held' →
-    EndsRun (Rose f t) empty_store 0 input left' ending first held'
+      EndsRun (Rose f t) empty_store 0 input left' ending first held'
   over ending u (printed, takes, run) =
-    (u.so_far ++ printed, takes_both first held held' u.so_far printed u.takes takes, u.later t left' ending printed run)
+      (u.so_far ++ printed, takes_both first held held' u.so_far printed u.takes takes, u.later t left' ending printed run)

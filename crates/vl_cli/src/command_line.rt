@@ -4,6 +4,8 @@ mod answering;
 mod ended;
 mod last_line;
 mod replay;
+#[cfg(test)]
+mod tests;
 mod words;
 
 ghost use Rattle.std.specs.Prelude.{◌≡◌, ◌≢◌, ◌⊎◌, ◌<◌, ℕ, List, map, string_bytes, Some, true, false};

@@ -7,13 +7,26 @@ pub type Ident = Bytes;
 #[derive(Drop)]
 pub enum Line {
     /// `begin T`: opens a transaction at the last commit.
-    Begin { name: Ident },
+    Begin {
+        name: Ident,
+    },
     /// `view T`: opens a view, which only reads, at the last commit.
-    View { name: Ident },
+    View {
+        name: Ident,
+    },
     /// `get T K`: reads a key.
-    Get { name: Ident, key: Bytes },
+    Get {
+        name: Ident,
+        key: Bytes,
+    },
     /// `set T K V`: writes a key in a transaction.
-    Set { name: Ident, key: Key, value: Value },
+    Set {
+        name: Ident,
+        key: Bytes,
+        value: Bytes,
+    },
     /// `commit T`: ends a transaction, with its writes as the next commit.
-    Commit { name: Ident },
+    Commit {
+        name: Ident,
+    },
 }

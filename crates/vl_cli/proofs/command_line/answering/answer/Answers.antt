@@ -16,7 +16,7 @@ pub returns-in-Ok-Some-clause-printed : goal.returns-in-Ok-Some-clause-printed
 returns-in-Ok-Some-clause-printed g c s before stands count f t bytes texts left lines =
     let made = rw c.in-Ok-Some.field-0-is at (c.in-Ok-Some.ensures s stands) in
     answer_cut (Rose f t) s before bytes c.args.text.now texts left made.0 (g.K.Sink.held c.args.sink.now) (g.K.Sink.held c.put.new.self) lines made.1
-      (subst (λ (l : List ℕ). TakesPrefix (g.K.Sink.held c.args.sink.now) (g.K.Sink.held c.put.new.self) l) (c.deref.ensures.value ∙ made.3) c.in-Err.ensures.part)
+    (subst (λ (l : List ℕ). TakesPrefix (g.K.Sink.held c.args.sink.now) (g.K.Sink.held c.put.new.self) l) (c.deref.ensures.value ∙ made.3) c.in-Err.ensures.part)
 
 pub returns-in-Ok-None-clause-printed : goal.returns-in-Ok-None-clause-printed
 returns-in-Ok-None-clause-printed g c s before stands count f t bytes texts left lines =

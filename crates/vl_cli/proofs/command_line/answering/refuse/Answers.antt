@@ -14,7 +14,7 @@ returns-in-Ok-clause-printed g c before count f t s bytes text texts left lines 
     let ends = bad_line_ends (Rose f t) s before bytes text texts left lines bad in
     let line : c.deref.result.now ≡ bad_line (before + 1) = c.deref.ensures.value ∙ bad_line_text c.args.answered before c.saturating_add.result c.in-Ok.line.items count c.saturating_add.ensures c.in-Ok.ensures in
     finished (Rose f t) (exchanges_from s (lines_of bytes)) (length (lines_of bytes)) before bytes left BadLine c.finish.result (bad_line (before + 1)) held held' ends.0 ends.1
-      (subst (λ (l : List ℕ). Finishes held l BadLine c.finish.result held') line c.finish.ensures.printed)
+    (subst (λ (l : List ℕ). Finishes held l BadLine c.finish.result held') line c.finish.ensures.printed)
 
 pub returns-in-Err-clause-printed : goal.returns-in-Err-clause-printed
 returns-in-Err-clause-printed g c before count f t s bytes text texts left lines bad =

@@ -20,26 +20,28 @@ returns-in_default-clause-printed g c input told =
 pub lines-init : goal.lines-init
 lines-init g c = record {
   under_way = λ input told.
-    subst (λ (b : List ℕ). UnderWay (g.S.Source.faults c.args.source.now) input c.new-3.result 0 b (g.S.Source.left c.args.source.now) (g.K.Sink.held c.args.sink.now) (g.K.Sink.held c.args.sink.now)) (sym c.in-Ok.ensures)
+      subst (λ (b : List ℕ). UnderWay (g.S.Source.faults c.args.source.now) input c.new-3.result 0 b (g.S.Source.left c.args.source.now) (g.K.Sink.held c.args.sink.now) (g.K.Sink.held c.args.sink.now)) (sym c.in-Ok.ensures)
       (begun (g.S.Source.faults c.args.source.now) input c.new-3.result (g.S.Source.left c.args.source.now) (g.K.Sink.held c.args.sink.now) c.new-3.ensures told);
   steady = refl;
-  sink_steady = refl; }
+  sink_steady = refl;
+}
 
 pub returns-in-Some-clause-printed : goal.returns-in-Some-clause-printed
 returns-in-Some-clause-printed g c input told =
     let f = g.S.Source.faults c.args.source.now in
     let u = c.lines.invariant.under_way input told in
     over f (g.S.Source.faults c.step.new.source) input c.lines.progress.replayer c.step.new.self.replayer c.lines.progress.answered c.step.new.self.answered c.lines.progress.buffer c.step.new.self.buffer
-      (g.S.Source.left c.lines.source) (g.S.Source.left c.step.new.source) (g.K.Sink.held c.args.sink.now) (g.K.Sink.held c.lines.sink) (g.K.Sink.held c.step.new.sink)
-      c.in-Some.ending u (c.in-Some.ensures.printed f u.before u.state u.had (let same = c.lines.invariant.steady in omega arith) u.stands u.count u.told)
+    (g.S.Source.left c.lines.source) (g.S.Source.left c.step.new.source) (g.K.Sink.held c.args.sink.now) (g.K.Sink.held c.lines.sink) (g.K.Sink.held c.step.new.sink)
+    c.in-Some.ending u (c.in-Some.ensures.printed f u.before u.state u.had (let same = c.lines.invariant.steady in omega arith) u.stands u.count u.told)
 
 pub lines-preserved : goal.lines-preserved
 lines-preserved g c = record {
   under_way = λ input told.
-    let f = g.S.Source.faults c.args.source.now in
-    let u = c.lines.invariant.under_way input told in
-    further f (g.S.Source.faults c.step.new.source) input c.lines.progress.replayer c.step.new.self.replayer c.lines.progress.answered c.step.new.self.answered c.lines.progress.buffer c.step.new.self.buffer
+      let f = g.S.Source.faults c.args.source.now in
+      let u = c.lines.invariant.under_way input told in
+      further f (g.S.Source.faults c.step.new.source) input c.lines.progress.replayer c.step.new.self.replayer c.lines.progress.answered c.step.new.self.answered c.lines.progress.buffer c.step.new.self.buffer
       (g.S.Source.left c.lines.source) (g.S.Source.left c.step.new.source) (g.K.Sink.held c.args.sink.now) (g.K.Sink.held c.lines.sink) (g.K.Sink.held c.step.new.sink)
       u (c.in_default-step.ensures.printed f u.before u.state u.had (let same = c.lines.invariant.steady in omega arith) u.stands u.count u.told) (c.step.ensures.counted u.before u.count c.in_default-step.is);
   steady = c.in_default-step.ensures.faults.0 ∙ c.lines.invariant.steady;
-  sink_steady = c.in_default-step.ensures.faults.1 ∙ c.lines.invariant.sink_steady; }
+  sink_steady = c.in_default-step.ensures.faults.1 ∙ c.lines.invariant.sink_steady;
+}

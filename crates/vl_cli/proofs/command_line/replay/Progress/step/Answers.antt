@@ -11,15 +11,15 @@ pub returns-in-Ok-Line-clause-printed : goal.returns-in-Ok-Line-clause-printed
 returns-in-Ok-Line-clause-printed g c f before s had le stands count told =
     let reads = rw c.in-Ok-Line.field-0-is at (c.in-Ok-Line.ensures.line had told) in
     subst (λ (b : List ℕ). GoesOn (Rose f (g.S.Source.faults c.read_line.new.source)) s before (c.args.self.now.buffer ++ had) c.answer.new.self.replayer b (g.S.Source.left c.read_line.new.source) c.answer.result (g.K.Sink.held c.args.sink.now) (g.K.Sink.held c.answer.new.sink))
-      (sym c.answer.ensures.same)
-      (step_line f (g.S.Source.faults c.read_line.new.source) s before (c.args.self.now.buffer ++ had) c.read_line.new.line.items c.read_line.new.buffer (g.S.Source.left c.read_line.new.source) c.answer.new.self.replayer c.answer.result (g.K.Sink.held c.args.sink.now) (g.K.Sink.held c.answer.new.sink)
-        reads (c.answer.ensures.printed s before stands count))
+    (sym c.answer.ensures.same)
+    (step_line f (g.S.Source.faults c.read_line.new.source) s before (c.args.self.now.buffer ++ had) c.read_line.new.line.items c.read_line.new.buffer (g.S.Source.left c.read_line.new.source) c.answer.new.self.replayer c.answer.result (g.K.Sink.held c.args.sink.now) (g.K.Sink.held c.answer.new.sink)
+    reads (c.answer.ensures.printed s before stands count))
 
 pub returns-in-Ok-LastLine-clause-printed : goal.returns-in-Ok-LastLine-clause-printed
 returns-in-Ok-LastLine-clause-printed g c f before s had le stands count told =
     let reads = rw c.in-Ok-LastLine.field-0-is at (c.in-Ok-LastLine.ensures.line had told) in
     step_last f (g.S.Source.faults c.read_line.new.source) s before (c.args.self.now.buffer ++ had) c.read_line.new.line.items c.read_line.new.buffer (g.S.Source.left c.read_line.new.source) c.answer-in-Ok-LastLine.new.self.replayer c.answer-in-Ok-LastLine.result c.unwrap_or.result (g.K.Sink.held c.args.sink.now) (g.K.Sink.held c.answer-in-Ok-LastLine.new.sink)
-      reads (c.answer-in-Ok-LastLine.ensures.printed s before stands count) c.unwrap_or.ensures
+    reads (c.answer-in-Ok-LastLine.ensures.printed s before stands count) c.unwrap_or.ensures
 
 pub returns-in-Ok-TooLong-clause-printed : goal.returns-in-Ok-TooLong-clause-printed
 returns-in-Ok-TooLong-clause-printed g c f before s had le stands count told =

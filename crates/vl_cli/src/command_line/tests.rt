@@ -1,0 +1,124 @@
+use crate::{Ended, run};
+use std::alloc::Global;
+use std::test::Fail;
+use vl_io::{SliceSource, VecSink};
+
+const USAGE: &str =
+    "usage: vlstore replay DIR, trial STOP OUTCOME, bench SEED COUNT or drive CLIENTS TXNS SEED\n";
+
+/// A command line over an input: its words, the call of the source and of the sink that is to fail, if one is, and what
+/// it prints and its status.
+#[derive(Clone, Copy)]
+struct Case {
+    words: &'static [&'static str],
+    input: &'static str,
+    failing_read: &'static [u64],
+    failing_put: &'static [u64],
+    printed: &'static str,
+    status: u8,
+}
+
+const REPLAY: &[&str] = &["replay", "."];
+
+fn plain(input: &'static str, printed: &'static str, status: u8) -> Case {
+    Case {
+        words: REPLAY,
+        input,
+        failing_read: &[],
+        failing_put: &[],
+        printed,
+        status,
+    }
+}
+
+fn outcome(alloc: Global, case: &Case) -> Result<(u8, Vec<u8>), Fail> {
+    let mut words = Vec::new(alloc);
+    for word in case.words {
+        words.push(String::from_str(alloc, word)?)?;
+    }
+    let mut source = SliceSource::new(
+        case.input.as_bytes(),
+        Vec::from_slice(alloc, case.failing_read)?,
+    );
+    let mut sink = VecSink::new(alloc, 4096, Vec::from_slice(alloc, case.failing_put)?)?;
+    let Ended { status, disk: () } = run(alloc, words.as_slice(), &mut source, &mut sink, ());
+    Ok((status, sink.into_bytes()))
+}
+
+#[test]
+fn scripts_are_answered(rt: HostRuntime) -> Result<(), Fail> {
+    let cases = [
+        plain(
+            "begin a\nset a 61 01\ncommit a\nview b\nget b 61\n",
+            "ok 0\nok\nok 1\nok 1\nvalue 01\n",
+            0,
+        ),
+        plain("", "", 0),
+        plain("fetch a 61\n", "bad line 1\n", 1),
+        plain("begin a\nbegin b\n", "ok 0\nbad line 2\n", 1),
+        plain("begin a\nget a 61", "ok 0\nnone\n", 0),
+        plain("begin a\n\nget a 61\n", "ok 0\nbad line 2\n", 1),
+        plain("begin a\nset a - 01\n", "ok 0\nbad line 2\n", 1),
+        plain(
+            "begin a\nset a 6A -\nget a 6a\ncommit a\nbegin a\nget a 6a\nget a 6b\n",
+            "ok 0\nok\nvalue -\nok 1\nok 1\nvalue -\nnone\n",
+            0,
+        ),
+    ];
+    for (i, case) in cases.iter().enumerate() {
+        let (status, printed) = outcome(rt.alloc(), case)?;
+        assert_eq!(rt; printed.as_slice(), case.printed.as_bytes(), "case {i}");
+        assert_eq!(rt; status, case.status, "case {i}");
+    }
+    Ok(())
+}
+
+#[test]
+fn words_that_are_not_plain_get_the_usage_line(rt: HostRuntime) -> Result<(), Fail> {
+    let lines: [&[&str]; 5] = [
+        &[],
+        &["replay"],
+        &["replay", "-h"],
+        &["replay", ""],
+        &["--help", "."],
+    ];
+    for words in lines {
+        let case = Case {
+            words,
+            input: "begin a\n",
+            failing_read: &[],
+            failing_put: &[],
+            printed: USAGE,
+            status: 2,
+        };
+        let (status, printed) = outcome(rt.alloc(), &case)?;
+        assert_eq!(rt; printed.as_slice(), case.printed.as_bytes());
+        assert_eq!(rt; status, case.status);
+    }
+    Ok(())
+}
+
+#[test]
+fn faults_end_a_run(rt: HostRuntime) -> Result<(), Fail> {
+    // The source gives its bytes in one call, and its second call fails.
+    let read = Case {
+        failing_read: &[2],
+        ..plain("begin a\nget a 61", "ok 0\nread fault\n", 6)
+    };
+    // The second answer can't be put.
+    let write = Case {
+        failing_put: &[2],
+        ..plain("begin a\nget a 61\n", "ok 0\n", 7)
+    };
+    // Nor can the last line.
+    let last = Case {
+        failing_put: &[2],
+        ..plain("begin a\nfetch\n", "ok 0\n", 7)
+    };
+    for case in [read, write, last] {
+        let (status, printed) = outcome(rt.alloc(), &case)?;
+        assert_eq!(rt; printed.as_slice(), case.printed.as_bytes());
+        assert_eq!(rt; status, case.status);
+    }
+    Ok(())
+}
