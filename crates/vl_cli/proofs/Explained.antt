@@ -1,6 +1,6 @@
 -- What is read is explained by the history: while one thing is open at a time, it was opened at the last commit, so
 -- that nothing that it has read was changed since.
-use Rattle.std.proofs.Common.{◌≡◌, ◌≢◌, ◌+◌, ◌-◌, ◌<◌, ◌≤◌, ◌⊎◌, inl, inr, ℕ, List, [], ◌∷◌, ◌++◌, length, take, refl, ap, sym, ◌∙◌, cond, Bool, true, false, not, arith, subst, zero-le}
+use Rattle.std.proofs.Common.{◌≡◌, ◌≢◌, ◌+◌, ◌-◌, ◌*◌, ◌<◌, ◌≤◌, ◌⊎◌, inl, inr, ℕ, List, [], ◌∷◌, ◌++◌, length, take, refl, ap, sym, ◌∙◌, cond, Bool, true, false, not, arith, subst, zero-le}
 use Rattle.std.proofs.lemmas.Grind.{common_steps}
 use Rattle.std.proofs.lemmas.Bool.Decides.{nat_tests}
 use Rattle.std.proofs.lemmas.List.{take-append-le}
@@ -14,15 +14,16 @@ use Rattle.vl_model.specs.History.{History, no_history, last_number, with_commit
 use Rattle.vl_model.specs.Reads.{Read, KeyRead, RangeRead, IsExplained, IsExplainedRead}
 use Rattle.vl_model.specs.declared.change.Change.{Change}
 use Rattle.vl_model.specs.declared.change.Change.TheVariants.{Set as Put}
-use Rattle.vl_cli.specs.Sequential.{Thing, OpenTransaction, OpenView, State, Outcome, empty_store, with_thing, without_thing, opened, found, read, read_in_transaction, written, committed, fits_transaction, outcome, answer_to, state_after}
+use Rattle.vl_cli.specs.Sequential.{Thing, OpenTransaction, OpenView, State, Outcome, empty_store, with_thing, without_thing, opened, found, read, read_in_transaction, written, committed, after_commit, frame_length, fits_transaction, outcome, answer_to, state_after}
 use Rattle.vl_cli.specs.Script.{line_of}
 use Rattle.vl_cli.specs.Replay.{Exchange, exchanged, exchange_at, exchanges_from, and_later, is_printed, IsExplainedExchange, AreExplained}
 use Rattle.vl_cli.specs.declared.script.line.Line.{Line}
 use Rattle.vl_cli.specs.declared.script.line.Line.TheVariants.{Begin, View, Get, Set, Commit}
 use Rattle.vl_cli.specs.declared.script.answer.Answer.{Answer}
-use Rattle.vl_cli.specs.declared.script.answer.Answer.TheVariants.{Number, Done, TooBig, Exhausted}
+use Rattle.vl_cli.specs.declared.script.answer.Answer.TheVariants.{Number, Done, TooBig, Full, Exhausted}
 use Rattle.vl_model.specs.declared.counter.Counter.TheVariants.{Commit as CommitNumber}
 use Rattle.vl_model.specs.declared.limits.TheConstants.{MAX_COMMIT_NUMBER}
+use Rattle.vl_cli.specs.declared.replayer.limits.TheConstants.{MAX_LOG_BYTES}
 
 -- one of two outcomes, by a test
 pick : (P : Outcome → Type 0) (b : Bool) (x y : Outcome) → (b ≡ true → P x) → (b ≡ false → P y) → P (cond b x y)
@@ -116,22 +117,32 @@ written-sound s name key value (Some (OpenTransaction number reads writes)) soun
 
 -- the outcome of a commit that is made
 abbrev accepted : State → List ℕ → Writes → Outcome
-accepted s name writes = (Number (last_number s.history + 1), without_thing (record { history = with_commit s.history writes; things = s.things }) name)
+accepted s name writes = (Number (last_number s.history + 1), after_commit s name writes)
+
+-- whether the log has room for it
+abbrev has_room : State → Writes → Bool
+has_room s writes = nat_le (s.log_length + frame_length writes) MAX_LOG_BYTES
 
 -- nothing is left open behind a commit
 alone : (s : State) (name : List ℕ) (thing : Thing) → IsSound s → get s.things name ≡ Some thing → remove s.things name ≡ empty
 alone s name thing sound is =
     empty_of_len (remove s.things name) (rw (len-remove nat_list_cmp_total s.things name, is) (let le = sound.one in omega arith))
 
+accepted-sound : (s : State) (name : List ℕ) (number : ℕ) (reads : List Read) (writes : Writes) → IsSound s → get s.things name ≡ Some (OpenTransaction number reads writes) → IsSound (after_commit s name writes)
+accepted-sound s name number reads writes sound is =
+    let none = alone s name (OpenTransaction number reads writes) sound is in
+    record {
+      one = rw (none, len-empty key_cmp Thing) zero-le;
+      current = λ other x there. absurd (nothing_there x (sym there ∙ ap (λ (m : FinMap key_cmp Thing). get m other) none ∙ none_in_empty other));
+    }
+
 committed-sound : (s : State) (name : List ℕ) (o : Option Thing) → IsSound s → get s.things name ≡ o → IsSound (committed s name o).1
 committed-sound s name None sound is = sound
 committed-sound s name (Some (OpenView number)) sound is = sound
 committed-sound s name (Some (OpenTransaction number reads writes)) sound is =
     pick (λ r. IsSound r.1) (len writes == 0) _ _ (λ nothing. without_thing-sound s name sound) (λ some.
-    pick (λ r. IsSound r.1) (nat_le MAX_COMMIT_NUMBER (last_number s.history)) (Exhausted CommitNumber, s) (accepted s name writes) (λ exhausted. sound) (λ left. record {
-      one = rw (alone s name (OpenTransaction number reads writes) sound is, len-empty key_cmp Thing) zero-le;
-      current = λ other x there. absurd (nothing_there x (sym there ∙ ap (λ (m : FinMap key_cmp Thing). get m other) (alone s name (OpenTransaction number reads writes) sound is) ∙ none_in_empty other));
-    }))
+    pick (λ r. IsSound r.1) (nat_le MAX_COMMIT_NUMBER (last_number s.history)) (Exhausted CommitNumber, s) (cond (has_room s writes) (accepted s name writes) (Full, s)) (λ exhausted. sound) (λ left.
+    pick (λ r. IsSound r.1) (has_room s writes) (accepted s name writes) (Full, s) (λ room. accepted-sound s name number reads writes sound is) (λ full. sound)))
 
 pub state_after-sound : (s : State) (line : Line) → IsSound s → IsSound (state_after s line)
 state_after-sound s (Begin name) sound = opened-sound s name (OpenTransaction (last_number s.history) [] empty) sound (tt, refl)
@@ -168,9 +179,10 @@ commit_explained s name number reads writes n o sound is same =
     let now = sound.current name (OpenTransaction number reads writes) is in
     subst (λ (o : Option Thing). (committed s name o).0 ≡ Number n → IsExplained (committed s name o).1.history (n - 1) reads × (number ≡ last_number s.history)) (sym same)
     (pick (λ r. r.0 ≡ Number n → IsExplained r.1.history (n - 1) reads × (number ≡ last_number s.history)) (len writes == 0) _ _ (λ nothing e. absurd (cc)) (λ some.
-    pick (λ r. r.0 ≡ Number n → IsExplained r.1.history (n - 1) reads × (number ≡ last_number s.history)) (nat_le MAX_COMMIT_NUMBER (last_number s.history)) (Exhausted CommitNumber, s) (accepted s name writes) (λ exhausted e. absurd (cc)) (λ left e.
+    pick (λ r. r.0 ≡ Number n → IsExplained r.1.history (n - 1) reads × (number ≡ last_number s.history)) (nat_le MAX_COMMIT_NUMBER (last_number s.history)) (Exhausted CommitNumber, s) (cond (has_room s writes) (accepted s name writes) (Full, s)) (λ exhausted e. absurd (cc)) (λ left.
+    pick (λ r. r.0 ≡ Number n → IsExplained r.1.history (n - 1) reads × (number ≡ last_number s.history)) (has_room s writes) (accepted s name writes) (Full, s) (λ room e.
     let at : n - 1 ≡ number = let m = numbered (last_number s.history + 1) n e in let c = now.1 in omega arith in
-    (rw at (same_reads s.history writes number reads (let c = now.1 in omega arith) now.0), now.1))))
+    (rw at (same_reads s.history writes number reads (let c = now.1 in omega arith) now.0), now.1)) (λ full e. absurd (cc)))))
 
 exchange_explained : (s : State) (line : Line) → IsSound s → is_printed (answer_to s line) ≡ true → IsExplainedExchange line (record { before = s; line = line; answer = answer_to s line; after = state_after s line })
 exchange_explained s (Begin name) sound printed = tt

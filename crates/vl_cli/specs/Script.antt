@@ -11,7 +11,7 @@ use Rattle.vl_model.specs.declared.counter.Counter.TheVariants.{Commit as Commit
 use Rattle.vl_cli.specs.declared.script.line.Line.{Line}
 use Rattle.vl_cli.specs.declared.script.line.Line.TheVariants.{Begin, View, Get, Set, Commit}
 use Rattle.vl_cli.specs.declared.script.answer.Answer.{Answer}
-use Rattle.vl_cli.specs.declared.script.answer.Answer.TheVariants.{Done, Number, Found, NoValue, Taken, Unknown, ReadOnly, Invalid, TooBig, TooMany, Nothing, Exhausted}
+use Rattle.vl_cli.specs.declared.script.answer.Answer.TheVariants.{Done, Number, Found, NoValue, Taken, Unknown, ReadOnly, Invalid, TooBig, TooMany, Nothing, Full, Exhausted}
 use Rattle.vl_cli.specs.declared.script.limits.TheConstants.{MAX_LINE_BYTES, MAX_IDENT_BYTES}
 
 -- a line ends with byte 10 or with the input; behind the last byte 10 there is none
@@ -99,6 +99,7 @@ answer_text Invalid = codes "invalid"
 answer_text TooBig = codes "toobig"
 answer_text TooMany = codes "toomany"
 answer_text Nothing = codes "nothing"
+answer_text Full = codes "full"
 answer_text (Exhausted counter) = codes "exhausted " ++ counter_text counter
 
 -- what is printed: each printed line ends with byte 10

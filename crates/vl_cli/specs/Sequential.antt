@@ -1,6 +1,6 @@
 -- The store as one thread of script lines sees it: what each line is answered, and what it leaves.
 -- Nothing here knows of memtables, logs or tables.
-use Rattle.std.specs.Prelude.{◌≡◌, ◌+◌, ℕ, Bool, not, ◌&&◌, ◌==◌, nat_le, if◌then◌else◌, List, [], ◌∷◌, ◌++◌, length, sum_by, Option, Some, None}
+use Rattle.std.specs.Prelude.{◌≡◌, ◌+◌, ◌*◌, ℕ, Bool, not, ◌&&◌, ◌==◌, nat_le, if◌then◌else◌, List, [], ◌∷◌, ◌++◌, length, sum_by, Option, Some, None}
 use Rattle.std.specs.FinMap.{FinMap, get, insert, remove, entries, contains_key, len, empty}
 use Rattle.vl_model.specs.Keys.{Stored, Writes, key_cmp, is_key_length, is_value_length}
 use Rattle.vl_model.specs.History.{History, no_history, last_number, with_commit, value_at, value_left}
@@ -12,8 +12,8 @@ use Rattle.vl_model.specs.declared.limits.TheConstants.{MAX_TRANSACTION_KEYS, MA
 use Rattle.vl_cli.specs.declared.script.line.Line.{Line}
 use Rattle.vl_cli.specs.declared.script.line.Line.TheVariants.{Begin, View, Get, Set, Commit}
 use Rattle.vl_cli.specs.declared.script.answer.Answer.{Answer}
-use Rattle.vl_cli.specs.declared.script.answer.Answer.TheVariants.{Done, Number, Found, NoValue, Taken, Unknown, ReadOnly, Invalid, TooBig, TooMany, Nothing, Exhausted}
-use Rattle.vl_cli.specs.declared.replayer.limits.TheConstants.{MAX_OPEN}
+use Rattle.vl_cli.specs.declared.script.answer.Answer.TheVariants.{Done, Number, Found, NoValue, Taken, Unknown, ReadOnly, Invalid, TooBig, TooMany, Nothing, Full, Exhausted}
+use Rattle.vl_cli.specs.declared.replayer.limits.TheConstants.{MAX_OPEN, MAX_LOG_BYTES}
 
 -- what a name in use stands for: a transaction, with the last commit's number at its begin, what it has read
 -- and what it has written; or a view, with that number
@@ -21,19 +21,21 @@ pub data Thing : Type 0 where
   OpenTransaction : ℕ → List Read → Writes → Thing
   OpenView : ℕ → Thing
 
+-- the history, how long the log of its commits is in bytes, and what the names in use stand for
 pub record State : Type 0 where
   pub history : History
+  pub log_length : ℕ
   pub things : FinMap key_cmp Thing
 
--- over an empty disk
+-- over an empty disk, whose log has a header of 16 bytes alone
 abbrev pub empty_store : State
-empty_store = record { history = no_history; things = empty }
+empty_store = record { history = no_history; log_length = 16; things = empty }
 
 abbrev pub with_thing : State → List ℕ → Thing → State
-with_thing s name thing = record { history = s.history; things = insert s.things name thing }
+with_thing s name thing = record s { things = insert s.things name thing }
 
 abbrev pub without_thing : State → List ℕ → State
-without_thing s name = record { history = s.history; things = remove s.things name }
+without_thing s name = record s { things = remove s.things name }
 
 -- the answer, and the state that the line leaves
 abbrev pub Outcome : Type 0
@@ -86,6 +88,18 @@ written s name key value (Some (OpenTransaction number reads writes)) =
     else (if fits_transaction (insert writes key (Put value)) then (Done, with_thing s name (OpenTransaction number reads (insert writes key (Put value))))
     else (TooBig, s))
 
+-- what a commit of these writes takes in the log: a frame with the commit's number and a record for each key
+abbrev pub frame_length : Writes → ℕ
+frame_length writes = 25 + 7 * len writes + write_bytes writes
+
+-- the state after the transaction's writes became the next commit
+abbrev pub after_commit : State → List ℕ → Writes → State
+after_commit s name writes = record {
+  history = with_commit s.history writes;
+  log_length = s.log_length + frame_length writes;
+  things = remove s.things name;
+}
+
 -- While one thing is open at a time no commit comes between a transaction's begin and its own commit, so
 -- there is no conflict to answer.
 abbrev pub committed : State → List ℕ → Option Thing → Outcome
@@ -94,7 +108,8 @@ committed s name (Some (OpenView number)) = (ReadOnly, s)
 committed s name (Some (OpenTransaction number reads writes)) =
     if len writes == 0 then (Nothing, without_thing s name)
     else (if nat_le MAX_COMMIT_NUMBER (last_number s.history) then (Exhausted CommitNumber, s)
-    else (Number (last_number s.history + 1), without_thing (record { history = with_commit s.history writes; things = s.things }) name))
+    else (if nat_le (s.log_length + frame_length writes) MAX_LOG_BYTES then (Number (last_number s.history + 1), after_commit s name writes)
+    else (Full, s)))
 
 abbrev pub outcome : State → Line → Outcome
 outcome s (Begin name) = opened s name (OpenTransaction (last_number s.history) [] empty)

@@ -5,5 +5,5 @@ mod limits;
 mod store;
 
 pub use halt::Halt;
-pub use limits::MAX_OPEN;
+pub use limits::{MAX_LOG_BYTES, MAX_OPEN};
 pub use store::Replayer;

@@ -25,6 +25,7 @@ fn is_answered(answer: &Answer) -> bool
         | Answer::TooBig
         | Answer::TooMany
         | Answer::Nothing
+        | Answer::Full
         | Answer::Exhausted { .. } => false,
     }
 }

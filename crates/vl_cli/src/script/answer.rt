@@ -26,6 +26,8 @@ pub enum Answer {
     TooMany,
     /// `nothing`: the transaction had no writes.
     Nothing,
+    /// `full`: the log has no room for the commit.
+    Full,
     /// `exhausted W`: there is no next number of this kind.
     Exhausted { counter: Counter },
 }

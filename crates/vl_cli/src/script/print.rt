@@ -25,6 +25,7 @@ pub fn print_answer(alloc: Global, answer: &Answer) -> Result<Vec<u8>, AllocErro
         Answer::TooBig => print_word(alloc, b"toobig"),
         Answer::TooMany => print_word(alloc, b"toomany"),
         Answer::Nothing => print_word(alloc, b"nothing"),
+        Answer::Full => print_word(alloc, b"full"),
         Answer::Exhausted { counter } => {
             print_line(alloc, b"exhausted ", counter_name(*counter).as_bytes())
         }
