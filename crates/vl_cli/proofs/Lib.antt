@@ -1,5 +1,9 @@
 pub mod Explained
 pub mod Lines
+pub mod MemtableEntries
+pub mod Places
 pub mod Replays
 pub mod ScriptWords
+pub mod States
 pub mod UnderWay
+pub mod WriteEntries

@@ -13,7 +13,7 @@ use Rattle.vl_cli.specs.Script.{text_of, lines_of, line_of}
 use Rattle.vl_cli.specs.Input.{HasNoLineEnd, ReadsLine}
 use Rattle.vl_cli.specs.Replay.{Exchange, exchange_at, exchanged, is_printed, exchanges_from, and_later, answers_text, line_number, bad_line, no_memory_line, read_fault_line, IsFront, ended_lines, NextPiece, next_answer, next_bad_line, next_no_memory, next_read_fault, EndsSo, Replays}
 use Rattle.vl_cli.specs.Steps.{Finishes, EndsRun, Refuses, StepsOn, GoesOn, SinkCounts, Counts}
-use Rattle.vl_cli.specs.declared.replayer.store.Replayer.{Replayer}
+use Rattle.vl_cli.specs.declared.replayer.Replayer.{Replayer}
 use Rattle.vl_cli.specs.declared.input.lines.Next.TheVariants.{Line as WholeLine, LastLine}
 use Rattle.vl_cli.specs.declared.script.limits.TheConstants.{MAX_LINE_BYTES}
 use Rattle.std.proofs.lemmas.Bool.Decides.{nat_tests}

@@ -8,7 +8,7 @@ use Rattle.vl_cli.specs.Script.{text_of}
 use Rattle.vl_cli.specs.Represents.{Represents}
 use Rattle.vl_cli.specs.Replay.{line_number, Replays}
 use Rattle.vl_cli.specs.Steps.{EndsRun, GoesOn}
-use Rattle.vl_cli.specs.declared.replayer.store.Replayer.{Replayer}
+use Rattle.vl_cli.specs.declared.replayer.Replayer.{Replayer}
 use Rattle.vl_cli.specs.declared.ending.Ending.{Ending}
 use Rattle.vl_cli.proofs.Replays.{takes_both, takes_nothing, goes_on}
 

@@ -7,7 +7,7 @@ use Rattle.vl_cli.specs.Script.{text_of, lines_of}
 use Rattle.vl_cli.specs.Input.{HasNoLineEnd}
 use Rattle.vl_cli.specs.Replay.{Exchange, exchange_at, Replays, IsFront, NextPiece, bad_line}
 use Rattle.vl_cli.specs.Represents.{Represents}
-use Rattle.vl_cli.specs.declared.replayer.store.Replayer.{Replayer}
+use Rattle.vl_cli.specs.declared.replayer.Replayer.{Replayer}
 use Rattle.vl_cli.specs.declared.ending.Ending.{Ending}
 use Rattle.vl_cli.specs.declared.ending.Ending.TheVariants.{Complete, BadLine, BadWords, NoMemory, ReadFault, WriteFault}
 

@@ -1,9 +1,303 @@
 //! The store behind a script: answers one line after the other.
+ghost use Rattle.std.specs.Prelude.{◌≡◌, [], IfOk, OnOk, OnErr, length};
+ghost use Rattle.std.specs.Option.{option_copied};
+ghost use Rattle.std.specs.FinMap.{get, empty};
+ghost use Rattle.vl_model.specs.History.{last_number, value_left};
+ghost use Rattle.vl_model.specs.Keys.{is_key_length, is_value_length};
+ghost use Rattle.vl_cli.specs.Sequential.{State, empty_store, answer_to, state_after, opened, read, written, committed, found};
+ghost use Rattle.vl_cli.specs.Sequential as sequential;
+ghost use Rattle.vl_cli.specs.Represents.{Represents, Gives, StandsFor, thing_named, write_answer, writes_after};
 
+mod entry;
 mod halt;
 mod limits;
-mod store;
+mod memtable;
+mod open;
+mod writes;
 
 pub use halt::Halt;
 pub use limits::{MAX_LOG_BYTES, MAX_OPEN};
-pub use store::Replayer;
+
+use crate::script::{Answer, Ident, Line};
+use entry::Entry;
+use limits::LOG_HEADER_BYTES;
+use memtable::Memtable;
+use open::{Open, Thing};
+use std::alloc::Global;
+use vl_model::{Bytes, Change, Counter, Key, MAX_COMMIT_NUMBER, MAX_KEY_BYTES, MAX_VALUE_BYTES, Value};
+use writes::Writes;
+
+/// A store whose commits are kept in memory alone.
+#[derive(Drop)]
+pub struct Replayer {
+    alloc: Global,
+    last: u64,
+    log_length: u64,
+    memtable: Memtable,
+    open: Option<Open>,
+}
+
+impl Replayer {
+    /// A store over no commits.
+    pub fn new(alloc: Global) -> Self
+        ensures { Represents result empty_store }
+    {
+        Replayer {
+            alloc,
+            last: 0,
+            log_length: LOG_HEADER_BYTES,
+            memtable: Memtable::new(alloc),
+            open: None,
+        }
+    }
+
+    /// Answers a line. Want of memory leaves the store as it was.
+    pub fn line(&mut self, line: Line) -> Result<Answer, Halt>
+        ensures answer { (s : State) → Represents self.old s → IfOk result (λ answer. answer ≡ answer_to s line) }
+        ensures after { (s : State) → Represents self.old s → OnOk result (Represents self.new (state_after s line)) }
+        ensures unchanged { (s : State) → Represents self.old s → OnErr result (Represents self.new s) }
+    {
+        match line {
+            Line::Begin { name } => Ok(self.begin(name)),
+            Line::View { name } => Ok(self.view(name)),
+            Line::Get { name, key } => self.get(name, key),
+            Line::Set { name, key, value } => self.set(name, key, value),
+            Line::Commit { name } => self.commit(name),
+        }
+    }
+
+    fn begin(&mut self, name: Ident) -> Answer
+        ensures { (s : State) → Represents self.old s → Gives result self.new (opened s name (sequential.OpenTransaction (last_number s.history) [] empty)) }
+    {
+        let thing = Thing::Transaction {
+            number: self.last,
+            writes: Writes::new(self.alloc),
+        };
+        self.open(name, thing)
+    }
+
+    fn view(&mut self, name: Ident) -> Answer
+        ensures { (s : State) → Represents self.old s → Gives result self.new (opened s name (sequential.OpenView (last_number s.history))) }
+    {
+        let thing = Thing::View { number: self.last };
+        self.open(name, thing)
+    }
+
+    fn open(&mut self, name: Ident, thing: Thing) -> Answer
+        ensures { (s : State) (opens : sequential.Thing) → Represents self.old s → StandsFor s.history thing opens → Gives result self.new (opened s name opens) }
+    {
+        if self.find(name.as_slice()).is_some() {
+            return Answer::Taken { name };
+        }
+        if self.open.is_some() {
+            return Answer::TooMany;
+        }
+        self.open = Some(Open { name, thing });
+        Answer::Number { number: self.last }
+    }
+
+    fn get(&self, name: Ident, key: Key) -> Result<Answer, Halt>
+        ensures { (s : State) → Represents self.now s → IfOk result (λ answer. Gives answer self.now (read s name key (get s.things name))) }
+    {
+        let Some(thing) = self.find(name.as_slice()) else {
+            return Ok(Answer::Unknown { name });
+        };
+        if !is_lawful_key(&key) {
+            return Ok(Answer::Invalid);
+        }
+        match thing {
+            Thing::View { number } => self.found(self.memtable.get(key.as_slice(), *number)),
+            Thing::Transaction { number, writes } => match writes.get(key.as_slice()) {
+                Some(change) => self.found(Some(change)),
+                None => self.found(self.memtable.get(key.as_slice(), *number)),
+            },
+        }
+    }
+
+    fn set(&mut self, name: Ident, key: Key, value: Value) -> Result<Answer, Halt>
+        ensures answer { (s : State) → Represents self.old s → IfOk result (λ answer. Gives answer self.new (written s name key value (get s.things name))) }
+        ensures unchanged { (s : State) → Represents self.old s → OnErr result (Represents self.new s) }
+    {
+        match &mut self.open {
+            Some(open) if open.is_named(name.as_slice()) => match &mut open.thing {
+                Thing::View { .. } => Ok(Answer::ReadOnly),
+                Thing::Transaction { writes, .. } => write(writes, key, value),
+            },
+            _ => Ok(Answer::Unknown { name }),
+        }
+    }
+
+    fn commit(&mut self, name: Ident) -> Result<Answer, Halt>
+        ensures answer { (s : State) → Represents self.old s → IfOk result (λ answer. Gives answer self.new (committed s name (get s.things name))) }
+        ensures unchanged { (s : State) → Represents self.old s → OnErr result (Represents self.new s) }
+    {
+        let Some(thing) = self.find(name.as_slice()) else {
+            return Ok(Answer::Unknown { name });
+        };
+        let Thing::Transaction { writes, .. } = thing else {
+            return Ok(Answer::ReadOnly);
+        };
+        if writes.is_empty() {
+            self.open = None;
+            return Ok(Answer::Nothing);
+        }
+        if self.last >= MAX_COMMIT_NUMBER {
+            return Ok(Answer::Exhausted {
+                counter: Counter::Commit,
+            });
+        }
+        let log_length = self.log_length.saturating_add(writes.frame_length());
+        if log_length > MAX_LOG_BYTES {
+            return Ok(Answer::Full);
+        }
+        let count = writes.len();
+        self.memtable.reserve(count)?;
+        let Some(Open { name: _, thing }) = self.open.take() else {
+            unreachable!();
+        };
+        let Thing::Transaction { writes, .. } = thing else {
+            unreachable!();
+        };
+        self.last += 1;
+        self.log_length = log_length;
+        self.memtable.apply(self.last, writes);
+        Ok(Answer::Number { number: self.last })
+    }
+
+    // What a name in use stands for.
+    fn find(&self, name: &[u8]) -> Option<&Thing>
+        ensures { option_copied result ≡ thing_named self.now.open name.now }
+    {
+        match &self.open {
+            Some(open) if open.is_named(name) => Some(&open.thing),
+            _ => None,
+        }
+    }
+
+    // The value that a change leaves, as an answer.
+    fn found(&self, change: Option<&Change>) -> Result<Answer, Halt>
+        ensures { IfOk result (λ answer. answer ≡ found (value_left None (option_copied change.entry))) }
+    {
+        match change {
+            Some(Change::Set(value)) => Ok(Answer::Found {
+                value: Bytes::copy_of(self.alloc, value.as_slice())?,
+            }),
+            Some(Change::Delete) | None => Ok(Answer::NoValue),
+        }
+    }
+}
+
+fn is_lawful_key(key: &Key) -> bool
+    ensures { result ≡ is_key_length (length key.now) }
+{
+    1 <= key.len() && key.len() <= MAX_KEY_BYTES
+}
+
+fn is_lawful_value(value: &Value) -> bool
+    ensures { result ≡ is_value_length (length value.now) }
+{
+    value.len() <= MAX_VALUE_BYTES
+}
+
+// A write in a transaction.
+fn write(writes: &mut Writes, key: Key, value: Value) -> Result<Answer, Halt>
+    ensures answer { IfOk result (λ answer. answer ≡ write_answer writes.old key value) }
+    ensures ok { OnOk result (writes.new ≡ writes_after writes.old key value) }
+    ensures err { OnErr result (writes.new ≡ writes.old) }
+{
+    if !(is_lawful_key(&key) && is_lawful_value(&value)) {
+        return Ok(Answer::Invalid);
+    }
+    if !writes.fits(key.as_slice(), &value) {
+        return Ok(Answer::TooBig);
+    }
+    writes.set(key, value)?;
+    Ok(Answer::Done)
+}
+
+#[cfg(test)]
+mod tests {
+    use super::*;
+    use std::alloc::AllocError;
+    use std::test::Fail;
+
+    fn word(alloc: Global, text: &str) -> Result<Bytes, AllocError> {
+        Bytes::copy_of(alloc, text.as_bytes())
+    }
+
+    fn begin(alloc: Global, name: &str) -> Result<Line, AllocError> {
+        Ok(Line::Begin {
+            name: word(alloc, name)?,
+        })
+    }
+
+    fn view(alloc: Global, name: &str) -> Result<Line, AllocError> {
+        Ok(Line::View {
+            name: word(alloc, name)?,
+        })
+    }
+
+    fn get(alloc: Global, name: &str, key: &str) -> Result<Line, AllocError> {
+        Ok(Line::Get {
+            name: word(alloc, name)?,
+            key: word(alloc, key)?,
+        })
+    }
+
+    fn set(alloc: Global, name: &str, key: &str, value: &str) -> Result<Line, AllocError> {
+        Ok(Line::Set {
+            name: word(alloc, name)?,
+            key: word(alloc, key)?,
+            value: word(alloc, value)?,
+        })
+    }
+
+    fn commit(alloc: Global, name: &str) -> Result<Line, AllocError> {
+        Ok(Line::Commit {
+            name: word(alloc, name)?,
+        })
+    }
+
+    #[test]
+    fn a_commit_is_seen_by_a_later_view(rt: HostRuntime) -> Result<(), Fail> {
+        let alloc = rt.alloc();
+        let mut store = Replayer::new(alloc);
+        assert!(rt; matches!(store.line(begin(alloc, "a")?)?, Answer::Number { number: 0 }));
+        assert!(rt; matches!(store.line(set(alloc, "a", "k", "v")?)?, Answer::Done));
+        assert!(rt; matches!(store.line(get(alloc, "a", "k")?)?, Answer::Found { .. }));
+        assert!(rt; matches!(store.line(commit(alloc, "a")?)?, Answer::Number { number: 1 }));
+        assert!(rt; matches!(store.line(view(alloc, "b")?)?, Answer::Number { number: 1 }));
+        let answer = store.line(get(alloc, "b", "k")?)?;
+        let Answer::Found { value } = answer else {
+            return Err("no value".into());
+        };
+        assert_eq!(rt; value.as_slice(), b"v".as_slice());
+        Ok(())
+    }
+
+    #[test]
+    fn names_and_limits(rt: HostRuntime) -> Result<(), Fail> {
+        let alloc = rt.alloc();
+        let mut store = Replayer::new(alloc);
+        assert!(rt; matches!(store.line(view(alloc, "b")?)?, Answer::Number { number: 0 }));
+        assert!(rt; matches!(store.line(begin(alloc, "b")?)?, Answer::Taken { .. }));
+        assert!(rt; matches!(store.line(begin(alloc, "c")?)?, Answer::TooMany));
+        assert!(rt; matches!(store.line(get(alloc, "q", "k")?)?, Answer::Unknown { .. }));
+        assert!(rt; matches!(store.line(get(alloc, "b", "k")?)?, Answer::NoValue));
+        assert!(rt; matches!(store.line(get(alloc, "b", "")?)?, Answer::Invalid));
+        assert!(rt; matches!(store.line(set(alloc, "b", "k", "v")?)?, Answer::ReadOnly));
+        assert!(rt; matches!(store.line(commit(alloc, "b")?)?, Answer::ReadOnly));
+        Ok(())
+    }
+
+    #[test]
+    fn a_commit_without_writes_is_none(rt: HostRuntime) -> Result<(), Fail> {
+        let alloc = rt.alloc();
+        let mut store = Replayer::new(alloc);
+        assert!(rt; matches!(store.line(begin(alloc, "a")?)?, Answer::Number { number: 0 }));
+        assert!(rt; matches!(store.line(set(alloc, "a", "", "v")?)?, Answer::Invalid));
+        assert!(rt; matches!(store.line(commit(alloc, "a")?)?, Answer::Nothing));
+        assert!(rt; matches!(store.line(begin(alloc, "a")?)?, Answer::Number { number: 0 }));
+        Ok(())
+    }
+}

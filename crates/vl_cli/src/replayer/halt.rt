@@ -1,17 +1,27 @@
-ghost use Rattle.std.specs.Prelude.{◌≡◌};
 ghost use Rattle.vl_cli.specs.declared.replayer.halt.Halt.TheVariants.{NoMemory};
+ghost use Rattle.std.specs.Prelude.{◌≡◌};
 
 use std::alloc::{AllocError, AllocFailed};
 
+/// Why a line was given no answer.
 #[derive(Clone, Copy, Debug, PartialEq, Eq)]
 pub enum Halt {
+    /// Memory ran out.
     NoMemory,
 }
 
 impl From<AllocError> for Halt {
-    ghost from_gives = { λ _ e. e ≡ NoMemory };
+    ghost from_gives = { λ _ halt. halt ≡ NoMemory };
 
-    fn from(_: AllocError) -> Self {
+    fn from(_error: AllocError) -> Halt {
+        Halt::NoMemory
+    }
+}
+
+impl<T: Drop> From<AllocFailed<T>> for Halt {
+    ghost from_gives = { λ _ halt. halt ≡ NoMemory };
+
+    fn from(_failed: AllocFailed<T>) -> Halt {
         Halt::NoMemory
     }
 }
