@@ -1,12 +1,12 @@
 -- Entries in the order of a memtable.
-use Rattle.std.proofs.Common.{◌≡◌, ℕ, ◌≤◌, ◌<◌, Bool, true, false, cond, ◌&&◌, not, List, [], ◌∷◌, refl, ap, sym, ◌∙◌, subst, arith, IsTrue, inl, inr, T, Bor, slice_get}
+use Rattle.std.proofs.Common.{◌≡◌, ℕ, ◌≤◌, ◌<◌, Bool, true, false, cond, ◌&&◌, List, [], ◌∷◌, refl, ap, sym, ◌∙◌, arith, IsTrue, inl, inr, T, Bor, slice_get}
 use Rattle.std.specs.Option.{option_copied}
 use Rattle.std.specs.Slice.{IsItemAt}
 use Rattle.std.specs.Str.{bytes_eq}
 use Rattle.std.specs.Prelude.{Option, Some, None, nat_le}
 use Rattle.std.specs.declared.cmp.Ordering.{Ordering}
 use Rattle.std.specs.declared.cmp.Ordering.TheVariants.{Less, Equal, Greater}
-use Rattle.std.specs.Ordering.{ordering_then, ordering_reverse, nat_cmp, is_gt, is_lt, is_le, is_eq, eq_by_cmp, on, flip_args}
+use Rattle.std.specs.Ordering.{ordering_then, ordering_reverse, nat_cmp, is_gt, is_lt, is_le, is_eq, eq_by_cmp}
 use Rattle.std.specs.Cmp.{IsTotalOrder, then_total, on_total, back_total, nat_cmp_total}
 use Rattle.std.specs.Cmp.Lexicographic.{nat_list_cmp_total}
 use Rattle.std.specs.List.{AllByRecursion, list_all, insert, prefix_len}
@@ -15,11 +15,10 @@ use Rattle.std.specs.FinMap.Entries.{below_all}
 use Rattle.std.proofs.lemmas.Bool.{and_parts, and_from, cases_lt, lt-leb, le-leb, cond-true, cond-false}
 use Rattle.std.proofs.lemmas.Map.Text.{is_eq-slice_cmp}
 use Rattle.std.proofs.lemmas.Bool.Decides.{nat_tests}
-use Rattle.std.proofs.lemmas.Grind.{common_steps}
 use Rattle.vl_model.specs.Keys.{key_cmp}
 use Rattle.vl_model.specs.History.{newer}
 use Rattle.vl_model.specs.declared.change.Change.{Change}
-use Rattle.vl_model.specs.declared.change.Change.TheVariants.{Set, Delete}
+use Rattle.vl_model.specs.declared.change.Change.TheVariants.{Delete}
 use Rattle.vl_cli.specs.Memtable.{entry_cmp, is_ordered, is_before, newest}
 use Rattle.vl_cli.specs.declared.replayer.entry.Entry.{Entry}
 use Rattle.vl_cli.proofs.Places.{IsParted, put_before, first_failing, insert-prefix_len, slice_get-item, slice_get-prefix_len}
@@ -117,8 +116,8 @@ newest-place key n (e ∷ es) ordered =
     let parts = and_parts _ _ ordered in
     let rest = newest-place key n es parts.1 in
     elim (key_cmp key e.key) as (λ r. key_cmp key e.key ≡ r →
-        cond (is_eq r && nat_le e.version n) (Some e.change) (newest es key n)
-        ≡ change_of key (cond (is_gt (ordering_then r (nat_cmp e.version n))) (first_failing (λ e. is_before e key n) es) (Some e))) [
+    cond (is_eq r && nat_le e.version n) (Some e.change) (newest es key n)
+    ≡ change_of key (cond (is_gt (ordering_then r (nat_cmp e.version n))) (first_failing (λ e. is_before e key n) es) (Some e))) [
       | Less ↦ λ k. newest-none_above key n e es k parts.0 ∙ sym (ap (λ r. cond (is_eq r) (Some e.change) None) k)
       | Equal ↦ λ k. at_own_key key n e (newest es key n) (first_failing (λ e. is_before e key n) es) k rest
       | Greater ↦ λ k. rest
@@ -234,7 +233,7 @@ newest-put_before k number change (x ∷ es) q n all =
     let rest = newest-put_before k number change es q n all.1 in
     let own : Bool = eq_by_cmp key_cmp q k && nat_le number n in
     elim (is_before x k number) as (λ b. is_before x k number ≡ b →
-        newest (cond b (x ∷ put_before (λ e. is_before e k number) e es) (e ∷ x ∷ es)) q n ≡ cond own (Some change) (newest (x ∷ es) q n)) [
+    newest (cond b (x ∷ put_before (λ e. is_before e k number) e es) (e ∷ x ∷ es)) q n ≡ cond own (Some change) (newest (x ∷ es) q n)) [
       | true ↦ λ before.
           ap (cond (eq_by_cmp key_cmp q x.key && nat_le x.version n) (Some x.change)) rest
           ∙ swapped (eq_by_cmp key_cmp q x.key) (eq_by_cmp key_cmp q k) (nat_le x.version n) (nat_le number n) (Some x.change) (Some change) (newest es q n) (apart before)
@@ -248,6 +247,7 @@ newest-put_before k number change (x ∷ es) q n all =
         let greater : key_cmp k x.key ≡ Greater = first_greater _ _ before (not_greater x.version number all.0) in
         let equal : key_cmp q x.key ≡ Equal = eq-is _ qx in
         cc
+
     swapped : {A : Type 0} (a b c d : Bool) (x y z : A) → (a ≡ true → b ≡ true → ⊥) → cond (a && c) x (cond (b && d) y z) ≡ cond (b && d) y (cond (a && c) x z)
     swapped true true c d x y z never = absurd (never refl refl)
     swapped true false c d x y z never = refl
@@ -279,8 +279,8 @@ newest-applied number (write ∷ writes) es q n sorted all =
     newest-applied number writes with_write q n parts.1 (up_to_put_before (λ e. is_before e write.0 number) number _ es (omega arith) all)
     ∙ ap (λ old. newer old (cond (nat_le number n) (find key_cmp q writes) None)) (newest-put_before write.0 number write.1 es q n all)
     ∙ elim (eq_by_cmp key_cmp q write.0) as (λ a. eq_by_cmp key_cmp q write.0 ≡ a →
-        newer (cond (a && nat_le number n) (Some write.1) (newest es q n)) (cond (nat_le number n) (find key_cmp q writes) None)
-        ≡ newer (newest es q n) (cond (nat_le number n) (cond a (Some write.1) (find key_cmp q writes)) None)) [
+    newer (cond (a && nat_le number n) (Some write.1) (newest es q n)) (cond (nat_le number n) (find key_cmp q writes) None)
+    ≡ newer (newest es q n) (cond (nat_le number n) (cond a (Some write.1) (find key_cmp q writes)) None)) [
       | true ↦ λ same. at_write (nat_le number n) write.1 (newest es q n) _ (find_below q write.0 writes (eq-is _ same) parts.0)
       | false ↦ λ _. refl
     ] refl

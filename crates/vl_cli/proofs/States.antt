@@ -76,15 +76,15 @@ pub record IsInUse (h : History) (things : FinMap key_cmp sequential.Thing) (nam
   pub alone : things ≡ one name thing
   pub found_is : get things name ≡ Some thing
 
-pub in_use : (h : History) (things : FinMap key_cmp sequential.Thing) (held : Open) (name : List ℕ) → IsOpen h (Some held) things → bytes_eq name held.name ≡ true → IsInUse h things name held.thing
-in_use h things held name open_thing same =
+pub held_in_use : (h : History) (things : FinMap key_cmp sequential.Thing) (held : Open) (name : List ℕ) → IsOpen h (Some held) things → bytes_eq name held.name ≡ true → IsInUse h things name held.thing
+held_in_use h things held name in_use same =
     let same_name : held.name ≡ name = sym ((bytes_eq-Decides name held.name).0 same) in
-    let alone : things ≡ one name open_thing.0 = open_thing.2 ∙ ap (λ n. one n open_thing.0) same_name in
-    record { thing = open_thing.0; stands = open_thing.1; alone = alone; found_is = ap (λ t. get t name) alone ∙ get-one_own name open_thing.0 }
+    let alone : things ≡ one name in_use.0 = in_use.2 ∙ ap (λ n. one n in_use.0) same_name in
+    record { thing = in_use.0; stands = in_use.1; alone = alone; found_is = ap (λ t. get t name) alone ∙ get-one_own name in_use.0 }
 
 pub other_in_use : (h : History) (things : FinMap key_cmp sequential.Thing) (held : Open) (name : List ℕ) → IsOpen h (Some held) things → bytes_eq name held.name ≡ false → get things name ≡ None
-other_in_use h things held name open_thing other =
-    ap (λ t. get t name) open_thing.2 ∙ get-one held.name open_thing.0 name ∙ cond-false _ _ _ (is_eq-slice_cmp name held.name ∙ other)
+other_in_use h things held name in_use other =
+    ap (λ t. get t name) in_use.2 ∙ get-one held.name in_use.0 name ∙ cond-false _ _ _ (is_eq-slice_cmp name held.name ∙ other)
 
 pub none_in_use : (h : History) (things : FinMap key_cmp sequential.Thing) (name : List ℕ) → IsOpen h None things → get things name ≡ None
 none_in_use h things name none = ap (λ t. get t name) none ∙ get-empty key_cmp name
@@ -101,7 +101,7 @@ pub named : (h : History) (things : FinMap key_cmp sequential.Thing) (held : Opt
 named h things None name kept is found = cc
 named h things (Some held) name kept is found =
     elim (bytes_eq name held.name) as (λ b. bytes_eq name held.name ≡ b → cond b (Some held.thing) None ≡ Some kept → IsInUse h things name kept) [
-      | true ↦ λ same e. let kept_is : held.thing ≡ kept = cc in subst (IsInUse h things name) kept_is (in_use h things held name is same)
+      | true ↦ λ same e. let kept_is : held.thing ≡ kept = cc in subst (IsInUse h things name) kept_is (held_in_use h things held name is same)
       | false ↦ λ _ e. cc
     ] refl found
 
@@ -133,34 +133,34 @@ is_some-copied : {X : Type 0} (o : Option (Bor X)) → is_some (option_copied o)
 is_some-copied None = refl
 is_some-copied (Some x) = refl
 
-pub gives_taken : (r : Replayer) (s : State) (name : List ℕ) (opens : sequential.Thing) (o : Option (Bor Thing)) → Represents r s → option_copied o ≡ thing_named r.open name → is_some o ≡ true → Gives (Taken name) r (opened s name opens)
+pub gives_taken : (r : Replayer) (s : State) (name : List ℕ) (opens : sequential.Thing) (o : Option (Bor Thing)) → Represents r s → option_copied o ≡ thing_named r.in_use name → is_some o ≡ true → Gives (Taken name) r (opened s name opens)
 gives_taken r s name opens o rep is some =
-    let kept = some_of (thing_named r.open name) (ap is_some (sym is) ∙ is_some-copied o ∙ some) in
-    let holds = named s.history s.things r.open name kept.0 rep.open_thing kept.1 in
+    let kept = some_of (thing_named r.in_use name) (ap is_some (sym is) ∙ is_some-copied o ∙ some) in
+    let holds = named s.history s.things r.in_use name kept.0 rep.in_use kept.1 in
     gives_as _ (opened_taken s name opens holds.thing holds.found_is) (record { answer_is = refl; stands = rep })
 
-pub gives_full : (r : Replayer) (s : State) (name : List ℕ) (opens : sequential.Thing) (o : Option (Bor Thing)) → Represents r s → option_copied o ≡ thing_named r.open name → is_some o ≡ false → is_some r.open ≡ true → Gives TooMany r (opened s name opens)
+pub gives_full : (r : Replayer) (s : State) (name : List ℕ) (opens : sequential.Thing) (o : Option (Bor Thing)) → Represents r s → option_copied o ≡ thing_named r.in_use name → is_some o ≡ false → is_some r.in_use ≡ true → Gives TooMany r (opened s name opens)
 gives_full r s name opens o rep is none some =
-    let missing = unnamed s.history s.things r.open name rep.open_thing (sym is ∙ none_of (option_copied o) (is_some-copied o ∙ none)) in
-    let held = some_of r.open some in
-    let open_thing = subst (λ o. IsOpen s.history o s.things) held.1 rep.open_thing in
-    gives_as _ (opened_full s name opens missing (ap len open_thing.2 ∙ len-one held.0.name open_thing.0)) (record { answer_is = refl; stands = rep })
+    let missing = unnamed s.history s.things r.in_use name rep.in_use (sym is ∙ none_of (option_copied o) (is_some-copied o ∙ none)) in
+    let held = some_of r.in_use some in
+    let in_use = subst (λ o. IsOpen s.history o s.things) held.1 rep.in_use in
+    gives_as _ (opened_full s name opens missing (ap len in_use.2 ∙ len-one held.0.name in_use.0)) (record { answer_is = refl; stands = rep })
 
-pub gives_open : (r : Replayer) (s : State) (name : List ℕ) (opens : sequential.Thing) (thing : Thing) → Represents r s → StandsFor s.history thing opens → is_some r.open ≡ false →
-    Gives (Number r.last) (record { alloc = r.alloc; last = r.last; log_length = r.log_length; memtable = r.memtable; «open» = Some (record { name = name; thing = thing }) }) (opened s name opens)
+pub gives_open : (r : Replayer) (s : State) (name : List ℕ) (opens : sequential.Thing) (thing : Thing) → Represents r s → StandsFor s.history thing opens → is_some r.in_use ≡ false →
+    Gives (Number r.last) (record { alloc = r.alloc; last = r.last; log_length = r.log_length; memtable = r.memtable; in_use = Some (record { name = name; thing = thing }) }) (opened s name opens)
 gives_open r s name opens thing rep stands none =
-    let nothing : s.things ≡ empty = subst (λ o. IsOpen s.history o s.things) (none_of r.open none) rep.open_thing in
+    let nothing : s.things ≡ empty = subst (λ o. IsOpen s.history o s.things) (none_of r.in_use none) rep.in_use in
     gives_as _ (opened_new s name opens nothing) (record {
       answer_is = ap Number rep.last;
-      stands = record { last = rep.last; log_length = rep.log_length; shows = rep.shows; open_thing = (opens, stands, ap (λ t. insert t name opens) nothing) };
+      stands = record { last = rep.last; log_length = rep.log_length; shows = rep.shows; in_use = (opens, stands, ap (λ t. insert t name opens) nothing) };
     })
 
 -- a thing under a name that is in use takes the place of the one before
 pub IsOpen-insert : (h : History) (things : FinMap key_cmp sequential.Thing) (held : Open) (name : List ℕ) (kept : Thing) (thing : sequential.Thing) → IsOpen h (Some held) things → bytes_eq name held.name ≡ true → StandsFor h kept thing →
     IsOpen h (Some (record { name = held.name; thing = kept })) (insert things name thing)
-IsOpen-insert h things held name kept thing open_thing same stands =
+IsOpen-insert h things held name kept thing in_use same stands =
     let same_name : name ≡ held.name = (bytes_eq-Decides name held.name).0 same in
-    (thing, stands, ap (λ t. insert t name thing) open_thing.2 ∙ ap (λ n. insert (one held.name open_thing.0) n thing) same_name ∙ insert-one held.name open_thing.0 thing)
+    (thing, stands, ap (λ t. insert t name thing) in_use.2 ∙ ap (λ n. insert (one held.name in_use.0) n thing) same_name ∙ insert-one held.name in_use.0 thing)
 
 IsOpen-note : (h : History) (things : FinMap key_cmp sequential.Thing) (held : Option Open) (name : List ℕ) (kept : Thing) (thing : sequential.Thing) → IsOpen h held things → thing_named held name ≡ Some kept → StandsFor h kept thing → IsOpen h held (insert things name thing)
 IsOpen-note h things None name kept thing is named_is stands = cc
@@ -195,24 +195,24 @@ pub read_own : (r : Replayer) (s : State) (name key : List ℕ) (number : ℕ) (
     Gives (found (value_left None (Some change))) r (read s name key (get s.things name))
 read_own r s name key number writes change rep holds lawful own =
     gives_as _ (
-      ap (read s name key) (holds.found_is ∙ ap Some holds.stands.1.1) ∙ cond-true _ _ _ lawful ∙ ap (read_in_transaction s name key number holds.stands.1.0 writes) own)
+    ap (read s name key) (holds.found_is ∙ ap Some holds.stands.1.1) ∙ cond-true _ _ _ lawful ∙ ap (read_in_transaction s name key number holds.stands.1.0 writes) own)
     (record { answer_is = refl; stands = rep })
 
-pub read_noted : (r : Replayer) (s : State) (name key : List ℕ) (number : ℕ) (writes : Writes) → Represents r s → thing_named r.open name ≡ Some (Transaction number writes) → is_key_length (length key) ≡ true → get writes key ≡ None →
+pub read_noted : (r : Replayer) (s : State) (name key : List ℕ) (number : ℕ) (writes : Writes) → Represents r s → thing_named r.in_use name ≡ Some (Transaction number writes) → is_key_length (length key) ≡ true → get writes key ≡ None →
     Gives (found (value_left None (newest r.memtable.entries.items key number))) r (read s name key (get s.things name))
 read_noted r s name key number writes rep named_is lawful missing =
-    let holds = named s.history s.things r.open name (Transaction number writes) rep.open_thing named_is in
+    let holds = named s.history s.things r.in_use name (Transaction number writes) rep.in_use named_is in
     let reads = holds.stands.1.0 in
     let noted : sequential.Thing = OpenTransaction number (reads ++ (KeyRead key (value_at s.history number key) ∷ [])) writes in
     gives_as _ (
-      ap (read s name key) (holds.found_is ∙ ap Some holds.stands.1.1) ∙ cond-true _ _ _ lawful ∙ ap (read_in_transaction s name key number reads writes) missing)
+    ap (read s name key) (holds.found_is ∙ ap Some holds.stands.1.1) ∙ cond-true _ _ _ lawful ∙ ap (read_in_transaction s name key number reads writes) missing)
     (record {
       answer_is = ap found (rep.shows.values number key holds.stands.0);
       stands = record {
         last = rep.last;
         log_length = rep.log_length;
         shows = rep.shows;
-        open_thing = IsOpen-note s.history s.things r.open name (Transaction number writes) noted rep.open_thing named_is (holds.stands.0, (reads ++ (KeyRead key (value_at s.history number key) ∷ []), refl));
+        in_use = IsOpen-note s.history s.things r.in_use name (Transaction number writes) noted rep.in_use named_is (holds.stands.0, (reads ++ (KeyRead key (value_at s.history number key) ∷ []), refl));
       };
     })
 
@@ -223,37 +223,37 @@ kept_open h things held kept is e = (is.0, subst (λ k. StandsFor h k is.0) e is
 
 -- the replayer with another thing under the name that is in use
 abbrev pub with_kept : Replayer → Open → Thing → Replayer
-with_kept r held kept = record { alloc = r.alloc; last = r.last; log_length = r.log_length; memtable = r.memtable; «open» = Some (record { name = held.name; thing = kept }) }
+with_kept r held kept = record { alloc = r.alloc; last = r.last; log_length = r.log_length; memtable = r.memtable; in_use = Some (record { name = held.name; thing = kept }) }
 
-pub stands_kept : (r : Replayer) (s : State) (held : Open) (kept : Thing) → Represents r s → r.open ≡ Some held → held.thing ≡ kept → Represents (with_kept r held kept) s
+pub stands_kept : (r : Replayer) (s : State) (held : Open) (kept : Thing) → Represents r s → r.in_use ≡ Some held → held.thing ≡ kept → Represents (with_kept r held kept) s
 stands_kept r s held kept rep is e =
-    record { last = rep.last; log_length = rep.log_length; shows = rep.shows; open_thing = kept_open s.history s.things held kept (subst (λ o. IsOpen s.history o s.things) is rep.open_thing) e }
+    record { last = rep.last; log_length = rep.log_length; shows = rep.shows; in_use = kept_open s.history s.things held kept (subst (λ o. IsOpen s.history o s.things) is rep.in_use) e }
 
-gives_write_answer : (r : Replayer) (s : State) (held : Open) (name key value : List ℕ) (number : ℕ) (writes : Writes) → Represents r s → r.open ≡ Some held → bytes_eq name held.name ≡ true → held.thing ≡ Transaction number writes →
+gives_write_answer : (r : Replayer) (s : State) (held : Open) (name key value : List ℕ) (number : ℕ) (writes : Writes) → Represents r s → r.in_use ≡ Some held → bytes_eq name held.name ≡ true → held.thing ≡ Transaction number writes →
     Gives (write_answer writes key value) (with_kept r held (Transaction number (writes_after writes key value))) (written s name key value (get s.things name))
 gives_write_answer r s held name key value number writes rep is same kept_is =
-    let open_thing = subst (λ o. IsOpen s.history o s.things) is rep.open_thing in
-    let holds = subst (IsInUse s.history s.things name) kept_is (in_use s.history s.things held name open_thing same) in
+    let in_use = subst (λ o. IsOpen s.history o s.things) is rep.in_use in
+    let holds = subst (IsInUse s.history s.things name) kept_is (held_in_use s.history s.things held name in_use same) in
     let reads = holds.stands.1.0 in
     let more = insert writes key (Put value) in
     let after : sequential.Thing = OpenTransaction number reads more in
     let unchanged = stands_kept r s held (Transaction number writes) rep is kept_is in
     gives_as _ (ap (written s name key value) (holds.found_is ∙ ap Some holds.stands.1.1))
     (elim (not (is_key_length (length key) && is_value_length (length value))) as (λ b.
-        Gives (cond b Invalid (cond (fits_transaction more) Done TooBig)) (with_kept r held (Transaction number (cond b writes (cond (fits_transaction more) more writes))))
-        (cond b (Invalid, s) (cond (fits_transaction more) (Done, with_thing s name after) (TooBig, s)))) [
+    Gives (cond b Invalid (cond (fits_transaction more) Done TooBig)) (with_kept r held (Transaction number (cond b writes (cond (fits_transaction more) more writes))))
+    (cond b (Invalid, s) (cond (fits_transaction more) (Done, with_thing s name after) (TooBig, s)))) [
       | true ↦ record { answer_is = refl; stands = unchanged }
       | false ↦ elim (fits_transaction more) as (λ b.
           Gives (cond b Done TooBig) (with_kept r held (Transaction number (cond b more writes))) (cond b (Done, with_thing s name after) (TooBig, s))) [
-        | true ↦ record {
-          answer_is = refl;
-          stands = record { last = rep.last; log_length = rep.log_length; shows = rep.shows; open_thing = IsOpen-insert s.history s.things held name (Transaction number more) after open_thing same (holds.stands.0, (reads, refl)) };
-        }
-        | false ↦ record { answer_is = refl; stands = unchanged }
-      ]
+            | true ↦ record {
+              answer_is = refl;
+              stands = record { last = rep.last; log_length = rep.log_length; shows = rep.shows; in_use = IsOpen-insert s.history s.things held name (Transaction number more) after in_use same (holds.stands.0, (reads, refl)) };
+            }
+            | false ↦ record { answer_is = refl; stands = unchanged }
+          ]
     ])
 
-pub gives_write : (result : Result Answer Halt) (r : Replayer) (s : State) (held : Open) (name key value : List ℕ) (number : ℕ) (writes new : Writes) → Represents r s → r.open ≡ Some held → bytes_eq name held.name ≡ true → held.thing ≡ Transaction number writes →
+pub gives_write : (result : Result Answer Halt) (r : Replayer) (s : State) (held : Open) (name key value : List ℕ) (number : ℕ) (writes new : Writes) → Represents r s → r.in_use ≡ Some held → bytes_eq name held.name ≡ true → held.thing ≡ Transaction number writes →
     IfOk result (λ a. a ≡ write_answer writes key value) → OnOk result (new ≡ writes_after writes key value) → IfOk result (λ a. Gives a (with_kept r held (Transaction number new)) (written s name key value (get s.things name)))
 gives_write (Ok a) r s held name key value number writes new rep is same kept_is answer_is new_is =
     subst (λ x. Gives x (with_kept r held (Transaction number new)) (written s name key value (get s.things name))) (sym answer_is)
@@ -344,21 +344,21 @@ same_writes m n writes others kept one_is other_is = cc
 
 -- the replayer after a commit
 abbrev pub committed_replayer : Replayer → ℕ → ℕ → Memtable → Replayer
-committed_replayer r last log_length memtable = record { alloc = r.alloc; last = last; log_length = log_length; memtable = memtable; «open» = None }
+committed_replayer r last log_length memtable = record { alloc = r.alloc; last = last; log_length = log_length; memtable = memtable; in_use = None }
 
 pub gives_nothing : (r : Replayer) (s : State) (name : List ℕ) (number : ℕ) (writes : Writes) → Represents r s → IsInUse s.history s.things name (Transaction number writes) → (len writes == 0) ≡ true →
     Gives Nothing (committed_replayer r r.last r.log_length r.memtable) (committed s name (get s.things name))
 gives_nothing r s name number writes rep holds none =
     gives_as _ (ap (committed s name) (holds.found_is ∙ ap Some holds.stands.1.1) ∙ cond-true _ _ _ none) (record {
       answer_is = refl;
-      stands = record { last = rep.last; log_length = rep.log_length; shows = rep.shows; open_thing = remove_in_use s.history s.things name (Transaction number writes) holds };
+      stands = record { last = rep.last; log_length = rep.log_length; shows = rep.shows; in_use = remove_in_use s.history s.things name (Transaction number writes) holds };
     })
 
 pub gives_exhausted : (r : Replayer) (s : State) (name : List ℕ) (number : ℕ) (writes : Writes) → Represents r s → IsInUse s.history s.things name (Transaction number writes) → (len writes == 0) ≡ false → MAX_COMMIT_NUMBER ≤ r.last →
     Gives (Exhausted CommitNumber) r (committed s name (get s.things name))
 gives_exhausted r s name number writes rep holds some past =
     gives_as _ (
-      ap (committed s name) (holds.found_is ∙ ap Some holds.stands.1.1) ∙ cond-false _ _ _ some ∙ cond-true _ _ _ (ap (nat_le MAX_COMMIT_NUMBER) (sym rep.last) ∙ le-leb _ _ past))
+    ap (committed s name) (holds.found_is ∙ ap Some holds.stands.1.1) ∙ cond-false _ _ _ some ∙ cond-true _ _ _ (ap (nat_le MAX_COMMIT_NUMBER) (sym rep.last) ∙ le-leb _ _ past))
     (record { answer_is = refl; stands = rep })
 
 -- the log's length with one more commit, as the code adds it up
@@ -377,8 +377,8 @@ pub gives_log_full : (r : Replayer) (s : State) (name : List ℕ) (number : ℕ)
 gives_log_full r s name number writes rep holds some room full =
     let past : MAX_LOG_BYTES < s.log_length + frame_length writes = subst (λ n. MAX_LOG_BYTES < n + frame_length writes) rep.log_length (longer_past r.log_length (frame_length writes) full) in
     gives_as _ (
-      ap (committed s name) (holds.found_is ∙ ap Some holds.stands.1.1) ∙ cond-false _ _ _ some ∙ cond-false _ _ _ (ap (nat_le MAX_COMMIT_NUMBER) (sym rep.last) ∙ lt-leb _ _ room)
-      ∙ cond-false _ _ _ (lt-leb _ _ past))
+    ap (committed s name) (holds.found_is ∙ ap Some holds.stands.1.1) ∙ cond-false _ _ _ some ∙ cond-false _ _ _ (ap (nat_le MAX_COMMIT_NUMBER) (sym rep.last) ∙ lt-leb _ _ room)
+    ∙ cond-false _ _ _ (lt-leb _ _ past))
     (record { answer_is = refl; stands = rep })
 
 pub gives_commit : (r : Replayer) (s : State) (name : List ℕ) (number : ℕ) (writes : Writes) (memtable : Memtable) → Represents r s → IsInUse s.history s.things name (Transaction number writes) → (len writes == 0) ≡ false → r.last < MAX_COMMIT_NUMBER → longer r writes ≤ MAX_LOG_BYTES →
@@ -387,14 +387,14 @@ gives_commit r s name number writes memtable rep holds some room fits takes =
     let next : r.last + 1 ≡ last_number s.history + 1 = ap (λ n. n + 1) rep.last in
     let length_is : longer r writes ≡ s.log_length + frame_length writes = longer_is r.log_length (frame_length writes) fits ∙ ap (λ n. n + frame_length writes) rep.log_length in
     gives_as _ (
-      ap (committed s name) (holds.found_is ∙ ap Some holds.stands.1.1) ∙ cond-false _ _ _ some ∙ cond-false _ _ _ (ap (nat_le MAX_COMMIT_NUMBER) (sym rep.last) ∙ lt-leb _ _ room)
-      ∙ cond-true _ _ _ (le-leb _ _ (subst (λ n. n ≤ MAX_LOG_BYTES) length_is fits)))
+    ap (committed s name) (holds.found_is ∙ ap Some holds.stands.1.1) ∙ cond-false _ _ _ some ∙ cond-false _ _ _ (ap (nat_le MAX_COMMIT_NUMBER) (sym rep.last) ∙ lt-leb _ _ room)
+    ∙ cond-true _ _ _ (le-leb _ _ (subst (λ n. n ≤ MAX_LOG_BYTES) length_is fits)))
     (record {
       answer_is = ap Number next;
       stands = record {
         last = next ∙ omega (arith, length-append s.history.commits (writes ∷ []));
         log_length = length_is;
         shows = shows_commit r.memtable.entries.items memtable.entries.items s.history writes (r.last + 1) next rep.shows takes;
-        open_thing = remove_in_use s.history s.things name (Transaction number writes) holds;
+        in_use = remove_in_use s.history s.things name (Transaction number writes) holds;
       };
     })

@@ -51,9 +51,9 @@ put_sorted list key change sorted = tested _ (is_sorted-put key_cmp nat_list_cmp
 pub insert-writes_of : (list : List (List ℕ × Change)) (key : List ℕ) (change : Change) → IsTrue (is_sorted key_cmp list) → map.insert (writes_of list) key change ≡ writes_of (put key_cmp key change list)
 insert-writes_of list key change sorted =
     same_entries_map _ _ (
-      entries-insert nat_list_cmp_total (writes_of list) key change
-      ∙ ap (put key_cmp key change) (entries-writes_of list sorted)
-      ∙ sym (entries-writes_of (put key_cmp key change list) (put_sorted list key change sorted)))
+    entries-insert nat_list_cmp_total (writes_of list) key change
+    ∙ ap (put key_cmp key change) (entries-writes_of list sorted)
+    ∙ sym (entries-writes_of (put key_cmp key change list) (put_sorted list key change sorted)))
 
 -- ---- a key's place
 
@@ -137,8 +137,8 @@ placed_later : (key : List ℕ) (change : Change) (o : Option (List ℕ × Chang
 placed_later key change None x list above = cond-true _ _ _ above
 placed_later key change (Some e) x list above =
     elim (eq_by_cmp key_cmp key e.0) as (λ b.
-        cond b (cond (is_above key x) (x ∷ replace_first (is_above key) (e.0, change) list) ((e.0, change) ∷ list)) (cond (is_above key x) (x ∷ put_before (is_above key) (key, change) list) ((key, change) ∷ x ∷ list))
-        ≡ x ∷ cond b (replace_first (is_above key) (e.0, change) list) (put_before (is_above key) (key, change) list)) [
+    cond b (cond (is_above key x) (x ∷ replace_first (is_above key) (e.0, change) list) ((e.0, change) ∷ list)) (cond (is_above key x) (x ∷ put_before (is_above key) (key, change) list) ((key, change) ∷ x ∷ list))
+    ≡ x ∷ cond b (replace_first (is_above key) (e.0, change) list) (put_before (is_above key) (key, change) list)) [
       | true ↦ cond-true _ _ _ above
       | false ↦ cond-true _ _ _ above
     ]
@@ -147,8 +147,8 @@ pub put-placed : (key : List ℕ) (change : Change) (list : List (List ℕ × Ch
 put-placed key change [] = refl
 put-placed key change (x ∷ list) =
     elim (key_cmp key x.0) as (λ r. key_cmp key x.0 ≡ r →
-        by_order r ((key, change) ∷ x ∷ list) ((x.0, change) ∷ list) (x ∷ put key_cmp key change list)
-        ≡ placed key change (cond (is_gt r) (first_failing (is_above key) list) (Some x)) (x ∷ list)) [
+    by_order r ((key, change) ∷ x ∷ list) ((x.0, change) ∷ list) (x ∷ put key_cmp key change list)
+    ≡ placed key change (cond (is_gt r) (first_failing (is_above key) list) (Some x)) (x ∷ list)) [
       | Less ↦ λ k. sym (cond-false _ _ _ (ap is_eq k) ∙ cond-false _ _ _ (ap is_gt k))
       | Equal ↦ λ k. sym (cond-true _ _ _ (ap is_eq k) ∙ cond-false _ _ _ (ap is_gt k))
       | Greater ↦ λ k. ap (λ l. x ∷ l) (put-placed key change list) ∙ sym (placed_later key change (first_failing (is_above key) list) x list (ap is_gt k))
@@ -182,7 +182,7 @@ bytes_after_put key change [] sorted = omega arith
 bytes_after_put key change (x ∷ list) sorted =
     let parts = T_parts _ _ sorted in
     elim (key_cmp key x.0) as (λ r. key_cmp key x.0 ≡ r →
-        BytesAfter (weight x + bytes_of list) (bytes_of (by_order r ((key, change) ∷ x ∷ list) ((x.0, change) ∷ list) (x ∷ put key_cmp key change list))) key change (cond (is_eq r) (Some x.1) (find key_cmp key list))) [
+    BytesAfter (weight x + bytes_of list) (bytes_of (by_order r ((key, change) ∷ x ∷ list) ((x.0, change) ∷ list) (x ∷ put key_cmp key change list))) key change (cond (is_eq r) (Some x.1) (find key_cmp key list))) [
       | Less ↦ λ k. subst (BytesAfter (weight x + bytes_of list) (weight (key, change) + (weight x + bytes_of list)) key change) (sym (find_above key list x.0 k parts.0)) (omega arith)
       | Equal ↦ λ k. omega arith
       | Greater ↦ λ k. one_further _ _ (weight x) key change (find key_cmp key list) (bytes_after_put key change list parts.1)
@@ -192,11 +192,11 @@ pub write_bytes-insert : (list : List (List ℕ × Change)) (key : List ℕ) (ch
     BytesAfter (entry_bytes list) (write_bytes (map.insert (writes_of list) key change)) key change (get (writes_of list) key)
 write_bytes-insert list key change sorted =
     let is : write_bytes (map.insert (writes_of list) key change) ≡ bytes_of (put key_cmp key change list) =
-        ap entry_bytes (ap entries (insert-writes_of list key change sorted) ∙ entries-writes_of (put key_cmp key change list) (put_sorted list key change sorted)) ∙ entry_bytes-bytes_of (put key_cmp key change list) in
+    ap entry_bytes (ap entries (insert-writes_of list key change sorted) ∙ entries-writes_of (put key_cmp key change list) (put_sorted list key change sorted)) ∙ entry_bytes-bytes_of (put key_cmp key change list) in
     let put_is : BytesAfter (bytes_of list) (bytes_of (put key_cmp key change list)) key change (get (writes_of list) key) =
-        subst (BytesAfter (bytes_of list) (bytes_of (put key_cmp key change list)) key change) (sym (get-writes_of list key sorted)) (bytes_after_put key change list (sorted_test list sorted)) in
+    subst (BytesAfter (bytes_of list) (bytes_of (put key_cmp key change list)) key change) (sym (get-writes_of list key sorted)) (bytes_after_put key change list (sorted_test list sorted)) in
     let new_is : BytesAfter (bytes_of list) (write_bytes (map.insert (writes_of list) key change)) key change (get (writes_of list) key) =
-        subst (λ new. BytesAfter (bytes_of list) new key change (get (writes_of list) key)) (sym is) put_is in
+    subst (λ new. BytesAfter (bytes_of list) new key change (get (writes_of list) key)) (sym is) put_is in
     subst (λ old. BytesAfter old (write_bytes (map.insert (writes_of list) key change)) key change (get (writes_of list) key)) (sym (entry_bytes-bytes_of list)) new_is
 
 -- a replaced change is counted
@@ -244,7 +244,7 @@ pub bytes_after : (list : List (List ℕ × Change)) (bytes : ℕ) (writes : Wri
 bytes_after list bytes writes key change o are view found =
     let is = write_bytes-insert list key change are.sorted in
     let of_writes : BytesAfter (entry_bytes list) (write_bytes (map.insert writes key change)) key change (get writes key) =
-        subst (λ w. BytesAfter (entry_bytes list) (write_bytes (map.insert w key change)) key change (get w key)) view is in
+    subst (λ w. BytesAfter (entry_bytes list) (write_bytes (map.insert w key change)) key change (get w key)) view is in
     let of_found = subst (BytesAfter (entry_bytes list) (write_bytes (map.insert writes key change)) key change) found of_writes in
     subst (λ n. BytesAfter n (write_bytes (map.insert writes key change)) key change o) (sym are.counted) of_found
 
@@ -258,7 +258,7 @@ pub AreWrites-put : (list new_list : List (List ℕ × Change)) (bytes new_bytes
 AreWrites-put list new_list bytes new_bytes writes key change are view is counted fits =
     let new_sorted : IsTrue (is_sorted key_cmp new_list) = ap (is_sorted key_cmp) is ∙ put_sorted list key change are.sorted in
     let entries_is : entries (map.insert writes key change) ≡ new_list =
-        ap (λ w. entries (map.insert w key change)) (sym view) ∙ ap entries (insert-writes_of list key change are.sorted) ∙ entries-writes_of (put key_cmp key change list) (put_sorted list key change are.sorted) ∙ sym is in
+    ap (λ w. entries (map.insert w key change)) (sym view) ∙ ap entries (insert-writes_of list key change are.sorted) ∙ entries-writes_of (put key_cmp key change list) (put_sorted list key change are.sorted) ∙ sym is in
     let within : write_bytes (map.insert writes key change) ≤ MAX_TRANSACTION_BYTES = leb-true _ _ (and_parts _ _ fits).1 in
     let keys : len (map.insert writes key change) ≤ MAX_TRANSACTION_KEYS = leb-true _ _ (and_parts _ _ fits).0 in
     record { sorted = new_sorted; counted = counted ∙ ap entry_bytes entries_is; bounded = omega (arith, within, counted); few = subst (λ n. n ≤ MAX_TRANSACTION_KEYS) (len-entries (map.insert writes key change) ∙ ap length entries_is) keys }

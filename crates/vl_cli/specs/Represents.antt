@@ -1,5 +1,5 @@
 -- What a replayer keeps, and the state that it stands for.
-use Rattle.std.specs.Prelude.{◌≡◌, ℕ, ◌≤◌, List, [], Option, Some, None, ◌&&◌, not, length, if◌then◌else◌}
+use Rattle.std.specs.Prelude.{◌≡◌, ℕ, ◌≤◌, List, Option, Some, None, ◌&&◌, not, length, if◌then◌else◌}
 use Rattle.std.specs.List.{AllByRecursion}
 use Rattle.std.specs.FinMap.{FinMap, insert, empty}
 use Rattle.std.specs.Str.{bytes_eq}
@@ -41,7 +41,7 @@ pub record Represents (r : Replayer) (s : State) : Type 0 where
   pub last : r.last ≡ last_number s.history
   pub log_length : r.log_length ≡ s.log_length
   pub shows : Shows r.memtable.entries.items s.history
-  pub open_thing : IsOpen s.history r.open s.things
+  pub in_use : IsOpen s.history r.in_use s.things
 
 -- the answer of an outcome, from a replayer that stands for its state
 pub record Gives (answer : Answer) (after : Replayer) (outcome : Outcome) : Type 0 where

@@ -1,7 +1,7 @@
 -- What a transaction has written, as a list of entries in the order of their keys.
-use Rattle.std.specs.Prelude.{◌≡◌, ℕ, Bool, ◌+◌, ◌≤◌, IsTrue, List, [], ◌∷◌, length, sum_by, Option, Some, None, refl}
+use Rattle.std.specs.Prelude.{◌≡◌, ℕ, Bool, ◌+◌, ◌≤◌, IsTrue, List, length, sum_by, Option, Some, None, refl}
 use Rattle.std.specs.Coded.{Coded, code_by, coded_ℕ, coded_list, coded_option}
-use Rattle.std.specs.FinMap.{FinMap, from_sorted, is_sorted, code}
+use Rattle.std.specs.FinMap.{from_sorted, is_sorted, code}
 use Rattle.std.specs.Ordering.{is_gt}
 use Rattle.vl_model.specs.Keys.{Stored, Writes, key_cmp}
 use Rattle.vl_model.specs.declared.change.Change.{Change}

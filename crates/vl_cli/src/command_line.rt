@@ -22,10 +22,11 @@ use crate::command_line::replay::replay;
 use crate::command_line::words::{USAGE, are_plain};
 pub use ended::Ended;
 use std::alloc::Global;
+use vl_disk::Disk;
 use vl_io::{Sink, Source};
 
 /// Carries out a command line: its words, without the program's name.
-pub fn run<S: Source, K: Sink, D>(
+pub fn run<S: Source, K: Sink, D: Disk>(
     alloc: Global,
     words: &[String],
     source: &mut S,

@@ -15,16 +15,17 @@ mod memtable;
 mod open;
 mod writes;
 
-pub use halt::Halt;
-pub use limits::{MAX_LOG_BYTES, MAX_OPEN};
-
 use crate::script::{Answer, Ident, Line};
 use entry::Entry;
+pub use halt::Halt;
 use limits::LOG_HEADER_BYTES;
+pub use limits::{MAX_LOG_BYTES, MAX_OPEN};
 use memtable::Memtable;
 use open::{Open, Thing};
 use std::alloc::Global;
-use vl_model::{Bytes, Change, Counter, Key, MAX_COMMIT_NUMBER, MAX_KEY_BYTES, MAX_VALUE_BYTES, Value};
+use vl_model::{
+    Bytes, Change, Counter, Key, MAX_COMMIT_NUMBER, MAX_KEY_BYTES, MAX_VALUE_BYTES, Value,
+};
 use writes::Writes;
 
 /// A store whose commits are kept in memory alone.
@@ -34,7 +35,7 @@ pub struct Replayer {
     last: u64,
     log_length: u64,
     memtable: Memtable,
-    open: Option<Open>,
+    in_use: Option<Open>,
 }
 
 impl Replayer {
@@ -47,7 +48,7 @@ impl Replayer {
             last: 0,
             log_length: LOG_HEADER_BYTES,
             memtable: Memtable::new(alloc),
-            open: None,
+            in_use: None,
         }
     }
 
@@ -89,10 +90,10 @@ impl Replayer {
         if self.find(name.as_slice()).is_some() {
             return Answer::Taken { name };
         }
-        if self.open.is_some() {
+        if self.in_use.is_some() {
             return Answer::TooMany;
         }
-        self.open = Some(Open { name, thing });
+        self.in_use = Some(Open { name, thing });
         Answer::Number { number: self.last }
     }
 
@@ -118,8 +119,8 @@ impl Replayer {
         ensures answer { (s : State) → Represents self.old s → IfOk result (λ answer. Gives answer self.new (written s name key value (get s.things name))) }
         ensures unchanged { (s : State) → Represents self.old s → OnErr result (Represents self.new s) }
     {
-        match &mut self.open {
-            Some(open) if open.is_named(name.as_slice()) => match &mut open.thing {
+        match &mut self.in_use {
+            Some(held) if held.is_named(name.as_slice()) => match &mut held.thing {
                 Thing::View { .. } => Ok(Answer::ReadOnly),
                 Thing::Transaction { writes, .. } => write(writes, key, value),
             },
@@ -138,7 +139,7 @@ impl Replayer {
             return Ok(Answer::ReadOnly);
         };
         if writes.is_empty() {
-            self.open = None;
+            self.in_use = None;
             return Ok(Answer::Nothing);
         }
         if self.last >= MAX_COMMIT_NUMBER {
@@ -152,7 +153,7 @@ impl Replayer {
         }
         let count = writes.len();
         self.memtable.reserve(count)?;
-        let Some(Open { name: _, thing }) = self.open.take() else {
+        let Some(Open { name: _, thing }) = self.in_use.take() else {
             unreachable!();
         };
         let Thing::Transaction { writes, .. } = thing else {
@@ -166,10 +167,10 @@ impl Replayer {
 
     // What a name in use stands for.
     fn find(&self, name: &[u8]) -> Option<&Thing>
-        ensures { option_copied result ≡ thing_named self.now.open name.now }
+        ensures { option_copied result ≡ thing_named self.now.in_use name.now }
     {
-        match &self.open {
-            Some(open) if open.is_named(name) => Some(&open.thing),
+        match &self.in_use {
+            Some(held) if held.is_named(name) => Some(&held.thing),
             _ => None,
         }
     }
@@ -190,7 +191,7 @@ impl Replayer {
 fn is_lawful_key(key: &Key) -> bool
     ensures { result ≡ is_key_length (length key.now) }
 {
-    1 <= key.len() && key.len() <= MAX_KEY_BYTES
+    !key.is_empty() && key.len() <= MAX_KEY_BYTES
 }
 
 fn is_lawful_value(value: &Value) -> bool
@@ -262,10 +263,20 @@ mod tests {
     fn a_commit_is_seen_by_a_later_view(rt: HostRuntime) -> Result<(), Fail> {
         let alloc = rt.alloc();
         let mut store = Replayer::new(alloc);
-        assert!(rt; matches!(store.line(begin(alloc, "a")?)?, Answer::Number { number: 0 }));
+        assert!(rt;
+            matches!(
+                store.line(begin(alloc, "a")?)?,
+                Answer::Number { number: 0 }
+            )
+        );
         assert!(rt; matches!(store.line(set(alloc, "a", "k", "v")?)?, Answer::Done));
         assert!(rt; matches!(store.line(get(alloc, "a", "k")?)?, Answer::Found { .. }));
-        assert!(rt; matches!(store.line(commit(alloc, "a")?)?, Answer::Number { number: 1 }));
+        assert!(rt;
+            matches!(
+                store.line(commit(alloc, "a")?)?,
+                Answer::Number { number: 1 }
+            )
+        );
         assert!(rt; matches!(store.line(view(alloc, "b")?)?, Answer::Number { number: 1 }));
         let answer = store.line(get(alloc, "b", "k")?)?;
         let Answer::Found { value } = answer else {
@@ -294,10 +305,20 @@ mod tests {
     fn a_commit_without_writes_is_none(rt: HostRuntime) -> Result<(), Fail> {
         let alloc = rt.alloc();
         let mut store = Replayer::new(alloc);
-        assert!(rt; matches!(store.line(begin(alloc, "a")?)?, Answer::Number { number: 0 }));
+        assert!(rt;
+            matches!(
+                store.line(begin(alloc, "a")?)?,
+                Answer::Number { number: 0 }
+            )
+        );
         assert!(rt; matches!(store.line(set(alloc, "a", "", "v")?)?, Answer::Invalid));
         assert!(rt; matches!(store.line(commit(alloc, "a")?)?, Answer::Nothing));
-        assert!(rt; matches!(store.line(begin(alloc, "a")?)?, Answer::Number { number: 0 }));
+        assert!(rt;
+            matches!(
+                store.line(begin(alloc, "a")?)?,
+                Answer::Number { number: 0 }
+            )
+        );
         Ok(())
     }
 }

@@ -1,6 +1,19 @@
 //! The outside as the store sees it: a disk of named files, and the faults that outside objects count.
 #![tactic(auto)]
 
+mod disk;
 mod failed;
+mod list_fail;
+mod mem_disk;
+mod name;
+mod no_memory;
 
+pub use disk::Disk;
 pub use failed::Failed;
+pub use list_fail::ListFail;
+pub use mem_disk::MemDisk;
+pub use name::Name;
+pub use no_memory::NoMemory;
+
+#[cfg(test)]
+mod tests;

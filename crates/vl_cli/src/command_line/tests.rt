@@ -1,6 +1,7 @@
 use crate::{Ended, run};
 use std::alloc::Global;
 use std::test::Fail;
+use vl_disk::MemDisk;
 use vl_io::{SliceSource, VecSink};
 
 const USAGE: &str =
@@ -41,7 +42,8 @@ fn outcome(alloc: Global, case: &Case) -> Result<(u8, Vec<u8>), Fail> {
         Vec::from_slice(alloc, case.failing_read)?,
     );
     let mut sink = VecSink::new(alloc, 4096, Vec::from_slice(alloc, case.failing_put)?)?;
-    let Ended { status, disk: () } = run(alloc, words.as_slice(), &mut source, &mut sink, ());
+    let disk = MemDisk::new(alloc, Vec::new(alloc));
+    let Ended { status, disk: _ } = run(alloc, words.as_slice(), &mut source, &mut sink, disk);
     Ok((status, sink.into_bytes()))
 }
 

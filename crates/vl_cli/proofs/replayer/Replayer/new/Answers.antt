@@ -3,4 +3,4 @@ use Rattle.vl_cli.proofs.States.{shows_none}
 use Rattle.vl_cli.proofs.replayer.Replayer.new.Goals as goal
 
 pub returns : goal.returns
-returns c = record { last = refl; log_length = refl; shows = shows_none _ c.new.ensures; open_thing = refl }
+returns c = record { last = refl; log_length = refl; shows = shows_none _ c.new.ensures; in_use = refl }

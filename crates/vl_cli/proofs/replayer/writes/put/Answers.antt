@@ -21,7 +21,7 @@ returns-then-eq-clause-ok c =
     let read = c.index.result.now in
     let same_entry : read ≡ held = c.index.ensures ∙ get_or_default list c.place-at.result read held within ∙ sym c.index_mut.ensures.value in
     let same : bytes_eq key held.0 ≡ true =
-        ap (bytes_eq key) (ap (λ e. e.0) (sym same_entry) ∙ sym c.as_slice-then-at-len-2.ensures) ∙ ap (λ k. bytes_eq k c.as_slice-then-at-len-2.result.now) (sym c.as_slice-then-at-len.ensures) ∙ sym c.eq.ensures ∙ c.if-eq.true in
+    ap (bytes_eq key) (ap (λ e. e.0) (sym same_entry) ∙ sym c.as_slice-then-at-len-2.ensures) ∙ ap (λ k. bytes_eq k c.as_slice-then-at-len-2.result.now) (sym c.as_slice-then-at-len.ensures) ∙ sym c.eq.ensures ∙ c.if-eq.true in
     put-present list key held.0 c.args.change c.place-at.result held place within (ap (λ e. e.0) c.index_mut.ensures.value) same
 
 pub returns-in_ok-insert-clause-ok : goal.returns-in_ok-insert-clause-ok
@@ -34,7 +34,7 @@ returns-in_ok-insert-clause-ok c =
       | else-at-len-via-then-at-len+else-eq w ↦
           let read = w.index.result.now in
           let other : bytes_eq key read.0 ≡ false =
-              ap (bytes_eq key) (sym w.as_slice-then-at-len-2.ensures) ∙ ap (λ k. bytes_eq k w.as_slice-then-at-len-2.result.now) (sym w.as_slice-then-at-len.ensures) ∙ sym w.eq.ensures ∙ w.if-eq.false in
+          ap (bytes_eq key) (sym w.as_slice-then-at-len-2.ensures) ∙ ap (λ k. bytes_eq k w.as_slice-then-at-len-2.result.now) (sym w.as_slice-then-at-len.ensures) ∙ sym w.eq.ensures ∙ w.if-eq.false in
           (read, ap (λ e. bytes_eq key e.0) (sym w.index.ensures) ∙ other)
       | else-at-len-via-else-at-len w ↦ absurd (omega (arith, c.len.ensures, w.if-at-len.false, c.args.entries.now.ok))
     ])

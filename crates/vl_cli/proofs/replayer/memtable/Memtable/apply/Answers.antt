@@ -1,13 +1,10 @@
-use Rattle.std.proofs.Common.{◌≡◌, ◌<◌, List, [], ◌∷◌, length, true, sym, ap, ◌∙◌, subst, refl, arith, vec_len, ◌+◌, cond, nat_le, None}
-use Rattle.std.specs.List.{prefix_len}
+use Rattle.std.proofs.Common.{◌≡◌, List, [], ◌∷◌, length, true, sym, ap, ◌∙◌, subst, refl, arith, vec_len, ◌+◌, cond, nat_le, None}
 use Rattle.std.specs.Result.{is_ok}
-use Rattle.std.specs.Vec.{vec_capacity}
 use Rattle.std.specs.Vec.Iter.{into_iter_items}
 use Rattle.std.specs.FinMap.{entries, get-entries, entries_sorted, len-entries}
 use Rattle.std.proofs.lemmas.Bool.{cond-true}
 use Rattle.std.proofs.lemmas.List.Sums.{prefix_len-le-length}
 use Rattle.vl_model.specs.History.{newer}
-use Rattle.vl_model.specs.Keys.{key_cmp}
 use Rattle.vl_cli.specs.Memtable.{is_ordered, is_before, newest}
 use Rattle.vl_cli.proofs.MemtableEntries.{applied, IsUpTo, inserted, is_ordered-inserted, newest-applied, up_to_applied}
 use Rattle.vl_cli.proofs.replayer.memtable.Memtable.apply.Goals as goal

@@ -1,10 +1,9 @@
-use Rattle.std.proofs.Common.{◌≡◌, ◌+◌, ◌&&◌, ℕ, Bool, true, false, Some, None, leb, ltb, sym, ap, ◌∙◌, arith}
+use Rattle.std.proofs.Common.{◌≡◌, ◌+◌, ◌&&◌, ℕ, Bool, true, false, leb, ltb, sym, ap, ◌∙◌, arith}
 use Rattle.std.proofs.lemmas.Bool.Decides.{nat_tests}
 use Rattle.std.specs.Option.{option_copied}
-use Rattle.std.specs.FinMap.{get, len, insert}
+use Rattle.std.specs.FinMap.{len, insert}
 use Rattle.vl_model.specs.Keys.{Writes}
-use Rattle.vl_model.specs.declared.change.Change.{Change}
-use Rattle.vl_model.specs.declared.change.Change.TheVariants.{Set as Put, Delete}
+use Rattle.vl_model.specs.declared.change.Change.TheVariants.{Set as Put}
 use Rattle.vl_model.specs.declared.limits.TheConstants.{MAX_TRANSACTION_KEYS, MAX_TRANSACTION_BYTES}
 use Rattle.vl_cli.specs.Sequential.{write_bytes, fits_transaction}
 use Rattle.vl_cli.proofs.WriteEntries.{len-insert_present, len-insert_absent}

@@ -1,4 +1,4 @@
-use Rattle.std.proofs.Common.{◌≡◌, sym, ap, ◌∙◌}
+use Rattle.std.proofs.Common.{ap, ◌∙◌}
 use Rattle.std.specs.FinMap.{insert}
 use Rattle.vl_model.specs.declared.change.Change.TheVariants.{Set as Put}
 use Rattle.vl_cli.specs.Sequential.{write_bytes}

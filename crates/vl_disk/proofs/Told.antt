@@ -1,0 +1,45 @@
+-- What a disk in memory tells after a call, and what it tells of the moments of the call.
+use Rattle.std.proofs.Common.{◌≡◌, ◌⊎◌, inl, inr, ℕ, ◌+◌, ◌-◌, ◌^◌, ◌≤◌, min, List, [], ◌∷◌, ◌++◌, length, Option, Some, refl, sym, ◌∙◌, ap, subst, arith}
+use Rattle.vl_disk.specs.declared.mem_disk.event.Event.{Event}
+use Rattle.vl_disk.specs.declared.mem_disk.event.Event.TheVariants.{Create, Append, Refuse, Sync}
+use Rattle.vl_disk.specs.DiskState.{DiskState, empty_disk, counted, synced}
+use Rattle.vl_disk.specs.declared.name.Name.{Name}
+use Rattle.vl_disk.specs.Crash.{Image, MayLeave}
+use Rattle.vl_disk.specs.Moments.{Elapses}
+use Rattle.vl_disk.specs.Disk.{Turns, Leaves}
+use Rattle.vl_disk.specs.Event.{after_event, replayed-push, state_after, LeftSince, told_of}
+use Rattle.vl_disk.proofs.Elapsed.{elapses_push}
+
+pub some_state : (a b : DiskState) → Some a ≡ Some b → a ≡ b
+some_state a b e = cc
+
+told_after : (event : Event) (state : DiskState) (calls : ℕ) → Some (record (after_event event state) { calls = min (calls + 1) (2 ^ 64 - 1) }) ≡ Some (counted (after_event event (record state { calls = calls })))
+told_after (Create name) state calls = refl
+told_after (Append name piece) state calls = refl
+told_after (Refuse name piece) state calls = refl
+told_after (Sync name) state calls = refl
+
+module _ (events later : List Event) (calls counts : ℕ) (count : counts ≡ min (calls + 1) (2 ^ 64 - 1)) where
+  -- nothing was left
+  pub turns_same : later ≡ events → Turns (λ disk. disk) (Some (told_of events calls)) (Some (told_of later counts))
+  turns_same same = λ i. Some (told_of (same i) (count i))
+
+  -- there was nothing to sync
+  pub turns_still : (name : Name) → synced name (state_after events) ≡ state_after events → Turns (synced name) (Some (told_of events calls)) (Some (told_of events counts))
+  turns_still name same =
+      ap (λ (n : ℕ). Some (record (state_after events) { calls = n })) count
+      ∙ ap (λ (s : DiskState). Some (record s { calls = min (calls + 1) (2 ^ 64 - 1) })) (sym same)
+
+  pub turns_by : (event : Event) → later ≡ events ++ event ∷ [] → Turns (after_event event) (Some (told_of events calls)) (Some (told_of later counts))
+  turns_by event pushed =
+      ap (λ (es : List Event). Some (told_of es counts)) pushed
+      ∙ ap (λ (s : DiskState). Some (record s { calls = counts })) (replayed-push events event empty_disk)
+      ∙ ap (λ (n : ℕ). Some (record (after_event event (state_after events)) { calls = n })) count
+      ∙ told_after event (state_after events) calls
+
+  pub elapses_by : (event : Event) (during : DiskState → Image → Type 0) → later ≡ events ++ event ∷ []
+      → ((image : Image) → MayLeave (after_event event (state_after events)) image → during (told_of events calls) image)
+      → Elapses (length events) (length later) (LeftSince events) (LeftSince later) (Leaves (Some (told_of events calls)) during)
+  elapses_by event during pushed now =
+      subst (λ (es : List Event). Elapses (length events) (length es) (LeftSince events) (LeftSince es) (Leaves (Some (told_of events calls)) during)) (sym pushed)
+      (elapses_push events event (Leaves (Some (told_of events calls)) during) (λ image may disk is. subst (λ (d : DiskState). during d image) (some_state (told_of events calls) disk is) (now image may)))

@@ -1,0 +1,36 @@
+use Rattle.std.proofs.Common.{inr, ap, subst, vec_capacity}
+use Rattle.std.specs.Option.{option_map}
+use Rattle.vl_disk.specs.declared.mem_disk.event.Event.TheVariants.{Create}
+use Rattle.vl_disk.specs.Crash.{WhileCreating}
+use Rattle.vl_disk.specs.Entry.{IsAt}
+use Rattle.vl_disk.proofs.Kept.{kept}
+use Rattle.vl_disk.proofs.Table.{has_change, created_step, uses_change}
+use Rattle.vl_disk.proofs.Told.{turns_by, elapses_by}
+use Rattle.vl_disk.proofs.mem_disk.MemDiskDisk.create.Goals as goal
+
+pub create-requires : goal.create-requires
+create-requires c =
+    let at = subst (λ es. IsAt c.args.name es c.place_of-at.result) c.deref.ensures.value c.place_of-at.ensures.at in
+    has_change c.args.name c.args.self.now.entries.items c.place_of-at.result c.index_mut.result.now at c.index_mut.ensures.value c.requires.room
+
+pub invariant_of-self-2 : goal.invariant_of-self-2
+invariant_of-self-2 c =
+    let at = subst (λ es. IsAt c.args.name es c.place_of-at.result) c.deref.ensures.value c.place_of-at.ensures.at in
+    let m = c.args.self.now in
+    let step = created_step c.args.name m.entries.items c.place_of-at.result c.index_mut.result.now c.create.new.self at c.index_mut.ensures.value c.create.ensures.name
+    m.events.items c.note.new.events.items (vec_capacity m.events) (vec_capacity c.note.new.events) c.note.ensures.capacity c.create.ensures.slots c.create.ensures.fits (kept m)
+    c.note.ensures.items c.create.ensures.stands c.create.ensures.bytes c.create.ensures.unsynced in
+    record { room = step.room; fits = step.fits; distinct = step.distinct; has_bytes = step.has_bytes; notes_unsynced = step.notes_unsynced }
+
+pub returns-clause-created : goal.returns-clause-created
+returns-clause-created c = turns_by c.args.self.now.events.items c.note.new.events.items c.args.self.now.plan.calls c.fails.new.self.calls c.fails.ensures.calls (Create c.args.name) c.note.ensures.items
+
+pub returns-clause-time : goal.returns-clause-time
+returns-clause-time c =
+    elapses_by c.args.self.now.events.items c.note.new.events.items c.args.self.now.plan.calls c.fails.new.self.calls c.fails.ensures.calls (Create c.args.name) (WhileCreating c.args.name) c.note.ensures.items (λ image may. inr may)
+
+pub returns-clause-spare : goal.returns-clause-spare
+returns-clause-spare c =
+    let at = subst (λ es. IsAt c.args.name es c.place_of-at.result) c.deref.ensures.value c.place_of-at.ensures.at in
+    uses_change c.args.name c.args.self.now.entries.items c.place_of-at.result c.index_mut.result.now c.create.new.self at c.index_mut.ensures.value c.create.ensures.name
+    (ap (option_map vec_capacity) c.create.ensures.buffer)

@@ -1,0 +1,14 @@
+use Rattle.std.proofs.Common.{sym, subst, ◌∙◌, ap}
+use Rattle.vl_disk.specs.Disk.{Lists}
+use Rattle.vl_disk.specs.Entry.{standing_names}
+use Rattle.vl_disk.specs.Event.{state_after, told_of}
+use Rattle.vl_disk.proofs.Listed.{lists}
+use Rattle.vl_disk.proofs.Told.{some_state}
+use Rattle.vl_disk.proofs.mem_disk.MemDiskDisk.list.Goals as goal
+
+pub returns-clause-names : goal.returns-clause-names
+returns-clause-names c disk is =
+    let m = c.args.self.now in
+    let listed = lists m.entries.items (told_of m.events.items m.plan.calls) m.distinct m.has_bytes in
+    let told = subst (λ d. Lists (standing_names m.entries.items) d) (some_state (told_of m.events.items m.plan.calls) disk is) listed in
+    subst (λ ns. Lists ns disk) (sym (c.in_ok-names_of.ensures ∙ ap standing_names c.deref.ensures.value)) told

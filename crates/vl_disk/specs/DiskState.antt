@@ -1,0 +1,100 @@
+-- What a disk holds, and what each call does to it.
+use Rattle.std.specs.Prelude.{◌≡◌, ℕ, ◌+◌, ◌-◌, ◌^◌, ◌≤◌, min, Bool, true, false, List, [], ◌∷◌, ◌++◌, length, take, Option, None, Some, unwrap_or, IsTrue}
+use Rattle.std.specs.Option.{option_map}
+use Rattle.std.specs.FinMap.{FinMap, get, empty, insert, remove}
+use Rattle.vl_disk.specs.declared.name.Name.{Name}
+use Rattle.vl_disk.specs.Name.{name_cmp}
+
+-- a piece that was handed to `append`, whole, and the place in the file at which it was to stand
+pub record Piece : Type 0 where
+  pub place : ℕ
+  pub bytes : List ℕ
+
+pub record File : Type 0 where
+  -- what a read gives
+  pub bytes : List ℕ
+  -- how many of them are durable, whatever was asked for since
+  pub synced : ℕ
+  -- nothing was asked for since the last sync that answered Ok, or since the disk was started
+  pub wholly_synced : Bool
+  -- it was synced once, or stood when the disk was started
+  pub lasting : Bool
+  -- the pieces handed to `append` since the last sync that answered Ok
+  pub due : List Piece
+
+abbrev pub Files : Type 0
+Files = FinMap name_cmp File
+
+pub record DiskState : Type 0 where
+  pub standing : Files
+  -- the files removed since the disk was started that were not created again, as they last were
+  pub removed : Files
+  -- how many changing calls were asked for: create, append, sync, cut and remove, failed ones too
+  pub calls : ℕ
+
+-- a disk on which nothing ever stood
+abbrev pub empty_disk : DiskState
+empty_disk = record { standing = empty; removed = empty; calls = 0 }
+
+-- a changing call was asked for; the count stands still at its last value
+abbrev pub counted : DiskState → DiskState
+counted disk = record disk { calls = min (disk.calls + 1) (2 ^ 64 - 1) }
+
+-- a file as `create` makes it
+abbrev pub new_file : File
+new_file = record { bytes = []; synced = 0; wholly_synced = false; lasting = false; due = [] }
+
+-- a file of these bytes as a sync leaves it, or as it stands when the disk is started
+abbrev pub settled : List ℕ → File
+settled bytes = record { bytes = bytes; synced = length bytes; wholly_synced = true; lasting = true; due = [] }
+
+-- the file that stands under this name
+abbrev pub file_at : DiskState → Name → File
+file_at disk name = unwrap_or (get disk.standing name) new_file
+
+-- the files with this one under this name, if there is one
+abbrev pub placed : Name → Option File → Files → Files
+placed name None files = files
+placed name (Some file) files = insert files name file
+
+-- the file that stands under this name is changed; where none stands, nothing is
+abbrev pub with_file : Name → (File → File) → DiskState → DiskState
+with_file name change disk = record disk { standing = placed name (option_map change (get disk.standing name)) disk.standing }
+
+-- what is durable stands in the file, and a wholly synced file is as a sync leaves it
+pub record IsLawfulFile (file : File) : Type 0 where
+  pub within : file.synced ≤ length file.bytes
+  pub as_synced : IsTrue file.wholly_synced → file ≡ settled file.bytes
+
+-- what is so of each disk
+pub record IsLawful (disk : DiskState) : Type 0 where
+  pub standing : (name : Name) (file : File) → get disk.standing name ≡ Some file → IsLawfulFile file
+  pub removed : (name : Name) (file : File) → get disk.removed name ≡ Some file → IsLawfulFile file
+  pub apart : (name : Name) (file : File) → get disk.standing name ≡ Some file → get disk.removed name ≡ None
+
+-- a file to which a piece was handed, and which took so many bytes of it
+abbrev pub lengthened : List ℕ → ℕ → File → File
+lengthened piece taken file = record file {
+  bytes = file.bytes ++ take taken piece;
+  wholly_synced = false;
+  due = file.due ++ record { place = length file.bytes; bytes = piece } ∷ [];
+}
+
+-- a file cut to a length
+abbrev pub shortened : ℕ → File → File
+shortened len file = record file { bytes = take len file.bytes; synced = min len file.synced; wholly_synced = false }
+
+abbrev pub created : Name → DiskState → DiskState
+created name disk = record disk { standing = insert disk.standing name new_file; removed = remove disk.removed name }
+
+abbrev pub appended : Name → List ℕ → ℕ → DiskState → DiskState
+appended name piece taken disk = with_file name (lengthened piece taken) disk
+
+abbrev pub synced : Name → DiskState → DiskState
+synced name disk = with_file name (λ file. settled file.bytes) disk
+
+abbrev pub cut_to : Name → ℕ → DiskState → DiskState
+cut_to name len disk = with_file name (shortened len) disk
+
+abbrev pub without : Name → DiskState → DiskState
+without name disk = record disk { standing = remove disk.standing name; removed = placed name (get disk.standing name) disk.removed }

@@ -1,0 +1,44 @@
+-- What the calls of a disk in memory made of it, one after the other.
+use Rattle.std.specs.Prelude.{◌≡◌, ℕ, ◌≤◌, List, [], ◌∷◌, ◌++◌, length, take}
+use Rattle.std.proofs.Common.{refl}
+use Rattle.vl_disk.specs.declared.mem_disk.event.Event.{Event}
+use Rattle.vl_disk.specs.declared.mem_disk.event.Event.TheVariants.{Create, Append, Refuse, Sync}
+use Rattle.vl_disk.specs.DiskState.{DiskState, IsLawful, empty_disk, created, appended, synced}
+use Rattle.vl_disk.specs.Lawful.{empty_lawful, created_lawful, appended_lawful, synced_lawful}
+use Rattle.vl_disk.specs.Crash.{Image, MayLeave}
+
+abbrev pub after_event : Event → DiskState → DiskState
+after_event (Create name) disk = created name disk
+after_event (Append name piece) disk = appended name piece.items (length piece.items) disk
+after_event (Refuse name piece) disk = appended name piece.items 0 disk
+after_event (Sync name) disk = synced name disk
+
+abbrev pub replayed : List Event → DiskState → DiskState
+replayed [] disk = disk
+replayed (event ∷ events) disk = replayed events (after_event event disk)
+
+pub replayed-push : (events : List Event) (event : Event) (disk : DiskState) → replayed (events ++ event ∷ []) disk ≡ after_event event (replayed events disk)
+replayed-push [] event disk = refl
+replayed-push (e ∷ events) event disk = replayed-push events event (after_event e disk)
+
+event_lawful : (event : Event) (disk : DiskState) → IsLawful disk → IsLawful (after_event event disk)
+event_lawful (Create name) disk lawful = created_lawful disk lawful name
+event_lawful (Append name piece) disk lawful = appended_lawful disk lawful name piece.items (length piece.items)
+event_lawful (Refuse name piece) disk lawful = appended_lawful disk lawful name piece.items 0
+event_lawful (Sync name) disk lawful = synced_lawful disk lawful name
+
+pub replayed_lawful : (events : List Event) (disk : DiskState) → IsLawful disk → IsLawful (replayed events disk)
+replayed_lawful [] disk lawful = lawful
+replayed_lawful (event ∷ events) disk lawful = replayed_lawful events (after_event event disk) (event_lawful event disk lawful)
+
+-- what is there now
+abbrev pub state_after : List Event → DiskState
+state_after events = replayed events empty_disk
+
+-- a crash at some moment from t on may have left this
+abbrev pub LeftSince : List Event → ℕ → Image → Type 0
+LeftSince events t image = (k : ℕ) × (t ≤ k) × (k ≤ length events) × MayLeave (state_after (take k events)) image
+
+-- what a disk in memory tells: that, and how many calls were asked for
+abbrev pub told_of : List Event → ℕ → DiskState
+told_of events calls = record (state_after events) { calls = calls }

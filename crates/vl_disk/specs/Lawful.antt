@@ -1,0 +1,82 @@
+-- Each call keeps a disk lawful.
+use Rattle.std.specs.Prelude.{◌≡◌, ◌≢◌, ◌⊎◌, ℕ, ◌≤◌, Bool, true, false, List, [], ◌∷◌, ◌++◌, length, take, Option, None, Some, IsTrue}
+use Rattle.std.specs.Option.{option_map}
+use Rattle.std.specs.FinMap.{FinMap, get, empty, insert, remove, get-empty}
+use Rattle.std.proofs.Common.{inl, inr, ⊎_elim, refl, sym, ◌∙◌, ap, subst, arith, length-append}
+use Rattle.vl_disk.specs.declared.name.Name.{Name}
+use Rattle.vl_disk.specs.Name.{name_cmp}
+use Rattle.vl_disk.specs.NameMap.{same_or_other, get_inserted, get_inserted_other, get_removed, get_removed_other}
+use Rattle.vl_disk.specs.DiskState.{File, Files, DiskState, IsLawfulFile, IsLawful, empty_disk, new_file, settled, lengthened, placed, with_file, created, appended, synced}
+
+-- each file of a map is lawful
+AllLawful : Files → Type 0
+AllLawful files = (name : Name) (file : File) → get files name ≡ Some file → IsLawfulFile file
+
+none_some : {X : Type 0} (x : X) → None ≡ Some x → ⊥
+none_some x e = cc
+
+false_true : false ≡ true → ⊥
+false_true e = cc
+
+some_same : {X : Type 0} (x y : X) → Some x ≡ Some y → x ≡ y
+some_same x y e = cc
+
+pub empty_lawful : IsLawful empty_disk
+empty_lawful = record {
+  standing = λ name file e. absurd (none_some file (sym (get-empty name_cmp name) ∙ e));
+  removed = λ name file e. absurd (none_some file (sym (get-empty name_cmp name) ∙ e));
+  apart = λ name file e. get-empty name_cmp name;
+}
+
+pub new_file_lawful : IsLawfulFile new_file
+new_file_lawful = record { within = omega arith; as_synced = λ whole. absurd (false_true whole) }
+
+pub settled_lawful : (bytes : List ℕ) → IsLawfulFile (settled bytes)
+settled_lawful bytes = record { within = omega arith; as_synced = λ whole. refl }
+
+pub lengthened_lawful : (piece : List ℕ) (taken : ℕ) (file : File) → IsLawfulFile file → IsLawfulFile (lengthened piece taken file)
+lengthened_lawful piece taken file lawful = record {
+  within = omega (arith, lawful.within, length-append file.bytes (take taken piece));
+  as_synced = λ whole. absurd (false_true whole);
+}
+
+module _ (disk : DiskState) (lawful : IsLawful disk) (name : Name) where
+  pub created_lawful : IsLawful (created name disk)
+  created_lawful = record {
+    standing = λ q file e. ⊎_elim
+        (λ (same : q ≡ name). subst IsLawfulFile (some_same new_file file (sym (get_inserted disk.standing name new_file) ∙ sym (ap (get (insert disk.standing name new_file)) same) ∙ e)) new_file_lawful)
+        (λ (other : q ≢ name). lawful.standing q file (sym (get_inserted_other disk.standing name new_file q other) ∙ e))
+        (same_or_other q name);
+    removed = λ q file e. ⊎_elim
+        (λ (same : q ≡ name). absurd (none_some file (sym (get_removed disk.removed name) ∙ sym (ap (get (remove disk.removed name)) same) ∙ e)))
+        (λ (other : q ≢ name). lawful.removed q file (sym (get_removed_other disk.removed name q other) ∙ e))
+        (same_or_other q name);
+    apart = λ q file e. ⊎_elim
+        (λ (same : q ≡ name). ap (get (remove disk.removed name)) same ∙ get_removed disk.removed name)
+        (λ (other : q ≢ name). get_removed_other disk.removed name q other ∙ lawful.apart q file (sym (get_inserted_other disk.standing name new_file q other) ∙ e))
+        (same_or_other q name);
+  }
+
+  -- of a change that keeps a file lawful
+  pub with_file_lawful : (change : File → File) → ((file : File) → IsLawfulFile file → IsLawfulFile (change file)) → IsLawful (with_file name change disk)
+  with_file_lawful change keeps = at_file (get disk.standing name) refl
+    where
+      at_file : (stands : Option File) → get disk.standing name ≡ stands → IsLawful (record disk { standing = placed name (option_map change stands) disk.standing })
+      at_file None e = lawful
+      at_file (Some old) e = record {
+        standing = λ q file is. ⊎_elim
+            (λ (same : q ≡ name). subst IsLawfulFile (some_same (change old) file (sym (get_inserted disk.standing name (change old)) ∙ sym (ap (get (insert disk.standing name (change old))) same) ∙ is)) (keeps old (lawful.standing name old e)))
+            (λ (other : q ≢ name). lawful.standing q file (sym (get_inserted_other disk.standing name (change old) q other) ∙ is))
+            (same_or_other q name);
+        removed = lawful.removed;
+        apart = λ q file is. ⊎_elim
+            (λ (same : q ≡ name). ap (get disk.removed) same ∙ lawful.apart name old e)
+            (λ (other : q ≢ name). lawful.apart q file (sym (get_inserted_other disk.standing name (change old) q other) ∙ is))
+            (same_or_other q name);
+      }
+
+  pub appended_lawful : (piece : List ℕ) (taken : ℕ) → IsLawful (appended name piece taken disk)
+  appended_lawful piece taken = with_file_lawful (lengthened piece taken) (lengthened_lawful piece taken)
+
+  pub synced_lawful : IsLawful (synced name disk)
+  synced_lawful = with_file_lawful (λ file. settled file.bytes) (λ file _. settled_lawful file.bytes)

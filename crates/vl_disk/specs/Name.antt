@@ -1,0 +1,42 @@
+-- The names of a disk's files, and their order.
+use Rattle.std.specs.Prelude.{◌≡◌, ℕ, ◌+◌, ◌*◌}
+use Rattle.std.specs.declared.cmp.Ordering.{Ordering}
+use Rattle.std.specs.Ordering.{nat_cmp}
+use Rattle.std.specs.Cmp.{IsTotalOrder, nat_cmp_total}
+use Rattle.std.specs.FinMap.{IsAntisymmetric, nat_cmp-IsAntisymmetric}
+use Rattle.std.proofs.Common.{ap, arith}
+use Rattle.vl_disk.specs.declared.name.Name.{Name}
+use Rattle.vl_disk.specs.declared.name.Name.TheVariants.{Log, Table, Manifest}
+
+-- a number of its own for each name
+abbrev pub name_number : Name → ℕ
+name_number (Log number) = 3 * number
+name_number (Table number) = 3 * number + 1
+name_number (Manifest number) = 3 * number + 2
+
+-- the order of names in finite maps
+abbrev pub name_cmp : Name → Name → Ordering
+name_cmp a b = nat_cmp (name_number a) (name_number b)
+
+pub name_cmp_total : IsTotalOrder name_cmp
+name_cmp_total = record {
+  antisymm = λ a b. nat_cmp_total.antisymm (name_number a) (name_number b);
+  trans = λ a b c. nat_cmp_total.trans (name_number a) (name_number b) (name_number c);
+  congr = λ a b c. nat_cmp_total.congr (name_number a) (name_number b) (name_number c);
+}
+
+-- names of one number are the same name
+pub same_name : (a b : Name) → name_number a ≡ name_number b → a ≡ b
+same_name (Log m) (Log n) e = let same : m ≡ n = omega arith in ap Log same
+same_name (Table m) (Table n) e = let same : m ≡ n = omega arith in ap Table same
+same_name (Manifest m) (Manifest n) e = let same : m ≡ n = omega arith in ap Manifest same
+same_name (Log m) (Table n) e = absurd (omega arith)
+same_name (Log m) (Manifest n) e = absurd (omega arith)
+same_name (Table m) (Log n) e = absurd (omega arith)
+same_name (Table m) (Manifest n) e = absurd (omega arith)
+same_name (Manifest m) (Log n) e = absurd (omega arith)
+same_name (Manifest m) (Table n) e = absurd (omega arith)
+
+-- so a map is known by what it has at each name
+pub name_cmp_exact : IsAntisymmetric name_cmp
+name_cmp_exact a b tied = same_name a b (nat_cmp-IsAntisymmetric (name_number a) (name_number b) tied)

@@ -1,0 +1,103 @@
+ghost use Rattle.std.specs.Prelude.{◌≡◌, ◌⊎◌, ℕ, ◌≤◌, List, length, Option, Some, IsTrue, IfOk, OnOk, OnErr, IsErr, IsErrOf};
+ghost use Rattle.std.specs.Option.{ForSome};
+ghost use Rattle.vl_disk.specs.declared.name.Name.{Name};
+ghost use Rattle.vl_disk.specs.DiskState.{DiskState, IsLawful, file_at, created, appended, synced};
+ghost use Rattle.vl_disk.specs.Crash.{Image, MayLeave, WhileCreating, WhileAppending};
+ghost use Rattle.vl_disk.specs.Moments.{Elapses};
+ghost use Rattle.vl_disk.specs.Disk.{Stands, IsFree, Lists, Turns, Leaves, HasCause, Spare, IsReady, CanAppend, SameSpare, SameSpareElsewhere, UsesChange, UsesAppend};
+
+use crate::{Failed, ListFail, Name, NoMemory};
+use std::alloc::Global;
+
+/// A disk of named files, which only grow, and which a sync makes durable.
+pub trait Disk {
+    /// What it holds. A disk that doesn't tell it claims nothing of its bytes.
+    ghost told: { Self → Option DiskState };
+
+    /// The moment, as a number that never falls.
+    ghost moment: { Self → ℕ };
+
+    /// What a crash at some moment from that one on may have left, during a call or between two.
+    ghost images_since: { Self → ℕ → Image → Type 0 };
+
+    /// How often it has failed. The count never falls.
+    ghost faults: { Self → ℕ };
+
+    /// The room that `ready` made, by name.
+    ghost spare: { Self → Name → Spare };
+
+    /// The names of the files that stand.
+    fn list(&mut self, alloc: Global) -> Result<Vec<Name>, ListFail>
+        ensures names { IfOk result (λ names. ForSome (told self.old) (Lists names.items)) }
+        ensures told { told self.new ≡ told self.old }
+        ensures time { Elapses (moment self.old) (moment self.new) (images_since self.old) (images_since self.new)
+            (Leaves (told self.old) MayLeave) }
+        ensures cause { HasCause (faults self.old) (faults self.new) (IsErrOf result ListFail.Failed) }
+        ensures spare { SameSpare (spare self.old) (spare self.new) };
+
+    /// The length of a file in bytes.
+    fn size(&mut self, name: Name) -> Result<u64, Failed>
+        requires { ForSome (told self.old) (Stands name) }
+        ensures size { IfOk result (λ size. ForSome (told self.old) (λ disk. size ≡ length (file_at disk name).bytes)) }
+        ensures told { told self.new ≡ told self.old }
+        ensures time { Elapses (moment self.old) (moment self.new) (images_since self.old) (images_since self.new)
+            (Leaves (told self.old) MayLeave) }
+        ensures cause { HasCause (faults self.old) (faults self.new) (IsErr result) }
+        ensures spare { SameSpare (spare self.old) (spare self.new) };
+
+    /// Makes room. Afterwards `create` of this name, one append to it of at most so many bytes, and the syncs
+    /// after them want no memory.
+    fn ready(&mut self, name: Name, bytes: u64) -> Result<(), NoMemory>
+        ensures ready { OnOk result (IsReady bytes (spare self.new name)) }
+        ensures elsewhere { SameSpareElsewhere name (spare self.old) (spare self.new) }
+        ensures refused { OnErr result (SameSpare (spare self.old) (spare self.new)) }
+        ensures told { told self.new ≡ told self.old }
+        ensures time { Elapses (moment self.old) (moment self.new) (images_since self.old) (images_since self.new)
+            (Leaves (told self.old) MayLeave) }
+        ensures faults { faults self.old ≤ faults self.new };
+
+    /// Makes an empty file. If it fails, the file may stand or not.
+    fn create(&mut self, name: Name) -> Result<(), Failed>
+        requires free { ForSome (told self.old) (IsFree name) }
+        requires room { IsTrue (spare self.old name).change }
+        ensures created { OnOk result (Turns (created name) (told self.old) (told self.new)) }
+        ensures failed { OnErr result (Turns (λ disk. disk) (told self.old) (told self.new)
+            ⊎ Turns (created name) (told self.old) (told self.new)) }
+        ensures time { Elapses (moment self.old) (moment self.new) (images_since self.old) (images_since self.new)
+            (Leaves (told self.old) (WhileCreating name)) }
+        ensures cause { HasCause (faults self.old) (faults self.new) (IsErr result) }
+        ensures spare { UsesChange name (spare self.old) (spare self.new) };
+
+    /// Puts a piece behind the end of a file. If it fails, the file has taken some first bytes of the piece.
+    fn append(&mut self, name: Name, piece: &[u8]) -> Result<(), Failed>
+        requires stands { ForSome (told self.old) (Stands name) }
+        requires room { CanAppend (length piece.now) (spare self.old name) }
+        ensures appended { OnOk result (Turns (appended name piece.now (length piece.now)) (told self.old) (told self.new)) }
+        ensures failed { OnErr result ((taken : ℕ) × (taken ≤ length piece.now)
+            × Turns (appended name piece.now taken) (told self.old) (told self.new)) }
+        ensures time { Elapses (moment self.old) (moment self.new) (images_since self.old) (images_since self.new)
+            (Leaves (told self.old) (WhileAppending name piece.now)) }
+        ensures cause { HasCause (faults self.old) (faults self.new) (IsErr result) }
+        ensures spare { UsesAppend name (spare self.old) (spare self.new) };
+
+    /// Makes a file durable. After it a crash leaves what a read gives. If it fails, nothing more is durable.
+    fn sync(&mut self, name: Name) -> Result<(), Failed>
+        requires { ForSome (told self.old) (Stands name) }
+        ensures synced { OnOk result (Turns (synced name) (told self.old) (told self.new)) }
+        ensures failed { OnErr result (Turns (λ disk. disk) (told self.old) (told self.new)) }
+        ensures time { Elapses (moment self.old) (moment self.new) (images_since self.old) (images_since self.new)
+            (Leaves (told self.old) MayLeave) }
+        ensures cause { HasCause (faults self.old) (faults self.new) (IsErr result) }
+        ensures spare { SameSpare (spare self.old) (spare self.new) };
+
+    /// What it tells is lawful.
+    ghost lawful: { (disk : Self) (state : DiskState) → told disk ≡ Some state → IsLawful state };
+
+    /// This moment is one of those since an earlier one.
+    ghost counts_now: { (disk : Self) (state : DiskState) (t : ℕ) (image : Image)
+        → told disk ≡ Some state → t ≤ moment disk → MayLeave state image → images_since disk t image };
+
+    /// Since this moment there is no other.
+    ghost only_now: { (disk : Self) (state : DiskState) (image : Image)
+        → told disk ≡ Some state → images_since disk (moment disk) image → MayLeave state image };
+}
