@@ -1,25 +1,22 @@
 -- What is read is explained by the history: while one thing is open at a time, it was opened at the last commit, so
 -- that nothing that it has read was changed since.
-use Rattle.std.proofs.Common.{◌≡◌, ◌≢◌, ◌+◌, ◌-◌, ◌*◌, ◌<◌, ◌≤◌, ◌⊎◌, inl, inr, ℕ, List, [], ◌∷◌, ◌++◌, length, take, refl, ap, sym, ◌∙◌, cond, Bool, true, false, not, arith, subst, zero-le}
-use Rattle.std.proofs.lemmas.Grind.{common_steps}
+use Rattle.std.proofs.Common.{◌≡◌, ◌+◌, ◌-◌, ◌<◌, ◌≤◌, ◌⊎◌, inl, inr, ℕ, List, [], ◌∷◌, ◌++◌, length, refl, ap, sym, ◌∙◌, cond, Bool, true, false, not, arith, subst, zero-le}
 use Rattle.std.proofs.lemmas.Bool.Decides.{nat_tests}
 use Rattle.std.proofs.lemmas.List.{take-append-le}
-use Rattle.std.specs.Prelude.{Option, Some, None, ◌==◌, ◌&&◌, nat_le, is_some, option_and_then}
-use Rattle.std.specs.List.{AllByRecursion}
+use Rattle.std.specs.Prelude.{Option, Some, None, ◌==◌, ◌&&◌, nat_le, option_and_then}
 use Rattle.std.specs.FinMap.{FinMap, get, insert, remove, len, empty, contains_key, get-insert, get-remove, len-insert, len-remove, len-empty, empty_of_len, get-empty}
 use Rattle.std.specs.Cmp.Lexicographic.{nat_list_cmp_total}
 use Rattle.std.specs.Ordering.{eq_by_cmp}
 use Rattle.vl_model.specs.Keys.{Writes, key_cmp, is_key_length, is_value_length}
-use Rattle.vl_model.specs.History.{History, no_history, last_number, with_commit, value_at, commits_up_to, value_left}
+use Rattle.vl_model.specs.History.{History, last_number, with_commit, value_at, commits_up_to}
 use Rattle.vl_model.specs.Reads.{Read, KeyRead, RangeRead, IsExplained, IsExplainedRead}
 use Rattle.vl_model.specs.declared.change.Change.{Change}
 use Rattle.vl_model.specs.declared.change.Change.TheVariants.{Set as Put}
-use Rattle.vl_cli.specs.Sequential.{Thing, OpenTransaction, OpenView, State, Outcome, empty_store, with_thing, without_thing, opened, found, read, read_in_transaction, written, committed, after_commit, frame_length, fits_transaction, outcome, answer_to, state_after}
+use Rattle.vl_cli.specs.Sequential.{Thing, OpenTransaction, OpenView, State, Outcome, empty_store, with_thing, without_thing, opened, found, read, read_in_transaction, written, committed, after_commit, frame_length, fits_transaction, answer_to, state_after}
 use Rattle.vl_cli.specs.Script.{line_of}
-use Rattle.vl_cli.specs.Replay.{Exchange, exchanged, exchange_at, exchanges_from, and_later, is_printed, IsExplainedExchange, AreExplained}
+use Rattle.vl_cli.specs.Replay.{exchanged, exchanges_from, and_later, is_printed, IsExplainedExchange, AreExplained}
 use Rattle.vl_cli.specs.declared.script.line.Line.{Line}
 use Rattle.vl_cli.specs.declared.script.line.Line.TheVariants.{Begin, View, Get, Set, Commit}
-use Rattle.vl_cli.specs.declared.script.answer.Answer.{Answer}
 use Rattle.vl_cli.specs.declared.script.answer.Answer.TheVariants.{Number, Done, TooBig, Full, Exhausted}
 use Rattle.vl_model.specs.declared.counter.Counter.TheVariants.{Commit as CommitNumber}
 use Rattle.vl_model.specs.declared.limits.TheConstants.{MAX_COMMIT_NUMBER}

@@ -1,5 +1,5 @@
 -- Lines of bytes: the first line's end, and the lines before and behind it.
-use Rattle.std.proofs.Common.{append_assoc, append-nil, length-append, ◌≡◌, ◌≢◌, ◌+◌, ◌-◌, ◌<◌, ◌≤◌, ℕ, suc, List, [], ◌∷◌, ◌++◌, length, take, drop, refl, ap, sym, ◌∙◌, cond, Bool, true, false, not, arith, eqb, subst, one-add, add-one}
+use Rattle.std.proofs.Common.{append_assoc, append-nil, length-append, ◌≡◌, ◌≢◌, ◌+◌, ◌-◌, ◌<◌, ◌≤◌, ℕ, suc, List, [], ◌∷◌, ◌++◌, length, take, drop, refl, ap, sym, ◌∙◌, cond, Bool, true, false, not, arith, subst, one-add, add-one}
 use Rattle.std.proofs.lemmas.Grind.{common_steps}
 use Rattle.std.proofs.lemmas.List.{drop-take, drop-drop}
 use Rattle.std.proofs.lemmas.Bool.{ltb-true, ltb-false, ne_eqb}

@@ -1,9 +1,9 @@
 -- Whole runs: how a run ends at its next line, and how one goes on behind an answered line.
-use Rattle.std.proofs.Common.{append_assoc, append-nil, ◌≡◌, ◌≢◌, ◌+◌, ◌-◌, ◌^◌, ◌<◌, ◌≤◌, ℕ, suc, min, List, [], ◌∷◌, ◌++◌, length, take, drop, refl, ap, sym, ◌∙◌, Bool, true, false, arith, subst, inl, inr, ◌⊎◌, zero-le, add-one, one-add, cond}
+use Rattle.std.proofs.Common.{append_assoc, append-nil, ◌≡◌, ◌≢◌, ◌+◌, ◌-◌, ◌^◌, ◌<◌, ◌≤◌, ℕ, suc, min, List, [], ◌∷◌, ◌++◌, length, take, drop, refl, ap, sym, ◌∙◌, Bool, true, false, arith, subst, inl, inr, zero-le, one-add, cond}
 use Rattle.std.proofs.lemmas.List.{take-append-drop}
 use Rattle.std.proofs.lemmas.List.Sums.{sum_by-cons}
 use Rattle.std.proofs.lemmas.Bool.{ne_eqb}
-use Rattle.std.specs.Prelude.{Option, Some, None, codes, ◌==◌, count_by, option_and_then, unwrap_or, nat_le}
+use Rattle.std.specs.Prelude.{Option, Some, None, codes, ◌==◌, option_and_then, unwrap_or, nat_le}
 use Rattle.std.specs.Fmt.{decimal}
 use Rattle.vl_io.specs.Sink.{Takes, TakesPrefix}
 use Rattle.vl_cli.specs.Sequential.{State, answer_to, state_after}
@@ -11,8 +11,8 @@ use Rattle.vl_cli.specs.declared.script.line.Line.{Line}
 use Rattle.vl_cli.specs.declared.script.answer.Answer.{Answer}
 use Rattle.vl_cli.specs.Script.{text_of, lines_of, line_of}
 use Rattle.vl_cli.specs.Input.{HasNoLineEnd, ReadsLine}
-use Rattle.vl_cli.specs.Replay.{Exchange, exchange_at, exchanged, is_printed, exchanges_from, and_later, answers_text, line_number, bad_line, no_memory_line, read_fault_line, IsFront, ended_lines, NextPiece, next_answer, next_bad_line, next_no_memory, next_read_fault, EndsSo, Replays}
-use Rattle.vl_cli.specs.Steps.{Finishes, EndsRun, Refuses, StepsOn, GoesOn, SinkCounts, Counts}
+use Rattle.vl_cli.specs.Replay.{Exchange, exchange_at, exchanged, is_printed, exchanges_from, and_later, answers_text, line_number, bad_line, no_memory_line, read_fault_line, ended_lines, NextPiece, next_answer, next_bad_line, next_no_memory, next_read_fault, EndsSo, Replays}
+use Rattle.vl_cli.specs.Steps.{Finishes, EndsRun, StepsOn, GoesOn, SinkCounts, Counts}
 use Rattle.vl_cli.specs.declared.replayer.Replayer.{Replayer}
 use Rattle.vl_cli.specs.declared.input.lines.Next.TheVariants.{Line as WholeLine, LastLine}
 use Rattle.vl_cli.specs.declared.script.limits.TheConstants.{MAX_LINE_BYTES}

@@ -1,5 +1,5 @@
 -- What a replayer keeps, and the states that it stands for.
-use Rattle.std.proofs.Common.{min, ◌^◌, ◌≡◌, ℕ, zero, suc, ◌+◌, ◌-◌, ◌≤◌, ◌<◌, Bool, true, false, cond, ◌&&◌, not, List, [], ◌∷◌, ◌++◌, length, take, refl, ap, sym, ◌∙◌, subst, arith, IsTrue, T, inl, inr, length-append, Bor, ◌==◌}
+use Rattle.std.proofs.Common.{min, ◌^◌, ◌≡◌, ℕ, zero, suc, ◌+◌, ◌-◌, ◌≤◌, ◌<◌, Bool, true, false, cond, ◌&&◌, not, List, [], ◌∷◌, ◌++◌, length, take, refl, ap, sym, ◌∙◌, subst, arith, inl, inr, length-append, Bor, ◌==◌}
 use Rattle.vl_model.specs.declared.limits.TheConstants.{MAX_COMMIT_NUMBER}
 use Rattle.vl_cli.specs.declared.replayer.limits.TheConstants.{MAX_LOG_BYTES}
 use Rattle.vl_model.specs.declared.counter.Counter.TheVariants.{Commit as CommitNumber}
@@ -10,16 +10,15 @@ use Rattle.vl_cli.specs.declared.replayer.halt.Halt.{Halt}
 use Rattle.std.specs.List.{AllByRecursion}
 use Rattle.std.specs.Ordering.{eq_by_cmp}
 use Rattle.std.specs.Str.{bytes_eq}
-use Rattle.std.specs.Cmp.{nat_cmp_total}
 use Rattle.std.specs.Cmp.Lexicographic.{nat_list_cmp_total}
-use Rattle.std.specs.FinMap.{FinMap, get, insert, remove, empty, len, contains_key, get-insert, get-remove, get-empty, len-insert, len-empty, same_map, slice_cmp-IsAntisymmetric, nat_cmp-IsAntisymmetric}
-use Rattle.std.proofs.lemmas.Bool.{cond-true, cond-false, cases_lt, le-leb, lt-leb, eq-eqb}
+use Rattle.std.specs.FinMap.{FinMap, get, insert, remove, empty, len, get-insert, get-remove, get-empty, len-insert, len-empty, same_map, slice_cmp-IsAntisymmetric, nat_cmp-IsAntisymmetric}
+use Rattle.std.proofs.lemmas.Bool.{cond-true, cond-false, cases_lt, le-leb, lt-leb}
 use Rattle.std.proofs.lemmas.List.{take-append-le}
 use Rattle.std.proofs.lemmas.Map.Text.{is_eq-slice_cmp}
 use Rattle.std.proofs.lemmas.Slice.Eq.{bytes_eq-Decides}
 use Rattle.vl_model.specs.Keys.{Writes, key_cmp, is_key_length, is_value_length}
-use Rattle.vl_model.specs.History.{History, no_history, last_number, with_commit, value_at, value_left, newer, last_change, commits_up_to}
-use Rattle.vl_model.specs.Reads.{Read, KeyRead}
+use Rattle.vl_model.specs.History.{History, no_history, last_number, with_commit, value_at, value_left, newer, last_change}
+use Rattle.vl_model.specs.Reads.{KeyRead}
 use Rattle.vl_model.specs.declared.change.Change.{Change}
 use Rattle.vl_model.specs.declared.change.Change.TheVariants.{Set as Put, Delete}
 use Rattle.vl_model.proofs.Histories.{value_at-with_commit}
@@ -34,7 +33,7 @@ use Rattle.vl_cli.specs.declared.replayer.open.Thing.TheVariants.{Transaction, V
 use Rattle.vl_cli.specs.declared.replayer.memtable.Memtable.{Memtable}
 use Rattle.vl_cli.specs.declared.replayer.Replayer.{Replayer}
 use Rattle.vl_cli.specs.declared.script.answer.Answer.{Answer}
-use Rattle.vl_cli.specs.declared.script.answer.Answer.TheVariants.{Done, Number, Found, NoValue, Taken, Unknown, ReadOnly, Invalid, TooBig, TooMany, Nothing, Full, Exhausted}
+use Rattle.vl_cli.specs.declared.script.answer.Answer.TheVariants.{Done, Number, Taken, Invalid, TooBig, TooMany, Nothing, Full, Exhausted}
 
 -- ---- one thing in use
 

@@ -1,5 +1,5 @@
 -- A run under way: what was printed so far, before what a run over the rest prints, is a run over the whole input.
-use Rattle.std.proofs.Common.{append_assoc, ◌≡◌, ◌+◌, ℕ, List, [], ◌++◌, refl, sym, subst, arith, length}
+use Rattle.std.proofs.Common.{append_assoc, ◌≡◌, ◌+◌, ℕ, List, [], ◌++◌, sym, subst, arith}
 use Rattle.std.specs.Prelude.{Option, Some, None}
 use Rattle.vl_disk.specs.Faults.{Rose}
 use Rattle.vl_io.specs.Sink.{Takes}

@@ -1,6 +1,6 @@
 -- The list of what a transaction has written, and the map that it stands for.
-use Rattle.std.proofs.Common.{◌*◌, ◌≡◌, ℕ, zero, suc, ◌+◌, ◌-◌, ◌≤◌, ◌<◌, Bool, true, false, cond, ◌&&◌, List, [], ◌∷◌, length, refl, ap, sym, ◌∙◌, subst, arith, IsTrue, T, Bor, slice_get, get_or, set, inl, inr}
-use Rattle.std.specs.Prelude.{Option, Some, None, is_some, nat_le, sum_by, MatchOption}
+use Rattle.std.proofs.Common.{◌*◌, ◌≡◌, ℕ, ◌+◌, ◌≤◌, ◌<◌, Bool, true, false, cond, ◌&&◌, List, [], ◌∷◌, length, refl, ap, sym, ◌∙◌, subst, arith, IsTrue, T, Bor, slice_get, get_or, set, inl, inr}
+use Rattle.std.specs.Prelude.{Option, Some, None, is_some}
 use Rattle.std.specs.Option.{option_copied}
 use Rattle.std.specs.Slice.{IsItemAt}
 use Rattle.std.specs.Str.{bytes_eq}
@@ -8,10 +8,9 @@ use Rattle.std.specs.List.{AllByRecursion, insert, prefix_len}
 use Rattle.std.specs.declared.cmp.Ordering.{Ordering}
 use Rattle.std.specs.declared.cmp.Ordering.TheVariants.{Less, Equal, Greater}
 use Rattle.std.specs.Ordering.{is_gt, is_lt, is_eq, eq_by_cmp, ordering_reverse}
-use Rattle.std.specs.Cmp.{IsTotalOrder}
 use Rattle.std.specs.Cmp.Lexicographic.{nat_list_cmp_total}
 use Rattle.std.specs.FinMap as map
-use Rattle.std.specs.FinMap.{FinMap, get, entries, len, empty, find, put, is_sorted, from_sorted, entries-from_sorted, get-from_sorted, entries-insert, same_entries_map, len-entries, len-insert, empty_of_len}
+use Rattle.std.specs.FinMap.{get, entries, len, empty, find, put, is_sorted, entries-from_sorted, get-from_sorted, entries-insert, same_entries_map, len-entries, len-insert, empty_of_len}
 use Rattle.std.specs.FinMap.Entries.{below_all, by_order, is_sorted-put}
 use Rattle.std.proofs.lemmas.Bool.{cond-true, cond-false, cases_lt, and_parts, leb-true}
 use Rattle.std.proofs.lemmas.Option.{slice_get_past}

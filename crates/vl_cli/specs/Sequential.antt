@@ -1,6 +1,6 @@
 -- The store as one thread of script lines sees it: what each line is answered, and what it leaves.
 -- Nothing here knows of memtables, logs or tables.
-use Rattle.std.specs.Prelude.{◌≡◌, ◌+◌, ◌*◌, ℕ, Bool, not, ◌&&◌, ◌==◌, nat_le, if◌then◌else◌, List, [], ◌∷◌, ◌++◌, length, sum_by, Option, Some, None}
+use Rattle.std.specs.Prelude.{◌+◌, ◌*◌, ℕ, Bool, not, ◌&&◌, ◌==◌, nat_le, if◌then◌else◌, List, [], ◌∷◌, ◌++◌, length, sum_by, Option, Some, None}
 use Rattle.std.specs.FinMap.{FinMap, get, insert, remove, entries, contains_key, len, empty}
 use Rattle.vl_model.specs.Keys.{Stored, Writes, key_cmp, is_key_length, is_value_length}
 use Rattle.vl_model.specs.History.{History, no_history, last_number, with_commit, value_at, value_left}

@@ -1,11 +1,11 @@
 -- One step of a run: what it prints, and how it leaves the store.
-use Rattle.std.specs.Prelude.{◌≡◌, ◌++◌, ◌∷◌, [], ◌≤◌, ◌+◌, ◌⊎◌, ℕ, List, Option, Some, None}
+use Rattle.std.specs.Prelude.{◌≡◌, ◌++◌, ◌∷◌, ◌⊎◌, ℕ, List, Option, Some, None}
 use Rattle.vl_disk.specs.Faults.{Rose}
 use Rattle.vl_cli.specs.Sequential.{State}
 use Rattle.vl_io.specs.Sink.{Takes}
 use Rattle.vl_cli.specs.Script.{text_of, lines_of}
 use Rattle.vl_cli.specs.Input.{HasNoLineEnd}
-use Rattle.vl_cli.specs.Replay.{Exchange, exchange_at, Replays, IsFront, NextPiece, bad_line}
+use Rattle.vl_cli.specs.Replay.{Exchange, exchange_at, Replays, IsFront}
 use Rattle.vl_cli.specs.Represents.{Represents}
 use Rattle.vl_cli.specs.declared.replayer.Replayer.{Replayer}
 use Rattle.vl_cli.specs.declared.ending.Ending.{Ending}

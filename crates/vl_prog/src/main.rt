@@ -1,10 +1,10 @@
 //! The program: the command line over the process's words and streams.
 #![tactic(auto)]
 
-use std::env;
-use std::io;
 use std::process::ExitCode;
-use vl_cli::run;
+use std::rt::Env;
+use std::{env, io};
+use vl_cli::{Ended, run};
 use vl_disk::MemDisk;
 use vl_io::{StdSink, StdSource};
 
@@ -26,6 +26,6 @@ fn main(rt: HostRuntime) -> io::Result<ExitCode> {
     let mut source = StdSource::new(rt.reader());
     let mut sink = StdSink::new(io::writer(&rt));
     let disk = MemDisk::new(rt.alloc(), Vec::new(rt.alloc()));
-    let ended = run(rt.alloc(), words.as_slice(), &mut source, &mut sink, disk);
-    Ok(ExitCode::from(ended.status))
+    let Ended { status, disk: _ } = run(rt.alloc(), words.as_slice(), &mut source, &mut sink, disk);
+    Ok(ExitCode::from(status))
 }

@@ -1,4 +1,4 @@
-use Rattle.std.proofs.Common.{◌≡◌, ◌∙◌, ℕ, List, length, subst}
+use Rattle.std.proofs.Common.{◌∙◌, ℕ, List, length, subst}
 use Rattle.vl_disk.specs.Faults.{Rose}
 use Rattle.vl_io.specs.Sink.{Takes, TakesPrefix}
 use Rattle.vl_cli.specs.Script.{lines_of}

@@ -1,4 +1,4 @@
-use Rattle.std.proofs.Common.{◌≡◌, List, ℕ, take, drop, refl, sym, inr}
+use Rattle.std.proofs.Common.{take, drop, refl, sym, inr}
 use Rattle.std.proofs.lemmas.List.{take-append-drop}
 use Rattle.vl_cli.proofs.command_line.last_line.finish.Goals as goal
 

@@ -1,4 +1,4 @@
-use Rattle.std.proofs.Common.{◌≡◌, ◌<◌, List, ℕ, length, arith, sym, ◌∙◌, ap}
+use Rattle.std.proofs.Common.{arith, sym}
 use Rattle.std.proofs.lemmas.Bool.{eqb-false}
 use Rattle.vl_cli.proofs.Lines.{read_to_end, read_all, too_long, last_line_read}
 use Rattle.vl_cli.proofs.input.lines.read_line.Goals as goal

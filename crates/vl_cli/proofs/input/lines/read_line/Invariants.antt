@@ -1,4 +1,4 @@
-use Rattle.std.proofs.Common.{◌≡◌, ◌+◌, ◌≤◌, ◌++◌, ℕ, List, length, Option, Some}
+use Rattle.std.proofs.Common.{◌≡◌, ◌+◌, ◌≤◌, ◌++◌, ℕ, List, length, Some}
 use Rattle.vl_cli.specs.Input.{HasNoLineEnd}
 use Rattle.vl_cli.proofs.input.lines.read_line.Given as goal
 

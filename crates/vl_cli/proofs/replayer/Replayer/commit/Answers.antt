@@ -1,10 +1,9 @@
-use Rattle.std.proofs.Common.{min, ◌-◌, ◌^◌, ◌≤◌, ◌<◌, ◌≡◌, ◌+◌, ◌==◌, true, false, Some, None, refl, ap, ◌∙◌, sym, subst}
+use Rattle.std.proofs.Common.{min, ◌-◌, ◌^◌, ◌≤◌, ◌<◌, ◌≡◌, ◌+◌, ◌==◌, false, Some, refl, ap, ◌∙◌, sym, subst}
 use Rattle.std.specs.Option.{option_copied}
 use Rattle.std.specs.FinMap.{get, len}
-use Rattle.vl_model.specs.Keys.{Writes}
 use Rattle.vl_cli.specs.Sequential.{committed}
 use Rattle.vl_cli.specs.declared.replayer.limits.TheConstants.{MAX_LOG_BYTES}
-use Rattle.vl_cli.specs.Represents.{thing_named, Represents, Gives}
+use Rattle.vl_cli.specs.Represents.{thing_named, Gives}
 use Rattle.vl_cli.specs.declared.replayer.open.Thing.TheVariants.{Transaction, View}
 use Rattle.vl_cli.specs.declared.script.answer.Answer.TheVariants.{Number}
 use Rattle.vl_cli.proofs.States.{unnamed, named, held_is, same_writes, gives_as, Takes, gives_nothing, gives_exhausted, longer, gives_log_full, gives_commit}

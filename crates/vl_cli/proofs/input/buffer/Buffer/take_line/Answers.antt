@@ -1,4 +1,4 @@
-use Rattle.std.proofs.Common.{◌≡◌, ◌+◌, ◌-◌, ◌<◌, ◌≤◌, ℕ, List, [], ◌∷◌, ◌++◌, length, take, drop, arith, sym, ◌∙◌, ap, subst, length-take, length-drop}
+use Rattle.std.proofs.Common.{◌≡◌, ◌+◌, ◌-◌, ℕ, List, ◌∷◌, ◌++◌, take, drop, arith, sym, ◌∙◌, ap, subst, length-take}
 use Rattle.vl_cli.proofs.Lines.{IsSplit, split_at, no_split, drop-window, empty_window}
 use Rattle.vl_cli.specs.Input.{HasNoLineEnd}
 use Rattle.vl_cli.proofs.input.buffer.Buffer.take_line.Goals as goal
