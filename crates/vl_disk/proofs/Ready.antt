@@ -1,5 +1,5 @@
 -- The entries of a disk in memory while room is made.
-use Rattle.std.proofs.Common.{◌≡◌, ◌≢◌, ◌⊎◌, inl, inr, ⊎_elim, ℕ, zero, suc, ◌+◌, ◌*◌, ◌<◌, ◌≤◌, Bool, true, false, List, [], ◌∷◌, ◌++◌, length, get_or, set, Option, None, Some, refl, sym, ◌∙◌, ap, subst, arith, length-append, sum_by, All, is_some, if◌then◌else◌, vec_capacity, Result, Ok, Err, OnOk, OnErr}
+use Rattle.std.proofs.Common.{◌≡◌, ◌≢◌, ⊎_elim, ℕ, zero, suc, ◌+◌, ◌*◌, ◌<◌, ◌≤◌, Bool, true, false, List, [], ◌∷◌, ◌++◌, length, get_or, set, Option, None, Some, refl, sym, ◌∙◌, ap, subst, arith, length-append, is_some, if◌then◌else◌, vec_capacity, Result, Ok, Err, OnOk, OnErr}
 use Rattle.std.specs.Option.{option_map}
 use Rattle.std.specs.FinMap.{get}
 use Rattle.std.proofs.lemmas.List.{length-set}
@@ -10,10 +10,10 @@ use Rattle.vl_disk.specs.declared.name.Name.{Name}
 use Rattle.vl_disk.specs.declared.mem_disk.entry.Entry.{Entry}
 use Rattle.vl_disk.specs.declared.mem_disk.event.Event.{Event}
 use Rattle.vl_disk.specs.NameMap.{same_or_other}
-use Rattle.vl_disk.specs.DiskState.{File, DiskState}
+use Rattle.vl_disk.specs.DiskState.{File}
 use Rattle.vl_disk.specs.Disk.{SameSpare}
 use Rattle.vl_disk.specs.Event.{state_after}
-use Rattle.vl_disk.specs.Entry.{Fits, slots, entry_of, IsAt, IsDistinct, HasBytes, NotesUnsynced, shown, spare_of, IsBlank, AddsNone}
+use Rattle.vl_disk.specs.Entry.{Fits, slots, entry_of, IsAt, NotesUnsynced, shown, spare_of, IsBlank, AddsNone}
 use Rattle.vl_disk.proofs.Entries.{named, named_other}
 use Rattle.vl_disk.proofs.Table.{IsInStep, was_there, fitting, fits_set, distinct_set, has_bytes_set, notes_set}
 

@@ -1,5 +1,5 @@
 -- What a disk in memory tells after a call, and what it tells of the moments of the call.
-use Rattle.std.proofs.Common.{◌≡◌, ◌⊎◌, inl, inr, ℕ, ◌+◌, ◌-◌, ◌^◌, ◌≤◌, min, List, [], ◌∷◌, ◌++◌, length, Option, Some, refl, sym, ◌∙◌, ap, subst, arith}
+use Rattle.std.proofs.Common.{◌≡◌, ℕ, ◌+◌, ◌-◌, ◌^◌, min, List, [], ◌∷◌, ◌++◌, length, Some, refl, sym, ◌∙◌, ap, subst}
 use Rattle.vl_disk.specs.declared.mem_disk.event.Event.{Event}
 use Rattle.vl_disk.specs.declared.mem_disk.event.Event.TheVariants.{Create, Append, Refuse, Sync}
 use Rattle.vl_disk.specs.DiskState.{DiskState, empty_disk, counted, synced}

@@ -14,6 +14,11 @@ pub record Agrees (file : File) (bytes : List ℕ) : Type 0 where
   pub durable : take file.synced bytes ≡ take file.synced file.bytes
   pub whole : IsTrue file.wholly_synced → bytes ≡ file.bytes
 
+-- the file that a crash may leave under one name: the one that stands there, or else the one that was removed there
+abbrev pub last_file : Option File → Option File → Option File
+last_file None removed = removed
+last_file (Some file) removed = Some file
+
 -- what may be left under one name, by the file that stands there, the one that was removed there, and what the image has there
 abbrev pub MayLeaveOne : Option File → Option File → Option (List ℕ) → Type 0
 -- a file that stands agrees with a read, or is missing if it was never synced

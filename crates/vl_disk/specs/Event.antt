@@ -4,7 +4,7 @@ use Rattle.std.proofs.Common.{refl}
 use Rattle.vl_disk.specs.declared.mem_disk.event.Event.{Event}
 use Rattle.vl_disk.specs.declared.mem_disk.event.Event.TheVariants.{Create, Append, Refuse, Sync}
 use Rattle.vl_disk.specs.DiskState.{DiskState, IsLawful, empty_disk, created, appended, synced}
-use Rattle.vl_disk.specs.Lawful.{empty_lawful, created_lawful, appended_lawful, synced_lawful}
+use Rattle.vl_disk.specs.Lawful.{created_lawful, appended_lawful, synced_lawful}
 use Rattle.vl_disk.specs.Crash.{Image, MayLeave}
 
 abbrev pub after_event : Event → DiskState → DiskState

@@ -1,3 +1,4 @@
+pub mod Chance
 pub mod Changes
 pub mod Crash
 pub mod Disk
@@ -12,3 +13,4 @@ pub mod Moments
 pub mod Name
 pub mod NameMap
 pub mod Past
+pub mod Standing

@@ -1,6 +1,6 @@
 -- What a disk in memory tells of this moment and of past ones.
 use Rattle.std.specs.Prelude.{◌≡◌, ℕ, ◌≤◌, List, length, take, Some}
-use Rattle.std.proofs.Common.{sym, ap, subst, arith}
+use Rattle.std.proofs.Common.{sym, subst, arith}
 use Rattle.std.proofs.lemmas.List.{take_all}
 use Rattle.vl_disk.specs.declared.mem_disk.event.Event.{Event}
 use Rattle.vl_disk.specs.DiskState.{DiskState, IsLawful, empty_disk}

@@ -61,6 +61,7 @@ pub trait Disk {
         requires free { ForSome (told self.old) (IsFree name) }
         requires room { IsTrue (spare self.old name).change }
         ensures created { OnOk result (Turns (created name) (told self.old) (told self.new)) }
+        ensures stands { OnOk result (ForSome (told self.new) (Stands name)) }
         ensures failed { OnErr result (Turns (λ disk. disk) (told self.old) (told self.new)
             ⊎ Turns (created name) (told self.old) (told self.new)) }
         ensures time { Elapses (moment self.old) (moment self.new) (images_since self.old) (images_since self.new)
@@ -75,6 +76,7 @@ pub trait Disk {
         ensures appended { OnOk result (Turns (appended name piece.now (length piece.now)) (told self.old) (told self.new)) }
         ensures failed { OnErr result ((taken : ℕ) × (taken ≤ length piece.now)
             × Turns (appended name piece.now taken) (told self.old) (told self.new)) }
+        ensures stands { ForSome (told self.new) (Stands name) }
         ensures time { Elapses (moment self.old) (moment self.new) (images_since self.old) (images_since self.new)
             (Leaves (told self.old) (WhileAppending name piece.now)) }
         ensures cause { HasCause (faults self.old) (faults self.new) (IsErr result) }
@@ -85,6 +87,7 @@ pub trait Disk {
         requires { ForSome (told self.old) (Stands name) }
         ensures synced { OnOk result (Turns (synced name) (told self.old) (told self.new)) }
         ensures failed { OnErr result (Turns (λ disk. disk) (told self.old) (told self.new)) }
+        ensures stands { ForSome (told self.new) (Stands name) }
         ensures time { Elapses (moment self.old) (moment self.new) (images_since self.old) (images_since self.new)
             (Leaves (told self.old) MayLeave) }
         ensures cause { HasCause (faults self.old) (faults self.new) (IsErr result) }

@@ -2,7 +2,7 @@
 // images of past moments.
 ghost use Rattle.std.specs.Prelude.{◌≡◌, ◌+◌, ◌≤◌, length, Some, All, sum_by, vec_capacity};
 ghost use Rattle.vl_disk.specs.DiskState.{empty_disk};
-ghost use Rattle.vl_disk.specs.Event.{state_after, LeftSince};
+ghost use Rattle.vl_disk.specs.Event.{state_after};
 ghost use Rattle.vl_disk.specs.Entry.{Fits, slots, IsDistinct, HasBytes, NotesUnsynced};
 ghost use Rattle.std.proofs.Props.{props};
 
@@ -54,20 +54,24 @@ impl MemDisk {
 }
 
 impl Disk for MemDisk {
-    ghost use Rattle.std.specs.Prelude.{ℕ};
-    ghost use Rattle.vl_disk.specs.Entry.{entry_of, spare_of};
-    ghost use Rattle.vl_disk.specs.Event.{told_of};
+    ghost use Rattle.std.specs.Prelude.{◌⊎◌, ℕ, OnOk, OnErr, IfOk, IsTrue, IsOk, IsErr, IsErrOf};
+    ghost use Rattle.std.specs.Option.{ForSome};
+    ghost use Rattle.vl_disk.specs.DiskState.{file_at, created, appended, synced};
+    ghost use Rattle.vl_disk.specs.Crash.{MayLeave, WhileCreating, WhileAppending};
+    ghost use Rattle.vl_disk.specs.Moments.{Elapses};
+    ghost use Rattle.vl_disk.specs.Disk.{Stands, IsFree, Lists, Turns, Leaves, HasCause, IsReady, CanAppend, SameSpare, SameSpareElsewhere, UsesChange, UsesAppend};
     ghost use Rattle.vl_disk.specs.Past.{told_lawful, counts_present, only_present};
+    ghost use Rattle.vl_disk.specs.MemDisk.{told_by, moment_of, left_since, faults_of, room_of, KeepsPlan, FollowsPlan};
 
-    ghost told = { λ m. Some (told_of m.events.items m.plan.calls) };
+    ghost told = { told_by };
 
-    ghost moment = { λ m. length m.events.items };
+    ghost moment = { moment_of };
 
-    ghost images_since = { λ m. LeftSince m.events.items };
+    ghost images_since = { left_since };
 
-    ghost faults = { λ m. m.plan.faults };
+    ghost faults = { faults_of };
 
-    ghost spare = { λ m name. spare_of (entry_of name m.entries.items) };
+    ghost spare = { room_of };
 
     ghost lawful = { λ m. told_lawful m.events.items m.plan.calls };
 
@@ -75,22 +79,69 @@ impl Disk for MemDisk {
 
     ghost only_now = { λ m. only_present m.events.items m.plan.calls };
 
-    fn list(&mut self, alloc: Global) -> Result<Vec<Name>, ListFail> {
+    fn list(&mut self, alloc: Global) -> Result<Vec<Name>, ListFail>
+        ensures names { IfOk result (λ names. ForSome (told_by self.old) (Lists names.items)) }
+        ensures told { told_by self.new ≡ told_by self.old }
+        ensures time { Elapses (moment_of self.old) (moment_of self.new) (left_since self.old) (left_since self.new)
+            (Leaves (told_by self.old) MayLeave) }
+        ensures cause { HasCause (faults_of self.old) (faults_of self.new) (IsErrOf result ListFail.Failed) }
+        ensures spare { SameSpare (room_of self.old) (room_of self.new) }
+
+        // It doesn't fail.
+        ensures plan { KeepsPlan self.old self.new }
+        ensures answers { IsErrOf result ListFail.Failed → ⊥ }
+    {
         Ok(names_of(alloc, &self.entries)?)
     }
 
-    fn size(&mut self, name: Name) -> Result<u64, Failed> {
+    fn size(&mut self, name: Name) -> Result<u64, Failed>
+        requires { ForSome (told_by self.old) (Stands name) }
+        ensures size { IfOk result (λ size. ForSome (told_by self.old) (λ disk. size ≡ length (file_at disk name).bytes)) }
+        ensures told { told_by self.new ≡ told_by self.old }
+        ensures time { Elapses (moment_of self.old) (moment_of self.new) (left_since self.old) (left_since self.new)
+            (Leaves (told_by self.old) MayLeave) }
+        ensures cause { HasCause (faults_of self.old) (faults_of self.new) (IsErr result) }
+        ensures spare { SameSpare (room_of self.old) (room_of self.new) }
+
+        // It doesn't fail.
+        ensures plan { KeepsPlan self.old self.new }
+        ensures answers { IsOk result }
+    {
         let at = place_of(&self.entries, name);
         Ok(self.entries[at].bytes.len() as u64)
     }
 
-    fn ready(&mut self, name: Name, bytes: u64) -> Result<(), NoMemory> {
+    fn ready(&mut self, name: Name, bytes: u64) -> Result<(), NoMemory>
+        ensures ready { OnOk result (IsReady bytes (room_of self.new name)) }
+        ensures elsewhere { SameSpareElsewhere name (room_of self.old) (room_of self.new) }
+        ensures refused { OnErr result (SameSpare (room_of self.old) (room_of self.new)) }
+        ensures told { told_by self.new ≡ told_by self.old }
+        ensures time { Elapses (moment_of self.old) (moment_of self.new) (left_since self.old) (left_since self.new)
+            (Leaves (told_by self.old) MayLeave) }
+        ensures faults { faults_of self.old ≤ faults_of self.new }
+        ensures plan { KeepsPlan self.old self.new }
+    {
         make_room(&mut self.events, self.entries.len() + 1)?;
         let at = entry_for(self.alloc, &mut self.entries, name)?;
         self.entries[at].make_room(self.alloc, bytes as usize)
     }
 
-    fn create(&mut self, name: Name) -> Result<(), Failed> {
+    fn create(&mut self, name: Name) -> Result<(), Failed>
+        requires free { ForSome (told_by self.old) (IsFree name) }
+        requires room { IsTrue (room_of self.old name).change }
+        ensures created { OnOk result (Turns (created name) (told_by self.old) (told_by self.new)) }
+        ensures stands { OnOk result (ForSome (told_by self.new) (Stands name)) }
+        ensures failed { OnErr result (Turns (λ disk. disk) (told_by self.old) (told_by self.new)
+            ⊎ Turns (created name) (told_by self.old) (told_by self.new)) }
+        ensures time { Elapses (moment_of self.old) (moment_of self.new) (left_since self.old) (left_since self.new)
+            (Leaves (told_by self.old) (WhileCreating name)) }
+        ensures cause { HasCause (faults_of self.old) (faults_of self.new) (IsErr result) }
+        ensures spare { UsesChange name (room_of self.old) (room_of self.new) }
+
+        // It fails exactly if it is listed, and then does nothing.
+        ensures plan { FollowsPlan self.old self.new (IsErr result) }
+        ensures nothing { OnErr result (Turns (λ disk. disk) (told_by self.old) (told_by self.new)) }
+    {
         if self.plan.fails() {
             return Err(Failed);
         }
@@ -100,7 +151,22 @@ impl Disk for MemDisk {
         Ok(())
     }
 
-    fn append(&mut self, name: Name, piece: &[u8]) -> Result<(), Failed> {
+    fn append(&mut self, name: Name, piece: &[u8]) -> Result<(), Failed>
+        requires stands { ForSome (told_by self.old) (Stands name) }
+        requires room { CanAppend (length piece.now) (room_of self.old name) }
+        ensures appended { OnOk result (Turns (appended name piece.now (length piece.now)) (told_by self.old) (told_by self.new)) }
+        ensures failed { OnErr result ((taken : ℕ) × (taken ≤ length piece.now)
+            × Turns (appended name piece.now taken) (told_by self.old) (told_by self.new)) }
+        ensures stands { ForSome (told_by self.new) (Stands name) }
+        ensures time { Elapses (moment_of self.old) (moment_of self.new) (left_since self.old) (left_since self.new)
+            (Leaves (told_by self.old) (WhileAppending name piece.now)) }
+        ensures cause { HasCause (faults_of self.old) (faults_of self.new) (IsErr result) }
+        ensures spare { UsesAppend name (room_of self.old) (room_of self.new) }
+
+        // It fails exactly if it is listed, and then takes nothing. The piece is due all the same.
+        ensures plan { FollowsPlan self.old self.new (IsErr result) }
+        ensures nothing { OnErr result (Turns (appended name piece.now 0) (told_by self.old) (told_by self.new)) }
+    {
         let at = place_of(&self.entries, name);
         if self.plan.fails() {
             let kept = self.entries[at].append(self.alloc, piece, false);
@@ -112,7 +178,19 @@ impl Disk for MemDisk {
         Ok(())
     }
 
-    fn sync(&mut self, name: Name) -> Result<(), Failed> {
+    fn sync(&mut self, name: Name) -> Result<(), Failed>
+        requires { ForSome (told_by self.old) (Stands name) }
+        ensures synced { OnOk result (Turns (synced name) (told_by self.old) (told_by self.new)) }
+        ensures failed { OnErr result (Turns (λ disk. disk) (told_by self.old) (told_by self.new)) }
+        ensures stands { ForSome (told_by self.new) (Stands name) }
+        ensures time { Elapses (moment_of self.old) (moment_of self.new) (left_since self.old) (left_since self.new)
+            (Leaves (told_by self.old) MayLeave) }
+        ensures cause { HasCause (faults_of self.old) (faults_of self.new) (IsErr result) }
+        ensures spare { SameSpare (room_of self.old) (room_of self.new) }
+
+        // It fails exactly if it is listed.
+        ensures plan { FollowsPlan self.old self.new (IsErr result) }
+    {
         if self.plan.fails() {
             return Err(Failed);
         }

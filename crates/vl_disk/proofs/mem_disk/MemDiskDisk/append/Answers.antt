@@ -1,10 +1,11 @@
-use Rattle.std.proofs.Common.{◌≡◌, ◌≤◌, ◌++◌, ℕ, List, inr, length, Some, refl, ap, sym, subst, ◌∙◌, arith, vec_capacity}
+use Rattle.std.proofs.Common.{◌++◌, inr, length, Some, refl, ap, sym, subst, ◌∙◌, arith, vec_capacity}
 use Rattle.vl_disk.specs.declared.mem_disk.event.Event.TheVariants.{Append, Refuse}
 use Rattle.vl_disk.specs.Crash.{MayLeave, WhileAppending}
-use Rattle.vl_disk.specs.DiskState.{DiskState, appended}
-use Rattle.vl_disk.specs.Disk.{Turns}
+use Rattle.vl_disk.specs.DiskState.{appended, lengthened}
+use Rattle.vl_disk.specs.Disk.{Turns, Stands}
 use Rattle.vl_disk.specs.Event.{told_of}
 use Rattle.vl_disk.specs.Entry.{IsAt}
+use Rattle.vl_disk.specs.Standing.{turned, changed_stands}
 use Rattle.vl_disk.proofs.Kept.{kept}
 use Rattle.vl_disk.proofs.Table.{has_append, appended_step, refused_step, uses_append}
 use Rattle.vl_disk.proofs.Told.{turns_by, elapses_by}
@@ -67,3 +68,18 @@ pub returns-clause-spare : goal.returns-clause-spare
 returns-clause-spare c =
     let at = subst (λ es. IsAt c.args.name es c.place_of-at.result) c.deref.ensures.value c.place_of-at.ensures.at in
     uses_append c.args.name c.args.self.now.entries.items c.place_of-at.result c.index_mut-2.result.now c.append-kept-2.new.self at c.index_mut-2.ensures.value c.append-kept-2.ensures.name c.append-kept-2.ensures.change
+
+pub returns-then-fails-clause-nothing : goal.returns-then-fails-clause-nothing
+returns-then-fails-clause-nothing c =
+    subst (λ l. Turns (appended c.args.name l 0) (Some (told_of c.args.self.now.events.items c.args.self.now.plan.calls)) (Some (told_of c.note.new.events.items c.fails.new.self.calls))) c.append-kept.ensures.piece
+    (turns_by c.args.self.now.events.items c.note.new.events.items c.args.self.now.plan.calls c.fails.new.self.calls c.fails.ensures.calls (Refuse c.args.name c.append-kept.result) c.note.ensures.items)
+
+pub returns-then-fails-clause-stands : goal.returns-then-fails-clause-stands
+returns-then-fails-clause-stands c = turned (appended c.args.name c.append-kept.result.items 0) _ _ (Stands c.args.name) (Stands c.args.name)
+    (turns_by c.args.self.now.events.items c.note.new.events.items c.args.self.now.plan.calls c.fails.new.self.calls c.fails.ensures.calls (Refuse c.args.name c.append-kept.result) c.note.ensures.items)
+    (λ disk stands. changed_stands c.args.name (lengthened c.append-kept.result.items 0) disk c.args.name stands) c.requires.stands
+
+pub returns-clause-stands : goal.returns-clause-stands
+returns-clause-stands c = turned (appended c.args.name c.append-kept-2.result.items (length c.append-kept-2.result.items)) _ _ (Stands c.args.name) (Stands c.args.name)
+    (turns_by c.args.self.now.events.items c.note-2.new.events.items c.args.self.now.plan.calls c.fails.new.self.calls c.fails.ensures.calls (Append c.args.name c.append-kept-2.result) c.note-2.ensures.items)
+    (λ disk stands. changed_stands c.args.name (lengthened c.append-kept-2.result.items (length c.append-kept-2.result.items)) disk c.args.name stands) c.requires.stands

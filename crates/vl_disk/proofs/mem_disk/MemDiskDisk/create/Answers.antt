@@ -1,8 +1,10 @@
-use Rattle.std.proofs.Common.{inr, ap, subst, vec_capacity}
+use Rattle.std.proofs.Common.{Some, inr, ap, subst, vec_capacity}
 use Rattle.std.specs.Option.{option_map}
 use Rattle.vl_disk.specs.declared.mem_disk.event.Event.TheVariants.{Create}
 use Rattle.vl_disk.specs.Crash.{WhileCreating}
 use Rattle.vl_disk.specs.Entry.{IsAt}
+use Rattle.vl_disk.specs.Event.{told_of}
+use Rattle.vl_disk.specs.Standing.{created_stands}
 use Rattle.vl_disk.proofs.Kept.{kept}
 use Rattle.vl_disk.proofs.Table.{has_change, created_step, uses_change}
 use Rattle.vl_disk.proofs.Told.{turns_by, elapses_by}
@@ -34,3 +36,7 @@ returns-clause-spare c =
     let at = subst (λ es. IsAt c.args.name es c.place_of-at.result) c.deref.ensures.value c.place_of-at.ensures.at in
     uses_change c.args.name c.args.self.now.entries.items c.place_of-at.result c.index_mut.result.now c.create.new.self at c.index_mut.ensures.value c.create.ensures.name
     (ap (option_map vec_capacity) c.create.ensures.buffer)
+
+pub returns-clause-stands : goal.returns-clause-stands
+returns-clause-stands c = created_stands c.args.name (Some (told_of c.args.self.now.events.items c.args.self.now.plan.calls)) (Some (told_of c.note.new.events.items c.fails.new.self.calls))
+    (turns_by c.args.self.now.events.items c.note.new.events.items c.args.self.now.plan.calls c.fails.new.self.calls c.fails.ensures.calls (Create c.args.name) c.note.ensures.items)

@@ -1,7 +1,7 @@
 use Rattle.std.proofs.Common.{sym, subst, ◌∙◌, ap}
 use Rattle.vl_disk.specs.Disk.{Lists}
 use Rattle.vl_disk.specs.Entry.{standing_names}
-use Rattle.vl_disk.specs.Event.{state_after, told_of}
+use Rattle.vl_disk.specs.Event.{told_of}
 use Rattle.vl_disk.proofs.Listed.{lists}
 use Rattle.vl_disk.proofs.Told.{some_state}
 use Rattle.vl_disk.proofs.mem_disk.MemDiskDisk.list.Goals as goal

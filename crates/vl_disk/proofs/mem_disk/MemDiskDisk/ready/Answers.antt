@@ -1,4 +1,4 @@
-use Rattle.std.proofs.Common.{◌≡◌, ◌+◌, ◌*◌, ◌≤◌, Some, Ok, Err, refl, sym, subst, ◌∙◌, ap, length, arith, vec_capacity}
+use Rattle.std.proofs.Common.{◌≡◌, ◌+◌, ◌*◌, ◌≤◌, Some, refl, sym, subst, ◌∙◌, length, arith, vec_capacity}
 use Rattle.vl_disk.specs.Crash.{MayLeave}
 use Rattle.vl_disk.specs.Disk.{Leaves, IsReady}
 use Rattle.vl_disk.specs.Event.{told_of}

@@ -1,5 +1,5 @@
-use Rattle.std.proofs.Common.{refl, sym, subst, ap, ◌∙◌, length, IsSome, Some}
-use Rattle.vl_disk.specs.DiskState.{DiskState, file_at}
+use Rattle.std.proofs.Common.{refl, sym, subst, ap, ◌∙◌, length, IsSome}
+use Rattle.vl_disk.specs.DiskState.{file_at}
 use Rattle.vl_disk.specs.Entry.{IsAt, entry_of}
 use Rattle.vl_disk.specs.Event.{state_after, told_of}
 use Rattle.vl_disk.proofs.Table.{entry_of_file, was_there, file_there}

@@ -1,11 +1,14 @@
-use Rattle.std.proofs.Common.{refl, sym, subst, ap, ◌∙◌, IsSome, Some, vec_capacity}
+use Rattle.std.proofs.Common.{refl, sym, subst, IsSome, vec_capacity}
 use Rattle.vl_disk.specs.declared.mem_disk.event.Event.TheVariants.{Sync}
 use Rattle.vl_disk.specs.Crash.{MayLeave}
 use Rattle.vl_disk.specs.Entry.{IsAt, entry_of}
-use Rattle.vl_disk.specs.Event.{state_after, told_of}
+use Rattle.vl_disk.specs.Event.{state_after}
+use Rattle.vl_disk.specs.DiskState.{settled, synced}
+use Rattle.vl_disk.specs.Disk.{Stands}
+use Rattle.vl_disk.specs.Standing.{turned, changed_stands}
 use Rattle.vl_disk.proofs.Kept.{kept}
 use Rattle.vl_disk.proofs.Table.{entry_of_file, was_there, already_synced, synced_step, same_spare}
-use Rattle.vl_disk.proofs.Told.{turns_by, turns_still, elapses_by}
+use Rattle.vl_disk.proofs.Told.{turns_by, turns_same, turns_still, elapses_by}
 use Rattle.vl_disk.specs.Laws.{sync_leaves}
 use Rattle.vl_disk.proofs.mem_disk.MemDiskDisk.sync.Goals as goal
 
@@ -42,3 +45,16 @@ pub returns-clause-spare : goal.returns-clause-spare
 returns-clause-spare c =
     let at = subst (λ es. IsAt c.args.name es c.place_of-at.result) c.deref.ensures.value c.place_of-at.ensures.at in
     same_spare c.args.name c.args.self.now.entries.items c.place_of-at.result c.index_mut.result.now c.sync.new.self at c.index_mut.ensures.value c.sync.ensures.name c.sync.ensures.spare
+
+pub returns-then-fails-clause-stands : goal.returns-then-fails-clause-stands
+returns-then-fails-clause-stands c = turned (λ disk. disk) _ _ (Stands c.args.name) (Stands c.args.name)
+    (turns_same c.args.self.now.events.items c.args.self.now.events.items c.args.self.now.plan.calls c.fails.new.self.calls c.fails.ensures.calls refl) (λ disk stands. stands) c.requires
+
+pub returns-then-not-index-clause-stands : goal.returns-then-not-index-clause-stands
+returns-then-not-index-clause-stands c = turned (λ disk. disk) _ _ (Stands c.args.name) (Stands c.args.name)
+    (turns_same c.args.self.now.events.items c.args.self.now.events.items c.args.self.now.plan.calls c.fails.new.self.calls c.fails.ensures.calls refl) (λ disk stands. stands) c.requires
+
+pub returns-clause-stands : goal.returns-clause-stands
+returns-clause-stands c = turned (synced c.args.name) _ _ (Stands c.args.name) (Stands c.args.name)
+    (turns_by c.args.self.now.events.items c.note.new.events.items c.args.self.now.plan.calls c.fails.new.self.calls c.fails.ensures.calls (Sync c.args.name) c.note.ensures.items)
+    (λ disk stands. changed_stands c.args.name (λ file. settled file.bytes) disk c.args.name stands) c.requires
