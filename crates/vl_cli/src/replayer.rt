@@ -10,6 +10,7 @@ ghost use Rattle.vl_cli.specs.Represents.{Represents, Gives, StandsFor, thing_na
 
 mod entry;
 mod halt;
+mod laws;
 mod limits;
 mod memtable;
 mod open;
@@ -18,6 +19,7 @@ mod writes;
 use crate::script::{Answer, Ident, Line};
 use entry::Entry;
 pub use halt::Halt;
+pub use laws::reads_are_noted;
 use limits::LOG_HEADER_BYTES;
 pub use limits::{MAX_LOG_BYTES, MAX_OPEN};
 use memtable::Memtable;

@@ -43,14 +43,14 @@ module _ (disk : DiskState) (image : Image) (may : MayLeave disk image) (name : 
   pub with_bytes : (bytes : List ℕ) → MayLeaveOne (get disk.standing name) (get disk.removed name) (Some bytes) → MayLeave disk (insert image name bytes)
   with_bytes bytes one q = ⊎_elim
       (λ (same : q ≡ name). subst (λ (n : Name). MayLeaveOne (get disk.standing n) (get disk.removed n) (get (insert image name bytes) n)) (sym same)
-        (subst (MayLeaveOne (get disk.standing name) (get disk.removed name)) (sym (get_inserted image name bytes)) one))
+      (subst (MayLeaveOne (get disk.standing name) (get disk.removed name)) (sym (get_inserted image name bytes)) one))
       (λ (other : q ≢ name). subst (MayLeaveOne (get disk.standing q) (get disk.removed q)) (sym (get_inserted_other image name bytes q other)) (may q))
       (same_or_other q name)
 
   pub with_none : MayLeaveOne (get disk.standing name) (get disk.removed name) None → MayLeave disk (remove image name)
   with_none one q = ⊎_elim
       (λ (same : q ≡ name). subst (λ (n : Name). MayLeaveOne (get disk.standing n) (get disk.removed n) (get (remove image name) n)) (sym same)
-        (subst (MayLeaveOne (get disk.standing name) (get disk.removed name)) (sym (get_removed image name)) one))
+      (subst (MayLeaveOne (get disk.standing name) (get disk.removed name)) (sym (get_removed image name)) one))
       (λ (other : q ≢ name). subst (MayLeaveOne (get disk.standing q) (get disk.removed q)) (sym (get_removed_other image name q other)) (may q))
       (same_or_other q name)
 
