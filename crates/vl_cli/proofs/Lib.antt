@@ -1,6 +1,7 @@
 pub mod Explained
 pub mod Lines
 pub mod MemtableEntries
+pub mod Noting
 pub mod Places
 pub mod Replays
 pub mod ScriptWords

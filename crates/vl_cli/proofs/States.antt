@@ -21,7 +21,7 @@ use Rattle.vl_model.specs.History.{History, no_history, last_number, with_commit
 use Rattle.vl_model.specs.Reads.{KeyRead}
 use Rattle.vl_model.specs.declared.change.Change.{Change}
 use Rattle.vl_model.specs.declared.change.Change.TheVariants.{Set as Put, Delete}
-use Rattle.vl_model.proofs.Histories.{value_at-with_commit}
+use Rattle.vl_model.specs.HistoryLaws.{value_at-with_commit}
 use Rattle.vl_cli.specs.Memtable.{newest}
 use Rattle.vl_cli.specs.Sequential as sequential
 use Rattle.vl_cli.specs.Sequential.{State, Outcome, OpenTransaction, OpenView, with_thing, without_thing, opened, read, read_in_transaction, written, committed, frame_length, found, fits_transaction}

@@ -17,5 +17,4 @@ pub fn reads_are_noted()
     ensures own { (s : State) (name key : List ℕ) (number : ℕ) (reads : List Read) (writes : Writes) (change : Change)
         → get s.things name ≡ Some (OpenTransaction number reads writes) → get writes key ≡ Some change → state_after s (GetLine name key) ≡ s }
     ensures refused { (s : State) (name key : List ℕ) → is_key_length (length key) ≡ false → state_after s (GetLine name key) ≡ s }
-{
-}
+{}
