@@ -8,12 +8,12 @@ mod replay;
 mod tests;
 mod words;
 
-ghost use Rattle.std.specs.Prelude.{◌≡◌, ◌≢◌, ◌⊎◌, ◌<◌, ℕ, List, map, string_bytes, Some, true, false};
+ghost use Rattle.std.specs.Prelude.{◌≡◌, ◌≢◌, ◌<◌, ℕ, List, map, string_bytes, Some, true, false};
 ghost use Rattle.vl_disk.specs.Faults.{Rose};
 ghost use Rattle.vl_io.specs.Sink.{Takes};
 ghost use Rattle.vl_cli.specs.Script.{lines_of};
 ghost use Rattle.vl_cli.specs.Sequential.{empty_store};
-ghost use Rattle.vl_cli.specs.Replay.{Runs, status_of, is_plain, exchanges_from, AreExplained};
+ghost use Rattle.vl_cli.specs.Replay.{Runs, RefusesWords, status_of, is_plain, exchanges_from, AreExplained};
 ghost use Rattle.vl_cli.specs.declared.ending.Ending.{Ending as HowEnded};
 
 use crate::Ending;
@@ -41,9 +41,11 @@ pub fn run<S: Source, K: Sink, D: Disk>(
     // What was read is explained by the history at the reader's number.
     ensures explained { (input : List ℕ) → S.left source.old ≡ Some input → AreExplained (exchanges_from empty_store (lines_of input)) }
 
-    // Status 2 exactly where the words aren't plain, and then nothing is read; but what can't be printed is status 7.
+    // Status 2 exactly where the words aren't plain: then nothing is read, and the usage line is printed. Where it
+    // can't be, the status is 7.
     ensures plain { is_plain (map string_bytes words.now) ≡ true → result.status ≢ 2 }
-    ensures not_plain { is_plain (map string_bytes words.now) ≡ false → ((result.status ≡ 2) ⊎ (result.status ≡ 7)) × (source.new ≡ source.old) }
+    ensures not_plain { is_plain (map string_bytes words.now) ≡ false → (source.new ≡ source.old)
+        × ((ending : HowEnded) × (printed : List ℕ) × (result.status ≡ status_of ending) × Takes (K.held sink.old) (K.held sink.new) printed × RefusesWords ending printed) }
 
     // Statuses 6 and 7 come only by faults of the source and of the sink, and the others only without.
     ensures read_fault { result.status ≡ 6 → Rose (S.faults source.old) (S.faults source.new) }
