@@ -6,8 +6,8 @@ use Rattle.std.proofs.Common.{⊎_elim, sym, ◌∙◌, ap, subst}
 use Rattle.std.proofs.lemmas.List.{take_at, take-append-le, length-take-le}
 use Rattle.vl_disk.specs.declared.name.Name.{Name}
 use Rattle.vl_disk.specs.NameMap.{same_or_other, get_inserted, get_inserted_other, get_removed, get_removed_other}
-use Rattle.vl_disk.specs.DiskState.{File, Files, DiskState, settled, lengthened, placed, created, appended, synced, without}
-use Rattle.vl_disk.specs.Changes.{created_there, changed_there, changed_elsewhere}
+use Rattle.vl_disk.specs.DiskState.{File, Files, DiskState, IsLawful, settled, lengthened, placed, created, appended, synced, without}
+use Rattle.vl_disk.specs.Changes.{created_there, changed_there, changed_elsewhere, unchanged}
 use Rattle.vl_disk.specs.Crash.{Image, Agrees, MayLeaveOne, MayLeave}
 
 -- a file that agrees in all with a settled one agrees with what it was before the sync
@@ -37,6 +37,11 @@ sync_leaves name disk image may q = ⊎_elim
         (one_synced file (get disk.removed name) (get image name)
         (subst (λ (o : Option File). MayLeaveOne o (get disk.removed name) (get image name))
         (ap (λ (o : Option File). get (placed name (option_map (λ f. settled f.bytes) o) disk.standing) name) is ∙ get_inserted disk.standing name (settled file.bytes)) (may name)))
+
+-- a sync of a file that is wholly synced changes nothing
+pub synced_again : (name : Name) (disk : DiskState) → IsLawful disk → (file : File) → get disk.standing name ≡ Some file → IsTrue file.wholly_synced → synced name disk ≡ disk
+synced_again name disk lawful file stands whole =
+    unchanged name disk (λ f. settled f.bytes) file stands (sym ((lawful.standing name file stands).as_synced whole))
 
 -- what an image has under one name may be changed for what may be left there
 module _ (disk : DiskState) (image : Image) (may : MayLeave disk image) (name : Name) where

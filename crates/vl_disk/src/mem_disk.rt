@@ -16,7 +16,7 @@ use entry::Entry;
 use event::{Event, make_room, note};
 use plan::Plan;
 use std::alloc::Global;
-use table::{entry_for, names_of, place_of};
+use table::{entry_for, find, names_of, place_of};
 
 /// A disk in memory. It tells its bytes.
 #[derive(Drop)]
@@ -34,7 +34,9 @@ pub struct MemDisk {
 }
 
 impl MemDisk {
-    ghost use Rattle.vl_disk.specs.MemDisk.{failing_calls, calls_of};
+    ghost use Rattle.std.specs.Option.{ForSome, option_copied, option_map};
+    ghost use Rattle.std.specs.FinMap.{get};
+    ghost use Rattle.vl_disk.specs.MemDisk.{told_by, failing_calls, calls_of};
 
     /// An empty disk. Of its changing calls exactly those fail that are listed, by their numbers from 1.
     pub fn new(alloc: Global, failing: Vec<u64>) -> Self
@@ -49,6 +51,19 @@ impl MemDisk {
             plan: Plan::new(failing),
             entries: Vec::new(alloc),
             events: Vec::new(alloc),
+        }
+    }
+
+    /// The bytes of a file, if it stands.
+    pub fn bytes(&self, name: Name) -> Option<&[u8]>
+        ensures { ForSome (told_by self.now) (λ disk. option_copied result ≡ option_map (λ file. file.bytes) (get disk.standing name)) }
+    {
+        let at = find(&self.entries, name)?;
+        let entry = &self.entries[at];
+        if entry.stands {
+            Some(&entry.bytes)
+        } else {
+            None
         }
     }
 }

@@ -12,6 +12,7 @@ fn a_file_takes_pieces_and_is_listed(rt: HostRuntime) -> Result<(), Fail> {
     disk.append(LOG, &[1, 2, 3])?;
     disk.sync(LOG)?;
     assert_eq!(rt; disk.size(LOG)?, 3);
+    assert_eq!(rt; disk.bytes(LOG), Some([1, 2, 3].as_slice()));
     let names = disk.list(alloc)?;
     assert_eq!(rt; names.as_slice(), [LOG].as_slice());
     Ok(())

@@ -99,6 +99,7 @@ impl Entry {
         self.unsynced = true;
         buffer
     }
+
     /// What was asked for is durable.
     pub fn sync(&mut self)
         requires { self.old.unsynced ≡ true }
