@@ -1,0 +1,34 @@
+//! Frames, of which the store's files are made: how they are written, and how they are found again.
+//!
+//! A frame is its kind in one byte, the length of its body in four, the body, and a check of eight bytes.
+//! Numbers are unsigned, the highest byte first. The check is the first eight bytes of the SHA-256 digest of
+//! the file's kind in one byte, the file's number in four, the frame's place in the file in eight, and then
+//! the frame's kind, the length and the body as they stand in the frame. So a frame that was left behind from
+//! another file, or that stands at another place, is none, even where all its bytes are whole.
+//!
+//! | File | 1, a log | 2, a table | 3, a manifest |
+//! |---|---|---|---|
+//! | Frames | 1 commit, 2 move | 3 block, 4 index, 5 footer | 6 edits |
+//!
+//! A frame stands at a place of a file if the bytes from there on begin with the spelling of one, and if its
+//! kind belongs to the file's. What is inside a body is the matter of the crates that read it.
+#![tactic(auto)]
+
+mod checks;
+mod frame;
+mod kinds;
+mod laws;
+mod limits;
+mod parts;
+mod reading;
+mod writing;
+
+pub use frame::Frame;
+pub use kinds::{FileKind, FrameKind};
+pub use laws::{frame_length, one_spelling};
+pub use limits::{FRAME_BYTES, MAX_BODY_BYTES};
+pub use reading::read_frame;
+pub use writing::write_frame;
+
+#[cfg(test)]
+mod tests;

@@ -1,0 +1,50 @@
+ghost use Rattle.std.specs.Prelude.{◌≡◌, ◌↔◌, ◌<◌, ◌^◌, IfNone, IfSome, IsTrue, List, length, ℕ};
+ghost use Rattle.vl_frame.specs.Frame.{check_of};
+ghost use Rattle.vl_frame.specs.Parts.{IsApart};
+ghost use Rattle.vl_frame.specs.declared.kinds.FrameKind.{FrameKind};
+
+use crate::checks::check;
+use crate::kinds::FrameKind;
+use crate::limits::FRAME_BYTES;
+use byteorder::{BigEndian, ByteOrder};
+
+/// A frame taken apart, whatever its check is.
+#[derive(Clone, Copy)]
+pub struct Parts<'a> {
+    pub kind: FrameKind,
+    pub body: &'a [u8],
+    pub check: &'a [u8],
+}
+
+impl Parts<'_> {
+    /// Whether the check is that of a frame which stands at this place of the file with this number.
+    pub fn is_checked(&self, number: u32, at: u64) -> bool
+        requires { length self.now.body.now < 2 ^ 32 }
+        ensures { IsTrue result ↔
+            (self.now.check.now ≡ check_of number at self.now.kind self.now.body.now) }
+    {
+        self.check == check(number, at, self.kind, self.body).as_slice()
+    }
+}
+
+/// The parts of the frame at the front of the bytes, if they hold a kind, a length, and as much as it says.
+pub fn take_apart(bytes: &[u8]) -> Option<Parts<'_>>
+    ensures found { IfSome result (λ p. IsApart bytes.now p.kind p.body.now p.check.now) }
+    ensures none { IfNone result
+        ((kind : FrameKind) (body check : List ℕ) → IsApart bytes.now kind body check → ⊥) }
+{
+    if bytes.len() < FRAME_BYTES {
+        return None;
+    }
+    let kind = FrameKind::of_code(bytes[0])?;
+    let length = BigEndian::read_u32(&bytes[1..]) as usize;
+    let rest = &bytes[5..];
+    if rest.len() < length + 8 {
+        return None;
+    }
+    Some(Parts {
+        kind,
+        body: &rest[..length],
+        check: &rest[length..length + 8],
+    })
+}
