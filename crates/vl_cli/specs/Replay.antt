@@ -9,6 +9,7 @@ use Rattle.vl_model.specs.Reads.{Read, IsExplained}
 use Rattle.vl_model.specs.Keys.{Writes}
 use Rattle.vl_cli.specs.Sequential.{State, outcome, empty_store, OpenTransaction, OpenView, found}
 use Rattle.vl_cli.specs.Script.{line_of, lines_of, text_of}
+use Rattle.vl_cli.specs.declared.input.buffer.TheConstants.{BUFFER_BYTES}
 use Rattle.vl_cli.specs.declared.script.line.Line.{Line}
 use Rattle.vl_cli.specs.declared.script.line.Line.TheVariants.{Begin, View, Get, Set, Commit}
 use Rattle.vl_cli.specs.declared.script.answer.Answer.{Answer}
@@ -100,8 +101,17 @@ pub data NextPiece (failed : Type 0) (all : List Exchange) (lines before m : ℕ
   next_no_memory : NextPiece failed all lines before m no_memory_line
   next_read_fault : failed → NextPiece failed all lines before m read_fault_line
 
--- How a run over these bytes ended, and what it printed. All are the exchanges up to the first bad line, of so many
--- lines, and some lines came before. Left is what the source has left in the end.
+-- The source was asked no more than these answers needed: in the bytes that it had given before it was last asked, no
+-- more lines had ended than there are answers, and what it gave then is no more than is asked for at a time.
+abbrev pub IsAhead : List ℕ → Option (List ℕ) → ℕ → Type 0
+IsAhead bytes left answers =
+    (given : List ℕ) × (chunk : List ℕ) × (rest : List ℕ) × (left ≡ Some rest) × (bytes ≡ given ++ (chunk ++ rest))
+    × (length chunk ≤ BUFFER_BYTES) × (ended_lines given ≤ answers)
+
+-- How a run over these bytes ended, and what it printed. All are the exchanges up to the first bad line of these bytes,
+-- which are so many lines, and some lines came before them in the script. Left is what the source has left in the end,
+-- and failed says that it failed. Each answer was put before more was read, so that wherever the sink might have
+-- failed, the source isn't ahead.
 --   complete: every line was answered, and the source was read to its end;
 --   a bad line: all lines before it were answered, and there is one more;
 --   want of memory: some lines were answered, each answer whole;
@@ -111,16 +121,16 @@ abbrev pub EndsSo : Type 0 → List Exchange → ℕ → ℕ → List ℕ → Op
 EndsSo failed all lines before bytes left Complete printed =
     (length all ≡ lines) × (left ≡ Some []) × (printed ≡ answers_text all)
 EndsSo failed all lines before bytes left BadLine printed =
-    (length all < lines) × (printed ≡ answers_text all ++ bad_line (before + length all + 1))
+    (length all < lines) × (printed ≡ answers_text all ++ bad_line (before + length all + 1)) × IsAhead bytes left (length all)
 EndsSo failed all lines before bytes left BadWords printed = ⊥
 EndsSo failed all lines before bytes left NoMemory printed =
-    (m : ℕ) × (m ≤ length all) × (printed ≡ answers_text (take m all) ++ no_memory_line)
+    (m : ℕ) × (m ≤ length all) × (printed ≡ answers_text (take m all) ++ no_memory_line) × IsAhead bytes left m
 EndsSo failed all lines before bytes left ReadFault printed =
     (given : List ℕ) × (rest : List ℕ) × failed × (bytes ≡ given ++ rest) × (left ≡ Some rest)
     × (ended_lines given ≤ length all) × (printed ≡ answers_text (take (ended_lines given) all) ++ read_fault_line)
 EndsSo failed all lines before bytes left WriteFault printed =
     (m : ℕ) × (piece : List ℕ) × (front : List ℕ) × (m ≤ length all) × NextPiece failed all lines before m piece
-    × IsFront front piece × (printed ≡ answers_text (take m all) ++ front)
+    × IsFront front piece × (printed ≡ answers_text (take m all) ++ front) × IsAhead bytes left m
 
 -- what a run prints that answers the lines of these bytes from a state on, some lines after the script's begin
 abbrev pub Replays : Type 0 → State → ℕ → List ℕ → Option (List ℕ) → Ending → List ℕ → Type 0

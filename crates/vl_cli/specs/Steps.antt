@@ -5,7 +5,7 @@ use Rattle.vl_cli.specs.Sequential.{State}
 use Rattle.vl_io.specs.Sink.{Takes}
 use Rattle.vl_cli.specs.Script.{text_of, lines_of}
 use Rattle.vl_cli.specs.Input.{HasNoLineEnd}
-use Rattle.vl_cli.specs.Replay.{Exchange, exchange_at, Replays, IsFront}
+use Rattle.vl_cli.specs.Replay.{Exchange, exchange_at, Replays, IsFront, IsAhead}
 use Rattle.vl_cli.specs.Represents.{Represents}
 use Rattle.vl_cli.specs.declared.replayer.Replayer.{Replayer}
 use Rattle.vl_cli.specs.declared.ending.Ending.{Ending}
@@ -29,7 +29,7 @@ EndsRun failed s before bytes left ending held held' =
 -- the run ends at the first line of the bytes, where that is a bad one
 abbrev pub Refuses : ℕ → Ending → Option (List ℕ) → Option (List ℕ) → Type 0
 Refuses before ending held held' =
-    (f t : ℕ) (s : State) (bytes text : List ℕ) (texts : List (List ℕ)) (left : Option (List ℕ)) → lines_of bytes ≡ text ∷ texts → exchange_at s text ≡ None
+    (f t : ℕ) (s : State) (bytes text : List ℕ) (texts : List (List ℕ)) (left : Option (List ℕ)) → lines_of bytes ≡ text ∷ texts → exchange_at s text ≡ None → IsAhead bytes left 0
     → EndsRun (Rose f t) s before bytes left ending held held'
 
 -- a line was answered and printed, and the run goes on; or it ended there
@@ -37,7 +37,7 @@ abbrev pub StepsOn : State → ℕ → List ℕ → Replayer → Option Ending �
 StepsOn s before text after None held held' =
     (e : Exchange) × (exchange_at s text ≡ Some e) × Represents after e.after × Takes held held' (text_of e.answer)
 StepsOn s before text after (Some ending) held held' =
-    (f t : ℕ) (bytes : List ℕ) (texts : List (List ℕ)) (left : Option (List ℕ)) → lines_of bytes ≡ text ∷ texts
+    (f t : ℕ) (bytes : List ℕ) (texts : List (List ℕ)) (left : Option (List ℕ)) → lines_of bytes ≡ text ∷ texts → IsAhead bytes left 0
     → EndsRun (Rose f t) s before bytes left ending held held'
 
 -- The first line of the bytes was answered and printed, and a run over the others goes on from here; or the run ended.

@@ -8,7 +8,8 @@ use std::marker::Model;
 use vl_disk::Failed;
 use vl_io::Source;
 
-const BUFFER_BYTES: usize = 65536;
+/// What a source is asked for at a time.
+pub const BUFFER_BYTES: usize = 65536;
 
 /// Bytes that a source gave and no line has taken yet. Clauses see the list of them.
 #[derive(Drop)]
@@ -19,13 +20,14 @@ pub struct Buffer {
 }
 
 impl Model for Buffer {
-    ghost use Rattle.std.specs.Prelude.{ℕ, ◌-◌, ◌<◌, ◌≤◌, List, take, drop, vec_len};
+    ghost use Rattle.std.specs.Prelude.{ℕ, ◌≡◌, ◌-◌, ◌≤◌, List, take, drop, vec_len};
+    ghost use Rattle.vl_cli.specs.declared.input.buffer.TheConstants.{BUFFER_BYTES};
 
     ghost Value = { List ℕ };
 
     ghost view = { λ b. take (b.end - b.start) (drop b.start b.bytes.items) };
 
-    ghost invariant = { λ b. (b.start ≤ b.end) × (b.end ≤ vec_len b.bytes) × (0 < vec_len b.bytes) };
+    ghost invariant = { λ b. (b.start ≤ b.end) × (b.end ≤ vec_len b.bytes) × (vec_len b.bytes ≡ BUFFER_BYTES) };
 }
 
 /// The index of the first line's end.
@@ -49,7 +51,8 @@ impl Buffer {
     /// Moves the bytes up to the next line's end to a line, and that end away. Where there is no line's end it
     /// moves all bytes and answers false.
     pub fn take_line(&mut self, line: &mut Vec<u8>) -> Result<bool, AllocError>
-        ensures { IfOk result (λ ended. TakesLineEnd ended self.old self.new line.old.items line.new.items) }
+        ensures taken { IfOk result (λ ended. TakesLineEnd ended self.old self.new line.old.items line.new.items) }
+        ensures few { length self.old ≤ BUFFER_BYTES }
     {
         let pending = &self.bytes[self.start..self.end];
         match line_end(pending) {

@@ -1,5 +1,6 @@
 ghost use Rattle.std.specs.Prelude.{◌≡◌, ◌≢◌, ◌+◌, ◌<◌, ◌≤◌, ◌++◌, ℕ, List, length, IfOk, MatchResult, Err, Option, Some};
 ghost use Rattle.vl_cli.specs.Input.{ReadsLine, FailsWithin, CountsFault};
+ghost use Rattle.vl_cli.specs.Replay.{IsAhead};
 
 use crate::input::{Buffer, InputFail};
 use crate::script::MAX_LINE_BYTES;
@@ -30,6 +31,7 @@ pub fn read_line<S: Source>(
         → length buffer.new + S.budget source.new < length buffer.old + S.budget source.old) }
     ensures within { result ≡ Err InputFail.Fault → (left : List ℕ) → S.left source.old ≡ Some left
         → FailsWithin (buffer.old ++ left) (S.left source.new) }
+    ensures ahead { (left : List ℕ) → S.left source.old ≡ Some left → IsAhead (buffer.old ++ left) (S.left source.new) 0 }
     ensures faults { MatchResult result (λ _. S.faults source.new ≡ S.faults source.old)
         (λ e. CountsFault e (S.faults source.old) (S.faults source.new)) }
 {

@@ -4,7 +4,7 @@ use Rattle.vl_cli.specs.Sequential.{empty_store}
 use Rattle.vl_cli.specs.Script.{lines_of}
 use Rattle.vl_cli.specs.Replay.{no_memory_line, exchanges_from}
 use Rattle.vl_cli.specs.declared.ending.Ending.TheVariants.{NoMemory}
-use Rattle.vl_cli.proofs.Replays.{finished, no_memory_ends}
+use Rattle.vl_cli.proofs.Replays.{finished, no_memory_ends, ahead_unread}
 use Rattle.vl_cli.proofs.UnderWay.{UnderWay, begun, further, over}
 use Rattle.vl_cli.proofs.command_line.replay.replay.Goals as goal
 
@@ -12,8 +12,8 @@ pub returns-in_default-clause-printed : goal.returns-in_default-clause-printed
 returns-in_default-clause-printed g c input told =
     let left = g.S.Source.left c.args.source.now in
     let failed = Rose (g.S.Source.faults c.args.source.now) (g.S.Source.faults c.args.source.now) in
-    let ends = no_memory_ends failed empty_store 0 input left in
-    finished failed (exchanges_from empty_store (lines_of input)) (length (lines_of input)) 0 input left NoMemory c.finish.result no_memory_line (g.K.Sink.held c.args.sink.now) (g.K.Sink.held c.finish.new.sink) ends.0 ends.1 c.finish.ensures.printed
+    let ends = no_memory_ends failed empty_store 0 input left (ahead_unread input left told) in
+    finished failed (exchanges_from empty_store (lines_of input)) (length (lines_of input)) 0 input left NoMemory c.finish.result no_memory_line (g.K.Sink.held c.args.sink.now) (g.K.Sink.held c.finish.new.sink) ends.0 ends.1 (ahead_unread input left told) c.finish.ensures.printed
 
 pub lines-init : goal.lines-init
 lines-init g c = record {
