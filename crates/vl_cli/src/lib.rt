@@ -7,5 +7,5 @@ pub mod input;
 pub mod replayer;
 pub mod script;
 
-pub use command_line::{Ended, run};
+pub use command_line::{Ended, refuse_without_words, run};
 pub use ending::Ending;

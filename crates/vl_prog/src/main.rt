@@ -4,12 +4,12 @@
 use std::process::ExitCode;
 use std::rt::Env;
 use std::{env, io};
-use vl_cli::{Ended, run};
+use vl_cli::{Ended, refuse_without_words, run};
 use vl_disk::MemDisk;
 use vl_io::{StdSink, StdSource};
 
 /// The words after the program's name. Where one isn't UTF-8 there are none, so that the command line is
-/// refused as one that isn't plain.
+/// refused as one that isn't plain. Any other error is want of memory.
 fn words(rt: &(impl Env + AllocGlobal)) -> io::Result<Vec<String>> {
     match env::args(rt) {
         Ok(mut words) => {
@@ -21,11 +21,13 @@ fn words(rt: &(impl Env + AllocGlobal)) -> io::Result<Vec<String>> {
     }
 }
 
-fn main(rt: HostRuntime) -> io::Result<ExitCode> {
-    let words = words(&rt)?;
-    let mut source = StdSource::new(rt.reader());
+fn main(rt: HostRuntime) -> ExitCode {
     let mut sink = StdSink::new(io::writer(&rt));
+    let Ok(words) = words(&rt) else {
+        return ExitCode::from(refuse_without_words(&mut sink));
+    };
+    let mut source = StdSource::new(rt.reader());
     let disk = MemDisk::new(rt.alloc(), Vec::new(rt.alloc()));
     let Ended { status, disk: _ } = run(rt.alloc(), words.as_slice(), &mut source, &mut sink, disk);
-    Ok(ExitCode::from(status))
+    ExitCode::from(status)
 }

@@ -1,4 +1,4 @@
-use crate::{Ended, run};
+use crate::{Ended, refuse_without_words, run};
 use std::alloc::Global;
 use std::test::Fail;
 use vl_disk::MemDisk;
@@ -59,6 +59,11 @@ fn scripts_are_answered(rt: HostRuntime) -> Result<(), Fail> {
         plain("fetch a 61\n", "bad line 1\n", 1),
         plain("begin a\nbegin b\n", "ok 0\nbad line 2\n", 1),
         plain("begin a\nget a 61", "ok 0\nnone\n", 0),
+        // The input's end comes at the second call, and there is no third.
+        Case {
+            failing_read: &[3],
+            ..plain("begin a\nget a 61", "ok 0\nnone\n", 0)
+        },
         plain("begin a\n\nget a 61\n", "ok 0\nbad line 2\n", 1),
         plain("begin a\nset a - 01\n", "ok 0\nbad line 2\n", 1),
         plain(
@@ -97,6 +102,16 @@ fn words_that_are_not_plain_get_the_usage_line(rt: HostRuntime) -> Result<(), Fa
         assert_eq!(rt; printed.as_slice(), case.printed.as_bytes());
         assert_eq!(rt; status, case.status);
     }
+    Ok(())
+}
+
+#[test]
+fn words_without_memory(rt: HostRuntime) -> Result<(), Fail> {
+    let mut sink = VecSink::new(rt.alloc(), 64, Vec::new(rt.alloc()))?;
+    let status = refuse_without_words(&mut sink);
+    let printed = sink.into_bytes();
+    assert_eq!(rt; printed.as_slice(), b"no memory\n".as_slice());
+    assert_eq!(rt; status, 5);
     Ok(())
 }
 

@@ -15,7 +15,7 @@ fn is_plain_word_text(word: &[u8]) -> bool
     }
 }
 
-/// Whether the words are a command with as many further words as it has.
+/// Whether the words are `replay` and one more, which is neither empty nor begins with `-`.
 pub fn are_plain(words: &[String]) -> bool
     ensures { result ≡ is_plain (map string_bytes words.now) }
 {

@@ -13,7 +13,8 @@ pub enum Next {
     Line,
     /// The last line, which ends with the input.
     LastLine,
-    /// A line that is longer than any line of the language. The rest of it isn't read.
+    /// What was read of a line is longer than any line of the language, and the rest of it isn't read. A line that
+    /// is too long may also come as `Line`.
     TooLong,
     /// The end of the input.
     End,

@@ -32,7 +32,7 @@ pub fn print_answer(alloc: Global, answer: &Answer) -> Result<Vec<u8>, AllocErro
     }
 }
 
-/// What is printed for a line that isn't one of the language, the first line being line 1.
+/// What is printed for a bad line, the first line being line 1.
 pub fn print_bad_line(alloc: Global, number: u64) -> Result<Vec<u8>, AllocError>
     ensures { IfOk result (λ text. text.items ≡ codes "bad line " ++ decimal number ++ (10 ∷ [])) }
 {

@@ -1,4 +1,3 @@
-use Rattle.std.proofs.Common.{refl}
 use Rattle.std.specs.FinMap.{get}
 use Rattle.vl_cli.proofs.Noting.{refused_read, own_read_any, noted_read}
 use Rattle.vl_cli.proofs.replayer.laws.reads_are_noted.Goals as goal
