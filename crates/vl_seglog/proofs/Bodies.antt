@@ -1,0 +1,39 @@
+-- A commit's body: its head, and the run of its records.
+use Rattle.std.proofs.Common.{◌≡◌, ℕ, ◌<◌, ◌≤◌, ◌^◌, List, ◌++◌, length, sym, ap, ◌∙◌, arith}
+use Rattle.std.specs.Prelude.{IsTrue}
+use Rattle.std.specs.FinMap.{is_sorted}
+use Rattle.byteorder.specs.Endian.{big_bytes}
+use Rattle.vl_model.specs.Keys.{key_cmp}
+use Rattle.vl_model.specs.declared.change.Change.{Change}
+use Rattle.vl_model.specs.declared.limits.TheConstants.{MAX_COMMIT_NUMBER}
+use Rattle.vl_record.proofs.Fronts.{same_number}
+use Rattle.vl_seglog.specs.Log.{Commit, IsCommit, commit_body, head_bytes, records_bytes}
+use Rattle.vl_seglog.specs.Reading.{IsRun}
+
+-- a commit that the body spells has the head's number, and the run behind the head
+pub record Agrees (c : Commit) (n k : ℕ) (rest : List ℕ) : Type 0 where
+  pub number : n ≡ c.number
+  pub count : k ≡ length c.writes
+  pub run : IsRun rest k c.writes
+
+-- too few bytes for a head
+pub no_head : (body : List ℕ) (c : Commit) → length body < 12 → body ≡ commit_body c → ⊥
+unfolding commit_body
+no_head body c short spelled = let len = ap length spelled in omega (arith, len)
+
+pub agrees : (body : List ℕ) (number count : ℕ) (rest : List ℕ) (c : Commit) → number < 2 ^ 64 → count < 2 ^ 32 → body ≡ head_bytes number count ++ rest → IsCommit c → body ≡ commit_body c → Agrees c number count rest
+unfolding commit_body
+agrees body number count rest c number_fits count_fits e lawful spelled =
+    let both : big_bytes 8 number ++ (big_bytes 4 count ++ rest) ≡ big_bytes 8 c.number ++ (big_bytes 4 (length c.writes) ++ records_bytes c.writes) = sym e ∙ spelled in
+    let a = same_number 8 number c.number _ _ number_fits (omega (arith, lawful.last)) both in
+    let b = same_number 4 count (length c.writes) _ _ count_fits lawful.few a.1 in
+    record { number = a.0; count = b.0; run = record { counted = sym b.0; lawful = lawful.lawful; spelled = b.1 } }
+
+-- a head and a run behind it
+pub is_body : (body : List ℕ) (number count : ℕ) (rest : List ℕ) (writes : List (List ℕ × Change)) → count < 2 ^ 32 → body ≡ head_bytes number count ++ rest → 1 ≤ number → number ≤ MAX_COMMIT_NUMBER → 1 ≤ count
+    → IsRun rest count writes → IsTrue (is_sorted key_cmp writes) → IsCommit (record { number = number; writes = writes }) × (body ≡ commit_body (record { number = number; writes = writes }))
+unfolding commit_body
+is_body body number count rest writes count_fits e first last some run rising = (
+  record { first = first; last = last; some = omega (arith, run.counted); few = omega (arith, run.counted); rising = rising; lawful = run.lawful },
+  e ∙ ap (λ (r : List ℕ). head_bytes number count ++ r) run.spelled ∙ ap (λ (n : ℕ). head_bytes number n ++ records_bytes writes) (sym run.counted),
+)

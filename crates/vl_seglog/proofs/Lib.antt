@@ -1,0 +1,6 @@
+pub mod Bodies
+pub mod Frames
+pub mod Logs
+pub mod Options
+pub mod Order
+pub mod Runs

@@ -1,0 +1,61 @@
+-- How a log is spelled: 16 bytes that say which file it is, and behind them commits, each in a frame of its own.
+use Rattle.std.specs.Prelude.{◌≡◌, ◌+◌, ◌<◌, ◌≤◌, ◌^◌, ℕ, List, [], ◌∷◌, ◌++◌, length, IsTrue}
+use Rattle.std.specs.FinMap.{is_sorted}
+use Rattle.std.specs.List.{AllByRecursion}
+use Rattle.byteorder.specs.Endian.{big_bytes}
+use Rattle.vl_model.specs.Keys.{key_cmp}
+use Rattle.vl_model.specs.declared.change.Change.{Change}
+use Rattle.vl_model.specs.declared.limits.TheConstants.{MAX_COMMIT_NUMBER}
+use Rattle.vl_frame.specs.Frame.{frame_bytes}
+use Rattle.vl_frame.specs.declared.kinds.FrameKind.TheVariants as kinds
+use Rattle.vl_record.specs.Record.{IsRecord, record_bytes}
+
+-- the first 16 bytes of the log with this number: VLOG, the format 1, the number, and zero
+abbrev pub log_header : ℕ → List ℕ
+log_header number = (86 ∷ 76 ∷ 79 ∷ 71 ∷ []) ++ big_bytes 4 1 ++ big_bytes 4 number ++ big_bytes 4 0
+
+-- a commit, and what it does to each key that it names
+pub record Commit : Type 0 where
+  pub number : ℕ
+  pub writes : List (List ℕ × Change)
+
+-- each key and each value has a lawful length
+abbrev pub AreRecords : List (List ℕ × Change) → Type 0
+AreRecords writes = AllByRecursion (λ write. IsRecord write.0 write.1) writes
+
+-- the commits that have a spelling
+pub record IsCommit (c : Commit) : Type 0 where
+  pub first : 1 ≤ c.number
+  pub last : c.number ≤ MAX_COMMIT_NUMBER
+  pub some : 1 ≤ length c.writes
+  pub few : length c.writes < 2 ^ 32
+  pub rising : IsTrue (is_sorted key_cmp c.writes)
+  pub lawful : AreRecords c.writes
+
+-- records, one behind the other
+abbrev pub records_bytes : List (List ℕ × Change) → List ℕ
+records_bytes [] = []
+records_bytes (write ∷ others) = record_bytes write.0 write.1 ++ records_bytes others
+
+-- what stands before the records: the commit's number, and their count
+abbrev pub head_bytes : ℕ → ℕ → List ℕ
+head_bytes number count = big_bytes 8 number ++ big_bytes 4 count
+
+-- the one spelling of a commit
+unfoldable pub commit_body : Commit → List ℕ
+commit_body c = head_bytes c.number (length c.writes) ++ records_bytes c.writes
+
+-- its frame at a place of the log with this number
+abbrev pub commit_frame : ℕ → ℕ → Commit → List ℕ
+commit_frame file at c = frame_bytes file at kinds.Commit (commit_body c)
+
+-- the commit's frame stands at the front of the bytes, which are those of the file from a place on, and the rest follows
+pub record StandsAt (file at : ℕ) (bytes : List ℕ) (c : Commit) (rest : List ℕ) : Type 0 where
+  pub lawful : IsCommit c
+  pub short : length (commit_body c) < 2 ^ 32
+  pub spelled : bytes ≡ commit_frame file at c ++ rest
+
+-- the bytes are the frames of these commits, one behind the other, and where they end no commit stands
+abbrev pub ReadsAs : ℕ → ℕ → List ℕ → List Commit → Type 0
+ReadsAs file at bytes [] = (c : Commit) (rest : List ℕ) → StandsAt file at bytes c rest → ⊥
+ReadsAs file at bytes (c ∷ others) = (rest : List ℕ) × StandsAt file at bytes c rest × ReadsAs file (at + length (commit_frame file at c)) rest others

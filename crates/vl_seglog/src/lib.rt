@@ -1,0 +1,23 @@
+//! How commits are written into a log, one frame for each, and which commits a log's bytes hold: docs/FORMATS.md
+//! lists the format.
+//!
+//! A log begins with 16 bytes: `VLOG`, the format 1, the file's number, and zero, each of the three in four bytes. Behind
+//! them stand frames, one after the other. A commit's frame has as its body the commit's number in eight bytes, the count of
+//! its records in four, and the records in the order of their keys, of which none is there twice. Numbers are unsigned, the
+//! highest byte first. What a log holds is the longest list of commits whose frames stand there from byte 16 on.
+#![tactic(auto)]
+
+mod commit;
+mod content;
+mod laws;
+mod read;
+mod write;
+
+pub use commit::Commit;
+pub use content::read_log;
+pub use laws::{one_commit, one_reading};
+pub use read::read_commit;
+pub use write::{LOG_HEADER_BYTES, log_header, write_commit};
+
+#[cfg(test)]
+mod tests;
