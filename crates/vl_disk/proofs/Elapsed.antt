@@ -3,24 +3,24 @@ use Rattle.std.proofs.Common.{◌≡◌, ◌⊎◌, inl, inr, ⊎_elim, ℕ, ◌
 use Rattle.std.proofs.lemmas.List.{take_all, take-append-le}
 use Rattle.vl_disk.specs.declared.mem_disk.event.Event.{Event}
 use Rattle.vl_disk.specs.DiskState.{DiskState, empty_disk}
-use Rattle.vl_disk.specs.Crash.{Image, MayLeave}
+use Rattle.vl_disk.specs.Crash.{SameFiles}
 use Rattle.vl_disk.specs.Moments.{Elapses}
-use Rattle.vl_disk.specs.Event.{after_event, replayed-push, state_after, LeftSince}
+use Rattle.vl_disk.specs.Event.{after_event, replayed-push, state_after, WasSince}
 
-pub elapses_same : (events : List Event) (P : Image → Type 0) → Elapses (length events) (length events) (LeftSince events) (LeftSince events) P
-elapses_same events P = record { later = omega arith; nothing_else = λ t image le left. inl left; keeps = λ t image le left. left }
+pub elapses_same : (events : List Event) (P : DiskState → Type 0) → Elapses (length events) (length events) (WasSince events) (WasSince events) P
+elapses_same events P = record { later = omega arith; nothing_else = λ t now le left. inl left; keeps = λ t now le left. left }
 
 le_or_last : (k n : ℕ) → k ≤ n + 1 → (k ≤ n) ⊎ (k ≡ n + 1)
 le_or_last k n le = grind arith
 
-pub elapses_push : (events : List Event) (event : Event) (P : Image → Type 0) → ((image : Image) → MayLeave (after_event event (state_after events)) image → P image) → Elapses (length events) (length (events ++ event ∷ [])) (LeftSince events) (LeftSince (events ++ event ∷ [])) P
-elapses_push events event P now = record {
+pub elapses_push : (events : List Event) (event : Event) (P : DiskState → Type 0) → ((now : DiskState) → SameFiles now (after_event event (state_after events)) → P now) → Elapses (length events) (length (events ++ event ∷ [])) (WasSince events) (WasSince (events ++ event ∷ [])) P
+elapses_push events event P there = record {
   later = omega (arith, longer);
-  nothing_else = λ t image le left. ⊎_elim
-      (λ (within : left.0 ≤ length events). inl (left.0, left.1, within, subst (λ (es : List Event). MayLeave (state_after es) image) (take-append-le left.0 events (event ∷ []) within) left.3))
-      (λ (last : left.0 ≡ length events + 1). inr (now image (subst (λ (s : DiskState). MayLeave s image) (at_last left.0 last) left.3)))
+  nothing_else = λ t now le left. ⊎_elim
+      (λ (within : left.0 ≤ length events). inl (left.0, left.1, within, subst (λ (es : List Event). SameFiles now (state_after es)) (take-append-le left.0 events (event ∷ []) within) left.3))
+      (λ (last : left.0 ≡ length events + 1). inr (there now (subst (λ (s : DiskState). SameFiles now s) (at_last left.0 last) left.3)))
       (le_or_last left.0 (length events) (omega (arith, longer, left.2)));
-  keeps = λ t image le left. (left.0, left.1, omega (arith, longer, left.2), subst (λ (es : List Event). MayLeave (state_after es) image) (sym (take-append-le left.0 events (event ∷ []) left.2)) left.3);
+  keeps = λ t now le left. (left.0, left.1, omega (arith, longer, left.2), subst (λ (es : List Event). SameFiles now (state_after es)) (sym (take-append-le left.0 events (event ∷ []) left.2)) left.3);
 }
   where
     longer : length (events ++ event ∷ []) ≡ length events + 1
@@ -30,5 +30,5 @@ elapses_push events event P now = record {
     at_last k last = ap state_after (take_all k (events ++ event ∷ []) (omega (arith, longer))) ∙ replayed-push events event empty_disk
 
 -- no event was noted
-pub elapses_still : (events later : List Event) (P : Image → Type 0) → later ≡ events → Elapses (length events) (length later) (LeftSince events) (LeftSince later) P
-elapses_still events later P same = subst (λ (es : List Event). Elapses (length events) (length es) (LeftSince events) (LeftSince es) P) (sym same) (elapses_same events P)
+pub elapses_still : (events later : List Event) (P : DiskState → Type 0) → later ≡ events → Elapses (length events) (length later) (WasSince events) (WasSince later) P
+elapses_still events later P same = subst (λ (es : List Event). Elapses (length events) (length es) (WasSince events) (WasSince es) P) (sym same) (elapses_same events P)

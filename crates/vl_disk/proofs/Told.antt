@@ -4,10 +4,10 @@ use Rattle.vl_disk.specs.declared.mem_disk.event.Event.{Event}
 use Rattle.vl_disk.specs.declared.mem_disk.event.Event.TheVariants.{Create, Append, Refuse, Sync}
 use Rattle.vl_disk.specs.DiskState.{DiskState, empty_disk, counted, synced}
 use Rattle.vl_disk.specs.declared.name.Name.{Name}
-use Rattle.vl_disk.specs.Crash.{Image, MayLeave}
+use Rattle.vl_disk.specs.Crash.{SameFiles}
 use Rattle.vl_disk.specs.Moments.{Elapses}
-use Rattle.vl_disk.specs.Disk.{Turns, Leaves}
-use Rattle.vl_disk.specs.Event.{after_event, replayed-push, state_after, LeftSince, told_of}
+use Rattle.vl_disk.specs.Disk.{Turns, While}
+use Rattle.vl_disk.specs.Event.{after_event, replayed-push, state_after, WasSince, told_of}
 use Rattle.vl_disk.proofs.Elapsed.{elapses_push}
 
 pub some_state : (a b : DiskState) → Some a ≡ Some b → a ≡ b
@@ -37,9 +37,9 @@ module _ (events later : List Event) (calls counts : ℕ) (count : counts ≡ mi
       ∙ ap (λ (n : ℕ). Some (record (after_event event (state_after events)) { calls = n })) count
       ∙ told_after event (state_after events) calls
 
-  pub elapses_by : (event : Event) (during : DiskState → Image → Type 0) → later ≡ events ++ event ∷ []
-      → ((image : Image) → MayLeave (after_event event (state_after events)) image → during (told_of events calls) image)
-      → Elapses (length events) (length later) (LeftSince events) (LeftSince later) (Leaves (Some (told_of events calls)) during)
-  elapses_by event during pushed now =
-      subst (λ (es : List Event). Elapses (length events) (length es) (LeftSince events) (LeftSince es) (Leaves (Some (told_of events calls)) during)) (sym pushed)
-      (elapses_push events event (Leaves (Some (told_of events calls)) during) (λ image may disk is. subst (λ (d : DiskState). during d image) (some_state (told_of events calls) disk is) (now image may)))
+  pub elapses_by : (event : Event) (during : DiskState → DiskState → Type 0) → later ≡ events ++ event ∷ []
+      → ((now : DiskState) → SameFiles now (after_event event (state_after events)) → during (told_of events calls) now)
+      → Elapses (length events) (length later) (WasSince events) (WasSince later) (While (Some (told_of events calls)) during)
+  elapses_by event during pushed there =
+      subst (λ (es : List Event). Elapses (length events) (length es) (WasSince events) (WasSince es) (While (Some (told_of events calls)) during)) (sym pushed)
+      (elapses_push events event (While (Some (told_of events calls)) during) (λ now same disk is. subst (λ (d : DiskState). during d now) (some_state (told_of events calls) disk is) (there now same)))

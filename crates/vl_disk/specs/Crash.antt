@@ -3,7 +3,7 @@ use Rattle.std.specs.Prelude.{◌≡◌, ◌⊎◌, ℕ, ◌≤◌, false, List,
 use Rattle.std.specs.FinMap.{FinMap, get}
 use Rattle.vl_disk.specs.declared.name.Name.{Name}
 use Rattle.vl_disk.specs.Name.{name_cmp}
-use Rattle.vl_disk.specs.DiskState.{File, DiskState, file_at, created, appended, cut_to, without}
+use Rattle.vl_disk.specs.DiskState.{File, DiskState, file_at, created, appended, synced, cut_to, without}
 
 -- what stands on the disk after a crash
 abbrev pub Image : Type 0
@@ -35,18 +35,30 @@ MayLeaveOne None None None = Unit {0}
 abbrev pub MayLeave : DiskState → Image → Type 0
 MayLeave disk image = (name : Name) → MayLeaveOne (get disk.standing name) (get disk.removed name) (get image name)
 
--- what a crash may leave while a call is under way: it has done nothing yet, or its work in whole or in part
+-- the same files, whatever was counted
+pub record SameFiles (a b : DiskState) : Type 0 where
+  pub standing : a.standing ≡ b.standing
+  pub removed : a.removed ≡ b.removed
 
-abbrev pub WhileCreating : Name → DiskState → Image → Type 0
-WhileCreating name disk image = MayLeave disk image ⊎ MayLeave (created name disk) image
+-- what a disk may be while a call is under way: the call has done nothing yet, or its work in whole or in part
 
-abbrev pub WhileAppending : Name → List ℕ → DiskState → Image → Type 0
-WhileAppending name piece disk image =
-    MayLeave disk image ⊎ ((taken : ℕ) × (taken ≤ length piece) × MayLeave (appended name piece taken disk) image)
+abbrev pub WhileCreating : Name → DiskState → DiskState → Type 0
+WhileCreating name disk now = SameFiles now disk ⊎ SameFiles now (created name disk)
 
-abbrev pub WhileCutting : Name → ℕ → DiskState → Image → Type 0
-WhileCutting name len disk image =
-    MayLeave disk image ⊎ ((left : ℕ) × (len ≤ left) × (left ≤ length (file_at disk name).bytes) × MayLeave (cut_to name left disk) image)
+abbrev pub WhileAppending : Name → List ℕ → DiskState → DiskState → Type 0
+WhileAppending name piece disk now =
+    SameFiles now disk ⊎ ((taken : ℕ) × (taken ≤ length piece) × SameFiles now (appended name piece taken disk))
 
-abbrev pub WhileRemoving : Name → DiskState → Image → Type 0
-WhileRemoving name disk image = MayLeave disk image ⊎ MayLeave (without name disk) image
+abbrev pub WhileSyncing : Name → DiskState → DiskState → Type 0
+WhileSyncing name disk now = SameFiles now disk ⊎ SameFiles now (synced name disk)
+
+abbrev pub WhileCutting : Name → ℕ → DiskState → DiskState → Type 0
+WhileCutting name len disk now =
+    SameFiles now disk ⊎ ((left : ℕ) × (len ≤ left) × (left ≤ length (file_at disk name).bytes) × SameFiles now (cut_to name left disk))
+
+abbrev pub WhileRemoving : Name → DiskState → DiskState → Type 0
+WhileRemoving name disk now = SameFiles now disk ⊎ SameFiles now (without name disk)
+
+-- what a call leaves alone
+abbrev pub Unchanged : DiskState → DiskState → Type 0
+Unchanged disk now = SameFiles now disk

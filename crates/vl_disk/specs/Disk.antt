@@ -5,7 +5,6 @@ use Rattle.std.specs.FinMap.{get}
 use Rattle.vl_disk.specs.declared.name.Name.{Name}
 use Rattle.vl_disk.specs.Faults.{Rose}
 use Rattle.vl_disk.specs.DiskState.{DiskState, counted}
-use Rattle.vl_disk.specs.Crash.{Image}
 
 -- a file stands under this name
 abbrev pub Stands : Name → DiskState → Type 0
@@ -24,9 +23,9 @@ pub record Lists (names : List Name) (disk : DiskState) : Type 0 where
 abbrev pub Turns : (DiskState → DiskState) → Option DiskState → Option DiskState → Type 0
 Turns change old new = new ≡ option_map (λ disk. counted (change disk)) old
 
--- what a crash may leave in a call, on a disk that tells its bytes
-abbrev pub Leaves : Option DiskState → (DiskState → Image → Type 0) → Image → Type 0
-Leaves told during image = ForSome told (λ disk. during disk image)
+-- what a disk that tells its bytes may be while a call is under way
+abbrev pub While : Option DiskState → (DiskState → DiskState → Type 0) → DiskState → Type 0
+While told during now = ForSome told (λ disk. during disk now)
 
 -- a fault was counted where the call failed
 pub record HasCause (before now : ℕ) (failed : Type 0) : Type 0 where

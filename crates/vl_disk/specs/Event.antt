@@ -5,7 +5,7 @@ use Rattle.vl_disk.specs.declared.mem_disk.event.Event.{Event}
 use Rattle.vl_disk.specs.declared.mem_disk.event.Event.TheVariants.{Create, Append, Refuse, Sync}
 use Rattle.vl_disk.specs.DiskState.{DiskState, IsLawful, empty_disk, created, appended, synced}
 use Rattle.vl_disk.specs.Lawful.{created_lawful, appended_lawful, synced_lawful}
-use Rattle.vl_disk.specs.Crash.{Image, MayLeave}
+use Rattle.vl_disk.specs.Crash.{SameFiles}
 
 abbrev pub after_event : Event → DiskState → DiskState
 after_event (Create name) disk = created name disk
@@ -35,9 +35,9 @@ replayed_lawful (event ∷ events) disk lawful = replayed_lawful events (after_e
 abbrev pub state_after : List Event → DiskState
 state_after events = replayed events empty_disk
 
--- a crash at some moment from t on may have left this
-abbrev pub LeftSince : List Event → ℕ → Image → Type 0
-LeftSince events t image = (k : ℕ) × (t ≤ k) × (k ≤ length events) × MayLeave (state_after (take k events)) image
+-- the disk was this at some moment from t on
+abbrev pub WasSince : List Event → ℕ → DiskState → Type 0
+WasSince events t state = (k : ℕ) × (t ≤ k) × (k ≤ length events) × SameFiles state (state_after (take k events))
 
 -- what a disk in memory tells: that, and how many calls were asked for
 abbrev pub told_of : List Event → ℕ → DiskState

@@ -3,10 +3,9 @@ use Rattle.std.specs.Prelude.{◌≡◌, ◌↔◌, ℕ, ◌+◌, ◌-◌, ◌^�
 use Rattle.vl_disk.specs.declared.name.Name.{Name}
 use Rattle.vl_disk.specs.declared.mem_disk.MemDisk.{MemDisk}
 use Rattle.vl_disk.specs.DiskState.{DiskState}
-use Rattle.vl_disk.specs.Crash.{Image}
 use Rattle.vl_disk.specs.Disk.{Spare}
 use Rattle.vl_disk.specs.Entry.{entry_of, spare_of}
-use Rattle.vl_disk.specs.Event.{LeftSince, told_of}
+use Rattle.vl_disk.specs.Event.{WasSince, told_of}
 
 abbrev pub told_by : MemDisk → Option DiskState
 told_by disk = Some (told_of disk.events.items disk.plan.calls)
@@ -14,8 +13,8 @@ told_by disk = Some (told_of disk.events.items disk.plan.calls)
 abbrev pub moment_of : MemDisk → ℕ
 moment_of disk = length disk.events.items
 
-abbrev pub left_since : MemDisk → ℕ → Image → Type 0
-left_since disk = LeftSince disk.events.items
+abbrev pub was_since : MemDisk → ℕ → DiskState → Type 0
+was_since disk = WasSince disk.events.items
 
 abbrev pub faults_of : MemDisk → ℕ
 faults_of disk = disk.plan.faults

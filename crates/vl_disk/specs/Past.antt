@@ -1,12 +1,12 @@
 -- What a disk in memory tells of this moment and of past ones.
 use Rattle.std.specs.Prelude.{◌≡◌, ℕ, ◌≤◌, List, length, take, Some}
-use Rattle.std.proofs.Common.{sym, subst, arith}
+use Rattle.std.proofs.Common.{refl, sym, subst, arith}
 use Rattle.std.proofs.lemmas.List.{take_all}
 use Rattle.vl_disk.specs.declared.mem_disk.event.Event.{Event}
 use Rattle.vl_disk.specs.DiskState.{DiskState, IsLawful, empty_disk}
 use Rattle.vl_disk.specs.Lawful.{empty_lawful}
-use Rattle.vl_disk.specs.Crash.{Image, MayLeave}
-use Rattle.vl_disk.specs.Event.{replayed_lawful, state_after, LeftSince, told_of}
+use Rattle.vl_disk.specs.Crash.{SameFiles}
+use Rattle.vl_disk.specs.Event.{replayed_lawful, state_after, WasSince, told_of}
 
 same_state : (a b : DiskState) → Some a ≡ Some b → a ≡ b
 same_state a b e = cc
@@ -16,14 +16,15 @@ told_lawful events calls state is =
     let lawful = replayed_lawful events empty_disk empty_lawful in
     subst IsLawful (same_state (told_of events calls) state is) (record { standing = lawful.standing; removed = lawful.removed; apart = lawful.apart })
 
-pub counts_present : (events : List Event) (calls : ℕ) (state : DiskState) (t : ℕ) (image : Image) → Some (told_of events calls) ≡ Some state → t ≤ length events → MayLeave state image → LeftSince events t image
-counts_present events calls state t image is before may =
-    let now = subst (λ (s : DiskState). MayLeave s image) (sym (same_state (told_of events calls) state is)) may in
+pub counts_present : (events : List Event) (calls : ℕ) (state : DiskState) (t : ℕ) → Some (told_of events calls) ≡ Some state → t ≤ length events → WasSince events t state
+counts_present events calls state t is before =
+    let now : SameFiles (told_of events calls) (state_after events) = record { standing = refl; removed = refl } in
     let whole : take (length events) events ≡ events = take_all (length events) events (omega arith) in
-    (length events, before, omega arith, subst (λ (es : List Event). MayLeave (state_after es) image) (sym whole) now)
+    (length events, before, omega arith, subst (λ (es : List Event). SameFiles state (state_after es)) (sym whole) (subst (λ (s : DiskState). SameFiles s (state_after events)) (same_state (told_of events calls) state is) now))
 
-pub only_present : (events : List Event) (calls : ℕ) (state : DiskState) (image : Image) → Some (told_of events calls) ≡ Some state → LeftSince events (length events) image → MayLeave state image
-only_present events calls state image is left =
-    let whole : take left.0 events ≡ events = take_all left.0 events (omega (arith, left.1)) in
-    let now : MayLeave (told_of events calls) image = subst (λ (es : List Event). MayLeave (state_after es) image) whole left.3 in
-    subst (λ (s : DiskState). MayLeave s image) (same_state (told_of events calls) state is) now
+pub only_present : (events : List Event) (calls : ℕ) (state other : DiskState) → Some (told_of events calls) ≡ Some state → WasSince events (length events) other → SameFiles other state
+only_present events calls state other is was =
+    let whole : take was.0 events ≡ events = take_all was.0 events (omega (arith, was.1)) in
+    let here : SameFiles other (state_after events) = subst (λ (es : List Event). SameFiles other (state_after es)) whole was.3 in
+    let now : SameFiles other (told_of events calls) = record { standing = here.standing; removed = here.removed } in
+    subst (λ (s : DiskState). SameFiles other s) (same_state (told_of events calls) state is) now

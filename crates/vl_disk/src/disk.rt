@@ -2,9 +2,9 @@ ghost use Rattle.std.specs.Prelude.{◌≡◌, ◌⊎◌, ℕ, ◌≤◌, List, 
 ghost use Rattle.std.specs.Option.{ForSome};
 ghost use Rattle.vl_disk.specs.declared.name.Name.{Name};
 ghost use Rattle.vl_disk.specs.DiskState.{DiskState, IsLawful, file_at, created, appended, synced};
-ghost use Rattle.vl_disk.specs.Crash.{Image, MayLeave, WhileCreating, WhileAppending};
+ghost use Rattle.vl_disk.specs.Crash.{SameFiles, Unchanged, WhileCreating, WhileAppending, WhileSyncing};
 ghost use Rattle.vl_disk.specs.Moments.{Elapses};
-ghost use Rattle.vl_disk.specs.Disk.{Stands, IsFree, Lists, Turns, Leaves, HasCause, Spare, IsReady, CanAppend, SameSpare, SameSpareElsewhere, UsesChange, UsesAppend};
+ghost use Rattle.vl_disk.specs.Disk.{Stands, IsFree, Lists, Turns, While, HasCause, Spare, IsReady, CanAppend, SameSpare, SameSpareElsewhere, UsesChange, UsesAppend};
 
 use crate::{Failed, ListFail, Name, NoMemory};
 use std::alloc::Global;
@@ -17,8 +17,9 @@ pub trait Disk {
     /// The moment, as a number that never falls.
     ghost moment: { Self → ℕ };
 
-    /// What a crash at some moment from that one on may have left, during a call or between two.
-    ghost images_since: { Self → ℕ → Image → Type 0 };
+    /// What it was at some moment from that one on, during a call or between two. A crash at such a moment leaves
+    /// what `MayLeave` allows.
+    ghost states_since: { Self → ℕ → DiskState → Type 0 };
 
     /// How often it has failed. The count never falls.
     ghost faults: { Self → ℕ };
@@ -30,8 +31,8 @@ pub trait Disk {
     fn list(&mut self, alloc: Global) -> Result<Vec<Name>, ListFail>
         ensures names { IfOk result (λ names. ForSome (told self.old) (Lists names.items)) }
         ensures told { told self.new ≡ told self.old }
-        ensures time { Elapses (moment self.old) (moment self.new) (images_since self.old) (images_since self.new)
-            (Leaves (told self.old) MayLeave) }
+        ensures time { Elapses (moment self.old) (moment self.new) (states_since self.old) (states_since self.new)
+            (While (told self.old) Unchanged) }
         ensures cause { HasCause (faults self.old) (faults self.new) (IsErrOf result ListFail.Failed) }
         ensures spare { SameSpare (spare self.old) (spare self.new) };
 
@@ -40,8 +41,8 @@ pub trait Disk {
         requires { ForSome (told self.old) (Stands name) }
         ensures size { IfOk result (λ size. ForSome (told self.old) (λ disk. size ≡ length (file_at disk name).bytes)) }
         ensures told { told self.new ≡ told self.old }
-        ensures time { Elapses (moment self.old) (moment self.new) (images_since self.old) (images_since self.new)
-            (Leaves (told self.old) MayLeave) }
+        ensures time { Elapses (moment self.old) (moment self.new) (states_since self.old) (states_since self.new)
+            (While (told self.old) Unchanged) }
         ensures cause { HasCause (faults self.old) (faults self.new) (IsErr result) }
         ensures spare { SameSpare (spare self.old) (spare self.new) };
 
@@ -52,8 +53,8 @@ pub trait Disk {
         ensures elsewhere { SameSpareElsewhere name (spare self.old) (spare self.new) }
         ensures refused { OnErr result (SameSpare (spare self.old) (spare self.new)) }
         ensures told { told self.new ≡ told self.old }
-        ensures time { Elapses (moment self.old) (moment self.new) (images_since self.old) (images_since self.new)
-            (Leaves (told self.old) MayLeave) }
+        ensures time { Elapses (moment self.old) (moment self.new) (states_since self.old) (states_since self.new)
+            (While (told self.old) Unchanged) }
         ensures faults { faults self.old ≤ faults self.new };
 
     /// Makes an empty file. If it fails, the file may stand or not.
@@ -64,8 +65,8 @@ pub trait Disk {
         ensures stands { OnOk result (ForSome (told self.new) (Stands name)) }
         ensures failed { OnErr result (Turns (λ disk. disk) (told self.old) (told self.new)
             ⊎ Turns (created name) (told self.old) (told self.new)) }
-        ensures time { Elapses (moment self.old) (moment self.new) (images_since self.old) (images_since self.new)
-            (Leaves (told self.old) (WhileCreating name)) }
+        ensures time { Elapses (moment self.old) (moment self.new) (states_since self.old) (states_since self.new)
+            (While (told self.old) (WhileCreating name)) }
         ensures cause { HasCause (faults self.old) (faults self.new) (IsErr result) }
         ensures spare { UsesChange name (spare self.old) (spare self.new) };
 
@@ -77,8 +78,8 @@ pub trait Disk {
         ensures failed { OnErr result ((taken : ℕ) × (taken ≤ length piece.now)
             × Turns (appended name piece.now taken) (told self.old) (told self.new)) }
         ensures stands { ForSome (told self.new) (Stands name) }
-        ensures time { Elapses (moment self.old) (moment self.new) (images_since self.old) (images_since self.new)
-            (Leaves (told self.old) (WhileAppending name piece.now)) }
+        ensures time { Elapses (moment self.old) (moment self.new) (states_since self.old) (states_since self.new)
+            (While (told self.old) (WhileAppending name piece.now)) }
         ensures cause { HasCause (faults self.old) (faults self.new) (IsErr result) }
         ensures spare { UsesAppend name (spare self.old) (spare self.new) };
 
@@ -88,8 +89,8 @@ pub trait Disk {
         ensures synced { OnOk result (Turns (synced name) (told self.old) (told self.new)) }
         ensures failed { OnErr result (Turns (λ disk. disk) (told self.old) (told self.new)) }
         ensures stands { ForSome (told self.new) (Stands name) }
-        ensures time { Elapses (moment self.old) (moment self.new) (images_since self.old) (images_since self.new)
-            (Leaves (told self.old) MayLeave) }
+        ensures time { Elapses (moment self.old) (moment self.new) (states_since self.old) (states_since self.new)
+            (While (told self.old) (WhileSyncing name)) }
         ensures cause { HasCause (faults self.old) (faults self.new) (IsErr result) }
         ensures spare { SameSpare (spare self.old) (spare self.new) };
 
@@ -97,10 +98,10 @@ pub trait Disk {
     ghost lawful: { (disk : Self) (state : DiskState) → told disk ≡ Some state → IsLawful state };
 
     /// This moment is one of those since an earlier one.
-    ghost counts_now: { (disk : Self) (state : DiskState) (t : ℕ) (image : Image)
-        → told disk ≡ Some state → t ≤ moment disk → MayLeave state image → images_since disk t image };
+    ghost counts_now: { (disk : Self) (state : DiskState) (t : ℕ)
+        → told disk ≡ Some state → t ≤ moment disk → states_since disk t state };
 
     /// Since this moment there is no other.
-    ghost only_now: { (disk : Self) (state : DiskState) (image : Image)
-        → told disk ≡ Some state → images_since disk (moment disk) image → MayLeave state image };
+    ghost only_now: { (disk : Self) (state other : DiskState)
+        → told disk ≡ Some state → states_since disk (moment disk) other → SameFiles other state };
 }

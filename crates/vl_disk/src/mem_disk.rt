@@ -72,17 +72,17 @@ impl Disk for MemDisk {
     ghost use Rattle.std.specs.Prelude.{◌⊎◌, ℕ, OnOk, OnErr, IfOk, IsTrue, IsOk, IsErr, IsErrOf};
     ghost use Rattle.std.specs.Option.{ForSome};
     ghost use Rattle.vl_disk.specs.DiskState.{file_at, created, appended, synced};
-    ghost use Rattle.vl_disk.specs.Crash.{MayLeave, WhileCreating, WhileAppending};
+    ghost use Rattle.vl_disk.specs.Crash.{Unchanged, WhileCreating, WhileAppending, WhileSyncing};
     ghost use Rattle.vl_disk.specs.Moments.{Elapses};
-    ghost use Rattle.vl_disk.specs.Disk.{Stands, IsFree, Lists, Turns, Leaves, HasCause, IsReady, CanAppend, SameSpare, SameSpareElsewhere, UsesChange, UsesAppend};
+    ghost use Rattle.vl_disk.specs.Disk.{Stands, IsFree, Lists, Turns, While, HasCause, IsReady, CanAppend, SameSpare, SameSpareElsewhere, UsesChange, UsesAppend};
     ghost use Rattle.vl_disk.specs.Past.{told_lawful, counts_present, only_present};
-    ghost use Rattle.vl_disk.specs.MemDisk.{told_by, moment_of, left_since, faults_of, room_of, KeepsPlan, FollowsPlan};
+    ghost use Rattle.vl_disk.specs.MemDisk.{told_by, moment_of, was_since, faults_of, room_of, KeepsPlan, FollowsPlan};
 
     ghost told = { told_by };
 
     ghost moment = { moment_of };
 
-    ghost images_since = { left_since };
+    ghost states_since = { was_since };
 
     ghost faults = { faults_of };
 
@@ -97,8 +97,8 @@ impl Disk for MemDisk {
     fn list(&mut self, alloc: Global) -> Result<Vec<Name>, ListFail>
         ensures names { IfOk result (λ names. ForSome (told_by self.old) (Lists names.items)) }
         ensures told { told_by self.new ≡ told_by self.old }
-        ensures time { Elapses (moment_of self.old) (moment_of self.new) (left_since self.old) (left_since self.new)
-            (Leaves (told_by self.old) MayLeave) }
+        ensures time { Elapses (moment_of self.old) (moment_of self.new) (was_since self.old) (was_since self.new)
+            (While (told_by self.old) Unchanged) }
         ensures cause { HasCause (faults_of self.old) (faults_of self.new) (IsErrOf result ListFail.Failed) }
         ensures spare { SameSpare (room_of self.old) (room_of self.new) }
 
@@ -113,8 +113,8 @@ impl Disk for MemDisk {
         requires { ForSome (told_by self.old) (Stands name) }
         ensures size { IfOk result (λ size. ForSome (told_by self.old) (λ disk. size ≡ length (file_at disk name).bytes)) }
         ensures told { told_by self.new ≡ told_by self.old }
-        ensures time { Elapses (moment_of self.old) (moment_of self.new) (left_since self.old) (left_since self.new)
-            (Leaves (told_by self.old) MayLeave) }
+        ensures time { Elapses (moment_of self.old) (moment_of self.new) (was_since self.old) (was_since self.new)
+            (While (told_by self.old) Unchanged) }
         ensures cause { HasCause (faults_of self.old) (faults_of self.new) (IsErr result) }
         ensures spare { SameSpare (room_of self.old) (room_of self.new) }
 
@@ -131,8 +131,8 @@ impl Disk for MemDisk {
         ensures elsewhere { SameSpareElsewhere name (room_of self.old) (room_of self.new) }
         ensures refused { OnErr result (SameSpare (room_of self.old) (room_of self.new)) }
         ensures told { told_by self.new ≡ told_by self.old }
-        ensures time { Elapses (moment_of self.old) (moment_of self.new) (left_since self.old) (left_since self.new)
-            (Leaves (told_by self.old) MayLeave) }
+        ensures time { Elapses (moment_of self.old) (moment_of self.new) (was_since self.old) (was_since self.new)
+            (While (told_by self.old) Unchanged) }
         ensures faults { faults_of self.old ≤ faults_of self.new }
         ensures plan { KeepsPlan self.old self.new }
     {
@@ -148,8 +148,8 @@ impl Disk for MemDisk {
         ensures stands { OnOk result (ForSome (told_by self.new) (Stands name)) }
         ensures failed { OnErr result (Turns (λ disk. disk) (told_by self.old) (told_by self.new)
             ⊎ Turns (created name) (told_by self.old) (told_by self.new)) }
-        ensures time { Elapses (moment_of self.old) (moment_of self.new) (left_since self.old) (left_since self.new)
-            (Leaves (told_by self.old) (WhileCreating name)) }
+        ensures time { Elapses (moment_of self.old) (moment_of self.new) (was_since self.old) (was_since self.new)
+            (While (told_by self.old) (WhileCreating name)) }
         ensures cause { HasCause (faults_of self.old) (faults_of self.new) (IsErr result) }
         ensures spare { UsesChange name (room_of self.old) (room_of self.new) }
 
@@ -173,8 +173,8 @@ impl Disk for MemDisk {
         ensures failed { OnErr result ((taken : ℕ) × (taken ≤ length piece.now)
             × Turns (appended name piece.now taken) (told_by self.old) (told_by self.new)) }
         ensures stands { ForSome (told_by self.new) (Stands name) }
-        ensures time { Elapses (moment_of self.old) (moment_of self.new) (left_since self.old) (left_since self.new)
-            (Leaves (told_by self.old) (WhileAppending name piece.now)) }
+        ensures time { Elapses (moment_of self.old) (moment_of self.new) (was_since self.old) (was_since self.new)
+            (While (told_by self.old) (WhileAppending name piece.now)) }
         ensures cause { HasCause (faults_of self.old) (faults_of self.new) (IsErr result) }
         ensures spare { UsesAppend name (room_of self.old) (room_of self.new) }
 
@@ -198,8 +198,8 @@ impl Disk for MemDisk {
         ensures synced { OnOk result (Turns (synced name) (told_by self.old) (told_by self.new)) }
         ensures failed { OnErr result (Turns (λ disk. disk) (told_by self.old) (told_by self.new)) }
         ensures stands { ForSome (told_by self.new) (Stands name) }
-        ensures time { Elapses (moment_of self.old) (moment_of self.new) (left_since self.old) (left_since self.new)
-            (Leaves (told_by self.old) MayLeave) }
+        ensures time { Elapses (moment_of self.old) (moment_of self.new) (was_since self.old) (was_since self.new)
+            (While (told_by self.old) (WhileSyncing name)) }
         ensures cause { HasCause (faults_of self.old) (faults_of self.new) (IsErr result) }
         ensures spare { SameSpare (room_of self.old) (room_of self.new) }
 

@@ -1,6 +1,6 @@
 use Rattle.std.proofs.Common.{◌++◌, inr, length, Some, refl, ap, sym, subst, ◌∙◌, arith, vec_capacity}
 use Rattle.vl_disk.specs.declared.mem_disk.event.Event.TheVariants.{Append, Refuse}
-use Rattle.vl_disk.specs.Crash.{MayLeave, WhileAppending}
+use Rattle.vl_disk.specs.Crash.{SameFiles, WhileAppending}
 use Rattle.vl_disk.specs.DiskState.{appended, lengthened}
 use Rattle.vl_disk.specs.Disk.{Turns, Stands}
 use Rattle.vl_disk.specs.Event.{told_of}
@@ -47,7 +47,7 @@ returns-then-fails-clause-failed c =
 pub returns-then-fails-clause-time : goal.returns-then-fails-clause-time
 returns-then-fails-clause-time c =
     elapses_by c.args.self.now.events.items c.note.new.events.items c.args.self.now.plan.calls c.fails.new.self.calls c.fails.ensures.calls (Refuse c.args.name c.append-kept.result) (WhileAppending c.args.name c.args.piece.now) c.note.ensures.items
-    (λ image may. inr (0, omega arith, subst (λ l. MayLeave (appended c.args.name l 0 (told_of c.args.self.now.events.items c.args.self.now.plan.calls)) image) c.append-kept.ensures.piece may))
+    (λ now same. inr (0, omega arith, subst (λ l. SameFiles now (appended c.args.name l 0 (told_of c.args.self.now.events.items c.args.self.now.plan.calls))) c.append-kept.ensures.piece (record { standing = same.standing; removed = same.removed })))
 
 pub returns-then-fails-clause-spare : goal.returns-then-fails-clause-spare
 returns-then-fails-clause-spare c =
@@ -62,7 +62,7 @@ returns-clause-appended c =
 pub returns-clause-time : goal.returns-clause-time
 returns-clause-time c =
     elapses_by c.args.self.now.events.items c.note-2.new.events.items c.args.self.now.plan.calls c.fails.new.self.calls c.fails.ensures.calls (Append c.args.name c.append-kept-2.result) (WhileAppending c.args.name c.args.piece.now) c.note-2.ensures.items
-    (λ image may. inr (length c.args.piece.now, omega arith, subst (λ l. MayLeave (appended c.args.name l (length l) (told_of c.args.self.now.events.items c.args.self.now.plan.calls)) image) c.append-kept-2.ensures.piece may))
+    (λ now same. inr (length c.args.piece.now, omega arith, subst (λ l. SameFiles now (appended c.args.name l (length l) (told_of c.args.self.now.events.items c.args.self.now.plan.calls))) c.append-kept-2.ensures.piece (record { standing = same.standing; removed = same.removed })))
 
 pub returns-clause-spare : goal.returns-clause-spare
 returns-clause-spare c =

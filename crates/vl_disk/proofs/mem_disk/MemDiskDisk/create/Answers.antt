@@ -29,7 +29,7 @@ returns-clause-created c = turns_by c.args.self.now.events.items c.note.new.even
 
 pub returns-clause-time : goal.returns-clause-time
 returns-clause-time c =
-    elapses_by c.args.self.now.events.items c.note.new.events.items c.args.self.now.plan.calls c.fails.new.self.calls c.fails.ensures.calls (Create c.args.name) (WhileCreating c.args.name) c.note.ensures.items (λ image may. inr may)
+    elapses_by c.args.self.now.events.items c.note.new.events.items c.args.self.now.plan.calls c.fails.new.self.calls c.fails.ensures.calls (Create c.args.name) (WhileCreating c.args.name) c.note.ensures.items (λ now same. inr (record { standing = same.standing; removed = same.removed }))
 
 pub returns-clause-spare : goal.returns-clause-spare
 returns-clause-spare c =

@@ -1,6 +1,6 @@
 use Rattle.std.proofs.Common.{◌≡◌, ◌+◌, ◌*◌, ◌≤◌, Some, refl, sym, subst, ◌∙◌, length, arith, vec_capacity}
-use Rattle.vl_disk.specs.Crash.{MayLeave}
-use Rattle.vl_disk.specs.Disk.{Leaves, IsReady}
+use Rattle.vl_disk.specs.Crash.{Unchanged}
+use Rattle.vl_disk.specs.Disk.{While, IsReady}
 use Rattle.vl_disk.specs.Event.{told_of}
 use Rattle.vl_disk.specs.Entry.{spare_of}
 use Rattle.vl_disk.proofs.Elapsed.{elapses_still}
@@ -10,7 +10,7 @@ use Rattle.vl_disk.proofs.Table.{same_spare, spare_elsewhere, spare_there}
 use Rattle.vl_disk.proofs.mem_disk.MemDiskDisk.ready.Goals as goal
 
 pub returns-in_err-make_room-clause-time : goal.returns-in_err-make_room-clause-time
-returns-in_err-make_room-clause-time c = elapses_still c.args.self.now.events.items c.make_room.new.events.items (Leaves (Some (told_of c.args.self.now.events.items c.args.self.now.plan.calls)) MayLeave) c.make_room.ensures.items
+returns-in_err-make_room-clause-time c = elapses_still c.args.self.now.events.items c.make_room.new.events.items (While (Some (told_of c.args.self.now.events.items c.args.self.now.plan.calls)) Unchanged) c.make_room.ensures.items
 
 pub invariant_of-self-in-Break-branch-2 : goal.invariant_of-self-in-Break-branch-2
 invariant_of-self-in-Break-branch-2 c =
@@ -19,7 +19,7 @@ invariant_of-self-in-Break-branch-2 c =
     record { room = step.room; fits = step.fits; distinct = step.distinct; has_bytes = step.has_bytes; notes_unsynced = step.notes_unsynced }
 
 pub returns-in_err-at-clause-time : goal.returns-in_err-at-clause-time
-returns-in_err-at-clause-time c = elapses_still c.args.self.now.events.items c.make_room.new.events.items (Leaves (Some (told_of c.args.self.now.events.items c.args.self.now.plan.calls)) MayLeave) c.make_room.ensures.items
+returns-in_err-at-clause-time c = elapses_still c.args.self.now.events.items c.make_room.new.events.items (While (Some (told_of c.args.self.now.events.items c.args.self.now.plan.calls)) Unchanged) c.make_room.ensures.items
 
 pub invariant_of-self-2 : goal.invariant_of-self-2
 invariant_of-self-2 c =
@@ -48,4 +48,4 @@ returns-clause-refused c = on_err c.make_room-2.result _ _
     c.make_room-2.ensures.refused
 
 pub returns-clause-time : goal.returns-clause-time
-returns-clause-time c = elapses_still c.args.self.now.events.items c.make_room.new.events.items (Leaves (Some (told_of c.args.self.now.events.items c.args.self.now.plan.calls)) MayLeave) c.make_room.ensures.items
+returns-clause-time c = elapses_still c.args.self.now.events.items c.make_room.new.events.items (While (Some (told_of c.args.self.now.events.items c.args.self.now.plan.calls)) Unchanged) c.make_room.ensures.items

@@ -1,6 +1,6 @@
-use Rattle.std.proofs.Common.{refl, sym, subst, IsSome, vec_capacity}
+use Rattle.std.proofs.Common.{inr, refl, sym, subst, IsSome, vec_capacity}
 use Rattle.vl_disk.specs.declared.mem_disk.event.Event.TheVariants.{Sync}
-use Rattle.vl_disk.specs.Crash.{MayLeave}
+use Rattle.vl_disk.specs.Crash.{WhileSyncing}
 use Rattle.vl_disk.specs.Entry.{IsAt, entry_of}
 use Rattle.vl_disk.specs.Event.{state_after}
 use Rattle.vl_disk.specs.DiskState.{settled, synced}
@@ -9,7 +9,6 @@ use Rattle.vl_disk.specs.Standing.{turned, changed_stands}
 use Rattle.vl_disk.proofs.Kept.{kept}
 use Rattle.vl_disk.proofs.Table.{entry_of_file, was_there, already_synced, synced_step, same_spare}
 use Rattle.vl_disk.proofs.Told.{turns_by, turns_same, turns_still, elapses_by}
-use Rattle.vl_disk.specs.Laws.{sync_leaves}
 use Rattle.vl_disk.proofs.mem_disk.MemDiskDisk.sync.Goals as goal
 
 pub place_of-at-requires : goal.place_of-at-requires
@@ -39,7 +38,7 @@ returns-clause-synced c = turns_by c.args.self.now.events.items c.note.new.event
 
 pub returns-clause-time : goal.returns-clause-time
 returns-clause-time c =
-    elapses_by c.args.self.now.events.items c.note.new.events.items c.args.self.now.plan.calls c.fails.new.self.calls c.fails.ensures.calls (Sync c.args.name) MayLeave c.note.ensures.items (λ image may. sync_leaves c.args.name (state_after c.args.self.now.events.items) image may)
+    elapses_by c.args.self.now.events.items c.note.new.events.items c.args.self.now.plan.calls c.fails.new.self.calls c.fails.ensures.calls (Sync c.args.name) (WhileSyncing c.args.name) c.note.ensures.items (λ now same. inr (record { standing = same.standing; removed = same.removed }))
 
 pub returns-clause-spare : goal.returns-clause-spare
 returns-clause-spare c =
