@@ -1,7 +1,7 @@
 -- What stands under each name after a call.
 use Rattle.std.specs.Prelude.{◌≡◌, ◌≢◌, Option, None, Some}
 use Rattle.std.specs.Option.{option_map}
-use Rattle.std.specs.FinMap.{get}
+use Rattle.std.specs.FinMap.{get, insert}
 use Rattle.std.proofs.Common.{refl, sym, ◌∙◌, ap}
 use Rattle.vl_disk.specs.declared.name.Name.{Name}
 use Rattle.vl_disk.specs.NameMap.{get_inserted, get_inserted_other, inserted_again}
@@ -22,6 +22,9 @@ module _ (name : Name) (disk : DiskState) where
     pub changed_there : (file : File) → get disk.standing name ≡ Some file → get (with_file name change disk).standing name ≡ Some (change file)
     changed_there file stands =
         ap (λ (o : Option File). get (placed name (option_map change o) disk.standing) name) stands ∙ get_inserted disk.standing name (change file)
+
+    pub changed_files : (file : File) → get disk.standing name ≡ Some file → (with_file name change disk).standing ≡ insert disk.standing name (change file)
+    changed_files file stands = ap (λ (o : Option File). placed name (option_map change o) disk.standing) stands
 
     pub changed_elsewhere : (other : Name) → other ≢ name → get (with_file name change disk).standing other ≡ get disk.standing other
     changed_elsewhere other apart = placed_elsewhere disk.standing (option_map change (get disk.standing name)) other apart

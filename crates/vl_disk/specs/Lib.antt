@@ -8,6 +8,7 @@ pub mod Event
 pub mod Faults
 pub mod Lawful
 pub mod Laws
+pub mod MadeFile
 pub mod MemDisk
 pub mod Moments
 pub mod Name

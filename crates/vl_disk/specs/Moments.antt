@@ -9,6 +9,19 @@ pub record Elapses (before now : ℕ) (past since : ℕ → DiskState → Type 0
   pub nothing_else : (t : ℕ) (state : DiskState) → t ≤ before → since t state → past t state ⊎ during state
   pub keeps : (t : ℕ) (state : DiskState) → t ≤ before → past t state → since t state
 
+-- two calls, one after the other
+pub elapses_then : (a b c : ℕ) (past between since : ℕ → DiskState → Type 0) (P Q R : DiskState → Type 0)
+    → Elapses a b past between P → Elapses b c between since Q → ((state : DiskState) → P state → R state) → ((state : DiskState) → Q state → R state)
+    → Elapses a c past since R
+elapses_then a b c past between since P Q R first second here there = record {
+  later = omega (arith, first.later, second.later);
+  nothing_else = λ t state earlier was. ⊎_elim
+      (λ (before : between t state). ⊎_elim (λ (long_ago : past t state). inl long_ago) (λ (now : P state). inr (here state now)) (first.nothing_else t state earlier before))
+      (λ (now : Q state). inr (there state now))
+      (second.nothing_else t state (omega (arith, earlier, first.later)) was);
+  keeps = λ t state earlier was. second.keeps t state (omega (arith, earlier, first.later)) (first.keeps t state earlier was);
+}
+
 -- At each moment from old to new the disk has P.
 pub record HoldsThroughout {D : Type 0} (moment : D → ℕ) (states_since : D → ℕ → DiskState → Type 0) (old new : D) (P : DiskState → Type 0) : Type 0 where
   pub later : moment old ≤ moment new

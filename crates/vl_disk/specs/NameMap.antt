@@ -47,3 +47,10 @@ module _ {X : Type 0} (m : FinMap name_cmp X) where
       (λ (e : q ≡ name). ap (get (insert m name x)) e ∙ get_inserted name x ∙ sym stands ∙ ap (get m) (sym e))
       (λ (n : q ≢ name). get_inserted_other name x q n)
       (same_or_other q name))
+
+  -- of two things put there the last one stays
+  pub inserted_twice : (name : Name) (x y : X) → insert (insert m name x) name y ≡ insert m name y
+  inserted_twice name x y = same_map name_cmp_total name_cmp_exact (insert (insert m name x) name y) (insert m name y) (λ q. ⊎_elim
+      (λ (e : q ≡ name). ap (get (insert (insert m name x) name y)) e ∙ get-insert name_cmp_total (insert m name x) name y name ∙ ap (λ (b : Bool). cond b (Some y) (get (insert m name x) name)) (tied_same name) ∙ sym (ap (get (insert m name y)) e ∙ get_inserted name y))
+      (λ (n : q ≢ name). get-insert name_cmp_total (insert m name x) name y q ∙ ap (λ (b : Bool). cond b (Some y) (get (insert m name x) q)) (tied_other q name n) ∙ get_inserted_other name x q n ∙ sym (get_inserted_other name y q n))
+      (same_or_other q name))
