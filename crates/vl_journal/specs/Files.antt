@@ -1,0 +1,46 @@
+-- The files of a store, and what they hold.
+use Rattle.std.specs.Prelude.{◌≡◌, ℕ, List, [], ◌∷◌, ◌++◌, Option, None, Some}
+use Rattle.std.specs.List.{AllByRecursion}
+use Rattle.std.specs.FinMap.{get, empty}
+use Rattle.byteorder.specs.Endian.{big_bytes}
+use Rattle.vl_disk.specs.declared.name.Name.{Name}
+use Rattle.vl_disk.specs.DiskState.{File, Files, DiskState, placed, settled}
+use Rattle.vl_frame.specs.Frame.{frame_bytes}
+use Rattle.vl_frame.specs.declared.kinds.FrameKind.TheVariants.{Edits}
+use Rattle.vl_seglog.specs.Log.{Commit, HasFrame, log_bytes}
+use Rattle.vl_journal.specs.declared.names.TheConstants.{NUMBER, MANIFEST, LOG}
+
+-- the first 16 bytes of the manifest: VMAN, the format 1, its number, and zero
+abbrev pub manifest_header : List ℕ
+manifest_header = (86 ∷ 77 ∷ 65 ∷ 78 ∷ []) ++ big_bytes 4 1 ++ big_bytes 4 NUMBER ++ big_bytes 4 0
+
+-- Two edits. Head: the first segment that isn't flushed is 1, and commits up to 0 are in tables. Next: the least log
+-- and table numbers that may still be given are 1.
+abbrev pub first_edits : List ℕ
+first_edits = big_bytes 4 2 ++ (3 ∷ big_bytes 4 1 ++ big_bytes 8 0) ++ (4 ∷ big_bytes 4 1 ++ big_bytes 4 1)
+
+-- the manifest of a store without tables, whose log is the first
+abbrev pub first_manifest : List ℕ
+first_manifest = manifest_header ++ frame_bytes NUMBER 16 Edits first_edits
+
+-- the manifest and the log, as far as they stand
+abbrev pub files : Option File → Option File → Files
+files manifest log = placed LOG log (placed MANIFEST manifest empty)
+
+-- these files stand, and no file was removed since the disk was started
+pub record HasFiles (manifest log : Option File) (disk : DiskState) : Type 0 where
+  pub standing : disk.standing ≡ files manifest log
+  pub removed : disk.removed ≡ empty
+
+-- no file stands or was removed
+abbrev pub IsEmpty : DiskState → Type 0
+IsEmpty disk = HasFiles None None disk
+
+-- under no name a file stands
+abbrev pub StandsNothing : DiskState → Type 0
+StandsNothing disk = (name : Name) → get disk.standing name ≡ None
+
+-- The disk holds these commits: the log has a frame for each, in order, and nothing else. All is synced.
+pub record Holds (commits : List Commit) (disk : DiskState) : Type 0 where
+  pub have_frames : AllByRecursion HasFrame commits
+  pub files_are : HasFiles (Some (settled first_manifest)) (Some (settled (log_bytes NUMBER commits))) disk

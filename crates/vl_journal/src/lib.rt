@@ -1,0 +1,18 @@
+//! The files of a store: what is made on an empty disk, and a commit as one synced frame of the log. docs/FORMATS.md
+//! lists the formats.
+//!
+//! A store has one manifest and one log, each with the number 1. Opening makes them, each whole and synced before the
+//! next one is created. A commit is answered after its frame is synced: until then a crash may leave the log with it or
+//! without it, and never with a part that reads as a commit.
+#![tactic(auto)]
+
+mod fails;
+mod manifest;
+mod names;
+mod opening;
+mod writing;
+
+pub use fails::{OpenFail, WriteFail};
+pub use names::{LOG, MANIFEST};
+pub use opening::open_store;
+pub use writing::write_commit;

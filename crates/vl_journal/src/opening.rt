@@ -1,0 +1,45 @@
+ghost use Rattle.std.specs.Prelude.{◌≡◌, ◌+◌, ◌-◌, ◌^◌, min, Some, Err, OnOk};
+ghost use Rattle.std.specs.Option.{ForSome};
+ghost use Rattle.vl_disk.specs.DiskState.{DiskState};
+ghost use Rattle.vl_disk.specs.Disk.{Stands, HasCause};
+ghost use Rattle.vl_disk.specs.Moments.{HoldsThroughout};
+ghost use Rattle.vl_disk.specs.declared.name.Name.{Name};
+ghost use Rattle.vl_journal.specs.Files.{IsEmpty, Holds, StandsNothing};
+ghost use Rattle.vl_journal.specs.Images.{Leaves, IsNone};
+
+use crate::OpenFail;
+use crate::manifest::first_manifest;
+use crate::names::{LOG, MANIFEST, NUMBER};
+use std::alloc::Global;
+use vl_disk::{Disk, make_file};
+use vl_seglog::log_header;
+
+/// Opens a store without commits on an empty disk. A disk on which anything stands is no store, for now.
+pub fn open_store<D: Disk>(alloc: Global, disk: &mut D) -> Result<(), OpenFail>
+    // The manifest and the log are made by six changing calls.
+    ensures opened { (state : DiskState) → D.told disk.old ≡ Some state → IsEmpty state
+        → OnOk result ((now : DiskState) × (D.told disk.new ≡ Some now) × Holds [] now × (now.calls ≡ min (state.calls + 6) (2 ^ 64 - 1))) }
+    ensures stands { OnOk result (ForSome (D.told disk.new) (Stands LOG)) }
+
+    // Refused, exactly where anything stands. Then, and where memory ran out, nothing was changed.
+    ensures free { OnOk result (ForSome (D.told disk.old) StandsNothing) }
+    ensures not_a_store { result ≡ Err OpenFail.NotAStore → ForSome (D.told disk.old) (λ state. (name : Name) × Stands name state) }
+    ensures refused { result ≡ Err OpenFail.NotAStore → D.told disk.new ≡ D.told disk.old }
+    ensures no_memory { result ≡ Err OpenFail.NoMemory → D.told disk.new ≡ D.told disk.old }
+
+    // A crash meanwhile leaves no commit.
+    ensures through { (state : DiskState) → D.told disk.old ≡ Some state → IsEmpty state
+        → HoldsThroughout D.moment D.states_since disk.old disk.new (Leaves IsNone) }
+    ensures cause { HasCause (D.faults disk.old) (D.faults disk.new) (result ≡ Err OpenFail.Disk) }
+{
+    if !disk.list(alloc)?.is_empty() {
+        return Err(OpenFail::NotAStore);
+    }
+    let manifest = first_manifest(alloc)?;
+    let header = log_header(NUMBER);
+    disk.ready(MANIFEST, manifest.len() as u64)?;
+    disk.ready(LOG, header.len() as u64)?;
+    make_file(disk, MANIFEST, &manifest)?;
+    make_file(disk, LOG, &header)?;
+    Ok(())
+}
