@@ -1,5 +1,5 @@
 -- How a log is spelled: 16 bytes that say which file it is, and behind them commits, each in a frame of its own.
-use Rattle.std.specs.Prelude.{◌≡◌, ◌+◌, ◌<◌, ◌≤◌, ◌^◌, ℕ, List, [], ◌∷◌, ◌++◌, length, IsTrue}
+use Rattle.std.specs.Prelude.{◌≡◌, ◌+◌, ◌<◌, ◌≤◌, ◌^◌, ℕ, List, [], ◌∷◌, ◌++◌, length, drop, IsTrue}
 use Rattle.std.specs.FinMap.{is_sorted}
 use Rattle.std.specs.List.{AllByRecursion}
 use Rattle.byteorder.specs.Endian.{big_bytes}
@@ -9,6 +9,7 @@ use Rattle.vl_model.specs.declared.limits.TheConstants.{MAX_COMMIT_NUMBER}
 use Rattle.vl_frame.specs.Frame.{frame_bytes}
 use Rattle.vl_frame.specs.declared.kinds.FrameKind.TheVariants as kinds
 use Rattle.vl_record.specs.Record.{IsRecord, record_bytes}
+use Rattle.vl_seglog.specs.declared.write.TheConstants.{LOG_HEADER_BYTES}
 
 -- the first 16 bytes of the log with this number: VLOG, the format 1, the number, and zero
 abbrev pub log_header : ℕ → List ℕ
@@ -49,6 +50,20 @@ commit_body c = head_bytes c.number (length c.writes) ++ records_bytes c.writes
 abbrev pub commit_frame : ℕ → ℕ → Commit → List ℕ
 commit_frame file at c = frame_bytes file at kinds.Commit (commit_body c)
 
+-- a commit that a frame can hold
+pub record HasFrame (c : Commit) : Type 0 where
+  pub lawful : IsCommit c
+  pub short : length (commit_body c) < 2 ^ 32
+
+-- the frames of these commits, one behind the other, the first of them at a place of the log with this number
+abbrev pub frames_bytes : ℕ → ℕ → List Commit → List ℕ
+frames_bytes file at [] = []
+frames_bytes file at (c ∷ others) = commit_frame file at c ++ frames_bytes file (at + length (commit_frame file at c)) others
+
+-- the log with this number that holds these commits and nothing else
+abbrev pub log_bytes : ℕ → List Commit → List ℕ
+log_bytes file commits = log_header file ++ frames_bytes file LOG_HEADER_BYTES commits
+
 -- the commit's frame stands at the front of the bytes, which are those of the file from a place on, and the rest follows
 pub record StandsAt (file at : ℕ) (bytes : List ℕ) (c : Commit) (rest : List ℕ) : Type 0 where
   pub lawful : IsCommit c
@@ -59,3 +74,7 @@ pub record StandsAt (file at : ℕ) (bytes : List ℕ) (c : Commit) (rest : List
 abbrev pub ReadsAs : ℕ → ℕ → List ℕ → List Commit → Type 0
 ReadsAs file at bytes [] = (c : Commit) (rest : List ℕ) → StandsAt file at bytes c rest → ⊥
 ReadsAs file at bytes (c ∷ others) = (rest : List ℕ) × StandsAt file at bytes c rest × ReadsAs file (at + length (commit_frame file at c)) rest others
+
+-- the commits that the bytes of the log with this number hold: behind its first bytes stand their frames, and then no commit's
+abbrev pub ReadsLog : ℕ → List ℕ → List Commit → Type 0
+ReadsLog file bytes commits = ReadsAs file LOG_HEADER_BYTES (drop LOG_HEADER_BYTES bytes) commits

@@ -10,7 +10,7 @@ use std::alloc::{AllocError, Global};
 /// The commits that the log with the number `file` holds: the frames behind its header, as far as a commit stands behind
 /// the one before. What the header says is not looked at.
 pub fn read_log(alloc: Global, bytes: &[u8], file: u32) -> Result<Vec<Commit>, AllocError>
-    ensures { IfOk result (λ commits. log.ReadsAs file LOG_HEADER_BYTES (drop LOG_HEADER_BYTES bytes.now) (map commit_of commits.items)) }
+    ensures { IfOk result (λ commits. log.ReadsLog file bytes.now (map commit_of commits.items)) }
 {
     let frames = behind_header(bytes);
     let mut commits = Vec::new(alloc);

@@ -1,0 +1,155 @@
+-- What a log's bytes are while commits are written behind one another, and what they hold when a last write was cut.
+use Rattle.std.specs.Prelude.{◌≡◌, ◌⊎◌, ℕ, ◌+◌, ◌≤◌, List, [], ◌∷◌, ◌++◌, length, take, drop, refl, true, false, bytes_eq}
+use Rattle.std.specs.List.{AllByRecursion, sum_by}
+use Rattle.std.proofs.Common.{sym, ap, subst, ◌∙◌, append_assoc, length-append, arith, inl, inr, ⊎_elim}
+use Rattle.std.proofs.lemmas.Bool.{cases_Bool}
+use Rattle.std.proofs.lemmas.Bool.Decides.{not_from_Decides}
+use Rattle.std.proofs.lemmas.List.{append-nil, take_at, take-append-drop}
+use Rattle.std.proofs.lemmas.List.Sums.{sum_by-cons}
+use Rattle.std.proofs.lemmas.Slice.Eq.{bytes_eq-Decides}
+use Rattle.vl_frame.proofs.Spellings.{frame_bytes_length, one_spelled}
+use Rattle.vl_frame.specs.Frame.{IsSpelled, frame_bytes}
+use Rattle.vl_frame.specs.declared.kinds.FileKind.TheVariants as files
+use Rattle.vl_frame.specs.declared.kinds.FrameKind.TheVariants as kinds
+use Rattle.vl_model.specs.declared.change.Change.{Change}
+use Rattle.vl_record.proofs.Records.{length-record_bytes}
+use Rattle.vl_record.specs.Record.{record_bytes, record_length}
+use Rattle.vl_seglog.specs.Log.{Commit, HasFrame, ReadsAs, ReadsLog, StandsAt, commit_body, commit_frame, frames_bytes, log_bytes, log_header, records_bytes}
+
+-- ---- lengths
+
+pub header_length : (file : ℕ) → length (log_header file) ≡ 16
+header_length file = refl
+
+records_length : (writes : List (List ℕ × Change)) → length (records_bytes writes) ≡ sum_by (λ write. record_length write.0 write.1) writes
+records_length [] = refl
+records_length (w ∷ writes) =
+    length-append (record_bytes w.0 w.1) (records_bytes writes) ∙ ap (λ (n : ℕ). n + length (records_bytes writes)) (length-record_bytes w.0 w.1)
+    ∙ ap (λ (n : ℕ). record_length w.0 w.1 + n) (records_length writes) ∙ sym (sum_by-cons (λ write. record_length write.0 write.1) w writes)
+
+body_length : (c : Commit) → length (commit_body c) ≡ 12 + length (records_bytes c.writes)
+unfolding commit_body
+body_length c = omega arith
+
+-- A commit's frame has 13 bytes of the frame, 12 of the number and the count, and the records.
+pub commit_frame-length : (file at : ℕ) (c : Commit) → length (commit_frame file at c) ≡ 25 + sum_by (λ write. record_length write.0 write.1) c.writes
+commit_frame-length file at c = omega (arith, frame_bytes_length file at kinds.Commit (commit_body c), body_length c, records_length c.writes)
+
+pub frame_is_some : (file at : ℕ) (c : Commit) → 1 ≤ length (commit_frame file at c)
+frame_is_some file at c = omega (arith, frame_bytes_length file at kinds.Commit (commit_body c))
+
+-- ---- one commit more
+
+frames_bytes-more : (file at : ℕ) (commits : List Commit) (c : Commit) → frames_bytes file at (commits ++ c ∷ []) ≡ frames_bytes file at commits ++ commit_frame file (at + length (frames_bytes file at commits)) c
+frames_bytes-more file at [] c =
+    let same : at ≡ at + 0 = omega arith in
+    append-nil (commit_frame file at c) ∙ ap (λ (n : ℕ). commit_frame file n c) same
+frames_bytes-more file at (d ∷ commits) c =
+    let front = commit_frame file at d in
+    let next = at + length front in
+    let frames = frames_bytes file next commits in
+    let place : next + length frames ≡ at + length (front ++ frames) = omega (arith, length-append front frames) in
+    ap (λ (bytes : List ℕ). front ++ bytes) (frames_bytes-more file next commits c) ∙ sym (append_assoc front frames (commit_frame file (next + length frames) c))
+    ∙ ap (λ (n : ℕ). (front ++ frames) ++ commit_frame file n c) place
+
+frames_place : (file : ℕ) (commits : List Commit) → 16 + length (frames_bytes file 16 commits) ≡ length (log_bytes file commits)
+frames_place file commits = omega arith
+
+pub log_bytes-none : (file : ℕ) → log_bytes file [] ≡ log_header file
+log_bytes-none file = refl
+
+-- The log of one commit more has that commit's frame behind it.
+pub log_bytes-more : (file : ℕ) (commits : List Commit) (c : Commit) → log_bytes file (commits ++ c ∷ []) ≡ log_bytes file commits ++ commit_frame file (length (log_bytes file commits)) c
+log_bytes-more file commits c =
+    ap (λ (bytes : List ℕ). log_header file ++ bytes) (frames_bytes-more file 16 commits c ∙ ap (λ (n : ℕ). frames_bytes file 16 commits ++ commit_frame file n c) (frames_place file commits))
+    ∙ sym (append_assoc (log_header file) (frames_bytes file 16 commits) (commit_frame file (length (log_bytes file commits)) c))
+
+pub log_bytes-length-more : (file : ℕ) (commits : List Commit) (c : Commit) → length (log_bytes file (commits ++ c ∷ [])) ≡ length (log_bytes file commits) + length (commit_frame file (length (log_bytes file commits)) c)
+log_bytes-length-more file commits c =
+    ap length (log_bytes-more file commits c) ∙ length-append (log_bytes file commits) (commit_frame file (length (log_bytes file commits)) c)
+
+-- ---- what is read
+
+-- behind frames that stand, what is read goes on
+reads_more : (file at : ℕ) (commits : List Commit) → AllByRecursion HasFrame commits → (tail : List ℕ) (others : List Commit) → ReadsAs file (at + length (frames_bytes file at commits)) tail others
+    → ReadsAs file at (frames_bytes file at commits ++ tail) (commits ++ others)
+reads_more file at [] have tail others reads =
+    let same : at + 0 ≡ at = omega arith in
+    subst (λ (n : ℕ). ReadsAs file n tail others) same reads
+reads_more file at (c ∷ commits) have tail others reads =
+    let front = commit_frame file at c in
+    let next = at + length front in
+    let frames = frames_bytes file next commits in
+    let place : at + length (front ++ frames) ≡ next + length frames = omega (arith, length-append front frames) in (
+      frames ++ tail,
+      record { lawful = have.0.lawful; short = have.0.short; spelled = append_assoc front frames tail },
+      reads_more file next commits have.1 tail others (subst (λ (n : ℕ). ReadsAs file n tail others) place reads),
+    )
+
+log_reads_more : (file : ℕ) (commits : List Commit) → AllByRecursion HasFrame commits → (tail : List ℕ) (others : List Commit) → ReadsAs file (length (log_bytes file commits)) tail others → ReadsLog file (log_bytes file commits ++ tail) (commits ++ others)
+log_reads_more file commits have tail others reads =
+    reads_more file 16 commits have tail others (subst (λ (n : ℕ). ReadsAs file n tail others) (sym (frames_place file commits)) reads)
+
+-- Bytes behind the log at whose front no commit stands are no part of what it holds.
+pub reads_behind : (file : ℕ) (commits : List Commit) → AllByRecursion HasFrame commits → (tail : List ℕ) → ((c : Commit) (rest : List ℕ) → StandsAt file (length (log_bytes file commits)) tail c rest → ⊥) → ReadsLog file (log_bytes file commits ++ tail) commits
+reads_behind file commits have tail none = subst (λ (l : List Commit). ReadsLog file (log_bytes file commits ++ tail) l) (append-nil commits) (log_reads_more file commits have tail [] none)
+
+none_at_end : (file at : ℕ) (c : Commit) (rest : List ℕ) → StandsAt file at [] c rest → ⊥
+none_at_end file at c rest s = omega (arith, ap length s.spelled, length-append (commit_frame file at c) rest, frame_is_some file at c)
+
+-- The log of some commits holds them.
+pub reads_whole : (file : ℕ) (commits : List Commit) → AllByRecursion HasFrame commits → ReadsLog file (log_bytes file commits) commits
+reads_whole file commits have =
+    subst (λ (bytes : List ℕ). ReadsLog file bytes commits) (append-nil (log_bytes file commits)) (reads_behind file commits have [] (none_at_end file (length (log_bytes file commits))))
+
+-- Where no commit stands behind the first bytes, the log holds none.
+pub nothing_in_header : (file : ℕ) (bytes : List ℕ) → ((c : Commit) (rest : List ℕ) → StandsAt file 16 (drop 16 bytes) c rest → ⊥) → ReadsLog file bytes []
+nothing_in_header file bytes none = none
+
+-- ---- what is read behind a write that was cut
+
+-- a frame that begins another is the other
+one_front : (file at : ℕ) (c d : Commit) → HasFrame c → HasFrame d → take (length (commit_frame file at d)) (commit_frame file at c) ≡ commit_frame file at d → commit_frame file at d ≡ commit_frame file at c
+one_front file at c d p q front =
+    let frame = commit_frame file at c in
+    let n = length (commit_frame file at d) in
+    let whole : frame ≡ commit_frame file at d ++ drop n frame = sym (take-append-drop n frame) ∙ ap (λ (bytes : List ℕ). bytes ++ drop n frame) front in
+    let one : IsSpelled files.Log file at frame kinds.Commit (commit_body c) = record { in_file = refl; short = p.short; rest = []; spelled = sym (append-nil frame) } in
+    let other : IsSpelled files.Log file at frame kinds.Commit (commit_body d) = record { in_file = refl; short = q.short; rest = drop n frame; spelled = whole } in
+    ap (λ (body : List ℕ). frame_bytes file at kinds.Commit body) (one_spelled files.Log file at frame kinds.Commit kinds.Commit (commit_body d) (commit_body c) other one).1
+
+-- of the frame of c, which was being written, a frame at the front of the tail is a front, and behind it stands nothing
+module _ (file at : ℕ) (c : Commit) (has : HasFrame c) (tail : List ℕ)
+    (torn : (d : Commit) (rest : List ℕ) → StandsAt file at tail d rest → (take (length (commit_frame file at d)) (commit_frame file at c) ≡ commit_frame file at d)
+    × ((e : Commit) (after : List ℕ) → StandsAt file (at + length (commit_frame file at d)) rest e after → ⊥)) where
+  there : take (length (commit_frame file at c)) tail ≡ commit_frame file at c → ReadsAs file at tail (c ∷ [])
+  there front =
+      let n = length (commit_frame file at c) in
+      let s : StandsAt file at tail c (drop n tail) =
+      record { lawful = has.lawful; short = has.short; spelled = sym (take-append-drop n tail) ∙ ap (λ (bytes : List ℕ). bytes ++ drop n tail) front } in
+      (drop n tail, s, (torn c (drop n tail) s).1)
+
+  not_there : (take (length (commit_frame file at c)) tail ≡ commit_frame file at c → ⊥) → (d : Commit) (rest : List ℕ) → StandsAt file at tail d rest → ⊥
+  not_there apart d rest s =
+      let same = one_front file at c d has (record { lawful = s.lawful; short = s.short }) (torn d rest s).0 in
+      let spelled : tail ≡ commit_frame file at c ++ rest = s.spelled ∙ ap (λ (bytes : List ℕ). bytes ++ rest) same in
+      apart (ap (take (length (commit_frame file at c))) spelled ∙ take_at (commit_frame file at c) rest (length (commit_frame file at c)) refl)
+
+  there_or_not : ReadsAs file at tail [] ⊎ ReadsAs file at tail (c ∷ [])
+  there_or_not =
+      let front = take (length (commit_frame file at c)) tail in
+      let frame = commit_frame file at c in
+      let same = bytes_eq-Decides front frame in
+      ⊎_elim (λ (yes : bytes_eq front frame ≡ true). inr (there (same.0 yes))) (λ (other : bytes_eq front frame ≡ false). inl (not_there (not_from_Decides (bytes_eq front frame) same other)))
+      (cases_Bool (bytes_eq front frame))
+
+-- Behind the log stands a tail. If a frame stands at its front, it is a front of the frame of c, and behind it stands nothing. Then the log holds the commits, or these and c.
+pub reads_torn : (file : ℕ) (commits : List Commit) → AllByRecursion HasFrame commits → (c : Commit) → HasFrame c → (tail : List ℕ)
+    → ((d : Commit) (rest : List ℕ) → StandsAt file (length (log_bytes file commits)) tail d rest
+    → (take (length (commit_frame file (length (log_bytes file commits)) d)) (commit_frame file (length (log_bytes file commits)) c) ≡ commit_frame file (length (log_bytes file commits)) d)
+    × ((e : Commit) (after : List ℕ) → StandsAt file (length (log_bytes file commits) + length (commit_frame file (length (log_bytes file commits)) d)) rest e after → ⊥))
+    → ReadsLog file (log_bytes file commits ++ tail) commits ⊎ ReadsLog file (log_bytes file commits ++ tail) (commits ++ c ∷ [])
+reads_torn file commits have c has tail torn =
+    let at = length (log_bytes file commits) in
+    ⊎_elim (λ (none : ReadsAs file at tail []). inl (reads_behind file commits have tail none)) (λ (one : ReadsAs file at tail (c ∷ [])). inr (log_reads_more file commits have tail (c ∷ []) one))
+    (there_or_not file at c has tail torn)
