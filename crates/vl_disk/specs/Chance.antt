@@ -28,4 +28,4 @@ abbrev pub NoChanceMatch : (Name → List ℕ → ℕ → List ℕ → Type 0) �
 NoChanceMatch spells disk image = (name : Name) (file : File) (bytes frame : List ℕ)
     → GrowsByFrames name → last_file (get disk.standing name) (get disk.removed name) ≡ Some file → file.wholly_synced ≡ false → get image name ≡ Some bytes
     → spells name bytes (torn_from file) frame
-    → Any (StandsIn (torn_from file) frame) file.due × ((next : List ℕ) → spells name bytes (torn_from file + length frame) next → ⊥)
+    → Any (StandsIn (torn_from file) frame) file.due × ((next : List ℕ) → spells name bytes (torn_from file + length frame) next → Any (StandsIn (torn_from file + length frame) next) file.due)

@@ -109,7 +109,7 @@ nothing_in_header file bytes none = none
 -- ---- what is read behind a write that was cut
 
 -- a frame that begins another is the other
-one_front : (file at : ℕ) (c d : Commit) → HasFrame c → HasFrame d → take (length (commit_frame file at d)) (commit_frame file at c) ≡ commit_frame file at d → commit_frame file at d ≡ commit_frame file at c
+pub one_front : (file at : ℕ) (c d : Commit) → HasFrame c → HasFrame d → take (length (commit_frame file at d)) (commit_frame file at c) ≡ commit_frame file at d → commit_frame file at d ≡ commit_frame file at c
 one_front file at c d p q front =
     let frame = commit_frame file at c in
     let n = length (commit_frame file at d) in

@@ -1,0 +1,2 @@
+pub mod StoreFiles
+pub mod StoreImages
