@@ -1,2 +1,5 @@
+pub mod Opened
+pub mod Steps
 pub mod StoreFiles
 pub mod StoreImages
+pub mod Written

@@ -1,0 +1,134 @@
+use Rattle.std.proofs.Common.{◌≡◌, ◌≢◌, ◌∙◌, ap, sym, subst, refl, length, Some, arith, true, false}
+use Rattle.std.proofs.lemmas.Bool.{eqb-false, eqb-true}
+use Rattle.std.specs.Option.{option_map}
+use Rattle.vl_disk.specs.MadeFile.{made, WhileMaking}
+use Rattle.vl_disk.specs.DiskState.{DiskState}
+use Rattle.vl_seglog.specs.Log.{log_header}
+use Rattle.vl_journal.specs.declared.names.TheConstants.{NUMBER, MANIFEST, LOG}
+use Rattle.vl_journal.specs.Files.{first_manifest}
+use Rattle.vl_journal.proofs.Steps.{waits, goes_by}
+use Rattle.vl_journal.proofs.Opened.{one_stands, log_free, leaves_nothing, leaves_manifest, leaves_log, manifest_made, opened}
+use Rattle.vl_journal.proofs.opening.open_store.Goals as goal
+
+pub returns-in_err-list-clause-through : goal.returns-in_err-list-clause-through
+returns-in_err-list-clause-through g c state is empty =
+    let told = g.D.Disk.told in
+    let moment = g.D.Disk.moment in
+    let since = g.D.Disk.states_since in
+    let start = waits told moment since g.met.D.Disk.only_now _ _ state is (leaves_nothing state empty) in
+    goes_by told moment since _ _ _ _ state _ is start c.in_err-list.ensures.time (leaves_nothing state empty)
+
+pub returns-then-not-is_empty-clause-through : goal.returns-then-not-is_empty-clause-through
+returns-then-not-is_empty-clause-through g c state is empty =
+    let told = g.D.Disk.told in
+    let moment = g.D.Disk.moment in
+    let since = g.D.Disk.states_since in
+    let start = waits told moment since g.met.D.Disk.only_now _ _ state is (leaves_nothing state empty) in
+    goes_by told moment since _ _ _ _ state _ is start c.in_ok-list.ensures.time (leaves_nothing state empty)
+
+pub returns-in_err-manifest-clause-through : goal.returns-in_err-manifest-clause-through
+returns-in_err-manifest-clause-through g c state is empty =
+    let told = g.D.Disk.told in
+    let moment = g.D.Disk.moment in
+    let since = g.D.Disk.states_since in
+    let start = waits told moment since g.met.D.Disk.only_now _ _ state is (leaves_nothing state empty) in
+    goes_by told moment since _ _ _ _ state _ is start c.in_ok-list.ensures.time (leaves_nothing state empty)
+
+pub returns-in_err-ready-clause-through : goal.returns-in_err-ready-clause-through
+returns-in_err-ready-clause-through g c state is empty =
+    let told = g.D.Disk.told in
+    let moment = g.D.Disk.moment in
+    let since = g.D.Disk.states_since in
+    let start = waits told moment since g.met.D.Disk.only_now _ _ state is (leaves_nothing state empty) in
+    let listed = goes_by told moment since _ _ _ _ state _ is start c.in_ok-list.ensures.time (leaves_nothing state empty) in
+    let is1 : told c.list.new.self ≡ Some state = c.in_ok-list.ensures.told ∙ is in
+    goes_by told moment since _ _ _ _ state _ is1 listed c.in_err-ready.ensures.time (leaves_nothing state empty)
+
+pub returns-in_err-ready-2-clause-through : goal.returns-in_err-ready-2-clause-through
+returns-in_err-ready-2-clause-through g c state is empty =
+    let told = g.D.Disk.told in
+    let moment = g.D.Disk.moment in
+    let since = g.D.Disk.states_since in
+    let start = waits told moment since g.met.D.Disk.only_now _ _ state is (leaves_nothing state empty) in
+    let listed = goes_by told moment since _ _ _ _ state _ is start c.in_ok-list.ensures.time (leaves_nothing state empty) in
+    let is1 : told c.list.new.self ≡ Some state = c.in_ok-list.ensures.told ∙ is in
+    let ready = goes_by told moment since _ _ _ _ state _ is1 listed c.in_ok-ready.ensures.time (leaves_nothing state empty) in
+    let is2 : told c.ready.new.self ≡ Some state = c.in_ok-ready.ensures.told ∙ is1 in
+    goes_by told moment since _ _ _ _ state _ is2 ready c.in_err-ready-2.ensures.time (leaves_nothing state empty)
+
+pub returns-in_err-make_file-clause-through : goal.returns-in_err-make_file-clause-through
+returns-in_err-make_file-clause-through g c state is empty =
+    let told = g.D.Disk.told in
+    let moment = g.D.Disk.moment in
+    let since = g.D.Disk.states_since in
+    let start = waits told moment since g.met.D.Disk.only_now _ _ state is (leaves_nothing state empty) in
+    let listed = goes_by told moment since _ _ _ _ state _ is start c.in_ok-list.ensures.time (leaves_nothing state empty) in
+    let is1 : told c.list.new.self ≡ Some state = c.in_ok-list.ensures.told ∙ is in
+    let ready = goes_by told moment since _ _ _ _ state _ is1 listed c.in_ok-ready.ensures.time (leaves_nothing state empty) in
+    let is2 : told c.ready.new.self ≡ Some state = c.in_ok-ready.ensures.told ∙ is1 in
+    let ready2 = goes_by told moment since _ _ _ _ state _ is2 ready c.in_ok-ready-2.ensures.time (leaves_nothing state empty) in
+    let is3 : told c.ready-2.new.self ≡ Some state = c.in_ok-ready-2.ensures.told ∙ is2 in
+    let bytes : c.deref.result.now ≡ first_manifest = c.deref.ensures.value ∙ c.in_ok-manifest.ensures in
+    goes_by told moment since _ _ _ _ state _ is3 ready2 c.in_err-make_file.ensures.time (leaves_manifest state empty c.deref.result.now)
+
+pub make_file-requires-2-clause-free : goal.make_file-requires-2-clause-free
+make_file-requires-2-clause-free g c =
+    let told = g.D.Disk.told in
+    log_free c.in_ok-list.field-0.items c.deref.result.now (told c.ready-2.new.self) (told c.make_file.new.disk)
+    (λ disk is. c.in_ok-list.ensures.names disk (sym (c.in_ok-ready-2.ensures.told ∙ c.in_ok-ready.ensures.told ∙ c.in_ok-list.ensures.told) ∙ is)) (omega (arith, c.in_ok-list.field-0.ok.0, eqb-true _ _ (sym c.if-not-is_empty.ensures))) c.in_ok-make_file.ensures.made
+
+pub returns-then-not-is_empty-clause-not_a_store : goal.returns-then-not-is_empty-clause-not_a_store
+returns-then-not-is_empty-clause-not_a_store g c is disk told =
+    one_stands c.in_ok-list.field-0.items disk (c.in_ok-list.ensures.names disk told) (λ none. eqb-false _ _ (sym c.if-not-is_empty.ensures) (omega (arith, c.in_ok-list.field-0.ok.0, none)))
+
+pub returns-in_err-make_file-2-clause-through : goal.returns-in_err-make_file-2-clause-through
+returns-in_err-make_file-2-clause-through g c state is empty =
+    let told = g.D.Disk.told in
+    let moment = g.D.Disk.moment in
+    let since = g.D.Disk.states_since in
+    let start = waits told moment since g.met.D.Disk.only_now _ _ state is (leaves_nothing state empty) in
+    let listed = goes_by told moment since _ _ _ _ state _ is start c.in_ok-list.ensures.time (leaves_nothing state empty) in
+    let is1 : told c.list.new.self ≡ Some state = c.in_ok-list.ensures.told ∙ is in
+    let ready = goes_by told moment since _ _ _ _ state _ is1 listed c.in_ok-ready.ensures.time (leaves_nothing state empty) in
+    let is2 : told c.ready.new.self ≡ Some state = c.in_ok-ready.ensures.told ∙ is1 in
+    let ready2 = goes_by told moment since _ _ _ _ state _ is2 ready c.in_ok-ready-2.ensures.time (leaves_nothing state empty) in
+    let is3 : told c.ready-2.new.self ≡ Some state = c.in_ok-ready-2.ensures.told ∙ is2 in
+    let bytes : c.deref.result.now ≡ first_manifest = c.deref.ensures.value ∙ c.in_ok-manifest.ensures in
+    let manifest = goes_by told moment since _ _ _ _ state _ is3 ready2 c.in_ok-make_file.ensures.time (leaves_manifest state empty c.deref.result.now) in
+    let is4 = manifest_made state empty _ _ is3 (subst (λ b. told c.make_file.new.disk ≡ option_map (made MANIFEST b) (told c.ready-2.new.self)) bytes c.in_ok-make_file.ensures.made) in
+    goes_by told moment since _ _ _ _ _ _ is4 manifest c.in_err-make_file-2.ensures.time (λ now meanwhile. leaves_log state empty now (subst (λ b. WhileMaking LOG b (made MANIFEST first_manifest state) now) c.log_header-header.ensures meanwhile))
+
+pub returns-clause-through : goal.returns-clause-through
+returns-clause-through g c state is empty =
+    let told = g.D.Disk.told in
+    let moment = g.D.Disk.moment in
+    let since = g.D.Disk.states_since in
+    let start = waits told moment since g.met.D.Disk.only_now _ _ state is (leaves_nothing state empty) in
+    let listed = goes_by told moment since _ _ _ _ state _ is start c.in_ok-list.ensures.time (leaves_nothing state empty) in
+    let is1 : told c.list.new.self ≡ Some state = c.in_ok-list.ensures.told ∙ is in
+    let ready = goes_by told moment since _ _ _ _ state _ is1 listed c.in_ok-ready.ensures.time (leaves_nothing state empty) in
+    let is2 : told c.ready.new.self ≡ Some state = c.in_ok-ready.ensures.told ∙ is1 in
+    let ready2 = goes_by told moment since _ _ _ _ state _ is2 ready c.in_ok-ready-2.ensures.time (leaves_nothing state empty) in
+    let is3 : told c.ready-2.new.self ≡ Some state = c.in_ok-ready-2.ensures.told ∙ is2 in
+    let bytes : c.deref.result.now ≡ first_manifest = c.deref.ensures.value ∙ c.in_ok-manifest.ensures in
+    let manifest = goes_by told moment since _ _ _ _ state _ is3 ready2 c.in_ok-make_file.ensures.time (leaves_manifest state empty c.deref.result.now) in
+    let is4 = manifest_made state empty _ _ is3 (subst (λ b. told c.make_file.new.disk ≡ option_map (made MANIFEST b) (told c.ready-2.new.self)) bytes c.in_ok-make_file.ensures.made) in
+    goes_by told moment since _ _ _ _ _ _ is4 manifest c.in_ok-make_file-2.ensures.time (λ now meanwhile. leaves_log state empty now (subst (λ b. WhileMaking LOG b (made MANIFEST first_manifest state) now) c.log_header-header.ensures meanwhile))
+
+pub returns-clause-opened : goal.returns-clause-opened
+returns-clause-opened g c state is empty =
+    let told = g.D.Disk.told in
+    let moment = g.D.Disk.moment in
+    let since = g.D.Disk.states_since in
+    let start = waits told moment since g.met.D.Disk.only_now _ _ state is (leaves_nothing state empty) in
+    let listed = goes_by told moment since _ _ _ _ state _ is start c.in_ok-list.ensures.time (leaves_nothing state empty) in
+    let is1 : told c.list.new.self ≡ Some state = c.in_ok-list.ensures.told ∙ is in
+    let ready = goes_by told moment since _ _ _ _ state _ is1 listed c.in_ok-ready.ensures.time (leaves_nothing state empty) in
+    let is2 : told c.ready.new.self ≡ Some state = c.in_ok-ready.ensures.told ∙ is1 in
+    let ready2 = goes_by told moment since _ _ _ _ state _ is2 ready c.in_ok-ready-2.ensures.time (leaves_nothing state empty) in
+    let is3 : told c.ready-2.new.self ≡ Some state = c.in_ok-ready-2.ensures.told ∙ is2 in
+    let bytes : c.deref.result.now ≡ first_manifest = c.deref.ensures.value ∙ c.in_ok-manifest.ensures in
+    let manifest = goes_by told moment since _ _ _ _ state _ is3 ready2 c.in_ok-make_file.ensures.time (leaves_manifest state empty c.deref.result.now) in
+    let is4 = manifest_made state empty _ _ is3 (subst (λ b. told c.make_file.new.disk ≡ option_map (made MANIFEST b) (told c.ready-2.new.self)) bytes c.in_ok-make_file.ensures.made) in
+    opened state empty _ _ is4 (subst (λ b. told c.make_file-2.new.disk ≡ option_map (made LOG b) (told c.make_file.new.disk)) c.log_header-header.ensures c.in_ok-make_file-2.ensures.made)
+
