@@ -8,7 +8,7 @@ mod replay;
 mod tests;
 mod words;
 
-ghost use Rattle.std.specs.Prelude.{◌≡◌, ◌≢◌, ◌<◌, ℕ, List, map, string_bytes, Some, true, false};
+ghost use Rattle.std.specs.Prelude.{◌≡◌, ◌≢◌, ◌<◌, ◌⊎◌, ℕ, List, map, string_bytes, Some, true, false};
 ghost use Rattle.vl_disk.specs.Faults.{Rose};
 ghost use Rattle.vl_io.specs.Sink.{Takes};
 ghost use Rattle.vl_cli.specs.Script.{lines_of};
@@ -27,9 +27,11 @@ use std::alloc::Global;
 use vl_disk::Disk;
 use vl_io::{Sink, Source};
 
-/// Ends a run whose words found no memory: what is printed and answered is as in `run`.
+/// Ends a run whose words found no memory: status 5, or 7 where the last line can't be put.
 pub fn refuse_without_words<K: Sink>(sink: &mut K) -> u8
-    ensures { (ending : HowEnded) × (result ≡ status_of ending) × Finishes (K.held sink.old) no_memory_line NoMemory ending (K.held sink.new) }
+    ensures printed { (ending : HowEnded) × (result ≡ status_of ending) × Finishes (K.held sink.old) no_memory_line NoMemory ending (K.held sink.new) }
+    ensures faults { ((result ≡ 5) × (K.faults sink.new ≡ K.faults sink.old))
+        ⊎ ((result ≡ 7) × Rose (K.faults sink.old) (K.faults sink.new)) }
 {
     finish(sink, NO_MEMORY, Ending::NoMemory).status()
 }
