@@ -47,7 +47,7 @@ pub fn run<S: Source, K: Sink, D: Disk>(
     // What is printed, and how the run ends, are those of the sequential store over the lines of the input.
     ensures answers { (input : List ℕ) → S.left source.old ≡ Some input →
         (ending : HowEnded) × (printed : List ℕ) × (result.status ≡ status_of ending) × Takes (K.held sink.old) (K.held sink.new) printed
-        × Runs (Rose (S.faults source.old) (S.faults source.new)) (map string_bytes words.now) input (S.left source.new) ending printed }
+        × Runs (Rose (S.faults source.old) (S.faults source.new)) (map string_bytes words.now) input (S.left source.new) (S.asked source.new) ending printed }
 
     // What was read is explained by the history at the reader's number.
     ensures explained { (input : List ℕ) → S.left source.old ≡ Some input → AreExplained (exchanges_from empty_store (lines_of input)) }
