@@ -107,7 +107,7 @@ begins_with (b ∷ []) rest h some =
     record { tail = a.0; texts = a.1; lines = lines_of-other b rest h.0 ∙ a.2 }
 begins_with (b ∷ c ∷ front) rest h some = onto_front b (c ∷ front) ((c ∷ front) ++ rest) h.0 (begins_with (c ∷ front) rest h.1 (omega arith))
 
-unended-append : (xs ys : List ℕ) → HasNoLineEnd xs → HasNoLineEnd ys → HasNoLineEnd (xs ++ ys)
+pub unended-append : (xs ys : List ℕ) → HasNoLineEnd xs → HasNoLineEnd ys → HasNoLineEnd (xs ++ ys)
 unended-append [] ys p q = q
 unended-append (x ∷ xs) ys p q = (p.0, unended-append xs ys p.1 q)
 
@@ -125,6 +125,10 @@ read_to_end had line buffer rest new line' e h (piece, parts, unended, taken) = 
 pub read_all : (had line buffer rest new line' : List ℕ) → had ≡ line ++ (buffer ++ rest) → HasNoLineEnd line → TakesLineEnd false buffer new line line' → (had ≡ line' ++ rest) × HasNoLineEnd line'
 read_all had line buffer rest new line' e h (none, unended, taken) =
     (e ∙ sym (append_assoc line buffer rest) ∙ ap (λ (l : List ℕ). l ++ rest) (sym taken), rw taken (unended-append line buffer h unended))
+
+-- the source gave more, which is behind the line so far
+pub more_given : (had line rest given : List ℕ) (left' : Option (List ℕ)) → had ≡ line ++ rest → Refills true (Some rest) left' given → (more : List ℕ) × (left' ≡ Some more) × (had ≡ line ++ (given ++ more))
+more_given had line rest given left' e (more, told, parts, some) = (more, told, e ∙ ap (λ (r : List ℕ). line ++ r) parts)
 
 -- the line so far is longer than any of the language, and so is the whole line
 pub too_long : (n : ℕ) (had line rest : List ℕ) → had ≡ line ++ rest → HasNoLineEnd line → n < length line → (text : List ℕ) × (texts : List (List ℕ)) × (lines_of had ≡ text ∷ texts) × (n < length text)

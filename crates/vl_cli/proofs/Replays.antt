@@ -11,12 +11,11 @@ use Rattle.vl_cli.specs.declared.script.line.Line.{Line}
 use Rattle.vl_cli.specs.declared.script.answer.Answer.{Answer}
 use Rattle.vl_cli.specs.Script.{text_of, lines_of, line_of}
 use Rattle.vl_cli.specs.Input.{HasNoLineEnd, ReadsLine}
-use Rattle.vl_cli.specs.Replay.{Exchange, exchange_at, exchanged, is_printed, exchanges_from, and_later, answers_text, line_number, bad_line, no_memory_line, read_fault_line, ended_lines, IsAhead, NextPiece, next_answer, next_bad_line, next_no_memory, next_read_fault, EndsSo, Replays}
+use Rattle.vl_cli.specs.Replay.{Exchange, exchange_at, exchanged, is_printed, exchanges_from, and_later, answers_text, line_number, bad_line, no_memory_line, read_fault_line, ended_lines, KeepsUp, NextPiece, next_answer, next_bad_line, next_no_memory, next_read_fault, EndsSo, Replays}
 use Rattle.vl_cli.specs.Steps.{Finishes, EndsRun, StepsOn, GoesOn, SinkCounts, Counts}
 use Rattle.vl_cli.specs.declared.replayer.Replayer.{Replayer}
 use Rattle.vl_cli.specs.declared.input.lines.Next.TheVariants.{Line as WholeLine, LastLine}
 use Rattle.vl_cli.specs.declared.script.limits.TheConstants.{MAX_LINE_BYTES}
-use Rattle.vl_cli.specs.declared.input.buffer.TheConstants.{BUFFER_BYTES}
 use Rattle.std.proofs.lemmas.Bool.Decides.{nat_tests}
 use Rattle.vl_disk.specs.Faults.{Rose}
 use Rattle.vl_cli.specs.declared.ending.Ending.{Ending}
@@ -39,28 +38,28 @@ pub exchanges_from-answered : (s : State) (text : List ℕ) (texts : List (List 
 exchanges_from-answered s text texts x e = gone_on (exchange_at s text) (λ y. exchanges_from y.after texts) x e
 
 -- what a run that ends in its next piece prints: the piece, or a front of it where the sink failed
-pub finished : (failed : Type 0) (all : List Exchange) (lines before : ℕ) (bytes : List ℕ) (left : Option (List ℕ)) (ending result : Ending) (line : List ℕ) (held held' : Option (List ℕ)) →
-    EndsSo failed all lines before bytes left ending line → NextPiece failed all lines before 0 line → IsAhead bytes left 0 → Finishes held line ending result held' →
-    (printed : List ℕ) × Takes held held' printed × EndsSo failed all lines before bytes left result printed
-finished failed all lines before bytes left ending result line held held' whole next ahead (printed, takes, how) = (
+pub finished : (failed : Type 0) (all : List Exchange) (lines before : ℕ) (bytes : List ℕ) (left asked : Option (List ℕ)) (ending result : Ending) (line : List ℕ) (held held' : Option (List ℕ)) →
+    EndsSo failed all lines before bytes left asked ending line → NextPiece failed all lines before 0 line → KeepsUp bytes asked 0 → Finishes held line ending result held' →
+    (printed : List ℕ) × Takes held held' printed × EndsSo failed all lines before bytes left asked result printed
+finished failed all lines before bytes left asked ending result line held held' whole next kept_up (printed, takes, how) = (
   printed,
   takes,
   elim how [
-    | inl same ↦ subst (λ (r : Ending). EndsSo failed all lines before bytes left r printed) (sym same.0) (subst (λ (p : List ℕ). EndsSo failed all lines before bytes left ending p) (sym same.1) whole)
-    | inr cut ↦ subst (λ (r : Ending). EndsSo failed all lines before bytes left r printed) (sym cut.0) (0, line, printed, zero-le, next, cut.1, refl, ahead)
+    | inl same ↦ subst (λ (r : Ending). EndsSo failed all lines before bytes left asked r printed) (sym same.0) (subst (λ (p : List ℕ). EndsSo failed all lines before bytes left asked ending p) (sym same.1) whole)
+    | inr cut ↦ subst (λ (r : Ending). EndsSo failed all lines before bytes left asked r printed) (sym cut.0) (0, line, printed, zero-le, next, cut.1, refl, kept_up)
   ],
 )
 
 -- the run ends at a bad line
-pub bad_line_ends : (failed : Type 0) (s : State) (before : ℕ) (bytes text : List ℕ) (texts : List (List ℕ)) (left : Option (List ℕ)) → lines_of bytes ≡ text ∷ texts → exchange_at s text ≡ None → IsAhead bytes left 0 →
-    Replays failed s before bytes left BadLine (bad_line (before + 1)) × NextPiece failed (exchanges_from s (lines_of bytes)) (length (lines_of bytes)) before 0 (bad_line (before + 1))
-bad_line_ends failed s before bytes text texts left e bad ahead =
+pub bad_line_ends : (failed : Type 0) (s : State) (before : ℕ) (bytes text : List ℕ) (texts : List (List ℕ)) (left asked : Option (List ℕ)) → lines_of bytes ≡ text ∷ texts → exchange_at s text ≡ None → KeepsUp bytes asked 0 →
+    Replays failed s before bytes left asked BadLine (bad_line (before + 1)) × NextPiece failed (exchanges_from s (lines_of bytes)) (length (lines_of bytes)) before 0 (bad_line (before + 1))
+bad_line_ends failed s before bytes text texts left asked e bad kept_up =
     let n : before + 0 + 1 ≡ before + 1 = omega arith in
-    rw (e, exchanges_from-bad s text texts bad) ((omega arith, ap bad_line (sym n), ahead), subst (λ (k : ℕ). NextPiece failed [] (length (text ∷ texts)) before 0 (bad_line k)) n (next_bad_line refl (omega arith)))
+    rw (e, exchanges_from-bad s text texts bad) ((omega arith, ap bad_line (sym n), kept_up), subst (λ (k : ℕ). NextPiece failed [] (length (text ∷ texts)) before 0 (bad_line k)) n (next_bad_line refl (omega arith)))
 
-pub no_memory_ends : (failed : Type 0) (s : State) (before : ℕ) (bytes : List ℕ) (left : Option (List ℕ)) → IsAhead bytes left 0 →
-    Replays failed s before bytes left NoMemory no_memory_line × NextPiece failed (exchanges_from s (lines_of bytes)) (length (lines_of bytes)) before 0 no_memory_line
-no_memory_ends failed s before bytes left ahead = ((0, zero-le, refl, ahead), next_no_memory)
+pub no_memory_ends : (failed : Type 0) (s : State) (before : ℕ) (bytes : List ℕ) (left asked : Option (List ℕ)) → KeepsUp bytes asked 0 →
+    Replays failed s before bytes left asked NoMemory no_memory_line × NextPiece failed (exchanges_from s (lines_of bytes)) (length (lines_of bytes)) before 0 no_memory_line
+no_memory_ends failed s before bytes left asked kept_up = ((0, zero-le, refl, kept_up), next_no_memory)
 
 tested_no : (b : ℕ) → b ≢ 10 → (b == 10) ≡ false
 tested_no b other = ne_eqb b 10 other
@@ -87,27 +86,27 @@ ended_lines-line [] rest h = ended_lines-cons 10 rest ∙ one-add (ended_lines r
 ended_lines-line (b ∷ line) rest h = ended_lines-cons b (line ++ 10 ∷ rest) ∙ counted (b == 10) (ended_lines (line ++ 10 ∷ rest)) (tested_no b h.0) ∙ ended_lines-line line rest h.1
 
 -- the run ends where the source fails before a line has ended
-pub read_fault_ends : (failed : Type 0) (s : State) (before : ℕ) (bytes given rest : List ℕ) (left : Option (List ℕ)) → failed → left ≡ Some rest → bytes ≡ given ++ rest → HasNoLineEnd given →
-    Replays failed s before bytes left ReadFault read_fault_line × NextPiece failed (exchanges_from s (lines_of bytes)) (length (lines_of bytes)) before 0 read_fault_line
-read_fault_ends failed s before bytes given rest left fault told parts unended =
+pub read_fault_ends : (failed : Type 0) (s : State) (before : ℕ) (bytes given rest : List ℕ) (left asked : Option (List ℕ)) → failed → left ≡ Some rest → bytes ≡ given ++ rest → HasNoLineEnd given →
+    Replays failed s before bytes left asked ReadFault read_fault_line × NextPiece failed (exchanges_from s (lines_of bytes)) (length (lines_of bytes)) before 0 read_fault_line
+read_fault_ends failed s before bytes given rest left asked fault told parts unended =
     let none : ended_lines given ≡ 0 = ended_lines-none given unended in
     ((given, rest, fault, parts, told, rw none zero-le, rw none refl), next_read_fault fault)
 
 -- the sink failed within an answer
-pub answer_cut : (failed : Type 0) (s : State) (before : ℕ) (bytes text : List ℕ) (texts : List (List ℕ)) (left : Option (List ℕ)) (e : Exchange) (held held' : Option (List ℕ)) →
-    lines_of bytes ≡ text ∷ texts → exchange_at s text ≡ Some e → TakesPrefix held held' (text_of e.answer) → IsAhead bytes left 0 → EndsRun failed s before bytes left WriteFault held held'
-answer_cut failed s before bytes text texts left e held held' lines is part ahead =
+pub answer_cut : (failed : Type 0) (s : State) (before : ℕ) (bytes text : List ℕ) (texts : List (List ℕ)) (left asked : Option (List ℕ)) (e : Exchange) (held held' : Option (List ℕ)) →
+    lines_of bytes ≡ text ∷ texts → exchange_at s text ≡ Some e → TakesPrefix held held' (text_of e.answer) → KeepsUp bytes asked 0 → EndsRun failed s before bytes left asked WriteFault held held'
+answer_cut failed s before bytes text texts left asked e held held' lines is part kept_up =
     let piece = text_of e.answer in (
       take part.0 piece,
       part.2,
       rw (lines, exchanges_from-answered s text texts e is)
-          (0, piece, take part.0 piece, zero-le, next_answer e refl, (drop part.0 piece, sym (take-append-drop part.0 piece)), refl, ahead),
+          (0, piece, take part.0 piece, zero-le, next_answer e refl, (drop part.0 piece, sym (take-append-drop part.0 piece)), refl, kept_up),
     )
 
 -- the input's last line was answered
-pub last_answered : (failed : Type 0) (s : State) (before : ℕ) (bytes text : List ℕ) (left : Option (List ℕ)) (e : Exchange) →
-    lines_of bytes ≡ text ∷ [] → exchange_at s text ≡ Some e → left ≡ Some [] → Replays failed s before bytes left Complete (text_of e.answer)
-last_answered failed s before bytes text left e lines is told =
+pub last_answered : (failed : Type 0) (s : State) (before : ℕ) (bytes text : List ℕ) (left asked : Option (List ℕ)) (e : Exchange) →
+    lines_of bytes ≡ text ∷ [] → exchange_at s text ≡ Some e → left ≡ Some [] → Replays failed s before bytes left asked Complete (text_of e.answer)
+last_answered failed s before bytes text left asked e lines is told =
     rw (lines, exchanges_from-answered s text [] e is) (refl, told, sym (append-nil (text_of e.answer)))
 
 -- one more answer in front
@@ -119,38 +118,47 @@ later_piece failed e all lines before m piece (next_bad_line at less) =
 later_piece failed e all lines before m piece next_no_memory = next_no_memory
 later_piece failed e all lines before m piece (next_read_fault fault) = next_read_fault fault
 
--- the source isn't ahead where a line with its answer comes in front
-ahead_of_line : (bytes line rest : List ℕ) (left : Option (List ℕ)) (m : ℕ) → bytes ≡ line ++ 10 ∷ rest → HasNoLineEnd line → IsAhead rest left m → IsAhead bytes left (suc m)
-ahead_of_line bytes line rest left m parts unended (given, chunk, more, told, split, short, le) =
-    let n : ended_lines (line ++ 10 ∷ given) ≡ suc (ended_lines given) = ended_lines-line line given unended in (
-      line ++ 10 ∷ given,
-      chunk,
-      more,
-      told,
-      parts ∙ ap (λ (r : List ℕ). line ++ 10 ∷ r) split ∙ sym (append_assoc line (10 ∷ given) (chunk ++ more)),
-      short,
-      rw n (omega arith),
-    )
+-- a line with its answer comes in front
+keeps_up_behind : (bytes line rest : List ℕ) (asked : Option (List ℕ)) (m : ℕ) → bytes ≡ line ++ 10 ∷ rest → HasNoLineEnd line → KeepsUp rest asked m → KeepsUp bytes asked (suc m)
+keeps_up_behind bytes line rest asked m parts unended (earlier, was, le) =
+    let n : ended_lines bytes ≡ suc (ended_lines rest) = ap ended_lines parts ∙ ended_lines-line line rest unended in
+    (earlier, was, omega arith)
 
--- nor where it was asked for bytes behind the begin of a line
-pub ahead_within : (bytes given chunk rest : List ℕ) (left : Option (List ℕ)) → bytes ≡ given ++ (chunk ++ rest) → HasNoLineEnd given → length chunk ≤ BUFFER_BYTES → left ≡ Some rest → IsAhead bytes left 0
-ahead_within bytes given chunk rest left parts unended short told = (given, chunk, rest, told, parts, short, rw (ended_lines-none given unended) zero-le)
+-- no answer is owed behind a line where none was before it
+pub keeps_up_after : (bytes line rest : List ℕ) (asked : Option (List ℕ)) → bytes ≡ line ++ 10 ∷ rest → HasNoLineEnd line → KeepsUp bytes asked 0 → KeepsUp rest asked 0
+keeps_up_after bytes line rest asked parts unended (earlier, was, le) =
+    let n : ended_lines bytes ≡ suc (ended_lines rest) = ap ended_lines parts ∙ ended_lines-line line rest unended in
+    (earlier, was, omega arith)
 
--- nor where it wasn't asked yet
-pub ahead_unread : (input : List ℕ) (left : Option (List ℕ)) → left ≡ Some input → IsAhead input left 0
-ahead_unread input left told = ([], [], input, told, refl, zero-le, zero-le)
+ended_lines-unended : (line rest : List ℕ) → HasNoLineEnd line → ended_lines (line ++ rest) ≡ ended_lines rest
+ended_lines-unended [] rest h = refl
+ended_lines-unended (b ∷ line) rest h = ended_lines-cons b (line ++ rest) ∙ counted (b == 10) (ended_lines (line ++ rest)) (tested_no b h.0) ∙ ended_lines-unended line rest h.1
 
-one_more : (failed : Type 0) (e : Exchange) (all : List Exchange) (lines before : ℕ) (bytes line rest : List ℕ) (left : Option (List ℕ)) (ending : Ending) (printed : List ℕ) →
-    bytes ≡ line ++ 10 ∷ rest → HasNoLineEnd line → EndsSo failed all lines (before + 1) rest left ending printed → EndsSo failed (e ∷ all) (suc lines) before bytes left ending (text_of e.answer ++ printed)
-one_more failed e all lines before bytes line rest left Complete printed parts unended (count, told, text) =
+-- none is owed where the source is asked within a line
+pub keeps_up_within : (bytes line rest : List ℕ) (asked : Option (List ℕ)) → bytes ≡ line ++ rest → HasNoLineEnd line → asked ≡ Some rest → KeepsUp bytes asked 0
+keeps_up_within bytes line rest asked parts unended was =
+    let n : ended_lines bytes ≡ ended_lines rest = ap ended_lines parts ∙ ended_lines-unended line rest unended in
+    (rest, was, omega arith)
+
+ended_lines-more : (given rest : List ℕ) → ended_lines rest ≤ ended_lines (given ++ rest)
+ended_lines-more [] rest = omega arith
+ended_lines-more (b ∷ given) rest = omega (arith, ended_lines-cons b (given ++ rest), ended_lines-more given rest)
+
+-- none is owed in what is left when nothing is read yet
+pub keeps_up_at_first : (rest : List ℕ) (asked : Option (List ℕ)) → (given : List ℕ) × (asked ≡ Some (given ++ rest)) → KeepsUp rest asked 0
+keeps_up_at_first rest asked (given, was) = (given ++ rest, was, omega (arith, ended_lines-more given rest))
+
+one_more : (failed : Type 0) (e : Exchange) (all : List Exchange) (lines before : ℕ) (bytes line rest : List ℕ) (left asked : Option (List ℕ)) (ending : Ending) (printed : List ℕ) →
+    bytes ≡ line ++ 10 ∷ rest → HasNoLineEnd line → EndsSo failed all lines (before + 1) rest left asked ending printed → EndsSo failed (e ∷ all) (suc lines) before bytes left asked ending (text_of e.answer ++ printed)
+one_more failed e all lines before bytes line rest left asked Complete printed parts unended (count, told, text) =
     (ap suc count, told, ap (λ (p : List ℕ). text_of e.answer ++ p) text)
-one_more failed e all lines before bytes line rest left BadLine printed parts unended (less, text, ahead) =
+one_more failed e all lines before bytes line rest left asked BadLine printed parts unended (less, text, kept_up) =
     let n : (before + 1) + length all + 1 ≡ before + suc (length all) + 1 = omega arith in
-    (omega arith, ap (λ (p : List ℕ). text_of e.answer ++ p) (text ∙ ap (λ (k : ℕ). answers_text all ++ bad_line k) n) ∙ sym (append_assoc (text_of e.answer) (answers_text all) _), ahead_of_line bytes line rest left (length all) parts unended ahead)
-one_more failed e all lines before bytes line rest left BadWords printed parts unended h = h
-one_more failed e all lines before bytes line rest left NoMemory printed parts unended (m, le, text, ahead) =
-    (suc m, omega arith, ap (λ (p : List ℕ). text_of e.answer ++ p) text ∙ sym (append_assoc (text_of e.answer) (answers_text (take m all)) _), ahead_of_line bytes line rest left m parts unended ahead)
-one_more failed e all lines before bytes line rest left ReadFault printed parts unended (given, rest', fault, split, told, le, text) =
+    (omega arith, ap (λ (p : List ℕ). text_of e.answer ++ p) (text ∙ ap (λ (k : ℕ). answers_text all ++ bad_line k) n) ∙ sym (append_assoc (text_of e.answer) (answers_text all) _), keeps_up_behind bytes line rest asked (length all) parts unended kept_up)
+one_more failed e all lines before bytes line rest left asked BadWords printed parts unended h = h
+one_more failed e all lines before bytes line rest left asked NoMemory printed parts unended (m, le, text, kept_up) =
+    (suc m, omega arith, ap (λ (p : List ℕ). text_of e.answer ++ p) text ∙ sym (append_assoc (text_of e.answer) (answers_text (take m all)) _), keeps_up_behind bytes line rest asked m parts unended kept_up)
+one_more failed e all lines before bytes line rest left asked ReadFault printed parts unended (given, rest', fault, split, told, le, text) =
     let n : ended_lines (line ++ 10 ∷ given) ≡ suc (ended_lines given) = ended_lines-line line given unended in (
       line ++ 10 ∷ given,
       rest',
@@ -160,7 +168,7 @@ one_more failed e all lines before bytes line rest left ReadFault printed parts 
       rw n (omega arith),
       rw n (ap (λ (p : List ℕ). text_of e.answer ++ p) text ∙ sym (append_assoc (text_of e.answer) (answers_text (take (ended_lines given) all)) _)),
     )
-one_more failed e all lines before bytes line rest left WriteFault printed parts unended (m, piece, front, le, next, cut, text, ahead) = (
+one_more failed e all lines before bytes line rest left asked WriteFault printed parts unended (m, piece, front, le, next, cut, text, kept_up) = (
   suc m,
   piece,
   front,
@@ -168,16 +176,16 @@ one_more failed e all lines before bytes line rest left WriteFault printed parts
   later_piece failed e all lines before m piece next,
   cut,
   ap (λ (p : List ℕ). text_of e.answer ++ p) text ∙ sym (append_assoc (text_of e.answer) (answers_text (take m all)) front),
-  ahead_of_line bytes line rest left m parts unended ahead,
+  keeps_up_behind bytes line rest asked m parts unended kept_up,
 )
 
 -- a run goes on behind an answered line
-pub goes_on : (failed : Type 0) (s : State) (before : ℕ) (bytes line rest : List ℕ) (left : Option (List ℕ)) (e : Exchange) (ending : Ending) (printed : List ℕ) →
-    bytes ≡ line ++ 10 ∷ rest → HasNoLineEnd line → exchange_at s line ≡ Some e → Replays failed e.after (before + 1) rest left ending printed → Replays failed s before bytes left ending (text_of e.answer ++ printed)
-goes_on failed s before bytes line rest left e ending printed parts unended is run =
+pub goes_on : (failed : Type 0) (s : State) (before : ℕ) (bytes line rest : List ℕ) (left asked : Option (List ℕ)) (e : Exchange) (ending : Ending) (printed : List ℕ) →
+    bytes ≡ line ++ 10 ∷ rest → HasNoLineEnd line → exchange_at s line ≡ Some e → Replays failed e.after (before + 1) rest left asked ending printed → Replays failed s before bytes left asked ending (text_of e.answer ++ printed)
+goes_on failed s before bytes line rest left asked e ending printed parts unended is run =
     let lines : lines_of bytes ≡ line ∷ lines_of rest = ap lines_of parts ∙ lines_of-ended line rest unended in
     rw (lines, exchanges_from-answered s line (lines_of rest) e is)
-    (one_more failed e (exchanges_from e.after (lines_of rest)) (length (lines_of rest)) before bytes line rest left ending printed parts unended run)
+    (one_more failed e (exchanges_from e.after (lines_of rest)) (length (lines_of rest)) before bytes line rest left asked ending printed parts unended run)
 
 -- two pieces were taken, one behind the other
 pub takes_both : (held mid held' : Option (List ℕ)) (xs ys : List ℕ) → Takes held mid xs → Takes mid held' ys → Takes held held' (xs ++ ys)
@@ -228,25 +236,25 @@ takes_nothing None = refl
 takes_nothing (Some bytes) = sym (append-nil bytes)
 
 -- a line that was read with its end was answered, or the run ended there
-pub step_line : (f t : ℕ) (s : State) (before : ℕ) (had line buffer : List ℕ) (left : Option (List ℕ)) (after : Replayer) (ended : Option Ending) (held held' : Option (List ℕ)) →
-    ReadsLine WholeLine had line buffer left → StepsOn s before line after ended held held' → IsAhead had left 0 → GoesOn (Rose f t) s before had after buffer left ended held held'
-step_line f t s before had line buffer left after None held held' (rest, told, parts, unended) (e, is, stands, takes) ahead =
-    (e, line, rest, told, parts, unended, is, stands, takes)
-step_line f t s before had line buffer left after (Some ending) held held' (rest, told, parts, unended) ends ahead =
-    ends f t had (lines_of (buffer ++ rest)) left (ap lines_of parts ∙ lines_of-ended line (buffer ++ rest) unended) ahead
+pub step_line : (f t : ℕ) (s : State) (before : ℕ) (had line buffer : List ℕ) (left asked : Option (List ℕ)) (after : Replayer) (ended : Option Ending) (held held' : Option (List ℕ)) →
+    ReadsLine WholeLine had line buffer left → StepsOn s before line after ended held held' → KeepsUp had asked 0 → GoesOn (Rose f t) s before had after buffer left asked ended held held'
+step_line f t s before had line buffer left asked after None held held' (rest, told, parts, unended) (e, is, stands, takes) kept_up =
+    (e, line, rest, told, parts, unended, is, stands, takes, keeps_up_after had line (buffer ++ rest) asked parts unended kept_up)
+step_line f t s before had line buffer left asked after (Some ending) held held' (rest, told, parts, unended) ends kept_up =
+    ends f t had (lines_of (buffer ++ rest)) left asked (ap lines_of parts ∙ lines_of-ended line (buffer ++ rest) unended) kept_up
 
 -- the last line was answered, and so the run is complete, or it ended there
-pub step_last : (f t : ℕ) (s : State) (before : ℕ) (had line buffer : List ℕ) (left : Option (List ℕ)) (after : Replayer) (ended : Option Ending) (result : Ending) (held held' : Option (List ℕ)) →
-    ReadsLine LastLine had line buffer left → StepsOn s before line after ended held held' → result ≡ unwrap_or ended Complete → IsAhead had left 0 → EndsRun (Rose f t) s before had left result held held'
-step_last f t s before had line buffer left after None result held held' (told, same, unended, some) (e, is, stands, takes) r ahead = (
+pub step_last : (f t : ℕ) (s : State) (before : ℕ) (had line buffer : List ℕ) (left asked : Option (List ℕ)) (after : Replayer) (ended : Option Ending) (result : Ending) (held held' : Option (List ℕ)) →
+    ReadsLine LastLine had line buffer left → StepsOn s before line after ended held held' → result ≡ unwrap_or ended Complete → KeepsUp had asked 0 → EndsRun (Rose f t) s before had left asked result held held'
+step_last f t s before had line buffer left asked after None result held held' (told, same, unended, some) (e, is, stands, takes) r kept_up = (
   text_of e.answer,
   takes,
-  subst (λ (x : Ending). Replays (Rose f t) s before had left x (text_of e.answer)) (sym r)
-      (last_answered (Rose f t) s before had line left e (ap lines_of same ∙ lines_of-unended line unended some) is told),
+  subst (λ (x : Ending). Replays (Rose f t) s before had left asked x (text_of e.answer)) (sym r)
+      (last_answered (Rose f t) s before had line left asked e (ap lines_of same ∙ lines_of-unended line unended some) is told),
 )
-step_last f t s before had line buffer left after (Some ending) result held held' (told, same, unended, some) ends r ahead =
-    subst (λ (x : Ending). EndsRun (Rose f t) s before had left x held held') (sym r)
-    (ends f t had [] left (ap lines_of same ∙ lines_of-unended line unended some) ahead)
+step_last f t s before had line buffer left asked after (Some ending) result held held' (told, same, unended, some) ends r kept_up =
+    subst (λ (x : Ending). EndsRun (Rose f t) s before had left asked x held held') (sym r)
+    (ends f t had [] left asked (ap lines_of same ∙ lines_of-unended line unended some) kept_up)
 
 chosen_false : {A : Type 0} (b : Bool) (x y : A) → b ≡ false → cond b x y ≡ y
 chosen_false true x y e = absurd (cc)
@@ -257,5 +265,5 @@ pub too_long_is_bad : (s : State) (text : List ℕ) → MAX_LINE_BYTES < length 
 too_long_is_bad s text long = ap (option_and_then (exchanged s)) (chosen_false (nat_le (length text) MAX_LINE_BYTES) _ None (grind (arith, nat_tests)))
 
 -- there is no further line
-pub step_end : (failed : Type 0) (s : State) (before : ℕ) (had : List ℕ) (left held : Option (List ℕ)) → left ≡ Some [] → had ≡ [] → EndsRun failed s before had left Complete held held
-step_end failed s before had left held told none = ([], takes_nothing held, rw none (refl, told, refl))
+pub step_end : (failed : Type 0) (s : State) (before : ℕ) (had : List ℕ) (left asked held : Option (List ℕ)) → left ≡ Some [] → had ≡ [] → EndsRun failed s before had left asked Complete held held
+step_end failed s before had left asked held told none = ([], takes_nothing held, rw none (refl, told, refl))

@@ -9,7 +9,6 @@ use Rattle.vl_model.specs.Reads.{Read, IsExplained}
 use Rattle.vl_model.specs.Keys.{Writes}
 use Rattle.vl_cli.specs.Sequential.{State, outcome, empty_store, OpenTransaction, OpenView, found}
 use Rattle.vl_cli.specs.Script.{line_of, lines_of, text_of}
-use Rattle.vl_cli.specs.declared.input.buffer.TheConstants.{BUFFER_BYTES}
 use Rattle.vl_cli.specs.declared.script.line.Line.{Line}
 use Rattle.vl_cli.specs.declared.script.line.Line.TheVariants.{Begin, View, Get, Set, Commit}
 use Rattle.vl_cli.specs.declared.script.answer.Answer.{Answer}
@@ -101,41 +100,40 @@ pub data NextPiece (failed : Type 0) (all : List Exchange) (lines before m : ℕ
   next_no_memory : NextPiece failed all lines before m no_memory_line
   next_read_fault : failed → NextPiece failed all lines before m read_fault_line
 
--- The source was asked no more than these answers needed: in the bytes that it had given before it was last asked, no
--- more lines had ended than there are answers, and what it gave then is no more than is asked for at a time.
-abbrev pub IsAhead : List ℕ → Option (List ℕ) → ℕ → Type 0
-IsAhead bytes left answers =
-    (given : List ℕ) × (chunk : List ℕ) × (rest : List ℕ) × (left ≡ Some rest) × (bytes ≡ given ++ (chunk ++ rest))
-    × (length chunk ≤ BUFFER_BYTES) × (ended_lines given ≤ answers)
+-- The answers kept up with the source: when it was last asked for bytes, no more lines had ended in what it had given of
+-- these bytes than there are answers. Those lines are the ones that ended in these bytes but not in what it then had left.
+abbrev pub KeepsUp : List ℕ → Option (List ℕ) → ℕ → Type 0
+KeepsUp bytes asked answers = (earlier : List ℕ) × (asked ≡ Some earlier) × (ended_lines bytes ≤ answers + ended_lines earlier)
 
 -- How a run over these bytes ended, and what it printed. All are the exchanges up to the first bad line of these bytes,
 -- which are so many lines, and some lines came before them in the script. Left is what the source has left in the end,
--- and failed says that it failed. Each answer was put before more was read, so that wherever the sink might have
--- failed, the source isn't ahead.
+-- asked is what it had left when it was last asked for bytes, and failed says that it failed. A line's answer is put
+-- whole before the next line is read: where the sink failed, and at a bad line or want of memory, the answers kept up
+-- with the source.
 --   complete: every line was answered, and the source was read to its end;
 --   a bad line: all lines before it were answered, and there is one more;
 --   want of memory: some lines were answered, each answer whole;
 --   a fault of the source: each line that had ended in the bytes that it gave was;
 --   a fault of the sink: some lines were, and of the next piece some first bytes came out.
-abbrev pub EndsSo : Type 0 → List Exchange → ℕ → ℕ → List ℕ → Option (List ℕ) → Ending → List ℕ → Type 0
-EndsSo failed all lines before bytes left Complete printed =
+abbrev pub EndsSo : Type 0 → List Exchange → ℕ → ℕ → List ℕ → Option (List ℕ) → Option (List ℕ) → Ending → List ℕ → Type 0
+EndsSo failed all lines before bytes left asked Complete printed =
     (length all ≡ lines) × (left ≡ Some []) × (printed ≡ answers_text all)
-EndsSo failed all lines before bytes left BadLine printed =
-    (length all < lines) × (printed ≡ answers_text all ++ bad_line (before + length all + 1)) × IsAhead bytes left (length all)
-EndsSo failed all lines before bytes left BadWords printed = ⊥
-EndsSo failed all lines before bytes left NoMemory printed =
-    (m : ℕ) × (m ≤ length all) × (printed ≡ answers_text (take m all) ++ no_memory_line) × IsAhead bytes left m
-EndsSo failed all lines before bytes left ReadFault printed =
+EndsSo failed all lines before bytes left asked BadLine printed =
+    (length all < lines) × (printed ≡ answers_text all ++ bad_line (before + length all + 1)) × KeepsUp bytes asked (length all)
+EndsSo failed all lines before bytes left asked BadWords printed = ⊥
+EndsSo failed all lines before bytes left asked NoMemory printed =
+    (m : ℕ) × (m ≤ length all) × (printed ≡ answers_text (take m all) ++ no_memory_line) × KeepsUp bytes asked m
+EndsSo failed all lines before bytes left asked ReadFault printed =
     (given : List ℕ) × (rest : List ℕ) × failed × (bytes ≡ given ++ rest) × (left ≡ Some rest)
     × (ended_lines given ≤ length all) × (printed ≡ answers_text (take (ended_lines given) all) ++ read_fault_line)
-EndsSo failed all lines before bytes left WriteFault printed =
+EndsSo failed all lines before bytes left asked WriteFault printed =
     (m : ℕ) × (piece : List ℕ) × (front : List ℕ) × (m ≤ length all) × NextPiece failed all lines before m piece
-    × IsFront front piece × (printed ≡ answers_text (take m all) ++ front) × IsAhead bytes left m
+    × IsFront front piece × (printed ≡ answers_text (take m all) ++ front) × KeepsUp bytes asked m
 
 -- what a run prints that answers the lines of these bytes from a state on, some lines after the script's begin
-abbrev pub Replays : Type 0 → State → ℕ → List ℕ → Option (List ℕ) → Ending → List ℕ → Type 0
-Replays failed s before bytes left ending printed =
-    EndsSo failed (exchanges_from s (lines_of bytes)) (length (lines_of bytes)) before bytes left ending printed
+abbrev pub Replays : Type 0 → State → ℕ → List ℕ → Option (List ℕ) → Option (List ℕ) → Ending → List ℕ → Type 0
+Replays failed s before bytes left asked ending printed =
+    EndsSo failed (exchanges_from s (lines_of bytes)) (length (lines_of bytes)) before bytes left asked ending printed
 
 -- what a run prints whose words aren't plain
 abbrev pub RefusesWords : Ending → List ℕ → Type 0
@@ -151,10 +149,11 @@ abbrev pub is_plain : List (List ℕ) → Bool
 is_plain (command ∷ folder ∷ []) = bytes_eq command (codes "replay") && is_plain_word folder
 is_plain words = false
 
--- what a run prints for these words and this input, of which the source has so much left in the end
-abbrev pub Runs : Type 0 → List (List ℕ) → List ℕ → Option (List ℕ) → Ending → List ℕ → Type 0
-Runs failed words input left ending printed =
-    MatchBool (is_plain words) (Replays failed empty_store 0 input left ending printed) (RefusesWords ending printed)
+-- what a run prints for these words and this input, of which the source has so much left in the end, and had so much
+-- when it was last asked
+abbrev pub Runs : Type 0 → List (List ℕ) → List ℕ → Option (List ℕ) → Option (List ℕ) → Ending → List ℕ → Type 0
+Runs failed words input left asked ending printed =
+    MatchBool (is_plain words) (Replays failed empty_store 0 input left asked ending printed) (RefusesWords ending printed)
 
 abbrev pub status_of : Ending → ℕ
 status_of Complete = 0

@@ -5,7 +5,7 @@ use Rattle.vl_cli.specs.Sequential.{State}
 use Rattle.vl_io.specs.Sink.{Takes}
 use Rattle.vl_cli.specs.Script.{text_of, lines_of}
 use Rattle.vl_cli.specs.Input.{HasNoLineEnd}
-use Rattle.vl_cli.specs.Replay.{Exchange, exchange_at, Replays, IsFront, IsAhead}
+use Rattle.vl_cli.specs.Replay.{Exchange, exchange_at, Replays, IsFront, KeepsUp}
 use Rattle.vl_cli.specs.Represents.{Represents}
 use Rattle.vl_cli.specs.declared.replayer.Replayer.{Replayer}
 use Rattle.vl_cli.specs.declared.ending.Ending.{Ending}
@@ -22,31 +22,32 @@ Answers s text after (Some out) = (e : Exchange) × (exchange_at s text ≡ Some
 Answers s text after None = exchange_at s text ≡ None
 
 -- the run printed this over the bytes from a state on, and ended
-abbrev pub EndsRun : Type 0 → State → ℕ → List ℕ → Option (List ℕ) → Ending → Option (List ℕ) → Option (List ℕ) → Type 0
-EndsRun failed s before bytes left ending held held' =
-    (printed : List ℕ) × Takes held held' printed × Replays failed s before bytes left ending printed
+abbrev pub EndsRun : Type 0 → State → ℕ → List ℕ → Option (List ℕ) → Option (List ℕ) → Ending → Option (List ℕ) → Option (List ℕ) → Type 0
+EndsRun failed s before bytes left asked ending held held' =
+    (printed : List ℕ) × Takes held held' printed × Replays failed s before bytes left asked ending printed
 
 -- the run ends at the first line of the bytes, where that is a bad one
 abbrev pub Refuses : ℕ → Ending → Option (List ℕ) → Option (List ℕ) → Type 0
 Refuses before ending held held' =
-    (f t : ℕ) (s : State) (bytes text : List ℕ) (texts : List (List ℕ)) (left : Option (List ℕ)) → lines_of bytes ≡ text ∷ texts → exchange_at s text ≡ None → IsAhead bytes left 0
-    → EndsRun (Rose f t) s before bytes left ending held held'
+    (f t : ℕ) (s : State) (bytes text : List ℕ) (texts : List (List ℕ)) (left asked : Option (List ℕ)) → lines_of bytes ≡ text ∷ texts → exchange_at s text ≡ None → KeepsUp bytes asked 0
+    → EndsRun (Rose f t) s before bytes left asked ending held held'
 
 -- a line was answered and printed, and the run goes on; or it ended there
 abbrev pub StepsOn : State → ℕ → List ℕ → Replayer → Option Ending → Option (List ℕ) → Option (List ℕ) → Type 0
 StepsOn s before text after None held held' =
     (e : Exchange) × (exchange_at s text ≡ Some e) × Represents after e.after × Takes held held' (text_of e.answer)
 StepsOn s before text after (Some ending) held held' =
-    (f t : ℕ) (bytes : List ℕ) (texts : List (List ℕ)) (left : Option (List ℕ)) → lines_of bytes ≡ text ∷ texts → IsAhead bytes left 0
-    → EndsRun (Rose f t) s before bytes left ending held held'
+    (f t : ℕ) (bytes : List ℕ) (texts : List (List ℕ)) (left asked : Option (List ℕ)) → lines_of bytes ≡ text ∷ texts → KeepsUp bytes asked 0
+    → EndsRun (Rose f t) s before bytes left asked ending held held'
 
--- The first line of the bytes was answered and printed, and a run over the others goes on from here; or the run ended.
-abbrev pub GoesOn : Type 0 → State → ℕ → List ℕ → Replayer → List ℕ → Option (List ℕ) → Option Ending → Option (List ℕ) → Option (List ℕ) → Type 0
-GoesOn failed s before bytes after buffer left None held held' =
+-- The first line of the bytes was answered and printed, and a run over the others goes on from here, with no answer
+-- owed; or the run ended.
+abbrev pub GoesOn : Type 0 → State → ℕ → List ℕ → Replayer → List ℕ → Option (List ℕ) → Option (List ℕ) → Option Ending → Option (List ℕ) → Option (List ℕ) → Type 0
+GoesOn failed s before bytes after buffer left asked None held held' =
     (e : Exchange) × (text : List ℕ) × (rest : List ℕ) × (left ≡ Some rest) × (bytes ≡ text ++ 10 ∷ (buffer ++ rest)) × HasNoLineEnd text
-    × (exchange_at s text ≡ Some e) × Represents after e.after × Takes held held' (text_of e.answer)
-GoesOn failed s before bytes after buffer left (Some ending) held held' =
-    EndsRun failed s before bytes left ending held held'
+    × (exchange_at s text ≡ Some e) × Represents after e.after × Takes held held' (text_of e.answer) × KeepsUp (buffer ++ rest) asked 0
+GoesOn failed s before bytes after buffer left asked (Some ending) held held' =
+    EndsRun failed s before bytes left asked ending held held'
 
 -- what the sink counted in a run that ended so, where the source had no part in it
 abbrev pub SinkCounts : Ending → ℕ → ℕ → Type 0

@@ -8,7 +8,7 @@ mod replay;
 mod tests;
 mod words;
 
-ghost use Rattle.std.specs.Prelude.{◌≡◌, ◌≢◌, ◌<◌, ℕ, List, map, string_bytes, Some, true, false};
+ghost use Rattle.std.specs.Prelude.{◌≡◌, ◌≢◌, ◌<◌, ◌⊎◌, ℕ, List, map, string_bytes, Some, true, false};
 ghost use Rattle.vl_disk.specs.Faults.{Rose};
 ghost use Rattle.vl_io.specs.Sink.{Takes};
 ghost use Rattle.vl_cli.specs.Script.{lines_of};
@@ -27,9 +27,11 @@ use std::alloc::Global;
 use vl_disk::Disk;
 use vl_io::{Sink, Source};
 
-/// Ends a run whose words found no memory: what is printed and answered is as in `run`.
+/// Ends a run whose words found no memory: status 5, or 7 where the last line can't be put.
 pub fn refuse_without_words<K: Sink>(sink: &mut K) -> u8
-    ensures { (ending : HowEnded) × (result ≡ status_of ending) × Finishes (K.held sink.old) no_memory_line NoMemory ending (K.held sink.new) }
+    ensures printed { (ending : HowEnded) × (result ≡ status_of ending) × Finishes (K.held sink.old) no_memory_line NoMemory ending (K.held sink.new) }
+    ensures faults { ((result ≡ 5) × (K.faults sink.new ≡ K.faults sink.old))
+        ⊎ ((result ≡ 7) × Rose (K.faults sink.old) (K.faults sink.new)) }
 {
     finish(sink, NO_MEMORY, Ending::NoMemory).status()
 }
@@ -45,7 +47,7 @@ pub fn run<S: Source, K: Sink, D: Disk>(
     // What is printed, and how the run ends, are those of the sequential store over the lines of the input.
     ensures answers { (input : List ℕ) → S.left source.old ≡ Some input →
         (ending : HowEnded) × (printed : List ℕ) × (result.status ≡ status_of ending) × Takes (K.held sink.old) (K.held sink.new) printed
-        × Runs (Rose (S.faults source.old) (S.faults source.new)) (map string_bytes words.now) input (S.left source.new) ending printed }
+        × Runs (Rose (S.faults source.old) (S.faults source.new)) (map string_bytes words.now) input (S.left source.new) (S.asked source.new) ending printed }
 
     // What was read is explained by the history at the reader's number.
     ensures explained { (input : List ℕ) → S.left source.old ≡ Some input → AreExplained (exchanges_from empty_store (lines_of input)) }

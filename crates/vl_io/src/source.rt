@@ -1,4 +1,4 @@
-ghost use Rattle.std.specs.Prelude.{◌≡◌, ◌+◌, ◌<◌, ◌≤◌, [], List, IfOk, IfSome, MatchResult, OnErr, OnOk, Option, length, take, ℕ};
+ghost use Rattle.std.specs.Prelude.{◌≡◌, ◌+◌, ◌++◌, ◌<◌, ◌≤◌, [], List, IfOk, IfSome, MatchResult, OnErr, OnOk, Option, Some, length, take, ℕ};
 ghost use Rattle.vl_disk.specs.Faults.{Rose};
 ghost use Rattle.vl_io.specs.Source.{Gives};
 
@@ -8,6 +8,9 @@ use vl_disk::Failed;
 pub trait Source {
     /// The bytes that are left to give, where they are told; `None` claims nothing.
     ghost left: { Self → Option (List ℕ) };
+
+    /// What was left when it was last asked for bytes, or what is left where it was never asked; `None` claims nothing.
+    ghost asked: { Self → Option (List ℕ) };
 
     /// The most bytes that it still gives, so that a loop over it ends.
     ghost budget: { Self → ℕ };
@@ -25,6 +28,9 @@ pub trait Source {
         ensures end { IfOk result (λ n. n ≡ 0 → IfSome (left self.old) (λ rest. rest ≡ [])) }
         ensures kept { OnErr result (left self.new ≡ left self.old) }
 
+        // Failed or not, it was asked.
+        ensures asked { asked self.new ≡ left self.old }
+
         ensures spends { MatchResult result
             (λ n. budget self.new + n ≤ budget self.old)
             (λ _. budget self.new ≤ budget self.old) }
@@ -32,4 +38,8 @@ pub trait Source {
         ensures counts { faults self.old ≤ faults self.new }
         ensures steady { OnOk result (faults self.new ≡ faults self.old) }
         ensures failed { OnErr result (Rose (faults self.old) (faults self.new)) };
+
+    /// What was left when it was last asked is what it gave then and what is left.
+    ghost since_asked: { (source : Self) (rest : List ℕ) → left source ≡ Some rest
+        → (given : List ℕ) × (asked source ≡ Some (given ++ rest)) };
 }

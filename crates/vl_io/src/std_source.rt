@@ -43,11 +43,17 @@ impl<R> StdSource<R> {
 }
 
 impl<R: Read> Source for StdSource<R> {
+    ghost use Rattle.vl_io.specs.StdSource.{untold};
+
     ghost left = { λ _. None };
+
+    ghost asked = { λ _. None };
 
     ghost budget = { λ s. s.budget };
 
     ghost faults = { λ s. s.faults };
+
+    ghost since_asked = { λ _. untold };
 
     fn next(&mut self, out: &mut [u8]) -> Result<usize, Failed>
         requires room { 0 < length out.old }

@@ -43,8 +43,8 @@ value_left old None = old
 value_left old (Some (Set value)) = Some value
 value_left old (Some Delete) = None
 
--- What a key has at a number, which is asked from the first number to the last: the value of the last commit numbered at most n that names it, none where
--- that commit deletes it, and the base's where there is no such commit
+-- What a key has at a number from the first to the last: the value that the last commit up to it that names the key
+-- sets, none where that commit deletes it, and the base's where there is no such commit
 abbrev pub value_at : History → ℕ → List ℕ → Option Stored
 value_at h n key = value_left (get h.base key) (last_change (commits_up_to h n) key)
 

@@ -2,7 +2,7 @@ ghost use Rattle.std.specs.Prelude.{◌≡◌, ◌≢◌, ◌+◌, ◌<◌, ◌�
 ghost use Rattle.vl_disk.specs.Faults.{Rose};
 ghost use Rattle.vl_cli.specs.Sequential.{State, empty_store};
 ghost use Rattle.vl_cli.specs.Represents.{Represents};
-ghost use Rattle.vl_cli.specs.Replay.{line_number};
+ghost use Rattle.vl_cli.specs.Replay.{KeepsUp, line_number};
 ghost use Rattle.vl_cli.specs.Steps.{EndsRun, GoesOn, StepsOn, Counts, SinkCounts};
 
 use crate::Ending;
@@ -28,7 +28,8 @@ impl Progress {
     fn step<S: Source, K: Sink>(&mut self, source: &mut S, sink: &mut K) -> Option<Ending>
         ensures printed { (f before : ℕ) (s : State) (had : List ℕ) → f ≤ S.faults source.old → Represents self.old.replayer s
             → self.old.answered ≡ line_number before → S.left source.old ≡ Some had
-            → GoesOn (Rose f (S.faults source.new)) s before (self.old.buffer ++ had) self.new.replayer self.new.buffer (S.left source.new) result (K.held sink.old) (K.held sink.new) }
+            → KeepsUp (self.old.buffer ++ had) (S.asked source.old) 0
+            → GoesOn (Rose f (S.faults source.new)) s before (self.old.buffer ++ had) self.new.replayer self.new.buffer (S.left source.new) (S.asked source.new) result (K.held sink.old) (K.held sink.new) }
         ensures counted { (before : ℕ) → self.old.answered ≡ line_number before → result ≡ None → self.new.answered ≡ line_number (before + 1) }
         ensures shorter { result ≡ None → length self.new.buffer + S.budget source.new < length self.old.buffer + S.budget source.old }
         ensures faults { MatchOption result ((S.faults source.new ≡ S.faults source.old) × (K.faults sink.new ≡ K.faults sink.old))
@@ -67,7 +68,7 @@ impl Progress {
 /// Answers the lines of a source, one after the other, over commits kept in memory.
 pub fn replay<S: Source, K: Sink>(alloc: Global, source: &mut S, sink: &mut K) -> Ending
     ensures printed { (input : List ℕ) → S.left source.old ≡ Some input
-        → EndsRun (Rose (S.faults source.old) (S.faults source.new)) empty_store 0 input (S.left source.new) result (K.held sink.old) (K.held sink.new) }
+        → EndsRun (Rose (S.faults source.old) (S.faults source.new)) empty_store 0 input (S.left source.new) (S.asked source.new) result (K.held sink.old) (K.held sink.new) }
     ensures faults { Counts result (S.faults source.old) (S.faults source.new) (K.faults sink.old) (K.faults sink.new) }
 {
     let Ok(buffer) = Buffer::new(alloc) else {

@@ -8,8 +8,8 @@ use std::marker::Model;
 use vl_disk::Failed;
 use vl_io::Source;
 
-/// What a source is asked for at a time.
-pub const BUFFER_BYTES: usize = 65536;
+/// The most that a source is asked for at a time.
+const BUFFER_BYTES: usize = 65536;
 
 /// Bytes that a source gave and no line has taken yet. Clauses see the list of them.
 #[derive(Drop)]
@@ -20,14 +20,13 @@ pub struct Buffer {
 }
 
 impl Model for Buffer {
-    ghost use Rattle.std.specs.Prelude.{ℕ, ◌≡◌, ◌-◌, ◌≤◌, List, take, drop, vec_len};
-    ghost use Rattle.vl_cli.specs.declared.input.buffer.TheConstants.{BUFFER_BYTES};
+    ghost use Rattle.std.specs.Prelude.{ℕ, ◌-◌, ◌<◌, ◌≤◌, List, take, drop, vec_len};
 
     ghost Value = { List ℕ };
 
     ghost view = { λ b. take (b.end - b.start) (drop b.start b.bytes.items) };
 
-    ghost invariant = { λ b. (b.start ≤ b.end) × (b.end ≤ vec_len b.bytes) × (vec_len b.bytes ≡ BUFFER_BYTES) };
+    ghost invariant = { λ b. (b.start ≤ b.end) × (b.end ≤ vec_len b.bytes) × (0 < vec_len b.bytes) };
 }
 
 /// The index of the first line's end.
@@ -51,8 +50,7 @@ impl Buffer {
     /// Moves the bytes up to the next line's end to a line, and that end away. Where there is no line's end it
     /// moves all bytes and answers false.
     pub fn take_line(&mut self, line: &mut Vec<u8>) -> Result<bool, AllocError>
-        ensures taken { IfOk result (λ ended. TakesLineEnd ended self.old self.new line.old.items line.new.items) }
-        ensures few { length self.old ≤ BUFFER_BYTES }
+        ensures { IfOk result (λ ended. TakesLineEnd ended self.old self.new line.old.items line.new.items) }
     {
         let pending = &self.bytes[self.start..self.end];
         match line_end(pending) {
@@ -73,6 +71,7 @@ impl Buffer {
     pub fn refill<S: Source>(&mut self, source: &mut S) -> Result<bool, Failed>
         ensures bytes { IfOk result (λ more. Refills more (S.left source.old) (S.left source.new) self.new) }
         ensures kept { OnErr result (S.left source.new ≡ S.left source.old) }
+        ensures asked { S.asked source.new ≡ S.left source.old }
         ensures budget { IfOk result (λ more. length self.new + S.budget source.new ≤ S.budget source.old) }
         ensures steady { OnOk result (S.faults source.new ≡ S.faults source.old) }
         ensures failed { OnErr result (Rose (S.faults source.old) (S.faults source.new)) }

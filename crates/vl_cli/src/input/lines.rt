@@ -1,6 +1,6 @@
 ghost use Rattle.std.specs.Prelude.{◌≡◌, ◌≢◌, ◌+◌, ◌<◌, ◌≤◌, ◌++◌, ℕ, List, length, IfOk, MatchResult, Err, Option, Some};
 ghost use Rattle.vl_cli.specs.Input.{ReadsLine, FailsWithin, CountsFault};
-ghost use Rattle.vl_cli.specs.Replay.{IsAhead};
+ghost use Rattle.vl_cli.specs.Replay.{KeepsUp};
 
 use crate::input::{Buffer, InputFail};
 use crate::script::MAX_LINE_BYTES;
@@ -32,7 +32,9 @@ pub fn read_line<S: Source>(
         → length buffer.new + S.budget source.new < length buffer.old + S.budget source.old) }
     ensures within { result ≡ Err InputFail.Fault → (left : List ℕ) → S.left source.old ≡ Some left
         → FailsWithin (buffer.old ++ left) (S.left source.new) }
-    ensures ahead { (left : List ℕ) → S.left source.old ≡ Some left → IsAhead (buffer.old ++ left) (S.left source.new) 0 }
+    // Where no answer was owed when the source was last asked, none is now: it is asked only within a line.
+    ensures keeps_up { (left : List ℕ) → S.left source.old ≡ Some left → KeepsUp (buffer.old ++ left) (S.asked source.old) 0
+        → KeepsUp (buffer.old ++ left) (S.asked source.new) 0 }
     ensures faults { MatchResult result (λ _. S.faults source.new ≡ S.faults source.old)
         (λ e. CountsFault e (S.faults source.old) (S.faults source.new)) }
 {

@@ -4,7 +4,7 @@ use Rattle.vl_cli.specs.Sequential.{empty_store}
 use Rattle.vl_cli.specs.Script.{lines_of}
 use Rattle.vl_cli.specs.Replay.{no_memory_line, exchanges_from}
 use Rattle.vl_cli.specs.declared.ending.Ending.TheVariants.{NoMemory}
-use Rattle.vl_cli.proofs.Replays.{finished, no_memory_ends, ahead_unread}
+use Rattle.vl_cli.proofs.Replays.{finished, no_memory_ends, keeps_up_at_first}
 use Rattle.vl_cli.proofs.UnderWay.{UnderWay, begun, further, over}
 use Rattle.vl_cli.proofs.command_line.replay.replay.Goals as goal
 
@@ -12,14 +12,16 @@ pub returns-in_default-clause-printed : goal.returns-in_default-clause-printed
 returns-in_default-clause-printed g c input told =
     let left = g.S.Source.left c.args.source.now in
     let failed = Rose (g.S.Source.faults c.args.source.now) (g.S.Source.faults c.args.source.now) in
-    let ends = no_memory_ends failed empty_store 0 input left (ahead_unread input left told) in
-    finished failed (exchanges_from empty_store (lines_of input)) (length (lines_of input)) 0 input left NoMemory c.finish.result no_memory_line (g.K.Sink.held c.args.sink.now) (g.K.Sink.held c.finish.new.sink) ends.0 ends.1 (ahead_unread input left told) c.finish.ensures.printed
+    let asked = g.S.Source.asked c.args.source.now in
+    let kept_up = keeps_up_at_first input asked (g.met.S.Source.since_asked c.args.source.now input told) in
+    let ends = no_memory_ends failed empty_store 0 input left asked kept_up in
+    finished failed (exchanges_from empty_store (lines_of input)) (length (lines_of input)) 0 input left asked NoMemory c.finish.result no_memory_line (g.K.Sink.held c.args.sink.now) (g.K.Sink.held c.finish.new.sink) ends.0 ends.1 kept_up c.finish.ensures.printed
 
 pub lines-init : goal.lines-init
 lines-init g c = record {
   under_way = λ input told.
-      subst (λ (b : List ℕ). UnderWay (g.S.Source.faults c.args.source.now) input c.new-3.result 0 b (g.S.Source.left c.args.source.now) (g.K.Sink.held c.args.sink.now) (g.K.Sink.held c.args.sink.now)) (sym c.in-Ok.ensures)
-      (begun (g.S.Source.faults c.args.source.now) input c.new-3.result (g.S.Source.left c.args.source.now) (g.K.Sink.held c.args.sink.now) c.new-3.ensures told);
+      subst (λ (b : List ℕ). UnderWay (g.S.Source.faults c.args.source.now) input c.new-3.result 0 b (g.S.Source.left c.args.source.now) (g.S.Source.asked c.args.source.now) (g.K.Sink.held c.args.sink.now) (g.K.Sink.held c.args.sink.now)) (sym c.in-Ok.ensures)
+      (begun (g.S.Source.faults c.args.source.now) input c.new-3.result (g.S.Source.left c.args.source.now) (g.S.Source.asked c.args.source.now) (g.K.Sink.held c.args.sink.now) c.new-3.ensures told (g.met.S.Source.since_asked c.args.source.now));
   steady = refl;
   sink_steady = refl;
 }
@@ -29,8 +31,8 @@ returns-in-Some-clause-printed g c input told =
     let f = g.S.Source.faults c.args.source.now in
     let u = c.lines.invariant.under_way input told in
     over f (g.S.Source.faults c.step.new.source) input c.lines.progress.replayer c.step.new.self.replayer c.lines.progress.answered c.step.new.self.answered c.lines.progress.buffer c.step.new.self.buffer
-    (g.S.Source.left c.lines.source) (g.S.Source.left c.step.new.source) (g.K.Sink.held c.args.sink.now) (g.K.Sink.held c.lines.sink) (g.K.Sink.held c.step.new.sink)
-    c.in-Some.ending u (c.in-Some.ensures.printed f u.before u.state u.had (let same = c.lines.invariant.steady in omega arith) u.stands u.count u.told)
+    (g.S.Source.left c.lines.source) (g.S.Source.left c.step.new.source) (g.S.Source.asked c.lines.source) (g.S.Source.asked c.step.new.source) (g.K.Sink.held c.args.sink.now) (g.K.Sink.held c.lines.sink) (g.K.Sink.held c.step.new.sink)
+    c.in-Some.ending u (c.in-Some.ensures.printed f u.before u.state u.had (let same = c.lines.invariant.steady in omega arith) u.stands u.count u.told u.kept_up)
 
 pub lines-preserved : goal.lines-preserved
 lines-preserved g c = record {
@@ -38,8 +40,8 @@ lines-preserved g c = record {
       let f = g.S.Source.faults c.args.source.now in
       let u = c.lines.invariant.under_way input told in
       further f (g.S.Source.faults c.step.new.source) input c.lines.progress.replayer c.step.new.self.replayer c.lines.progress.answered c.step.new.self.answered c.lines.progress.buffer c.step.new.self.buffer
-      (g.S.Source.left c.lines.source) (g.S.Source.left c.step.new.source) (g.K.Sink.held c.args.sink.now) (g.K.Sink.held c.lines.sink) (g.K.Sink.held c.step.new.sink)
-      u (c.in_default-step.ensures.printed f u.before u.state u.had (let same = c.lines.invariant.steady in omega arith) u.stands u.count u.told) (c.step.ensures.counted u.before u.count c.in_default-step.is);
+      (g.S.Source.left c.lines.source) (g.S.Source.left c.step.new.source) (g.S.Source.asked c.lines.source) (g.S.Source.asked c.step.new.source) (g.K.Sink.held c.args.sink.now) (g.K.Sink.held c.lines.sink) (g.K.Sink.held c.step.new.sink)
+      u (c.in_default-step.ensures.printed f u.before u.state u.had (let same = c.lines.invariant.steady in omega arith) u.stands u.count u.told u.kept_up) (c.step.ensures.counted u.before u.count c.in_default-step.is);
   steady = c.in_default-step.ensures.faults.0 ∙ c.lines.invariant.steady;
   sink_steady = c.in_default-step.ensures.faults.1 ∙ c.lines.invariant.sink_steady;
 }

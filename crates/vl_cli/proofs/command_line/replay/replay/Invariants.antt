@@ -7,7 +7,7 @@ invariant-lines g l =
     let left = g.S.Source.left in
     let held = g.K.Sink.held in
     record {
-      under_way : (input : List ℕ) → left l.fn.source ≡ Some input → UnderWay (g.S.Source.faults l.fn.source) input l.progress.replayer l.progress.answered l.progress.buffer (left l.source) (held l.fn.sink) (held l.sink);
+      under_way : (input : List ℕ) → left l.fn.source ≡ Some input → UnderWay (g.S.Source.faults l.fn.source) input l.progress.replayer l.progress.answered l.progress.buffer (left l.source) (g.S.Source.asked l.source) (held l.fn.sink) (held l.sink);
       steady : g.S.Source.faults l.source ≡ g.S.Source.faults l.fn.source;
       sink_steady : g.K.Sink.faults l.sink ≡ g.K.Sink.faults l.fn.sink;
     }

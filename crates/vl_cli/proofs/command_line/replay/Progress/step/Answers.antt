@@ -8,43 +8,45 @@ use Rattle.vl_cli.proofs.Replays.{step_line, step_last, step_end, too_long_is_ba
 use Rattle.vl_cli.proofs.command_line.replay.Progress.step.Goals as goal
 
 pub returns-in-Ok-Line-clause-printed : goal.returns-in-Ok-Line-clause-printed
-returns-in-Ok-Line-clause-printed g c f before s had le stands count told =
+returns-in-Ok-Line-clause-printed g c f before s had le stands count told kept_up =
     let reads = rw c.in-Ok-Line.field-0-is at (c.in-Ok-Line.ensures.line had told) in
-    subst (λ (b : List ℕ). GoesOn (Rose f (g.S.Source.faults c.read_line.new.source)) s before (c.args.self.now.buffer ++ had) c.answer.new.self.replayer b (g.S.Source.left c.read_line.new.source) c.answer.result (g.K.Sink.held c.args.sink.now) (g.K.Sink.held c.answer.new.sink))
+    subst (λ (b : List ℕ). GoesOn (Rose f (g.S.Source.faults c.read_line.new.source)) s before (c.args.self.now.buffer ++ had) c.answer.new.self.replayer b (g.S.Source.left c.read_line.new.source) (g.S.Source.asked c.read_line.new.source) c.answer.result (g.K.Sink.held c.args.sink.now) (g.K.Sink.held c.answer.new.sink))
     (sym c.answer.ensures.same)
-    (step_line f (g.S.Source.faults c.read_line.new.source) s before (c.args.self.now.buffer ++ had) c.read_line.new.line.items c.read_line.new.buffer (g.S.Source.left c.read_line.new.source) c.answer.new.self.replayer c.answer.result (g.K.Sink.held c.args.sink.now) (g.K.Sink.held c.answer.new.sink)
-    reads (c.answer.ensures.printed s before stands count) (c.read_line.ensures.ahead had told))
+    (step_line f (g.S.Source.faults c.read_line.new.source) s before (c.args.self.now.buffer ++ had) c.read_line.new.line.items c.read_line.new.buffer (g.S.Source.left c.read_line.new.source) (g.S.Source.asked c.read_line.new.source) c.answer.new.self.replayer c.answer.result (g.K.Sink.held c.args.sink.now) (g.K.Sink.held c.answer.new.sink)
+    reads (c.answer.ensures.printed s before stands count) (c.read_line.ensures.keeps_up had told kept_up))
 
 pub returns-in-Ok-LastLine-clause-printed : goal.returns-in-Ok-LastLine-clause-printed
-returns-in-Ok-LastLine-clause-printed g c f before s had le stands count told =
+returns-in-Ok-LastLine-clause-printed g c f before s had le stands count told kept_up =
     let reads = rw c.in-Ok-LastLine.field-0-is at (c.in-Ok-LastLine.ensures.line had told) in
-    step_last f (g.S.Source.faults c.read_line.new.source) s before (c.args.self.now.buffer ++ had) c.read_line.new.line.items c.read_line.new.buffer (g.S.Source.left c.read_line.new.source) c.answer-in-Ok-LastLine.new.self.replayer c.answer-in-Ok-LastLine.result c.unwrap_or.result (g.K.Sink.held c.args.sink.now) (g.K.Sink.held c.answer-in-Ok-LastLine.new.sink)
-    reads (c.answer-in-Ok-LastLine.ensures.printed s before stands count) c.unwrap_or.ensures (c.read_line.ensures.ahead had told)
+    step_last f (g.S.Source.faults c.read_line.new.source) s before (c.args.self.now.buffer ++ had) c.read_line.new.line.items c.read_line.new.buffer (g.S.Source.left c.read_line.new.source) (g.S.Source.asked c.read_line.new.source) c.answer-in-Ok-LastLine.new.self.replayer c.answer-in-Ok-LastLine.result c.unwrap_or.result (g.K.Sink.held c.args.sink.now) (g.K.Sink.held c.answer-in-Ok-LastLine.new.sink)
+    reads (c.answer-in-Ok-LastLine.ensures.printed s before stands count) c.unwrap_or.ensures (c.read_line.ensures.keeps_up had told kept_up)
 
 pub returns-in-Ok-TooLong-clause-printed : goal.returns-in-Ok-TooLong-clause-printed
-returns-in-Ok-TooLong-clause-printed g c f before s had le stands count told =
+returns-in-Ok-TooLong-clause-printed g c f before s had le stands count told kept_up =
     let reads = rw c.in-Ok-TooLong.field-0-is at (c.in-Ok-TooLong.ensures.line had told) in
-    c.refuse.ensures.printed before count f (g.S.Source.faults c.read_line.new.source) s (c.args.self.now.buffer ++ had) reads.0 reads.1 (g.S.Source.left c.read_line.new.source) reads.2 (too_long_is_bad s reads.0 reads.3) (c.read_line.ensures.ahead had told)
+    c.refuse.ensures.printed before count f (g.S.Source.faults c.read_line.new.source) s (c.args.self.now.buffer ++ had) reads.0 reads.1 (g.S.Source.left c.read_line.new.source) (g.S.Source.asked c.read_line.new.source) reads.2 (too_long_is_bad s reads.0 reads.3) (c.read_line.ensures.keeps_up had told kept_up)
 
 pub returns-in-Ok-End-clause-printed : goal.returns-in-Ok-End-clause-printed
-returns-in-Ok-End-clause-printed g c f before s had le stands count told =
+returns-in-Ok-End-clause-printed g c f before s had le stands count told kept_up =
     let reads = rw c.in-Ok-End.field-0-is at (c.in-Ok-End.ensures.line had told) in
-    step_end (Rose f (g.S.Source.faults c.read_line.new.source)) s before (c.args.self.now.buffer ++ had) (g.S.Source.left c.read_line.new.source) (g.K.Sink.held c.args.sink.now) reads.0 reads.1
+    step_end (Rose f (g.S.Source.faults c.read_line.new.source)) s before (c.args.self.now.buffer ++ had) (g.S.Source.left c.read_line.new.source) (g.S.Source.asked c.read_line.new.source) (g.K.Sink.held c.args.sink.now) reads.0 reads.1
 
 pub returns-in-Err-NoMemory-clause-printed : goal.returns-in-Err-NoMemory-clause-printed
-returns-in-Err-NoMemory-clause-printed g c f before s had le stands count told =
+returns-in-Err-NoMemory-clause-printed g c f before s had le stands count told kept_up =
     let bytes = c.args.self.now.buffer ++ had in
     let left = g.S.Source.left c.read_line.new.source in
+    let asked = g.S.Source.asked c.read_line.new.source in
     let failed = Rose f (g.S.Source.faults c.read_line.new.source) in
-    let ends = no_memory_ends failed s before bytes left (c.read_line.ensures.ahead had told) in
-    finished failed (exchanges_from s (lines_of bytes)) (length (lines_of bytes)) before bytes left NoMemory c.finish.result no_memory_line (g.K.Sink.held c.args.sink.now) (g.K.Sink.held c.finish.new.sink) ends.0 ends.1 (c.read_line.ensures.ahead had told) c.finish.ensures.printed
+    let ends = no_memory_ends failed s before bytes left asked (c.read_line.ensures.keeps_up had told kept_up) in
+    finished failed (exchanges_from s (lines_of bytes)) (length (lines_of bytes)) before bytes left asked NoMemory c.finish.result no_memory_line (g.K.Sink.held c.args.sink.now) (g.K.Sink.held c.finish.new.sink) ends.0 ends.1 (c.read_line.ensures.keeps_up had told kept_up) c.finish.ensures.printed
 
 pub returns-in-Err-Fault-clause-printed : goal.returns-in-Err-Fault-clause-printed
-returns-in-Err-Fault-clause-printed g c f before s had le stands count told =
+returns-in-Err-Fault-clause-printed g c f before s had le stands count told kept_up =
     let bytes = c.args.self.now.buffer ++ had in
     let left = g.S.Source.left c.read_line.new.source in
+    let asked = g.S.Source.asked c.read_line.new.source in
     let failed = Rose f (g.S.Source.faults c.read_line.new.source) in
     let fault = c.in-Err-Fault.is ∙ ap Err c.in-Err-Fault.field-0-is in
     let within = c.read_line.ensures.within fault had told in
-    let ends = read_fault_ends failed s before bytes within.0 within.1 left (rose_earlier f (g.S.Source.faults c.args.source.now) (g.S.Source.faults c.read_line.new.source) le (rw c.in-Err-Fault.field-0-is at c.in-Err-Fault.ensures.faults)) within.2 within.3 within.4 in
-    finished failed (exchanges_from s (lines_of bytes)) (length (lines_of bytes)) before bytes left ReadFault c.finish-in-Err-Fault.result read_fault_line (g.K.Sink.held c.args.sink.now) (g.K.Sink.held c.finish-in-Err-Fault.new.sink) ends.0 ends.1 (c.read_line.ensures.ahead had told) c.finish-in-Err-Fault.ensures.printed
+    let ends = read_fault_ends failed s before bytes within.0 within.1 left asked (rose_earlier f (g.S.Source.faults c.args.source.now) (g.S.Source.faults c.read_line.new.source) le (rw c.in-Err-Fault.field-0-is at c.in-Err-Fault.ensures.faults)) within.2 within.3 within.4 in
+    finished failed (exchanges_from s (lines_of bytes)) (length (lines_of bytes)) before bytes left asked ReadFault c.finish-in-Err-Fault.result read_fault_line (g.K.Sink.held c.args.sink.now) (g.K.Sink.held c.finish-in-Err-Fault.new.sink) ends.0 ends.1 (c.read_line.ensures.keeps_up had told kept_up) c.finish-in-Err-Fault.ensures.printed

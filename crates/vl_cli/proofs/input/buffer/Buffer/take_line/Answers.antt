@@ -3,8 +3,8 @@ use Rattle.vl_cli.proofs.Lines.{IsSplit, split_at, no_split, drop-window, empty_
 use Rattle.vl_cli.specs.Input.{HasNoLineEnd}
 use Rattle.vl_cli.proofs.input.buffer.Buffer.take_line.Goals as goal
 
-pub returns-in_ok-extend_from_slice-in-Some-clause-taken : goal.returns-in_ok-extend_from_slice-in-Some-clause-taken
-returns-in_ok-extend_from_slice-in-Some-clause-taken c =
+pub returns-in_ok-extend_from_slice-in-Some : goal.returns-in_ok-extend_from_slice-in-Some
+returns-in_ok-extend_from_slice-in-Some c =
     let bytes = c.deref.result.now in
     let start = c.self.inside.start in
     let end = c.self.inside.end in
@@ -21,8 +21,8 @@ returns-in_ok-extend_from_slice-in-Some-clause-taken c =
       c.in_ok-extend_from_slice-in-Some.ensures.items,
     )
 
-pub returns-in_ok-extend_from_slice-in-None-clause-taken : goal.returns-in_ok-extend_from_slice-in-None-clause-taken
-returns-in_ok-extend_from_slice-in-None-clause-taken c =
+pub returns-in_ok-extend_from_slice-in-None : goal.returns-in_ok-extend_from_slice-in-None
+returns-in_ok-extend_from_slice-in-None c =
     let bytes = c.deref.result.now in
     let start = c.self.inside.start in
     let end = c.self.inside.end in
