@@ -18,17 +18,6 @@ pub enum OpenFail {
     Disk,
 }
 
-/// Why a commit wasn't written.
-#[derive(Clone, Copy, Debug, PartialEq, Eq, Error)]
-pub enum WriteFail {
-    /// Memory ran out. Nothing was changed.
-    #[error("no memory")]
-    NoMemory,
-    /// The disk failed. After a crash the log may have the commit or not.
-    #[error("disk fault")]
-    Disk,
-}
-
 impl From<AllocError> for OpenFail {
     ghost use Rattle.vl_journal.specs.declared.fails.OpenFail.TheVariants as why;
 
@@ -69,35 +58,5 @@ impl From<Failed> for OpenFail {
 
     fn from(_: Failed) -> Self {
         OpenFail::Disk
-    }
-}
-
-impl From<AllocError> for WriteFail {
-    ghost use Rattle.vl_journal.specs.declared.fails.WriteFail.TheVariants as why;
-
-    ghost from_gives = { λ _ e. e ≡ why.NoMemory };
-
-    fn from(_: AllocError) -> Self {
-        WriteFail::NoMemory
-    }
-}
-
-impl From<NoMemory> for WriteFail {
-    ghost use Rattle.vl_journal.specs.declared.fails.WriteFail.TheVariants as why;
-
-    ghost from_gives = { λ _ e. e ≡ why.NoMemory };
-
-    fn from(_: NoMemory) -> Self {
-        WriteFail::NoMemory
-    }
-}
-
-impl From<Failed> for WriteFail {
-    ghost use Rattle.vl_journal.specs.declared.fails.WriteFail.TheVariants as why;
-
-    ghost from_gives = { λ _ e. e ≡ why.Disk };
-
-    fn from(_: Failed) -> Self {
-        WriteFail::Disk
     }
 }

@@ -12,7 +12,7 @@ mod names;
 mod opening;
 mod writing;
 
-pub use fails::{OpenFail, WriteFail};
+pub use fails::OpenFail;
 pub use names::{LOG, MANIFEST};
 pub use opening::open_store;
-pub use writing::write_commit;
+pub use writing::{stage_commit, write_staged};

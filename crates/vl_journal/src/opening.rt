@@ -30,6 +30,7 @@ pub fn open_store<D: Disk>(alloc: Global, disk: &mut D) -> Result<(), OpenFail>
     // A crash meanwhile leaves no commit.
     ensures through { (state : DiskState) → D.told disk.old ≡ Some state → IsEmpty state
         → HoldsThroughout D.moment D.states_since disk.old disk.new (Leaves IsNone) }
+    ensures tells { (state : DiskState) → D.told disk.old ≡ Some state → (now : DiskState) × (D.told disk.new ≡ Some now) }
     ensures cause { HasCause (D.faults disk.old) (D.faults disk.new) (result ≡ Err OpenFail.Disk) }
 {
     if !disk.list(alloc)?.is_empty() {
