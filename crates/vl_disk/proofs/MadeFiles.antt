@@ -1,5 +1,5 @@
 -- The three calls that make a file.
-use Rattle.std.proofs.Common.{◌≡◌, ◌⊎◌, ⊎_elim, ℕ, ◌+◌, ◌-◌, ◌^◌, ◌≤◌, min, List, ◌++◌, length, take, Option, None, Some, refl, sym, ◌∙◌, ap, subst, arith}
+use Rattle.std.proofs.Common.{◌≡◌, ⊎_elim, ℕ, ◌+◌, ◌-◌, ◌^◌, ◌≤◌, min, List, length, Option, None, Some, ◌∙◌, ap, arith}
 use Rattle.std.proofs.lemmas.List.{take_all}
 use Rattle.std.specs.Option.{option_map}
 use Rattle.std.specs.FinMap.{get, insert}
@@ -10,7 +10,6 @@ use Rattle.vl_disk.specs.Changes.{created_there, changed_files}
 use Rattle.vl_disk.specs.Crash.{SameFiles, WhileCreating, WhileAppending, WhileSyncing}
 use Rattle.vl_disk.specs.Disk.{Turns, While}
 use Rattle.vl_disk.specs.MadeFile.{made, WhileMaking, not_there, empty, in_part, durable}
-use Rattle.vl_disk.proofs.Told.{some_state}
 
 none_state : (d : DiskState) → None ≡ Some d → ⊥
 none_state d e = cc

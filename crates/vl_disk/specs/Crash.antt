@@ -54,7 +54,7 @@ WhileSyncing name disk now = SameFiles now disk ⊎ SameFiles now (synced name d
 
 abbrev pub WhileCutting : Name → ℕ → DiskState → DiskState → Type 0
 WhileCutting name len disk now =
-    SameFiles now disk ⊎ ((left : ℕ) × (len ≤ left) × (left ≤ length (file_at disk name).bytes) × SameFiles now (cut_to name left disk))
+    SameFiles now disk ⊎ ((left : ℕ) × (len ≤ left) × (left ≤ length (file_at disk name).bytes) × SameFiles now (cut_to name len left disk))
 
 abbrev pub WhileRemoving : Name → DiskState → DiskState → Type 0
 WhileRemoving name disk now = SameFiles now disk ⊎ SameFiles now (without name disk)

@@ -80,9 +80,9 @@ lengthened piece taken file = record file {
   due = file.due ++ record { place = length file.bytes; bytes = piece } ∷ [];
 }
 
--- a file cut to a length
-abbrev pub shortened : ℕ → File → File
-shortened len file = record file { bytes = take len file.bytes; synced = min len file.synced; wholly_synced = false }
+-- a file that was to be cut to a length, and of which so many bytes are left; no more is durable than was to stay
+abbrev pub shortened : ℕ → ℕ → File → File
+shortened len left file = record file { bytes = take left file.bytes; synced = min len file.synced; wholly_synced = false }
 
 abbrev pub created : Name → DiskState → DiskState
 created name disk = record disk { standing = insert disk.standing name new_file; removed = remove disk.removed name }
@@ -93,8 +93,8 @@ appended name piece taken disk = with_file name (lengthened piece taken) disk
 abbrev pub synced : Name → DiskState → DiskState
 synced name disk = with_file name (λ file. settled file.bytes) disk
 
-abbrev pub cut_to : Name → ℕ → DiskState → DiskState
-cut_to name len disk = with_file name (shortened len) disk
+abbrev pub cut_to : Name → ℕ → ℕ → DiskState → DiskState
+cut_to name len left disk = with_file name (shortened len left) disk
 
 abbrev pub without : Name → DiskState → DiskState
 without name disk = record disk { standing = remove disk.standing name; removed = placed name (get disk.standing name) disk.removed }

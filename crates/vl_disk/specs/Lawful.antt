@@ -1,12 +1,13 @@
 -- Each call keeps a disk lawful.
-use Rattle.std.specs.Prelude.{◌≡◌, ◌≢◌, ℕ, true, false, List, take, Option, None, Some}
+use Rattle.std.specs.Prelude.{◌≡◌, ◌≢◌, ℕ, ◌≤◌, true, false, List, take, Option, None, Some}
 use Rattle.std.specs.Option.{option_map}
 use Rattle.std.specs.FinMap.{get, insert, remove, get-empty}
 use Rattle.std.proofs.Common.{⊎_elim, refl, sym, ◌∙◌, ap, subst, arith, length-append}
+use Rattle.std.proofs.lemmas.List.{length-take}
 use Rattle.vl_disk.specs.declared.name.Name.{Name}
 use Rattle.vl_disk.specs.Name.{name_cmp}
 use Rattle.vl_disk.specs.NameMap.{same_or_other, get_inserted, get_inserted_other, get_removed, get_removed_other}
-use Rattle.vl_disk.specs.DiskState.{File, Files, DiskState, IsLawfulFile, IsLawful, empty_disk, new_file, settled, lengthened, placed, with_file, created, appended, synced}
+use Rattle.vl_disk.specs.DiskState.{File, Files, DiskState, IsLawfulFile, IsLawful, empty_disk, new_file, settled, lengthened, shortened, placed, with_file, created, appended, synced, cut_to}
 
 -- each file of a map is lawful
 AllLawful : Files → Type 0
@@ -37,6 +38,12 @@ settled_lawful bytes = record { within = omega arith; as_synced = λ whole. refl
 pub lengthened_lawful : (piece : List ℕ) (taken : ℕ) (file : File) → IsLawfulFile file → IsLawfulFile (lengthened piece taken file)
 lengthened_lawful piece taken file lawful = record {
   within = omega (arith, lawful.within, length-append file.bytes (take taken piece));
+  as_synced = λ whole. absurd (false_true whole);
+}
+
+pub shortened_lawful : (len left : ℕ) → len ≤ left → (file : File) → IsLawfulFile file → IsLawfulFile (shortened len left file)
+shortened_lawful len left short file lawful = record {
+  within = omega (arith, short, lawful.within, length-take left file.bytes);
   as_synced = λ whole. absurd (false_true whole);
 }
 
@@ -80,3 +87,6 @@ module _ (disk : DiskState) (lawful : IsLawful disk) (name : Name) where
 
   pub synced_lawful : IsLawful (synced name disk)
   synced_lawful = with_file_lawful (λ file. settled file.bytes) (λ file _. settled_lawful file.bytes)
+
+  pub cut_lawful : (len left : ℕ) → len ≤ left → IsLawful (cut_to name len left disk)
+  cut_lawful len left short = with_file_lawful (shortened len left) (shortened_lawful len left short)

@@ -1,5 +1,5 @@
 -- A file that is made of some bytes at once: created, handed all of them, and synced.
-use Rattle.std.specs.Prelude.{◌≡◌, ℕ, ◌+◌, ◌-◌, ◌^◌, ◌≤◌, min, List, length}
+use Rattle.std.specs.Prelude.{ℕ, ◌+◌, ◌-◌, ◌^◌, ◌≤◌, min, List, length}
 use Rattle.std.specs.FinMap.{insert, remove}
 use Rattle.vl_disk.specs.declared.name.Name.{Name}
 use Rattle.vl_disk.specs.DiskState.{DiskState, settled, created, appended}

@@ -9,7 +9,8 @@ ghost use Rattle.vl_disk.specs.Disk.{Stands, IsFree, Lists, Turns, While, HasCau
 use crate::{Failed, ListFail, Name, NoMemory};
 use std::alloc::Global;
 
-/// A disk of named files, which only grow, and which a sync makes durable.
+/// A disk of named files, which a sync makes durable. Today its calls only make files and make them longer. Calls
+/// that cut and remove files come later.
 pub trait Disk {
     /// What it holds. A disk that doesn't tell it claims nothing of its bytes.
     ghost told: { Self → Option DiskState };

@@ -1,4 +1,3 @@
-use Rattle.std.proofs.Common.{◌≡◌, ◌∙◌, ap, refl, sym, length}
 use Rattle.std.proofs.lemmas.Result.{on_ok_weaker}
 use Rattle.vl_disk.specs.Moments.{elapses_then}
 use Rattle.vl_disk.proofs.MadeFiles.{told_made, while_created, while_appended, while_synced}
