@@ -56,7 +56,7 @@ pub trait Disk {
         ensures told { told self.new ≡ told self.old }
         ensures time { Elapses (moment self.old) (moment self.new) (states_since self.old) (states_since self.new)
             (While (told self.old) Unchanged) }
-        ensures faults { faults self.old ≤ faults self.new };
+        ensures faults { faults self.new ≡ faults self.old };
 
     /// Makes an empty file. If it fails, the file may stand or not.
     fn create(&mut self, name: Name) -> Result<(), Failed>

@@ -133,7 +133,7 @@ impl Disk for MemDisk {
         ensures told { told_by self.new ≡ told_by self.old }
         ensures time { Elapses (moment_of self.old) (moment_of self.new) (was_since self.old) (was_since self.new)
             (While (told_by self.old) Unchanged) }
-        ensures faults { faults_of self.old ≤ faults_of self.new }
+        ensures faults { faults_of self.new ≡ faults_of self.old }
         ensures plan { KeepsPlan self.old self.new }
     {
         make_room(&mut self.events, self.entries.len() + 1)?;
