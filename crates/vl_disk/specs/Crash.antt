@@ -35,6 +35,10 @@ MayLeaveOne None None None = Unit {0}
 abbrev pub MayLeave : DiskState → Image → Type 0
 MayLeave disk image = (name : Name) → MayLeaveOne (get disk.standing name) (get disk.removed name) (get image name)
 
+-- what a crash since then may have left, by the states that the disk had since then
+abbrev pub ImagesSince : (ℕ → DiskState → Type 0) → ℕ → Image → Type 0
+ImagesSince since t image = (state : DiskState) × since t state × MayLeave state image
+
 -- the same files, whatever was counted
 pub record SameFiles (a b : DiskState) : Type 0 where
   pub standing : a.standing ≡ b.standing
