@@ -3,7 +3,7 @@ use Rattle.std.specs.Prelude.{◌≡◌, ℕ, ◌+◌, ◌-◌, ◌^◌, ◌≤�
 use Rattle.std.specs.Option.{option_map}
 use Rattle.std.specs.FinMap.{FinMap, get, empty, insert, remove}
 use Rattle.vl_disk.specs.declared.name.Name.{Name}
-use Rattle.vl_disk.specs.Name.{name_cmp}
+use Rattle.vl_disk.specs.Name.{name_cmp, IsNumbered}
 
 -- a piece that was handed to `append`, whole, and the place in the file at which it was to stand
 pub record Piece : Type 0 where
@@ -71,6 +71,9 @@ pub record IsLawful (disk : DiskState) : Type 0 where
   pub standing : (name : Name) (file : File) → get disk.standing name ≡ Some file → IsLawfulFile file
   pub removed : (name : Name) (file : File) → get disk.removed name ≡ Some file → IsLawfulFile file
   pub apart : (name : Name) (file : File) → get disk.standing name ≡ Some file → get disk.removed name ≡ None
+  -- the number of each file is one that a file's name may have
+  pub numbered : (name : Name) (file : File) → get disk.standing name ≡ Some file → IsNumbered name
+  pub removed_numbered : (name : Name) (file : File) → get disk.removed name ≡ Some file → IsNumbered name
 
 -- a file to which a piece was handed, and which took so many bytes of it
 abbrev pub lengthened : List ℕ → ℕ → File → File

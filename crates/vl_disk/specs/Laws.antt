@@ -5,7 +5,7 @@ use Rattle.std.specs.FinMap.{get, empty, insert, remove, get-empty}
 use Rattle.std.proofs.Common.{⊎_elim, sym, ◌∙◌, ap, subst, arith}
 use Rattle.std.proofs.lemmas.List.{take_at, take-take, take-append-le, length-take-le}
 use Rattle.vl_disk.specs.declared.name.Name.{Name}
-use Rattle.vl_disk.specs.Name.{name_cmp}
+use Rattle.vl_disk.specs.Name.{name_cmp, IsNumbered}
 use Rattle.vl_disk.specs.NameMap.{same_or_other, get_inserted, get_inserted_other, get_removed, get_removed_other}
 use Rattle.vl_disk.specs.DiskState.{File, Files, DiskState, IsLawful, empty_disk, new_file, settled, lengthened, shortened, placed, with_file, created, appended, synced, cut_to, without}
 use Rattle.vl_disk.specs.Changes.{created_there, created_elsewhere, placed_elsewhere, changed_there, changed_elsewhere, unchanged}
@@ -184,3 +184,12 @@ without_leaves name disk image may q = ⊎_elim
     there (Some file) is one =
         at_same (get_removed disk.standing name) (ap (λ (o : Option File). get (placed name o disk.removed) name) is ∙ get_inserted disk.removed name file) refl
         (gone file (get image name) (at_same (sym is) refl refl one))
+
+-- The number of each file that a crash leaves is one that a file's name may have.
+pub left_numbered : (disk : DiskState) (image : Image) → IsLawful disk → MayLeave disk image → (name : Name) (bytes : List ℕ) → get image name ≡ Some bytes → IsNumbered name
+left_numbered disk image lawful may name bytes is = of_file (get disk.standing name) (get disk.removed name) refl refl (at_same refl refl (sym is) (may name))
+  where
+    of_file : (standing removed : Option File) → get disk.standing name ≡ standing → get disk.removed name ≡ removed → MayLeaveOne standing removed (Some bytes) → IsNumbered name
+    of_file (Some file) removed stands gone one = lawful.numbered name file stands
+    of_file None (Some file) stands gone one = lawful.removed_numbered name file gone
+    of_file None None stands gone one = absurd one

@@ -1,6 +1,7 @@
-ghost use Rattle.std.specs.Prelude.{◌≡◌, ◌⊎◌, ℕ, ◌≤◌, List, length, Option, Some, IsTrue, IfOk, OnOk, OnErr, IsErr, IsErrOf};
+ghost use Rattle.std.specs.Prelude.{◌≡◌, ◌⊎◌, ℕ, ◌≤◌, List, length, Option, Some, IsTrue, All, IfOk, OnOk, OnErr, IsErr, IsErrOf};
 ghost use Rattle.std.specs.Option.{ForSome};
 ghost use Rattle.vl_disk.specs.declared.name.Name.{Name};
+ghost use Rattle.vl_disk.specs.Name.{IsNumbered};
 ghost use Rattle.vl_disk.specs.DiskState.{DiskState, IsLawful, file_at, created, appended, synced};
 ghost use Rattle.vl_disk.specs.Crash.{SameFiles, Unchanged, WhileCreating, WhileAppending, WhileSyncing};
 ghost use Rattle.vl_disk.specs.Moments.{Elapses};
@@ -31,6 +32,7 @@ pub trait Disk {
     /// The names of the files that stand.
     fn list(&mut self, alloc: Global) -> Result<Vec<Name>, ListFail>
         ensures names { IfOk result (λ names. ForSome (told self.old) (Lists names.items)) }
+        ensures numbered { IfOk result (λ names. All IsNumbered names.items) }
         ensures told { told self.new ≡ told self.old }
         ensures time { Elapses (moment self.old) (moment self.new) (states_since self.old) (states_since self.new)
             (While (told self.old) Unchanged) }
@@ -60,6 +62,7 @@ pub trait Disk {
 
     /// Makes an empty file. If it fails, the file may stand or not.
     fn create(&mut self, name: Name) -> Result<(), Failed>
+        requires numbered { IsNumbered name }
         requires free { ForSome (told self.old) (IsFree name) }
         requires room { IsTrue (spare self.old name).change }
         ensures created { OnOk result (Turns (created name) (told self.old) (told self.new)) }

@@ -1,5 +1,6 @@
 ghost use Rattle.std.specs.Prelude.{◌≡◌, length, OnOk, OnErr, IsErr};
 ghost use Rattle.std.specs.Option.{ForSome, option_map};
+ghost use Rattle.vl_disk.specs.Name.{IsNumbered};
 ghost use Rattle.vl_disk.specs.Disk.{Stands, IsFree, IsReady, HasCause, SameSpareElsewhere, While};
 ghost use Rattle.vl_disk.specs.MadeFile.{made, WhileMaking, TellsPart};
 ghost use Rattle.vl_disk.specs.Moments.{Elapses};
@@ -9,6 +10,7 @@ use crate::{Disk, Failed, Name};
 /// Makes a file of these bytes and makes it durable: a create, an append and a sync. If it fails, the file may be
 /// missing, be empty, or have taken some first bytes.
 pub fn make_file<D: Disk>(disk: &mut D, name: Name, bytes: &[u8]) -> Result<(), Failed>
+    requires numbered { IsNumbered name }
     requires free { ForSome (D.told disk.old) (IsFree name) }
     requires room { IsReady (length bytes.now) (D.spare disk.old name) }
     ensures made { OnOk result (D.told disk.new ≡ option_map (made name bytes.now) (D.told disk.old)) }
