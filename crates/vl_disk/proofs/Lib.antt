@@ -3,6 +3,7 @@ pub mod Entries
 pub mod Kept
 pub mod Listed
 pub mod MadeFiles
+pub mod Numbered
 pub mod Ready
 pub mod Table
 pub mod Told

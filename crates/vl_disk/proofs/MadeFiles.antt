@@ -1,5 +1,5 @@
 -- The three calls that make a file.
-use Rattle.std.proofs.Common.{◌≡◌, ◌⊎◌, ⊎_elim, ℕ, ◌+◌, ◌-◌, ◌^◌, ◌≤◌, min, List, ◌++◌, length, take, Option, None, Some, refl, sym, ◌∙◌, ap, subst, arith}
+use Rattle.std.proofs.Common.{◌≡◌, ⊎_elim, ℕ, ◌+◌, ◌-◌, ◌^◌, ◌≤◌, min, List, length, Option, None, Some, ◌∙◌, ap, arith, ◌⊎◌, Result, Ok, Err, OnErr, refl}
 use Rattle.std.proofs.lemmas.List.{take_all}
 use Rattle.std.specs.Option.{option_map}
 use Rattle.std.specs.FinMap.{get, insert}
@@ -9,8 +9,12 @@ use Rattle.vl_disk.specs.DiskState.{File, Files, DiskState, new_file, settled, l
 use Rattle.vl_disk.specs.Changes.{created_there, changed_files}
 use Rattle.vl_disk.specs.Crash.{SameFiles, WhileCreating, WhileAppending, WhileSyncing}
 use Rattle.vl_disk.specs.Disk.{Turns, While}
-use Rattle.vl_disk.specs.MadeFile.{made, WhileMaking, not_there, empty, in_part, durable}
-use Rattle.vl_disk.proofs.Told.{some_state}
+use Rattle.vl_disk.specs.MadeFile.{made, WhileMaking, TellsPart, not_there, empty, in_part, durable}
+
+-- of a call that fails
+pub at_err : {T E : Type 0} (r : Result T E) (P : Type 0) → P → OnErr r P
+at_err (Ok x) P p = tt
+at_err (Err e) P p = p
 
 none_state : (d : DiskState) → None ≡ Some d → ⊥
 none_state d e = cc
@@ -68,3 +72,29 @@ module _ (name : Name) (bytes : List ℕ) where
   told_made (Some disk) told1 told2 told3 a b c =
       let after : told3 ≡ Some (counted (synced name (counted (appended name bytes (length bytes) (counted (created name disk)))))) = cc in
       after ∙ ap Some (is_made disk)
+
+  -- what stands where the first call fails, the second, or the third
+  pub create_failed : (told0 told1 : Option DiskState) → Turns (λ disk. disk) told0 told1 ⊎ Turns (created name) told0 told1 → TellsPart name bytes told0 told1
+  create_failed None told1 failed = ⊎_elim (λ (same : told1 ≡ None). same) (λ (same : told1 ≡ None). same) failed
+  create_failed (Some disk) told1 failed = ⊎_elim
+      (λ (is : told1 ≡ Some (counted disk)).
+      (counted disk, is, not_there (record { standing = refl; removed = refl }), (1, omega arith, omega arith, refl)))
+      (λ (is : told1 ≡ Some (counted (created name disk))).
+      (counted (created name disk), is, empty (record { standing = refl; removed = refl }), (1, omega arith, omega arith, refl)))
+      failed
+
+  two : (n : ℕ) → min (min (n + 1) (2 ^ 64 - 1) + 1) (2 ^ 64 - 1) ≡ min (n + 2) (2 ^ 64 - 1)
+  two n = omega arith
+
+  pub append_failed : (told0 told1 told2 : Option DiskState) → Turns (created name) told0 told1 → (taken : ℕ) × (taken ≤ length bytes) × Turns (appended name bytes taken) told1 told2 → TellsPart name bytes told0 told2
+  append_failed None told1 told2 a failed = let b : Turns (appended name bytes failed.0) told1 told2 = failed.2 in cc
+  append_failed (Some disk) told1 told2 a failed =
+      let b : Turns (appended name bytes failed.0) told1 told2 = failed.2 in
+      let is : told2 ≡ Some (counted (appended name bytes failed.0 (counted (created name disk)))) = cc in
+      (counted (appended name bytes failed.0 (counted (created name disk))), is, in_part failed.0 failed.1 (record { standing = refl; removed = refl }), (2, omega arith, omega arith, two disk.calls))
+
+  pub sync_failed : (told0 told1 told2 told3 : Option DiskState) → Turns (created name) told0 told1 → Turns (appended name bytes (length bytes)) told1 told2 → Turns (λ disk. disk) told2 told3 → TellsPart name bytes told0 told3
+  sync_failed None told1 told2 told3 a b failed = cc
+  sync_failed (Some disk) told1 told2 told3 a b failed =
+      let is : told3 ≡ Some (counted (counted (appended name bytes (length bytes) (counted (created name disk))))) = cc in
+      (counted (counted (appended name bytes (length bytes) (counted (created name disk)))), is, in_part (length bytes) (omega arith) (record { standing = refl; removed = refl }), (3, omega arith, omega arith, three disk disk.calls))

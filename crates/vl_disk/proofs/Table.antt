@@ -14,7 +14,7 @@ use Rattle.vl_disk.specs.DiskState.{File, DiskState, empty_disk, new_file, settl
 use Rattle.vl_disk.specs.Disk.{Spare, CanAppend, SameSpare, SameSpareElsewhere, UsesChange, UsesAppend}
 use Rattle.vl_disk.specs.declared.mem_disk.event.Event.TheVariants.{Create, Append, Refuse, Sync}
 use Rattle.vl_disk.specs.Changes.{created_there, created_elsewhere, changed_there, changed_elsewhere, unchanged}
-use Rattle.vl_disk.specs.Event.{after_event, replayed-push, replayed_lawful, state_after}
+use Rattle.vl_disk.specs.Event.{after_event, replayed-push, replayed_lawful, state_after, CreatesNumbered}
 use Rattle.vl_disk.specs.Lawful.{empty_lawful}
 use Rattle.vl_disk.specs.Entry.{Fits, slots, entry_of, IsAt, IsDistinct, HasBytes, NotesUnsynced, shown, spare_of}
 use Rattle.vl_disk.proofs.Entries.{at_within, at_entry, at_name, set_same, set_other}
@@ -85,11 +85,11 @@ module _ (name : Name) (entries : List Entry) (disk : DiskState) (has : HasBytes
   file_there entry is = entry_bytes entry is ∙ sym (ap (λ (o : Option File). (unwrap_or o new_file).bytes) stood.1)
 
 -- an entry that notes nothing is of a file that a sync leaves as it is
-pub already_synced : (name : Name) (entries : List Entry) (events : List Event) (capacity : ℕ) → IsInStep entries events capacity → IsSome (get (state_after events).standing name)
+pub already_synced : (name : Name) (entries : List Entry) (events : List Event) → All CreatesNumbered events → (capacity : ℕ) → IsInStep entries events capacity → IsSome (get (state_after events).standing name)
     → (entry : Entry) → entry_of name entries ≡ Some entry → entry.unsynced ≡ false → synced name (state_after events) ≡ state_after events
-already_synced name entries events capacity step stands entry is clean =
+already_synced name entries events numbered capacity step stands entry is clean =
     let there = standing_file (get (state_after events).standing name) stands in
-    let lawful = (replayed_lawful events empty_disk empty_lawful).standing name there.0 there.1 in
+    let lawful = (replayed_lawful events empty_disk numbered empty_lawful).standing name there.0 there.1 in
     unchanged name (state_after events) (λ f. settled f.bytes) there.0 there.1 (sym (lawful.as_synced (step.notes_unsynced name there.0 entry there.1 is clean)))
 
 module _ (name : Name) (entries : List Entry) (i : ℕ) (old : Entry) (at : IsAt name entries i) (was : old ≡ get_or entries i old) where

@@ -21,11 +21,12 @@ GrowsByFrames (Manifest number) = Unit {0}
 abbrev pub torn_from : File → ℕ
 torn_from file = max 16 file.synced
 
--- No torn bytes of the image spell a frame by chance: at the place from which a log or a manifest may be torn
--- stands no frame, or one that was handed to `append` there, and then none right behind it.
+-- No torn bytes of the image spell a frame by chance: where a log or a manifest has a frame at the place from which
+-- it may be torn, that frame was handed to `append` there, and so was each frame right behind it.
 -- `spells name bytes place frame` says that the bytes of a file of this name have at this place a frame with these bytes.
 abbrev pub NoChanceMatch : (Name → List ℕ → ℕ → List ℕ → Type 0) → DiskState → Image → Type 0
 NoChanceMatch spells disk image = (name : Name) (file : File) (bytes frame : List ℕ)
     → GrowsByFrames name → last_file (get disk.standing name) (get disk.removed name) ≡ Some file → file.wholly_synced ≡ false → get image name ≡ Some bytes
     → spells name bytes (torn_from file) frame
-    → Any (StandsIn (torn_from file) frame) file.due × ((next : List ℕ) → spells name bytes (torn_from file + length frame) next → Any (StandsIn (torn_from file + length frame) next) file.due)
+    → Any (StandsIn (torn_from file) frame) file.due
+    × ((next : List ℕ) → spells name bytes (torn_from file + length frame) next → Any (StandsIn (torn_from file + length frame) next) file.due)

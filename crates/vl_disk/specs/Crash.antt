@@ -35,6 +35,10 @@ MayLeaveOne None None None = Unit {0}
 abbrev pub MayLeave : DiskState → Image → Type 0
 MayLeave disk image = (name : Name) → MayLeaveOne (get disk.standing name) (get disk.removed name) (get image name)
 
+-- what a crash since then may have left, by the states that the disk had since then
+abbrev pub ImagesSince : (ℕ → DiskState → Type 0) → ℕ → Image → Type 0
+ImagesSince since t image = (state : DiskState) × since t state × MayLeave state image
+
 -- the same files, whatever was counted
 pub record SameFiles (a b : DiskState) : Type 0 where
   pub standing : a.standing ≡ b.standing
@@ -54,7 +58,7 @@ WhileSyncing name disk now = SameFiles now disk ⊎ SameFiles now (synced name d
 
 abbrev pub WhileCutting : Name → ℕ → DiskState → DiskState → Type 0
 WhileCutting name len disk now =
-    SameFiles now disk ⊎ ((left : ℕ) × (len ≤ left) × (left ≤ length (file_at disk name).bytes) × SameFiles now (cut_to name left disk))
+    SameFiles now disk ⊎ ((left : ℕ) × (len ≤ left) × (left ≤ length (file_at disk name).bytes) × SameFiles now (cut_to name len left disk))
 
 abbrev pub WhileRemoving : Name → DiskState → DiskState → Type 0
 WhileRemoving name disk now = SameFiles now disk ⊎ SameFiles now (without name disk)

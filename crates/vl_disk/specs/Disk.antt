@@ -27,10 +27,11 @@ Turns change old new = new ≡ option_map (λ disk. counted (change disk)) old
 abbrev pub While : Option DiskState → (DiskState → DiskState → Type 0) → DiskState → Type 0
 While told during now = ForSome told (λ disk. during disk now)
 
--- a fault was counted where the call failed
+-- a fault was counted where the call failed, and none where it didn't
 pub record HasCause (before now : ℕ) (failed : Type 0) : Type 0 where
   pub later : before ≤ now
   pub rose : failed → Rose before now
+  pub steady : (failed → ⊥) → now ≡ before
 
 -- the room of one name
 pub record Spare : Type 0 where

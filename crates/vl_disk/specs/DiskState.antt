@@ -3,7 +3,7 @@ use Rattle.std.specs.Prelude.{◌≡◌, ℕ, ◌+◌, ◌-◌, ◌^◌, ◌≤�
 use Rattle.std.specs.Option.{option_map}
 use Rattle.std.specs.FinMap.{FinMap, get, empty, insert, remove}
 use Rattle.vl_disk.specs.declared.name.Name.{Name}
-use Rattle.vl_disk.specs.Name.{name_cmp}
+use Rattle.vl_disk.specs.Name.{name_cmp, IsNumbered}
 
 -- a piece that was handed to `append`, whole, and the place in the file at which it was to stand
 pub record Piece : Type 0 where
@@ -71,6 +71,9 @@ pub record IsLawful (disk : DiskState) : Type 0 where
   pub standing : (name : Name) (file : File) → get disk.standing name ≡ Some file → IsLawfulFile file
   pub removed : (name : Name) (file : File) → get disk.removed name ≡ Some file → IsLawfulFile file
   pub apart : (name : Name) (file : File) → get disk.standing name ≡ Some file → get disk.removed name ≡ None
+  -- the number of each file is one that a file's name may have
+  pub numbered : (name : Name) (file : File) → get disk.standing name ≡ Some file → IsNumbered name
+  pub removed_numbered : (name : Name) (file : File) → get disk.removed name ≡ Some file → IsNumbered name
 
 -- a file to which a piece was handed, and which took so many bytes of it
 abbrev pub lengthened : List ℕ → ℕ → File → File
@@ -80,9 +83,9 @@ lengthened piece taken file = record file {
   due = file.due ++ record { place = length file.bytes; bytes = piece } ∷ [];
 }
 
--- a file cut to a length
-abbrev pub shortened : ℕ → File → File
-shortened len file = record file { bytes = take len file.bytes; synced = min len file.synced; wholly_synced = false }
+-- a file that was to be cut to a length, and of which so many bytes are left; no more is durable than was to stay
+abbrev pub shortened : ℕ → ℕ → File → File
+shortened len left file = record file { bytes = take left file.bytes; synced = min len file.synced; wholly_synced = false }
 
 abbrev pub created : Name → DiskState → DiskState
 created name disk = record disk { standing = insert disk.standing name new_file; removed = remove disk.removed name }
@@ -93,8 +96,8 @@ appended name piece taken disk = with_file name (lengthened piece taken) disk
 abbrev pub synced : Name → DiskState → DiskState
 synced name disk = with_file name (λ file. settled file.bytes) disk
 
-abbrev pub cut_to : Name → ℕ → DiskState → DiskState
-cut_to name len disk = with_file name (shortened len) disk
+abbrev pub cut_to : Name → ℕ → ℕ → DiskState → DiskState
+cut_to name len left disk = with_file name (shortened len left) disk
 
 abbrev pub without : Name → DiskState → DiskState
 without name disk = record disk { standing = remove disk.standing name; removed = placed name (get disk.standing name) disk.removed }

@@ -1,12 +1,13 @@
 -- Each call keeps a disk lawful.
-use Rattle.std.specs.Prelude.{◌≡◌, ◌≢◌, ℕ, true, false, List, take, Option, None, Some}
+use Rattle.std.specs.Prelude.{◌≡◌, ◌≢◌, ℕ, ◌≤◌, true, false, List, take, Option, None, Some}
 use Rattle.std.specs.Option.{option_map}
 use Rattle.std.specs.FinMap.{get, insert, remove, get-empty}
 use Rattle.std.proofs.Common.{⊎_elim, refl, sym, ◌∙◌, ap, subst, arith, length-append}
+use Rattle.std.proofs.lemmas.List.{length-take}
 use Rattle.vl_disk.specs.declared.name.Name.{Name}
-use Rattle.vl_disk.specs.Name.{name_cmp}
+use Rattle.vl_disk.specs.Name.{name_cmp, IsNumbered}
 use Rattle.vl_disk.specs.NameMap.{same_or_other, get_inserted, get_inserted_other, get_removed, get_removed_other}
-use Rattle.vl_disk.specs.DiskState.{File, Files, DiskState, IsLawfulFile, IsLawful, empty_disk, new_file, settled, lengthened, placed, with_file, created, appended, synced}
+use Rattle.vl_disk.specs.DiskState.{File, Files, DiskState, IsLawfulFile, IsLawful, empty_disk, new_file, settled, lengthened, shortened, placed, with_file, created, appended, synced, cut_to}
 
 -- each file of a map is lawful
 AllLawful : Files → Type 0
@@ -26,6 +27,8 @@ empty_lawful = record {
   standing = λ name file e. absurd (none_some file (sym (get-empty name_cmp name) ∙ e));
   removed = λ name file e. absurd (none_some file (sym (get-empty name_cmp name) ∙ e));
   apart = λ name file e. get-empty name_cmp name;
+  numbered = λ name file e. absurd (none_some file (sym (get-empty name_cmp name) ∙ e));
+  removed_numbered = λ name file e. absurd (none_some file (sym (get-empty name_cmp name) ∙ e));
 }
 
 pub new_file_lawful : IsLawfulFile new_file
@@ -40,9 +43,15 @@ lengthened_lawful piece taken file lawful = record {
   as_synced = λ whole. absurd (false_true whole);
 }
 
+pub shortened_lawful : (len left : ℕ) → len ≤ left → (file : File) → IsLawfulFile file → IsLawfulFile (shortened len left file)
+shortened_lawful len left short file lawful = record {
+  within = omega (arith, short, lawful.within, length-take left file.bytes);
+  as_synced = λ whole. absurd (false_true whole);
+}
+
 module _ (disk : DiskState) (lawful : IsLawful disk) (name : Name) where
-  pub created_lawful : IsLawful (created name disk)
-  created_lawful = record {
+  pub created_lawful : IsNumbered name → IsLawful (created name disk)
+  created_lawful numbered = record {
     standing = λ q file e. ⊎_elim
         (λ (same : q ≡ name). subst IsLawfulFile (some_same new_file file (sym (get_inserted disk.standing name new_file) ∙ sym (ap (get (insert disk.standing name new_file)) same) ∙ e)) new_file_lawful)
         (λ (other : q ≢ name). lawful.standing q file (sym (get_inserted_other disk.standing name new_file q other) ∙ e))
@@ -54,6 +63,14 @@ module _ (disk : DiskState) (lawful : IsLawful disk) (name : Name) where
     apart = λ q file e. ⊎_elim
         (λ (same : q ≡ name). ap (get (remove disk.removed name)) same ∙ get_removed disk.removed name)
         (λ (other : q ≢ name). get_removed_other disk.removed name q other ∙ lawful.apart q file (sym (get_inserted_other disk.standing name new_file q other) ∙ e))
+        (same_or_other q name);
+    numbered = λ q file e. ⊎_elim
+        (λ (same : q ≡ name). subst IsNumbered (sym same) numbered)
+        (λ (other : q ≢ name). lawful.numbered q file (sym (get_inserted_other disk.standing name new_file q other) ∙ e))
+        (same_or_other q name);
+    removed_numbered = λ q file e. ⊎_elim
+        (λ (same : q ≡ name). subst IsNumbered (sym same) numbered)
+        (λ (other : q ≢ name). lawful.removed_numbered q file (sym (get_removed_other disk.removed name q other) ∙ e))
         (same_or_other q name);
   }
 
@@ -73,6 +90,11 @@ module _ (disk : DiskState) (lawful : IsLawful disk) (name : Name) where
             (λ (same : q ≡ name). ap (get disk.removed) same ∙ lawful.apart name old e)
             (λ (other : q ≢ name). lawful.apart q file (sym (get_inserted_other disk.standing name (change old) q other) ∙ is))
             (same_or_other q name);
+        numbered = λ q file is. ⊎_elim
+            (λ (same : q ≡ name). subst IsNumbered (sym same) (lawful.numbered name old e))
+            (λ (other : q ≢ name). lawful.numbered q file (sym (get_inserted_other disk.standing name (change old) q other) ∙ is))
+            (same_or_other q name);
+        removed_numbered = lawful.removed_numbered;
       }
 
   pub appended_lawful : (piece : List ℕ) (taken : ℕ) → IsLawful (appended name piece taken disk)
@@ -80,3 +102,6 @@ module _ (disk : DiskState) (lawful : IsLawful disk) (name : Name) where
 
   pub synced_lawful : IsLawful (synced name disk)
   synced_lawful = with_file_lawful (λ file. settled file.bytes) (λ file _. settled_lawful file.bytes)
+
+  pub cut_lawful : (len left : ℕ) → len ≤ left → IsLawful (cut_to name len left disk)
+  cut_lawful len left short = with_file_lawful (shortened len left) (shortened_lawful len left short)

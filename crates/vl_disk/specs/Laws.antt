@@ -1,18 +1,44 @@
 -- What the definitions of a disk and of a crash say together.
-use Rattle.std.specs.Prelude.{◌≡◌, ◌≢◌, ℕ, ◌≤◌, refl, true, false, List, ◌++◌, length, take, Option, None, Some, IsTrue}
-use Rattle.std.specs.FinMap.{get, insert, remove}
-use Rattle.std.proofs.Common.{⊎_elim, sym, ◌∙◌, ap, subst}
-use Rattle.std.proofs.lemmas.List.{take_at, take-append-le, length-take-le}
+use Rattle.std.specs.Prelude.{◌≡◌, ◌≢◌, ℕ, ◌≤◌, min, refl, true, false, List, ◌++◌, length, take, Option, None, Some, IsTrue}
+use Rattle.std.specs.Option.{option_map}
+use Rattle.std.specs.FinMap.{get, empty, insert, remove, get-empty}
+use Rattle.std.proofs.Common.{⊎_elim, sym, ◌∙◌, ap, subst, arith}
+use Rattle.std.proofs.lemmas.List.{take_at, take-take, take-append-le, length-take-le}
 use Rattle.vl_disk.specs.declared.name.Name.{Name}
+use Rattle.vl_disk.specs.Name.{name_cmp, IsNumbered}
 use Rattle.vl_disk.specs.NameMap.{same_or_other, get_inserted, get_inserted_other, get_removed, get_removed_other}
-use Rattle.vl_disk.specs.DiskState.{File, DiskState, IsLawful, settled, lengthened, placed, created, appended, synced, without}
-use Rattle.vl_disk.specs.Changes.{created_there, changed_there, unchanged}
-use Rattle.vl_disk.specs.Crash.{Image, Agrees, MayLeaveOne, MayLeave}
+use Rattle.vl_disk.specs.DiskState.{File, Files, DiskState, IsLawful, empty_disk, new_file, settled, lengthened, shortened, placed, with_file, created, appended, synced, cut_to, without}
+use Rattle.vl_disk.specs.Changes.{created_there, created_elsewhere, placed_elsewhere, changed_there, changed_elsewhere, unchanged}
+use Rattle.vl_disk.specs.Crash.{Image, Agrees, last_file, MayLeaveOne, MayLeave, SameFiles}
+use Rattle.vl_disk.specs.Chance.{NoChanceMatch}
+use Rattle.vl_disk.specs.Disk.{IsFree}
+
+false_true : false ≡ true → ⊥
+false_true e = cc
+
+-- the same under one name
+at_same : {standing removed standing_before removed_before : Option File} {left left_before : Option (List ℕ)}
+    → standing ≡ standing_before → removed ≡ removed_before → left ≡ left_before → MayLeaveOne standing_before removed_before left_before → MayLeaveOne standing removed left
+at_same {standing} {removed} {standing_before} {removed_before} {left} {left_before} here gone there one =
+    subst (λ (o : Option File). MayLeaveOne o removed left) (sym here)
+    (subst (λ (o : Option File). MayLeaveOne standing_before o left) (sym gone)
+    (subst (MayLeaveOne standing_before removed_before) (sym there) one))
 
 -- a sync of a file that is wholly synced changes nothing
 pub synced_again : (name : Name) (disk : DiskState) → IsLawful disk → (file : File) → get disk.standing name ≡ Some file → IsTrue file.wholly_synced → synced name disk ≡ disk
 synced_again name disk lawful file stands whole =
     unchanged name disk (λ f. settled f.bytes) file stands (sym ((lawful.standing name file stands).as_synced whole))
+
+-- a crash leaves the same of the same files
+pub same_leaves : {a b : DiskState} (image : Image) → SameFiles a b → MayLeave a image → MayLeave b image
+same_leaves {a} {b} image same may name = at_same (ap (λ (files : Files). get files name) (sym same.standing)) (ap (λ (files : Files). get files name) (sym same.removed)) refl (may name)
+
+pub same_chance : {a b : DiskState} (spells : Name → List ℕ → ℕ → List ℕ → Type 0) (image : Image) → SameFiles a b → NoChanceMatch spells a image → NoChanceMatch spells b image
+same_chance {a} {b} spells image same none name file bytes frame grows last =
+    none name file bytes frame grows (ap (λ (files : Files). last_file (get files name) (get a.removed name)) same.standing ∙ ap (λ (files : Files). last_file (get b.standing name) (get files name)) same.removed ∙ last)
+
+pub same_back : {a b : DiskState} → SameFiles a b → SameFiles b a
+same_back same = record { standing = sym same.standing; removed = sym same.removed }
 
 -- what an image has under one name may be changed for what may be left there
 module _ (disk : DiskState) (image : Image) (may : MayLeave disk image) (name : Name) where
@@ -76,3 +102,94 @@ module _ (name : Name) (disk : DiskState) (image : Image) where
 
     pub removed_may_be_missing : MayLeave (without name disk) image → MayLeave (without name disk) (remove image name)
     removed_may_be_missing may = with_none (without name disk) image may name (removed_one None tt)
+
+-- Each disk leaves some image: an empty one leaves nothing, and each call leaves an image made from one before it.
+
+pub empty_leaves : MayLeave empty_disk empty
+empty_leaves name = at_same nothing nothing (get-empty name_cmp name) tt
+  where
+    nothing : get empty_disk.standing name ≡ None
+    nothing = get-empty name_cmp name
+
+pub created_leaves : (name : Name) (disk : DiskState) (image : Image) → IsFree name disk → MayLeave disk image → MayLeave (created name disk) image
+created_leaves name disk image free may q = ⊎_elim
+    (λ (same : q ≡ name). subst (λ (n : Name). MayLeaveOne (get (created name disk).standing n) (get (created name disk).removed n) (get image n)) (sym same)
+    (at_same (created_there name disk) (get_removed disk.removed name) refl (any (get image name))))
+    (λ (other : q ≢ name). at_same (created_elsewhere name disk q other) (get_removed_other disk.removed name q other) refl (may q))
+    (same_or_other q name)
+  where
+    any : (left : Option (List ℕ)) → MayLeaveOne (Some new_file) None left
+    any None = refl
+    any (Some bytes) = record { durable = refl; whole = λ whole. absurd (false_true whole) }
+
+-- a change of a file that leaves what is left of it
+changed_leaves : (name : Name) (change : File → File) (disk : DiskState) (image : Image)
+    → ((file : File) (left : Option (List ℕ)) → get disk.standing name ≡ Some file → MayLeaveOne (Some file) (get disk.removed name) left → MayLeaveOne (Some (change file)) (get disk.removed name) left)
+    → MayLeave disk image → MayLeave (with_file name change disk) image
+changed_leaves name change disk image keeps may q = ⊎_elim
+    (λ (same : q ≡ name). subst (λ (n : Name). MayLeaveOne (get (with_file name change disk).standing n) (get disk.removed n) (get image n)) (sym same) (there (get disk.standing name) refl (may name)))
+    (λ (other : q ≢ name). at_same (changed_elsewhere name disk change q other) refl refl (may q))
+    (same_or_other q name)
+  where
+    there : (file : Option File) → get disk.standing name ≡ file → MayLeaveOne (get disk.standing name) (get disk.removed name) (get image name)
+        → MayLeaveOne (get (with_file name change disk).standing name) (get disk.removed name) (get image name)
+    there None is one = at_same (ap (λ (o : Option File). get (placed name (option_map change o) disk.standing) name) is) refl refl one
+    there (Some file) is one = at_same (changed_there name disk change file is) refl refl (keeps file (get image name) is (at_same (sym is) refl refl one))
+
+pub appended_leaves : (name : Name) (piece : List ℕ) (taken : ℕ) (disk : DiskState) (image : Image) → IsLawful disk → MayLeave disk image → MayLeave (appended name piece taken disk) image
+appended_leaves name piece taken disk image lawful may = changed_leaves name (lengthened piece taken) disk image keeps may
+  where
+    keeps : (file : File) (left : Option (List ℕ)) → get disk.standing name ≡ Some file → MayLeaveOne (Some file) (get disk.removed name) left → MayLeaveOne (Some (lengthened piece taken file)) (get disk.removed name) left
+    keeps file None is one = one
+    keeps file (Some bytes) is one = record {
+      durable = one.durable ∙ sym (take-append-le file.synced file.bytes (take taken piece) (lawful.standing name file is).within);
+      whole = λ whole. absurd (false_true whole);
+    }
+
+pub synced_leaves : (name : Name) (disk : DiskState) (image : Image) (file : File) → get disk.standing name ≡ Some file → MayLeave disk image → MayLeave (synced name disk) (insert image name file.bytes)
+synced_leaves name disk image file stands may q = ⊎_elim
+    (λ (same : q ≡ name). subst (λ (n : Name). MayLeaveOne (get (synced name disk).standing n) (get disk.removed n) (get (insert image name file.bytes) n)) (sym same)
+    (at_same (changed_there name disk (λ f. settled f.bytes) file stands) refl (get_inserted image name file.bytes) whole))
+    (λ (other : q ≢ name). at_same (changed_elsewhere name disk (λ f. settled f.bytes) q other) refl (get_inserted_other image name file.bytes q other) (may q))
+    (same_or_other q name)
+  where
+    whole : MayLeaveOne (Some (settled file.bytes)) (get disk.removed name) (Some file.bytes)
+    whole = record { durable = refl; whole = λ _. refl }
+
+pub cut_leaves : (name : Name) (len left : ℕ) (disk : DiskState) (image : Image) → len ≤ left → IsLawful disk → MayLeave disk image → MayLeave (cut_to name len left disk) image
+cut_leaves name len left disk image short lawful may = changed_leaves name (shortened len left) disk image keeps may
+  where
+    keeps : (file : File) (there : Option (List ℕ)) → get disk.standing name ≡ Some file → MayLeaveOne (Some file) (get disk.removed name) there → MayLeaveOne (Some (shortened len left file)) (get disk.removed name) there
+    keeps file None is one = one
+    keeps file (Some bytes) is one = record {
+      durable = sym (take-take (min len file.synced) file.synced bytes (omega arith)) ∙ ap (take (min len file.synced)) one.durable ∙ take-take (min len file.synced) file.synced file.bytes (omega arith)
+          ∙ sym (take-take (min len file.synced) left file.bytes (omega (arith, short)));
+      whole = λ whole. absurd (false_true whole);
+    }
+
+pub without_leaves : (name : Name) (disk : DiskState) (image : Image) → MayLeave disk image → MayLeave (without name disk) image
+without_leaves name disk image may q = ⊎_elim
+    (λ (same : q ≡ name). subst (λ (n : Name). MayLeaveOne (get (without name disk).standing n) (get (without name disk).removed n) (get image n)) (sym same) (there (get disk.standing name) refl (may name)))
+    (λ (other : q ≢ name). at_same (get_removed_other disk.standing name q other) (placed_elsewhere name disk disk.removed (get disk.standing name) q other) refl (may q))
+    (same_or_other q name)
+  where
+    gone : (file : File) (left : Option (List ℕ)) → MayLeaveOne (Some file) (get disk.removed name) left → MayLeaveOne None (Some file) left
+    gone file None one = tt
+    gone file (Some bytes) one = one
+
+    there : (file : Option File) → get disk.standing name ≡ file → MayLeaveOne (get disk.standing name) (get disk.removed name) (get image name)
+        → MayLeaveOne (get (without name disk).standing name) (get (without name disk).removed name) (get image name)
+    there None is one =
+        at_same (get_removed disk.standing name ∙ sym is) (ap (λ (o : Option File). get (placed name o disk.removed) name) is) refl one
+    there (Some file) is one =
+        at_same (get_removed disk.standing name) (ap (λ (o : Option File). get (placed name o disk.removed) name) is ∙ get_inserted disk.removed name file) refl
+        (gone file (get image name) (at_same (sym is) refl refl one))
+
+-- The number of each file that a crash leaves is one that a file's name may have.
+pub left_numbered : (disk : DiskState) (image : Image) → IsLawful disk → MayLeave disk image → (name : Name) (bytes : List ℕ) → get image name ≡ Some bytes → IsNumbered name
+left_numbered disk image lawful may name bytes is = of_file (get disk.standing name) (get disk.removed name) refl refl (at_same refl refl (sym is) (may name))
+  where
+    of_file : (standing removed : Option File) → get disk.standing name ≡ standing → get disk.removed name ≡ removed → MayLeaveOne standing removed (Some bytes) → IsNumbered name
+    of_file (Some file) removed stands gone one = lawful.numbered name file stands
+    of_file None (Some file) stands gone one = lawful.removed_numbered name file gone
+    of_file None None stands gone one = absurd one

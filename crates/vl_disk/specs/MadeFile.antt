@@ -1,5 +1,5 @@
 -- A file that is made of some bytes at once: created, handed all of them, and synced.
-use Rattle.std.specs.Prelude.{◌≡◌, ℕ, ◌+◌, ◌-◌, ◌^◌, ◌≤◌, min, List, length}
+use Rattle.std.specs.Prelude.{ℕ, ◌+◌, ◌-◌, ◌^◌, ◌≤◌, min, List, length, Option, None, Some, ◌≡◌}
 use Rattle.std.specs.FinMap.{insert, remove}
 use Rattle.vl_disk.specs.declared.name.Name.{Name}
 use Rattle.vl_disk.specs.DiskState.{DiskState, settled, created, appended}
@@ -19,3 +19,9 @@ pub data WhileMaking (name : Name) (bytes : List ℕ) (disk now : DiskState) : T
   empty : SameFiles now (created name disk) → WhileMaking name bytes disk now
   in_part : (taken : ℕ) → taken ≤ length bytes → SameFiles now (appended name bytes taken (created name disk)) → WhileMaking name bytes disk now
   durable : SameFiles now (made name bytes disk) → WhileMaking name bytes disk now
+
+-- what stands after making failed: a disk that tells its bytes is at one of those points, and counted one to three calls
+abbrev pub TellsPart : Name → List ℕ → Option DiskState → Option DiskState → Type 0
+TellsPart name bytes None new = new ≡ None
+TellsPart name bytes (Some old) new = (now : DiskState) × (new ≡ Some now) × WhileMaking name bytes old now
+    × ((n : ℕ) × (1 ≤ n) × (n ≤ 3) × (now.calls ≡ min (old.calls + n) (2 ^ 64 - 1)))

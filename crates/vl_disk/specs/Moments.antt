@@ -44,3 +44,24 @@ module _ {D : Type 0} (moment : D → ℕ) (states_since : D → ℕ → DiskSta
     each = λ state left. ⊎_elim (so_far.each state) (here state) (time.nothing_else (moment old) state so_far.later left);
     before = λ t state earlier left. ⊎_elim (so_far.before t state earlier) (λ now. inr (here state now)) (time.nothing_else t state (omega (arith, earlier, so_far.later)) left);
   }
+
+-- what follows from P at each moment
+pub holds_weaker : {D : Type 0} (moment : D → ℕ) (states_since : D → ℕ → DiskState → Type 0) (P Q : DiskState → Type 0) (old new : D)
+    → HoldsThroughout moment states_since old new P → ((state : DiskState) → P state → Q state) → HoldsThroughout moment states_since old new Q
+holds_weaker moment states_since P Q old new holds weaker = record {
+  later = holds.later;
+  each = λ state left. weaker state (holds.each state left);
+  before = λ t state earlier left. ⊎_elim (λ (long_ago : states_since old t state). inl long_ago) (λ (now : P state). inr (weaker state now)) (holds.before t state earlier left);
+}
+
+-- two runs, one after the other
+pub holds_then : {D : Type 0} (moment : D → ℕ) (states_since : D → ℕ → DiskState → Type 0) (P : DiskState → Type 0) (old mid new : D)
+    → HoldsThroughout moment states_since old mid P → HoldsThroughout moment states_since mid new P → HoldsThroughout moment states_since old new P
+holds_then moment states_since P old mid new first second = record {
+  later = omega (arith, first.later, second.later);
+  each = λ state left. ⊎_elim (λ (so_far : states_since mid (moment old) state). first.each state so_far) (λ (now : P state). now) (second.before (moment old) state first.later left);
+  before = λ t state earlier left. ⊎_elim
+      (λ (so_far : states_since mid t state). first.before t state earlier so_far)
+      (λ (now : P state). inr now)
+      (second.before t state (omega (arith, earlier, first.later)) left);
+}

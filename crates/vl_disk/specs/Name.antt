@@ -1,5 +1,5 @@
 -- The names of a disk's files, and their order.
-use Rattle.std.specs.Prelude.{◌≡◌, ℕ, ◌+◌, ◌*◌}
+use Rattle.std.specs.Prelude.{◌≡◌, ℕ, ◌+◌, ◌-◌, ◌*◌, ◌^◌, ◌≤◌}
 use Rattle.std.specs.declared.cmp.Ordering.{Ordering}
 use Rattle.std.specs.Ordering.{nat_cmp}
 use Rattle.std.specs.Cmp.{IsTotalOrder, nat_cmp_total}
@@ -13,6 +13,16 @@ abbrev pub name_number : Name → ℕ
 name_number (Log number) = 3 * number
 name_number (Table number) = 3 * number + 1
 name_number (Manifest number) = 3 * number + 2
+
+-- the number in a name
+abbrev pub file_number : Name → ℕ
+file_number (Log number) = number
+file_number (Table number) = number
+file_number (Manifest number) = number
+
+-- the number is one that a file's name may have
+abbrev pub IsNumbered : Name → Type 0
+IsNumbered name = (1 ≤ file_number name) × (file_number name ≤ 2 ^ 32 - 2)
 
 -- the order of names in finite maps
 abbrev pub name_cmp : Name → Name → Ordering

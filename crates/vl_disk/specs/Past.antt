@@ -1,20 +1,20 @@
 -- What a disk in memory tells of this moment and of past ones.
-use Rattle.std.specs.Prelude.{◌≡◌, ℕ, ◌≤◌, List, length, take, Some}
+use Rattle.std.specs.Prelude.{◌≡◌, ℕ, ◌≤◌, List, length, take, Some, All}
 use Rattle.std.proofs.Common.{refl, sym, subst, arith}
 use Rattle.std.proofs.lemmas.List.{take_all}
 use Rattle.vl_disk.specs.declared.mem_disk.event.Event.{Event}
 use Rattle.vl_disk.specs.DiskState.{DiskState, IsLawful, empty_disk}
 use Rattle.vl_disk.specs.Lawful.{empty_lawful}
 use Rattle.vl_disk.specs.Crash.{SameFiles}
-use Rattle.vl_disk.specs.Event.{replayed_lawful, state_after, WasSince, told_of}
+use Rattle.vl_disk.specs.Event.{replayed_lawful, state_after, WasSince, told_of, CreatesNumbered}
 
 same_state : (a b : DiskState) → Some a ≡ Some b → a ≡ b
 same_state a b e = cc
 
-pub told_lawful : (events : List Event) (calls : ℕ) (state : DiskState) → Some (told_of events calls) ≡ Some state → IsLawful state
-told_lawful events calls state is =
-    let lawful = replayed_lawful events empty_disk empty_lawful in
-    subst IsLawful (same_state (told_of events calls) state is) (record { standing = lawful.standing; removed = lawful.removed; apart = lawful.apart })
+pub told_lawful : (events : List Event) → All CreatesNumbered events → (calls : ℕ) (state : DiskState) → Some (told_of events calls) ≡ Some state → IsLawful state
+told_lawful events numbered calls state is =
+    let lawful = replayed_lawful events empty_disk numbered empty_lawful in
+    subst IsLawful (same_state (told_of events calls) state is) (record { standing = lawful.standing; removed = lawful.removed; apart = lawful.apart; numbered = lawful.numbered; removed_numbered = lawful.removed_numbered })
 
 pub counts_present : (events : List Event) (calls : ℕ) (state : DiskState) (t : ℕ) → Some (told_of events calls) ≡ Some state → t ≤ length events → WasSince events t state
 counts_present events calls state t is before =

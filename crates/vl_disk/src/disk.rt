@@ -1,6 +1,7 @@
-ghost use Rattle.std.specs.Prelude.{◌≡◌, ◌⊎◌, ℕ, ◌≤◌, List, length, Option, Some, IsTrue, IfOk, OnOk, OnErr, IsErr, IsErrOf};
+ghost use Rattle.std.specs.Prelude.{◌≡◌, ◌⊎◌, ℕ, ◌≤◌, List, length, Option, Some, IsTrue, All, IfOk, OnOk, OnErr, IsErr, IsErrOf};
 ghost use Rattle.std.specs.Option.{ForSome};
 ghost use Rattle.vl_disk.specs.declared.name.Name.{Name};
+ghost use Rattle.vl_disk.specs.Name.{IsNumbered};
 ghost use Rattle.vl_disk.specs.DiskState.{DiskState, IsLawful, file_at, created, appended, synced};
 ghost use Rattle.vl_disk.specs.Crash.{SameFiles, Unchanged, WhileCreating, WhileAppending, WhileSyncing};
 ghost use Rattle.vl_disk.specs.Moments.{Elapses};
@@ -9,7 +10,8 @@ ghost use Rattle.vl_disk.specs.Disk.{Stands, IsFree, Lists, Turns, While, HasCau
 use crate::{Failed, ListFail, Name, NoMemory};
 use std::alloc::Global;
 
-/// A disk of named files, which only grow, and which a sync makes durable.
+/// A disk of named files, which a sync makes durable. Today its calls only make files and make them longer. Calls
+/// that cut and remove files come later.
 pub trait Disk {
     /// What it holds. A disk that doesn't tell it claims nothing of its bytes.
     ghost told: { Self → Option DiskState };
@@ -30,6 +32,7 @@ pub trait Disk {
     /// The names of the files that stand.
     fn list(&mut self, alloc: Global) -> Result<Vec<Name>, ListFail>
         ensures names { IfOk result (λ names. ForSome (told self.old) (Lists names.items)) }
+        ensures numbered { IfOk result (λ names. All IsNumbered names.items) }
         ensures told { told self.new ≡ told self.old }
         ensures time { Elapses (moment self.old) (moment self.new) (states_since self.old) (states_since self.new)
             (While (told self.old) Unchanged) }
@@ -55,10 +58,11 @@ pub trait Disk {
         ensures told { told self.new ≡ told self.old }
         ensures time { Elapses (moment self.old) (moment self.new) (states_since self.old) (states_since self.new)
             (While (told self.old) Unchanged) }
-        ensures faults { faults self.old ≤ faults self.new };
+        ensures faults { faults self.new ≡ faults self.old };
 
     /// Makes an empty file. If it fails, the file may stand or not.
     fn create(&mut self, name: Name) -> Result<(), Failed>
+        requires numbered { IsNumbered name }
         requires free { ForSome (told self.old) (IsFree name) }
         requires room { IsTrue (spare self.old name).change }
         ensures created { OnOk result (Turns (created name) (told self.old) (told self.new)) }

@@ -2,7 +2,7 @@
 // images of past moments.
 ghost use Rattle.std.specs.Prelude.{◌≡◌, ◌+◌, ◌≤◌, length, Some, All, sum_by, vec_capacity};
 ghost use Rattle.vl_disk.specs.DiskState.{empty_disk};
-ghost use Rattle.vl_disk.specs.Event.{state_after};
+ghost use Rattle.vl_disk.specs.Event.{state_after, CreatesNumbered};
 ghost use Rattle.vl_disk.specs.Entry.{Fits, slots, IsDistinct, HasBytes, NotesUnsynced};
 ghost use Rattle.std.proofs.Props.{props};
 
@@ -30,6 +30,7 @@ pub struct MemDisk {
     ghost fits: { All Fits entries.items },
     ghost distinct: { IsDistinct entries.items },
     ghost has_bytes: { HasBytes entries.items (state_after events.items) } by { Prim.hlevel props },
+    ghost numbered: { All CreatesNumbered events.items } by { Prim.hlevel props },
     ghost notes_unsynced: { NotesUnsynced entries.items (state_after events.items) } by { Prim.hlevel props },
 }
 
@@ -71,6 +72,7 @@ impl MemDisk {
 impl Disk for MemDisk {
     ghost use Rattle.std.specs.Prelude.{◌⊎◌, ℕ, OnOk, OnErr, IfOk, IsTrue, IsOk, IsErr, IsErrOf};
     ghost use Rattle.std.specs.Option.{ForSome};
+    ghost use Rattle.vl_disk.specs.Name.{IsNumbered};
     ghost use Rattle.vl_disk.specs.DiskState.{file_at, created, appended, synced};
     ghost use Rattle.vl_disk.specs.Crash.{Unchanged, WhileCreating, WhileAppending, WhileSyncing};
     ghost use Rattle.vl_disk.specs.Moments.{Elapses};
@@ -88,7 +90,7 @@ impl Disk for MemDisk {
 
     ghost spare = { room_of };
 
-    ghost lawful = { λ m. told_lawful m.events.items m.plan.calls };
+    ghost lawful = { λ m. told_lawful m.events.items m.numbered m.plan.calls };
 
     ghost counts_now = { λ m. counts_present m.events.items m.plan.calls };
 
@@ -96,6 +98,7 @@ impl Disk for MemDisk {
 
     fn list(&mut self, alloc: Global) -> Result<Vec<Name>, ListFail>
         ensures names { IfOk result (λ names. ForSome (told_by self.old) (Lists names.items)) }
+        ensures numbered { IfOk result (λ names. All IsNumbered names.items) }
         ensures told { told_by self.new ≡ told_by self.old }
         ensures time { Elapses (moment_of self.old) (moment_of self.new) (was_since self.old) (was_since self.new)
             (While (told_by self.old) Unchanged) }
@@ -133,7 +136,7 @@ impl Disk for MemDisk {
         ensures told { told_by self.new ≡ told_by self.old }
         ensures time { Elapses (moment_of self.old) (moment_of self.new) (was_since self.old) (was_since self.new)
             (While (told_by self.old) Unchanged) }
-        ensures faults { faults_of self.old ≤ faults_of self.new }
+        ensures faults { faults_of self.new ≡ faults_of self.old }
         ensures plan { KeepsPlan self.old self.new }
     {
         make_room(&mut self.events, self.entries.len() + 1)?;
@@ -142,6 +145,7 @@ impl Disk for MemDisk {
     }
 
     fn create(&mut self, name: Name) -> Result<(), Failed>
+        requires numbered { IsNumbered name }
         requires free { ForSome (told_by self.old) (IsFree name) }
         requires room { IsTrue (room_of self.old name).change }
         ensures created { OnOk result (Turns (created name) (told_by self.old) (told_by self.new)) }

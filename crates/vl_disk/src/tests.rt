@@ -32,3 +32,13 @@ fn a_listed_append_fails_and_takes_nothing(rt: HostRuntime) -> Result<(), Fail> 
     assert_eq!(rt; disk.size(LOG)?, 1);
     Ok(())
 }
+
+#[test]
+fn a_file_is_made_at_once(rt: HostRuntime) -> Result<(), Fail> {
+    let alloc = rt.alloc();
+    let mut disk = MemDisk::new(alloc, Vec::new(alloc));
+    disk.ready(LOG, 3)?;
+    make_file(&mut disk, LOG, &[1, 2, 3])?;
+    assert_eq!(rt; disk.bytes(LOG), Some([1, 2, 3].as_slice()));
+    Ok(())
+}

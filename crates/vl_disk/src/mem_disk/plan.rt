@@ -1,5 +1,5 @@
 // Which of the changing calls are to fail, and how many came and failed so far.
-ghost use Rattle.std.specs.Prelude.{◌≡◌, ◌+◌, ◌-◌, ◌^◌, ◌↔◌, ◌≤◌, min, IsTrue, Contains};
+ghost use Rattle.std.specs.Prelude.{◌≡◌, ◌+◌, ◌-◌, ◌^◌, ◌↔◌, ◌≤◌, min, false, IsTrue, Contains};
 ghost use Rattle.vl_disk.specs.Faults.{Rose};
 
 #[derive(Drop)]
@@ -28,6 +28,7 @@ impl Plan {
         ensures failing { self.new.failing.items ≡ self.old.failing.items }
         ensures calls { self.new.calls ≡ min (self.old.calls + 1) (2 ^ 64 - 1) }
         ensures fault { IsTrue result → Rose self.old.faults self.new.faults }
+        ensures steady { result ≡ false → self.new.faults ≡ self.old.faults }
         ensures never_falls { self.old.faults ≤ self.new.faults }
     {
         let fails = is_next_listed(&self.failing, self.calls);

@@ -7,6 +7,7 @@ use Rattle.vl_disk.specs.Event.{told_of}
 use Rattle.vl_disk.specs.Entry.{IsAt}
 use Rattle.vl_disk.specs.Standing.{turned, changed_stands}
 use Rattle.vl_disk.proofs.Kept.{kept}
+use Rattle.vl_disk.proofs.Numbered.{numbered_push, append_numbered, refuse_numbered}
 use Rattle.vl_disk.proofs.Table.{has_append, appended_step, refused_step, uses_append}
 use Rattle.vl_disk.proofs.Told.{turns_by, elapses_by}
 use Rattle.vl_disk.proofs.mem_disk.MemDiskDisk.append.Goals as goal
@@ -23,7 +24,7 @@ invariant_of-self c =
     let step = refused_step c.args.name m.entries.items c.place_of-at.result c.index_mut.result.now c.append-kept.new.self at c.index_mut.ensures.value c.append-kept.ensures.name
     m.events.items c.note.new.events.items (vec_capacity m.events) (vec_capacity c.note.new.events) c.note.ensures.capacity c.append-kept.ensures.slots (λ _. c.append-kept.ensures.fits) (kept m)
     (c.requires.stands _ refl) c.append-kept.ensures.stands c.append-kept.result c.note.ensures.items (c.append-kept.ensures.refuses refl) c.append-kept.ensures.unsynced in
-    record { room = step.room; fits = step.fits; distinct = step.distinct; has_bytes = step.has_bytes; notes_unsynced = step.notes_unsynced }
+    record { room = step.room; fits = step.fits; distinct = step.distinct; has_bytes = step.has_bytes; notes_unsynced = step.notes_unsynced; numbered = numbered_push m.events.items c.note.new.events.items (Refuse c.args.name c.append-kept.result) c.note.ensures.items m.numbered (refuse_numbered c.args.name c.append-kept.result) }
 
 pub append-kept-requires-2-clause-room : goal.append-kept-requires-2-clause-room
 append-kept-requires-2-clause-room c =
@@ -37,7 +38,7 @@ invariant_of-self-2 c =
     let step = appended_step c.args.name m.entries.items c.place_of-at.result c.index_mut-2.result.now c.append-kept-2.new.self at c.index_mut-2.ensures.value c.append-kept-2.ensures.name
     m.events.items c.note-2.new.events.items (vec_capacity m.events) (vec_capacity c.note-2.new.events) c.note-2.ensures.capacity c.append-kept-2.ensures.slots (λ _. c.append-kept-2.ensures.fits) (kept m)
     (c.requires.stands _ refl) c.append-kept-2.ensures.stands c.append-kept-2.result c.note-2.ensures.items (c.append-kept-2.ensures.takes refl ∙ ap (λ l. c.index_mut-2.result.now.bytes.items ++ l) (sym c.append-kept-2.ensures.piece)) c.append-kept-2.ensures.unsynced in
-    record { room = step.room; fits = step.fits; distinct = step.distinct; has_bytes = step.has_bytes; notes_unsynced = step.notes_unsynced }
+    record { room = step.room; fits = step.fits; distinct = step.distinct; has_bytes = step.has_bytes; notes_unsynced = step.notes_unsynced; numbered = numbered_push m.events.items c.note-2.new.events.items (Append c.args.name c.append-kept-2.result) c.note-2.ensures.items m.numbered (append_numbered c.args.name c.append-kept-2.result) }
 
 pub returns-then-fails-clause-failed : goal.returns-then-fails-clause-failed
 returns-then-fails-clause-failed c =

@@ -6,6 +6,7 @@ use Rattle.vl_disk.specs.Entry.{IsAt}
 use Rattle.vl_disk.specs.Event.{told_of}
 use Rattle.vl_disk.specs.Standing.{created_stands}
 use Rattle.vl_disk.proofs.Kept.{kept}
+use Rattle.vl_disk.proofs.Numbered.{numbered_push, create_numbered}
 use Rattle.vl_disk.proofs.Table.{has_change, created_step, uses_change}
 use Rattle.vl_disk.proofs.Told.{turns_by, elapses_by}
 use Rattle.vl_disk.proofs.mem_disk.MemDiskDisk.create.Goals as goal
@@ -22,7 +23,7 @@ invariant_of-self-2 c =
     let step = created_step c.args.name m.entries.items c.place_of-at.result c.index_mut.result.now c.create.new.self at c.index_mut.ensures.value c.create.ensures.name
     m.events.items c.note.new.events.items (vec_capacity m.events) (vec_capacity c.note.new.events) c.note.ensures.capacity c.create.ensures.slots c.create.ensures.fits (kept m)
     c.note.ensures.items c.create.ensures.stands c.create.ensures.bytes c.create.ensures.unsynced in
-    record { room = step.room; fits = step.fits; distinct = step.distinct; has_bytes = step.has_bytes; notes_unsynced = step.notes_unsynced }
+    record { room = step.room; fits = step.fits; distinct = step.distinct; has_bytes = step.has_bytes; notes_unsynced = step.notes_unsynced; numbered = numbered_push m.events.items c.note.new.events.items (Create c.args.name) c.note.ensures.items m.numbered (create_numbered c.args.name c.requires.numbered) }
 
 pub returns-clause-created : goal.returns-clause-created
 returns-clause-created c = turns_by c.args.self.now.events.items c.note.new.events.items c.args.self.now.plan.calls c.fails.new.self.calls c.fails.ensures.calls (Create c.args.name) c.note.ensures.items

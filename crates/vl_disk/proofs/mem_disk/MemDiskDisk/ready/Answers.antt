@@ -1,7 +1,7 @@
-use Rattle.std.proofs.Common.{◌≡◌, ◌+◌, ◌*◌, ◌≤◌, Some, refl, sym, subst, ◌∙◌, length, arith, vec_capacity}
+use Rattle.std.proofs.Common.{◌≡◌, ◌+◌, ◌*◌, ◌≤◌, Some, refl, sym, subst, ◌∙◌, length, arith, vec_capacity, All}
 use Rattle.vl_disk.specs.Crash.{Unchanged}
 use Rattle.vl_disk.specs.Disk.{While, IsReady}
-use Rattle.vl_disk.specs.Event.{told_of}
+use Rattle.vl_disk.specs.Event.{told_of, CreatesNumbered}
 use Rattle.vl_disk.specs.Entry.{spare_of}
 use Rattle.vl_disk.proofs.Elapsed.{elapses_still}
 use Rattle.vl_disk.proofs.Kept.{kept}
@@ -16,7 +16,7 @@ pub invariant_of-self-in-Break-branch-2 : goal.invariant_of-self-in-Break-branch
 invariant_of-self-in-Break-branch-2 c =
     let m = c.args.self.now in
     let step = same_step m.entries.items c.entry_for.new.entries.items m.events.items c.make_room.new.events.items (vec_capacity m.events) (vec_capacity c.make_room.new.events) c.in_err-at.ensures.err c.make_room.ensures.items c.make_room.ensures.capacity (kept m) in
-    record { room = step.room; fits = step.fits; distinct = step.distinct; has_bytes = step.has_bytes; notes_unsynced = step.notes_unsynced }
+    record { room = step.room; fits = step.fits; distinct = step.distinct; has_bytes = step.has_bytes; notes_unsynced = step.notes_unsynced; numbered = subst (All CreatesNumbered) (sym c.make_room.ensures.items) m.numbered }
 
 pub returns-in_err-at-clause-time : goal.returns-in_err-at-clause-time
 returns-in_err-at-clause-time c = elapses_still c.args.self.now.events.items c.make_room.new.events.items (While (Some (told_of c.args.self.now.events.items c.args.self.now.plan.calls)) Unchanged) c.make_room.ensures.items
@@ -30,7 +30,7 @@ invariant_of-self-2 c =
     omega (arith, c.in_ok-make_room.ensures.room, added_length c.args.name m.entries.items c.entry_for.new.entries.items c.in_ok-at.ensures.added, c.len.ensures, m.entries.ok.0) in
     let step = roomed_step c.args.name c.entry_for.new.entries.items c.in_ok-at.at c.index_mut.result.now c.make_room-2.new.self c.in_ok-at.ensures.at c.index_mut.ensures.value c.make_room-2.ensures.name
     c.make_room.new.events.items (vec_capacity c.make_room.new.events) room c.make_room-2.ensures.fits c.make_room-2.ensures.stands c.make_room-2.ensures.bytes c.make_room-2.ensures.unsynced wide in
-    record { room = step.room; fits = step.fits; distinct = step.distinct; has_bytes = step.has_bytes; notes_unsynced = step.notes_unsynced }
+    record { room = step.room; fits = step.fits; distinct = step.distinct; has_bytes = step.has_bytes; notes_unsynced = step.notes_unsynced; numbered = subst (All CreatesNumbered) (sym c.make_room.ensures.items) m.numbered }
 
 pub returns-clause-ready : goal.returns-clause-ready
 returns-clause-ready c = on_ok c.make_room-2.result _ _

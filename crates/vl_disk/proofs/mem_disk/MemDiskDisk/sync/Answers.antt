@@ -7,6 +7,7 @@ use Rattle.vl_disk.specs.DiskState.{settled, synced}
 use Rattle.vl_disk.specs.Disk.{Stands}
 use Rattle.vl_disk.specs.Standing.{turned, changed_stands}
 use Rattle.vl_disk.proofs.Kept.{kept}
+use Rattle.vl_disk.proofs.Numbered.{numbered_push, sync_numbered}
 use Rattle.vl_disk.proofs.Table.{entry_of_file, was_there, already_synced, synced_step, same_spare}
 use Rattle.vl_disk.proofs.Told.{turns_by, turns_same, turns_still, elapses_by}
 use Rattle.vl_disk.proofs.mem_disk.MemDiskDisk.sync.Goals as goal
@@ -22,7 +23,7 @@ returns-then-not-index-clause-synced c =
     let m = c.args.self.now in
     let here = was_there c.args.name m.entries.items c.place_of-at.result c.index.result.now at c.index.ensures in
     turns_still m.events.items m.events.items m.plan.calls c.fails.new.self.calls c.fails.ensures.calls c.args.name
-    (already_synced c.args.name m.entries.items m.events.items (vec_capacity m.events) (kept m) (c.requires _ refl) c.index.result.now here c.if-not-index.true)
+    (already_synced c.args.name m.entries.items m.events.items m.numbered (vec_capacity m.events) (kept m) (c.requires _ refl) c.index.result.now here c.if-not-index.true)
 
 pub invariant_of-self-2 : goal.invariant_of-self-2
 invariant_of-self-2 c =
@@ -31,7 +32,7 @@ invariant_of-self-2 c =
     let step = synced_step c.args.name m.entries.items c.place_of-at.result c.index_mut.result.now c.sync.new.self at c.index_mut.ensures.value c.sync.ensures.name
     m.events.items c.note.new.events.items (vec_capacity m.events) (vec_capacity c.note.new.events) c.note.ensures.capacity c.sync.ensures.slots c.sync.ensures.fits (kept m)
     (c.requires _ refl) c.sync.ensures.stands c.note.ensures.items c.sync.ensures.bytes in
-    record { room = step.room; fits = step.fits; distinct = step.distinct; has_bytes = step.has_bytes; notes_unsynced = step.notes_unsynced }
+    record { room = step.room; fits = step.fits; distinct = step.distinct; has_bytes = step.has_bytes; notes_unsynced = step.notes_unsynced; numbered = numbered_push m.events.items c.note.new.events.items (Sync c.args.name) c.note.ensures.items m.numbered (sync_numbered c.args.name) }
 
 pub returns-clause-synced : goal.returns-clause-synced
 returns-clause-synced c = turns_by c.args.self.now.events.items c.note.new.events.items c.args.self.now.plan.calls c.fails.new.self.calls c.fails.ensures.calls (Sync c.args.name) c.note.ensures.items
