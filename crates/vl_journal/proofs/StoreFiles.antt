@@ -1,15 +1,14 @@
 -- Which files of a store stand while calls are made.
-use Rattle.std.proofs.Common.{◌≡◌, ◌≢◌, ◌⊎◌, inl, inr, ⊎_elim, ℕ, ◌≤◌, List, [], ◌∷◌, ◌++◌, length, Bool, true, false, cond, Option, None, Some, refl, sym, ◌∙◌, ap, subst}
+use Rattle.std.proofs.Common.{◌≡◌, ◌≢◌, ◌⊎◌, inl, inr, ℕ, List, Bool, true, false, cond, Option, None, Some, refl, sym, ◌∙◌, ap}
 use Rattle.std.specs.FinMap.{get, get-empty, get-remove, insert, remove, empty, same_map}
 use Rattle.std.specs.Ordering.{eq_by_cmp}
 use Rattle.vl_disk.specs.declared.name.Name.{Name}
-use Rattle.vl_disk.specs.declared.name.Name.TheVariants.{Log, Manifest}
 use Rattle.vl_disk.specs.Name.{name_cmp, name_cmp_total, name_cmp_exact, name_number}
 use Rattle.vl_disk.specs.NameMap.{get_inserted, get_inserted_other, inserted_twice}
-use Rattle.vl_disk.specs.DiskState.{Piece, File, Files, DiskState, new_file, lengthened, settled, placed, with_file, created, appended}
+use Rattle.vl_disk.specs.DiskState.{File, Files, DiskState, new_file, lengthened, settled, placed, with_file, created}
 use Rattle.vl_disk.specs.Changes.{created_there, changed_files}
 use Rattle.vl_disk.specs.Crash.{SameFiles}
-use Rattle.vl_disk.specs.MadeFile.{made, WhileMaking, not_there, empty as is_empty, in_part, durable}
+use Rattle.vl_disk.specs.MadeFile.{WhileMaking, not_there, empty as is_empty, in_part, durable}
 use Rattle.vl_journal.specs.declared.names.TheConstants.{MANIFEST, LOG}
 use Rattle.vl_journal.specs.Files.{files, HasFiles}
 

@@ -1,16 +1,16 @@
 -- What a crash leaves of a store while calls are made.
-use Rattle.std.proofs.Common.{◌≡◌, ◌≢◌, ◌⊎◌, inl, inr, ⊎_elim, ℕ, ◌+◌, ◌-◌, ◌≤◌, max, List, [], ◌∷◌, ◌++◌, length, take, drop, Bool, true, false, Option, None, Some, IsSome, refl, sym, ◌∙◌, ap, subst, arith, append-nil, zero-le}
+use Rattle.std.proofs.Common.{◌≡◌, ◌≢◌, ◌⊎◌, inl, inr, ⊎_elim, ℕ, ◌+◌, ◌-◌, ◌≤◌, List, [], ◌∷◌, ◌++◌, length, take, drop, true, false, Option, None, Some, IsSome, refl, sym, ◌∙◌, ap, subst, arith, zero-le}
 use Rattle.std.proofs.lemmas.List.{take_at, take-append-drop, take_all, drop_all}
 use Rattle.std.proofs.Math.Seq.{drop-append_seam, drop-append-add, drop-length}
-use Rattle.std.specs.Prelude.{Any, IsTrue, slice_index_or, ◌<◌}
+use Rattle.std.specs.Prelude.{Any, slice_index_or}
 use Rattle.std.specs.List.{AllByRecursion}
 use Rattle.std.specs.FinMap.{get}
 use Rattle.vl_disk.specs.declared.name.Name.{Name}
-use Rattle.vl_disk.specs.DiskState.{Piece, File, DiskState, new_file, lengthened, settled}
-use Rattle.vl_disk.specs.Crash.{Image, Agrees, MayLeave, MayLeaveOne, SameFiles, last_file}
+use Rattle.vl_disk.specs.DiskState.{File, DiskState, new_file, lengthened, settled}
+use Rattle.vl_disk.specs.Crash.{Image, Agrees, MayLeave, MayLeaveOne, last_file}
 use Rattle.vl_disk.specs.Chance.{NoChanceMatch, StandsIn, torn_from}
 use Rattle.vl_seglog.specs.Log.{Commit, HasFrame, StandsAt, ReadsLog, log_bytes, log_header, commit_frame}
-use Rattle.vl_seglog.specs.Laws.{frame_is_some, header_length, one_front, reads_whole, reads_torn, nothing_in_header, log_bytes-none, log_bytes-more}
+use Rattle.vl_seglog.specs.Laws.{frame_is_some, header_length, one_front, reads_whole, reads_torn, nothing_in_header}
 use Rattle.vl_journal.specs.declared.names.TheConstants.{NUMBER, MANIFEST, LOG}
 use Rattle.vl_journal.specs.Files.{HasFiles, Holds, first_manifest}
 use Rattle.vl_journal.specs.Images.{LogShows, Shows, SpellsCommit, Leaves, IsNone, IsOneOf}
@@ -129,7 +129,7 @@ module _ (file : File) (disk : DiskState) (has : HasFiles (Some (settled first_m
       no_frame : (bytes : List ℕ) → get image LOG ≡ Some bytes → (c : Commit) (rest : List ℕ) → StandsAt NUMBER 16 (drop 16 bytes) c rest → ⊥
       no_frame bytes is c rest stands =
           let spelled : SpellsCommit LOG bytes (torn_from file) (commit_frame NUMBER 16 c) =
-              (c, rest, subst (λ (n : ℕ). StandsAt NUMBER n (drop n bytes) c rest) (sym from_16) stands, ap (λ (n : ℕ). commit_frame NUMBER n c) (sym from_16)) in
+          (c, rest, subst (λ (n : ℕ). StandsAt NUMBER n (drop n bytes) c rest) (sym from_16) stands, ap (λ (n : ℕ). commit_frame NUMBER n c) (sym from_16)) in
           let due = (chance LOG file bytes (commit_frame NUMBER 16 c) tt last unsynced is spelled).0 in
           nothing (commit_frame NUMBER 16 c) (frame_is_some NUMBER 16 c) (subst (λ (n : ℕ). Any (StandsIn n (commit_frame NUMBER 16 c)) file.due) from_16 due)
 
@@ -207,8 +207,8 @@ module _ (commits : List Commit) (have : AllByRecursion HasFrame commits) (c : C
           let due = matched.1 more (e, after, subst (λ (n : ℕ). StandsAt NUMBER n (drop n bytes) e after) (sym at) spelled, ap (λ (n : ℕ). commit_frame NUMBER n e) (sym at)) in
           let past : torn_from file + length other - length old ≡ length frame = omega (arith, from_end, ap length same) in
           let none : more ≡ [] =
-              sym (subst (λ (n : ℕ). take (length more) (drop n frame) ≡ more) past (due_at (torn_from file + length other) more due))
-              ∙ ap (take (length more)) (drop-length frame) ∙ take_all (length more) [] zero-le in
+          sym (subst (λ (n : ℕ). take (length more) (drop n frame) ≡ more) past (due_at (torn_from file + length other) more due))
+          ∙ ap (take (length more)) (drop-length frame) ∙ take_all (length more) [] zero-le in
           omega (arith, frame_is_some NUMBER (length old + length other) e, ap length none)
 
     reads : ReadsLog NUMBER (old ++ tail) commits ⊎ ReadsLog NUMBER (old ++ tail) (commits ++ c ∷ [])

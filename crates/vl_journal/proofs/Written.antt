@@ -1,13 +1,13 @@
 -- A commit that is written: what the disk holds, and what a crash leaves meanwhile.
-use Rattle.std.proofs.Common.{◌≡◌, ◌⊎◌, inl, inr, ⊎_elim, ℕ, ◌+◌, ◌-◌, ◌^◌, ◌≤◌, min, List, [], ◌∷◌, ◌++◌, length, take, Option, Some, refl, sym, ◌∙◌, ap, subst, arith}
+use Rattle.std.proofs.Common.{◌≡◌, inl, inr, ⊎_elim, ℕ, ◌+◌, ◌-◌, ◌^◌, ◌≤◌, min, List, [], ◌∷◌, ◌++◌, length, take, Option, Some, refl, sym, ◌∙◌, ap, subst, arith}
 use Rattle.std.proofs.lemmas.List.{take_all}
 use Rattle.std.specs.List.{AllByRecursion}
 use Rattle.vl_disk.specs.DiskState.{File, DiskState, settled, lengthened, counted, appended, synced}
-use Rattle.vl_disk.specs.Crash.{SameFiles, Unchanged, WhileAppending, WhileSyncing}
+use Rattle.vl_disk.specs.Crash.{SameFiles, WhileAppending, WhileSyncing}
 use Rattle.vl_disk.specs.Disk.{Turns}
 use Rattle.vl_seglog.specs.Log.{Commit, HasFrame, log_bytes, commit_frame}
 use Rattle.vl_seglog.specs.Laws.{log_bytes-more}
-use Rattle.vl_journal.specs.declared.names.TheConstants.{NUMBER, MANIFEST, LOG}
+use Rattle.vl_journal.specs.declared.names.TheConstants.{NUMBER, LOG}
 use Rattle.vl_journal.specs.Files.{HasFiles, Holds, first_manifest}
 use Rattle.vl_journal.specs.Images.{Leaves, IsOneOf}
 use Rattle.vl_journal.proofs.StoreFiles.{same_has, log_changed}
@@ -70,8 +70,8 @@ module _ (commits : List Commit) (c : Commit) (frame : List ℕ) (spelled : fram
   twice : (n : ℕ) → min (min (n + 1) (2 ^ 64 - 1) + 1) (2 ^ 64 - 1) ≡ min (n + 2) (2 ^ 64 - 1)
   twice n = omega arith
 
-  pub written : (told0 told1 told2 told3 : Option DiskState) → told0 ≡ Some state → told1 ≡ told0 → Turns (appended LOG frame (length frame)) told1 told2 → Turns (synced LOG) told2 told3
+  pub written : (told1 told2 told3 : Option DiskState) → told1 ≡ Some state → Turns (appended LOG frame (length frame)) told1 told2 → Turns (synced LOG) told2 told3
       → (now : DiskState) × (told3 ≡ Some now) × Holds more now × (now.calls ≡ min (state.calls + 2) (2 ^ 64 - 1))
-  written told0 told1 told2 told3 is same appends syncs =
+  written told1 told2 told3 is appends syncs =
       let after : told3 ≡ Some (counted (synced LOG whole)) = cc in
       (counted (synced LOG whole), after, holds_synced (counted (synced LOG whole)) (record { standing = refl; removed = refl }), twice state.calls)

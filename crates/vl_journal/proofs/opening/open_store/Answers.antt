@@ -1,12 +1,11 @@
-use Rattle.std.proofs.Common.{◌≡◌, ◌≢◌, ◌∙◌, ap, sym, subst, refl, length, Some, arith, true, false}
+use Rattle.std.proofs.Common.{◌≡◌, ◌∙◌, ap, sym, subst, Some, arith}
 use Rattle.std.proofs.lemmas.Bool.{eqb-false, eqb-true}
 use Rattle.std.specs.Option.{option_map}
 use Rattle.vl_disk.specs.MadeFile.{made, WhileMaking}
-use Rattle.vl_disk.specs.DiskState.{DiskState}
-use Rattle.vl_seglog.specs.Log.{log_header}
-use Rattle.vl_journal.specs.declared.names.TheConstants.{NUMBER, MANIFEST, LOG}
+use Rattle.vl_journal.specs.declared.names.TheConstants.{MANIFEST, LOG}
 use Rattle.vl_journal.specs.Files.{first_manifest}
 use Rattle.vl_journal.proofs.Steps.{waits, goes_by}
+use Rattle.vl_journal.proofs.Tells.{tells_some}
 use Rattle.vl_journal.proofs.Opened.{one_stands, log_free, leaves_nothing, leaves_manifest, leaves_log, manifest_made, opened}
 use Rattle.vl_journal.proofs.opening.open_store.Goals as goal
 
@@ -132,3 +131,36 @@ returns-clause-opened g c state is empty =
     let is4 = manifest_made state empty _ _ is3 (subst (λ b. told c.make_file.new.disk ≡ option_map (made MANIFEST b) (told c.ready-2.new.self)) bytes c.in_ok-make_file.ensures.made) in
     opened state empty _ _ is4 (subst (λ b. told c.make_file-2.new.disk ≡ option_map (made LOG b) (told c.make_file.new.disk)) c.log_header-header.ensures c.in_ok-make_file-2.ensures.made)
 
+pub returns-in_err-list-clause-tells : goal.returns-in_err-list-clause-tells
+returns-in_err-list-clause-tells g c state is =
+    (state, c.in_err-list.ensures.told ∙ is)
+
+pub returns-then-not-is_empty-clause-tells : goal.returns-then-not-is_empty-clause-tells
+returns-then-not-is_empty-clause-tells g c state is =
+    (state, c.in_ok-list.ensures.told ∙ is)
+
+pub returns-in_err-manifest-clause-tells : goal.returns-in_err-manifest-clause-tells
+returns-in_err-manifest-clause-tells g c state is =
+    (state, c.in_ok-list.ensures.told ∙ is)
+
+pub returns-in_err-ready-clause-tells : goal.returns-in_err-ready-clause-tells
+returns-in_err-ready-clause-tells g c state is =
+    (state, c.in_err-ready.ensures.told ∙ c.in_ok-list.ensures.told ∙ is)
+
+pub returns-in_err-ready-2-clause-tells : goal.returns-in_err-ready-2-clause-tells
+returns-in_err-ready-2-clause-tells g c state is =
+    (state, c.in_err-ready-2.ensures.told ∙ c.in_ok-ready.ensures.told ∙ c.in_ok-list.ensures.told ∙ is)
+
+pub returns-in_err-make_file-clause-tells : goal.returns-in_err-make_file-clause-tells
+returns-in_err-make_file-clause-tells g c state is =
+    tells_some MANIFEST c.deref.result.now _ _ state (c.in_ok-ready-2.ensures.told ∙ c.in_ok-ready.ensures.told ∙ c.in_ok-list.ensures.told ∙ is) c.in_err-make_file.ensures.failed
+
+pub returns-in_err-make_file-2-clause-tells : goal.returns-in_err-make_file-2-clause-tells
+returns-in_err-make_file-2-clause-tells g c state is =
+    let between : g.D.Disk.told c.make_file.new.disk ≡ Some (made MANIFEST c.deref.result.now state) = c.in_ok-make_file.ensures.made ∙ ap (option_map (made MANIFEST c.deref.result.now)) (c.in_ok-ready-2.ensures.told ∙ c.in_ok-ready.ensures.told ∙ c.in_ok-list.ensures.told ∙ is) in
+    tells_some LOG c.log_header-header.result _ _ _ between c.in_err-make_file-2.ensures.failed
+
+pub returns-clause-tells : goal.returns-clause-tells
+returns-clause-tells g c state is =
+    let between : g.D.Disk.told c.make_file.new.disk ≡ Some (made MANIFEST c.deref.result.now state) = c.in_ok-make_file.ensures.made ∙ ap (option_map (made MANIFEST c.deref.result.now)) (c.in_ok-ready-2.ensures.told ∙ c.in_ok-ready.ensures.told ∙ c.in_ok-list.ensures.told ∙ is) in
+    (made LOG c.log_header-header.result (made MANIFEST c.deref.result.now state), c.in_ok-make_file-2.ensures.made ∙ ap (option_map (made LOG c.log_header-header.result)) between)
