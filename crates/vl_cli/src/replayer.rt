@@ -16,7 +16,7 @@ mod memtable;
 mod open;
 mod writes;
 
-use crate::script::{Answer, Ident, Line};
+use vl_script::{Answer, Ident, Line};
 use entry::Entry;
 pub use halt::Halt;
 pub use laws::reads_are_noted;
