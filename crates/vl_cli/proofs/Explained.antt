@@ -13,11 +13,11 @@ use Rattle.vl_model.specs.Reads.{Read, KeyRead, RangeRead, IsExplained, IsExplai
 use Rattle.vl_model.specs.declared.change.Change.{Change}
 use Rattle.vl_model.specs.declared.change.Change.TheVariants.{Set as Put}
 use Rattle.vl_cli.specs.Sequential.{Thing, OpenTransaction, OpenView, State, Outcome, empty_store, with_thing, without_thing, opened, found, read, read_in_transaction, written, committed, after_commit, frame_length, fits_transaction, answer_to, state_after}
-use Rattle.vl_cli.specs.Script.{line_of}
+use Rattle.vl_script.specs.Script.{line_of}
 use Rattle.vl_cli.specs.Replay.{exchanged, exchanges_from, and_later, is_printed, IsExplainedExchange, AreExplained}
-use Rattle.vl_cli.specs.declared.script.line.Line.{Line}
-use Rattle.vl_cli.specs.declared.script.line.Line.TheVariants.{Begin, View, Get, Set, Commit}
-use Rattle.vl_cli.specs.declared.script.answer.Answer.TheVariants.{Number, Done, TooBig, Full, Exhausted}
+use Rattle.vl_script.specs.declared.line.Line.{Line}
+use Rattle.vl_script.specs.declared.line.Line.TheVariants.{Begin, View, Get, Set, Commit}
+use Rattle.vl_script.specs.declared.answer.Answer.TheVariants.{Number, Done, TooBig, Full, Exhausted}
 use Rattle.vl_model.specs.declared.counter.Counter.TheVariants.{Commit as CommitNumber}
 use Rattle.vl_model.specs.declared.limits.TheConstants.{MAX_COMMIT_NUMBER}
 use Rattle.vl_cli.specs.declared.replayer.limits.TheConstants.{MAX_LOG_BYTES}

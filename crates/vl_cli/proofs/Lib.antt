@@ -4,7 +4,6 @@ pub mod MemtableEntries
 pub mod Noting
 pub mod Places
 pub mod Replays
-pub mod ScriptWords
 pub mod States
 pub mod UnderWay
 pub mod WriteEntries

@@ -6,7 +6,7 @@ use Rattle.std.proofs.lemmas.Bool.{ltb-true, ltb-false, ne_eqb}
 use Rattle.std.specs.Prelude.{Option, Some, None, ◌==◌}
 use Rattle.std.specs.List.{position, position_or_len, onto_first}
 use Rattle.vl_cli.specs.Input.{HasNoLineEnd, TakesLineEnd, Refills}
-use Rattle.vl_cli.specs.Script.{lines_of}
+use Rattle.vl_script.specs.Script.{lines_of}
 
 -- the index of the first line's end, or the length
 abbrev pub end_at : List ℕ → ℕ

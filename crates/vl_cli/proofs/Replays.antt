@@ -7,15 +7,15 @@ use Rattle.std.specs.Prelude.{Option, Some, None, codes, ◌==◌, option_and_th
 use Rattle.std.specs.Fmt.{decimal}
 use Rattle.vl_io.specs.Sink.{Takes, TakesPrefix}
 use Rattle.vl_cli.specs.Sequential.{State, answer_to, state_after}
-use Rattle.vl_cli.specs.declared.script.line.Line.{Line}
-use Rattle.vl_cli.specs.declared.script.answer.Answer.{Answer}
-use Rattle.vl_cli.specs.Script.{text_of, lines_of, line_of}
+use Rattle.vl_script.specs.declared.line.Line.{Line}
+use Rattle.vl_script.specs.declared.answer.Answer.{Answer}
+use Rattle.vl_script.specs.Script.{text_of, lines_of, line_of}
 use Rattle.vl_cli.specs.Input.{HasNoLineEnd, ReadsLine}
 use Rattle.vl_cli.specs.Replay.{Exchange, exchange_at, exchanged, is_printed, exchanges_from, and_later, answers_text, line_number, bad_line, no_memory_line, read_fault_line, ended_lines, KeepsUp, NextPiece, next_answer, next_bad_line, next_no_memory, next_read_fault, EndsSo, Replays}
 use Rattle.vl_cli.specs.Steps.{Finishes, EndsRun, StepsOn, GoesOn, SinkCounts, Counts}
 use Rattle.vl_cli.specs.declared.replayer.Replayer.{Replayer}
 use Rattle.vl_cli.specs.declared.input.lines.Next.TheVariants.{Line as WholeLine, LastLine}
-use Rattle.vl_cli.specs.declared.script.limits.TheConstants.{MAX_LINE_BYTES}
+use Rattle.vl_script.specs.declared.limits.TheConstants.{MAX_LINE_BYTES}
 use Rattle.std.proofs.lemmas.Bool.Decides.{nat_tests}
 use Rattle.vl_disk.specs.Faults.{Rose}
 use Rattle.vl_cli.specs.declared.ending.Ending.{Ending}

@@ -32,8 +32,8 @@ use Rattle.vl_cli.specs.declared.replayer.open.Thing.{Thing}
 use Rattle.vl_cli.specs.declared.replayer.open.Thing.TheVariants.{Transaction, View}
 use Rattle.vl_cli.specs.declared.replayer.memtable.Memtable.{Memtable}
 use Rattle.vl_cli.specs.declared.replayer.Replayer.{Replayer}
-use Rattle.vl_cli.specs.declared.script.answer.Answer.{Answer}
-use Rattle.vl_cli.specs.declared.script.answer.Answer.TheVariants.{Done, Number, Taken, Invalid, TooBig, TooMany, Nothing, Full, Exhausted}
+use Rattle.vl_script.specs.declared.answer.Answer.{Answer}
+use Rattle.vl_script.specs.declared.answer.Answer.TheVariants.{Done, Number, Taken, Invalid, TooBig, TooMany, Nothing, Full, Exhausted}
 
 -- ---- one thing in use
 

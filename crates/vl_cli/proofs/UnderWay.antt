@@ -4,7 +4,7 @@ use Rattle.std.specs.Prelude.{Option, Some, None}
 use Rattle.vl_disk.specs.Faults.{Rose}
 use Rattle.vl_io.specs.Sink.{Takes}
 use Rattle.vl_cli.specs.Sequential.{State, empty_store}
-use Rattle.vl_cli.specs.Script.{text_of}
+use Rattle.vl_script.specs.Script.{text_of}
 use Rattle.vl_cli.specs.Represents.{Represents}
 use Rattle.vl_cli.specs.Replay.{KeepsUp, line_number, Replays}
 use Rattle.vl_cli.specs.Steps.{EndsRun, GoesOn}

@@ -1,13 +1,13 @@
 -- Reading lines: how the bytes that a source had left become lines.
 use Rattle.std.specs.Prelude.{◌≡◌, ◌≢◌, ◌<◌, ℕ, Bool, true, false, List, [], ◌∷◌, ◌++◌, length, Option, Some, None}
 use Rattle.std.specs.List.{AllByRecursion}
-use Rattle.vl_cli.specs.Script.{lines_of}
+use Rattle.vl_script.specs.Script.{lines_of}
 use Rattle.vl_cli.specs.declared.input.lines.Next.{Next}
 use Rattle.vl_cli.specs.declared.input.lines.Next.TheVariants.{Line, LastLine, TooLong, End}
 use Rattle.vl_disk.specs.Faults.{Rose}
 use Rattle.vl_cli.specs.declared.input.fail.InputFail.{InputFail}
 use Rattle.vl_cli.specs.declared.input.fail.InputFail.TheVariants.{NoMemory, Fault}
-use Rattle.vl_cli.specs.declared.script.limits.TheConstants.{MAX_LINE_BYTES}
+use Rattle.vl_script.specs.declared.limits.TheConstants.{MAX_LINE_BYTES}
 
 -- no byte of these ends a line
 abbrev pub HasNoLineEnd : List ℕ → Type 0

@@ -2,7 +2,6 @@ pub mod Input
 pub mod Memtable
 pub mod Replay
 pub mod Represents
-pub mod Script
 pub mod Sequential
 pub mod Steps
 pub mod Writes

@@ -8,11 +8,11 @@ use Rattle.vl_model.specs.History.{last_number, value_at}
 use Rattle.vl_model.specs.Reads.{Read, IsExplained}
 use Rattle.vl_model.specs.Keys.{Writes}
 use Rattle.vl_cli.specs.Sequential.{State, outcome, empty_store, OpenTransaction, OpenView, found}
-use Rattle.vl_cli.specs.Script.{line_of, lines_of, text_of}
-use Rattle.vl_cli.specs.declared.script.line.Line.{Line}
-use Rattle.vl_cli.specs.declared.script.line.Line.TheVariants.{Begin, View, Get, Set, Commit}
-use Rattle.vl_cli.specs.declared.script.answer.Answer.{Answer}
-use Rattle.vl_cli.specs.declared.script.answer.Answer.TheVariants.{Done, Number, Found, NoValue, Taken, Unknown, ReadOnly, Invalid, TooBig, TooMany, Nothing, Full, Exhausted}
+use Rattle.vl_script.specs.Script.{line_of, lines_of, text_of}
+use Rattle.vl_script.specs.declared.line.Line.{Line}
+use Rattle.vl_script.specs.declared.line.Line.TheVariants.{Begin, View, Get, Set, Commit}
+use Rattle.vl_script.specs.declared.answer.Answer.{Answer}
+use Rattle.vl_script.specs.declared.answer.Answer.TheVariants.{Done, Number, Found, NoValue, Taken, Unknown, ReadOnly, Invalid, TooBig, TooMany, Nothing, Full, Exhausted}
 use Rattle.vl_cli.specs.declared.ending.Ending.{Ending}
 use Rattle.vl_cli.specs.declared.ending.Ending.TheVariants.{Complete, BadLine, BadWords, NoMemory, ReadFault, WriteFault}
 

@@ -15,8 +15,8 @@ use Rattle.vl_cli.specs.declared.replayer.open.Open.{Open}
 use Rattle.vl_cli.specs.declared.replayer.open.Thing.{Thing}
 use Rattle.vl_cli.specs.declared.replayer.open.Thing.TheVariants.{Transaction, View}
 use Rattle.vl_cli.specs.declared.replayer.Replayer.{Replayer}
-use Rattle.vl_cli.specs.declared.script.answer.Answer.{Answer}
-use Rattle.vl_cli.specs.declared.script.answer.Answer.TheVariants.{Done, Invalid, TooBig}
+use Rattle.vl_script.specs.declared.answer.Answer.{Answer}
+use Rattle.vl_script.specs.declared.answer.Answer.TheVariants.{Done, Invalid, TooBig}
 
 -- a number at which the history can be read
 abbrev pub IsReadable : History → ℕ → Type 0

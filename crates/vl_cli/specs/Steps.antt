@@ -3,7 +3,7 @@ use Rattle.std.specs.Prelude.{◌≡◌, ◌++◌, ◌∷◌, ◌⊎◌, ℕ, Li
 use Rattle.vl_disk.specs.Faults.{Rose}
 use Rattle.vl_cli.specs.Sequential.{State}
 use Rattle.vl_io.specs.Sink.{Takes}
-use Rattle.vl_cli.specs.Script.{text_of, lines_of}
+use Rattle.vl_script.specs.Script.{text_of, lines_of}
 use Rattle.vl_cli.specs.Input.{HasNoLineEnd}
 use Rattle.vl_cli.specs.Replay.{Exchange, exchange_at, Replays, IsFront, KeepsUp}
 use Rattle.vl_cli.specs.Represents.{Represents}

@@ -11,7 +11,7 @@ mod words;
 ghost use Rattle.std.specs.Prelude.{◌≡◌, ◌≢◌, ◌<◌, ◌⊎◌, ℕ, List, map, string_bytes, Some, true, false};
 ghost use Rattle.vl_disk.specs.Faults.{Rose};
 ghost use Rattle.vl_io.specs.Sink.{Takes};
-ghost use Rattle.vl_cli.specs.Script.{lines_of};
+ghost use Rattle.vl_script.specs.Script.{lines_of};
 ghost use Rattle.vl_cli.specs.Sequential.{empty_store};
 ghost use Rattle.vl_cli.specs.Replay.{Runs, RefusesWords, status_of, is_plain, no_memory_line, exchanges_from, AreExplained};
 ghost use Rattle.vl_cli.specs.Steps.{Finishes};

@@ -5,7 +5,6 @@ mod command_line;
 mod ending;
 pub mod input;
 pub mod replayer;
-pub mod script;
 
 pub use command_line::{Ended, refuse_without_words, run};
 pub use ending::Ending;

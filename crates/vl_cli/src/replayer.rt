@@ -16,7 +16,6 @@ mod memtable;
 mod open;
 mod writes;
 
-use crate::script::{Answer, Ident, Line};
 use entry::Entry;
 pub use halt::Halt;
 pub use laws::reads_are_noted;
@@ -28,6 +27,7 @@ use std::alloc::Global;
 use vl_model::{
     Bytes, Change, Counter, Key, MAX_COMMIT_NUMBER, MAX_KEY_BYTES, MAX_VALUE_BYTES, Value,
 };
+use vl_script::{Answer, Ident, Line};
 use writes::Writes;
 
 /// A store whose commits are kept in memory alone.

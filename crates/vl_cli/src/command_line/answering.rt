@@ -8,9 +8,9 @@ ghost use Rattle.vl_cli.specs.Steps.{Answers, Refuses, StepsOn, SinkCounts};
 use crate::Ending;
 use crate::command_line::last_line::{NO_MEMORY, finish};
 use crate::replayer::{Halt, Replayer};
-use crate::script::{Answer, parse_line, print_answer, print_bad_line};
 use std::alloc::Global;
 use vl_io::Sink;
+use vl_script::{Answer, parse_line, print_answer, print_bad_line};
 
 /// Whether a line that is answered so is answered, for now, and no bad line.
 fn is_answered(answer: &Answer) -> bool

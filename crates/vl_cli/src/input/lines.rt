@@ -3,8 +3,8 @@ ghost use Rattle.vl_cli.specs.Input.{ReadsLine, FailsWithin, CountsFault};
 ghost use Rattle.vl_cli.specs.Replay.{KeepsUp};
 
 use crate::input::{Buffer, InputFail};
-use crate::script::MAX_LINE_BYTES;
 use vl_io::Source;
+use vl_script::MAX_LINE_BYTES;
 
 /// What was found where a line may stand.
 #[derive(Clone, Copy, Debug, PartialEq, Eq)]

@@ -6,7 +6,7 @@ ghost use Rattle.vl_model.specs.History.{value_at};
 ghost use Rattle.vl_model.specs.Reads.{Read, KeyRead};
 ghost use Rattle.vl_model.specs.declared.change.Change.{Change};
 ghost use Rattle.vl_cli.specs.Sequential.{State, OpenTransaction, state_after};
-ghost use Rattle.vl_cli.specs.declared.script.line.Line.TheVariants.{Get as GetLine};
+ghost use Rattle.vl_script.specs.declared.line.Line.TheVariants.{Get as GetLine};
 
 /// A transaction notes each key that it reads and hasn't written, with the answer. It notes neither its own writes
 /// nor a read that is refused.

@@ -2,7 +2,7 @@ ghost use Rattle.std.specs.Prelude.{◌≡◌};
 ghost use Rattle.std.specs.Str.{bytes_eq};
 
 use crate::replayer::Writes;
-use crate::script::Ident;
+use vl_script::Ident;
 
 /// What a name in use stands for.
 #[derive(Drop)]

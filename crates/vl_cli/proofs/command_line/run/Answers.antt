@@ -1,4 +1,4 @@
-use Rattle.vl_cli.specs.Script.{lines_of}
+use Rattle.vl_script.specs.Script.{lines_of}
 use Rattle.vl_cli.proofs.Explained.{all_explained}
 use Rattle.vl_cli.proofs.command_line.run.Goals as goal
 

@@ -1,7 +1,7 @@
 use Rattle.std.proofs.Common.{◌∙◌, ℕ, List, length, subst}
 use Rattle.vl_disk.specs.Faults.{Rose}
 use Rattle.vl_io.specs.Sink.{Takes, TakesPrefix}
-use Rattle.vl_cli.specs.Script.{lines_of}
+use Rattle.vl_script.specs.Script.{lines_of}
 use Rattle.vl_cli.specs.Replay.{no_memory_line, exchanges_from}
 use Rattle.vl_cli.specs.declared.ending.Ending.TheVariants.{NoMemory}
 use Rattle.vl_cli.proofs.Replays.{answer_cut, finished, no_memory_ends}

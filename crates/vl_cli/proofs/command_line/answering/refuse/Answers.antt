@@ -1,6 +1,6 @@
 use Rattle.std.proofs.Common.{◌≡◌, ◌+◌, ◌∙◌, ℕ, List, length, subst}
 use Rattle.vl_disk.specs.Faults.{Rose}
-use Rattle.vl_cli.specs.Script.{lines_of}
+use Rattle.vl_script.specs.Script.{lines_of}
 use Rattle.vl_cli.specs.Replay.{bad_line, no_memory_line, exchanges_from}
 use Rattle.vl_cli.specs.Steps.{Finishes}
 use Rattle.vl_cli.specs.declared.ending.Ending.TheVariants.{BadLine, NoMemory}

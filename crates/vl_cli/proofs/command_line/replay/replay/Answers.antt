@@ -1,7 +1,7 @@
 use Rattle.std.proofs.Common.{refl, ℕ, List, length, arith, subst, sym, ◌∙◌}
 use Rattle.vl_disk.specs.Faults.{Rose}
 use Rattle.vl_cli.specs.Sequential.{empty_store}
-use Rattle.vl_cli.specs.Script.{lines_of}
+use Rattle.vl_script.specs.Script.{lines_of}
 use Rattle.vl_cli.specs.Replay.{no_memory_line, exchanges_from}
 use Rattle.vl_cli.specs.declared.ending.Ending.TheVariants.{NoMemory}
 use Rattle.vl_cli.proofs.Replays.{finished, no_memory_ends, keeps_up_at_first}

@@ -5,7 +5,7 @@ use Rattle.vl_cli.specs.Sequential.{committed}
 use Rattle.vl_cli.specs.declared.replayer.limits.TheConstants.{MAX_LOG_BYTES}
 use Rattle.vl_cli.specs.Represents.{thing_named, Gives}
 use Rattle.vl_cli.specs.declared.replayer.open.Thing.TheVariants.{Transaction, View}
-use Rattle.vl_cli.specs.declared.script.answer.Answer.TheVariants.{Number}
+use Rattle.vl_script.specs.declared.answer.Answer.TheVariants.{Number}
 use Rattle.vl_cli.proofs.States.{unnamed, named, held_is, same_writes, gives_as, Takes, gives_nothing, gives_exhausted, longer, gives_log_full, gives_commit}
 use Rattle.vl_cli.proofs.replayer.Replayer.commit.Goals as goal
 

@@ -3,7 +3,7 @@ use Rattle.std.specs.FinMap.{get}
 use Rattle.std.specs.Str.{bytes_eq}
 use Rattle.vl_cli.specs.Sequential.{written}
 use Rattle.vl_cli.specs.Represents.{IsOpen, Represents, Gives}
-use Rattle.vl_cli.specs.declared.script.answer.Answer.TheVariants.{Unknown}
+use Rattle.vl_script.specs.declared.answer.Answer.TheVariants.{Unknown}
 use Rattle.vl_cli.proofs.States.{IsInUse, held_in_use, other_in_use, none_in_use, gives_as, stands_kept, gives_write}
 use Rattle.vl_cli.proofs.replayer.Replayer.set.Goals as goal
 use Rattle.vl_cli.proofs.replayer.Replayer.set.Goals.{in_default-via-in-Some+else-is_named, in_default-via-in_default}

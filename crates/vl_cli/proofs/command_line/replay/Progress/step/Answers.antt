@@ -1,6 +1,6 @@
 use Rattle.std.proofs.Common.{◌∙◌, ◌++◌, ℕ, List, length, subst, sym, ap, Err}
 use Rattle.vl_disk.specs.Faults.{Rose}
-use Rattle.vl_cli.specs.Script.{lines_of}
+use Rattle.vl_script.specs.Script.{lines_of}
 use Rattle.vl_cli.specs.Replay.{no_memory_line, read_fault_line, exchanges_from}
 use Rattle.vl_cli.specs.Steps.{GoesOn}
 use Rattle.vl_cli.specs.declared.ending.Ending.TheVariants.{NoMemory, ReadFault}

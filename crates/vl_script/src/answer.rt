@@ -1,4 +1,4 @@
-use crate::script::Ident;
+use crate::Ident;
 use vl_model::{Counter, Value};
 
 /// The answer to a line, as docs/SCRIPT.md spells it.

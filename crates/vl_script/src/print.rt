@@ -1,9 +1,9 @@
 ghost use Rattle.std.specs.Prelude.{◌≡◌, ◌++◌, ◌∷◌, [], codes, IfOk};
 ghost use Rattle.std.specs.Fmt.{decimal};
 ghost use Rattle.std.specs.String.{string_bytes};
-ghost use Rattle.vl_cli.specs.Script.{bytes_text, counter_text, text_of};
+ghost use Rattle.vl_script.specs.Script.{bytes_text, counter_text, text_of};
 
-use crate::script::Answer;
+use crate::Answer;
 use std::alloc::{AllocError, Global};
 use vl_model::{Bytes, Counter};
 

@@ -6,7 +6,7 @@ use Rattle.std.specs.List.{onto_first, position, position_or_len}
 use Rattle.std.proofs.lemmas.List.Splits.{slice_split_none, slice_split_first}
 use Rattle.std.proofs.lemmas.List.Sums.{fails_before_first}
 use Rattle.std.proofs.lemmas.Bool.Decides.{nat_tests}
-use Rattle.vl_cli.specs.Script.{words_of, ident_alone, get_of, set_of}
+use Rattle.vl_script.specs.Script.{words_of, ident_alone, get_of, set_of}
 
 passed_end : (first end : ℕ) → cond (ltb first end) (Some first) None ≡ None → end ≤ first
 passed_end first end e = grind (arith, nat_tests)

@@ -1,4 +1,5 @@
-//! The script language: its lines, their answers, and how both are written.
+//! The grammar of script lines, and the text of answers.
+#![tactic(auto)]
 
 mod answer;
 mod limits;

@@ -1,4 +1,4 @@
-use crate::script::{Answer, Line, parse_line, print_answer, print_bad_line};
+use crate::{Answer, Line, parse_line, print_answer, print_bad_line};
 use std::alloc::{AllocError, Global};
 use std::test::Fail;
 use vl_model::{Bytes, Counter};

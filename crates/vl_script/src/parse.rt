@@ -1,9 +1,9 @@
 ghost use Rattle.std.specs.Prelude.{◌≡◌, ◌∷◌, [], ◌&&◌, length, nat_le, IfOk};
 ghost use Rattle.std.specs.List.{list_all};
 ghost use Rattle.std.specs.Option.{option_map_or};
-ghost use Rattle.vl_cli.specs.Script.{is_ident_byte, ident_of, bytes_of, ident_alone, get_of, set_of, words_of, line_of};
+ghost use Rattle.vl_script.specs.Script.{is_ident_byte, ident_of, bytes_of, ident_alone, get_of, set_of, words_of, line_of};
 
-use crate::script::{Ident, Line, MAX_IDENT_BYTES, MAX_LINE_BYTES};
+use crate::{Ident, Line, MAX_IDENT_BYTES, MAX_LINE_BYTES};
 use hex::FromHexError;
 use std::alloc::{AllocError, Global};
 use vl_model::Bytes;

@@ -3,8 +3,8 @@ use Rattle.std.specs.List.{position}
 use Rattle.std.proofs.lemmas.List.{take_rest}
 use Rattle.std.proofs.lemmas.Iterator.{YieldsList-from_slice}
 use Rattle.std.proofs.lemmas.Iterator.Search.{position_from_yields_List}
-use Rattle.vl_cli.proofs.ScriptWords.{words_of_one, words_of_first}
-use Rattle.vl_cli.proofs.script.parse.next_word.Goals as goal
+use Rattle.vl_script.proofs.ScriptWords.{words_of_one, words_of_first}
+use Rattle.vl_script.proofs.parse.next_word.Goals as goal
 
 pub returns-in-Some : goal.returns-in-Some
 returns-in-Some c =

@@ -8,11 +8,11 @@ use Rattle.hex.specs.Hex.{decode_of, encode_lower}
 use Rattle.hex.specs.declared.error.FromHexError.{FromHexError}
 use Rattle.vl_model.specs.declared.counter.Counter.{Counter}
 use Rattle.vl_model.specs.declared.counter.Counter.TheVariants.{Commit as CommitNumber, Log, Table, Manifest, Version}
-use Rattle.vl_cli.specs.declared.script.line.Line.{Line}
-use Rattle.vl_cli.specs.declared.script.line.Line.TheVariants.{Begin, View, Get, Set, Commit}
-use Rattle.vl_cli.specs.declared.script.answer.Answer.{Answer}
-use Rattle.vl_cli.specs.declared.script.answer.Answer.TheVariants.{Done, Number, Found, NoValue, Taken, Unknown, ReadOnly, Invalid, TooBig, TooMany, Nothing, Full, Exhausted}
-use Rattle.vl_cli.specs.declared.script.limits.TheConstants.{MAX_LINE_BYTES, MAX_IDENT_BYTES}
+use Rattle.vl_script.specs.declared.line.Line.{Line}
+use Rattle.vl_script.specs.declared.line.Line.TheVariants.{Begin, View, Get, Set, Commit}
+use Rattle.vl_script.specs.declared.answer.Answer.{Answer}
+use Rattle.vl_script.specs.declared.answer.Answer.TheVariants.{Done, Number, Found, NoValue, Taken, Unknown, ReadOnly, Invalid, TooBig, TooMany, Nothing, Full, Exhausted}
+use Rattle.vl_script.specs.declared.limits.TheConstants.{MAX_LINE_BYTES, MAX_IDENT_BYTES}
 
 -- a line ends with byte 10 or with the input; behind the last byte 10 there is none
 abbrev pub lines_of : List ℕ → List (List ℕ)

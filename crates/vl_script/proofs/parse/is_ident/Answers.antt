@@ -2,8 +2,8 @@ use Rattle.std.proofs.Common.{rules, tests, arith}
 use Rattle.std.proofs.lemmas.Iterator.{YieldsList-from_slice}
 use Rattle.std.proofs.lemmas.Iterator.Search.{all_from_yields_List}
 use Rattle.std.proofs.lemmas.Bool.Decides.{nat_tests}
-use Rattle.vl_cli.specs.Script.{is_ident_byte}
-use Rattle.vl_cli.proofs.script.parse.is_ident.Goals as goal
+use Rattle.vl_script.specs.Script.{is_ident_byte}
+use Rattle.vl_script.proofs.parse.is_ident.Goals as goal
 
 pub returns-then-word-le-MAX_IDENT_BYTES : goal.returns-then-word-le-MAX_IDENT_BYTES
 returns-then-word-le-MAX_IDENT_BYTES c =
