@@ -1,3 +1,4 @@
+pub mod Durable
 pub mod Input
 pub mod Memtable
 pub mod Replay
