@@ -9,7 +9,8 @@ pub trait Source {
     /// The bytes that are left to give, where they are told; `None` claims nothing.
     ghost left: { Self → Option (List ℕ) };
 
-    /// What was left when it was last asked for bytes, or what is left where it was never asked; `None` claims nothing.
+    /// What was left when it was last asked for bytes; where it was never asked, some bytes that end with what is
+    /// left. `None` claims nothing.
     ghost asked: { Self → Option (List ℕ) };
 
     /// The most bytes that it still gives, so that a loop over it ends.

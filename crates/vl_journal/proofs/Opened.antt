@@ -12,8 +12,8 @@ use Rattle.vl_seglog.specs.Log.{log_header}
 use Rattle.vl_journal.specs.declared.names.TheConstants.{NUMBER, MANIFEST, LOG}
 use Rattle.vl_journal.specs.Files.{HasFiles, IsEmpty, Holds, first_manifest}
 use Rattle.vl_journal.specs.Images.{Leaves, IsNone}
-use Rattle.vl_journal.proofs.StoreFiles.{apart, same_has, Makes, making, with_manifest, with_log}
-use Rattle.vl_journal.proofs.StoreImages.{leaves_no_log, leaves_part}
+use Rattle.vl_journal.specs.StoreFiles.{apart, same_has, Makes, making, with_manifest, with_log}
+use Rattle.vl_journal.specs.StoreImages.{leaves_no_log, leaves_part}
 
 some_of : {X : Type 0} (o : Option X) (x : X) → o ≡ Some x → IsSome o
 some_of o x is = subst IsSome (sym is) refl

@@ -10,8 +10,8 @@ use Rattle.vl_seglog.specs.Laws.{log_bytes-more}
 use Rattle.vl_journal.specs.declared.names.TheConstants.{NUMBER, LOG}
 use Rattle.vl_journal.specs.Files.{HasFiles, Holds, first_manifest}
 use Rattle.vl_journal.specs.Images.{Leaves, IsOneOf}
-use Rattle.vl_journal.proofs.StoreFiles.{same_has, log_changed}
-use Rattle.vl_journal.proofs.StoreImages.{leaves_all, leaves_torn}
+use Rattle.vl_journal.specs.StoreFiles.{same_has, log_changed}
+use Rattle.vl_journal.specs.StoreImages.{leaves_all, leaves_torn}
 
 all_more : (commits : List Commit) (c : Commit) → AllByRecursion HasFrame commits → HasFrame c → AllByRecursion HasFrame (commits ++ c ∷ [])
 all_more [] c all has = (has, tt)

@@ -32,7 +32,8 @@ pub fn read_line<S: Source>(
         → length buffer.new + S.budget source.new < length buffer.old + S.budget source.old) }
     ensures within { result ≡ Err InputFail.Fault → (left : List ℕ) → S.left source.old ≡ Some left
         → FailsWithin (buffer.old ++ left) (S.left source.new) }
-    // Where no answer was owed when the source was last asked, none is now: it is asked only within a line.
+    // Where no answer was owed when the source was last asked before, none was when it was last asked now: it is asked
+    // only within a line.
     ensures keeps_up { (left : List ℕ) → S.left source.old ≡ Some left → KeepsUp (buffer.old ++ left) (S.asked source.old) 0
         → KeepsUp (buffer.old ++ left) (S.asked source.new) 0 }
     ensures faults { MatchResult result (λ _. S.faults source.new ≡ S.faults source.old)

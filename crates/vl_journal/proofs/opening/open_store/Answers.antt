@@ -4,7 +4,7 @@ use Rattle.std.specs.Option.{option_map}
 use Rattle.vl_disk.specs.MadeFile.{made, WhileMaking}
 use Rattle.vl_journal.specs.declared.names.TheConstants.{MANIFEST, LOG}
 use Rattle.vl_journal.specs.Files.{first_manifest}
-use Rattle.vl_journal.proofs.Steps.{waits, goes_by}
+use Rattle.vl_journal.specs.Steps.{waits, goes_by}
 use Rattle.vl_journal.proofs.Tells.{tells_some}
 use Rattle.vl_journal.proofs.Opened.{one_stands, log_free, leaves_nothing, leaves_manifest, leaves_log, manifest_made, opened}
 use Rattle.vl_journal.proofs.opening.open_store.Goals as goal

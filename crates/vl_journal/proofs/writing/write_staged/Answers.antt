@@ -1,6 +1,6 @@
 use Rattle.std.proofs.lemmas.Result.{on_ok_weaker}
 use Rattle.vl_journal.specs.declared.names.TheConstants.{LOG}
-use Rattle.vl_journal.proofs.Steps.{waits, goes_by}
+use Rattle.vl_journal.specs.Steps.{waits, goes_by}
 use Rattle.vl_journal.proofs.Tells.{tells_part_of, tells_all_of}
 use Rattle.vl_journal.proofs.Written.{leaves_waiting, leaves_appending, leaves_syncing, handed_over, written}
 use Rattle.vl_journal.proofs.writing.write_staged.Goals as goal

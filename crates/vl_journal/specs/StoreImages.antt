@@ -14,7 +14,7 @@ use Rattle.vl_seglog.specs.Laws.{frame_is_some, header_length, one_front, reads_
 use Rattle.vl_journal.specs.declared.names.TheConstants.{NUMBER, MANIFEST, LOG}
 use Rattle.vl_journal.specs.Files.{HasFiles, Holds, first_manifest}
 use Rattle.vl_journal.specs.Images.{LogShows, Shows, SpellsCommit, Leaves, IsNone, IsOneOf}
-use Rattle.vl_journal.proofs.StoreFiles.{IsPart, part_empty, part_some, part_all, has_log, has_manifest, has_no_other, removed_none}
+use Rattle.vl_journal.specs.StoreFiles.{IsPart, part_empty, part_some, part_all, has_log, has_manifest, has_no_other, removed_none}
 
 some_none : {X : Type 0} (x : X) → Some x ≡ None → ⊥
 some_none x e = cc
