@@ -1,14 +1,21 @@
 -- What the disk holds while a script is answered, and what a crash leaves of it.
-use Rattle.std.specs.Prelude.{◌≡◌, ◌+◌, ◌-◌, ◌*◌, ◌^◌, min, ℕ, List, [], ◌∷◌, ◌++◌, length, Option, Some, Err, Result, OnOk}
+use Rattle.std.specs.Prelude.{◌≡◌, ◌+◌, ◌-◌, ◌*◌, ◌^◌, min, ℕ, List, [], ◌∷◌, ◌++◌, length, take, Option, None, Some, Err, Result, OnOk}
 use Rattle.std.specs.FinMap.{entries}
 use Rattle.vl_model.specs.Keys.{Writes}
-use Rattle.vl_model.specs.History.{History}
+use Rattle.vl_model.specs.History.{History, no_history}
 use Rattle.vl_disk.specs.DiskState.{DiskState}
 use Rattle.vl_disk.specs.Moments.{HoldsThroughout}
 use Rattle.vl_seglog.specs.Log.{Commit, log_bytes}
-use Rattle.vl_journal.specs.Files.{Holds}
+use Rattle.vl_journal.specs.Files.{IsEmpty, Holds}
 use Rattle.vl_journal.specs.Images.{Leaves}
-use Rattle.vl_cli.specs.Sequential.{State}
+use Rattle.vl_script.specs.declared.answer.Answer.{Answer}
+use Rattle.vl_script.specs.Script.{lines_of}
+use Rattle.vl_cli.specs.Sequential.{State, empty_store}
+use Rattle.vl_cli.specs.Replay.{Exchange, exchange_at, exchanges_from, history_after}
+use Rattle.vl_cli.specs.declared.replayer.halt.Halt.{Halt}
+use Rattle.vl_cli.specs.declared.replayer.halt.Halt.TheVariants.{NoMemory as NoRoom}
+use Rattle.vl_cli.specs.declared.ending.Ending.{Ending}
+use Rattle.vl_cli.specs.declared.ending.Ending.TheVariants.{Complete, BadLine, BadWords, DiskFault, NotAStore, NoMemory, ReadFault, WriteFault}
 
 -- commits with their numbers, of which the first is one above a number, as the log has them
 abbrev pub numbered : ℕ → List Writes → List Commit
@@ -37,3 +44,58 @@ UpTo most commits = (rest : List Commit) × (logged most ≡ commits ++ rest)
 -- these commits at least, and at most those
 abbrev pub Within : History → History → List Commit → Type 0
 Within least most commits = (more : List Commit) × (commits ≡ logged least ++ more) × UpTo most commits
+
+-- A line was carried out over a disk that holds the state before it: after an answer the disk holds the state after it;
+-- where memory ran out nothing was changed; and a crash meanwhile leaves the commits before it, or those after it.
+pub record Carries {D : Type 0} (told : D → Option DiskState) (moment : D → ℕ) (since : D → ℕ → DiskState → Type 0) (old new : D) (begun : ℕ) (before after : State) (result : Result Answer Halt) : Type 0 where
+  pub answered : OnOk result ((now : DiskState) × (told new ≡ Some now) × HoldsState begun after now)
+  pub no_memory : result ≡ Err NoRoom → told new ≡ told old
+  pub tells : (now : DiskState) × (told new ≡ Some now)
+  pub through : HoldsThroughout moment since old new (Leaves (Within before.history after.history))
+
+-- the history behind a line, where it is answered
+abbrev pub history_behind : History → Option Exchange → History
+history_behind h None = h
+history_behind h (Some e) = e.after.history
+
+-- A text was taken for a line over a disk that holds the state before it. Where it is a bad line nothing was changed.
+pub record TakesText {D : Type 0} (told : D → Option DiskState) (moment : D → ℕ) (since : D → ℕ → DiskState → Type 0) (old new : D) (begun : ℕ) (s : State) (text : List ℕ) (done : Type 0) : Type 0 where
+  pub answered : done → (e : Exchange) → exchange_at s text ≡ Some e → (now : DiskState) × (told new ≡ Some now) × HoldsState begun e.after now
+  pub bad : done → exchange_at s text ≡ None → (now : DiskState) × (told new ≡ Some now) × HoldsHistory begun s.history now
+  pub tells : (now : DiskState) × (told new ≡ Some now)
+  pub through : HoldsThroughout moment since old new (Leaves (Within s.history (history_behind s.history (exchange_at s text))))
+
+-- every line was answered, up to the input's end or to a bad line
+abbrev pub IsWhole : Ending → Type 0
+IsWhole Complete = Unit {0}
+IsWhole BadLine = Unit {0}
+IsWhole BadWords = ⊥
+IsWhole DiskFault = ⊥
+IsWhole NotAStore = ⊥
+IsWhole NoMemory = ⊥
+IsWhole ReadFault = ⊥
+IsWhole WriteFault = ⊥
+
+-- What a run that ended so did to a disk, on which nothing stood and which had been asked for some changing calls: by
+-- the commits that were acknowledged, and by those that may stand with one that wasn't.
+pub record DiskEnds {D : Type 0} (told : D → Option DiskState) (moment : D → ℕ) (since : D → ℕ → DiskState → Type 0) (old new : D) (begun : ℕ) (ending : Ending) (acknowledged most : History) : Type 0 where
+  -- a crash at any moment since the begin leaves a first part of the commits
+  pub through : HoldsThroughout moment since old new (Leaves (UpTo most))
+  -- a crash now leaves each acknowledged one
+  pub now : (state : DiskState) × (told new ≡ Some state) × Leaves (Within acknowledged most) state
+  -- where no fault and no want of memory ended the run, the disk holds just them
+  pub whole : IsWhole ending → (state : DiskState) × (told new ≡ Some state) × HoldsHistory begun acknowledged state
+
+-- so it is of a run that begins in a state, over a disk that holds it
+abbrev pub EndsFrom : {D : Type 0} (told : D → Option DiskState) (moment : D → ℕ) (since : D → ℕ → DiskState → Type 0) (old new : D) → State → Ending → History → History → Type 0
+EndsFrom told moment since old new s ending acknowledged most =
+    (begun : ℕ) (state : DiskState) → told old ≡ Some state → HoldsState begun s state → DiskEnds told moment since old new begun ending acknowledged most
+
+-- the commits that the first so many lines of an input left, from the empty history
+abbrev pub history_of : List ℕ → ℕ → History
+history_of input m = history_after no_history (take m (exchanges_from empty_store (lines_of input)))
+
+-- and of one that begins over an empty disk
+abbrev pub EndsFromEmpty : {D : Type 0} (told : D → Option DiskState) (moment : D → ℕ) (since : D → ℕ → DiskState → Type 0) (old new : D) → Ending → History → History → Type 0
+EndsFromEmpty told moment since old new ending acknowledged most =
+    (state : DiskState) → told old ≡ Some state → IsEmpty state → DiskEnds told moment since old new state.calls ending acknowledged most

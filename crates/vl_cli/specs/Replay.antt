@@ -4,7 +4,7 @@ use Rattle.std.specs.List.{flat_map, AllByRecursion, slice_get}
 use Rattle.std.specs.Str.{bytes_eq}
 use Rattle.std.specs.Fmt.{decimal}
 use Rattle.std.specs.FinMap.{get}
-use Rattle.vl_model.specs.History.{last_number, value_at}
+use Rattle.vl_model.specs.History.{History, last_number, value_at}
 use Rattle.vl_model.specs.Reads.{Read, IsExplained}
 use Rattle.vl_model.specs.Keys.{Writes}
 use Rattle.vl_cli.specs.Sequential.{State, outcome, empty_store, OpenTransaction, OpenView, found}
@@ -14,7 +14,7 @@ use Rattle.vl_script.specs.declared.line.Line.TheVariants.{Begin, View, Get, Set
 use Rattle.vl_script.specs.declared.answer.Answer.{Answer}
 use Rattle.vl_script.specs.declared.answer.Answer.TheVariants.{Done, Number, Found, NoValue, Taken, Unknown, ReadOnly, Invalid, TooBig, TooMany, Nothing, Full, Exhausted}
 use Rattle.vl_cli.specs.declared.ending.Ending.{Ending}
-use Rattle.vl_cli.specs.declared.ending.Ending.TheVariants.{Complete, BadLine, BadWords, NoMemory, ReadFault, WriteFault}
+use Rattle.vl_cli.specs.declared.ending.Ending.TheVariants.{Complete, BadLine, BadWords, DiskFault, NotAStore, NoMemory, ReadFault, WriteFault}
 
 -- The answers that are printed so far. A line that would be answered otherwise is a bad line for now.
 abbrev pub is_printed : Answer → Bool
@@ -63,6 +63,11 @@ abbrev pub exchanges_from : State → List (List ℕ) → List Exchange
 exchanges_from s [] = []
 exchanges_from s (text ∷ texts) = and_later (λ e. exchanges_from e.after texts) (exchange_at s text)
 
+-- the history that these exchanges leave of one
+abbrev pub history_after : History → List Exchange → History
+history_after h [] = h
+history_after h (e ∷ later) = history_after e.after.history later
+
 -- the text of their answers, each one whole
 abbrev pub answers_text : List Exchange → List ℕ
 answers_text exchanges = flat_map (λ e. text_of e.answer) exchanges
@@ -81,6 +86,12 @@ bad_line n = codes "bad line " ++ decimal (line_number n) ++ (10 ∷ [])
 abbrev pub no_memory_line : List ℕ
 no_memory_line = codes "no memory" ++ (10 ∷ [])
 
+abbrev pub disk_fault_line : List ℕ
+disk_fault_line = codes "disk fault" ++ (10 ∷ [])
+
+abbrev pub not_a_store_line : List ℕ
+not_a_store_line = codes "not a store" ++ (10 ∷ [])
+
 abbrev pub read_fault_line : List ℕ
 read_fault_line = codes "read fault" ++ (10 ∷ [])
 
@@ -93,53 +104,62 @@ abbrev pub ended_lines : List ℕ → ℕ
 ended_lines bytes = count_by (λ b. b == 10) bytes
 
 -- what may be printed next after m of these answers: the next one; the bad line, where there is one more line and no
--- next answer; that memory ran out; or that the source failed, where it did
+-- next answer; that memory ran out, or that the disk or the source failed, where it did; or, before all, that the disk
+-- holds no store
 pub data NextPiece (failed : Type 0) (all : List Exchange) (lines before m : ℕ) : List ℕ → Type 0 where
   next_answer : (e : Exchange) → slice_get all m ≡ Some e → NextPiece failed all lines before m (text_of e.answer)
   next_bad_line : m ≡ length all → length all < lines → NextPiece failed all lines before m (bad_line (before + length all + 1))
   next_no_memory : NextPiece failed all lines before m no_memory_line
+  next_disk_fault : NextPiece failed all lines before m disk_fault_line
+  next_not_a_store : m ≡ 0 → NextPiece failed all lines before m not_a_store_line
   next_read_fault : failed → NextPiece failed all lines before m read_fault_line
 
--- The answers kept up with the source: when it was last asked for bytes, no more lines had ended in what it had given of
--- these bytes than there are answers. Those lines are the ones that ended in these bytes but not in what it then had left.
-abbrev pub KeepsUp : List ℕ → Option (List ℕ) → ℕ → Type 0
-KeepsUp bytes asked answers = (earlier : List ℕ) × (asked ≡ Some earlier) × (ended_lines bytes ≤ answers + ended_lines earlier)
-
--- How a run over these bytes ended, and what it printed. All are the exchanges up to the first bad line of these bytes,
--- which are so many lines, and some lines came before them in the script. Left is what the source has left in the end,
--- asked is what it had left when it was last asked for bytes, and failed says that it failed. A line's answer is put
--- whole before the next line is read: where the sink failed, and at a bad line or want of memory, the answers kept up
--- with the source.
+-- How a run over these bytes ended, how many lines it answered whole, and what it printed. All are the exchanges up to
+-- the first bad line of these bytes, which are so many lines, and some lines came before them in the script. Left is what
+-- the source has left in the end, and failed says that it failed.
 --   complete: every line was answered, and the source was read to its end;
 --   a bad line: all lines before it were answered, and there is one more;
---   want of memory: some lines were answered, each answer whole;
+--   a fault of the disk, or want of memory: some lines were answered, each answer whole;
+--   no store: nothing was read;
 --   a fault of the source: each line that had ended in the bytes that it gave was;
 --   a fault of the sink: some lines were, and of the next piece some first bytes came out.
-abbrev pub EndsSo : Type 0 → List Exchange → ℕ → ℕ → List ℕ → Option (List ℕ) → Option (List ℕ) → Ending → List ℕ → Type 0
-EndsSo failed all lines before bytes left asked Complete printed =
-    (length all ≡ lines) × (left ≡ Some []) × (printed ≡ answers_text all)
-EndsSo failed all lines before bytes left asked BadLine printed =
-    (length all < lines) × (printed ≡ answers_text all ++ bad_line (before + length all + 1)) × KeepsUp bytes asked (length all)
-EndsSo failed all lines before bytes left asked BadWords printed = ⊥
-EndsSo failed all lines before bytes left asked NoMemory printed =
-    (m : ℕ) × (m ≤ length all) × (printed ≡ answers_text (take m all) ++ no_memory_line) × KeepsUp bytes asked m
-EndsSo failed all lines before bytes left asked ReadFault printed =
+abbrev pub EndsSo : Type 0 → List Exchange → ℕ → ℕ → List ℕ → Option (List ℕ) → ℕ → Ending → List ℕ → Type 0
+EndsSo failed all lines before bytes left m Complete printed =
+    (m ≡ length all) × (length all ≡ lines) × (left ≡ Some []) × (printed ≡ answers_text all)
+EndsSo failed all lines before bytes left m BadLine printed =
+    (m ≡ length all) × (length all < lines) × (printed ≡ answers_text all ++ bad_line (before + length all + 1))
+EndsSo failed all lines before bytes left m BadWords printed = ⊥
+EndsSo failed all lines before bytes left m DiskFault printed =
+    (m ≤ length all) × (printed ≡ answers_text (take m all) ++ disk_fault_line)
+EndsSo failed all lines before bytes left m NotAStore printed =
+    (m ≡ 0) × (left ≡ Some bytes) × (printed ≡ not_a_store_line)
+EndsSo failed all lines before bytes left m NoMemory printed =
+    (m ≤ length all) × (printed ≡ answers_text (take m all) ++ no_memory_line)
+EndsSo failed all lines before bytes left m ReadFault printed =
     (given : List ℕ) × (rest : List ℕ) × failed × (bytes ≡ given ++ rest) × (left ≡ Some rest)
-    × (ended_lines given ≤ length all) × (printed ≡ answers_text (take (ended_lines given) all) ++ read_fault_line)
-EndsSo failed all lines before bytes left asked WriteFault printed =
-    (m : ℕ) × (piece : List ℕ) × (front : List ℕ) × (m ≤ length all) × NextPiece failed all lines before m piece
-    × IsFront front piece × (printed ≡ answers_text (take m all) ++ front) × KeepsUp bytes asked m
+    × (m ≡ ended_lines given) × (m ≤ length all) × (printed ≡ answers_text (take m all) ++ read_fault_line)
+EndsSo failed all lines before bytes left m WriteFault printed =
+    (piece : List ℕ) × (front : List ℕ) × (m ≤ length all) × NextPiece failed all lines before m piece
+    × IsFront front piece × (printed ≡ answers_text (take m all) ++ front)
 
--- what a run prints that answers the lines of these bytes from a state on, some lines after the script's begin
-abbrev pub Replays : Type 0 → State → ℕ → List ℕ → Option (List ℕ) → Option (List ℕ) → Ending → List ℕ → Type 0
-Replays failed s before bytes left asked ending printed =
-    EndsSo failed (exchanges_from s (lines_of bytes)) (length (lines_of bytes)) before bytes left asked ending printed
+-- what a run prints that answers so many lines of these bytes from a state on, some lines after the script's begin
+abbrev pub Replays : Type 0 → State → ℕ → List ℕ → Option (List ℕ) → ℕ → Ending → List ℕ → Type 0
+Replays failed s before bytes left m ending printed =
+    EndsSo failed (exchanges_from s (lines_of bytes)) (length (lines_of bytes)) before bytes left m ending printed
+
+-- A line's answer is put whole before the next line is read: when the source was last asked for bytes, no more lines had
+-- ended in what it had given of these bytes than were answered. Those lines are the ones that ended in these bytes but not
+-- in what it then had left.
+abbrev pub KeepsUp : List ℕ → Option (List ℕ) → ℕ → Type 0
+KeepsUp bytes asked answered = (earlier : List ℕ) × (asked ≡ Some earlier) × (ended_lines bytes ≤ answered + ended_lines earlier)
 
 -- what a run prints whose words aren't plain
 abbrev pub RefusesWords : Ending → List ℕ → Type 0
 RefusesWords Complete printed = ⊥
 RefusesWords BadLine printed = ⊥
 RefusesWords BadWords printed = printed ≡ usage_line
+RefusesWords DiskFault printed = ⊥
+RefusesWords NotAStore printed = ⊥
 RefusesWords NoMemory printed = ⊥
 RefusesWords ReadFault printed = ⊥
 RefusesWords WriteFault printed = IsFront printed usage_line
@@ -149,16 +169,17 @@ abbrev pub is_plain : List (List ℕ) → Bool
 is_plain (command ∷ folder ∷ []) = bytes_eq command (codes "replay") && is_plain_word folder
 is_plain words = false
 
--- what a run prints for these words and this input, of which the source has so much left in the end, and had so much
--- when it was last asked
-abbrev pub Runs : Type 0 → List (List ℕ) → List ℕ → Option (List ℕ) → Option (List ℕ) → Ending → List ℕ → Type 0
-Runs failed words input left asked ending printed =
-    MatchBool (is_plain words) (Replays failed empty_store 0 input left asked ending printed) (RefusesWords ending printed)
+-- what a run prints for these words and this input, of which so many lines were answered and the source has so much left
+abbrev pub Runs : Type 0 → List (List ℕ) → List ℕ → Option (List ℕ) → ℕ → Ending → List ℕ → Type 0
+Runs failed words input left m ending printed =
+    MatchBool (is_plain words) (Replays failed empty_store 0 input left m ending printed) (RefusesWords ending printed)
 
 abbrev pub status_of : Ending → ℕ
 status_of Complete = 0
 status_of BadLine = 1
 status_of BadWords = 2
+status_of DiskFault = 3
+status_of NotAStore = 4
 status_of NoMemory = 5
 status_of ReadFault = 6
 status_of WriteFault = 7

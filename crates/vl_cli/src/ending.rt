@@ -9,6 +9,10 @@ pub enum Ending {
     BadLine,
     /// Status 2: the words of the command line aren't plain; nothing was read.
     BadWords,
+    /// Status 3: the disk failed.
+    DiskFault,
+    /// Status 4: something stands on the disk that is no store.
+    NotAStore,
     /// Status 5: memory ran out.
     NoMemory,
     /// Status 6: the source failed.
@@ -28,6 +32,8 @@ impl Ending {
             Ending::Complete => 0,
             Ending::BadLine => 1,
             Ending::BadWords => 2,
+            Ending::DiskFault => 3,
+            Ending::NotAStore => 4,
             Ending::NoMemory => 5,
             Ending::ReadFault => 6,
             Ending::WriteFault => 7,

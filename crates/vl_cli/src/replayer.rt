@@ -1,5 +1,10 @@
 //! The store behind a script: answers one line after the other.
-ghost use Rattle.std.specs.Prelude.{◌≡◌, [], IfOk, OnOk, OnErr, length};
+ghost use Rattle.std.specs.Prelude.{◌≡◌, [], Some, Err, IfOk, OnOk, OnErr, length};
+ghost use Rattle.std.specs.Option.{ForSome};
+ghost use Rattle.vl_disk.specs.DiskState.{DiskState};
+ghost use Rattle.vl_disk.specs.Disk.{Stands, HasCause};
+ghost use Rattle.vl_journal.specs.declared.names.TheConstants.{LOG};
+ghost use Rattle.vl_cli.specs.Durable.{HoldsState, Carries};
 ghost use Rattle.std.specs.Option.{option_copied};
 ghost use Rattle.std.specs.FinMap.{get, empty};
 ghost use Rattle.vl_model.specs.History.{last_number, value_left};
@@ -24,13 +29,15 @@ pub use limits::{MAX_LOG_BYTES, MAX_OPEN};
 use memtable::Memtable;
 use open::{Open, Thing};
 use std::alloc::Global;
+use vl_disk::Disk;
+use vl_journal::{stage_commit, write_staged};
 use vl_model::{
     Bytes, Change, Counter, Key, MAX_COMMIT_NUMBER, MAX_KEY_BYTES, MAX_VALUE_BYTES, Value,
 };
 use vl_script::{Answer, Ident, Line};
 use writes::Writes;
 
-/// A store whose commits are kept in memory alone.
+/// A store that keeps its commits in memory, and writes each one to a disk before it is answered.
 #[derive(Drop)]
 pub struct Replayer {
     alloc: Global,
@@ -54,18 +61,26 @@ impl Replayer {
         }
     }
 
-    /// Answers a line. Want of memory leaves the store as it was.
-    pub fn line(&mut self, line: Line) -> Result<Answer, Halt>
+    /// Answers a line. Want of memory leaves the store and the disk as they were, and so does a fault of the disk the
+    /// store.
+    pub fn line<D: Disk>(&mut self, disk: &mut D, line: Line) -> Result<Answer, Halt>
+        requires { ForSome (D.told disk.old) (Stands LOG) }
         ensures answer { (s : State) → Represents self.old s → IfOk result (λ answer. answer ≡ answer_to s line) }
         ensures after { (s : State) → Represents self.old s → OnOk result (Represents self.new (state_after s line)) }
         ensures unchanged { (s : State) → Represents self.old s → OnErr result (Represents self.new s) }
+
+        // Each accepted commit is one synced frame of the log, which is written before the answer.
+        ensures carries { (begun : ℕ) (s : State) (state : DiskState) → Represents self.old s → D.told disk.old ≡ Some state → HoldsState begun s state
+            → Carries D.told D.moment D.states_since disk.old disk.new begun s (state_after s line) result }
+        ensures stands { ForSome (D.told disk.new) (Stands LOG) }
+        ensures cause { HasCause (D.faults disk.old) (D.faults disk.new) (result ≡ Err Halt.Disk) }
     {
         match line {
             Line::Begin { name } => Ok(self.begin(name)),
             Line::View { name } => Ok(self.view(name)),
             Line::Get { name, key } => self.get(name, key),
             Line::Set { name, key, value } => self.set(name, key, value),
-            Line::Commit { name } => self.commit(name),
+            Line::Commit { name } => self.commit(disk, name),
         }
     }
 
@@ -130,9 +145,14 @@ impl Replayer {
         }
     }
 
-    fn commit(&mut self, name: Ident) -> Result<Answer, Halt>
+    fn commit<D: Disk>(&mut self, disk: &mut D, name: Ident) -> Result<Answer, Halt>
+        requires { ForSome (D.told disk.old) (Stands LOG) }
         ensures answer { (s : State) → Represents self.old s → IfOk result (λ answer. Gives answer self.new (committed s name (get s.things name))) }
         ensures unchanged { (s : State) → Represents self.old s → OnErr result (Represents self.new s) }
+        ensures carries { (begun : ℕ) (s : State) (state : DiskState) → Represents self.old s → D.told disk.old ≡ Some state → HoldsState begun s state
+            → Carries D.told D.moment D.states_since disk.old disk.new begun s (committed s name (get s.things name)).1 result }
+        ensures stands { ForSome (D.told disk.new) (Stands LOG) }
+        ensures cause { HasCause (D.faults disk.old) (D.faults disk.new) (result ≡ Err Halt.Disk) }
     {
         let Some(thing) = self.find(name.as_slice()) else {
             return Ok(Answer::Unknown { name });
@@ -153,8 +173,17 @@ impl Replayer {
         if log_length > MAX_LOG_BYTES {
             return Ok(Answer::Full);
         }
+        // All memory is taken before the first call that changes the disk.
+        let frame = stage_commit(
+            self.alloc,
+            disk,
+            self.log_length,
+            self.last + 1,
+            writes.as_slice(),
+        )?;
         let count = writes.len();
         self.memtable.reserve(count)?;
+        write_staged(disk, &frame)?;
         let Some(Open { name: _, thing }) = self.in_use.take() else {
             unreachable!();
         };

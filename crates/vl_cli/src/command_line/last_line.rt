@@ -7,6 +7,10 @@ use vl_io::Sink;
 
 pub const NO_MEMORY: &[u8] = b"no memory\n";
 
+pub const DISK_FAULT: &[u8] = b"disk fault\n";
+
+pub const NOT_A_STORE: &[u8] = b"not a store\n";
+
 pub const READ_FAULT: &[u8] = b"read fault\n";
 
 /// Puts a run's last line. Where it can't be put, the run ends by the sink's fault.

@@ -1,17 +1,25 @@
 ghost use Rattle.std.specs.Prelude.{◌≡◌, ◌≢◌, ◌+◌, ◌<◌, ◌≤◌, ◌++◌, ℕ, List, Option, Some, None, MatchOption, length};
+ghost use Rattle.std.specs.Option.{ForSome};
+ghost use Rattle.vl_disk.specs.DiskState.{DiskState};
+ghost use Rattle.vl_disk.specs.Disk.{Stands};
+ghost use Rattle.vl_disk.specs.declared.name.Name.{Name};
+ghost use Rattle.vl_journal.specs.declared.names.TheConstants.{LOG};
+ghost use Rattle.vl_cli.specs.Durable.{HoldsState, TakesText, EndsFrom, EndsFromEmpty};
 ghost use Rattle.vl_disk.specs.Faults.{Rose};
 ghost use Rattle.vl_cli.specs.Sequential.{State, empty_store};
 ghost use Rattle.vl_cli.specs.Represents.{Represents};
 ghost use Rattle.vl_cli.specs.Replay.{KeepsUp, line_number};
-ghost use Rattle.vl_cli.specs.Steps.{EndsRun, GoesOn, StepsOn, Counts, SinkCounts};
+ghost use Rattle.vl_cli.specs.Steps.{EndsRun, GoesOn, StepsOn, Counts, SinkCounts, IsAnswered, IsRefusal};
 
 use crate::Ending;
 use crate::command_line::answering::{answer, refuse};
-use crate::command_line::last_line::{NO_MEMORY, READ_FAULT, finish};
+use crate::command_line::last_line::{DISK_FAULT, NOT_A_STORE, NO_MEMORY, READ_FAULT, finish};
 use crate::input::{Buffer, InputFail, Next, read_line};
 use crate::replayer::Replayer;
 use std::alloc::Global;
+use vl_disk::Disk;
 use vl_io::{Sink, Source};
+use vl_journal::{OpenFail, open_store};
 
 /// A run under way: what was read and not yet answered, the store, and how many lines were answered.
 #[derive(Drop)]
@@ -25,19 +33,28 @@ struct Progress {
 
 impl Progress {
     /// Reads a line and answers it. None where the run goes on.
-    fn step<S: Source, K: Sink>(&mut self, source: &mut S, sink: &mut K) -> Option<Ending>
+    fn step<S: Source, K: Sink, D: Disk>(
+        &mut self,
+        source: &mut S,
+        sink: &mut K,
+        disk: &mut D,
+    ) -> Option<Ending>
+        requires { ForSome (D.told disk.old) (Stands LOG) }
         ensures printed { (f before : ℕ) (s : State) (had : List ℕ) → f ≤ S.faults source.old → Represents self.old.replayer s
             → self.old.answered ≡ line_number before → S.left source.old ≡ Some had
             → KeepsUp (self.old.buffer ++ had) (S.asked source.old) 0
-            → GoesOn (Rose f (S.faults source.new)) s before (self.old.buffer ++ had) self.new.replayer self.new.buffer (S.left source.new) (S.asked source.new) result (K.held sink.old) (K.held sink.new) }
+            → GoesOn D.told D.moment D.states_since disk.old disk.new (Rose f (S.faults source.new)) s before (self.old.buffer ++ had) self.new.replayer self.new.buffer (S.left source.new) (S.asked source.new) result (K.held sink.old) (K.held sink.new) }
         ensures counted { (before : ℕ) → self.old.answered ≡ line_number before → result ≡ None → self.new.answered ≡ line_number (before + 1) }
         ensures shorter { result ≡ None → length self.new.buffer + S.budget source.new < length self.old.buffer + S.budget source.old }
         ensures faults { MatchOption result ((S.faults source.new ≡ S.faults source.old) × (K.faults sink.new ≡ K.faults sink.old))
             (λ ending. Counts ending (S.faults source.old) (S.faults source.new) (K.faults sink.old) (K.faults sink.new)) }
+        ensures stands { ForSome (D.told disk.new) (Stands LOG) }
+        ensures cause { result ≡ Some Ending.DiskFault → Rose (D.faults disk.old) (D.faults disk.new) }
+        ensures possible { result ≢ Some Ending.NotAStore }
     {
         match read_line(&mut self.buffer, source, &mut self.line) {
-            Ok(Next::Line) => self.answer(sink),
-            Ok(Next::LastLine) => Some(self.answer(sink).unwrap_or(Ending::Complete)),
+            Ok(Next::Line) => self.answer(sink, disk),
+            Ok(Next::LastLine) => Some(self.answer(sink, disk).unwrap_or(Ending::Complete)),
             Ok(Next::TooLong) => Some(refuse(self.alloc, self.answered, sink)),
             Ok(Next::End) => Some(Ending::Complete),
             Err(InputFail::NoMemory) => Some(finish(sink, NO_MEMORY, Ending::NoMemory)),
@@ -46,16 +63,22 @@ impl Progress {
     }
 
     /// Answers the line that was read.
-    fn answer<K: Sink>(&mut self, sink: &mut K) -> Option<Ending>
+    fn answer<K: Sink, D: Disk>(&mut self, sink: &mut K, disk: &mut D) -> Option<Ending>
+        requires { ForSome (D.told disk.old) (Stands LOG) }
         ensures printed { (s : State) (before : ℕ) → Represents self.old.replayer s → self.old.answered ≡ line_number before
             → StepsOn s before self.old.line.items self.new.replayer result (K.held sink.old) (K.held sink.new) }
         ensures counted { (before : ℕ) → self.old.answered ≡ line_number before → result ≡ None → self.new.answered ≡ line_number (before + 1) }
         ensures same { self.new.buffer ≡ self.old.buffer }
         ensures faults { MatchOption result (K.faults sink.new ≡ K.faults sink.old) (λ ending. SinkCounts ending (K.faults sink.old) (K.faults sink.new)) }
+        ensures takes { (begun : ℕ) (s : State) (state : DiskState) → Represents self.old.replayer s → D.told disk.old ≡ Some state → HoldsState begun s state
+            → TakesText D.told D.moment D.states_since disk.old disk.new begun s self.old.line.items (IsAnswered result) }
+        ensures stands { ForSome (D.told disk.new) (Stands LOG) }
+        ensures cause { result ≡ Some Ending.DiskFault → Rose (D.faults disk.old) (D.faults disk.new) }
     {
         let ended = answer(
             self.alloc,
             &mut self.replayer,
+            disk,
             &self.line,
             self.answered,
             sink,
@@ -65,11 +88,46 @@ impl Progress {
     }
 }
 
-/// Answers the lines of a source, one after the other, over commits kept in memory.
-pub fn replay<S: Source, K: Sink>(alloc: Global, source: &mut S, sink: &mut K) -> Ending
+/// Opens the store on a disk, and answers the lines of a source, one after the other.
+pub fn replay<S: Source, K: Sink, D: Disk>(
+    alloc: Global,
+    source: &mut S,
+    sink: &mut K,
+    disk: &mut D,
+) -> Ending
     ensures printed { (input : List ℕ) → S.left source.old ≡ Some input
-        → EndsRun (Rose (S.faults source.old) (S.faults source.new)) empty_store 0 input (S.left source.new) (S.asked source.new) result (K.held sink.old) (K.held sink.new) }
+        → EndsRun (Rose (S.faults source.old) (S.faults source.new)) (EndsFromEmpty D.told D.moment D.states_since disk.old disk.new)
+        empty_store 0 input (S.left source.new) (S.asked source.new) result (K.held sink.old) (K.held sink.new) }
     ensures faults { Counts result (S.faults source.old) (S.faults source.new) (K.faults sink.old) (K.faults sink.new) }
+    ensures disk_fault { result ≡ Ending.DiskFault → Rose (D.faults disk.old) (D.faults disk.new) }
+
+    // No store is found exactly where anything stands. Then nothing was changed.
+    ensures found { result ≡ Ending.NotAStore → ForSome (D.told disk.old) (λ state. (name : Name) × Stands name state) }
+    ensures refused { result ≡ Ending.NotAStore → D.told disk.new ≡ D.told disk.old }
+    ensures occupied { (state : DiskState) (name : Name) → D.told disk.old ≡ Some state → Stands name state → IsRefusal result × (source.new ≡ source.old) }
+{
+    match open_store(alloc, disk) {
+        Ok(()) => answer_lines(alloc, source, sink, disk),
+        Err(OpenFail::NotAStore) => finish(sink, NOT_A_STORE, Ending::NotAStore),
+        Err(OpenFail::NoMemory) => finish(sink, NO_MEMORY, Ending::NoMemory),
+        Err(OpenFail::Disk) => finish(sink, DISK_FAULT, Ending::DiskFault),
+    }
+}
+
+/// Answers the lines of a source over an open store without commits.
+fn answer_lines<S: Source, K: Sink, D: Disk>(
+    alloc: Global,
+    source: &mut S,
+    sink: &mut K,
+    disk: &mut D,
+) -> Ending
+    requires { ForSome (D.told disk.old) (Stands LOG) }
+    ensures printed { (input : List ℕ) → S.left source.old ≡ Some input
+        → EndsRun (Rose (S.faults source.old) (S.faults source.new)) (EndsFrom D.told D.moment D.states_since disk.old disk.new empty_store)
+        empty_store 0 input (S.left source.new) (S.asked source.new) result (K.held sink.old) (K.held sink.new) }
+    ensures faults { Counts result (S.faults source.old) (S.faults source.new) (K.faults sink.old) (K.faults sink.new) }
+    ensures disk_fault { result ≡ Ending.DiskFault → Rose (D.faults disk.old) (D.faults disk.new) }
+    ensures possible { result ≢ Ending.NotAStore }
 {
     let Ok(buffer) = Buffer::new(alloc) else {
         return finish(sink, NO_MEMORY, Ending::NoMemory);
@@ -82,7 +140,7 @@ pub fn replay<S: Source, K: Sink>(alloc: Global, source: &mut S, sink: &mut K) -
         answered: 0,
     };
     'lines: loop {
-        if let Some(ending) = progress.step(source, sink) {
+        if let Some(ending) = progress.step(source, sink, disk) {
             return ending;
         }
     }
