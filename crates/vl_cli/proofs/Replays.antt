@@ -11,15 +11,15 @@ use Rattle.vl_script.specs.declared.line.Line.{Line}
 use Rattle.vl_script.specs.declared.answer.Answer.{Answer}
 use Rattle.vl_script.specs.Script.{text_of, lines_of, line_of}
 use Rattle.vl_cli.specs.Input.{HasNoLineEnd, ReadsLine}
-use Rattle.vl_cli.specs.Replay.{Exchange, exchange_at, exchanged, is_printed, exchanges_from, and_later, answers_text, line_number, bad_line, no_memory_line, read_fault_line, ended_lines, KeepsUp, NextPiece, next_answer, next_bad_line, next_no_memory, next_read_fault, EndsSo, Replays}
-use Rattle.vl_cli.specs.Steps.{Finishes, EndsRun, StepsOn, GoesOn, SinkCounts, Counts}
+use Rattle.vl_cli.specs.Replay.{Exchange, exchange_at, exchanged, is_printed, exchanges_from, and_later, answers_text, line_number, bad_line, no_memory_line, disk_fault_line, not_a_store_line, read_fault_line, ended_lines, KeepsUp, NextPiece, next_answer, next_bad_line, next_no_memory, next_disk_fault, next_not_a_store, next_read_fault, EndsSo, Replays}
+use Rattle.vl_cli.specs.Steps.{Finishes, EndsBefore, SinkCounts, Counts}
 use Rattle.vl_cli.specs.declared.replayer.Replayer.{Replayer}
 use Rattle.vl_cli.specs.declared.input.lines.Next.TheVariants.{Line as WholeLine, LastLine}
 use Rattle.vl_script.specs.declared.limits.TheConstants.{MAX_LINE_BYTES}
 use Rattle.std.proofs.lemmas.Bool.Decides.{nat_tests}
 use Rattle.vl_disk.specs.Faults.{Rose}
 use Rattle.vl_cli.specs.declared.ending.Ending.{Ending}
-use Rattle.vl_cli.specs.declared.ending.Ending.TheVariants.{Complete, BadLine, BadWords, NoMemory, ReadFault, WriteFault}
+use Rattle.vl_cli.specs.declared.ending.Ending.TheVariants.{Complete, BadLine, BadWords, DiskFault, NotAStore, NoMemory, ReadFault, WriteFault}
 use Rattle.vl_cli.proofs.Lines.{lines_of-ended, lines_of-unended}
 
 -- the exchanges from a bad line on, and from an answered one
@@ -38,28 +38,36 @@ pub exchanges_from-answered : (s : State) (text : List ℕ) (texts : List (List 
 exchanges_from-answered s text texts x e = gone_on (exchange_at s text) (λ y. exchanges_from y.after texts) x e
 
 -- what a run that ends in its next piece prints: the piece, or a front of it where the sink failed
-pub finished : (failed : Type 0) (all : List Exchange) (lines before : ℕ) (bytes : List ℕ) (left asked : Option (List ℕ)) (ending result : Ending) (line : List ℕ) (held held' : Option (List ℕ)) →
-    EndsSo failed all lines before bytes left asked ending line → NextPiece failed all lines before 0 line → KeepsUp bytes asked 0 → Finishes held line ending result held' →
-    (printed : List ℕ) × Takes held held' printed × EndsSo failed all lines before bytes left asked result printed
-finished failed all lines before bytes left asked ending result line held held' whole next kept_up (printed, takes, how) = (
+pub finished : (failed : Type 0) (all : List Exchange) (lines before : ℕ) (bytes : List ℕ) (left : Option (List ℕ)) (ending result : Ending) (line : List ℕ) (held held' : Option (List ℕ)) →
+    EndsSo failed all lines before bytes left 0 ending line → NextPiece failed all lines before 0 line → Finishes held line ending result held' →
+    (printed : List ℕ) × Takes held held' printed × EndsSo failed all lines before bytes left 0 result printed
+finished failed all lines before bytes left ending result line held held' whole next (printed, takes, how) = (
   printed,
   takes,
   elim how [
-    | inl same ↦ subst (λ (r : Ending). EndsSo failed all lines before bytes left asked r printed) (sym same.0) (subst (λ (p : List ℕ). EndsSo failed all lines before bytes left asked ending p) (sym same.1) whole)
-    | inr cut ↦ subst (λ (r : Ending). EndsSo failed all lines before bytes left asked r printed) (sym cut.0) (0, line, printed, zero-le, next, cut.1, refl, kept_up)
+    | inl same ↦ subst (λ (r : Ending). EndsSo failed all lines before bytes left 0 r printed) (sym same.0) (subst (λ (p : List ℕ). EndsSo failed all lines before bytes left 0 ending p) (sym same.1) whole)
+    | inr cut ↦ subst (λ (r : Ending). EndsSo failed all lines before bytes left 0 r printed) (sym cut.0) (line, printed, zero-le, next, cut.1, refl)
   ],
 )
 
 -- the run ends at a bad line
-pub bad_line_ends : (failed : Type 0) (s : State) (before : ℕ) (bytes text : List ℕ) (texts : List (List ℕ)) (left asked : Option (List ℕ)) → lines_of bytes ≡ text ∷ texts → exchange_at s text ≡ None → KeepsUp bytes asked 0 →
-    Replays failed s before bytes left asked BadLine (bad_line (before + 1)) × NextPiece failed (exchanges_from s (lines_of bytes)) (length (lines_of bytes)) before 0 (bad_line (before + 1))
-bad_line_ends failed s before bytes text texts left asked e bad kept_up =
+pub bad_line_ends : (failed : Type 0) (s : State) (before : ℕ) (bytes text : List ℕ) (texts : List (List ℕ)) (left : Option (List ℕ)) → lines_of bytes ≡ text ∷ texts → exchange_at s text ≡ None →
+    Replays failed s before bytes left 0 BadLine (bad_line (before + 1)) × NextPiece failed (exchanges_from s (lines_of bytes)) (length (lines_of bytes)) before 0 (bad_line (before + 1))
+bad_line_ends failed s before bytes text texts left e bad =
     let n : before + 0 + 1 ≡ before + 1 = omega arith in
-    rw (e, exchanges_from-bad s text texts bad) ((omega arith, ap bad_line (sym n), kept_up), subst (λ (k : ℕ). NextPiece failed [] (length (text ∷ texts)) before 0 (bad_line k)) n (next_bad_line refl (omega arith)))
+    rw (e, exchanges_from-bad s text texts bad) ((refl, omega arith, ap bad_line (sym n)), subst (λ (k : ℕ). NextPiece failed [] (length (text ∷ texts)) before 0 (bad_line k)) n (next_bad_line refl (omega arith)))
 
-pub no_memory_ends : (failed : Type 0) (s : State) (before : ℕ) (bytes : List ℕ) (left asked : Option (List ℕ)) → KeepsUp bytes asked 0 →
-    Replays failed s before bytes left asked NoMemory no_memory_line × NextPiece failed (exchanges_from s (lines_of bytes)) (length (lines_of bytes)) before 0 no_memory_line
-no_memory_ends failed s before bytes left asked kept_up = ((0, zero-le, refl, kept_up), next_no_memory)
+pub no_memory_ends : (failed : Type 0) (s : State) (before : ℕ) (bytes : List ℕ) (left : Option (List ℕ)) →
+    Replays failed s before bytes left 0 NoMemory no_memory_line × NextPiece failed (exchanges_from s (lines_of bytes)) (length (lines_of bytes)) before 0 no_memory_line
+no_memory_ends failed s before bytes left = ((zero-le, refl), next_no_memory)
+
+pub disk_fault_ends : (failed : Type 0) (s : State) (before : ℕ) (bytes : List ℕ) (left : Option (List ℕ)) →
+    Replays failed s before bytes left 0 DiskFault disk_fault_line × NextPiece failed (exchanges_from s (lines_of bytes)) (length (lines_of bytes)) before 0 disk_fault_line
+disk_fault_ends failed s before bytes left = ((zero-le, refl), next_disk_fault)
+
+pub not_a_store_ends : (failed : Type 0) (s : State) (before : ℕ) (bytes : List ℕ) (left : Option (List ℕ)) → left ≡ Some bytes →
+    Replays failed s before bytes left 0 NotAStore not_a_store_line × NextPiece failed (exchanges_from s (lines_of bytes)) (length (lines_of bytes)) before 0 not_a_store_line
+not_a_store_ends failed s before bytes left unread = ((refl, unread, refl), next_not_a_store)
 
 tested_no : (b : ℕ) → b ≢ 10 → (b == 10) ≡ false
 tested_no b other = ne_eqb b 10 other
@@ -86,28 +94,27 @@ ended_lines-line [] rest h = ended_lines-cons 10 rest ∙ one-add (ended_lines r
 ended_lines-line (b ∷ line) rest h = ended_lines-cons b (line ++ 10 ∷ rest) ∙ counted (b == 10) (ended_lines (line ++ 10 ∷ rest)) (tested_no b h.0) ∙ ended_lines-line line rest h.1
 
 -- the run ends where the source fails before a line has ended
-pub read_fault_ends : (failed : Type 0) (s : State) (before : ℕ) (bytes given rest : List ℕ) (left asked : Option (List ℕ)) → failed → left ≡ Some rest → bytes ≡ given ++ rest → HasNoLineEnd given →
-    Replays failed s before bytes left asked ReadFault read_fault_line × NextPiece failed (exchanges_from s (lines_of bytes)) (length (lines_of bytes)) before 0 read_fault_line
-read_fault_ends failed s before bytes given rest left asked fault told parts unended =
-    let none : ended_lines given ≡ 0 = ended_lines-none given unended in
-    ((given, rest, fault, parts, told, rw none zero-le, rw none refl), next_read_fault fault)
+pub read_fault_ends : (failed : Type 0) (s : State) (before : ℕ) (bytes given rest : List ℕ) (left : Option (List ℕ)) → failed → left ≡ Some rest → bytes ≡ given ++ rest → HasNoLineEnd given →
+    Replays failed s before bytes left 0 ReadFault read_fault_line × NextPiece failed (exchanges_from s (lines_of bytes)) (length (lines_of bytes)) before 0 read_fault_line
+read_fault_ends failed s before bytes given rest left fault told parts unended =
+    ((given, rest, fault, parts, told, sym (ended_lines-none given unended), zero-le, refl), next_read_fault fault)
 
 -- the sink failed within an answer
-pub answer_cut : (failed : Type 0) (s : State) (before : ℕ) (bytes text : List ℕ) (texts : List (List ℕ)) (left asked : Option (List ℕ)) (e : Exchange) (held held' : Option (List ℕ)) →
-    lines_of bytes ≡ text ∷ texts → exchange_at s text ≡ Some e → TakesPrefix held held' (text_of e.answer) → KeepsUp bytes asked 0 → EndsRun failed s before bytes left asked WriteFault held held'
-answer_cut failed s before bytes text texts left asked e held held' lines is part kept_up =
+pub answer_cut : (failed : Type 0) (s : State) (before : ℕ) (bytes text : List ℕ) (texts : List (List ℕ)) (left : Option (List ℕ)) (e : Exchange) (held held' : Option (List ℕ)) →
+    lines_of bytes ≡ text ∷ texts → exchange_at s text ≡ Some e → TakesPrefix held held' (text_of e.answer) → EndsBefore failed s before bytes left WriteFault held held'
+answer_cut failed s before bytes text texts left e held held' lines is part =
     let piece = text_of e.answer in (
       take part.0 piece,
       part.2,
       rw (lines, exchanges_from-answered s text texts e is)
-          (0, piece, take part.0 piece, zero-le, next_answer e refl, (drop part.0 piece, sym (take-append-drop part.0 piece)), refl, kept_up),
+          (piece, take part.0 piece, zero-le, next_answer e refl, (drop part.0 piece, sym (take-append-drop part.0 piece)), refl),
     )
 
 -- the input's last line was answered
-pub last_answered : (failed : Type 0) (s : State) (before : ℕ) (bytes text : List ℕ) (left asked : Option (List ℕ)) (e : Exchange) →
-    lines_of bytes ≡ text ∷ [] → exchange_at s text ≡ Some e → left ≡ Some [] → Replays failed s before bytes left asked Complete (text_of e.answer)
-last_answered failed s before bytes text left asked e lines is told =
-    rw (lines, exchanges_from-answered s text [] e is) (refl, told, sym (append-nil (text_of e.answer)))
+pub last_answered : (failed : Type 0) (s : State) (before : ℕ) (bytes text : List ℕ) (left : Option (List ℕ)) (e : Exchange) →
+    lines_of bytes ≡ text ∷ [] → exchange_at s text ≡ Some e → left ≡ Some [] → Replays failed s before bytes left 1 Complete (text_of e.answer)
+last_answered failed s before bytes text left e lines is told =
+    rw (lines, exchanges_from-answered s text [] e is) (refl, refl, told, sym (append-nil (text_of e.answer)))
 
 -- one more answer in front
 later_piece : (failed : Type 0) (e : Exchange) (all : List Exchange) (lines before m : ℕ) (piece : List ℕ) → NextPiece failed all lines (before + 1) m piece → NextPiece failed (e ∷ all) (suc lines) before (suc m) piece
@@ -116,10 +123,12 @@ later_piece failed e all lines before m piece (next_bad_line at less) =
     let n : before + suc (length all) + 1 ≡ (before + 1) + length all + 1 = omega arith in
     subst (λ (k : ℕ). NextPiece failed (e ∷ all) (suc lines) before (suc m) (bad_line k)) n (next_bad_line (ap suc at) (omega arith))
 later_piece failed e all lines before m piece next_no_memory = next_no_memory
+later_piece failed e all lines before m piece next_disk_fault = next_disk_fault
+later_piece failed e all lines before m piece next_not_a_store = next_not_a_store
 later_piece failed e all lines before m piece (next_read_fault fault) = next_read_fault fault
 
 -- a line with its answer comes in front
-keeps_up_behind : (bytes line rest : List ℕ) (asked : Option (List ℕ)) (m : ℕ) → bytes ≡ line ++ 10 ∷ rest → HasNoLineEnd line → KeepsUp rest asked m → KeepsUp bytes asked (suc m)
+pub keeps_up_behind : (bytes line rest : List ℕ) (asked : Option (List ℕ)) (m : ℕ) → bytes ≡ line ++ 10 ∷ rest → HasNoLineEnd line → KeepsUp rest asked m → KeepsUp bytes asked (suc m)
 keeps_up_behind bytes line rest asked m parts unended (earlier, was, le) =
     let n : ended_lines bytes ≡ suc (ended_lines rest) = ap ended_lines parts ∙ ended_lines-line line rest unended in
     (earlier, was, omega arith)
@@ -148,44 +157,66 @@ ended_lines-more (b ∷ given) rest = omega (arith, ended_lines-cons b (given ++
 pub keeps_up_at_first : (rest : List ℕ) (asked : Option (List ℕ)) → (given : List ℕ) × (asked ≡ Some (given ++ rest)) → KeepsUp rest asked 0
 keeps_up_at_first rest asked (given, was) = (given ++ rest, was, omega (arith, ended_lines-more given rest))
 
-one_more : (failed : Type 0) (e : Exchange) (all : List Exchange) (lines before : ℕ) (bytes line rest : List ℕ) (left asked : Option (List ℕ)) (ending : Ending) (printed : List ℕ) →
-    bytes ≡ line ++ 10 ∷ rest → HasNoLineEnd line → EndsSo failed all lines (before + 1) rest left asked ending printed → EndsSo failed (e ∷ all) (suc lines) before bytes left asked ending (text_of e.answer ++ printed)
-one_more failed e all lines before bytes line rest left asked Complete printed parts unended (count, told, text) =
-    (ap suc count, told, ap (λ (p : List ℕ). text_of e.answer ++ p) text)
-one_more failed e all lines before bytes line rest left asked BadLine printed parts unended (less, text, kept_up) =
+-- an ending of a run whose store was opened
+abbrev pub IsOpened : Ending → Type 0
+IsOpened Complete = Unit {0}
+IsOpened BadLine = Unit {0}
+IsOpened BadWords = ⊥
+IsOpened DiskFault = Unit {0}
+IsOpened NotAStore = ⊥
+IsOpened NoMemory = Unit {0}
+IsOpened ReadFault = Unit {0}
+IsOpened WriteFault = Unit {0}
+
+pub is_opened : (ending : Ending) → ending ≢ NotAStore → ending ≢ BadWords → IsOpened ending
+is_opened Complete a b = tt
+is_opened BadLine a b = tt
+is_opened BadWords a b = absurd (b refl)
+is_opened DiskFault a b = tt
+is_opened NotAStore a b = absurd (a refl)
+is_opened NoMemory a b = tt
+is_opened ReadFault a b = tt
+is_opened WriteFault a b = tt
+
+one_more : (failed : Type 0) (e : Exchange) (all : List Exchange) (lines before : ℕ) (bytes line rest : List ℕ) (left : Option (List ℕ)) (m : ℕ) (ending : Ending) (printed : List ℕ) →
+    bytes ≡ line ++ 10 ∷ rest → HasNoLineEnd line → IsOpened ending → EndsSo failed all lines (before + 1) rest left m ending printed → EndsSo failed (e ∷ all) (suc lines) before bytes left (suc m) ending (text_of e.answer ++ printed)
+one_more failed e all lines before bytes line rest left m Complete printed parts unended opened (at, count, told, text) =
+    (ap suc at, ap suc count, told, ap (λ (p : List ℕ). text_of e.answer ++ p) text)
+one_more failed e all lines before bytes line rest left m BadLine printed parts unended opened (at, less, text) =
     let n : (before + 1) + length all + 1 ≡ before + suc (length all) + 1 = omega arith in
-    (omega arith, ap (λ (p : List ℕ). text_of e.answer ++ p) (text ∙ ap (λ (k : ℕ). answers_text all ++ bad_line k) n) ∙ sym (append_assoc (text_of e.answer) (answers_text all) _), keeps_up_behind bytes line rest asked (length all) parts unended kept_up)
-one_more failed e all lines before bytes line rest left asked BadWords printed parts unended h = h
-one_more failed e all lines before bytes line rest left asked NoMemory printed parts unended (m, le, text, kept_up) =
-    (suc m, omega arith, ap (λ (p : List ℕ). text_of e.answer ++ p) text ∙ sym (append_assoc (text_of e.answer) (answers_text (take m all)) _), keeps_up_behind bytes line rest asked m parts unended kept_up)
-one_more failed e all lines before bytes line rest left asked ReadFault printed parts unended (given, rest', fault, split, told, le, text) =
-    let n : ended_lines (line ++ 10 ∷ given) ≡ suc (ended_lines given) = ended_lines-line line given unended in (
-      line ++ 10 ∷ given,
-      rest',
-      fault,
-      parts ∙ ap (λ (r : List ℕ). line ++ 10 ∷ r) split ∙ sym (append_assoc line (10 ∷ given) rest'),
-      told,
-      rw n (omega arith),
-      rw n (ap (λ (p : List ℕ). text_of e.answer ++ p) text ∙ sym (append_assoc (text_of e.answer) (answers_text (take (ended_lines given) all)) _)),
-    )
-one_more failed e all lines before bytes line rest left asked WriteFault printed parts unended (m, piece, front, le, next, cut, text, kept_up) = (
-  suc m,
+    (ap suc at, omega arith, ap (λ (p : List ℕ). text_of e.answer ++ p) (text ∙ ap (λ (k : ℕ). answers_text all ++ bad_line k) n) ∙ sym (append_assoc (text_of e.answer) (answers_text all) _))
+one_more failed e all lines before bytes line rest left m BadWords printed parts unended opened h = absurd opened
+one_more failed e all lines before bytes line rest left m DiskFault printed parts unended opened (le, text) =
+    (omega arith, ap (λ (p : List ℕ). text_of e.answer ++ p) text ∙ sym (append_assoc (text_of e.answer) (answers_text (take m all)) _))
+one_more failed e all lines before bytes line rest left m NotAStore printed parts unended opened h = absurd opened
+one_more failed e all lines before bytes line rest left m NoMemory printed parts unended opened (le, text) =
+    (omega arith, ap (λ (p : List ℕ). text_of e.answer ++ p) text ∙ sym (append_assoc (text_of e.answer) (answers_text (take m all)) _))
+one_more failed e all lines before bytes line rest left m ReadFault printed parts unended opened (given, rest', fault, split, told, at, le, text) = (
+  line ++ 10 ∷ given,
+  rest',
+  fault,
+  parts ∙ ap (λ (r : List ℕ). line ++ 10 ∷ r) split ∙ sym (append_assoc line (10 ∷ given) rest'),
+  told,
+  ap suc at ∙ sym (ended_lines-line line given unended),
+  omega arith,
+  ap (λ (p : List ℕ). text_of e.answer ++ p) text ∙ sym (append_assoc (text_of e.answer) (answers_text (take m all)) _),
+)
+one_more failed e all lines before bytes line rest left m WriteFault printed parts unended opened (piece, front, le, next, cut, text) = (
   piece,
   front,
   omega arith,
   later_piece failed e all lines before m piece next,
   cut,
   ap (λ (p : List ℕ). text_of e.answer ++ p) text ∙ sym (append_assoc (text_of e.answer) (answers_text (take m all)) front),
-  keeps_up_behind bytes line rest asked m parts unended kept_up,
 )
 
 -- a run goes on behind an answered line
-pub goes_on : (failed : Type 0) (s : State) (before : ℕ) (bytes line rest : List ℕ) (left asked : Option (List ℕ)) (e : Exchange) (ending : Ending) (printed : List ℕ) →
-    bytes ≡ line ++ 10 ∷ rest → HasNoLineEnd line → exchange_at s line ≡ Some e → Replays failed e.after (before + 1) rest left asked ending printed → Replays failed s before bytes left asked ending (text_of e.answer ++ printed)
-goes_on failed s before bytes line rest left asked e ending printed parts unended is run =
+pub goes_on : (failed : Type 0) (s : State) (before : ℕ) (bytes line rest : List ℕ) (left : Option (List ℕ)) (e : Exchange) (m : ℕ) (ending : Ending) (printed : List ℕ) →
+    bytes ≡ line ++ 10 ∷ rest → HasNoLineEnd line → exchange_at s line ≡ Some e → IsOpened ending → Replays failed e.after (before + 1) rest left m ending printed → Replays failed s before bytes left (suc m) ending (text_of e.answer ++ printed)
+goes_on failed s before bytes line rest left e m ending printed parts unended is opened run =
     let lines : lines_of bytes ≡ line ∷ lines_of rest = ap lines_of parts ∙ lines_of-ended line rest unended in
     rw (lines, exchanges_from-answered s line (lines_of rest) e is)
-    (one_more failed e (exchanges_from e.after (lines_of rest)) (length (lines_of rest)) before bytes line rest left asked ending printed parts unended run)
+    (one_more failed e (exchanges_from e.after (lines_of rest)) (length (lines_of rest)) before bytes line rest left m ending printed parts unended opened run)
 
 -- two pieces were taken, one behind the other
 pub takes_both : (held mid held' : Option (List ℕ)) (xs ys : List ℕ) → Takes held mid xs → Takes mid held' ys → Takes held held' (xs ++ ys)
@@ -222,6 +253,8 @@ pub counts_of_sink : (ending : Ending) (source source' sink sink' : ℕ) → sou
 counts_of_sink Complete source source' sink sink' same h = (same, h)
 counts_of_sink BadLine source source' sink sink' same h = (same, h)
 counts_of_sink BadWords source source' sink sink' same h = h
+counts_of_sink DiskFault source source' sink sink' same h = (same, h)
+counts_of_sink NotAStore source source' sink sink' same h = absurd h
 counts_of_sink NoMemory source source' sink sink' same h = (same, h)
 counts_of_sink ReadFault source source' sink sink' same h = absurd h
 counts_of_sink WriteFault source source' sink sink' same h = h
@@ -235,27 +268,6 @@ pub takes_nothing : (held : Option (List ℕ)) → Takes held held []
 takes_nothing None = refl
 takes_nothing (Some bytes) = sym (append-nil bytes)
 
--- a line that was read with its end was answered, or the run ended there
-pub step_line : (f t : ℕ) (s : State) (before : ℕ) (had line buffer : List ℕ) (left asked : Option (List ℕ)) (after : Replayer) (ended : Option Ending) (held held' : Option (List ℕ)) →
-    ReadsLine WholeLine had line buffer left → StepsOn s before line after ended held held' → KeepsUp had asked 0 → GoesOn (Rose f t) s before had after buffer left asked ended held held'
-step_line f t s before had line buffer left asked after None held held' (rest, told, parts, unended) (e, is, stands, takes) kept_up =
-    (e, line, rest, told, parts, unended, is, stands, takes, keeps_up_after had line (buffer ++ rest) asked parts unended kept_up)
-step_line f t s before had line buffer left asked after (Some ending) held held' (rest, told, parts, unended) ends kept_up =
-    ends f t had (lines_of (buffer ++ rest)) left asked (ap lines_of parts ∙ lines_of-ended line (buffer ++ rest) unended) kept_up
-
--- the last line was answered, and so the run is complete, or it ended there
-pub step_last : (f t : ℕ) (s : State) (before : ℕ) (had line buffer : List ℕ) (left asked : Option (List ℕ)) (after : Replayer) (ended : Option Ending) (result : Ending) (held held' : Option (List ℕ)) →
-    ReadsLine LastLine had line buffer left → StepsOn s before line after ended held held' → result ≡ unwrap_or ended Complete → KeepsUp had asked 0 → EndsRun (Rose f t) s before had left asked result held held'
-step_last f t s before had line buffer left asked after None result held held' (told, same, unended, some) (e, is, stands, takes) r kept_up = (
-  text_of e.answer,
-  takes,
-  subst (λ (x : Ending). Replays (Rose f t) s before had left asked x (text_of e.answer)) (sym r)
-      (last_answered (Rose f t) s before had line left asked e (ap lines_of same ∙ lines_of-unended line unended some) is told),
-)
-step_last f t s before had line buffer left asked after (Some ending) result held held' (told, same, unended, some) ends r kept_up =
-    subst (λ (x : Ending). EndsRun (Rose f t) s before had left asked x held held') (sym r)
-    (ends f t had [] left asked (ap lines_of same ∙ lines_of-unended line unended some) kept_up)
-
 chosen_false : {A : Type 0} (b : Bool) (x y : A) → b ≡ false → cond b x y ≡ y
 chosen_false true x y e = absurd (cc)
 chosen_false false x y e = refl
@@ -263,7 +275,3 @@ chosen_false false x y e = refl
 -- a line that is too long is a bad one
 pub too_long_is_bad : (s : State) (text : List ℕ) → MAX_LINE_BYTES < length text → exchange_at s text ≡ None
 too_long_is_bad s text long = ap (option_and_then (exchanged s)) (chosen_false (nat_le (length text) MAX_LINE_BYTES) _ None (grind (arith, nat_tests)))
-
--- there is no further line
-pub step_end : (failed : Type 0) (s : State) (before : ℕ) (had : List ℕ) (left asked held : Option (List ℕ)) → left ≡ Some [] → had ≡ [] → EndsRun failed s before had left asked Complete held held
-step_end failed s before had left asked held told none = ([], takes_nothing held, rw none (refl, told, refl))

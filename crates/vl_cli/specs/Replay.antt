@@ -103,15 +103,15 @@ IsFront front piece = (rest : List ℕ) × (piece ≡ front ++ rest)
 abbrev pub ended_lines : List ℕ → ℕ
 ended_lines bytes = count_by (λ b. b == 10) bytes
 
--- what may be printed next after m of these answers: the next one; the bad line, where there is one more line and no
--- next answer; that memory ran out, or that the disk or the source failed, where it did; or, before all, that the disk
--- holds no store
+-- What may be printed next after m of these answers: the next one; the bad line, where there is one more line and no
+-- next answer; that the source failed, where it did; that memory ran out, that the disk failed, or that it holds no
+-- store. A run whose next piece can be put ends by that piece's own status, so that it needs that status's cause.
 pub data NextPiece (failed : Type 0) (all : List Exchange) (lines before m : ℕ) : List ℕ → Type 0 where
   next_answer : (e : Exchange) → slice_get all m ≡ Some e → NextPiece failed all lines before m (text_of e.answer)
   next_bad_line : m ≡ length all → length all < lines → NextPiece failed all lines before m (bad_line (before + length all + 1))
   next_no_memory : NextPiece failed all lines before m no_memory_line
   next_disk_fault : NextPiece failed all lines before m disk_fault_line
-  next_not_a_store : m ≡ 0 → NextPiece failed all lines before m not_a_store_line
+  next_not_a_store : NextPiece failed all lines before m not_a_store_line
   next_read_fault : failed → NextPiece failed all lines before m read_fault_line
 
 -- How a run over these bytes ended, how many lines it answered whole, and what it printed. All are the exchanges up to
