@@ -1,5 +1,6 @@
 pub mod Explained
 pub mod Lines
+pub mod Logged
 pub mod MemtableEntries
 pub mod Noting
 pub mod Places

@@ -18,6 +18,8 @@ use Rattle.std.proofs.lemmas.List.Sums.{sum_by-cons}
 use Rattle.std.proofs.lemmas.Map.Text.{is_eq-slice_cmp}
 use Rattle.vl_model.specs.Keys.{Writes, key_cmp}
 use Rattle.vl_model.specs.declared.change.Change.{Change}
+use Rattle.vl_record.specs.Record.{IsRecord}
+use Rattle.vl_seglog.specs.Log.{AreRecords}
 use Rattle.vl_cli.specs.Sequential.{change_bytes, write_bytes, frame_length, fits_transaction}
 use Rattle.vl_model.specs.declared.limits.TheConstants.{MAX_TRANSACTION_BYTES, MAX_TRANSACTION_KEYS}
 use Rattle.vl_cli.specs.Writes.{writes_of, is_above, entry_bytes, AreWrites}
@@ -53,6 +55,20 @@ insert-writes_of list key change sorted =
     entries-insert nat_list_cmp_total (writes_of list) key change
     ∙ ap (put key_cmp key change) (entries-writes_of list sorted)
     ∙ sym (entries-writes_of (put key_cmp key change list) (put_sorted list key change sorted)))
+
+-- ---- records
+
+put-records_at : (key : List ℕ) (change : Change) (x : List ℕ × Change) (list later : List (List ℕ × Change)) (r : Ordering) → IsRecord key change → AreRecords (x ∷ list) → AreRecords later →
+    AreRecords (by_order r ((key, change) ∷ x ∷ list) ((x.0, change) ∷ list) (x ∷ later))
+put-records_at key change x list later Less lawful are more = (lawful, are)
+put-records_at key change x list later Equal lawful are more = (record { key_length = are.0.key_length; value_length = lawful.value_length }, are.1)
+put-records_at key change x list later Greater lawful are more = (are.0, more)
+
+-- a lawful write leaves records
+pub put-records : (list : List (List ℕ × Change)) (key : List ℕ) (change : Change) → IsRecord key change → AreRecords list → AreRecords (put key_cmp key change list)
+put-records [] key change lawful are = (lawful, tt)
+put-records (x ∷ list) key change lawful are =
+    put-records_at key change x list (put key_cmp key change list) (key_cmp key x.0) lawful are (put-records list key change lawful are.1)
 
 -- ---- a key's place
 
@@ -253,14 +269,14 @@ replaced-le list bytes writes key change are view found =
     omega (arith, counted, change_bytes-le list key change are.sorted (ap (λ w. get w key) view ∙ found))
 
 pub AreWrites-put : (list new_list : List (List ℕ × Change)) (bytes new_bytes : ℕ) (writes : Writes) (key : List ℕ) (change : Change) → AreWrites list bytes → writes_of list ≡ writes → new_list ≡ put key_cmp key change list →
-    new_bytes ≡ write_bytes (map.insert writes key change) → IsTrue (fits_transaction (map.insert writes key change)) → AreWrites new_list new_bytes
-AreWrites-put list new_list bytes new_bytes writes key change are view is counted fits =
+    IsRecord key change → new_bytes ≡ write_bytes (map.insert writes key change) → IsTrue (fits_transaction (map.insert writes key change)) → AreWrites new_list new_bytes
+AreWrites-put list new_list bytes new_bytes writes key change are view is lawful counted fits =
     let new_sorted : IsTrue (is_sorted key_cmp new_list) = ap (is_sorted key_cmp) is ∙ put_sorted list key change are.sorted in
     let entries_is : entries (map.insert writes key change) ≡ new_list =
     ap (λ w. entries (map.insert w key change)) (sym view) ∙ ap entries (insert-writes_of list key change are.sorted) ∙ entries-writes_of (put key_cmp key change list) (put_sorted list key change are.sorted) ∙ sym is in
     let within : write_bytes (map.insert writes key change) ≤ MAX_TRANSACTION_BYTES = leb-true _ _ (and_parts _ _ fits).1 in
     let keys : len (map.insert writes key change) ≤ MAX_TRANSACTION_KEYS = leb-true _ _ (and_parts _ _ fits).0 in
-    record { sorted = new_sorted; counted = counted ∙ ap entry_bytes entries_is; bounded = omega (arith, within, counted); few = subst (λ n. n ≤ MAX_TRANSACTION_KEYS) (len-entries (map.insert writes key change) ∙ ap length entries_is) keys }
+    record { sorted = new_sorted; records = subst AreRecords (sym is) (put-records list key change lawful are.records); counted = counted ∙ ap entry_bytes entries_is; bounded = omega (arith, within, counted); few = subst (λ n. n ≤ MAX_TRANSACTION_KEYS) (len-entries (map.insert writes key change) ∙ ap length entries_is) keys }
 
 pub writes_of-put : (list new_list : List (List ℕ × Change)) (bytes : ℕ) (writes : Writes) (key : List ℕ) (change : Change) → AreWrites list bytes → writes_of list ≡ writes → new_list ≡ put key_cmp key change list → writes_of new_list ≡ map.insert writes key change
 writes_of-put list new_list bytes writes key change are view is =

@@ -7,6 +7,7 @@ use Rattle.vl_model.specs.Keys.{Stored, Writes, key_cmp}
 use Rattle.vl_model.specs.declared.change.Change.{Change}
 use Rattle.vl_model.specs.declared.change.Change.TheVariants.{Set as Put, Delete}
 use Rattle.vl_model.specs.declared.limits.TheConstants.{MAX_TRANSACTION_BYTES, MAX_TRANSACTION_KEYS}
+use Rattle.vl_seglog.specs.Log.{AreRecords}
 use Rattle.vl_cli.specs.Sequential.{change_bytes}
 
 -- a change is stored as the value that it sets, if any
@@ -39,9 +40,10 @@ entry_bytes entries = sum_by (λ write. length write.0 + change_bytes write.1) e
 abbrev pub is_above : List ℕ → List ℕ × Change → Bool
 is_above key entry = is_gt (key_cmp key entry.0)
 
--- the keys rise, the bytes are counted, and one transaction may have so many of both
+-- the keys rise, each write can be spelled as a record, the bytes are counted, and one transaction may have so many of both
 pub record AreWrites (entries : List (List ℕ × Change)) (bytes : ℕ) : Type 0 where
   pub sorted : IsTrue (is_sorted key_cmp entries)
+  pub records : AreRecords entries
   pub counted : bytes ≡ entry_bytes entries
   pub bounded : bytes ≤ MAX_TRANSACTION_BYTES
   pub few : length entries ≤ MAX_TRANSACTION_KEYS

@@ -1,9 +1,10 @@
-ghost use Rattle.std.specs.Prelude.{◌≡◌, ◌≤◌, ◌==◌, IsTrue, OnOk, OnErr, length};
+ghost use Rattle.std.specs.Prelude.{◌≡◌, ◌≤◌, ◌<◌, ◌^◌, ◌==◌, true, IsTrue, OnOk, OnErr, length};
 ghost use Rattle.std.specs.List.{prefix_len};
 ghost use Rattle.std.specs.Option.{option_copied};
 ghost use Rattle.std.specs.FinMap as map;
 ghost use Rattle.vl_model.specs.declared.change.Change.TheVariants.{Set as Put};
-ghost use Rattle.vl_model.specs.Keys.{key_cmp};
+ghost use Rattle.vl_model.specs.Keys.{key_cmp, is_key_length, is_value_length};
+ghost use Rattle.vl_seglog.specs.Log.{AreRecords};
 ghost use Rattle.vl_cli.specs.Sequential.{write_bytes, frame_length, fits_transaction};
 ghost use Rattle.vl_cli.specs.Writes.{is_above};
 
@@ -79,8 +80,8 @@ impl Writes {
 
     /// Writes a key, in the place of an earlier write of it.
     pub fn set(&mut self, key: Key, value: Value) -> Result<(), AllocError>
-        requires key { length key ≤ MAX_KEY_BYTES }
-        requires value { length value ≤ MAX_VALUE_BYTES }
+        requires lawful_key { is_key_length (length key) ≡ true }
+        requires lawful_value { is_value_length (length value) ≡ true }
         requires fits { IsTrue (fits_transaction (map.insert self.old key (Put value))) }
         ensures ok { OnOk result (self.new ≡ map.insert self.old key (Put value)) }
         ensures err { OnErr result (self.new ≡ self.old) }
@@ -96,6 +97,16 @@ impl Writes {
         ensures { result ≡ frame_length self.now }
     {
         25 + 7 * self.entries.len() as u64 + self.bytes as u64
+    }
+
+    /// The keys in order, each with its change, as a commit of them may be spelled.
+    pub fn as_slice(&self) -> &[(Key, Change)]
+        ensures entries { result.now ≡ map.entries self.now }
+        ensures rising { IsTrue (map.is_sorted key_cmp result.now) }
+        ensures lawful { AreRecords result.now }
+        ensures few { length result.now < 2 ^ 32 }
+    {
+        &self.entries
     }
 
     /// The keys in order, each with its change.

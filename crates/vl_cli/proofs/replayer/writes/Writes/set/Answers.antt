@@ -8,7 +8,7 @@ use Rattle.vl_cli.proofs.replayer.writes.Writes.set.Goals as goal
 pub invariant_of-self-2 : goal.invariant_of-self-2
 invariant_of-self-2 c =
     let counted = c.bytes_with-bytes.ensures ∙ ap (λ key. write_bytes (insert c.args.self.now key (Put c.args.value))) c.as_slice.ensures in
-    AreWrites-put _ _ _ _ _ c.args.key (Put c.args.value) c.self.invariant c.self.view_is c.in_ok-put.ensures.ok counted c.requires.fits
+    AreWrites-put _ _ _ _ _ c.args.key (Put c.args.value) c.self.invariant c.self.view_is c.in_ok-put.ensures.ok (record { key_length = c.requires.lawful_key; value_length = c.requires.lawful_value }) counted c.requires.fits
 
 pub returns-clause-ok : goal.returns-clause-ok
 returns-clause-ok c = writes_of-put _ _ _ _ c.args.key (Put c.args.value) c.self.invariant c.self.view_is c.in_ok-put.ensures.ok
