@@ -1,5 +1,5 @@
 //! The store behind a script: answers one line after the other.
-ghost use Rattle.std.specs.Prelude.{◌≡◌, [], Some, Err, IfOk, OnOk, OnErr, length};
+ghost use Rattle.std.specs.Prelude.{◌≡◌, ℕ, [], Some, Err, IfOk, OnOk, OnErr, length};
 ghost use Rattle.std.specs.Option.{ForSome};
 ghost use Rattle.vl_disk.specs.DiskState.{DiskState};
 ghost use Rattle.vl_disk.specs.Disk.{Stands, HasCause};
