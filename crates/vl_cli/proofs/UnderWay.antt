@@ -114,14 +114,15 @@ module _ {D : Type 0} (told : D → Option DiskState) (moment : D → ℕ) (sinc
     over ending u opened (printed, m, takes, run, kept_up, so) =
         let all = exchanges_from u.state (lines_of (buffer ++ u.had)) in
         let least = history_after u.state.history (take m all) in
-        let most = history_after u.state.history (take (suc m) all) in (
+        let most = history_after u.state.history (take (suc m) all) in
+        let next : suc m + u.before ≡ suc (m + u.before) = omega arith in (
           u.so_far ++ printed,
           m + u.before,
           takes_both first held held' u.so_far printed u.takes takes,
           u.later t left' m ending printed opened run,
           u.later_kept_up asked' m kept_up,
           subst (λ (h : History). EndsFrom told moment since begin disk' empty_store ending h (history_after empty_store.history (take (suc (m + u.before)) (exchanges_from empty_store (lines_of input))))) (u.later_history m)
-              (subst (λ (h : History). EndsFrom told moment since begin disk' empty_store ending least h) (u.later_history (suc m)) (λ n old told_is holds.
+              (subst (λ (h : History). EndsFrom told moment since begin disk' empty_store ending least h) (u.later_history (suc m) ∙ ap (λ (n : ℕ). history_after empty_store.history (take n (exchanges_from empty_store (lines_of input)))) next) (λ n old told_is holds.
               let c = u.carried n old told_is holds in
               ends_later told moment since only_now counts_now begin disk disk' n ending u.state.history least most (exchanges_extend (lines_of (buffer ++ u.had)) u.state (suc m)) c.through (so n c.there c.told_is c.holds))),
         )
