@@ -2,6 +2,7 @@
 use Rattle.std.proofs.Common.{◌≡◌, ◌⊎◌, ⊎_elim, inl, inr, ℕ, zero, suc, ◌≤◌, List, [], ◌∷◌, ◌++◌, length, take, append-nil, append_assoc, Option, None, Some, Bool, true, false, cond, Result, Err, OnOk, refl, sym, ◌∙◌, ap, subst, arith}
 use Rattle.std.specs.Prelude.{option_and_then}
 use Rattle.vl_model.specs.History.{History}
+use Rattle.vl_disk.specs.Faults.{Rose}
 use Rattle.vl_disk.specs.DiskState.{DiskState}
 use Rattle.vl_disk.specs.Crash.{SameFiles, Unchanged}
 use Rattle.vl_disk.specs.Disk.{While}
@@ -21,6 +22,7 @@ use Rattle.vl_cli.specs.Durable.{logged, HoldsHistory, HoldsState, UpTo, Within,
 use Rattle.vl_cli.specs.declared.replayer.halt.Halt.{Halt}
 use Rattle.vl_cli.specs.declared.ending.Ending.{Ending}
 use Rattle.vl_cli.proofs.Logged.{line_extends}
+use Rattle.vl_cli.proofs.Replays.{rose_earlier}
 
 -- ---- lists of commits
 
@@ -100,7 +102,7 @@ exchanges_extend (text ∷ texts) s (suc m) = first_extends s text texts m (exch
 
 -- ---- disks
 
-module _ {D : Type 0} (told : D → Option DiskState) (moment : D → ℕ) (since : D → ℕ → DiskState → Type 0)
+module _ {D : Type 0} (told : D → Option DiskState) (moment : D → ℕ) (since : D → ℕ → DiskState → Type 0) (faults : D → ℕ)
     (only_now : (disk : D) (state other : DiskState) → told disk ≡ Some state → since disk (moment disk) other → SameFiles other state)
     (counts_now : (disk : D) (state : DiskState) (t : ℕ) → told disk ≡ Some state → t ≤ moment disk → since disk t state) where
   held : (s : State) (begun : ℕ) (state : DiskState) → HoldsState begun s state → (now : DiskState) → SameFiles now state → Leaves (λ commits. commits ≡ logged s.history) now
@@ -125,34 +127,38 @@ module _ {D : Type 0} (told : D → Option DiskState) (moment : D → ℕ) (sinc
 
   -- the run ended, by these commits that were acknowledged
   pub ends_within : (old new : D) (begun : ℕ) (ending : Ending) (least most : History) → HoldsThroughout moment since old new (Leaves (Within least most)) → (now : DiskState) × (told new ≡ Some now)
-      → (IsWhole ending → (state : DiskState) × (told new ≡ Some state) × HoldsHistory begun least state) → DiskEnds told moment since old new begun ending least most
-  ends_within old new begun ending least most through tells whole = record {
+      → ((Rose (faults old) (faults new) → ⊥) → (state : DiskState) × (told new ≡ Some state) × (HoldsHistory begun least state ⊎ HoldsHistory begun most state))
+      → (IsWhole ending → (state : DiskState) × (told new ≡ Some state) × HoldsHistory begun least state) → DiskEnds told moment since faults old new begun ending least most
+  ends_within old new begun ending least most through tells settled whole = record {
     through = holds_weaker moment since (Leaves (Within least most)) (Leaves (UpTo most)) old new through (leaves_weaker (Within least most) (UpTo most) (within_up_to least most));
     now = (tells.0, tells.1, through.each tells.0 (counts_now new tells.0 (moment old) tells.1 through.later));
+    settled = λ sound. let now = settled sound in (now.0, now.1, inr now.2);
     whole = whole;
   }
 
   -- the disk was left alone
-  pub ends_untouched : (most : History) (s : State) → Extends s.history most → (disk : D) (begun : ℕ) (ending : Ending) (state : DiskState) → told disk ≡ Some state → HoldsState begun s state → DiskEnds told moment since disk disk begun ending s.history most
+  pub ends_untouched : (most : History) (s : State) → Extends s.history most → (disk : D) (begun : ℕ) (ending : Ending) (state : DiskState) → told disk ≡ Some state → HoldsState begun s state → DiskEnds told moment since faults disk disk begun ending s.history most
   ends_untouched most s extends disk begun ending state is holds =
-      ends_within disk disk begun ending s.history most (rests most s extends disk begun state is holds) (state, is) (λ whole. (state, is, holds.history))
+      ends_within disk disk begun ending s.history most (rests most s extends disk begun state is holds) (state, is) (λ sound. (state, is, inl holds.history)) (λ whole. (state, is, holds.history))
 
   -- every line was answered
   pub ends_complete : (old new : D) (begun : ℕ) (before after : State) → Extends before.history after.history → HoldsThroughout moment since old new (Leaves (Within before.history after.history))
-      → (now : DiskState) × (told new ≡ Some now) × HoldsState begun after now → (ending : Ending) → DiskEnds told moment since old new begun ending after.history after.history
+      → (now : DiskState) × (told new ≡ Some now) × HoldsState begun after now → (ending : Ending) → DiskEnds told moment since faults old new begun ending after.history after.history
   ends_complete old new begun before after extends through (now, is, holds) ending = record {
     through = holds_weaker moment since (Leaves (Within before.history after.history)) (Leaves (UpTo after.history)) old new through (leaves_weaker (Within before.history after.history) (UpTo after.history) (within_up_to before.history after.history));
     now = (now, is, leaves_weaker (λ commits. commits ≡ logged after.history) (Within after.history after.history) (all_within after.history after.history (extends_itself after.history)) now (held after begun now holds now (same_files now)));
+    settled = λ sound. (now, is, inr (inl holds.history));
     whole = λ whole. (now, is, holds.history);
   }
 
   -- a run that began earlier
-  pub ends_later : (first old new : D) (begun : ℕ) (ending : Ending) (before least most : History) → Extends before most → HoldsThroughout moment since first old (Leaves (UpTo before)) → DiskEnds told moment since old new begun ending least most
-      → DiskEnds told moment since first new begun ending least most
-  ends_later first old new begun ending before least most extends so_far ends = record {
+  pub ends_later : (first old new : D) (begun : ℕ) (ending : Ending) (before least most : History) → Extends before most → faults first ≤ faults old → HoldsThroughout moment since first old (Leaves (UpTo before)) → DiskEnds told moment since faults old new begun ending least most
+      → DiskEnds told moment since faults first new begun ending least most
+  ends_later first old new begun ending before least most extends earlier so_far ends = record {
     through = holds_then moment since (Leaves (UpTo most)) first old new
         (holds_weaker moment since (Leaves (UpTo before)) (Leaves (UpTo most)) first old so_far (leaves_weaker (UpTo before) (UpTo most) (up_to_further before most extends))) ends.through;
     now = ends.now;
+    settled = λ sound. ends.settled (λ rose. sound (rose_earlier (faults first) (faults old) (faults new) earlier rose));
     whole = ends.whole;
   }
 

@@ -7,5 +7,6 @@ pub mod Noting
 pub mod Places
 pub mod Replays
 pub mod States
+pub mod Stepping
 pub mod UnderWay
 pub mod WriteEntries

@@ -38,36 +38,36 @@ pub exchanges_from-answered : (s : State) (text : List ℕ) (texts : List (List 
 exchanges_from-answered s text texts x e = gone_on (exchange_at s text) (λ y. exchanges_from y.after texts) x e
 
 -- what a run that ends in its next piece prints: the piece, or a front of it where the sink failed
-pub finished : (failed : Type 0) (all : List Exchange) (lines before : ℕ) (bytes : List ℕ) (left : Option (List ℕ)) (ending result : Ending) (line : List ℕ) (held held' : Option (List ℕ)) →
-    EndsSo failed all lines before bytes left 0 ending line → NextPiece failed all lines before 0 line → Finishes held line ending result held' →
-    (printed : List ℕ) × Takes held held' printed × EndsSo failed all lines before bytes left 0 result printed
-finished failed all lines before bytes left ending result line held held' whole next (printed, takes, how) = (
+pub finished : (cause : Ending → Type 0) (all : List Exchange) (lines before : ℕ) (bytes : List ℕ) (left : Option (List ℕ)) (ending result : Ending) (line : List ℕ) (held held' : Option (List ℕ)) →
+    EndsSo cause all lines before bytes left 0 ending line → NextPiece cause all lines before 0 line → Finishes held line ending result held' →
+    (printed : List ℕ) × Takes held held' printed × EndsSo cause all lines before bytes left 0 result printed
+finished cause all lines before bytes left ending result line held held' whole next (printed, takes, how) = (
   printed,
   takes,
   elim how [
-    | inl same ↦ subst (λ (r : Ending). EndsSo failed all lines before bytes left 0 r printed) (sym same.0) (subst (λ (p : List ℕ). EndsSo failed all lines before bytes left 0 ending p) (sym same.1) whole)
-    | inr cut ↦ subst (λ (r : Ending). EndsSo failed all lines before bytes left 0 r printed) (sym cut.0) (line, printed, zero-le, next, cut.1, refl)
+    | inl same ↦ subst (λ (r : Ending). EndsSo cause all lines before bytes left 0 r printed) (sym same.0) (subst (λ (p : List ℕ). EndsSo cause all lines before bytes left 0 ending p) (sym same.1) whole)
+    | inr cut ↦ subst (λ (r : Ending). EndsSo cause all lines before bytes left 0 r printed) (sym cut.0) (line, printed, zero-le, next, cut.1, refl)
   ],
 )
 
 -- the run ends at a bad line
-pub bad_line_ends : (failed : Type 0) (s : State) (before : ℕ) (bytes text : List ℕ) (texts : List (List ℕ)) (left : Option (List ℕ)) → lines_of bytes ≡ text ∷ texts → exchange_at s text ≡ None →
-    Replays failed s before bytes left 0 BadLine (bad_line (before + 1)) × NextPiece failed (exchanges_from s (lines_of bytes)) (length (lines_of bytes)) before 0 (bad_line (before + 1))
-bad_line_ends failed s before bytes text texts left e bad =
+pub bad_line_ends : (cause : Ending → Type 0) (s : State) (before : ℕ) (bytes text : List ℕ) (texts : List (List ℕ)) (left : Option (List ℕ)) → lines_of bytes ≡ text ∷ texts → exchange_at s text ≡ None →
+    Replays cause s before bytes left 0 BadLine (bad_line (before + 1)) × NextPiece cause (exchanges_from s (lines_of bytes)) (length (lines_of bytes)) before 0 (bad_line (before + 1))
+bad_line_ends cause s before bytes text texts left e bad =
     let n : before + 0 + 1 ≡ before + 1 = omega arith in
-    rw (e, exchanges_from-bad s text texts bad) ((refl, omega arith, ap bad_line (sym n)), subst (λ (k : ℕ). NextPiece failed [] (length (text ∷ texts)) before 0 (bad_line k)) n (next_bad_line refl (omega arith)))
+    rw (e, exchanges_from-bad s text texts bad) ((refl, omega arith, ap bad_line (sym n)), subst (λ (k : ℕ). NextPiece cause [] (length (text ∷ texts)) before 0 (bad_line k)) n (next_bad_line refl (omega arith)))
 
-pub no_memory_ends : (failed : Type 0) (s : State) (before : ℕ) (bytes : List ℕ) (left : Option (List ℕ)) →
-    Replays failed s before bytes left 0 NoMemory no_memory_line × NextPiece failed (exchanges_from s (lines_of bytes)) (length (lines_of bytes)) before 0 no_memory_line
-no_memory_ends failed s before bytes left = ((zero-le, refl), next_no_memory)
+pub no_memory_ends : (cause : Ending → Type 0) (s : State) (before : ℕ) (bytes : List ℕ) (left : Option (List ℕ)) →
+    Replays cause s before bytes left 0 NoMemory no_memory_line × NextPiece cause (exchanges_from s (lines_of bytes)) (length (lines_of bytes)) before 0 no_memory_line
+no_memory_ends cause s before bytes left = ((zero-le, refl), next_no_memory)
 
-pub disk_fault_ends : (failed : Type 0) (s : State) (before : ℕ) (bytes : List ℕ) (left : Option (List ℕ)) →
-    Replays failed s before bytes left 0 DiskFault disk_fault_line × NextPiece failed (exchanges_from s (lines_of bytes)) (length (lines_of bytes)) before 0 disk_fault_line
-disk_fault_ends failed s before bytes left = ((zero-le, refl), next_disk_fault)
+pub disk_fault_ends : (cause : Ending → Type 0) (s : State) (before : ℕ) (bytes : List ℕ) (left : Option (List ℕ)) → cause DiskFault →
+    Replays cause s before bytes left 0 DiskFault disk_fault_line × NextPiece cause (exchanges_from s (lines_of bytes)) (length (lines_of bytes)) before 0 disk_fault_line
+disk_fault_ends cause s before bytes left fault = ((fault, zero-le, refl), next_disk_fault fault)
 
-pub not_a_store_ends : (failed : Type 0) (s : State) (before : ℕ) (bytes : List ℕ) (left : Option (List ℕ)) → left ≡ Some bytes →
-    Replays failed s before bytes left 0 NotAStore not_a_store_line × NextPiece failed (exchanges_from s (lines_of bytes)) (length (lines_of bytes)) before 0 not_a_store_line
-not_a_store_ends failed s before bytes left unread = ((refl, unread, refl), next_not_a_store)
+pub not_a_store_ends : (cause : Ending → Type 0) (s : State) (before : ℕ) (bytes : List ℕ) (left : Option (List ℕ)) → cause NotAStore → left ≡ Some bytes →
+    Replays cause s before bytes left 0 NotAStore not_a_store_line × NextPiece cause (exchanges_from s (lines_of bytes)) (length (lines_of bytes)) before 0 not_a_store_line
+not_a_store_ends cause s before bytes left occupied unread = ((occupied, refl, unread, refl), next_not_a_store occupied refl)
 
 tested_no : (b : ℕ) → b ≢ 10 → (b == 10) ≡ false
 tested_no b other = ne_eqb b 10 other
@@ -94,15 +94,15 @@ ended_lines-line [] rest h = ended_lines-cons 10 rest ∙ one-add (ended_lines r
 ended_lines-line (b ∷ line) rest h = ended_lines-cons b (line ++ 10 ∷ rest) ∙ counted (b == 10) (ended_lines (line ++ 10 ∷ rest)) (tested_no b h.0) ∙ ended_lines-line line rest h.1
 
 -- the run ends where the source fails before a line has ended
-pub read_fault_ends : (failed : Type 0) (s : State) (before : ℕ) (bytes given rest : List ℕ) (left : Option (List ℕ)) → failed → left ≡ Some rest → bytes ≡ given ++ rest → HasNoLineEnd given →
-    Replays failed s before bytes left 0 ReadFault read_fault_line × NextPiece failed (exchanges_from s (lines_of bytes)) (length (lines_of bytes)) before 0 read_fault_line
-read_fault_ends failed s before bytes given rest left fault told parts unended =
+pub read_fault_ends : (cause : Ending → Type 0) (s : State) (before : ℕ) (bytes given rest : List ℕ) (left : Option (List ℕ)) → cause ReadFault → left ≡ Some rest → bytes ≡ given ++ rest → HasNoLineEnd given →
+    Replays cause s before bytes left 0 ReadFault read_fault_line × NextPiece cause (exchanges_from s (lines_of bytes)) (length (lines_of bytes)) before 0 read_fault_line
+read_fault_ends cause s before bytes given rest left fault told parts unended =
     ((given, rest, fault, parts, told, sym (ended_lines-none given unended), zero-le, refl), next_read_fault fault)
 
--- the sink failed within an answer
-pub answer_cut : (failed : Type 0) (s : State) (before : ℕ) (bytes text : List ℕ) (texts : List (List ℕ)) (left : Option (List ℕ)) (e : Exchange) (held held' : Option (List ℕ)) →
-    lines_of bytes ≡ text ∷ texts → exchange_at s text ≡ Some e → TakesPrefix held held' (text_of e.answer) → EndsBefore failed s before bytes left WriteFault held held'
-answer_cut failed s before bytes text texts left e held held' lines is part =
+-- the sink cause within an answer
+pub answer_cut : (cause : Ending → Type 0) (s : State) (before : ℕ) (bytes text : List ℕ) (texts : List (List ℕ)) (left : Option (List ℕ)) (e : Exchange) (held held' : Option (List ℕ)) →
+    lines_of bytes ≡ text ∷ texts → exchange_at s text ≡ Some e → TakesPrefix held held' (text_of e.answer) → EndsBefore cause s before bytes left WriteFault held held'
+answer_cut cause s before bytes text texts left e held held' lines is part =
     let piece = text_of e.answer in (
       take part.0 piece,
       part.2,
@@ -111,21 +111,41 @@ answer_cut failed s before bytes text texts left e held held' lines is part =
     )
 
 -- the input's last line was answered
-pub last_answered : (failed : Type 0) (s : State) (before : ℕ) (bytes text : List ℕ) (left : Option (List ℕ)) (e : Exchange) →
-    lines_of bytes ≡ text ∷ [] → exchange_at s text ≡ Some e → left ≡ Some [] → Replays failed s before bytes left 1 Complete (text_of e.answer)
-last_answered failed s before bytes text left e lines is told =
+pub last_answered : (cause : Ending → Type 0) (s : State) (before : ℕ) (bytes text : List ℕ) (left : Option (List ℕ)) (e : Exchange) →
+    lines_of bytes ≡ text ∷ [] → exchange_at s text ≡ Some e → left ≡ Some [] → Replays cause s before bytes left 1 Complete (text_of e.answer)
+last_answered cause s before bytes text left e lines is told =
     rw (lines, exchanges_from-answered s text [] e is) (refl, refl, told, sym (append-nil (text_of e.answer)))
 
 -- one more answer in front
-later_piece : (failed : Type 0) (e : Exchange) (all : List Exchange) (lines before m : ℕ) (piece : List ℕ) → NextPiece failed all lines (before + 1) m piece → NextPiece failed (e ∷ all) (suc lines) before (suc m) piece
-later_piece failed e all lines before m piece (next_answer x is) = next_answer x is
-later_piece failed e all lines before m piece (next_bad_line at less) =
+later_piece : (cause : Ending → Type 0) (e : Exchange) (all : List Exchange) (lines before m : ℕ) (piece : List ℕ) → (cause NotAStore → ⊥) → NextPiece cause all lines (before + 1) m piece → NextPiece cause (e ∷ all) (suc lines) before (suc m) piece
+later_piece cause e all lines before m piece opened (next_answer x is) = next_answer x is
+later_piece cause e all lines before m piece opened (next_bad_line at less) =
     let n : before + suc (length all) + 1 ≡ (before + 1) + length all + 1 = omega arith in
-    subst (λ (k : ℕ). NextPiece failed (e ∷ all) (suc lines) before (suc m) (bad_line k)) n (next_bad_line (ap suc at) (omega arith))
-later_piece failed e all lines before m piece next_no_memory = next_no_memory
-later_piece failed e all lines before m piece next_disk_fault = next_disk_fault
-later_piece failed e all lines before m piece next_not_a_store = next_not_a_store
-later_piece failed e all lines before m piece (next_read_fault fault) = next_read_fault fault
+    subst (λ (k : ℕ). NextPiece cause (e ∷ all) (suc lines) before (suc m) (bad_line k)) n (next_bad_line (ap suc at) (omega arith))
+later_piece cause e all lines before m piece opened next_no_memory = next_no_memory
+later_piece cause e all lines before m piece opened (next_disk_fault fault) = next_disk_fault fault
+later_piece cause e all lines before m piece opened (next_not_a_store occupied none) = absurd (opened occupied)
+later_piece cause e all lines before m piece opened (next_read_fault fault) = next_read_fault fault
+
+-- what was caused so was caused
+piece_weaker : (cause cause' : Ending → Type 0) → ((ending : Ending) → cause ending → cause' ending) → (all : List Exchange) (lines before m : ℕ) (piece : List ℕ) → NextPiece cause all lines before m piece → NextPiece cause' all lines before m piece
+piece_weaker cause cause' weaker all lines before m piece (next_answer x is) = next_answer x is
+piece_weaker cause cause' weaker all lines before m piece (next_bad_line at less) = next_bad_line at less
+piece_weaker cause cause' weaker all lines before m piece next_no_memory = next_no_memory
+piece_weaker cause cause' weaker all lines before m piece (next_disk_fault fault) = next_disk_fault (weaker DiskFault fault)
+piece_weaker cause cause' weaker all lines before m piece (next_not_a_store occupied none) = next_not_a_store (weaker NotAStore occupied) none
+piece_weaker cause cause' weaker all lines before m piece (next_read_fault fault) = next_read_fault (weaker ReadFault fault)
+
+pub ends_weaker : (cause cause' : Ending → Type 0) → ((ending : Ending) → cause ending → cause' ending) → (all : List Exchange) (lines before : ℕ) (bytes : List ℕ) (left : Option (List ℕ)) (m : ℕ) (ending : Ending) (printed : List ℕ) →
+    EndsSo cause all lines before bytes left m ending printed → EndsSo cause' all lines before bytes left m ending printed
+ends_weaker cause cause' weaker all lines before bytes left m Complete printed h = h
+ends_weaker cause cause' weaker all lines before bytes left m BadLine printed h = h
+ends_weaker cause cause' weaker all lines before bytes left m BadWords printed h = h
+ends_weaker cause cause' weaker all lines before bytes left m DiskFault printed (fault, le, text) = (weaker DiskFault fault, le, text)
+ends_weaker cause cause' weaker all lines before bytes left m NotAStore printed (occupied, none, unread, text) = (weaker NotAStore occupied, none, unread, text)
+ends_weaker cause cause' weaker all lines before bytes left m NoMemory printed h = h
+ends_weaker cause cause' weaker all lines before bytes left m ReadFault printed (given, rest, fault, parts, told, at, le, text) = (given, rest, weaker ReadFault fault, parts, told, at, le, text)
+ends_weaker cause cause' weaker all lines before bytes left m WriteFault printed (piece, front, le, next, cut, text) = (piece, front, le, piece_weaker cause cause' weaker all lines before m piece next, cut, text)
 
 -- a line with its answer comes in front
 pub keeps_up_behind : (bytes line rest : List ℕ) (asked : Option (List ℕ)) (m : ℕ) → bytes ≡ line ++ 10 ∷ rest → HasNoLineEnd line → KeepsUp rest asked m → KeepsUp bytes asked (suc m)
@@ -157,41 +177,20 @@ ended_lines-more (b ∷ given) rest = omega (arith, ended_lines-cons b (given ++
 pub keeps_up_at_first : (rest : List ℕ) (asked : Option (List ℕ)) → (given : List ℕ) × (asked ≡ Some (given ++ rest)) → KeepsUp rest asked 0
 keeps_up_at_first rest asked (given, was) = (given ++ rest, was, omega (arith, ended_lines-more given rest))
 
--- an ending of a run whose store was opened
-abbrev pub IsOpened : Ending → Type 0
-IsOpened Complete = Unit {0}
-IsOpened BadLine = Unit {0}
-IsOpened BadWords = ⊥
-IsOpened DiskFault = Unit {0}
-IsOpened NotAStore = ⊥
-IsOpened NoMemory = Unit {0}
-IsOpened ReadFault = Unit {0}
-IsOpened WriteFault = Unit {0}
-
-pub is_opened : (ending : Ending) → ending ≢ NotAStore → ending ≢ BadWords → IsOpened ending
-is_opened Complete a b = tt
-is_opened BadLine a b = tt
-is_opened BadWords a b = absurd (b refl)
-is_opened DiskFault a b = tt
-is_opened NotAStore a b = absurd (a refl)
-is_opened NoMemory a b = tt
-is_opened ReadFault a b = tt
-is_opened WriteFault a b = tt
-
-one_more : (failed : Type 0) (e : Exchange) (all : List Exchange) (lines before : ℕ) (bytes line rest : List ℕ) (left : Option (List ℕ)) (m : ℕ) (ending : Ending) (printed : List ℕ) →
-    bytes ≡ line ++ 10 ∷ rest → HasNoLineEnd line → IsOpened ending → EndsSo failed all lines (before + 1) rest left m ending printed → EndsSo failed (e ∷ all) (suc lines) before bytes left (suc m) ending (text_of e.answer ++ printed)
-one_more failed e all lines before bytes line rest left m Complete printed parts unended opened (at, count, told, text) =
+one_more : (cause : Ending → Type 0) (e : Exchange) (all : List Exchange) (lines before : ℕ) (bytes line rest : List ℕ) (left : Option (List ℕ)) (m : ℕ) (ending : Ending) (printed : List ℕ) →
+    bytes ≡ line ++ 10 ∷ rest → HasNoLineEnd line → (cause NotAStore → ⊥) → EndsSo cause all lines (before + 1) rest left m ending printed → EndsSo cause (e ∷ all) (suc lines) before bytes left (suc m) ending (text_of e.answer ++ printed)
+one_more cause e all lines before bytes line rest left m Complete printed parts unended opened (at, count, told, text) =
     (ap suc at, ap suc count, told, ap (λ (p : List ℕ). text_of e.answer ++ p) text)
-one_more failed e all lines before bytes line rest left m BadLine printed parts unended opened (at, less, text) =
+one_more cause e all lines before bytes line rest left m BadLine printed parts unended opened (at, less, text) =
     let n : (before + 1) + length all + 1 ≡ before + suc (length all) + 1 = omega arith in
     (ap suc at, omega arith, ap (λ (p : List ℕ). text_of e.answer ++ p) (text ∙ ap (λ (k : ℕ). answers_text all ++ bad_line k) n) ∙ sym (append_assoc (text_of e.answer) (answers_text all) _))
-one_more failed e all lines before bytes line rest left m BadWords printed parts unended opened h = absurd opened
-one_more failed e all lines before bytes line rest left m DiskFault printed parts unended opened (le, text) =
+one_more cause e all lines before bytes line rest left m BadWords printed parts unended opened h = h
+one_more cause e all lines before bytes line rest left m DiskFault printed parts unended opened (fault, le, text) =
+    (fault, omega arith, ap (λ (p : List ℕ). text_of e.answer ++ p) text ∙ sym (append_assoc (text_of e.answer) (answers_text (take m all)) _))
+one_more cause e all lines before bytes line rest left m NotAStore printed parts unended opened (occupied, none, unread, text) = absurd (opened occupied)
+one_more cause e all lines before bytes line rest left m NoMemory printed parts unended opened (le, text) =
     (omega arith, ap (λ (p : List ℕ). text_of e.answer ++ p) text ∙ sym (append_assoc (text_of e.answer) (answers_text (take m all)) _))
-one_more failed e all lines before bytes line rest left m NotAStore printed parts unended opened h = absurd opened
-one_more failed e all lines before bytes line rest left m NoMemory printed parts unended opened (le, text) =
-    (omega arith, ap (λ (p : List ℕ). text_of e.answer ++ p) text ∙ sym (append_assoc (text_of e.answer) (answers_text (take m all)) _))
-one_more failed e all lines before bytes line rest left m ReadFault printed parts unended opened (given, rest', fault, split, told, at, le, text) = (
+one_more cause e all lines before bytes line rest left m ReadFault printed parts unended opened (given, rest', fault, split, told, at, le, text) = (
   line ++ 10 ∷ given,
   rest',
   fault,
@@ -201,22 +200,22 @@ one_more failed e all lines before bytes line rest left m ReadFault printed part
   omega arith,
   ap (λ (p : List ℕ). text_of e.answer ++ p) text ∙ sym (append_assoc (text_of e.answer) (answers_text (take m all)) _),
 )
-one_more failed e all lines before bytes line rest left m WriteFault printed parts unended opened (piece, front, le, next, cut, text) = (
+one_more cause e all lines before bytes line rest left m WriteFault printed parts unended opened (piece, front, le, next, cut, text) = (
   piece,
   front,
   omega arith,
-  later_piece failed e all lines before m piece next,
+  later_piece cause e all lines before m piece opened next,
   cut,
   ap (λ (p : List ℕ). text_of e.answer ++ p) text ∙ sym (append_assoc (text_of e.answer) (answers_text (take m all)) front),
 )
 
 -- a run goes on behind an answered line
-pub goes_on : (failed : Type 0) (s : State) (before : ℕ) (bytes line rest : List ℕ) (left : Option (List ℕ)) (e : Exchange) (m : ℕ) (ending : Ending) (printed : List ℕ) →
-    bytes ≡ line ++ 10 ∷ rest → HasNoLineEnd line → exchange_at s line ≡ Some e → IsOpened ending → Replays failed e.after (before + 1) rest left m ending printed → Replays failed s before bytes left (suc m) ending (text_of e.answer ++ printed)
-goes_on failed s before bytes line rest left e m ending printed parts unended is opened run =
+pub goes_on : (cause : Ending → Type 0) (s : State) (before : ℕ) (bytes line rest : List ℕ) (left : Option (List ℕ)) (e : Exchange) (m : ℕ) (ending : Ending) (printed : List ℕ) →
+    bytes ≡ line ++ 10 ∷ rest → HasNoLineEnd line → exchange_at s line ≡ Some e → (cause NotAStore → ⊥) → Replays cause e.after (before + 1) rest left m ending printed → Replays cause s before bytes left (suc m) ending (text_of e.answer ++ printed)
+goes_on cause s before bytes line rest left e m ending printed parts unended is opened run =
     let lines : lines_of bytes ≡ line ∷ lines_of rest = ap lines_of parts ∙ lines_of-ended line rest unended in
     rw (lines, exchanges_from-answered s line (lines_of rest) e is)
-    (one_more failed e (exchanges_from e.after (lines_of rest)) (length (lines_of rest)) before bytes line rest left m ending printed parts unended opened run)
+    (one_more cause e (exchanges_from e.after (lines_of rest)) (length (lines_of rest)) before bytes line rest left m ending printed parts unended opened run)
 
 -- two pieces were taken, one behind the other
 pub takes_both : (held mid held' : Option (List ℕ)) (xs ys : List ℕ) → Takes held mid xs → Takes mid held' ys → Takes held held' (xs ++ ys)
@@ -259,7 +258,7 @@ counts_of_sink NoMemory source source' sink sink' same h = (same, h)
 counts_of_sink ReadFault source source' sink sink' same h = absurd h
 counts_of_sink WriteFault source source' sink sink' same h = h
 
--- what a read that failed within a line's bytes prints, where the source's count rose since an earlier time
+-- what a read that cause within a line's bytes prints, where the source's count rose since an earlier time
 pub rose_earlier : (f a b : ℕ) → f ≤ a → Rose a b → Rose f b
 rose_earlier f a b le rose = omega arith
 

@@ -1,8 +1,9 @@
 -- What the disk holds while a script is answered, and what a crash leaves of it.
-use Rattle.std.specs.Prelude.{◌≡◌, ◌+◌, ◌-◌, ◌*◌, ◌^◌, min, ℕ, List, [], ◌∷◌, ◌++◌, length, take, Option, None, Some, Err, Result, OnOk}
+use Rattle.std.specs.Prelude.{◌≡◌, ◌⊎◌, ◌+◌, ◌-◌, ◌*◌, ◌^◌, min, ℕ, List, [], ◌∷◌, ◌++◌, length, take, Option, None, Some, Err, Result, OnOk}
 use Rattle.std.specs.FinMap.{entries}
 use Rattle.vl_model.specs.Keys.{Writes}
 use Rattle.vl_model.specs.History.{History, no_history}
+use Rattle.vl_disk.specs.Faults.{Rose}
 use Rattle.vl_disk.specs.DiskState.{DiskState}
 use Rattle.vl_disk.specs.Moments.{HoldsThroughout}
 use Rattle.vl_seglog.specs.Log.{Commit, log_bytes}
@@ -58,10 +59,12 @@ abbrev pub history_behind : History → Option Exchange → History
 history_behind h None = h
 history_behind h (Some e) = e.after.history
 
--- A text was taken for a line over a disk that holds the state before it. Where it is a bad line nothing was changed.
-pub record TakesText {D : Type 0} (told : D → Option DiskState) (moment : D → ℕ) (since : D → ℕ → DiskState → Type 0) (old new : D) (begun : ℕ) (s : State) (text : List ℕ) (done : Type 0) : Type 0 where
+-- A text was taken for a line over a disk that holds the state before it. Where it is a bad line nothing was changed, and
+-- where the disk didn't fail nothing is left half done.
+pub record TakesText {D : Type 0} (told : D → Option DiskState) (moment : D → ℕ) (since : D → ℕ → DiskState → Type 0) (faults : D → ℕ) (old new : D) (begun : ℕ) (s : State) (text : List ℕ) (done : Type 0) : Type 0 where
   pub answered : done → (e : Exchange) → exchange_at s text ≡ Some e → (now : DiskState) × (told new ≡ Some now) × HoldsState begun e.after now
   pub bad : done → exchange_at s text ≡ None → (now : DiskState) × (told new ≡ Some now) × HoldsHistory begun s.history now
+  pub settled : (Rose (faults old) (faults new) → ⊥) → (now : DiskState) × (told new ≡ Some now) × (HoldsHistory begun s.history now ⊎ HoldsHistory begun (history_behind s.history (exchange_at s text)) now)
   pub tells : (now : DiskState) × (told new ≡ Some now)
   pub through : HoldsThroughout moment since old new (Leaves (Within s.history (history_behind s.history (exchange_at s text))))
 
@@ -76,26 +79,30 @@ IsWhole NoMemory = ⊥
 IsWhole ReadFault = ⊥
 IsWhole WriteFault = ⊥
 
--- What a run that ended so did to a disk, on which nothing stood and which had been asked for some changing calls: by
--- the commits that were acknowledged, and by those that may stand with one that wasn't.
-pub record DiskEnds {D : Type 0} (told : D → Option DiskState) (moment : D → ℕ) (since : D → ℕ → DiskState → Type 0) (old new : D) (begun : ℕ) (ending : Ending) (acknowledged most : History) : Type 0 where
-  -- a crash at any moment since the begin leaves a first part of the commits
+-- What a run that ended so did to a disk, which had been asked for some changing calls: by the commits that were
+-- acknowledged, and by those that may stand with one that wasn't.
+pub record DiskEnds {D : Type 0} (told : D → Option DiskState) (moment : D → ℕ) (since : D → ℕ → DiskState → Type 0) (faults : D → ℕ) (old new : D) (begun : ℕ) (ending : Ending) (acknowledged most : History) : Type 0 where
+  -- what a crash at any moment since the begin leaves shows a first part of the commits, if no torn bytes spell a frame by
+  -- chance
   pub through : HoldsThroughout moment since old new (Leaves (UpTo most))
-  -- a crash now leaves each acknowledged one
+  -- and what a crash now leaves shows each acknowledged one
   pub now : (state : DiskState) × (told new ≡ Some state) × Leaves (Within acknowledged most) state
+  -- where the disk didn't fail nothing is torn: it is empty still, or holds the acknowledged commits, or these and the one
+  -- whose answer wasn't put
+  pub settled : (Rose (faults old) (faults new) → ⊥) → (state : DiskState) × (told new ≡ Some state) × (IsEmpty state ⊎ (HoldsHistory begun acknowledged state ⊎ HoldsHistory begun most state))
   -- where no fault and no want of memory ended the run, the disk holds just them
   pub whole : IsWhole ending → (state : DiskState) × (told new ≡ Some state) × HoldsHistory begun acknowledged state
 
 -- so it is of a run that begins in a state, over a disk that holds it
-abbrev pub EndsFrom : {D : Type 0} (told : D → Option DiskState) (moment : D → ℕ) (since : D → ℕ → DiskState → Type 0) (old new : D) → State → Ending → History → History → Type 0
-EndsFrom told moment since old new s ending acknowledged most =
-    (begun : ℕ) (state : DiskState) → told old ≡ Some state → HoldsState begun s state → DiskEnds told moment since old new begun ending acknowledged most
+abbrev pub EndsFrom : {D : Type 0} (told : D → Option DiskState) (moment : D → ℕ) (since : D → ℕ → DiskState → Type 0) (faults : D → ℕ) (old new : D) → State → Ending → History → History → Type 0
+EndsFrom told moment since faults old new s ending acknowledged most =
+    (begun : ℕ) (state : DiskState) → told old ≡ Some state → HoldsState begun s state → DiskEnds told moment since faults old new begun ending acknowledged most
 
 -- the commits that the first so many lines of an input left, from the empty history
 abbrev pub history_of : List ℕ → ℕ → History
 history_of input m = history_after no_history (take m (exchanges_from empty_store (lines_of input)))
 
--- and of one that begins over an empty disk
-abbrev pub EndsFromEmpty : {D : Type 0} (told : D → Option DiskState) (moment : D → ℕ) (since : D → ℕ → DiskState → Type 0) (old new : D) → Ending → History → History → Type 0
-EndsFromEmpty told moment since old new ending acknowledged most =
-    (state : DiskState) → told old ≡ Some state → IsEmpty state → DiskEnds told moment since old new state.calls ending acknowledged most
+-- and of one that begins over a disk on which nothing stands and from which nothing was removed
+abbrev pub EndsFromEmpty : {D : Type 0} (told : D → Option DiskState) (moment : D → ℕ) (since : D → ℕ → DiskState → Type 0) (faults : D → ℕ) (old new : D) → Ending → History → History → Type 0
+EndsFromEmpty told moment since faults old new ending acknowledged most =
+    (state : DiskState) → told old ≡ Some state → IsEmpty state → DiskEnds told moment since faults old new state.calls ending acknowledged most

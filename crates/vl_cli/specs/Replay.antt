@@ -104,48 +104,48 @@ abbrev pub ended_lines : List ℕ → ℕ
 ended_lines bytes = count_by (λ b. b == 10) bytes
 
 -- What may be printed next after m of these answers: the next one; the bad line, where there is one more line and no
--- next answer; that the source failed, where it did; that memory ran out, that the disk failed, or that it holds no
--- store. A run whose next piece can be put ends by that piece's own status, so that it needs that status's cause.
-pub data NextPiece (failed : Type 0) (all : List Exchange) (lines before m : ℕ) : List ℕ → Type 0 where
-  next_answer : (e : Exchange) → slice_get all m ≡ Some e → NextPiece failed all lines before m (text_of e.answer)
-  next_bad_line : m ≡ length all → length all < lines → NextPiece failed all lines before m (bad_line (before + length all + 1))
-  next_no_memory : NextPiece failed all lines before m no_memory_line
-  next_disk_fault : NextPiece failed all lines before m disk_fault_line
-  next_not_a_store : NextPiece failed all lines before m not_a_store_line
-  next_read_fault : failed → NextPiece failed all lines before m read_fault_line
+-- next answer; that memory ran out; that the disk or the source failed, where it did; or, before all, that the disk
+-- holds no store, where something stands on it.
+pub data NextPiece (cause : Ending → Type 0) (all : List Exchange) (lines before m : ℕ) : List ℕ → Type 0 where
+  next_answer : (e : Exchange) → slice_get all m ≡ Some e → NextPiece cause all lines before m (text_of e.answer)
+  next_bad_line : m ≡ length all → length all < lines → NextPiece cause all lines before m (bad_line (before + length all + 1))
+  next_no_memory : NextPiece cause all lines before m no_memory_line
+  next_disk_fault : cause DiskFault → NextPiece cause all lines before m disk_fault_line
+  next_not_a_store : cause NotAStore → m ≡ 0 → NextPiece cause all lines before m not_a_store_line
+  next_read_fault : cause ReadFault → NextPiece cause all lines before m read_fault_line
 
 -- How a run over these bytes ended, how many lines it answered whole, and what it printed. All are the exchanges up to
 -- the first bad line of these bytes, which are so many lines, and some lines came before them in the script. Left is what
--- the source has left in the end, and failed says that it failed.
+-- the source has left in the end, and cause says what caused an ending that needs a cause.
 --   complete: every line was answered, and the source was read to its end;
 --   a bad line: all lines before it were answered, and there is one more;
 --   a fault of the disk, or want of memory: some lines were answered, each answer whole;
 --   no store: nothing was read;
 --   a fault of the source: each line that had ended in the bytes that it gave was;
 --   a fault of the sink: some lines were, and of the next piece some first bytes came out.
-abbrev pub EndsSo : Type 0 → List Exchange → ℕ → ℕ → List ℕ → Option (List ℕ) → ℕ → Ending → List ℕ → Type 0
-EndsSo failed all lines before bytes left m Complete printed =
+abbrev pub EndsSo : (Ending → Type 0) → List Exchange → ℕ → ℕ → List ℕ → Option (List ℕ) → ℕ → Ending → List ℕ → Type 0
+EndsSo cause all lines before bytes left m Complete printed =
     (m ≡ length all) × (length all ≡ lines) × (left ≡ Some []) × (printed ≡ answers_text all)
-EndsSo failed all lines before bytes left m BadLine printed =
+EndsSo cause all lines before bytes left m BadLine printed =
     (m ≡ length all) × (length all < lines) × (printed ≡ answers_text all ++ bad_line (before + length all + 1))
-EndsSo failed all lines before bytes left m BadWords printed = ⊥
-EndsSo failed all lines before bytes left m DiskFault printed =
-    (m ≤ length all) × (printed ≡ answers_text (take m all) ++ disk_fault_line)
-EndsSo failed all lines before bytes left m NotAStore printed =
-    (m ≡ 0) × (left ≡ Some bytes) × (printed ≡ not_a_store_line)
-EndsSo failed all lines before bytes left m NoMemory printed =
+EndsSo cause all lines before bytes left m BadWords printed = ⊥
+EndsSo cause all lines before bytes left m DiskFault printed =
+    cause DiskFault × (m ≤ length all) × (printed ≡ answers_text (take m all) ++ disk_fault_line)
+EndsSo cause all lines before bytes left m NotAStore printed =
+    cause NotAStore × (m ≡ 0) × (left ≡ Some bytes) × (printed ≡ not_a_store_line)
+EndsSo cause all lines before bytes left m NoMemory printed =
     (m ≤ length all) × (printed ≡ answers_text (take m all) ++ no_memory_line)
-EndsSo failed all lines before bytes left m ReadFault printed =
-    (given : List ℕ) × (rest : List ℕ) × failed × (bytes ≡ given ++ rest) × (left ≡ Some rest)
+EndsSo cause all lines before bytes left m ReadFault printed =
+    (given : List ℕ) × (rest : List ℕ) × cause ReadFault × (bytes ≡ given ++ rest) × (left ≡ Some rest)
     × (m ≡ ended_lines given) × (m ≤ length all) × (printed ≡ answers_text (take m all) ++ read_fault_line)
-EndsSo failed all lines before bytes left m WriteFault printed =
-    (piece : List ℕ) × (front : List ℕ) × (m ≤ length all) × NextPiece failed all lines before m piece
+EndsSo cause all lines before bytes left m WriteFault printed =
+    (piece : List ℕ) × (front : List ℕ) × (m ≤ length all) × NextPiece cause all lines before m piece
     × IsFront front piece × (printed ≡ answers_text (take m all) ++ front)
 
 -- what a run prints that answers so many lines of these bytes from a state on, some lines after the script's begin
-abbrev pub Replays : Type 0 → State → ℕ → List ℕ → Option (List ℕ) → ℕ → Ending → List ℕ → Type 0
-Replays failed s before bytes left m ending printed =
-    EndsSo failed (exchanges_from s (lines_of bytes)) (length (lines_of bytes)) before bytes left m ending printed
+abbrev pub Replays : (Ending → Type 0) → State → ℕ → List ℕ → Option (List ℕ) → ℕ → Ending → List ℕ → Type 0
+Replays cause s before bytes left m ending printed =
+    EndsSo cause (exchanges_from s (lines_of bytes)) (length (lines_of bytes)) before bytes left m ending printed
 
 -- A line's answer is put whole before the next line is read: when the source was last asked for bytes, no more lines had
 -- ended in what it had given of these bytes than were answered. Those lines are the ones that ended in these bytes but not
@@ -170,9 +170,9 @@ is_plain (command ∷ folder ∷ []) = bytes_eq command (codes "replay") && is_p
 is_plain words = false
 
 -- what a run prints for these words and this input, of which so many lines were answered and the source has so much left
-abbrev pub Runs : Type 0 → List (List ℕ) → List ℕ → Option (List ℕ) → ℕ → Ending → List ℕ → Type 0
-Runs failed words input left m ending printed =
-    MatchBool (is_plain words) (Replays failed empty_store 0 input left m ending printed) (RefusesWords ending printed)
+abbrev pub Runs : (Ending → Type 0) → List (List ℕ) → List ℕ → Option (List ℕ) → ℕ → Ending → List ℕ → Type 0
+Runs cause words input left m ending printed =
+    MatchBool (is_plain words) (Replays cause empty_store 0 input left m ending printed) (RefusesWords ending printed)
 
 abbrev pub status_of : Ending → ℕ
 status_of Complete = 0

@@ -11,15 +11,14 @@ mod words;
 ghost use Rattle.std.specs.Prelude.{◌≡◌, ◌≢◌, ◌<◌, ◌⊎◌, ℕ, suc, List, map, string_bytes, Some, true, false};
 ghost use Rattle.std.specs.Option.{ForSome};
 ghost use Rattle.vl_disk.specs.DiskState.{DiskState};
-ghost use Rattle.vl_disk.specs.Disk.{Stands};
-ghost use Rattle.vl_disk.specs.declared.name.Name.{Name};
+ghost use Rattle.vl_journal.specs.Files.{StandsSome};
 ghost use Rattle.vl_disk.specs.Faults.{Rose};
 ghost use Rattle.vl_io.specs.Sink.{Takes};
 ghost use Rattle.vl_script.specs.Script.{lines_of};
 ghost use Rattle.vl_cli.specs.Sequential.{empty_store};
 ghost use Rattle.vl_cli.specs.Replay.{Runs, RefusesWords, status_of, is_plain, no_memory_line, exchanges_from, AreExplained, KeepsUp};
 ghost use Rattle.vl_cli.specs.Durable.{EndsFromEmpty, history_of};
-ghost use Rattle.vl_cli.specs.Steps.{Finishes, IsRefusal};
+ghost use Rattle.vl_cli.specs.Steps.{Causes, Finishes, IsRefusal};
 ghost use Rattle.vl_cli.specs.declared.ending.Ending.{Ending as HowEnded};
 ghost use Rattle.vl_cli.specs.declared.ending.Ending.TheVariants.{NoMemory};
 
@@ -50,13 +49,14 @@ pub fn run<S: Source, K: Sink, D: Disk>(
     disk: D,
 ) -> Ended<D>
     // What is printed, and how the run ends, are those of the sequential store over the lines of the input. Over a disk
-    // on which nothing stood, each accepted commit is one synced frame of the log before it is answered: whatever a crash
-    // leaves reads as a first part of the commits, which holds each one that was acknowledged.
+    // on which nothing stood or was removed, each accepted commit is one synced frame of the log before it is answered:
+    // what a crash leaves shows a first part of the commits, which holds each one that was acknowledged, if no torn bytes
+    // spell a frame by chance.
     ensures answers { (input : List ℕ) → S.left source.old ≡ Some input →
         (ending : HowEnded) × (printed : List ℕ) × (answered : ℕ) × (result.status ≡ status_of ending) × Takes (K.held sink.old) (K.held sink.new) printed
-        × Runs (Rose (S.faults source.old) (S.faults source.new)) (map string_bytes words.now) input (S.left source.new) answered ending printed
+        × Runs (Causes (S.faults source.old) (S.faults source.new) (D.faults disk) (D.faults result.disk) (ForSome (D.told disk) StandsSome)) (map string_bytes words.now) input (S.left source.new) answered ending printed
         × KeepsUp input (S.asked source.new) answered
-        × (is_plain (map string_bytes words.now) ≡ true → EndsFromEmpty D.told D.moment D.states_since disk result.disk ending (history_of input answered) (history_of input (suc answered))) }
+        × (is_plain (map string_bytes words.now) ≡ true → EndsFromEmpty D.told D.moment D.states_since D.faults disk result.disk ending (history_of input answered) (history_of input (suc answered))) }
 
     // What was read is explained by the history at the reader's number: a law of the exchanges that `answers` speaks of.
     ensures explained { (input : List ℕ) → S.left source.old ≡ Some input → AreExplained (exchanges_from empty_store (lines_of input)) }
@@ -67,14 +67,15 @@ pub fn run<S: Source, K: Sink, D: Disk>(
     ensures not_plain { is_plain (map string_bytes words.now) ≡ false → (source.new ≡ source.old) × (result.disk ≡ disk)
         × ((ending : HowEnded) × (printed : List ℕ) × (result.status ≡ status_of ending) × Takes (K.held sink.old) (K.held sink.new) printed × RefusesWords ending printed) }
 
-    // Status 3 comes only by a fault of the disk.
+    // Status 3 comes only by a fault of the disk, and all others but 7 only without.
     ensures disk_fault { result.status ≡ 3 → Rose (D.faults disk) (D.faults result.disk) }
+    ensures disk_steady { result.status ≢ 3 → result.status ≢ 7 → D.faults result.disk ≡ D.faults disk }
 
     // Status 4 comes exactly where anything stands on the disk, unless the disk failed, memory ran out, or the last line
-    // couldn't be put. Then nothing was changed or read.
-    ensures not_a_store { result.status ≡ 4 → ForSome (D.told disk) (λ state. (name : Name) × Stands name state) × (D.told result.disk ≡ D.told disk) }
-    ensures occupied { is_plain (map string_bytes words.now) ≡ true → (state : DiskState) (name : Name) → D.told disk ≡ Some state → Stands name state
-        → (source.new ≡ source.old) × ((ending : HowEnded) × (result.status ≡ status_of ending) × IsRefusal ending) }
+    // couldn't be put. Then nothing was changed; and where the disk tells that something stands, nothing was read.
+    ensures not_a_store { result.status ≡ 4 → ForSome (D.told disk) StandsSome × (D.told result.disk ≡ D.told disk) }
+    ensures occupied { is_plain (map string_bytes words.now) ≡ true → (state : DiskState) → D.told disk ≡ Some state → StandsSome state
+        → (source.new ≡ source.old) × (D.told result.disk ≡ D.told disk) × ((ending : HowEnded) × (result.status ≡ status_of ending) × IsRefusal ending) }
 
     // Statuses 6 and 7 come only by faults of the source and of the sink, and the others only without.
     ensures read_fault { result.status ≡ 6 → Rose (S.faults source.old) (S.faults source.new) × (K.faults sink.new ≡ K.faults sink.old) }

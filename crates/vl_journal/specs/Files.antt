@@ -5,6 +5,7 @@ use Rattle.std.specs.FinMap.{get, empty}
 use Rattle.byteorder.specs.Endian.{big_bytes}
 use Rattle.vl_disk.specs.declared.name.Name.{Name}
 use Rattle.vl_disk.specs.DiskState.{File, Files, DiskState, placed, settled}
+use Rattle.vl_disk.specs.Disk.{Stands}
 use Rattle.vl_frame.specs.Frame.{frame_bytes}
 use Rattle.vl_frame.specs.declared.kinds.FrameKind.TheVariants.{Edits}
 use Rattle.vl_seglog.specs.Log.{Commit, HasFrame, log_bytes}
@@ -35,6 +36,10 @@ pub record HasFiles (manifest log : Option File) (disk : DiskState) : Type 0 whe
 -- no file stands or was removed
 abbrev pub IsEmpty : DiskState → Type 0
 IsEmpty disk = HasFiles None None disk
+
+-- under some name a file stands
+abbrev pub StandsSome : DiskState → Type 0
+StandsSome disk = (name : Name) × Stands name disk
 
 -- under no name a file stands
 abbrev pub StandsNothing : DiskState → Type 0

@@ -3,7 +3,7 @@
 //!
 //! A store has one manifest and one log, each with the number 1. Opening makes them, each whole and synced before the
 //! next one is created. A commit is answered after its frame is synced: until then a crash may leave the log with it or
-//! without it, and never with a part that reads as a commit.
+//! without it. Torn bytes that spell a frame by chance are left out of account: the frame's check is for them.
 #![tactic(auto)]
 
 mod fails;

@@ -3,8 +3,7 @@ ghost use Rattle.std.specs.Option.{ForSome};
 ghost use Rattle.vl_disk.specs.DiskState.{DiskState};
 ghost use Rattle.vl_disk.specs.Disk.{Stands, HasCause};
 ghost use Rattle.vl_disk.specs.Moments.{HoldsThroughout};
-ghost use Rattle.vl_disk.specs.declared.name.Name.{Name};
-ghost use Rattle.vl_journal.specs.Files.{IsEmpty, Holds, StandsNothing};
+ghost use Rattle.vl_journal.specs.Files.{IsEmpty, Holds, StandsSome, StandsNothing};
 ghost use Rattle.vl_journal.specs.Images.{Leaves, IsNone};
 
 use crate::OpenFail;
@@ -23,11 +22,12 @@ pub fn open_store<D: Disk>(alloc: Global, disk: &mut D) -> Result<(), OpenFail>
 
     // Refused, exactly where anything stands. Then, and where memory ran out, nothing was changed.
     ensures free { OnOk result (ForSome (D.told disk.old) StandsNothing) }
-    ensures not_a_store { result ≡ Err OpenFail.NotAStore → ForSome (D.told disk.old) (λ state. (name : Name) × Stands name state) }
+    ensures not_a_store { result ≡ Err OpenFail.NotAStore → ForSome (D.told disk.old) StandsSome }
+    ensures occupied { (state : DiskState) → D.told disk.old ≡ Some state → StandsSome state → D.told disk.new ≡ D.told disk.old }
     ensures refused { result ≡ Err OpenFail.NotAStore → D.told disk.new ≡ D.told disk.old }
     ensures no_memory { result ≡ Err OpenFail.NoMemory → D.told disk.new ≡ D.told disk.old }
 
-    // A crash meanwhile leaves no commit.
+    // What a crash leaves meanwhile shows no commit, if no torn bytes spell a frame by chance.
     ensures through { (state : DiskState) → D.told disk.old ≡ Some state → IsEmpty state
         → HoldsThroughout D.moment D.states_since disk.old disk.new (Leaves IsNone) }
     ensures tells { (state : DiskState) → D.told disk.old ≡ Some state → (now : DiskState) × (D.told disk.new ≡ Some now) }

@@ -48,7 +48,8 @@ pub fn write_staged<D: Disk>(disk: &mut D, frame: &[u8]) -> Result<(), Failed>
     ensures stands { ForSome (D.told disk.new) (Stands LOG) }
     ensures tells { (state : DiskState) → D.told disk.old ≡ Some state → (now : DiskState) × (D.told disk.new ≡ Some now) }
 
-    // A crash meanwhile leaves the commits before, and this one behind them or not.
+    // What a crash leaves meanwhile shows the commits before, and this one behind them or not, if no torn bytes spell a
+    // frame by chance.
     ensures through { (state : DiskState) (commits : List log.Commit) (c : log.Commit) → D.told disk.old ≡ Some state → Holds commits state
         → log.HasFrame c → frame.now ≡ log.commit_frame 1 (length (log.log_bytes 1 commits)) c
         → HoldsThroughout D.moment D.states_since disk.old disk.new (Leaves (IsOneOf commits (commits ++ c ∷ []))) }

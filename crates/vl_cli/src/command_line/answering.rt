@@ -1,15 +1,14 @@
-ghost use Rattle.std.specs.Prelude.{◌≡◌, ℕ, Some, None, Err, IsOk, IfOk, MatchOption};
+ghost use Rattle.std.specs.Prelude.{◌≡◌, ◌≤◌, ℕ, Some, None, Err, IsOk, IfOk, MatchOption};
 ghost use Rattle.std.specs.Option.{ForSome, option_map};
 ghost use Rattle.vl_disk.specs.DiskState.{DiskState};
 ghost use Rattle.vl_disk.specs.Disk.{Stands, HasCause};
-ghost use Rattle.vl_disk.specs.Faults.{Rose};
 ghost use Rattle.vl_journal.specs.declared.names.TheConstants.{LOG};
 ghost use Rattle.vl_cli.specs.Durable.{HoldsState, TakesText};
 ghost use Rattle.vl_cli.specs.declared.replayer.halt.Halt.TheVariants.{Disk as DiskHalt};
 ghost use Rattle.vl_cli.specs.Sequential.{State};
 ghost use Rattle.vl_cli.specs.Represents.{Represents};
 ghost use Rattle.vl_cli.specs.Replay.{is_printed, line_number};
-ghost use Rattle.vl_cli.specs.Steps.{Answers, Refuses, StepsOn, SinkCounts, IsAnswered};
+ghost use Rattle.vl_cli.specs.Steps.{Answers, Refuses, StepsOn, SinkCounts, DiskCounts, IsAnswered};
 
 use crate::Ending;
 use crate::command_line::last_line::{DISK_FAULT, NO_MEMORY, finish};
@@ -47,7 +46,7 @@ fn answer_text<D: Disk>(
     requires { ForSome (D.told disk.old) (Stands LOG) }
     ensures answers { (s : State) → Represents replayer.old s → IfOk result (λ out. Answers s text.now replayer.new (option_map (λ text. text.items) out)) }
     ensures takes { (begun : ℕ) (s : State) (state : DiskState) → Represents replayer.old s → D.told disk.old ≡ Some state → HoldsState begun s state
-        → TakesText D.told D.moment D.states_since disk.old disk.new begun s text.now (IsOk result) }
+        → TakesText D.told D.moment D.states_since D.faults disk.old disk.new begun s text.now (IsOk result) }
     ensures stands { ForSome (D.told disk.new) (Stands LOG) }
     ensures cause { HasCause (D.faults disk.old) (D.faults disk.new) (result ≡ Err DiskHalt) }
 {
@@ -82,15 +81,15 @@ pub fn answer<K: Sink, D: Disk>(
     sink: &mut K,
 ) -> Option<Ending>
     requires { ForSome (D.told disk.old) (Stands LOG) }
-    ensures printed { (s : State) (before : ℕ) → Represents replayer.old s → answered ≡ line_number before
-        → StepsOn s before text.now replayer.new result (K.held sink.old) (K.held sink.new) }
+    ensures printed { (fd before : ℕ) (s : State) → fd ≤ D.faults disk.old → Represents replayer.old s → answered ≡ line_number before
+        → StepsOn fd (D.faults disk.new) s before text.now replayer.new result (K.held sink.old) (K.held sink.new) }
     ensures faults { MatchOption result (K.faults sink.new ≡ K.faults sink.old) (λ ending. SinkCounts ending (K.faults sink.old) (K.faults sink.new)) }
 
     // Where the line was answered, or refused as a bad one, the disk holds what it should.
     ensures takes { (begun : ℕ) (s : State) (state : DiskState) → Represents replayer.old s → D.told disk.old ≡ Some state → HoldsState begun s state
-        → TakesText D.told D.moment D.states_since disk.old disk.new begun s text.now (IsAnswered result) }
+        → TakesText D.told D.moment D.states_since D.faults disk.old disk.new begun s text.now (IsAnswered result) }
     ensures stands { ForSome (D.told disk.new) (Stands LOG) }
-    ensures cause { result ≡ Some Ending.DiskFault → Rose (D.faults disk.old) (D.faults disk.new) }
+    ensures disk_faults { DiskCounts result (D.faults disk.old) (D.faults disk.new) }
 {
     match answer_text(alloc, replayer, disk, text) {
         Ok(Some(answer)) => match sink.put(&answer) {

@@ -2,14 +2,13 @@ ghost use Rattle.std.specs.Prelude.{◌≡◌, ◌≢◌, ◌+◌, ◌<◌, ◌�
 ghost use Rattle.std.specs.Option.{ForSome};
 ghost use Rattle.vl_disk.specs.DiskState.{DiskState};
 ghost use Rattle.vl_disk.specs.Disk.{Stands};
-ghost use Rattle.vl_disk.specs.declared.name.Name.{Name};
 ghost use Rattle.vl_journal.specs.declared.names.TheConstants.{LOG};
+ghost use Rattle.vl_journal.specs.Files.{StandsSome};
 ghost use Rattle.vl_cli.specs.Durable.{HoldsState, TakesText, EndsFrom, EndsFromEmpty};
-ghost use Rattle.vl_disk.specs.Faults.{Rose};
 ghost use Rattle.vl_cli.specs.Sequential.{State, empty_store};
 ghost use Rattle.vl_cli.specs.Represents.{Represents};
 ghost use Rattle.vl_cli.specs.Replay.{KeepsUp, line_number};
-ghost use Rattle.vl_cli.specs.Steps.{EndsRun, GoesOn, StepsOn, Counts, SinkCounts, IsAnswered, IsRefusal};
+ghost use Rattle.vl_cli.specs.Steps.{Causes, EndsRun, GoesOn, StepsOn, Counts, SinkCounts, DiskCounts, IsAnswered, IsRefusal};
 
 use crate::Ending;
 use crate::command_line::answering::{answer, refuse};
@@ -40,16 +39,16 @@ impl Progress {
         disk: &mut D,
     ) -> Option<Ending>
         requires { ForSome (D.told disk.old) (Stands LOG) }
-        ensures printed { (f before : ℕ) (s : State) (had : List ℕ) → f ≤ S.faults source.old → Represents self.old.replayer s
+        ensures printed { (f fd before : ℕ) (s : State) (had : List ℕ) → f ≤ S.faults source.old → fd ≤ D.faults disk.old → Represents self.old.replayer s
             → self.old.answered ≡ line_number before → S.left source.old ≡ Some had
             → KeepsUp (self.old.buffer ++ had) (S.asked source.old) 0
-            → GoesOn D.told D.moment D.states_since disk.old disk.new (Rose f (S.faults source.new)) s before (self.old.buffer ++ had) self.new.replayer self.new.buffer (S.left source.new) (S.asked source.new) result (K.held sink.old) (K.held sink.new) }
+            → GoesOn D.told D.moment D.states_since D.faults disk.old disk.new (Causes f (S.faults source.new) fd (D.faults disk.new) ⊥) s before (self.old.buffer ++ had) self.new.replayer self.new.buffer (S.left source.new) (S.asked source.new) result (K.held sink.old) (K.held sink.new) }
         ensures counted { (before : ℕ) → self.old.answered ≡ line_number before → result ≡ None → self.new.answered ≡ line_number (before + 1) }
         ensures shorter { result ≡ None → length self.new.buffer + S.budget source.new < length self.old.buffer + S.budget source.old }
         ensures faults { MatchOption result ((S.faults source.new ≡ S.faults source.old) × (K.faults sink.new ≡ K.faults sink.old))
             (λ ending. Counts ending (S.faults source.old) (S.faults source.new) (K.faults sink.old) (K.faults sink.new)) }
         ensures stands { ForSome (D.told disk.new) (Stands LOG) }
-        ensures cause { result ≡ Some Ending.DiskFault → Rose (D.faults disk.old) (D.faults disk.new) }
+        ensures disk_faults { DiskCounts result (D.faults disk.old) (D.faults disk.new) }
         ensures possible { result ≢ Some Ending.NotAStore }
     {
         match read_line(&mut self.buffer, source, &mut self.line) {
@@ -65,15 +64,15 @@ impl Progress {
     /// Answers the line that was read.
     fn answer<K: Sink, D: Disk>(&mut self, sink: &mut K, disk: &mut D) -> Option<Ending>
         requires { ForSome (D.told disk.old) (Stands LOG) }
-        ensures printed { (s : State) (before : ℕ) → Represents self.old.replayer s → self.old.answered ≡ line_number before
-            → StepsOn s before self.old.line.items self.new.replayer result (K.held sink.old) (K.held sink.new) }
+        ensures printed { (fd before : ℕ) (s : State) → fd ≤ D.faults disk.old → Represents self.old.replayer s → self.old.answered ≡ line_number before
+            → StepsOn fd (D.faults disk.new) s before self.old.line.items self.new.replayer result (K.held sink.old) (K.held sink.new) }
         ensures counted { (before : ℕ) → self.old.answered ≡ line_number before → result ≡ None → self.new.answered ≡ line_number (before + 1) }
         ensures same { self.new.buffer ≡ self.old.buffer }
         ensures faults { MatchOption result (K.faults sink.new ≡ K.faults sink.old) (λ ending. SinkCounts ending (K.faults sink.old) (K.faults sink.new)) }
         ensures takes { (begun : ℕ) (s : State) (state : DiskState) → Represents self.old.replayer s → D.told disk.old ≡ Some state → HoldsState begun s state
-            → TakesText D.told D.moment D.states_since disk.old disk.new begun s self.old.line.items (IsAnswered result) }
+            → TakesText D.told D.moment D.states_since D.faults disk.old disk.new begun s self.old.line.items (IsAnswered result) }
         ensures stands { ForSome (D.told disk.new) (Stands LOG) }
-        ensures cause { result ≡ Some Ending.DiskFault → Rose (D.faults disk.old) (D.faults disk.new) }
+        ensures disk_faults { DiskCounts result (D.faults disk.old) (D.faults disk.new) }
     {
         let ended = answer(
             self.alloc,
@@ -96,15 +95,17 @@ pub fn replay<S: Source, K: Sink, D: Disk>(
     disk: &mut D,
 ) -> Ending
     ensures printed { (input : List ℕ) → S.left source.old ≡ Some input
-        → EndsRun (Rose (S.faults source.old) (S.faults source.new)) (EndsFromEmpty D.told D.moment D.states_since disk.old disk.new)
+        → EndsRun (Causes (S.faults source.old) (S.faults source.new) (D.faults disk.old) (D.faults disk.new) (ForSome (D.told disk.old) StandsSome))
+        (EndsFromEmpty D.told D.moment D.states_since D.faults disk.old disk.new)
         empty_store 0 input (S.left source.new) (S.asked source.new) result (K.held sink.old) (K.held sink.new) }
     ensures faults { Counts result (S.faults source.old) (S.faults source.new) (K.faults sink.old) (K.faults sink.new) }
-    ensures disk_fault { result ≡ Ending.DiskFault → Rose (D.faults disk.old) (D.faults disk.new) }
+    ensures disk_faults { DiskCounts (Some result) (D.faults disk.old) (D.faults disk.new) }
 
     // No store is found exactly where anything stands. Then nothing was changed.
-    ensures found { result ≡ Ending.NotAStore → ForSome (D.told disk.old) (λ state. (name : Name) × Stands name state) }
+    ensures found { result ≡ Ending.NotAStore → ForSome (D.told disk.old) StandsSome }
     ensures refused { result ≡ Ending.NotAStore → D.told disk.new ≡ D.told disk.old }
-    ensures occupied { (state : DiskState) (name : Name) → D.told disk.old ≡ Some state → Stands name state → IsRefusal result × (source.new ≡ source.old) }
+    ensures occupied { (state : DiskState) → D.told disk.old ≡ Some state → StandsSome state
+        → IsRefusal result × (source.new ≡ source.old) × (D.told disk.new ≡ D.told disk.old) }
 {
     match open_store(alloc, disk) {
         Ok(()) => answer_lines(alloc, source, sink, disk),
@@ -123,10 +124,11 @@ fn answer_lines<S: Source, K: Sink, D: Disk>(
 ) -> Ending
     requires { ForSome (D.told disk.old) (Stands LOG) }
     ensures printed { (input : List ℕ) → S.left source.old ≡ Some input
-        → EndsRun (Rose (S.faults source.old) (S.faults source.new)) (EndsFrom D.told D.moment D.states_since disk.old disk.new empty_store)
+        → EndsRun (Causes (S.faults source.old) (S.faults source.new) (D.faults disk.old) (D.faults disk.new) ⊥)
+        (EndsFrom D.told D.moment D.states_since D.faults disk.old disk.new empty_store)
         empty_store 0 input (S.left source.new) (S.asked source.new) result (K.held sink.old) (K.held sink.new) }
     ensures faults { Counts result (S.faults source.old) (S.faults source.new) (K.faults sink.old) (K.faults sink.new) }
-    ensures disk_fault { result ≡ Ending.DiskFault → Rose (D.faults disk.old) (D.faults disk.new) }
+    ensures disk_faults { DiskCounts (Some result) (D.faults disk.old) (D.faults disk.new) }
     ensures possible { result ≢ Ending.NotAStore }
 {
     let Ok(buffer) = Buffer::new(alloc) else {
