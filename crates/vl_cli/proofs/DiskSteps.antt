@@ -102,7 +102,7 @@ exchanges_extend (text ∷ texts) s (suc m) = first_extends s text texts m (exch
 
 -- ---- disks
 
-module _ {D : Type 0} (told : D → Option DiskState) (moment : D → ℕ) (since : D → ℕ → DiskState → Type 0) (faults : D → ℕ)
+module _ {D : Type 0} (told : D → Option DiskState) (moment : D → ℕ) (since : D → ℕ → DiskState → Type 0)
     (only_now : (disk : D) (state other : DiskState) → told disk ≡ Some state → since disk (moment disk) other → SameFiles other state)
     (counts_now : (disk : D) (state : DiskState) (t : ℕ) → told disk ≡ Some state → t ≤ moment disk → since disk t state) where
   held : (s : State) (begun : ℕ) (state : DiskState) → HoldsState begun s state → (now : DiskState) → SameFiles now state → Leaves (λ commits. commits ≡ logged s.history) now
@@ -125,6 +125,23 @@ module _ {D : Type 0} (told : D → Option DiskState) (moment : D → ℕ) (sinc
       goes_by told moment since (Leaves (Within s.history most)) old mid new state Unchanged is so_far time
       (λ now same. leaves_weaker (λ commits. commits ≡ logged s.history) (Within s.history most) (all_within s.history most extends) now (held s begun state holds now same))
 
+  pub goes_later : (first old new : D) (before after : History) → Extends before after → HoldsThroughout moment since first old (Leaves (UpTo before)) → HoldsThroughout moment since old new (Leaves (Within before after)) → HoldsThroughout moment since first new (Leaves (UpTo after))
+  goes_later first old new before after extends so_far through =
+      holds_then moment since (Leaves (UpTo after)) first old new
+      (holds_weaker moment since (Leaves (UpTo before)) (Leaves (UpTo after)) first old so_far (leaves_weaker (UpTo before) (UpTo after) (up_to_further before after extends)))
+      (holds_weaker moment since (Leaves (Within before after)) (Leaves (UpTo after)) old new through (leaves_weaker (Within before after) (UpTo after) (within_up_to before after)))
+
+  -- ---- a commit
+
+  pub one_of_within : (before after : History) (c : Commit) → logged after ≡ logged before ++ c ∷ [] → (commits : List Commit) → IsOneOf (logged before) (logged before ++ c ∷ []) commits → Within before after commits
+  one_of_within before after c is commits one = ⊎_elim
+      (λ (same : commits ≡ logged before). all_within before after (c ∷ [], is) commits same)
+      (λ (same : commits ≡ logged before ++ c ∷ []). new_within before after (c ∷ [], is) commits (same ∙ sym is))
+      one
+
+module _ {D : Type 0} (told : D → Option DiskState) (moment : D → ℕ) (since : D → ℕ → DiskState → Type 0) (faults : D → ℕ)
+    (only_now : (disk : D) (state other : DiskState) → told disk ≡ Some state → since disk (moment disk) other → SameFiles other state)
+    (counts_now : (disk : D) (state : DiskState) (t : ℕ) → told disk ≡ Some state → t ≤ moment disk → since disk t state) where
   -- the run ended, by these commits that were acknowledged
   pub ends_within : (old new : D) (begun : ℕ) (ending : Ending) (least most : History) → HoldsThroughout moment since old new (Leaves (Within least most)) → (now : DiskState) × (told new ≡ Some now)
       → ((Rose (faults old) (faults new) → ⊥) → (state : DiskState) × (told new ≡ Some state) × (HoldsHistory begun least state ⊎ HoldsHistory begun most state))
@@ -139,14 +156,14 @@ module _ {D : Type 0} (told : D → Option DiskState) (moment : D → ℕ) (sinc
   -- the disk was left alone
   pub ends_untouched : (most : History) (s : State) → Extends s.history most → (disk : D) (begun : ℕ) (ending : Ending) (state : DiskState) → told disk ≡ Some state → HoldsState begun s state → DiskEnds told moment since faults disk disk begun ending s.history most
   ends_untouched most s extends disk begun ending state is holds =
-      ends_within disk disk begun ending s.history most (rests most s extends disk begun state is holds) (state, is) (λ sound. (state, is, inl holds.history)) (λ whole. (state, is, holds.history))
+      ends_within disk disk begun ending s.history most (rests told moment since only_now counts_now most s extends disk begun state is holds) (state, is) (λ sound. (state, is, inl holds.history)) (λ whole. (state, is, holds.history))
 
   -- every line was answered
   pub ends_complete : (old new : D) (begun : ℕ) (before after : State) → Extends before.history after.history → HoldsThroughout moment since old new (Leaves (Within before.history after.history))
       → (now : DiskState) × (told new ≡ Some now) × HoldsState begun after now → (ending : Ending) → DiskEnds told moment since faults old new begun ending after.history after.history
   ends_complete old new begun before after extends through (now, is, holds) ending = record {
     through = holds_weaker moment since (Leaves (Within before.history after.history)) (Leaves (UpTo after.history)) old new through (leaves_weaker (Within before.history after.history) (UpTo after.history) (within_up_to before.history after.history));
-    now = (now, is, leaves_weaker (λ commits. commits ≡ logged after.history) (Within after.history after.history) (all_within after.history after.history (extends_itself after.history)) now (held after begun now holds now (same_files now)));
+    now = (now, is, leaves_weaker (λ commits. commits ≡ logged after.history) (Within after.history after.history) (all_within after.history after.history (extends_itself after.history)) now (held told moment since only_now counts_now after begun now holds now (same_files told moment since only_now counts_now now)));
     settled = λ sound. (now, is, inr (inl holds.history));
     whole = λ whole. (now, is, holds.history);
   }
@@ -161,17 +178,3 @@ module _ {D : Type 0} (told : D → Option DiskState) (moment : D → ℕ) (sinc
     settled = λ sound. ends.settled (λ rose. sound (rose_earlier (faults first) (faults old) (faults new) earlier rose));
     whole = ends.whole;
   }
-
-  pub goes_later : (first old new : D) (before after : History) → Extends before after → HoldsThroughout moment since first old (Leaves (UpTo before)) → HoldsThroughout moment since old new (Leaves (Within before after)) → HoldsThroughout moment since first new (Leaves (UpTo after))
-  goes_later first old new before after extends so_far through =
-      holds_then moment since (Leaves (UpTo after)) first old new
-      (holds_weaker moment since (Leaves (UpTo before)) (Leaves (UpTo after)) first old so_far (leaves_weaker (UpTo before) (UpTo after) (up_to_further before after extends)))
-      (holds_weaker moment since (Leaves (Within before after)) (Leaves (UpTo after)) old new through (leaves_weaker (Within before after) (UpTo after) (within_up_to before after)))
-
-  -- ---- a commit
-
-  pub one_of_within : (before after : History) (c : Commit) → logged after ≡ logged before ++ c ∷ [] → (commits : List Commit) → IsOneOf (logged before) (logged before ++ c ∷ []) commits → Within before after commits
-  one_of_within before after c is commits one = ⊎_elim
-      (λ (same : commits ≡ logged before). all_within before after (c ∷ [], is) commits same)
-      (λ (same : commits ≡ logged before ++ c ∷ []). new_within before after (c ∷ [], is) commits (same ∙ sym is))
-      one

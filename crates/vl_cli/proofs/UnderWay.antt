@@ -66,7 +66,7 @@ module _ {D : Type 0} (told : D → Option DiskState) (moment : D → ℕ) (sinc
           told_is = told_is;
           holds = holds;
           through = holds_weaker moment since (Leaves (Within empty_store.history empty_store.history)) (Leaves (UpTo empty_store.history)) begin begin
-              (rests told moment since faults only_now counts_now empty_store.history empty_store (extends_itself empty_store.history) begin n old told_is holds)
+              (rests told moment since only_now counts_now empty_store.history empty_store (extends_itself empty_store.history) begin n old told_is holds)
               (leaves_weaker (Within empty_store.history empty_store.history) (UpTo empty_store.history) (within_up_to empty_store.history empty_store.history));
         };
       }
@@ -104,7 +104,7 @@ module _ {D : Type 0} (told : D → Option DiskState) (moment : D → ℕ) (sinc
                 there = m.0;
                 told_is = m.1;
                 holds = m.2;
-                through = goes_later told moment since faults only_now counts_now begin disk disk' u.state.history e.after.history (exchange_extends u.state line e is) c.through m.3;
+                through = goes_later told moment since only_now counts_now begin disk disk' u.state.history e.after.history (exchange_extends u.state line e is) c.through m.3;
               };
         }
 
