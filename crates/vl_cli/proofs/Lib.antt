@@ -1,3 +1,4 @@
+pub mod Commits
 pub mod DiskSteps
 pub mod Explained
 pub mod Lines

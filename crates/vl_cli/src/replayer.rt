@@ -1,5 +1,5 @@
 //! The store behind a script: answers one line after the other.
-ghost use Rattle.std.specs.Prelude.{◌≡◌, ℕ, [], Some, Err, IfOk, OnOk, OnErr, length};
+ghost use Rattle.std.specs.Prelude.{◌≡◌, ℕ, [], Some, Err, IfOk, IfErr, OnOk, OnErr, length};
 ghost use Rattle.std.specs.Option.{ForSome};
 ghost use Rattle.vl_disk.specs.DiskState.{DiskState};
 ghost use Rattle.vl_disk.specs.Disk.{Stands, HasCause};
@@ -115,7 +115,8 @@ impl Replayer {
     }
 
     fn get(&self, name: Ident, key: Key) -> Result<Answer, Halt>
-        ensures { (s : State) → Represents self.now s → IfOk result (λ answer. Gives answer self.now (read s name key (get s.things name))) }
+        ensures answer { (s : State) → Represents self.now s → IfOk result (λ answer. Gives answer self.now (read s name key (get s.things name))) }
+        ensures halt { IfErr result (λ halt. halt ≡ Halt.NoMemory) }
     {
         let Some(thing) = self.find(name.as_slice()) else {
             return Ok(Answer::Unknown { name });
@@ -135,6 +136,7 @@ impl Replayer {
     fn set(&mut self, name: Ident, key: Key, value: Value) -> Result<Answer, Halt>
         ensures answer { (s : State) → Represents self.old s → IfOk result (λ answer. Gives answer self.new (written s name key value (get s.things name))) }
         ensures unchanged { (s : State) → Represents self.old s → OnErr result (Represents self.new s) }
+        ensures halt { IfErr result (λ halt. halt ≡ Halt.NoMemory) }
     {
         match &mut self.in_use {
             Some(held) if held.is_named(name.as_slice()) => match &mut held.thing {
@@ -208,7 +210,8 @@ impl Replayer {
 
     // The value that a change leaves, as an answer.
     fn found(&self, change: Option<&Change>) -> Result<Answer, Halt>
-        ensures { IfOk result (λ answer. answer ≡ found (value_left None (option_copied change.entry))) }
+        ensures answer { IfOk result (λ answer. answer ≡ found (value_left None (option_copied change.entry))) }
+        ensures halt { IfErr result (λ halt. halt ≡ Halt.NoMemory) }
     {
         match change {
             Some(Change::Set(value)) => Ok(Answer::Found {
@@ -236,6 +239,7 @@ fn write(writes: &mut Writes, key: Key, value: Value) -> Result<Answer, Halt>
     ensures answer { IfOk result (λ answer. answer ≡ write_answer writes.old key value) }
     ensures ok { OnOk result (writes.new ≡ writes_after writes.old key value) }
     ensures err { OnErr result (writes.new ≡ writes.old) }
+    ensures halt { IfErr result (λ halt. halt ≡ Halt.NoMemory) }
 {
     if !(is_lawful_key(&key) && is_lawful_value(&value)) {
         return Ok(Answer::Invalid);
