@@ -9,5 +9,6 @@ pub mod Places
 pub mod Replays
 pub mod States
 pub mod Stepping
+pub mod Texts
 pub mod UnderWay
 pub mod WriteEntries

@@ -64,6 +64,17 @@ StepsOn fd td s before text after (Some ending) held held' =
     (f t : ℕ) (bytes : List ℕ) (texts : List (List ℕ)) (left : Option (List ℕ)) → lines_of bytes ≡ text ∷ texts
     → EndsBefore (Causes f t fd td ⊥) s before bytes left ending held held'
 
+-- how a run ends at a bad line
+abbrev pub EndsAtBadLine : Ending → Type 0
+EndsAtBadLine Complete = ⊥
+EndsAtBadLine BadLine = Unit {0}
+EndsAtBadLine BadWords = ⊥
+EndsAtBadLine DiskFault = ⊥
+EndsAtBadLine NotAStore = ⊥
+EndsAtBadLine NoMemory = Unit {0}
+EndsAtBadLine ReadFault = ⊥
+EndsAtBadLine WriteFault = Unit {0}
+
 -- how a run ends on a disk on which something stands
 abbrev pub IsRefusal : Ending → Type 0
 IsRefusal Complete = ⊥

@@ -8,7 +8,7 @@ ghost use Rattle.vl_cli.specs.declared.replayer.halt.Halt.TheVariants.{Disk as D
 ghost use Rattle.vl_cli.specs.Sequential.{State};
 ghost use Rattle.vl_cli.specs.Represents.{Represents};
 ghost use Rattle.vl_cli.specs.Replay.{is_printed, line_number};
-ghost use Rattle.vl_cli.specs.Steps.{Answers, Refuses, StepsOn, SinkCounts, DiskCounts, IsAnswered};
+ghost use Rattle.vl_cli.specs.Steps.{Answers, Refuses, StepsOn, SinkCounts, DiskCounts, IsAnswered, EndsAtBadLine};
 
 use crate::Ending;
 use crate::command_line::last_line::{DISK_FAULT, NO_MEMORY, finish};
@@ -64,6 +64,7 @@ fn answer_text<D: Disk>(
 pub fn refuse<K: Sink>(alloc: Global, answered: u64, sink: &mut K) -> Ending
     ensures printed { (before : ℕ) → answered ≡ line_number before → Refuses before result (K.held sink.old) (K.held sink.new) }
     ensures faults { SinkCounts result (K.faults sink.old) (K.faults sink.new) }
+    ensures ending { EndsAtBadLine result }
 {
     match print_bad_line(alloc, answered.saturating_add(1)) {
         Ok(line) => finish(sink, &line, Ending::BadLine),
