@@ -20,7 +20,7 @@ use Rattle.vl_script.specs.declared.answer.Answer.TheVariants.{Number, Nothing, 
 use Rattle.vl_script.specs.declared.line.Line.TheVariants.{Commit as CommitLine}
 use Rattle.vl_cli.specs.Sequential.{State, Outcome, without_thing, committed, frame_length, after_commit}
 use Rattle.vl_cli.specs.Represents.{Represents}
-use Rattle.vl_cli.specs.Durable.{logged, HoldsHistory, HoldsState, Within, Carries}
+use Rattle.vl_cli.specs.Durable.{logged, HoldsHistory, HoldsState, AreBetween, CarriesOut}
 use Rattle.vl_cli.specs.declared.replayer.Replayer.{Replayer}
 use Rattle.vl_cli.specs.declared.replayer.halt.Halt.{Halt}
 use Rattle.vl_cli.specs.declared.replayer.halt.Halt.TheVariants.{NoMemory as NoRoom, Disk as DiskFailed}
@@ -124,15 +124,15 @@ holds_kept begun before after state history_is length_is holds = record {
 }
 
 pub carries_as : {D : Type 0} (told : D → Option DiskState) (moment : D → ℕ) (since : D → ℕ → DiskState → Type 0) (old new : D) (begun : ℕ) (s : State) (result : Result Answer Halt) (p o : Outcome) → p ≡ o
-    → Carries told moment since old new begun s o.1 result → Carries told moment since old new begun s p.1 result
-carries_as told moment since old new begun s result p o is carries = subst (λ (x : Outcome). Carries told moment since old new begun s x.1 result) (sym is) carries
+    → CarriesOut told moment since old new begun s o.1 result → CarriesOut told moment since old new begun s p.1 result
+carries_as told moment since old new begun s result p o is carries = subst (λ (x : Outcome). CarriesOut told moment since old new begun s x.1 result) (sym is) carries
 
 module _ {D : Type 0} (told : D → Option DiskState) (moment : D → ℕ) (since : D → ℕ → DiskState → Type 0)
     (only_now : (disk : D) (state other : DiskState) → told disk ≡ Some state → since disk (moment disk) other → SameFiles other state)
     (counts_now : (disk : D) (state : DiskState) (t : ℕ) → told disk ≡ Some state → t ≤ moment disk → since disk t state) where
   -- the disk was left alone, and the history stays
   pub carries_kept : (begun : ℕ) (s after : State) (state : DiskState) (disk : D) (result : Result Answer Halt) → after.history ≡ s.history → after.log_length ≡ s.log_length → told disk ≡ Some state → HoldsState begun s state
-      → Carries told moment since disk disk begun s after result
+      → CarriesOut told moment since disk disk begun s after result
   carries_kept begun s after state disk result history_is length_is is holds = record {
     answered = on_ok_of result _ (state, is, holds_kept begun s after state history_is length_is holds);
     no_memory = λ _. refl;
@@ -143,7 +143,7 @@ module _ {D : Type 0} (told : D → Option DiskState) (moment : D → ℕ) (sinc
   -- memory ran out before anything was written
   pub carries_no_memory : (begun : ℕ) (s : State) (name : List ℕ) (state : DiskState) (old new : D) (result : Result Answer Halt) → IsErr result → told old ≡ Some state → HoldsState begun s state
       → told new ≡ told old → Elapses (moment old) (moment new) (since old) (since new) (While (told old) Unchanged)
-      → Carries told moment since old new begun s (committed s name (get s.things name)).1 result
+      → CarriesOut told moment since old new begun s (committed s name (get s.things name)).1 result
   carries_no_memory begun s name state old new result err is holds same time =
       let most = (committed s name (get s.things name)).1.history in
       let extends : Extends s.history most = line_extends s (CommitLine name) in
@@ -158,14 +158,14 @@ module _ {D : Type 0} (told : D → Option DiskState) (moment : D → ℕ) (sinc
   writing : (begun : ℕ) (s : State) (name : List ℕ) (writes : Writes) (state : DiskState) (old mid new : D) → told old ≡ Some state → HoldsState begun s state
       → Elapses (moment old) (moment mid) (since old) (since mid) (While (told old) Unchanged)
       → HoldsThroughout moment since mid new (Leaves (IsOneOf (logged s.history) (logged s.history ++ next_commit s writes ∷ [])))
-      → HoldsThroughout moment since old new (Leaves (Within s.history (after_commit s name writes).history))
+      → HoldsThroughout moment since old new (Leaves (AreBetween s.history (after_commit s name writes).history))
   writing begun s name writes state old mid new is holds time through =
       let after = after_commit s name writes in
       let more = logged-more s.history writes in
       let extends : Extends s.history after.history = (next_commit s writes ∷ [], more) in
       let waited = rests_on told moment since only_now counts_now after.history s extends old old mid begun state is holds (rests told moment since only_now counts_now after.history s extends old begun state is holds) time in
       let one = IsOneOf (logged s.history) (logged s.history ++ next_commit s writes ∷ []) in
-      let within = Within s.history after.history in
+      let within = AreBetween s.history after.history in
       holds_then moment since (Leaves within) old mid new waited
       (holds_weaker moment since (Leaves one) (Leaves within) mid new through (leaves_weaker one within (one_of_within told moment since only_now counts_now s.history after.history (next_commit s writes) more)))
 
@@ -174,7 +174,7 @@ module _ {D : Type 0} (told : D → Option DiskState) (moment : D → ℕ) (sinc
       → Elapses (moment old) (moment mid) (since old) (since mid) (While (told old) Unchanged)
       → (now : DiskState) × (told new ≡ Some now)
       → HoldsThroughout moment since mid new (Leaves (IsOneOf (logged s.history) (logged s.history ++ next_commit s writes ∷ [])))
-      → Carries told moment since old new begun s (after_commit s name writes) result
+      → CarriesOut told moment since old new begun s (after_commit s name writes) result
   carries_failed begun s name writes state old mid new result err failed is holds time tells through = record {
     answered = on_ok_at_err result _ err;
     no_memory = disk_failed result (told new ≡ told old) failed;
@@ -187,7 +187,7 @@ module _ {D : Type 0} (told : D → Option DiskState) (moment : D → ℕ) (sinc
       → Elapses (moment old) (moment mid) (since old) (since mid) (While (told old) Unchanged)
       → (now : DiskState) × (told new ≡ Some now) × Holds (logged s.history ++ next_commit s writes ∷ []) now × (now.calls ≡ min (state.calls + 2) (2 ^ 64 - 1))
       → HoldsThroughout moment since mid new (Leaves (IsOneOf (logged s.history) (logged s.history ++ next_commit s writes ∷ [])))
-      → Carries told moment since old new begun s (after_commit s name writes) (Ok answer)
+      → CarriesOut told moment since old new begun s (after_commit s name writes) (Ok answer)
   carries_commit begun s name writes state old mid new answer is holds time (now, now_is, commits, calls) through = record {
     answered = (now, now_is, holds_commit begun s name writes state now holds commits calls);
     no_memory = λ none. cc;

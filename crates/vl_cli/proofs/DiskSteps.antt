@@ -18,7 +18,7 @@ use Rattle.vl_script.specs.declared.line.Line.{Line}
 use Rattle.vl_script.specs.Script.{line_of}
 use Rattle.vl_cli.specs.Sequential.{State, state_after, answer_to}
 use Rattle.vl_cli.specs.Replay.{Exchange, exchange_at, exchanged, exchanges_from, and_later, history_after, is_printed}
-use Rattle.vl_cli.specs.Durable.{logged, HoldsHistory, HoldsState, UpTo, Within, Carries, TakesText, history_behind, IsWhole, DiskEnds}
+use Rattle.vl_cli.specs.Durable.{logged, HoldsHistory, HoldsState, AreFirstOf, AreBetween, CarriesOut, CarriesOutText, history_behind, AnswersAll, DiskEnds}
 use Rattle.vl_cli.specs.declared.replayer.halt.Halt.{Halt}
 use Rattle.vl_cli.specs.declared.ending.Ending.{Ending}
 use Rattle.vl_cli.proofs.Logged.{line_extends}
@@ -38,19 +38,19 @@ extends_same h k same = ([], ap logged same ∙ sym (append-nil (logged h)))
 extends_then : (a b c : History) → Extends a b → Extends b c → Extends a c
 extends_then a b c (more, is) (later, then) = (more ++ later, then ∙ ap (λ cs. cs ++ later) is ∙ append_assoc (logged a) more later)
 
-pub up_to_further : (a b : History) → Extends a b → (commits : List Commit) → UpTo a commits → UpTo b commits
+pub up_to_further : (a b : History) → Extends a b → (commits : List Commit) → AreFirstOf a commits → AreFirstOf b commits
 up_to_further a b (more, is) commits (rest, parts) = (rest ++ more, is ∙ ap (λ cs. cs ++ more) parts ∙ append_assoc commits rest more)
 
-pub within_up_to : (least most : History) (commits : List Commit) → Within least most commits → UpTo most commits
+pub within_up_to : (least most : History) (commits : List Commit) → AreBetween least most commits → AreFirstOf most commits
 within_up_to least most commits within = within.2
 
-pub all_within : (least most : History) → Extends least most → (commits : List Commit) → commits ≡ logged least → Within least most commits
+pub all_within : (least most : History) → Extends least most → (commits : List Commit) → commits ≡ logged least → AreBetween least most commits
 all_within least most (more, is) commits same = ([], same ∙ sym (append-nil (logged least)), (more, is ∙ ap (λ cs. cs ++ more) (sym same)))
 
-pub new_within : (least most : History) → Extends least most → (commits : List Commit) → commits ≡ logged most → Within least most commits
+pub new_within : (least most : History) → Extends least most → (commits : List Commit) → commits ≡ logged most → AreBetween least most commits
 new_within least most (more, is) commits same = (more, same ∙ is, ([], sym same ∙ sym (append-nil commits)))
 
-none_up_to : (most : History) (commits : List Commit) → IsNone commits → UpTo most commits
+none_up_to : (most : History) (commits : List Commit) → IsNone commits → AreFirstOf most commits
 none_up_to most commits none = (logged most, ap (λ cs. cs ++ logged most) (sym none))
 
 pub leaves_weaker : (P Q : List Commit → Type 0) → ((commits : List Commit) → P commits → Q commits) → (state : DiskState) → Leaves P state → Leaves Q state
@@ -113,27 +113,27 @@ module _ {D : Type 0} (told : D → Option DiskState) (moment : D → ℕ) (sinc
   same_files state = record { standing = refl; removed = refl }
 
   -- nothing was done yet
-  pub rests : (most : History) (s : State) → Extends s.history most → (disk : D) (begun : ℕ) (state : DiskState) → told disk ≡ Some state → HoldsState begun s state → HoldsThroughout moment since disk disk (Leaves (Within s.history most))
+  pub rests : (most : History) (s : State) → Extends s.history most → (disk : D) (begun : ℕ) (state : DiskState) → told disk ≡ Some state → HoldsState begun s state → HoldsThroughout moment since disk disk (Leaves (AreBetween s.history most))
   rests most s extends disk begun state is holds =
-      waits told moment since only_now (Leaves (Within s.history most)) disk state is
-      (λ now same. leaves_weaker (λ commits. commits ≡ logged s.history) (Within s.history most) (all_within s.history most extends) now (held s begun state holds now same))
+      waits told moment since only_now (Leaves (AreBetween s.history most)) disk state is
+      (λ now same. leaves_weaker (λ commits. commits ≡ logged s.history) (AreBetween s.history most) (all_within s.history most extends) now (held s begun state holds now same))
 
   -- a call that changes nothing
   pub rests_on : (most : History) (s : State) → Extends s.history most → (old mid new : D) (begun : ℕ) (state : DiskState) → told mid ≡ Some state → HoldsState begun s state
-      → HoldsThroughout moment since old mid (Leaves (Within s.history most)) → Elapses (moment mid) (moment new) (since mid) (since new) (While (told mid) Unchanged) → HoldsThroughout moment since old new (Leaves (Within s.history most))
+      → HoldsThroughout moment since old mid (Leaves (AreBetween s.history most)) → Elapses (moment mid) (moment new) (since mid) (since new) (While (told mid) Unchanged) → HoldsThroughout moment since old new (Leaves (AreBetween s.history most))
   rests_on most s extends old mid new begun state is holds so_far time =
-      goes_by told moment since (Leaves (Within s.history most)) old mid new state Unchanged is so_far time
-      (λ now same. leaves_weaker (λ commits. commits ≡ logged s.history) (Within s.history most) (all_within s.history most extends) now (held s begun state holds now same))
+      goes_by told moment since (Leaves (AreBetween s.history most)) old mid new state Unchanged is so_far time
+      (λ now same. leaves_weaker (λ commits. commits ≡ logged s.history) (AreBetween s.history most) (all_within s.history most extends) now (held s begun state holds now same))
 
-  pub goes_later : (first old new : D) (before after : History) → Extends before after → HoldsThroughout moment since first old (Leaves (UpTo before)) → HoldsThroughout moment since old new (Leaves (Within before after)) → HoldsThroughout moment since first new (Leaves (UpTo after))
+  pub goes_later : (first old new : D) (before after : History) → Extends before after → HoldsThroughout moment since first old (Leaves (AreFirstOf before)) → HoldsThroughout moment since old new (Leaves (AreBetween before after)) → HoldsThroughout moment since first new (Leaves (AreFirstOf after))
   goes_later first old new before after extends so_far through =
-      holds_then moment since (Leaves (UpTo after)) first old new
-      (holds_weaker moment since (Leaves (UpTo before)) (Leaves (UpTo after)) first old so_far (leaves_weaker (UpTo before) (UpTo after) (up_to_further before after extends)))
-      (holds_weaker moment since (Leaves (Within before after)) (Leaves (UpTo after)) old new through (leaves_weaker (Within before after) (UpTo after) (within_up_to before after)))
+      holds_then moment since (Leaves (AreFirstOf after)) first old new
+      (holds_weaker moment since (Leaves (AreFirstOf before)) (Leaves (AreFirstOf after)) first old so_far (leaves_weaker (AreFirstOf before) (AreFirstOf after) (up_to_further before after extends)))
+      (holds_weaker moment since (Leaves (AreBetween before after)) (Leaves (AreFirstOf after)) old new through (leaves_weaker (AreBetween before after) (AreFirstOf after) (within_up_to before after)))
 
   -- ---- a commit
 
-  pub one_of_within : (before after : History) (c : Commit) → logged after ≡ logged before ++ c ∷ [] → (commits : List Commit) → IsOneOf (logged before) (logged before ++ c ∷ []) commits → Within before after commits
+  pub one_of_within : (before after : History) (c : Commit) → logged after ≡ logged before ++ c ∷ [] → (commits : List Commit) → IsOneOf (logged before) (logged before ++ c ∷ []) commits → AreBetween before after commits
   one_of_within before after c is commits one = ⊎_elim
       (λ (same : commits ≡ logged before). all_within before after (c ∷ [], is) commits same)
       (λ (same : commits ≡ logged before ++ c ∷ []). new_within before after (c ∷ [], is) commits (same ∙ sym is))
@@ -143,11 +143,11 @@ module _ {D : Type 0} (told : D → Option DiskState) (moment : D → ℕ) (sinc
     (only_now : (disk : D) (state other : DiskState) → told disk ≡ Some state → since disk (moment disk) other → SameFiles other state)
     (counts_now : (disk : D) (state : DiskState) (t : ℕ) → told disk ≡ Some state → t ≤ moment disk → since disk t state) where
   -- the run ended, by these commits that were acknowledged
-  pub ends_within : (old new : D) (begun : ℕ) (ending : Ending) (least most : History) → HoldsThroughout moment since old new (Leaves (Within least most)) → (now : DiskState) × (told new ≡ Some now)
+  pub ends_within : (old new : D) (begun : ℕ) (ending : Ending) (least most : History) → HoldsThroughout moment since old new (Leaves (AreBetween least most)) → (now : DiskState) × (told new ≡ Some now)
       → ((Rose (faults old) (faults new) → ⊥) → (state : DiskState) × (told new ≡ Some state) × (HoldsHistory begun least state ⊎ HoldsHistory begun most state))
-      → (IsWhole ending → (state : DiskState) × (told new ≡ Some state) × HoldsHistory begun least state) → DiskEnds told moment since faults old new begun ending least most
+      → (AnswersAll ending → (state : DiskState) × (told new ≡ Some state) × HoldsHistory begun least state) → DiskEnds told moment since faults old new begun ending least most
   ends_within old new begun ending least most through tells settled whole = record {
-    through = holds_weaker moment since (Leaves (Within least most)) (Leaves (UpTo most)) old new through (leaves_weaker (Within least most) (UpTo most) (within_up_to least most));
+    through = holds_weaker moment since (Leaves (AreBetween least most)) (Leaves (AreFirstOf most)) old new through (leaves_weaker (AreBetween least most) (AreFirstOf most) (within_up_to least most));
     now = (tells.0, tells.1, through.each tells.0 (counts_now new tells.0 (moment old) tells.1 through.later));
     settled = λ sound. let now = settled sound in (now.0, now.1, inr now.2);
     whole = whole;
@@ -159,21 +159,21 @@ module _ {D : Type 0} (told : D → Option DiskState) (moment : D → ℕ) (sinc
       ends_within disk disk begun ending s.history most (rests told moment since only_now counts_now most s extends disk begun state is holds) (state, is) (λ sound. (state, is, inl holds.history)) (λ whole. (state, is, holds.history))
 
   -- every line was answered
-  pub ends_complete : (old new : D) (begun : ℕ) (before after : State) → Extends before.history after.history → HoldsThroughout moment since old new (Leaves (Within before.history after.history))
+  pub ends_complete : (old new : D) (begun : ℕ) (before after : State) → Extends before.history after.history → HoldsThroughout moment since old new (Leaves (AreBetween before.history after.history))
       → (now : DiskState) × (told new ≡ Some now) × HoldsState begun after now → (ending : Ending) → DiskEnds told moment since faults old new begun ending after.history after.history
   ends_complete old new begun before after extends through (now, is, holds) ending = record {
-    through = holds_weaker moment since (Leaves (Within before.history after.history)) (Leaves (UpTo after.history)) old new through (leaves_weaker (Within before.history after.history) (UpTo after.history) (within_up_to before.history after.history));
-    now = (now, is, leaves_weaker (λ commits. commits ≡ logged after.history) (Within after.history after.history) (all_within after.history after.history (extends_itself after.history)) now (held told moment since only_now counts_now after begun now holds now (same_files told moment since only_now counts_now now)));
+    through = holds_weaker moment since (Leaves (AreBetween before.history after.history)) (Leaves (AreFirstOf after.history)) old new through (leaves_weaker (AreBetween before.history after.history) (AreFirstOf after.history) (within_up_to before.history after.history));
+    now = (now, is, leaves_weaker (λ commits. commits ≡ logged after.history) (AreBetween after.history after.history) (all_within after.history after.history (extends_itself after.history)) now (held told moment since only_now counts_now after begun now holds now (same_files told moment since only_now counts_now now)));
     settled = λ sound. (now, is, inr (inl holds.history));
     whole = λ whole. (now, is, holds.history);
   }
 
   -- a run that began earlier
-  pub ends_later : (first old new : D) (begun : ℕ) (ending : Ending) (before least most : History) → Extends before most → faults first ≤ faults old → HoldsThroughout moment since first old (Leaves (UpTo before)) → DiskEnds told moment since faults old new begun ending least most
+  pub ends_later : (first old new : D) (begun : ℕ) (ending : Ending) (before least most : History) → Extends before most → faults first ≤ faults old → HoldsThroughout moment since first old (Leaves (AreFirstOf before)) → DiskEnds told moment since faults old new begun ending least most
       → DiskEnds told moment since faults first new begun ending least most
   ends_later first old new begun ending before least most extends earlier so_far ends = record {
-    through = holds_then moment since (Leaves (UpTo most)) first old new
-        (holds_weaker moment since (Leaves (UpTo before)) (Leaves (UpTo most)) first old so_far (leaves_weaker (UpTo before) (UpTo most) (up_to_further before most extends))) ends.through;
+    through = holds_then moment since (Leaves (AreFirstOf most)) first old new
+        (holds_weaker moment since (Leaves (AreFirstOf before)) (Leaves (AreFirstOf most)) first old so_far (leaves_weaker (AreFirstOf before) (AreFirstOf most) (up_to_further before most extends))) ends.through;
     now = ends.now;
     settled = λ sound. ends.settled (λ rose. sound (rose_earlier (faults first) (faults old) (faults new) earlier rose));
     whole = ends.whole;

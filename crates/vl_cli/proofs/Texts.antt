@@ -13,7 +13,7 @@ use Rattle.vl_script.specs.declared.line.Line.{Line}
 use Rattle.vl_script.specs.Script.{line_of}
 use Rattle.vl_cli.specs.Sequential.{State, state_after, answer_to}
 use Rattle.vl_cli.specs.Replay.{Exchange, exchange_at, exchanged, is_printed}
-use Rattle.vl_cli.specs.Durable.{HoldsHistory, HoldsState, Within, Carries, TakesText, history_behind}
+use Rattle.vl_cli.specs.Durable.{HoldsHistory, HoldsState, AreBetween, CarriesOut, CarriesOutText, history_behind}
 use Rattle.vl_cli.specs.Steps.{IsAnswered, EndsAtBadLine, DiskCounts}
 use Rattle.vl_cli.specs.declared.replayer.halt.Halt.{Halt}
 use Rattle.vl_cli.specs.declared.replayer.halt.Halt.TheVariants.{NoMemory as NoRoom, Disk}
@@ -45,14 +45,14 @@ if_none s line true is = cc
 if_none s line false is = refl
 
 module _ {D : Type 0} (told : D → Option DiskState) (moment : D → ℕ) (since : D → ℕ → DiskState → Type 0) (faults : D → ℕ) where
-  pub takes_less : (old new : D) (begun : ℕ) (s : State) (text : List ℕ) (done done' : Type 0) → (done' → done) → TakesText told moment since faults old new begun s text done → TakesText told moment since faults old new begun s text done'
+  pub takes_less : (old new : D) (begun : ℕ) (s : State) (text : List ℕ) (done done' : Type 0) → (done' → done) → CarriesOutText told moment since faults old new begun s text done → CarriesOutText told moment since faults old new begun s text done'
   takes_less old new begun s text done done' less takes =
       record { answered = λ d. takes.answered (less d); bad = λ d. takes.bad (less d); settled = takes.settled; tells = takes.tells; through = takes.through }
 
   -- the text is no line of the language, or wasn't looked at
   pub takes_nothing_of : (only_now : (disk : D) (state other : DiskState) → told disk ≡ Some state → since disk (moment disk) other → SameFiles other state)
       → (counts_now : (disk : D) (state : DiskState) (t : ℕ) → told disk ≡ Some state → t ≤ moment disk → since disk t state)
-      → (disk : D) (begun : ℕ) (s : State) (state : DiskState) (text : List ℕ) (done : Type 0) → (done → exchange_at s text ≡ None) → told disk ≡ Some state → HoldsState begun s state → TakesText told moment since faults disk disk begun s text done
+      → (disk : D) (begun : ℕ) (s : State) (state : DiskState) (text : List ℕ) (done : Type 0) → (done → exchange_at s text ≡ None) → told disk ≡ Some state → HoldsState begun s state → CarriesOutText told moment since faults disk disk begun s text done
   takes_nothing_of only_now counts_now disk begun s state text done none is holds = record {
     answered = λ d e some. absurd (no_some e (sym (none d) ∙ some));
     bad = λ d _. (state, is, holds.history);
@@ -64,19 +64,19 @@ module _ {D : Type 0} (told : D → Option DiskState) (moment : D → ℕ) (sinc
       no_some : (e : Exchange) → None ≡ Some e → ⊥
       no_some e bad = cc
 
-  settled_by : (old new : D) (begun : ℕ) (s after : State) (state : DiskState) (result : Result Answer Halt) → told old ≡ Some state → HoldsState begun s state → Carries told moment since old new begun s after result → HasCause (faults old) (faults new) (result ≡ Err Disk)
+  settled_by : (old new : D) (begun : ℕ) (s after : State) (state : DiskState) (result : Result Answer Halt) → told old ≡ Some state → HoldsState begun s state → CarriesOut told moment since old new begun s after result → HasCause (faults old) (faults new) (result ≡ Err Disk)
       → (Rose (faults old) (faults new) → ⊥) → (now : DiskState) × (told new ≡ Some now) × (HoldsHistory begun s.history now ⊎ HoldsHistory begun after.history now)
   settled_by old new begun s after state (Ok answer) is holds carries cause sound = let now = carries.answered in (now.0, now.1, inr now.2.history)
   settled_by old new begun s after state (Err NoRoom) is holds carries cause sound = (state, carries.no_memory refl ∙ is, inl holds.history)
   settled_by old new begun s after state (Err Disk) is holds carries cause sound = absurd (sound (cause.rose refl))
 
-  answered_by : (old new : D) (begun : ℕ) (s after : State) (result : Result Answer Halt) → IsOk result → Carries told moment since old new begun s after result → (now : DiskState) × (told new ≡ Some now) × HoldsState begun after now
+  answered_by : (old new : D) (begun : ℕ) (s after : State) (result : Result Answer Halt) → IsOk result → CarriesOut told moment since old new begun s after result → (now : DiskState) × (told new ≡ Some now) × HoldsState begun after now
   answered_by old new begun s after (Ok answer) ok carries = carries.answered
   answered_by old new begun s after (Err halt) ok carries = cc
 
   -- the line was carried out
   pub takes_line : (old new : D) (begun : ℕ) (s : State) (state : DiskState) (text : List ℕ) (line : Line) (result : Result Answer Halt) (done : Type 0) → (done → IsOk result) → line_of text ≡ Some line → told old ≡ Some state → HoldsState begun s state
-      → Carries told moment since old new begun s (state_after s line) result → HasCause (faults old) (faults new) (result ≡ Err Disk) → TakesText told moment since faults old new begun s text done
+      → CarriesOut told moment since old new begun s (state_after s line) result → HasCause (faults old) (faults new) (result ≡ Err Disk) → CarriesOutText told moment since faults old new begun s text done
   takes_line old new begun s state text line result done ok spelled is holds carries cause =
       let behind : (state_after s line).history ≡ history_behind s.history (exchange_at s text) = sym (line_behind s text line spelled) in
       let exchange = exchange_of s text line spelled in
@@ -91,7 +91,7 @@ module _ {D : Type 0} (told : D → Option DiskState) (moment : D → ℕ) (sinc
             subst (λ (h : History). (now : DiskState) × (told new ≡ Some now) × (HoldsHistory begun s.history now ⊎ HoldsHistory begun h now)) behind
             (settled_by old new begun s (state_after s line) state result is holds carries cause sound);
         tells = carries.tells;
-        through = subst (λ (h : History). HoldsThroughout moment since old new (Leaves (Within s.history h))) behind carries.through;
+        through = subst (λ (h : History). HoldsThroughout moment since old new (Leaves (AreBetween s.history h))) behind carries.through;
       }
 
 -- a last line that says that the run ended without an answer

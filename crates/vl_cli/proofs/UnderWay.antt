@@ -11,7 +11,7 @@ use Rattle.vl_script.specs.Script.{text_of, lines_of}
 use Rattle.vl_cli.specs.Sequential.{State, empty_store}
 use Rattle.vl_cli.specs.Represents.{Represents}
 use Rattle.vl_cli.specs.Replay.{KeepsUp, line_number, Replays, exchanges_from, history_after}
-use Rattle.vl_cli.specs.Durable.{HoldsState, UpTo, Within, DiskEnds, EndsFrom}
+use Rattle.vl_cli.specs.Durable.{HoldsState, AreFirstOf, AreBetween, DiskEnds, DiskEndsFrom}
 use Rattle.vl_cli.specs.Steps.{Causes, EndsRun, GoesOn}
 use Rattle.vl_cli.specs.declared.replayer.Replayer.{Replayer}
 use Rattle.vl_cli.specs.declared.ending.Ending.{Ending}
@@ -24,7 +24,7 @@ pub record Carried {D : Type 0} (told : D → Option DiskState) (moment : D → 
   pub there : DiskState
   pub told_is : told disk ≡ Some there
   pub holds : HoldsState begun state there
-  pub through : HoldsThroughout moment since first disk (Leaves (UpTo state.history))
+  pub through : HoldsThroughout moment since first disk (Leaves (AreFirstOf state.history))
 
 pub record UnderWay {D : Type 0} (told : D → Option DiskState) (moment : D → ℕ) (since : D → ℕ → DiskState → Type 0) (begin disk : D) (f fd : ℕ) (input : List ℕ) (replayer : Replayer) (answered : ℕ) (buffer : List ℕ) (left asked first held : Option (List ℕ)) : Type 0 where
   pub state : State
@@ -65,9 +65,9 @@ module _ {D : Type 0} (told : D → Option DiskState) (moment : D → ℕ) (sinc
           there = old;
           told_is = told_is;
           holds = holds;
-          through = holds_weaker moment since (Leaves (Within empty_store.history empty_store.history)) (Leaves (UpTo empty_store.history)) begin begin
+          through = holds_weaker moment since (Leaves (AreBetween empty_store.history empty_store.history)) (Leaves (AreFirstOf empty_store.history)) begin begin
               (rests told moment since only_now counts_now empty_store.history empty_store (extends_itself empty_store.history) begin n old told_is holds)
-              (leaves_weaker (Within empty_store.history empty_store.history) (UpTo empty_store.history) (within_up_to empty_store.history empty_store.history));
+              (leaves_weaker (AreBetween empty_store.history empty_store.history) (AreFirstOf empty_store.history) (within_up_to empty_store.history empty_store.history));
         };
       }
 
@@ -109,7 +109,7 @@ module _ {D : Type 0} (told : D → Option DiskState) (moment : D → ℕ) (sinc
         }
 
     pub over : (ending : Ending) (u : UnderWay told moment since begin disk f fd input replayer answered buffer left asked first held) → faults begin ≤ faults disk → GoesOn told moment since faults disk disk' (Causes f t fd td ⊥) u.state u.before (buffer ++ u.had) replayer' buffer' left' asked' (Some ending) held held' →
-        EndsRun (Causes f t fd td ⊥) (EndsFrom told moment since faults begin disk' empty_store) empty_store 0 input left' asked' ending first held'
+        EndsRun (Causes f t fd td ⊥) (DiskEndsFrom told moment since faults begin disk' empty_store) empty_store 0 input left' asked' ending first held'
     over ending u earlier (printed, m, takes, run, kept_up, so) =
         let all = exchanges_from u.state (lines_of (buffer ++ u.had)) in
         let least = history_after u.state.history (take m all) in
@@ -120,8 +120,8 @@ module _ {D : Type 0} (told : D → Option DiskState) (moment : D → ℕ) (sinc
           takes_both first held held' u.so_far printed u.takes takes,
           u.later t td left' m ending printed run,
           u.later_kept_up asked' m kept_up,
-          subst (λ (h : History). EndsFrom told moment since faults begin disk' empty_store ending h (history_after empty_store.history (take (suc (m + u.before)) (exchanges_from empty_store (lines_of input))))) (u.later_history m)
-              (subst (λ (h : History). EndsFrom told moment since faults begin disk' empty_store ending least h) (u.later_history (suc m) ∙ ap (λ (n : ℕ). history_after empty_store.history (take n (exchanges_from empty_store (lines_of input)))) next) (λ n old told_is holds.
+          subst (λ (h : History). DiskEndsFrom told moment since faults begin disk' empty_store ending h (history_after empty_store.history (take (suc (m + u.before)) (exchanges_from empty_store (lines_of input))))) (u.later_history m)
+              (subst (λ (h : History). DiskEndsFrom told moment since faults begin disk' empty_store ending least h) (u.later_history (suc m) ∙ ap (λ (n : ℕ). history_after empty_store.history (take n (exchanges_from empty_store (lines_of input)))) next) (λ n old told_is holds.
               let c = u.carried n old told_is holds in
               ends_later told moment since faults only_now counts_now begin disk disk' n ending u.state.history least most (exchanges_extend (lines_of (buffer ++ u.had)) u.state (suc m)) earlier c.through (so n c.there c.told_is c.holds))),
         )

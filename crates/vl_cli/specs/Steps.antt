@@ -11,7 +11,7 @@ use Rattle.vl_script.specs.Script.{text_of, lines_of}
 use Rattle.vl_cli.specs.Input.{HasNoLineEnd}
 use Rattle.vl_cli.specs.Replay.{Exchange, exchange_at, exchanges_from, history_after, Replays, IsFront, KeepsUp}
 use Rattle.vl_cli.specs.Represents.{Represents}
-use Rattle.vl_cli.specs.Durable.{HoldsState, Within, EndsFrom}
+use Rattle.vl_cli.specs.Durable.{HoldsState, AreBetween, DiskEndsFrom}
 use Rattle.vl_cli.specs.declared.replayer.Replayer.{Replayer}
 use Rattle.vl_cli.specs.declared.ending.Ending.{Ending}
 use Rattle.vl_cli.specs.declared.ending.Ending.TheVariants.{Complete, BadLine, BadWords, DiskFault, NotAStore, NoMemory, ReadFault, WriteFault}
@@ -102,7 +102,7 @@ IsAnswered (Some WriteFault) = ⊥
 abbrev pub MovesOn : {D : Type 0} (told : D → Option DiskState) (moment : D → ℕ) (since : D → ℕ → DiskState → Type 0) (old new : D) → State → State → Type 0
 MovesOn told moment since old new s after =
     (begun : ℕ) (state : DiskState) → told old ≡ Some state → HoldsState begun s state
-    → (now : DiskState) × (told new ≡ Some now) × HoldsState begun after now × HoldsThroughout moment since old new (Leaves (Within s.history after.history))
+    → (now : DiskState) × (told new ≡ Some now) × HoldsState begun after now × HoldsThroughout moment since old new (Leaves (AreBetween s.history after.history))
 
 -- The first line of the bytes was answered and printed, and a run over the others goes on from here; when the source
 -- was last asked no answer was owed. Or the run ended.
@@ -112,7 +112,7 @@ GoesOn told moment since faults old new cause s before bytes after buffer left a
     × (exchange_at s text ≡ Some e) × Represents after e.after × Takes held held' (text_of e.answer) × KeepsUp (buffer ++ rest) asked 0
     × MovesOn told moment since old new s e.after
 GoesOn told moment since faults old new cause s before bytes after buffer left asked (Some ending) held held' =
-    EndsRun cause (EndsFrom told moment since faults old new s) s before bytes left asked ending held held'
+    EndsRun cause (DiskEndsFrom told moment since faults old new s) s before bytes left asked ending held held'
 
 -- what the sink counted in a run that ended so, where the source had no part in it
 abbrev pub SinkCounts : Ending → ℕ → ℕ → Type 0

@@ -17,7 +17,7 @@ ghost use Rattle.vl_io.specs.Sink.{Takes};
 ghost use Rattle.vl_script.specs.Script.{lines_of};
 ghost use Rattle.vl_cli.specs.Sequential.{empty_store};
 ghost use Rattle.vl_cli.specs.Replay.{Runs, RefusesWords, status_of, is_plain, no_memory_line, exchanges_from, AreExplained, KeepsUp};
-ghost use Rattle.vl_cli.specs.Durable.{EndsFromEmpty, history_of};
+ghost use Rattle.vl_cli.specs.Durable.{DiskEndsFromEmpty, history_of};
 ghost use Rattle.vl_cli.specs.Steps.{Causes, Finishes, IsRefusal};
 ghost use Rattle.vl_cli.specs.declared.ending.Ending.{Ending as HowEnded};
 ghost use Rattle.vl_cli.specs.declared.ending.Ending.TheVariants.{NoMemory};
@@ -40,7 +40,7 @@ pub fn refuse_without_words<K: Sink>(sink: &mut K) -> u8
     finish(sink, NO_MEMORY, Ending::NoMemory).status()
 }
 
-/// Carries out a command line: its words, without the program's name.
+/// CarriesOut out a command line: its words, without the program's name.
 pub fn run<S: Source, K: Sink, D: Disk>(
     alloc: Global,
     words: &[String],
@@ -56,7 +56,7 @@ pub fn run<S: Source, K: Sink, D: Disk>(
         (ending : HowEnded) × (printed : List ℕ) × (answered : ℕ) × (result.status ≡ status_of ending) × Takes (K.held sink.old) (K.held sink.new) printed
         × Runs (Causes (S.faults source.old) (S.faults source.new) (D.faults disk) (D.faults result.disk) (ForSome (D.told disk) StandsSome)) (map string_bytes words.now) input (S.left source.new) answered ending printed
         × KeepsUp input (S.asked source.new) answered
-        × (is_plain (map string_bytes words.now) ≡ true → EndsFromEmpty D.told D.moment D.states_since D.faults disk result.disk ending (history_of input answered) (history_of input (suc answered))) }
+        × (is_plain (map string_bytes words.now) ≡ true → DiskEndsFromEmpty D.told D.moment D.states_since D.faults disk result.disk ending (history_of input answered) (history_of input (suc answered))) }
 
     // What was read is explained by the history at the reader's number: a law of the exchanges that `answers` speaks of.
     ensures explained { (input : List ℕ) → S.left source.old ≡ Some input → AreExplained (exchanges_from empty_store (lines_of input)) }

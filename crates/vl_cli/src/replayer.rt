@@ -4,7 +4,7 @@ ghost use Rattle.std.specs.Option.{ForSome};
 ghost use Rattle.vl_disk.specs.DiskState.{DiskState};
 ghost use Rattle.vl_disk.specs.Disk.{Stands, HasCause};
 ghost use Rattle.vl_journal.specs.declared.names.TheConstants.{LOG};
-ghost use Rattle.vl_cli.specs.Durable.{HoldsState, Carries};
+ghost use Rattle.vl_cli.specs.Durable.{HoldsState, CarriesOut};
 ghost use Rattle.std.specs.Option.{option_copied};
 ghost use Rattle.std.specs.FinMap.{get, empty};
 ghost use Rattle.vl_model.specs.History.{last_number, value_left};
@@ -71,7 +71,7 @@ impl Replayer {
 
         // Each accepted commit is one synced frame of the log, which is written before the answer.
         ensures carries { (begun : ℕ) (s : State) (state : DiskState) → Represents self.old s → D.told disk.old ≡ Some state → HoldsState begun s state
-            → Carries D.told D.moment D.states_since disk.old disk.new begun s (state_after s line) result }
+            → CarriesOut D.told D.moment D.states_since disk.old disk.new begun s (state_after s line) result }
         ensures stands { ForSome (D.told disk.new) (Stands LOG) }
         ensures cause { HasCause (D.faults disk.old) (D.faults disk.new) (result ≡ Err Halt.Disk) }
     {
@@ -152,7 +152,7 @@ impl Replayer {
         ensures answer { (s : State) → Represents self.old s → IfOk result (λ answer. Gives answer self.new (committed s name (get s.things name))) }
         ensures unchanged { (s : State) → Represents self.old s → OnErr result (Represents self.new s) }
         ensures carries { (begun : ℕ) (s : State) (state : DiskState) → Represents self.old s → D.told disk.old ≡ Some state → HoldsState begun s state
-            → Carries D.told D.moment D.states_since disk.old disk.new begun s (committed s name (get s.things name)).1 result }
+            → CarriesOut D.told D.moment D.states_since disk.old disk.new begun s (committed s name (get s.things name)).1 result }
         ensures stands { ForSome (D.told disk.new) (Stands LOG) }
         ensures cause { HasCause (D.faults disk.old) (D.faults disk.new) (result ≡ Err Halt.Disk) }
     {

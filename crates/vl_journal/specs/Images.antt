@@ -16,7 +16,7 @@ LogShows None commits = commits ≡ []
 LogShows (Some bytes) commits = ReadsLog NUMBER bytes commits × (commits ≢ [] → take 16 bytes ≡ log_header NUMBER)
 
 -- The image shows these commits: its log reads as them, its manifest is whole where there is a log, and nothing else stands.
-pub record Shows (image : Image) (commits : List Commit) : Type 0 where
+pub record ImageShows (image : Image) (commits : List Commit) : Type 0 where
   pub log : LogShows (get image LOG) commits
   pub manifest : IsSome (get image LOG) → get image MANIFEST ≡ Some first_manifest
   pub alone : (name : Name) → name ≢ MANIFEST → name ≢ LOG → get image name ≡ None
@@ -29,7 +29,7 @@ SpellsCommit (Manifest number) bytes at frame = ⊥
 
 -- whatever a crash leaves of this disk, if no torn bytes spell a frame by chance, shows commits of which P holds
 abbrev pub Leaves : (List Commit → Type 0) → DiskState → Type 0
-Leaves P disk = (image : Image) → MayLeave disk image → NoChanceMatch SpellsCommit disk image → (commits : List Commit) × P commits × Shows image commits
+Leaves P disk = (image : Image) → MayLeave disk image → NoChanceMatch SpellsCommit disk image → (commits : List Commit) × P commits × ImageShows image commits
 
 abbrev pub IsNone : List Commit → Type 0
 IsNone commits = commits ≡ []

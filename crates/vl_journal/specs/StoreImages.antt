@@ -13,7 +13,7 @@ use Rattle.vl_seglog.specs.Log.{Commit, HasFrame, StandsAt, ReadsLog, log_bytes,
 use Rattle.vl_seglog.specs.Laws.{frame_is_some, header_length, one_front, reads_whole, reads_torn, nothing_in_header}
 use Rattle.vl_journal.specs.declared.names.TheConstants.{NUMBER, MANIFEST, LOG}
 use Rattle.vl_journal.specs.Files.{HasFiles, Holds, first_manifest}
-use Rattle.vl_journal.specs.Images.{LogShows, Shows, SpellsCommit, Leaves, IsNone, IsOneOf}
+use Rattle.vl_journal.specs.Images.{LogShows, ImageShows, SpellsCommit, Leaves, IsNone, IsOneOf}
 use Rattle.vl_journal.specs.StoreFiles.{IsPart, part_empty, part_some, part_all, has_log, has_manifest, has_no_other, removed_none}
 
 some_none : {X : Type 0} (x : X) → Some x ≡ None → ⊥
@@ -214,7 +214,7 @@ module _ (commits : List Commit) (have : AllByRecursion HasFrame commits) (c : C
     reads : ReadsLog NUMBER (old ++ tail) commits ⊎ ReadsLog NUMBER (old ++ tail) (commits ++ c ∷ [])
     reads = reads_torn NUMBER commits have c lawful tail (λ d rest stands. (front d rest stands, nothing d rest stands))
 
-    shows : (found : List Commit) → ReadsLog NUMBER (old ++ tail) found → Shows image found
+    shows : (found : List Commit) → ReadsLog NUMBER (old ++ tail) found → ImageShows image found
     shows found reads_as = record {
       log = subst (λ (o : Option (List ℕ)). LogShows o found) (sym is)
           (subst (λ (bs : List ℕ). ReadsLog NUMBER bs found) (sym parts) reads_as, λ some. ap (take 16) parts);
@@ -225,7 +225,7 @@ module _ (commits : List Commit) (have : AllByRecursion HasFrame commits) (c : C
   pub leaves_torn : Leaves (IsOneOf commits (commits ++ c ∷ [])) disk
   leaves_torn image may chance = there (get image LOG) refl
     where
-      there : (left : Option (List ℕ)) → get image LOG ≡ left → (found : List Commit) × IsOneOf commits (commits ++ c ∷ []) found × Shows image found
+      there : (left : Option (List ℕ)) → get image LOG ≡ left → (found : List Commit) × IsOneOf commits (commits ++ c ∷ []) found × ImageShows image found
       there None is = absurd (true_false (subst (λ (o : Option (List ℕ)). MayLeaveOne (Some file) None o) is (left_log _ _ disk has image may)))
       there (Some bytes) is = ⊎_elim
           (λ (before : ReadsLog NUMBER (old ++ drop (length old) bytes) commits). (commits, inl refl, shows image may chance bytes is commits before))

@@ -3,7 +3,7 @@ ghost use Rattle.std.specs.Option.{ForSome, option_map};
 ghost use Rattle.vl_disk.specs.DiskState.{DiskState};
 ghost use Rattle.vl_disk.specs.Disk.{Stands, HasCause};
 ghost use Rattle.vl_journal.specs.declared.names.TheConstants.{LOG};
-ghost use Rattle.vl_cli.specs.Durable.{HoldsState, TakesText};
+ghost use Rattle.vl_cli.specs.Durable.{HoldsState, CarriesOutText};
 ghost use Rattle.vl_cli.specs.declared.replayer.halt.Halt.TheVariants.{Disk as DiskHalt};
 ghost use Rattle.vl_cli.specs.Sequential.{State};
 ghost use Rattle.vl_cli.specs.Represents.{Represents};
@@ -46,7 +46,7 @@ fn answer_text<D: Disk>(
     requires { ForSome (D.told disk.old) (Stands LOG) }
     ensures answers { (s : State) → Represents replayer.old s → IfOk result (λ out. Answers s text.now replayer.new (option_map (λ text. text.items) out)) }
     ensures takes { (begun : ℕ) (s : State) (state : DiskState) → Represents replayer.old s → D.told disk.old ≡ Some state → HoldsState begun s state
-        → TakesText D.told D.moment D.states_since D.faults disk.old disk.new begun s text.now (IsOk result) }
+        → CarriesOutText D.told D.moment D.states_since D.faults disk.old disk.new begun s text.now (IsOk result) }
     ensures stands { ForSome (D.told disk.new) (Stands LOG) }
     ensures cause { HasCause (D.faults disk.old) (D.faults disk.new) (result ≡ Err DiskHalt) }
 {
@@ -88,7 +88,7 @@ pub fn answer<K: Sink, D: Disk>(
 
     // Where the line was answered, or refused as a bad one, the disk holds what it should.
     ensures takes { (begun : ℕ) (s : State) (state : DiskState) → Represents replayer.old s → D.told disk.old ≡ Some state → HoldsState begun s state
-        → TakesText D.told D.moment D.states_since D.faults disk.old disk.new begun s text.now (IsAnswered result) }
+        → CarriesOutText D.told D.moment D.states_since D.faults disk.old disk.new begun s text.now (IsAnswered result) }
     ensures stands { ForSome (D.told disk.new) (Stands LOG) }
     ensures disk_faults { DiskCounts result (D.faults disk.old) (D.faults disk.new) }
 {

@@ -4,7 +4,7 @@ ghost use Rattle.vl_disk.specs.DiskState.{DiskState};
 ghost use Rattle.vl_disk.specs.Disk.{Stands};
 ghost use Rattle.vl_journal.specs.declared.names.TheConstants.{LOG};
 ghost use Rattle.vl_journal.specs.Files.{StandsSome};
-ghost use Rattle.vl_cli.specs.Durable.{HoldsState, TakesText, EndsFrom, EndsFromEmpty};
+ghost use Rattle.vl_cli.specs.Durable.{HoldsState, CarriesOutText, DiskEndsFrom, DiskEndsFromEmpty};
 ghost use Rattle.vl_cli.specs.Sequential.{State, empty_store};
 ghost use Rattle.vl_cli.specs.Represents.{Represents};
 ghost use Rattle.vl_cli.specs.Replay.{KeepsUp, line_number};
@@ -70,7 +70,7 @@ impl Progress {
         ensures same { self.new.buffer ≡ self.old.buffer }
         ensures faults { MatchOption result (K.faults sink.new ≡ K.faults sink.old) (λ ending. SinkCounts ending (K.faults sink.old) (K.faults sink.new)) }
         ensures takes { (begun : ℕ) (s : State) (state : DiskState) → Represents self.old.replayer s → D.told disk.old ≡ Some state → HoldsState begun s state
-            → TakesText D.told D.moment D.states_since D.faults disk.old disk.new begun s self.old.line.items (IsAnswered result) }
+            → CarriesOutText D.told D.moment D.states_since D.faults disk.old disk.new begun s self.old.line.items (IsAnswered result) }
         ensures stands { ForSome (D.told disk.new) (Stands LOG) }
         ensures disk_faults { DiskCounts result (D.faults disk.old) (D.faults disk.new) }
     {
@@ -96,7 +96,7 @@ pub fn replay<S: Source, K: Sink, D: Disk>(
 ) -> Ending
     ensures printed { (input : List ℕ) → S.left source.old ≡ Some input
         → EndsRun (Causes (S.faults source.old) (S.faults source.new) (D.faults disk.old) (D.faults disk.new) (ForSome (D.told disk.old) StandsSome))
-        (EndsFromEmpty D.told D.moment D.states_since D.faults disk.old disk.new)
+        (DiskEndsFromEmpty D.told D.moment D.states_since D.faults disk.old disk.new)
         empty_store 0 input (S.left source.new) (S.asked source.new) result (K.held sink.old) (K.held sink.new) }
     ensures faults { Counts result (S.faults source.old) (S.faults source.new) (K.faults sink.old) (K.faults sink.new) }
     ensures disk_faults { DiskCounts (Some result) (D.faults disk.old) (D.faults disk.new) }
@@ -125,7 +125,7 @@ fn answer_lines<S: Source, K: Sink, D: Disk>(
     requires { ForSome (D.told disk.old) (Stands LOG) }
     ensures printed { (input : List ℕ) → S.left source.old ≡ Some input
         → EndsRun (Causes (S.faults source.old) (S.faults source.new) (D.faults disk.old) (D.faults disk.new) ⊥)
-        (EndsFrom D.told D.moment D.states_since D.faults disk.old disk.new empty_store)
+        (DiskEndsFrom D.told D.moment D.states_since D.faults disk.old disk.new empty_store)
         empty_store 0 input (S.left source.new) (S.asked source.new) result (K.held sink.old) (K.held sink.new) }
     ensures faults { Counts result (S.faults source.old) (S.faults source.new) (K.faults sink.old) (K.faults sink.new) }
     ensures disk_faults { DiskCounts (Some result) (D.faults disk.old) (D.faults disk.new) }

@@ -3,7 +3,7 @@ use Rattle.std.specs.Prelude.{map, string_bytes}
 use Rattle.std.specs.Option.{ForSome}
 use Rattle.vl_journal.specs.Files.{StandsSome}
 use Rattle.vl_cli.specs.Replay.{status_of}
-use Rattle.vl_cli.specs.Durable.{EndsFromEmpty}
+use Rattle.vl_cli.specs.Durable.{DiskEndsFromEmpty}
 use Rattle.vl_cli.specs.Steps.{Causes}
 use Rattle.vl_cli.proofs.Replays.{keeps_up_at_first}
 use Rattle.vl_cli.proofs.OpenedRuns.{plain_answers, other_answers, refused_words}
@@ -22,12 +22,12 @@ returns-clause-answers g c input told =
       | then-are_plain w ↦
           let cause = Causes (g.S.Source.faults c.args.source.now) (g.S.Source.faults w.replay-ending.new.source) (g.D.Disk.faults c.args.disk) (g.D.Disk.faults w.replay-ending.new.disk) (ForSome (g.D.Disk.told c.args.disk) StandsSome) in
           rw (w.source-is, w.sink-is, w.disk-is)
-          (plain_answers cause (EndsFromEmpty g.D.Disk.told g.D.Disk.moment g.D.Disk.states_since g.D.Disk.faults c.args.disk w.replay-ending.new.disk) words input (g.S.Source.left w.replay-ending.new.source) (g.S.Source.asked w.replay-ending.new.source) w.replay-ending.result c.status.result (g.K.Sink.held c.args.sink.now) (g.K.Sink.held w.replay-ending.new.sink)
+          (plain_answers cause (DiskEndsFromEmpty g.D.Disk.told g.D.Disk.moment g.D.Disk.states_since g.D.Disk.faults c.args.disk w.replay-ending.new.disk) words input (g.S.Source.left w.replay-ending.new.source) (g.S.Source.asked w.replay-ending.new.source) w.replay-ending.result c.status.result (g.K.Sink.held c.args.sink.now) (g.K.Sink.held w.replay-ending.new.sink)
           (sym c.are_plain.ensures ∙ w.if-are_plain.true) (c.status.ensures ∙ ap status_of w.ending-is) (w.replay-ending.ensures.printed input told))
       | else-are_plain w ↦
           let refused = refused_words w.finish-ending.result (g.K.Sink.held c.args.sink.now) (g.K.Sink.held w.finish-ending.new.sink) w.finish-ending.ensures.printed in
           let cause = Causes (g.S.Source.faults c.args.source.now) (g.S.Source.faults c.args.source.now) (g.D.Disk.faults c.args.disk) (g.D.Disk.faults c.args.disk) (ForSome (g.D.Disk.told c.args.disk) StandsSome) in
           rw (w.source-is, w.sink-is, w.disk-is)
-          (other_answers cause (EndsFromEmpty g.D.Disk.told g.D.Disk.moment g.D.Disk.states_since g.D.Disk.faults c.args.disk c.args.disk) words input (g.S.Source.left c.args.source.now) (g.S.Source.asked c.args.source.now) w.finish-ending.result c.status.result (g.K.Sink.held c.args.sink.now) (g.K.Sink.held w.finish-ending.new.sink)
+          (other_answers cause (DiskEndsFromEmpty g.D.Disk.told g.D.Disk.moment g.D.Disk.states_since g.D.Disk.faults c.args.disk c.args.disk) words input (g.S.Source.left c.args.source.now) (g.S.Source.asked c.args.source.now) w.finish-ending.result c.status.result (g.K.Sink.held c.args.sink.now) (g.K.Sink.held w.finish-ending.new.sink)
           (sym c.are_plain.ensures ∙ w.if-are_plain.false) (c.status.ensures ∙ ap status_of w.ending-is) refused.0 refused.1 refused.2 (keeps_up_at_first input (g.S.Source.asked c.args.source.now) (g.met.S.Source.since_asked c.args.source.now input told)))
     ]
