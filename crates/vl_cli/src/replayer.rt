@@ -256,6 +256,8 @@ mod tests {
     use super::*;
     use std::alloc::AllocError;
     use std::test::Fail;
+    use vl_disk::MemDisk;
+    use vl_journal::open_store;
 
     fn word(alloc: Global, text: &str) -> Result<Bytes, AllocError> {
         Bytes::copy_of(alloc, text.as_bytes())
@@ -297,23 +299,40 @@ mod tests {
     #[test]
     fn a_commit_is_seen_by_a_later_view(rt: HostRuntime) -> Result<(), Fail> {
         let alloc = rt.alloc();
+        let mut disk = MemDisk::new(alloc, Vec::new(alloc));
+        open_store(alloc, &mut disk)?;
         let mut store = Replayer::new(alloc);
         assert!(rt;
             matches!(
-                store.line(begin(alloc, "a")?)?,
+                store.line(&mut disk, begin(alloc, "a")?)?,
                 Answer::Number { number: 0 }
             )
         );
-        assert!(rt; matches!(store.line(set(alloc, "a", "k", "v")?)?, Answer::Done));
-        assert!(rt; matches!(store.line(get(alloc, "a", "k")?)?, Answer::Found { .. }));
         assert!(rt;
             matches!(
-                store.line(commit(alloc, "a")?)?,
+                store.line(&mut disk, set(alloc, "a", "k", "v")?)?,
+                Answer::Done
+            )
+        );
+        assert!(rt;
+            matches!(
+                store.line(&mut disk, get(alloc, "a", "k")?)?,
+                Answer::Found { .. }
+            )
+        );
+        assert!(rt;
+            matches!(
+                store.line(&mut disk, commit(alloc, "a")?)?,
                 Answer::Number { number: 1 }
             )
         );
-        assert!(rt; matches!(store.line(view(alloc, "b")?)?, Answer::Number { number: 1 }));
-        let answer = store.line(get(alloc, "b", "k")?)?;
+        assert!(rt;
+            matches!(
+                store.line(&mut disk, view(alloc, "b")?)?,
+                Answer::Number { number: 1 }
+            )
+        );
+        let answer = store.line(&mut disk, get(alloc, "b", "k")?)?;
         let Answer::Found { value } = answer else {
             return Err("no value".into());
         };
@@ -324,33 +343,77 @@ mod tests {
     #[test]
     fn names_and_limits(rt: HostRuntime) -> Result<(), Fail> {
         let alloc = rt.alloc();
+        let mut disk = MemDisk::new(alloc, Vec::new(alloc));
+        open_store(alloc, &mut disk)?;
         let mut store = Replayer::new(alloc);
-        assert!(rt; matches!(store.line(view(alloc, "b")?)?, Answer::Number { number: 0 }));
-        assert!(rt; matches!(store.line(begin(alloc, "b")?)?, Answer::Taken { .. }));
-        assert!(rt; matches!(store.line(begin(alloc, "c")?)?, Answer::TooMany));
-        assert!(rt; matches!(store.line(get(alloc, "q", "k")?)?, Answer::Unknown { .. }));
-        assert!(rt; matches!(store.line(get(alloc, "b", "k")?)?, Answer::NoValue));
-        assert!(rt; matches!(store.line(get(alloc, "b", "")?)?, Answer::Invalid));
-        assert!(rt; matches!(store.line(set(alloc, "b", "k", "v")?)?, Answer::ReadOnly));
-        assert!(rt; matches!(store.line(commit(alloc, "b")?)?, Answer::ReadOnly));
+        assert!(rt;
+            matches!(
+                store.line(&mut disk, view(alloc, "b")?)?,
+                Answer::Number { number: 0 }
+            )
+        );
+        assert!(rt;
+            matches!(
+                store.line(&mut disk, begin(alloc, "b")?)?,
+                Answer::Taken { .. }
+            )
+        );
+        assert!(rt; matches!(store.line(&mut disk, begin(alloc, "c")?)?, Answer::TooMany));
+        assert!(rt;
+            matches!(
+                store.line(&mut disk, get(alloc, "q", "k")?)?,
+                Answer::Unknown { .. }
+            )
+        );
+        assert!(rt;
+            matches!(
+                store.line(&mut disk, get(alloc, "b", "k")?)?,
+                Answer::NoValue
+            )
+        );
+        assert!(rt;
+            matches!(
+                store.line(&mut disk, get(alloc, "b", "")?)?,
+                Answer::Invalid
+            )
+        );
+        assert!(rt;
+            matches!(
+                store.line(&mut disk, set(alloc, "b", "k", "v")?)?,
+                Answer::ReadOnly
+            )
+        );
+        assert!(rt;
+            matches!(
+                store.line(&mut disk, commit(alloc, "b")?)?,
+                Answer::ReadOnly
+            )
+        );
         Ok(())
     }
 
     #[test]
     fn a_commit_without_writes_is_none(rt: HostRuntime) -> Result<(), Fail> {
         let alloc = rt.alloc();
+        let mut disk = MemDisk::new(alloc, Vec::new(alloc));
+        open_store(alloc, &mut disk)?;
         let mut store = Replayer::new(alloc);
         assert!(rt;
             matches!(
-                store.line(begin(alloc, "a")?)?,
+                store.line(&mut disk, begin(alloc, "a")?)?,
                 Answer::Number { number: 0 }
             )
         );
-        assert!(rt; matches!(store.line(set(alloc, "a", "", "v")?)?, Answer::Invalid));
-        assert!(rt; matches!(store.line(commit(alloc, "a")?)?, Answer::Nothing));
         assert!(rt;
             matches!(
-                store.line(begin(alloc, "a")?)?,
+                store.line(&mut disk, set(alloc, "a", "", "v")?)?,
+                Answer::Invalid
+            )
+        );
+        assert!(rt; matches!(store.line(&mut disk, commit(alloc, "a")?)?, Answer::Nothing));
+        assert!(rt;
+            matches!(
+                store.line(&mut disk, begin(alloc, "a")?)?,
                 Answer::Number { number: 0 }
             )
         );

@@ -16,3 +16,6 @@ pub use fails::OpenFail;
 pub use names::{LOG, MANIFEST};
 pub use opening::open_store;
 pub use writing::{stage_commit, write_staged};
+
+#[cfg(test)]
+mod tests;

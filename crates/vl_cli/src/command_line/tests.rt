@@ -1,8 +1,9 @@
 use crate::{Ended, refuse_without_words, run};
 use std::alloc::Global;
 use std::test::Fail;
-use vl_disk::MemDisk;
+use vl_disk::{MemDisk, Name};
 use vl_io::{SliceSource, VecSink};
+use vl_journal::{LOG, MANIFEST};
 
 const USAGE: &str =
     "usage: vlstore replay DIR, trial STOP OUTCOME, bench SEED COUNT or drive CLIENTS TXNS SEED\n";
@@ -32,7 +33,8 @@ fn plain(input: &'static str, printed: &'static str, status: u8) -> Case {
     }
 }
 
-fn outcome(alloc: Global, case: &Case) -> Result<(u8, Vec<u8>), Fail> {
+/// The status, what was printed, and the disk that is handed back.
+fn outcome_over(alloc: Global, case: &Case, disk: MemDisk) -> Result<(u8, Vec<u8>, MemDisk), Fail> {
     let mut words = Vec::new(alloc);
     for word in case.words {
         words.push(String::from_str(alloc, word)?)?;
@@ -42,9 +44,22 @@ fn outcome(alloc: Global, case: &Case) -> Result<(u8, Vec<u8>), Fail> {
         Vec::from_slice(alloc, case.failing_read)?,
     );
     let mut sink = VecSink::new(alloc, 4096, Vec::from_slice(alloc, case.failing_put)?)?;
+    let Ended { status, disk } = run(alloc, words.as_slice(), &mut source, &mut sink, disk);
+    Ok((status, sink.into_bytes(), disk))
+}
+
+fn outcome(alloc: Global, case: &Case) -> Result<(u8, Vec<u8>), Fail> {
     let disk = MemDisk::new(alloc, Vec::new(alloc));
-    let Ended { status, disk: _ } = run(alloc, words.as_slice(), &mut source, &mut sink, disk);
-    Ok((status, sink.into_bytes()))
+    let (status, printed, _) = outcome_over(alloc, case, disk)?;
+    Ok((status, printed))
+}
+
+/// The length of a file; None where it doesn't stand.
+fn length(disk: &MemDisk, name: Name) -> Option<usize> {
+    match disk.bytes(name) {
+        Some(bytes) => Some(bytes.len()),
+        None => None,
+    }
 }
 
 #[test]
@@ -136,6 +151,56 @@ fn faults_end_a_run(rt: HostRuntime) -> Result<(), Fail> {
         let (status, printed) = outcome(rt.alloc(), &case)?;
         assert_eq!(rt; printed.as_slice(), case.printed.as_bytes());
         assert_eq!(rt; status, case.status);
+    }
+    Ok(())
+}
+
+#[test]
+fn commits_are_written_to_the_disk(rt: HostRuntime) -> Result<(), Fail> {
+    // The last call that is listed doesn't come: opening makes six changing calls, and a commit two.
+    let cases: [(&str, &[u64], &str, usize); 2] = [
+        ("", &[7], "", 16),
+        (
+            "begin a\nset a 61 01\ncommit a\nview b\nget b 61\n",
+            &[9],
+            "ok 0\nok\nok 1\nok 1\nvalue 01\n",
+            50,
+        ),
+    ];
+    for (input, failing, answers, log) in cases {
+        let empty = MemDisk::new(rt.alloc(), Vec::from_slice(rt.alloc(), failing)?);
+        let first = plain(input, answers, 0);
+        let (status, printed, disk) = outcome_over(rt.alloc(), &first, empty)?;
+        assert_eq!(rt; printed.as_slice(), first.printed.as_bytes());
+        assert_eq!(rt; status, first.status);
+        assert_eq!(rt; length(&disk, MANIFEST), Some(55));
+        assert_eq!(rt; length(&disk, LOG), Some(log));
+
+        // What stands now is no store that can be opened, and stays as it is.
+        let second = plain(input, "not a store\n", 4);
+        let (status, printed, disk) = outcome_over(rt.alloc(), &second, disk)?;
+        assert_eq!(rt; printed.as_slice(), second.printed.as_bytes());
+        assert_eq!(rt; status, second.status);
+        assert_eq!(rt; length(&disk, MANIFEST), Some(55));
+        assert_eq!(rt; length(&disk, LOG), Some(log));
+    }
+    Ok(())
+}
+
+#[test]
+fn faults_of_the_disk_end_a_run(rt: HostRuntime) -> Result<(), Fail> {
+    // Each call of opening fails in turn, and then the append and the sync of the commit's frame.
+    for call in 1..=8 {
+        let printed = if call <= 6 {
+            "disk fault\n"
+        } else {
+            "ok 0\nok\ndisk fault\n"
+        };
+        let case = plain("begin a\nset a 61 01\ncommit a\n", printed, 3);
+        let disk = MemDisk::new(rt.alloc(), [call].to_vec(rt.alloc())?);
+        let (status, printed, _) = outcome_over(rt.alloc(), &case, disk)?;
+        assert_eq!(rt; printed.as_slice(), case.printed.as_bytes(), "call {call}");
+        assert_eq!(rt; status, case.status, "call {call}");
     }
     Ok(())
 }
