@@ -1,5 +1,5 @@
 -- What a line does to a disk that holds the state before it.
-use Rattle.std.proofs.Common.{◌≡◌, ◌⊎◌, ⊎_elim, inl, inr, ℕ, zero, suc, ◌≤◌, List, [], ◌∷◌, ◌++◌, length, take, append-nil, append_assoc, Option, None, Some, Bool, true, false, cond, Result, Err, OnOk, refl, sym, ◌∙◌, ap, subst, arith}
+use Rattle.std.proofs.Common.{◌≡◌, ◌⊎◌, ⊎_elim, inl, inr, ℕ, zero, suc, ◌≤◌, List, [], ◌∷◌, ◌++◌, take, append-nil, append_assoc, Option, None, Some, Bool, true, false, cond, refl, sym, ◌∙◌, ap, subst}
 use Rattle.std.specs.Prelude.{option_and_then}
 use Rattle.vl_model.specs.History.{History}
 use Rattle.vl_disk.specs.Faults.{Rose}
@@ -8,18 +8,15 @@ use Rattle.vl_disk.specs.Crash.{SameFiles, Unchanged}
 use Rattle.vl_disk.specs.Disk.{While}
 use Rattle.vl_disk.specs.Moments.{Elapses, HoldsThroughout, holds_weaker, holds_then}
 use Rattle.vl_seglog.specs.Log.{Commit}
-use Rattle.vl_journal.specs.Files.{Holds, IsEmpty}
 use Rattle.vl_journal.specs.Images.{Leaves, IsNone, IsOneOf}
 use Rattle.vl_journal.specs.Steps.{waits, goes_by}
 use Rattle.vl_journal.specs.StoreFiles.{same_has}
 use Rattle.vl_journal.specs.StoreImages.{leaves_all}
-use Rattle.vl_script.specs.declared.answer.Answer.{Answer}
 use Rattle.vl_script.specs.declared.line.Line.{Line}
 use Rattle.vl_script.specs.Script.{line_of}
 use Rattle.vl_cli.specs.Sequential.{State, state_after, answer_to}
 use Rattle.vl_cli.specs.Replay.{Exchange, exchange_at, exchanged, exchanges_from, and_later, history_after, is_printed}
-use Rattle.vl_cli.specs.Durable.{logged, HoldsHistory, HoldsState, AreFirstOf, AreBetween, CarriesOut, CarriesOutText, history_behind, AnswersAll, DiskEnds}
-use Rattle.vl_cli.specs.declared.replayer.halt.Halt.{Halt}
+use Rattle.vl_cli.specs.Durable.{logged, HoldsHistory, HoldsState, AreFirstOf, AreBetween, history_behind, AnswersAll, DiskEnds}
 use Rattle.vl_cli.specs.declared.ending.Ending.{Ending}
 use Rattle.vl_cli.proofs.Logged.{line_extends}
 use Rattle.vl_cli.proofs.Replays.{rose_earlier}

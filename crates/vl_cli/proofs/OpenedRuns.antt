@@ -1,5 +1,5 @@
 -- A run that opens its store first.
-use Rattle.std.proofs.Common.{◌≡◌, ◌≢◌, ◌⊎◌, inl, inr, ⊎_elim, ◌+◌, ◌-◌, ◌^◌, min, ℕ, suc, ◌≤◌, List, [], ◌∷◌, ◌++◌, length, take, Bool, true, false, Option, None, Some, refl, sym, ◌∙◌, ap, subst}
+use Rattle.std.proofs.Common.{◌≡◌, ◌⊎◌, inl, ⊎_elim, ◌+◌, ◌-◌, ◌^◌, min, ℕ, suc, ◌≤◌, List, [], ◌++◌, length, take, Bool, true, false, Option, Some, sym, ◌∙◌, ap, subst}
 use Rattle.std.specs.Prelude.{MatchBool}
 use Rattle.vl_io.specs.Sink.{Takes}
 use Rattle.vl_model.specs.History.{History}
@@ -13,7 +13,7 @@ use Rattle.vl_journal.specs.Images.{Leaves, IsNone}
 use Rattle.vl_script.specs.Script.{lines_of}
 use Rattle.vl_cli.specs.Sequential.{empty_store}
 use Rattle.vl_cli.specs.Replay.{exchanges_from, history_after, KeepsUp, Replays, RefusesWords, Runs, IsFront, is_plain, status_of, usage_line}
-use Rattle.vl_cli.specs.Durable.{logged, HoldsHistory, HoldsState, AreFirstOf, AreBetween, AnswersAll, DiskEnds, DiskEndsFrom, DiskEndsFromEmpty, history_of}
+use Rattle.vl_cli.specs.Durable.{logged, AreFirstOf, AreBetween, AnswersAll, DiskEndsFrom, DiskEndsFromEmpty, history_of}
 use Rattle.vl_cli.specs.Steps.{Causes, EndsBefore, EndsRun, Finishes}
 use Rattle.vl_cli.specs.declared.ending.Ending.{Ending}
 use Rattle.vl_cli.specs.declared.ending.Ending.TheVariants.{Complete, BadLine, BadWords, DiskFault, NotAStore, NoMemory, ReadFault, WriteFault}
@@ -89,10 +89,10 @@ module _ {D : Type 0} (told : D → Option DiskState) (moment : D → ℕ) (sinc
         ends_weaker (Causes f t (faults mid) (faults new) ⊥) (Causes f t (faults first) (faults new) occupied) (causes_earlier f t (faults first) (faults mid) (faults new) occupied earlier) all (length (lines_of input)) 0 input left m ending printed run,
         kept_up,
         λ state is empty.
-        let now = opened state is empty in
-        ends_later told moment since faults only_now counts_now first mid new state.calls ending empty_store.history least most (exchanges_extend (lines_of input) empty_store (suc m)) earlier
-        (holds_weaker moment since (Leaves IsNone) (Leaves (AreFirstOf empty_store.history)) first mid (through state is empty) (leaves_weaker IsNone (AreFirstOf empty_store.history) (none_up_to empty_store.history)))
-        (so state.calls now.0 now.1 (holds_opened state.calls now.0 now.2 now.3)),
+            let now = opened state is empty in
+            ends_later told moment since faults only_now counts_now first mid new state.calls ending empty_store.history least most (exchanges_extend (lines_of input) empty_store (suc m)) earlier
+            (holds_weaker moment since (Leaves IsNone) (Leaves (AreFirstOf empty_store.history)) first mid (through state is empty) (leaves_weaker IsNone (AreFirstOf empty_store.history) (none_up_to empty_store.history)))
+            (so state.calls now.0 now.1 (holds_opened state.calls now.0 now.2 now.3)),
       )
 
 -- ---- the words

@@ -3,24 +3,22 @@ use Rattle.std.proofs.Common.{append_assoc, append-nil, ◌≡◌, ◌≢◌, �
 use Rattle.std.proofs.lemmas.List.{take-append-drop}
 use Rattle.std.proofs.lemmas.List.Sums.{sum_by-cons}
 use Rattle.std.proofs.lemmas.Bool.{ne_eqb}
-use Rattle.std.specs.Prelude.{Option, Some, None, codes, ◌==◌, option_and_then, unwrap_or, nat_le}
+use Rattle.std.specs.Prelude.{Option, Some, None, codes, ◌==◌, option_and_then, nat_le}
 use Rattle.std.specs.Fmt.{decimal}
 use Rattle.vl_io.specs.Sink.{Takes, TakesPrefix}
 use Rattle.vl_cli.specs.Sequential.{State, answer_to, state_after}
 use Rattle.vl_script.specs.declared.line.Line.{Line}
 use Rattle.vl_script.specs.declared.answer.Answer.{Answer}
 use Rattle.vl_script.specs.Script.{text_of, lines_of, line_of}
-use Rattle.vl_cli.specs.Input.{HasNoLineEnd, ReadsLine}
+use Rattle.vl_cli.specs.Input.{HasNoLineEnd}
 use Rattle.vl_cli.specs.Replay.{Exchange, exchange_at, exchanged, is_printed, exchanges_from, and_later, answers_text, line_number, bad_line, no_memory_line, disk_fault_line, not_a_store_line, read_fault_line, ended_lines, KeepsUp, NextPiece, next_answer, next_bad_line, next_no_memory, next_disk_fault, next_not_a_store, next_read_fault, EndsSo, Replays}
 use Rattle.vl_cli.specs.Steps.{Finishes, EndsBefore, SinkCounts, Counts}
-use Rattle.vl_cli.specs.declared.replayer.Replayer.{Replayer}
-use Rattle.vl_cli.specs.declared.input.lines.Next.TheVariants.{Line as WholeLine, LastLine}
 use Rattle.vl_script.specs.declared.limits.TheConstants.{MAX_LINE_BYTES}
 use Rattle.std.proofs.lemmas.Bool.Decides.{nat_tests}
 use Rattle.vl_disk.specs.Faults.{Rose}
 use Rattle.vl_cli.specs.declared.ending.Ending.{Ending}
 use Rattle.vl_cli.specs.declared.ending.Ending.TheVariants.{Complete, BadLine, BadWords, DiskFault, NotAStore, NoMemory, ReadFault, WriteFault}
-use Rattle.vl_cli.proofs.Lines.{lines_of-ended, lines_of-unended}
+use Rattle.vl_cli.proofs.Lines.{lines_of-ended}
 
 -- the exchanges from a bad line on, and from an answered one
 stopped : (o : Option Exchange) (f : Exchange → List Exchange) → o ≡ None → and_later f o ≡ []

@@ -1,18 +1,16 @@
 -- One step of a run over a disk, by what was read and how it was answered.
-use Rattle.std.proofs.Common.{◌≡◌, ◌≢◌, ◌⊎◌, inl, inr, ◌+◌, ℕ, suc, ◌≤◌, ◌<◌, List, [], ◌∷◌, ◌++◌, length, take, Option, None, Some, refl, sym, ◌∙◌, ap, subst, arith, zero-le}
+use Rattle.std.proofs.Common.{◌≡◌, ℕ, ◌≤◌, List, [], ◌∷◌, ◌++◌, length, take, Option, None, Some, refl, sym, ◌∙◌, ap, subst, arith}
 use Rattle.std.specs.Prelude.{unwrap_or}
 use Rattle.vl_model.specs.History.{History}
-use Rattle.vl_disk.specs.Faults.{Rose}
 use Rattle.vl_disk.specs.DiskState.{DiskState}
 use Rattle.vl_disk.specs.Crash.{SameFiles}
 use Rattle.vl_disk.specs.Moments.{HoldsThroughout}
 use Rattle.vl_journal.specs.Images.{Leaves}
-use Rattle.vl_io.specs.Sink.{Takes}
 use Rattle.vl_script.specs.Script.{text_of, lines_of}
 use Rattle.vl_cli.specs.Input.{ReadsLine}
 use Rattle.vl_cli.specs.Sequential.{State}
 use Rattle.vl_cli.specs.Replay.{Exchange, exchange_at, exchanges_from, history_after, KeepsUp, Replays}
-use Rattle.vl_cli.specs.Durable.{HoldsHistory, HoldsState, AreBetween, CarriesOutText, history_behind, AnswersAll, DiskEnds, DiskEndsFrom}
+use Rattle.vl_cli.specs.Durable.{HoldsHistory, HoldsState, AreBetween, CarriesOutText, history_behind, AnswersAll, DiskEndsFrom}
 use Rattle.vl_cli.specs.Steps.{Causes, EndsBefore, EndsRun, StepsOn, GoesOn, IsAnswered}
 use Rattle.vl_cli.specs.declared.input.lines.Next.TheVariants.{Line as WholeLine, LastLine}
 use Rattle.vl_cli.specs.declared.replayer.Replayer.{Replayer}
@@ -20,7 +18,7 @@ use Rattle.vl_cli.specs.declared.ending.Ending.{Ending}
 use Rattle.vl_cli.specs.declared.ending.Ending.TheVariants.{Complete, BadLine, BadWords, DiskFault, NotAStore, NoMemory, ReadFault, WriteFault}
 use Rattle.vl_cli.proofs.Lines.{lines_of-ended, lines_of-unended}
 use Rattle.vl_cli.proofs.Replays.{keeps_up_after, last_answered, exchanges_from-answered, takes_nothing}
-use Rattle.vl_cli.proofs.DiskSteps.{Extends, exchange_extends, exchanges_extend, text_extends, first_behind, ends_within, ends_untouched, ends_complete}
+use Rattle.vl_cli.proofs.DiskSteps.{Extends, exchange_extends, exchanges_extend, first_behind, ends_within, ends_untouched, ends_complete}
 
 -- no answer is owed by an answer more
 keeps_up_more : (bytes : List ℕ) (asked : Option (List ℕ)) (m : ℕ) → KeepsUp bytes asked 0 → KeepsUp bytes asked m
@@ -67,9 +65,9 @@ module _ {D : Type 0} (told : D → Option DiskState) (moment : D → ℕ) (sinc
             run,
             kept_up,
             subst (λ (h : History). DiskEndsFrom told moment since faults old new s ending s.history h) most (λ begun state told_is holds.
-            let t' = takes begun state told_is holds in
-            ends_within told moment since faults only_now counts_now old new begun ending s.history behind t'.through t'.tells t'.settled
-            (λ whole. whole_of (Causes f t fd td ⊥) texts 0 before bytes left ending printed lines is run whole begun state told_is holds)),
+                let t' = takes begun state told_is holds in
+                ends_within told moment since faults only_now counts_now old new begun ending s.history behind t'.through t'.tells t'.settled
+                (λ whole. whole_of (Causes f t fd td ⊥) texts 0 before bytes left ending printed lines is run whole begun state told_is holds)),
           )
 
   -- a line that was read with its end was answered, or the run ended there
@@ -88,9 +86,9 @@ module _ {D : Type 0} (told : D → Option DiskState) (moment : D → ℕ) (sinc
     printed,
     keeps_up_after had line (buffer ++ rest) asked parts unended kept_up,
     λ begun state there holds.
-    let t' = takes begun state there holds in
-    let now = t'.answered tt e is in
-    (now.0, now.1, now.2, subst (λ o. HoldsThroughout moment since old new (Leaves (AreBetween s.history (history_behind s.history o)))) is t'.through),
+        let t' = takes begun state there holds in
+        let now = t'.answered tt e is in
+        (now.0, now.1, now.2, subst (λ o. HoldsThroughout moment since old new (Leaves (AreBetween s.history (history_behind s.history o)))) is t'.through),
   )
   step_line f t fd td old new s before had line buffer left asked after (Some ending) held held' (rest, told_is, parts, unended) ends takes kept_up =
       let lines = ap lines_of parts ∙ lines_of-ended line (buffer ++ rest) unended in

@@ -1,5 +1,5 @@
 -- A run under way: what was printed so far, before what a run over the rest prints, is a run over the whole input.
-use Rattle.std.proofs.Common.{append_assoc, ◌≡◌, ◌+◌, ◌≤◌, ℕ, suc, List, [], ◌∷◌, ◌++◌, take, sym, ◌∙◌, ap, refl, subst, arith}
+use Rattle.std.proofs.Common.{append_assoc, ◌≡◌, ◌+◌, ◌≤◌, ℕ, suc, List, [], ◌∷◌, ◌++◌, take, sym, ◌∙◌, ap, subst, arith}
 use Rattle.std.specs.Prelude.{Option, Some, None}
 use Rattle.vl_model.specs.History.{History}
 use Rattle.vl_disk.specs.DiskState.{DiskState}
@@ -11,7 +11,7 @@ use Rattle.vl_script.specs.Script.{text_of, lines_of}
 use Rattle.vl_cli.specs.Sequential.{State, empty_store}
 use Rattle.vl_cli.specs.Represents.{Represents}
 use Rattle.vl_cli.specs.Replay.{KeepsUp, line_number, Replays, exchanges_from, history_after}
-use Rattle.vl_cli.specs.Durable.{HoldsState, AreFirstOf, AreBetween, DiskEnds, DiskEndsFrom}
+use Rattle.vl_cli.specs.Durable.{HoldsState, AreFirstOf, AreBetween, DiskEndsFrom}
 use Rattle.vl_cli.specs.Steps.{Causes, EndsRun, GoesOn}
 use Rattle.vl_cli.specs.declared.replayer.Replayer.{Replayer}
 use Rattle.vl_cli.specs.declared.ending.Ending.{Ending}

@@ -12,7 +12,7 @@ ghost use Rattle.vl_cli.specs.Steps.{Causes, EndsRun, GoesOn, StepsOn, Counts, S
 
 use crate::Ending;
 use crate::command_line::answering::{answer, refuse};
-use crate::command_line::last_line::{DISK_FAULT, NOT_A_STORE, NO_MEMORY, READ_FAULT, finish};
+use crate::command_line::last_line::{DISK_FAULT, NO_MEMORY, NOT_A_STORE, READ_FAULT, finish};
 use crate::input::{Buffer, InputFail, Next, read_line};
 use crate::replayer::Replayer;
 use std::alloc::Global;

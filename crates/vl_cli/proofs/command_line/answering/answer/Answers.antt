@@ -1,4 +1,4 @@
-use Rattle.std.proofs.Common.{◌∙◌, ap, Err, Ok, ℕ, List, length, subst}
+use Rattle.std.proofs.Common.{◌∙◌, ap, Err, ℕ, List, length, subst}
 use Rattle.std.specs.Prelude.{is_ok}
 use Rattle.vl_io.specs.Sink.{Takes, TakesPrefix}
 use Rattle.vl_script.specs.Script.{lines_of}

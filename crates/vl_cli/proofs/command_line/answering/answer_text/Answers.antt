@@ -1,4 +1,4 @@
-use Rattle.std.proofs.Common.{sym, ap, ◌∙◌, refl, Ok, Err, Some}
+use Rattle.std.proofs.Common.{sym, ap, ◌∙◌}
 use Rattle.std.specs.Prelude.{is_ok, option_and_then}
 use Rattle.vl_cli.specs.Replay.{exchanged}
 use Rattle.vl_cli.specs.Sequential.{state_after}

@@ -1,4 +1,4 @@
-use Rattle.std.proofs.Common.{◌≡◌, ◌∙◌, ap, Err, refl, sym, List, ℕ, length, arith, subst}
+use Rattle.std.proofs.Common.{◌∙◌, ap, Err, length}
 use Rattle.std.specs.Option.{ForSome}
 use Rattle.vl_script.specs.Script.{lines_of}
 use Rattle.vl_journal.specs.Files.{StandsSome}

@@ -1,5 +1,4 @@
 use Rattle.std.proofs.Common.{◌∙◌, ◌++◌, ℕ, List, length, subst, sym, ap, Err, refl}
-use Rattle.vl_disk.specs.Faults.{Rose}
 use Rattle.vl_script.specs.Script.{lines_of}
 use Rattle.vl_cli.specs.Replay.{no_memory_line, read_fault_line, exchanges_from}
 use Rattle.vl_cli.specs.Steps.{Causes, GoesOn}
