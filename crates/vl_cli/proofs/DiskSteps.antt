@@ -16,7 +16,7 @@ use Rattle.vl_script.specs.declared.line.Line.{Line}
 use Rattle.vl_script.specs.Script.{line_of}
 use Rattle.vl_cli.specs.Sequential.{State, state_after, answer_to}
 use Rattle.vl_cli.specs.Replay.{Exchange, exchange_at, exchanged, exchanges_from, and_later, history_after, is_printed}
-use Rattle.vl_cli.specs.Durable.{logged, HoldsHistory, HoldsState, AreFirstOf, AreBetween, history_behind, AnswersAll, DiskEnds}
+use Rattle.vl_cli.specs.Durable.{logged, HoldsHistory, HoldsState, AreFirstOf, AreBetween, history_behind, EndsBetweenLines, DiskEnds}
 use Rattle.vl_cli.specs.declared.ending.Ending.{Ending}
 use Rattle.vl_cli.proofs.Logged.{line_extends}
 use Rattle.vl_cli.proofs.Replays.{rose_earlier}
@@ -142,7 +142,7 @@ module _ {D : Type 0} (told : D → Option DiskState) (moment : D → ℕ) (sinc
   -- the run ended, by these commits that were acknowledged
   pub ends_within : (old new : D) (begun : ℕ) (ending : Ending) (least most : History) → HoldsThroughout moment since old new (Leaves (AreBetween least most)) → (now : DiskState) × (told new ≡ Some now)
       → ((Rose (faults old) (faults new) → ⊥) → (state : DiskState) × (told new ≡ Some state) × (HoldsHistory begun least state ⊎ HoldsHistory begun most state))
-      → (AnswersAll ending → (state : DiskState) × (told new ≡ Some state) × HoldsHistory begun least state) → DiskEnds told moment since faults old new begun ending least most
+      → (EndsBetweenLines ending → (state : DiskState) × (told new ≡ Some state) × HoldsHistory begun least state) → DiskEnds told moment since faults old new ⊥ begun ending least most
   ends_within old new begun ending least most through tells settled whole = record {
     through = holds_weaker moment since (Leaves (AreBetween least most)) (Leaves (AreFirstOf most)) old new through (leaves_weaker (AreBetween least most) (AreFirstOf most) (within_up_to least most));
     now = (tells.0, tells.1, through.each tells.0 (counts_now new tells.0 (moment old) tells.1 through.later));
@@ -151,13 +151,13 @@ module _ {D : Type 0} (told : D → Option DiskState) (moment : D → ℕ) (sinc
   }
 
   -- the disk was left alone
-  pub ends_untouched : (most : History) (s : State) → Extends s.history most → (disk : D) (begun : ℕ) (ending : Ending) (state : DiskState) → told disk ≡ Some state → HoldsState begun s state → DiskEnds told moment since faults disk disk begun ending s.history most
+  pub ends_untouched : (most : History) (s : State) → Extends s.history most → (disk : D) (begun : ℕ) (ending : Ending) (state : DiskState) → told disk ≡ Some state → HoldsState begun s state → DiskEnds told moment since faults disk disk ⊥ begun ending s.history most
   ends_untouched most s extends disk begun ending state is holds =
       ends_within disk disk begun ending s.history most (rests told moment since only_now counts_now most s extends disk begun state is holds) (state, is) (λ sound. (state, is, inl holds.history)) (λ whole. (state, is, holds.history))
 
   -- every line was answered
   pub ends_complete : (old new : D) (begun : ℕ) (before after : State) → Extends before.history after.history → HoldsThroughout moment since old new (Leaves (AreBetween before.history after.history))
-      → (now : DiskState) × (told new ≡ Some now) × HoldsState begun after now → (ending : Ending) → DiskEnds told moment since faults old new begun ending after.history after.history
+      → (now : DiskState) × (told new ≡ Some now) × HoldsState begun after now → (ending : Ending) → DiskEnds told moment since faults old new ⊥ begun ending after.history after.history
   ends_complete old new begun before after extends through (now, is, holds) ending = record {
     through = holds_weaker moment since (Leaves (AreBetween before.history after.history)) (Leaves (AreFirstOf after.history)) old new through (leaves_weaker (AreBetween before.history after.history) (AreFirstOf after.history) (within_up_to before.history after.history));
     now = (now, is, leaves_weaker (λ commits. commits ≡ logged after.history) (AreBetween after.history after.history) (all_within after.history after.history (extends_itself after.history)) now (held told moment since only_now counts_now after begun now holds now (same_files told moment since only_now counts_now now)));
@@ -166,12 +166,14 @@ module _ {D : Type 0} (told : D → Option DiskState) (moment : D → ℕ) (sinc
   }
 
   -- a run that began earlier
-  pub ends_later : (first old new : D) (begun : ℕ) (ending : Ending) (before least most : History) → Extends before most → faults first ≤ faults old → HoldsThroughout moment since first old (Leaves (AreFirstOf before)) → DiskEnds told moment since faults old new begun ending least most
-      → DiskEnds told moment since faults first new begun ending least most
-  ends_later first old new begun ending before least most extends earlier so_far ends = record {
+  pub ends_later : (unopened : Type 0) (first old new : D) (begun : ℕ) (ending : Ending) (before least most : History) → Extends before most → faults first ≤ faults old → HoldsThroughout moment since first old (Leaves (AreFirstOf before)) → DiskEnds told moment since faults old new ⊥ begun ending least most
+      → DiskEnds told moment since faults first new unopened begun ending least most
+  ends_later unopened first old new begun ending before least most extends earlier so_far ends = record {
     through = holds_then moment since (Leaves (AreFirstOf most)) first old new
         (holds_weaker moment since (Leaves (AreFirstOf before)) (Leaves (AreFirstOf most)) first old so_far (leaves_weaker (AreFirstOf before) (AreFirstOf most) (up_to_further before most extends))) ends.through;
     now = ends.now;
-    settled = λ sound. ends.settled (λ rose. sound (rose_earlier (faults first) (faults old) (faults new) earlier rose));
+    settled = λ sound.
+        let now = ends.settled (λ rose. sound (rose_earlier (faults first) (faults old) (faults new) earlier rose)) in
+        (now.0, now.1, ⊎_elim (λ (never : ⊥). absurd never) (λ holds. inr holds) now.2);
     whole = ends.whole;
   }

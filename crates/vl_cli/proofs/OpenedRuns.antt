@@ -13,7 +13,7 @@ use Rattle.vl_journal.specs.Images.{Leaves, IsNone}
 use Rattle.vl_script.specs.Script.{lines_of}
 use Rattle.vl_cli.specs.Sequential.{empty_store}
 use Rattle.vl_cli.specs.Replay.{exchanges_from, history_after, KeepsUp, Replays, RefusesWords, Runs, IsFront, is_plain, status_of, usage_line}
-use Rattle.vl_cli.specs.Durable.{logged, AreFirstOf, AreBetween, AnswersAll, DiskEndsFrom, DiskEndsFromEmpty, history_of}
+use Rattle.vl_cli.specs.Durable.{logged, AreFirstOf, AreBetween, EndsBetweenLines, DiskEndsFrom, DiskEndsFromEmpty, history_of}
 use Rattle.vl_cli.specs.Steps.{Causes, EndsBefore, EndsRun, Finishes}
 use Rattle.vl_cli.specs.declared.ending.Ending.{Ending}
 use Rattle.vl_cli.specs.declared.ending.Ending.TheVariants.{Complete, BadLine, BadWords, DiskFault, NotAStore, NoMemory, ReadFault, WriteFault}
@@ -39,17 +39,17 @@ none_within : (most : History) (commits : List Commit) → IsNone commits → Ar
 none_within most commits none = ([], none, none_up_to most commits none)
 
 -- a last line that says that the store wasn't opened
-not_whole : (ending result : Ending) (P Q : Type 0) → (AnswersAll ending → ⊥) → ((result ≡ ending) × P) ⊎ ((result ≡ WriteFault) × Q) → AnswersAll result → ⊥
+not_whole : (ending result : Ending) (P Q : Type 0) → (EndsBetweenLines ending → ⊥) → ((result ≡ ending) × P) ⊎ ((result ≡ WriteFault) × Q) → EndsBetweenLines result → ⊥
 not_whole ending result P Q none how whole = ⊎_elim
-    (λ (same : (result ≡ ending) × P). none (subst AnswersAll same.0 whole))
-    (λ (cut : (result ≡ WriteFault) × Q). subst AnswersAll cut.0 whole)
+    (λ (same : (result ≡ ending) × P). none (subst EndsBetweenLines same.0 whole))
+    (λ (cut : (result ≡ WriteFault) × Q). subst EndsBetweenLines cut.0 whole)
     how
 
 module _ {D : Type 0} (told : D → Option DiskState) (moment : D → ℕ) (since : D → ℕ → DiskState → Type 0) (faults : D → ℕ)
     (only_now : (disk : D) (state other : DiskState) → told disk ≡ Some state → since disk (moment disk) other → SameFiles other state)
     (counts_now : (disk : D) (state : DiskState) (t : ℕ) → told disk ≡ Some state → t ≤ moment disk → since disk t state) where
   -- the store wasn't opened
-  pub unopened : (old new : D) (ending result : Ending) (P Q : Type 0) (most : History) → (AnswersAll ending → ⊥) → ((result ≡ ending) × P) ⊎ ((result ≡ WriteFault) × Q)
+  pub unopened : (old new : D) (ending result : Ending) (P Q : Type 0) (most : History) → (EndsBetweenLines ending → ⊥) → ((result ≡ ending) × P) ⊎ ((result ≡ WriteFault) × Q)
       → ((state : DiskState) → told old ≡ Some state → IsEmpty state → HoldsThroughout moment since old new (Leaves IsNone))
       → ((state : DiskState) → told old ≡ Some state → (now : DiskState) × (told new ≡ Some now))
       → ((Rose (faults old) (faults new) → ⊥) → told new ≡ told old)
@@ -60,11 +60,11 @@ module _ {D : Type 0} (told : D → Option DiskState) (moment : D → ℕ) (sinc
       record {
         through = holds_weaker moment since (Leaves IsNone) (Leaves (AreFirstOf most)) old new through' (leaves_weaker IsNone (AreFirstOf most) (none_up_to most));
         now = (now.0, now.1, leaves_weaker IsNone (AreBetween empty_store.history most) (none_within most) now.0 (through'.each now.0 (counts_now new now.0 (moment old) now.1 through'.later)));
-        settled = λ sound. (state, kept sound ∙ is, inl empty);
+        settled = λ sound. (state, kept sound ∙ is, inl (kept sound));
         whole = λ whole. absurd (not_whole ending result P Q none how whole);
       }
 
-  pub ends_unopened : (cause : Ending → Type 0) (old new : D) (ending result : Ending) (P Q : Type 0) (input : List ℕ) (left asked held held' : Option (List ℕ)) → (AnswersAll ending → ⊥) → ((result ≡ ending) × P) ⊎ ((result ≡ WriteFault) × Q)
+  pub ends_unopened : (cause : Ending → Type 0) (old new : D) (ending result : Ending) (P Q : Type 0) (input : List ℕ) (left asked held held' : Option (List ℕ)) → (EndsBetweenLines ending → ⊥) → ((result ≡ ending) × P) ⊎ ((result ≡ WriteFault) × Q)
       → EndsBefore cause empty_store 0 input left result held held' → KeepsUp input asked 0
       → ((state : DiskState) → told old ≡ Some state → IsEmpty state → HoldsThroughout moment since old new (Leaves IsNone))
       → ((state : DiskState) → told old ≡ Some state → (now : DiskState) × (told new ≡ Some now))
@@ -90,7 +90,7 @@ module _ {D : Type 0} (told : D → Option DiskState) (moment : D → ℕ) (sinc
         kept_up,
         λ state is empty.
             let now = opened state is empty in
-            ends_later told moment since faults only_now counts_now first mid new state.calls ending empty_store.history least most (exchanges_extend (lines_of input) empty_store (suc m)) earlier
+            ends_later told moment since faults only_now counts_now (told new ≡ told first) first mid new state.calls ending empty_store.history least most (exchanges_extend (lines_of input) empty_store (suc m)) earlier
             (holds_weaker moment since (Leaves IsNone) (Leaves (AreFirstOf empty_store.history)) first mid (through state is empty) (leaves_weaker IsNone (AreFirstOf empty_store.history) (none_up_to empty_store.history)))
             (so state.calls now.0 now.1 (holds_opened state.calls now.0 now.2 now.3)),
       )

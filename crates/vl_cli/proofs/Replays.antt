@@ -3,7 +3,7 @@ use Rattle.std.proofs.Common.{append_assoc, append-nil, ◌≡◌, ◌≢◌, �
 use Rattle.std.proofs.lemmas.List.{take-append-drop}
 use Rattle.std.proofs.lemmas.List.Sums.{sum_by-cons}
 use Rattle.std.proofs.lemmas.Bool.{ne_eqb}
-use Rattle.std.specs.Prelude.{Option, Some, None, codes, ◌==◌, option_and_then, nat_le}
+use Rattle.std.specs.Prelude.{MatchOption, Option, Some, None, codes, ◌==◌, option_and_then, nat_le}
 use Rattle.std.specs.Fmt.{decimal}
 use Rattle.vl_io.specs.Sink.{Takes, TakesPrefix}
 use Rattle.vl_cli.specs.Sequential.{State, answer_to, state_after}
@@ -272,3 +272,10 @@ chosen_false false x y e = refl
 -- a line that is too long is a bad one
 pub too_long_is_bad : (s : State) (text : List ℕ) → MAX_LINE_BYTES < length text → exchange_at s text ≡ None
 too_long_is_bad s text long = ap (option_and_then (exchanged s)) (chosen_false (nat_le (length text) MAX_LINE_BYTES) _ None (grind (arith, nat_tests)))
+
+-- the source had no part in answering a line
+pub not_by_reading : (P : Type 0) (ended : Option Ending) (before now : ℕ) → MatchOption ended P (λ ending. SinkCounts ending before now) → ended ≡ Some ReadFault → ⊥
+not_by_reading P None before now counts is = cc
+not_by_reading P (Some ending) before now counts is =
+    let same : ending ≡ ReadFault = cc in
+    subst (λ (e : Ending). SinkCounts e before now) same counts

@@ -1,5 +1,5 @@
 -- One step of a run over a disk, by what was read and how it was answered.
-use Rattle.std.proofs.Common.{◌≡◌, ℕ, ◌≤◌, List, [], ◌∷◌, ◌++◌, length, take, Option, None, Some, refl, sym, ◌∙◌, ap, subst, arith}
+use Rattle.std.proofs.Common.{◌≡◌, ◌≢◌, ℕ, ◌≤◌, List, [], ◌∷◌, ◌++◌, length, take, Option, None, Some, refl, sym, ◌∙◌, ap, subst, arith}
 use Rattle.std.specs.Prelude.{unwrap_or}
 use Rattle.vl_model.specs.History.{History}
 use Rattle.vl_disk.specs.DiskState.{DiskState}
@@ -10,7 +10,7 @@ use Rattle.vl_script.specs.Script.{text_of, lines_of}
 use Rattle.vl_cli.specs.Input.{ReadsLine}
 use Rattle.vl_cli.specs.Sequential.{State}
 use Rattle.vl_cli.specs.Replay.{Exchange, exchange_at, exchanges_from, history_after, KeepsUp, Replays}
-use Rattle.vl_cli.specs.Durable.{HoldsHistory, HoldsState, AreBetween, CarriesOutText, history_behind, AnswersAll, DiskEndsFrom}
+use Rattle.vl_cli.specs.Durable.{HoldsHistory, HoldsState, AreBetween, CarriesOutText, history_behind, EndsBetweenLines, DiskEndsFrom}
 use Rattle.vl_cli.specs.Steps.{Causes, EndsBefore, EndsRun, StepsOn, GoesOn, IsAnswered}
 use Rattle.vl_cli.specs.declared.input.lines.Next.TheVariants.{Line as WholeLine, LastLine}
 use Rattle.vl_cli.specs.declared.replayer.Replayer.{Replayer}
@@ -39,24 +39,24 @@ module _ {D : Type 0} (told : D → Option DiskState) (moment : D → ℕ) (sinc
 
     module _ (text : List ℕ) (ended : Option Ending) (takes : (begun : ℕ) (state : DiskState) → told old ≡ Some state → HoldsState begun s state → CarriesOutText told moment since faults old new begun s text (IsAnswered ended)) where
       -- the bad line left the disk as it was
-      whole_of : (cause : Ending → Type 0) (texts : List (List ℕ)) (lines before : ℕ) (bytes : List ℕ) (left : Option (List ℕ)) (ending : Ending) (printed : List ℕ) → lines_of bytes ≡ text ∷ texts → ended ≡ Some ending
-          → Replays cause s before bytes left 0 ending printed → AnswersAll ending → (begun : ℕ) (state : DiskState) → told old ≡ Some state → HoldsState begun s state → (now : DiskState) × (told new ≡ Some now) × HoldsHistory begun s.history now
-      whole_of cause texts n before bytes left Complete printed lines is (at, all, unread, text') whole begun state told_is holds =
+      whole_of : (cause : Ending → Type 0) (texts : List (List ℕ)) (lines before : ℕ) (bytes : List ℕ) (left : Option (List ℕ)) (ending : Ending) (printed : List ℕ) → lines_of bytes ≡ text ∷ texts → ended ≡ Some ending → ended ≢ Some ReadFault
+          → Replays cause s before bytes left 0 ending printed → EndsBetweenLines ending → (begun : ℕ) (state : DiskState) → told old ≡ Some state → HoldsState begun s state → (now : DiskState) × (told new ≡ Some now) × HoldsHistory begun s.history now
+      whole_of cause texts n before bytes left Complete printed lines is readable (at, all, unread, text') whole begun state told_is holds =
           absurd (omega (arith, at, all, ap length lines))
-      whole_of cause texts n before bytes left BadLine printed lines is (at, less, text') whole begun state told_is holds =
+      whole_of cause texts n before bytes left BadLine printed lines is readable (at, less, text') whole begun state told_is holds =
           let none = no_exchange s text texts (exchange_at s text) refl (at ∙ ap (λ ls. length (exchanges_from s ls)) lines) in
           (takes begun state told_is holds).bad (subst IsAnswered (sym is) tt) none
-      whole_of cause texts n before bytes left BadWords printed lines is run whole begun state told_is holds = absurd whole
-      whole_of cause texts n before bytes left DiskFault printed lines is run whole begun state told_is holds = absurd whole
-      whole_of cause texts n before bytes left NotAStore printed lines is run whole begun state told_is holds = absurd whole
-      whole_of cause texts n before bytes left NoMemory printed lines is run whole begun state told_is holds = absurd whole
-      whole_of cause texts n before bytes left ReadFault printed lines is run whole begun state told_is holds = absurd whole
-      whole_of cause texts n before bytes left WriteFault printed lines is run whole begun state told_is holds = absurd whole
+      whole_of cause texts n before bytes left BadWords printed lines is readable run whole begun state told_is holds = absurd whole
+      whole_of cause texts n before bytes left DiskFault printed lines is readable run whole begun state told_is holds = absurd whole
+      whole_of cause texts n before bytes left NotAStore printed lines is readable run whole begun state told_is holds = absurd whole
+      whole_of cause texts n before bytes left NoMemory printed lines is readable run whole begun state told_is holds = absurd whole
+      whole_of cause texts n before bytes left ReadFault printed lines is readable run whole begun state told_is holds = absurd (readable is)
+      whole_of cause texts n before bytes left WriteFault printed lines is readable run whole begun state told_is holds = absurd whole
 
       -- the run ended before the line was answered whole
-      ends_before : (f t fd td : ℕ) (before : ℕ) (bytes : List ℕ) (texts : List (List ℕ)) (left asked : Option (List ℕ)) (ending : Ending) (held held' : Option (List ℕ)) → lines_of bytes ≡ text ∷ texts → ended ≡ Some ending
+      ends_before : (f t fd td : ℕ) (before : ℕ) (bytes : List ℕ) (texts : List (List ℕ)) (left asked : Option (List ℕ)) (ending : Ending) (held held' : Option (List ℕ)) → lines_of bytes ≡ text ∷ texts → ended ≡ Some ending → ended ≢ Some ReadFault
           → EndsBefore (Causes f t fd td ⊥) s before bytes left ending held held' → KeepsUp bytes asked 0 → EndsRun (Causes f t fd td ⊥) (DiskEndsFrom told moment since faults old new s) s before bytes left asked ending held held'
-      ends_before f t fd td before bytes texts left asked ending held held' lines is (printed, printed_is, run) kept_up =
+      ends_before f t fd td before bytes texts left asked ending held held' lines is readable (printed, printed_is, run) kept_up =
           let behind = history_behind s.history (exchange_at s text) in
           let most : behind ≡ history_after s.history (take 1 (exchanges_from s (lines_of bytes))) = sym (ap (λ ls. history_after s.history (take 1 (exchanges_from s ls))) lines ∙ first_behind s text texts) in (
             printed,
@@ -67,14 +67,14 @@ module _ {D : Type 0} (told : D → Option DiskState) (moment : D → ℕ) (sinc
             subst (λ (h : History). DiskEndsFrom told moment since faults old new s ending s.history h) most (λ begun state told_is holds.
                 let t' = takes begun state told_is holds in
                 ends_within told moment since faults only_now counts_now old new begun ending s.history behind t'.through t'.tells t'.settled
-                (λ whole. whole_of (Causes f t fd td ⊥) texts 0 before bytes left ending printed lines is run whole begun state told_is holds)),
+                (λ whole. whole_of (Causes f t fd td ⊥) texts 0 before bytes left ending printed lines is readable run whole begun state told_is holds)),
           )
 
   -- a line that was read with its end was answered, or the run ended there
   pub step_line : (f t fd td : ℕ) (old new : D) (s : State) (before : ℕ) (had line buffer : List ℕ) (left asked : Option (List ℕ)) (after : Replayer) (ended : Option Ending) (held held' : Option (List ℕ)) →
-      ReadsLine WholeLine had line buffer left → StepsOn fd td s before line after ended held held' → ((begun : ℕ) (state : DiskState) → told old ≡ Some state → HoldsState begun s state → CarriesOutText told moment since faults old new begun s line (IsAnswered ended)) →
+      ReadsLine WholeLine had line buffer left → StepsOn fd td s before line after ended held held' → ((begun : ℕ) (state : DiskState) → told old ≡ Some state → HoldsState begun s state → CarriesOutText told moment since faults old new begun s line (IsAnswered ended)) → ended ≢ Some ReadFault →
       KeepsUp had asked 0 → GoesOn told moment since faults old new (Causes f t fd td ⊥) s before had after buffer left asked ended held held'
-  step_line f t fd td old new s before had line buffer left asked after None held held' (rest, told_is, parts, unended) (e, is, stands, printed) takes kept_up = (
+  step_line f t fd td old new s before had line buffer left asked after None held held' (rest, told_is, parts, unended) (e, is, stands, printed) takes readable kept_up = (
     e,
     line,
     rest,
@@ -90,16 +90,16 @@ module _ {D : Type 0} (told : D → Option DiskState) (moment : D → ℕ) (sinc
         let now = t'.answered tt e is in
         (now.0, now.1, now.2, subst (λ o. HoldsThroughout moment since old new (Leaves (AreBetween s.history (history_behind s.history o)))) is t'.through),
   )
-  step_line f t fd td old new s before had line buffer left asked after (Some ending) held held' (rest, told_is, parts, unended) ends takes kept_up =
+  step_line f t fd td old new s before had line buffer left asked after (Some ending) held held' (rest, told_is, parts, unended) ends takes readable kept_up =
       let lines = ap lines_of parts ∙ lines_of-ended line (buffer ++ rest) unended in
-      ends_before old new s line (Some ending) takes f t fd td before had (lines_of (buffer ++ rest)) left asked ending held held' lines refl
+      ends_before old new s line (Some ending) takes f t fd td before had (lines_of (buffer ++ rest)) left asked ending held held' lines refl readable
       (ends f t had (lines_of (buffer ++ rest)) left lines) kept_up
 
   -- the last line was answered, and so the run is complete, or it ended there
   pub step_last : (f t fd td : ℕ) (old new : D) (s : State) (before : ℕ) (had line buffer : List ℕ) (left asked : Option (List ℕ)) (after : Replayer) (ended : Option Ending) (result : Ending) (held held' : Option (List ℕ)) →
-      ReadsLine LastLine had line buffer left → StepsOn fd td s before line after ended held held' → ((begun : ℕ) (state : DiskState) → told old ≡ Some state → HoldsState begun s state → CarriesOutText told moment since faults old new begun s line (IsAnswered ended)) →
+      ReadsLine LastLine had line buffer left → StepsOn fd td s before line after ended held held' → ((begun : ℕ) (state : DiskState) → told old ≡ Some state → HoldsState begun s state → CarriesOutText told moment since faults old new begun s line (IsAnswered ended)) → ended ≢ Some ReadFault →
       result ≡ unwrap_or ended Complete → KeepsUp had asked 0 → EndsRun (Causes f t fd td ⊥) (DiskEndsFrom told moment since faults old new s) s before had left asked result held held'
-  step_last f t fd td old new s before had line buffer left asked after None result held held' (told_is, same, unended, some) (e, is, stands, printed) takes r kept_up =
+  step_last f t fd td old new s before had line buffer left asked after None result held held' (told_is, same, unended, some) (e, is, stands, printed) takes readable r kept_up =
       let lines : lines_of had ≡ line ∷ [] = ap lines_of same ∙ lines_of-unended line unended some in
       let all : exchanges_from s (lines_of had) ≡ e ∷ [] = ap (exchanges_from s) lines ∙ exchanges_from-answered s line [] e is in
       let so : DiskEndsFrom told moment since faults old new s Complete e.after.history e.after.history = λ begun state there holds.
@@ -114,10 +114,10 @@ module _ {D : Type 0} (told : D → Option DiskState) (moment : D → ℕ) (sinc
         keeps_up_more had asked 1 kept_up,
         subst (λ es. DiskEndsFrom told moment since faults old new s Complete (history_after s.history (take 1 es)) (history_after s.history (take 2 es))) (sym all) so,
       )
-  step_last f t fd td old new s before had line buffer left asked after (Some ending) result held held' (told_is, same, unended, some) ends takes r kept_up =
+  step_last f t fd td old new s before had line buffer left asked after (Some ending) result held held' (told_is, same, unended, some) ends takes readable r kept_up =
       let lines : lines_of had ≡ line ∷ [] = ap lines_of same ∙ lines_of-unended line unended some in
       subst (λ (x : Ending). EndsRun (Causes f t fd td ⊥) (DiskEndsFrom told moment since faults old new s) s before had left asked x held held') (sym r)
-      (ends_before old new s line (Some ending) takes f t fd td before had [] left asked ending held held' lines refl (ends f t had [] left lines) kept_up)
+      (ends_before old new s line (Some ending) takes f t fd td before had [] left asked ending held held' lines refl readable (ends f t had [] left lines) kept_up)
 
   -- the run ended before a line was answered, and the disk was left alone
   pub step_apart : (cause : Ending → Type 0) (disk : D) (s : State) (before : ℕ) (had : List ℕ) (left asked : Option (List ℕ)) (ending : Ending) (held held' : Option (List ℕ)) → EndsBefore cause s before had left ending held held' → KeepsUp had asked 0

@@ -123,5 +123,5 @@ module _ {D : Type 0} (told : D → Option DiskState) (moment : D → ℕ) (sinc
           subst (λ (h : History). DiskEndsFrom told moment since faults begin disk' empty_store ending h (history_after empty_store.history (take (suc (m + u.before)) (exchanges_from empty_store (lines_of input))))) (u.later_history m)
               (subst (λ (h : History). DiskEndsFrom told moment since faults begin disk' empty_store ending least h) (u.later_history (suc m) ∙ ap (λ (n : ℕ). history_after empty_store.history (take n (exchanges_from empty_store (lines_of input)))) next) (λ n old told_is holds.
               let c = u.carried n old told_is holds in
-              ends_later told moment since faults only_now counts_now begin disk disk' n ending u.state.history least most (exchanges_extend (lines_of (buffer ++ u.had)) u.state (suc m)) earlier c.through (so n c.there c.told_is c.holds))),
+              ends_later told moment since faults only_now counts_now ⊥ begin disk disk' n ending u.state.history least most (exchanges_extend (lines_of (buffer ++ u.had)) u.state (suc m)) earlier c.through (so n c.there c.told_is c.holds))),
         )

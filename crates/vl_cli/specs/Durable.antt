@@ -68,35 +68,35 @@ pub record CarriesOutText {D : Type 0} (told : D → Option DiskState) (moment :
   pub tells : (now : DiskState) × (told new ≡ Some now)
   pub through : HoldsThroughout moment since old new (Leaves (AreBetween s.history (history_behind s.history (exchange_at s text))))
 
--- every line was answered, up to the input's end or to a bad line
-abbrev pub AnswersAll : Ending → Type 0
-AnswersAll Complete = Unit {0}
-AnswersAll BadLine = Unit {0}
-AnswersAll BadWords = ⊥
-AnswersAll DiskFault = ⊥
-AnswersAll NotAStore = ⊥
-AnswersAll NoMemory = ⊥
-AnswersAll ReadFault = ⊥
-AnswersAll WriteFault = ⊥
+-- the run ended between two lines: at the input's end, at a bad line, or where no more could be read
+abbrev pub EndsBetweenLines : Ending → Type 0
+EndsBetweenLines Complete = Unit {0}
+EndsBetweenLines BadLine = Unit {0}
+EndsBetweenLines BadWords = ⊥
+EndsBetweenLines DiskFault = ⊥
+EndsBetweenLines NotAStore = ⊥
+EndsBetweenLines NoMemory = ⊥
+EndsBetweenLines ReadFault = Unit {0}
+EndsBetweenLines WriteFault = ⊥
 
 -- What a run that ended so did to a disk, which had been asked for some changing calls: by the commits that were
 -- acknowledged, and by those that may stand with one that wasn't.
-pub record DiskEnds {D : Type 0} (told : D → Option DiskState) (moment : D → ℕ) (since : D → ℕ → DiskState → Type 0) (faults : D → ℕ) (old new : D) (begun : ℕ) (ending : Ending) (acknowledged most : History) : Type 0 where
+pub record DiskEnds {D : Type 0} (told : D → Option DiskState) (moment : D → ℕ) (since : D → ℕ → DiskState → Type 0) (faults : D → ℕ) (old new : D) (unopened : Type 0) (begun : ℕ) (ending : Ending) (acknowledged most : History) : Type 0 where
   -- what a crash at any moment since the begin leaves shows a first part of the commits, if no torn bytes spell a frame by
   -- chance
   pub through : HoldsThroughout moment since old new (Leaves (AreFirstOf most))
   -- and what a crash now leaves shows each acknowledged one
   pub now : (state : DiskState) × (told new ≡ Some state) × Leaves (AreBetween acknowledged most) state
-  -- where the disk didn't fail nothing is torn: it is empty still, or holds the acknowledged commits, or these and the one
+  -- where the disk didn't fail nothing is torn: it wasn't opened, or holds the acknowledged commits, or these and the one
   -- whose answer wasn't put
-  pub settled : (Rose (faults old) (faults new) → ⊥) → (state : DiskState) × (told new ≡ Some state) × (IsEmpty state ⊎ (HoldsHistory begun acknowledged state ⊎ HoldsHistory begun most state))
-  -- where no fault and no want of memory ended the run, the disk holds just them
-  pub whole : AnswersAll ending → (state : DiskState) × (told new ≡ Some state) × HoldsHistory begun acknowledged state
+  pub settled : (Rose (faults old) (faults new) → ⊥) → (state : DiskState) × (told new ≡ Some state) × (unopened ⊎ (HoldsHistory begun acknowledged state ⊎ HoldsHistory begun most state))
+  -- where the run ended between two lines, the disk holds just the acknowledged ones
+  pub whole : EndsBetweenLines ending → (state : DiskState) × (told new ≡ Some state) × HoldsHistory begun acknowledged state
 
 -- so it is of a run that begins in a state, over a disk that holds it
 abbrev pub DiskEndsFrom : {D : Type 0} (told : D → Option DiskState) (moment : D → ℕ) (since : D → ℕ → DiskState → Type 0) (faults : D → ℕ) (old new : D) → State → Ending → History → History → Type 0
 DiskEndsFrom told moment since faults old new s ending acknowledged most =
-    (begun : ℕ) (state : DiskState) → told old ≡ Some state → HoldsState begun s state → DiskEnds told moment since faults old new begun ending acknowledged most
+    (begun : ℕ) (state : DiskState) → told old ≡ Some state → HoldsState begun s state → DiskEnds told moment since faults old new ⊥ begun ending acknowledged most
 
 -- the commits that the first so many lines of an input left, from the empty history
 abbrev pub history_of : List ℕ → ℕ → History
@@ -105,4 +105,4 @@ history_of input m = history_after no_history (take m (exchanges_from empty_stor
 -- and of one that begins over a disk on which nothing stands and from which nothing was removed
 abbrev pub DiskEndsFromEmpty : {D : Type 0} (told : D → Option DiskState) (moment : D → ℕ) (since : D → ℕ → DiskState → Type 0) (faults : D → ℕ) (old new : D) → Ending → History → History → Type 0
 DiskEndsFromEmpty told moment since faults old new ending acknowledged most =
-    (state : DiskState) → told old ≡ Some state → IsEmpty state → DiskEnds told moment since faults old new state.calls ending acknowledged most
+    (state : DiskState) → told old ≡ Some state → IsEmpty state → DiskEnds told moment since faults old new (told new ≡ told old) state.calls ending acknowledged most

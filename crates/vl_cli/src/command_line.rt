@@ -40,7 +40,7 @@ pub fn refuse_without_words<K: Sink>(sink: &mut K) -> u8
     finish(sink, NO_MEMORY, Ending::NoMemory).status()
 }
 
-/// CarriesOut out a command line: its words, without the program's name.
+/// Carries out a command line: its words, without the program's name.
 pub fn run<S: Source, K: Sink, D: Disk>(
     alloc: Global,
     words: &[String],
@@ -50,8 +50,8 @@ pub fn run<S: Source, K: Sink, D: Disk>(
 ) -> Ended<D>
     // What is printed, and how the run ends, are those of the sequential store over the lines of the input. Over a disk
     // on which nothing stood or was removed, each accepted commit is one synced frame of the log before it is answered:
-    // what a crash leaves shows a first part of the commits, which holds each one that was acknowledged, if no torn bytes
-    // spell a frame by chance.
+    // what a crash at any moment since leaves shows a first part of the commits, and what one at the end leaves shows each that
+    // was acknowledged, if no torn bytes spell a frame by chance.
     ensures answers { (input : List ℕ) → S.left source.old ≡ Some input →
         (ending : HowEnded) × (printed : List ℕ) × (answered : ℕ) × (result.status ≡ status_of ending) × Takes (K.held sink.old) (K.held sink.new) printed
         × Runs (Causes (S.faults source.old) (S.faults source.new) (D.faults disk) (D.faults result.disk) (ForSome (D.told disk) StandsSome)) (map string_bytes words.now) input (S.left source.new) answered ending printed
@@ -72,8 +72,8 @@ pub fn run<S: Source, K: Sink, D: Disk>(
     ensures disk_steady { result.status ≢ 3 → result.status ≢ 7 → D.faults result.disk ≡ D.faults disk }
 
     // Status 4 comes exactly where anything stands on the disk, unless the disk failed, memory ran out, or the last line
-    // couldn't be put. Then nothing was changed; and where the disk tells that something stands, nothing was read.
-    ensures not_a_store { result.status ≡ 4 → ForSome (D.told disk) StandsSome × (D.told result.disk ≡ D.told disk) }
+    // couldn't be put. Then nothing was changed or read.
+    ensures not_a_store { result.status ≡ 4 → ForSome (D.told disk) StandsSome × (D.told result.disk ≡ D.told disk) × (source.new ≡ source.old) }
     ensures occupied { is_plain (map string_bytes words.now) ≡ true → (state : DiskState) → D.told disk ≡ Some state → StandsSome state
         → (source.new ≡ source.old) × (D.told result.disk ≡ D.told disk) × ((ending : HowEnded) × (result.status ≡ status_of ending) × IsRefusal ending) }
 

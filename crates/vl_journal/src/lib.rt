@@ -2,7 +2,7 @@
 //! lists the formats.
 //!
 //! A store has one manifest and one log, each with the number 1. Opening makes them, each whole and synced before the
-//! next one is created. A commit is answered after its frame is synced: until then a crash may leave the log with it or
+//! next one is created. A commit may be answered once its frame is synced: until then a crash may leave the log with it or
 //! without it. Torn bytes that spell a frame by chance are left out of account: the frame's check is for them.
 #![tactic(auto)]
 

@@ -101,9 +101,10 @@ pub fn replay<S: Source, K: Sink, D: Disk>(
     ensures faults { Counts result (S.faults source.old) (S.faults source.new) (K.faults sink.old) (K.faults sink.new) }
     ensures disk_faults { DiskCounts (Some result) (D.faults disk.old) (D.faults disk.new) }
 
-    // No store is found exactly where anything stands. Then nothing was changed.
+    // No store is found only where anything stands; and where it does, unless a fault or want of memory comes first.
+    // Then nothing was changed or read.
     ensures found { result ≡ Ending.NotAStore → ForSome (D.told disk.old) StandsSome }
-    ensures refused { result ≡ Ending.NotAStore → D.told disk.new ≡ D.told disk.old }
+    ensures refused { result ≡ Ending.NotAStore → (D.told disk.new ≡ D.told disk.old) × (source.new ≡ source.old) }
     ensures occupied { (state : DiskState) → D.told disk.old ≡ Some state → StandsSome state
         → IsRefusal result × (source.new ≡ source.old) × (D.told disk.new ≡ D.told disk.old) }
 {

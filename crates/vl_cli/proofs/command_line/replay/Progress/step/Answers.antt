@@ -3,7 +3,7 @@ use Rattle.vl_script.specs.Script.{lines_of}
 use Rattle.vl_cli.specs.Replay.{no_memory_line, read_fault_line, exchanges_from}
 use Rattle.vl_cli.specs.Steps.{Causes, GoesOn}
 use Rattle.vl_cli.specs.declared.ending.Ending.TheVariants.{NoMemory, ReadFault}
-use Rattle.vl_cli.proofs.Replays.{too_long_is_bad, finished, no_memory_ends, read_fault_ends, rose_earlier}
+use Rattle.vl_cli.proofs.Replays.{too_long_is_bad, finished, no_memory_ends, read_fault_ends, rose_earlier, not_by_reading}
 use Rattle.vl_cli.proofs.Stepping.{step_line, step_last, step_apart, step_end}
 use Rattle.vl_cli.proofs.Texts.{counts_nothing}
 use Rattle.vl_cli.proofs.command_line.replay.Progress.step.Goals as goal
@@ -18,7 +18,7 @@ returns-in-Ok-Line-clause-printed g c f fd before s had le earlier stands count 
     subst (λ (b : List ℕ). GoesOn g.D.Disk.told g.D.Disk.moment g.D.Disk.states_since g.D.Disk.faults c.args.disk.now c.answer.new.disk (Causes f t fd td ⊥) s before (c.args.self.now.buffer ++ had) c.answer.new.self.replayer b left asked c.answer.result (g.K.Sink.held c.args.sink.now) (g.K.Sink.held c.answer.new.sink))
     (sym c.answer.ensures.same)
     (step_line g.D.Disk.told g.D.Disk.moment g.D.Disk.states_since g.D.Disk.faults g.met.D.Disk.only_now g.met.D.Disk.counts_now f t fd td c.args.disk.now c.answer.new.disk s before (c.args.self.now.buffer ++ had) c.read_line.new.line.items c.read_line.new.buffer left asked c.answer.new.self.replayer c.answer.result (g.K.Sink.held c.args.sink.now) (g.K.Sink.held c.answer.new.sink)
-    reads (c.answer.ensures.printed fd before s earlier stands count) (λ begun state is holds. c.answer.ensures.takes begun s state stands is holds) (c.read_line.ensures.keeps_up had told kept_up))
+    reads (c.answer.ensures.printed fd before s earlier stands count) (λ begun state is holds. c.answer.ensures.takes begun s state stands is holds) (not_by_reading _ c.answer.result _ _ c.answer.ensures.faults) (c.read_line.ensures.keeps_up had told kept_up))
 
 pub returns-in-Ok-LastLine-clause-printed : goal.returns-in-Ok-LastLine-clause-printed
 returns-in-Ok-LastLine-clause-printed g c f fd before s had le earlier stands count told kept_up =
@@ -26,7 +26,7 @@ returns-in-Ok-LastLine-clause-printed g c f fd before s had le earlier stands co
     let t = g.S.Source.faults c.read_line.new.source in
     let td = g.D.Disk.faults c.answer-in-Ok-LastLine.new.disk in
     step_last g.D.Disk.told g.D.Disk.moment g.D.Disk.states_since g.D.Disk.faults g.met.D.Disk.only_now g.met.D.Disk.counts_now f t fd td c.args.disk.now c.answer-in-Ok-LastLine.new.disk s before (c.args.self.now.buffer ++ had) c.read_line.new.line.items c.read_line.new.buffer (g.S.Source.left c.read_line.new.source) (g.S.Source.asked c.read_line.new.source) c.answer-in-Ok-LastLine.new.self.replayer c.answer-in-Ok-LastLine.result c.unwrap_or.result (g.K.Sink.held c.args.sink.now) (g.K.Sink.held c.answer-in-Ok-LastLine.new.sink)
-    reads (c.answer-in-Ok-LastLine.ensures.printed fd before s earlier stands count) (λ begun state is holds. c.answer-in-Ok-LastLine.ensures.takes begun s state stands is holds) c.unwrap_or.ensures (c.read_line.ensures.keeps_up had told kept_up)
+    reads (c.answer-in-Ok-LastLine.ensures.printed fd before s earlier stands count) (λ begun state is holds. c.answer-in-Ok-LastLine.ensures.takes begun s state stands is holds) (not_by_reading _ c.answer-in-Ok-LastLine.result _ _ c.answer-in-Ok-LastLine.ensures.faults) c.unwrap_or.ensures (c.read_line.ensures.keeps_up had told kept_up)
 
 pub returns-in-Ok-TooLong-clause-printed : goal.returns-in-Ok-TooLong-clause-printed
 returns-in-Ok-TooLong-clause-printed g c f fd before s had le earlier stands count told kept_up =
