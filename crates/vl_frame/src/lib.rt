@@ -4,7 +4,8 @@
 //! Numbers are unsigned, the highest byte first. The check is the first eight bytes of the SHA-256 digest of
 //! the file's kind in one byte, the file's number in four, the frame's place in the file in eight, and then
 //! the frame's kind, the length and the body as they stand in the frame. So a frame that was left behind from
-//! another file, or that stands at another place, is none, even where all its bytes are whole.
+//! another file, or that stands at another place, is none, even where all its bytes are whole, unless its check
+//! matches there by chance.
 //!
 //! | File | 1, a log | 2, a table | 3, a manifest |
 //! |---|---|---|---|

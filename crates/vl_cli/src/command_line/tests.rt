@@ -54,11 +54,24 @@ fn outcome(alloc: Global, case: &Case) -> Result<(u8, Vec<u8>), Fail> {
     Ok((status, printed))
 }
 
-/// The length of a file; None where it doesn't stand.
-fn length(disk: &MemDisk, name: Name) -> Option<usize> {
+/// The manifest of a new store.
+const MANIFEST_BYTES: [u8; 55] = [
+    0x56, 0x4d, 0x41, 0x4e, 0, 0, 0, 1, 0, 0, 0, 1, 0, 0, 0, 0, 6, 0, 0, 0, 26, 0, 0, 0, 2, 3, 0,
+    0, 0, 1, 0, 0, 0, 0, 0, 0, 0, 0, 4, 0, 0, 0, 1, 0, 0, 0, 1, 0x8d, 0xf1, 0xd8, 0x60, 0x1b, 0xeb,
+    0xe2, 0xd7,
+];
+
+/// The log with the commit 1 of key 61 with value 01, whose record stands at 33.
+const LOG_BYTES: [u8; 50] = [
+    0x56, 0x4c, 0x4f, 0x47, 0, 0, 0, 1, 0, 0, 0, 1, 0, 0, 0, 0, 1, 0, 0, 0, 21, 0, 0, 0, 0, 0, 0,
+    0, 1, 0, 0, 0, 1, 0, 0, 1, 0, 0, 0, 1, 0x61, 1, 0x4b, 0x93, 0xa9, 0x61, 0xb6, 0xcc, 0xa4, 0xb4,
+];
+
+/// Whether a file stands and has these bytes.
+fn holds(disk: &MemDisk, name: Name, bytes: &[u8]) -> bool {
     match disk.bytes(name) {
-        Some(bytes) => Some(bytes.len()),
-        None => None,
+        Some(found) => found == bytes,
+        None => false,
     }
 }
 
@@ -158,13 +171,13 @@ fn faults_end_a_run(rt: HostRuntime) -> Result<(), Fail> {
 #[test]
 fn commits_are_written_to_the_disk(rt: HostRuntime) -> Result<(), Fail> {
     // The last call that is listed doesn't come: opening makes six changing calls, and a commit two.
-    let cases: [(&str, &[u64], &str, usize); 2] = [
-        ("", &[7], "", 16),
+    let cases: [(&str, &[u64], &str, &[u8]); 2] = [
+        ("", &[7], "", &LOG_BYTES[..16]),
         (
             "begin a\nset a 61 01\ncommit a\nview b\nget b 61\n",
             &[9],
             "ok 0\nok\nok 1\nok 1\nvalue 01\n",
-            50,
+            &LOG_BYTES,
         ),
     ];
     for (input, failing, answers, log) in cases {
@@ -173,16 +186,16 @@ fn commits_are_written_to_the_disk(rt: HostRuntime) -> Result<(), Fail> {
         let (status, printed, disk) = outcome_over(rt.alloc(), &first, empty)?;
         assert_eq!(rt; printed.as_slice(), first.printed.as_bytes());
         assert_eq!(rt; status, first.status);
-        assert_eq!(rt; length(&disk, MANIFEST), Some(55));
-        assert_eq!(rt; length(&disk, LOG), Some(log));
+        assert!(rt; holds(&disk, MANIFEST, &MANIFEST_BYTES));
+        assert!(rt; holds(&disk, LOG, log));
 
         // What stands now is no store that can be opened, and stays as it is.
         let second = plain(input, "not a store\n", 4);
         let (status, printed, disk) = outcome_over(rt.alloc(), &second, disk)?;
         assert_eq!(rt; printed.as_slice(), second.printed.as_bytes());
         assert_eq!(rt; status, second.status);
-        assert_eq!(rt; length(&disk, MANIFEST), Some(55));
-        assert_eq!(rt; length(&disk, LOG), Some(log));
+        assert!(rt; holds(&disk, MANIFEST, &MANIFEST_BYTES));
+        assert!(rt; holds(&disk, LOG, log));
     }
     Ok(())
 }
@@ -198,9 +211,16 @@ fn faults_of_the_disk_end_a_run(rt: HostRuntime) -> Result<(), Fail> {
         };
         let case = plain("begin a\nset a 61 01\ncommit a\n", printed, 3);
         let disk = MemDisk::new(rt.alloc(), [call].to_vec(rt.alloc())?);
-        let (status, printed, _) = outcome_over(rt.alloc(), &case, disk)?;
+        let (status, printed, disk) = outcome_over(rt.alloc(), &case, disk)?;
         assert_eq!(rt; printed.as_slice(), case.printed.as_bytes(), "call {call}");
         assert_eq!(rt; status, case.status, "call {call}");
+        // An append that fails has taken nothing; before a sync that fails the frame was taken.
+        if call == 7 {
+            assert!(rt; holds(&disk, LOG, &LOG_BYTES[..16]));
+        }
+        if call == 8 {
+            assert!(rt; holds(&disk, LOG, &LOG_BYTES));
+        }
     }
     Ok(())
 }
