@@ -1,5 +1,5 @@
 -- What the definitions of a disk and of a crash say together.
-use Rattle.std.specs.Prelude.{◌≡◌, ◌≢◌, ℕ, ◌≤◌, min, refl, true, false, List, ◌++◌, length, take, Option, None, Some, IsTrue}
+use Rattle.std.specs.Prelude.{◌≡◌, ◌≢◌, ℕ, ◌<◌, ◌≤◌, min, refl, true, false, List, ◌++◌, length, take, Option, None, Some, IsTrue}
 use Rattle.std.specs.Option.{option_map}
 use Rattle.std.specs.FinMap.{get, empty, insert, remove, get-empty}
 use Rattle.std.proofs.Common.{⊎_elim, sym, ◌∙◌, ap, subst, arith}
@@ -10,7 +10,7 @@ use Rattle.vl_disk.specs.NameMap.{same_or_other, get_inserted, get_inserted_othe
 use Rattle.vl_disk.specs.DiskState.{File, Files, DiskState, IsLawful, empty_disk, new_file, settled, lengthened, shortened, placed, with_file, created, appended, synced, cut_to, without}
 use Rattle.vl_disk.specs.Changes.{created_there, created_elsewhere, placed_elsewhere, changed_there, changed_elsewhere, unchanged}
 use Rattle.vl_disk.specs.Crash.{Image, Agrees, last_file, MayLeaveOne, MayLeave, SameFiles}
-use Rattle.vl_disk.specs.Chance.{NoChanceMatch}
+use Rattle.vl_disk.specs.Chance.{NoChanceMatch, torn_from}
 use Rattle.vl_disk.specs.Disk.{IsFree}
 
 false_true : false ≡ true → ⊥
@@ -193,3 +193,24 @@ left_numbered disk image lawful may name bytes is = of_file (get disk.standing n
     of_file (Some file) removed stands gone one = lawful.numbered name file stands
     of_file None (Some file) stands gone one = lawful.removed_numbered name file gone
     of_file None None stands gone one = absurd one
+
+-- ---- images without a chance match
+
+-- frames lie within the bytes in which they are spelled
+abbrev pub SpellsWithin : (Name → List ℕ → ℕ → List ℕ → Type 0) → Type 0
+SpellsWithin spells = (name : Name) (bytes : List ℕ) (at : ℕ) (frame : List ℕ) → spells name bytes at frame → at < length bytes
+
+-- an image that has of each torn file no more than what was synced, or no more than a header, has no chance match
+pub short_has_no_chance : (spells : Name → List ℕ → ℕ → List ℕ → Type 0) (disk : DiskState) (image : Image) → SpellsWithin spells
+    → ((name : Name) (file : File) (bytes : List ℕ) → last_file (get disk.standing name) (get disk.removed name) ≡ Some file → file.wholly_synced ≡ false → get image name ≡ Some bytes → length bytes ≤ torn_from file)
+    → NoChanceMatch spells disk image
+short_has_no_chance spells disk image within short name file bytes frame grows last torn is spelled =
+    absurd (omega (arith, within name bytes (torn_from file) frame spelled, short name file bytes last torn is))
+
+-- where all is synced there is nothing to match
+pub synced_has_no_chance : (spells : Name → List ℕ → ℕ → List ℕ → Type 0) (disk : DiskState) (image : Image)
+    → ((name : Name) (file : File) → last_file (get disk.standing name) (get disk.removed name) ≡ Some file → file.wholly_synced ≡ true) → NoChanceMatch spells disk image
+synced_has_no_chance spells disk image whole name file bytes frame grows last torn is spelled = absurd (apart (sym (whole name file last) ∙ torn))
+  where
+    apart : true ≡ false → ⊥
+    apart e = cc
