@@ -256,8 +256,8 @@ mod tests {
     use super::*;
     use std::alloc::AllocError;
     use std::test::Fail;
-    use vl_disk::MemDisk;
     use vl_journal::open_store;
+    use vl_mem::MemDisk;
 
     fn word(alloc: Global, text: &str) -> Result<Bytes, AllocError> {
         Bytes::copy_of(alloc, text.as_bytes())

@@ -1,9 +1,1 @@
-pub mod Elapsed
-pub mod Entries
-pub mod Kept
-pub mod Listed
 pub mod MadeFiles
-pub mod Numbered
-pub mod Ready
-pub mod Table
-pub mod Told

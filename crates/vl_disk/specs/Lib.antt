@@ -3,15 +3,11 @@ pub mod Changes
 pub mod Crash
 pub mod Disk
 pub mod DiskState
-pub mod Entry
-pub mod Event
 pub mod Faults
 pub mod Lawful
 pub mod Laws
 pub mod MadeFile
-pub mod MemDisk
 pub mod Moments
 pub mod Name
 pub mod NameMap
-pub mod Past
 pub mod Standing

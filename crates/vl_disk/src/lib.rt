@@ -5,7 +5,6 @@ mod disk;
 mod failed;
 mod list_fail;
 mod making;
-mod mem_disk;
 mod name;
 mod no_memory;
 
@@ -13,9 +12,5 @@ pub use disk::Disk;
 pub use failed::Failed;
 pub use list_fail::ListFail;
 pub use making::make_file;
-pub use mem_disk::MemDisk;
 pub use name::Name;
 pub use no_memory::NoMemory;
-
-#[cfg(test)]
-mod tests;

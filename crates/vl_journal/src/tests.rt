@@ -4,7 +4,8 @@ ghost use Rattle.vl_seglog.specs.Log.{AreRecords};
 use super::*;
 use std::alloc::{AllocError, Global};
 use std::test::Fail;
-use vl_disk::{Failed, MemDisk, Name};
+use vl_disk::{Failed, Name};
+use vl_mem::MemDisk;
 use vl_model::{Bytes, Change, Key};
 
 // The first manifest: the header, and the frame of the edits Head (1, 0) and Next (1, 1).

@@ -5,8 +5,8 @@ use std::process::ExitCode;
 use std::rt::Env;
 use std::{env, io};
 use vl_cli::{Ended, refuse_without_words, run};
-use vl_disk::MemDisk;
 use vl_io::{StdSink, StdSource};
+use vl_mem::MemDisk;
 
 /// The words after the program's name. Where one isn't UTF-8 there are none, so that the command line is
 /// refused as one that isn't plain. Any other error is want of memory.

@@ -1,9 +1,10 @@
 use crate::{Ended, refuse_without_words, run};
 use std::alloc::Global;
 use std::test::Fail;
-use vl_disk::{MemDisk, Name};
+use vl_disk::Name;
 use vl_io::{SliceSource, VecSink};
 use vl_journal::{LOG, MANIFEST};
+use vl_mem::MemDisk;
 
 const USAGE: &str =
     "usage: vlstore replay DIR, trial STOP OUTCOME, bench SEED COUNT or drive CLIENTS TXNS SEED\n";

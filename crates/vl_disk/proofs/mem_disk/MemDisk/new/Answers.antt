@@ -1,5 +1,0 @@
-use Rattle.vl_disk.proofs.Table.{has_bytes_at_first}
-use Rattle.vl_disk.proofs.mem_disk.MemDisk.new.Goals as goal
-
-pub invariant_of-result-clause-has_bytes : goal.invariant_of-result-clause-has_bytes
-invariant_of-result-clause-has_bytes c = has_bytes_at_first c.new-2.result.items c.new-3.result.items c.new-2.ensures.items c.new-3.ensures.items

@@ -1,0 +1,45 @@
+-- What a disk in memory tells after a call, and what it tells of the moments of the call.
+use Rattle.std.proofs.Common.{◌≡◌, ℕ, ◌+◌, ◌-◌, ◌^◌, min, List, [], ◌∷◌, ◌++◌, length, Some, refl, sym, ◌∙◌, ap, subst}
+use Rattle.vl_disk.specs.DiskState.{DiskState, empty_disk, counted, synced}
+use Rattle.vl_disk.specs.declared.name.Name.{Name}
+use Rattle.vl_disk.specs.Crash.{SameFiles}
+use Rattle.vl_disk.specs.Moments.{Elapses}
+use Rattle.vl_disk.specs.Disk.{Turns, While}
+use Rattle.vl_mem.specs.declared.event.Event.{Event}
+use Rattle.vl_mem.specs.declared.event.Event.TheVariants.{Create, Append, Refuse, Sync}
+use Rattle.vl_mem.specs.Event.{after_event, replayed-push, state_after, WasSince, told_of}
+use Rattle.vl_mem.proofs.Elapsed.{elapses_push}
+
+pub some_state : (a b : DiskState) → Some a ≡ Some b → a ≡ b
+some_state a b e = cc
+
+told_after : (event : Event) (state : DiskState) (calls : ℕ) → Some (record (after_event event state) { calls = min (calls + 1) (2 ^ 64 - 1) }) ≡ Some (counted (after_event event (record state { calls = calls })))
+told_after (Create name) state calls = refl
+told_after (Append name piece) state calls = refl
+told_after (Refuse name piece) state calls = refl
+told_after (Sync name) state calls = refl
+
+module _ (events later : List Event) (calls counts : ℕ) (count : counts ≡ min (calls + 1) (2 ^ 64 - 1)) where
+  -- nothing was left
+  pub turns_same : later ≡ events → Turns (λ disk. disk) (Some (told_of events calls)) (Some (told_of later counts))
+  turns_same same = λ i. Some (told_of (same i) (count i))
+
+  -- there was nothing to sync
+  pub turns_still : (name : Name) → synced name (state_after events) ≡ state_after events → Turns (synced name) (Some (told_of events calls)) (Some (told_of events counts))
+  turns_still name same =
+      ap (λ (n : ℕ). Some (record (state_after events) { calls = n })) count
+      ∙ ap (λ (s : DiskState). Some (record s { calls = min (calls + 1) (2 ^ 64 - 1) })) (sym same)
+
+  pub turns_by : (event : Event) → later ≡ events ++ event ∷ [] → Turns (after_event event) (Some (told_of events calls)) (Some (told_of later counts))
+  turns_by event pushed =
+      ap (λ (es : List Event). Some (told_of es counts)) pushed
+      ∙ ap (λ (s : DiskState). Some (record s { calls = counts })) (replayed-push events event empty_disk)
+      ∙ ap (λ (n : ℕ). Some (record (after_event event (state_after events)) { calls = n })) count
+      ∙ told_after event (state_after events) calls
+
+  pub elapses_by : (event : Event) (during : DiskState → DiskState → Type 0) → later ≡ events ++ event ∷ []
+      → ((now : DiskState) → SameFiles now (after_event event (state_after events)) → during (told_of events calls) now)
+      → Elapses (length events) (length later) (WasSince events) (WasSince later) (While (Some (told_of events calls)) during)
+  elapses_by event during pushed there =
+      subst (λ (es : List Event). Elapses (length events) (length es) (WasSince events) (WasSince es) (While (Some (told_of events calls)) during)) (sym pushed)
+      (elapses_push events event (While (Some (told_of events calls)) during) (λ now same disk is. subst (λ (d : DiskState). during d now) (some_state (told_of events calls) disk is) (there now same)))

@@ -1,0 +1,4 @@
+pub mod Entry
+pub mod Event
+pub mod MemDisk
+pub mod Past

@@ -1,0 +1,30 @@
+-- What a disk in memory tells of this moment and of past ones.
+use Rattle.std.specs.Prelude.{◌≡◌, ℕ, ◌≤◌, List, length, take, Some, All}
+use Rattle.std.proofs.Common.{refl, sym, subst, arith}
+use Rattle.std.proofs.lemmas.List.{take_all}
+use Rattle.vl_disk.specs.DiskState.{DiskState, IsLawful, empty_disk}
+use Rattle.vl_disk.specs.Lawful.{empty_lawful}
+use Rattle.vl_disk.specs.Crash.{SameFiles}
+use Rattle.vl_mem.specs.declared.event.Event.{Event}
+use Rattle.vl_mem.specs.Event.{replayed_lawful, state_after, WasSince, told_of, CreatesNumbered}
+
+same_state : (a b : DiskState) → Some a ≡ Some b → a ≡ b
+same_state a b e = cc
+
+pub told_lawful : (events : List Event) → All CreatesNumbered events → (calls : ℕ) (state : DiskState) → Some (told_of events calls) ≡ Some state → IsLawful state
+told_lawful events numbered calls state is =
+    let lawful = replayed_lawful events empty_disk numbered empty_lawful in
+    subst IsLawful (same_state (told_of events calls) state is) (record { standing = lawful.standing; removed = lawful.removed; apart = lawful.apart; numbered = lawful.numbered; removed_numbered = lawful.removed_numbered })
+
+pub counts_present : (events : List Event) (calls : ℕ) (state : DiskState) (t : ℕ) → Some (told_of events calls) ≡ Some state → t ≤ length events → WasSince events t state
+counts_present events calls state t is before =
+    let now : SameFiles (told_of events calls) (state_after events) = record { standing = refl; removed = refl } in
+    let whole : take (length events) events ≡ events = take_all (length events) events (omega arith) in
+    (length events, before, omega arith, subst (λ (es : List Event). SameFiles state (state_after es)) (sym whole) (subst (λ (s : DiskState). SameFiles s (state_after events)) (same_state (told_of events calls) state is) now))
+
+pub only_present : (events : List Event) (calls : ℕ) (state other : DiskState) → Some (told_of events calls) ≡ Some state → WasSince events (length events) other → SameFiles other state
+only_present events calls state other is was =
+    let whole : take was.0 events ≡ events = take_all was.0 events (omega (arith, was.1)) in
+    let here : SameFiles other (state_after events) = subst (λ (es : List Event). SameFiles other (state_after es)) whole was.3 in
+    let now : SameFiles other (told_of events calls) = record { standing = here.standing; removed = here.removed } in
+    subst (λ (s : DiskState). SameFiles other s) (same_state (told_of events calls) state is) now

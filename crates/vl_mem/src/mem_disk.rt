@@ -1,0 +1,219 @@
+// A disk in memory. It has its files as they are now, and each call that left something, since it tells the
+// images of past moments.
+ghost use Rattle.std.specs.Prelude.{◌≡◌, ◌+◌, ◌≤◌, length, Some, All, sum_by, vec_capacity};
+ghost use Rattle.vl_disk.specs.DiskState.{empty_disk};
+ghost use Rattle.vl_mem.specs.Event.{state_after, CreatesNumbered};
+ghost use Rattle.vl_mem.specs.Entry.{Fits, slots, IsDistinct, HasBytes, NotesUnsynced};
+ghost use Rattle.std.proofs.Props.{props};
+
+use crate::entry::Entry;
+use crate::event::{Event, make_room, note};
+use crate::plan::Plan;
+use crate::table::{entry_for, find, names_of, place_of};
+use std::alloc::Global;
+use vl_disk::{Disk, Failed, ListFail, Name, NoMemory};
+
+/// A disk in memory. It tells its bytes.
+#[derive(Drop)]
+pub struct MemDisk {
+    alloc: Global,
+    plan: Plan,
+    entries: Vec<Entry>,
+    events: Vec<Event>,
+    // Room for each event that may yet come without a call of `ready`.
+    ghost room: { length events.items + sum_by slots entries.items ≤ vec_capacity events },
+    ghost fits: { All Fits entries.items },
+    ghost distinct: { IsDistinct entries.items },
+    ghost has_bytes: { HasBytes entries.items (state_after events.items) } by { Prim.hlevel props },
+    ghost numbered: { All CreatesNumbered events.items } by { Prim.hlevel props },
+    ghost notes_unsynced: { NotesUnsynced entries.items (state_after events.items) } by { Prim.hlevel props },
+}
+
+impl MemDisk {
+    ghost use Rattle.std.specs.Option.{ForSome, option_copied, option_map};
+    ghost use Rattle.std.specs.FinMap.{get};
+    ghost use Rattle.vl_mem.specs.MemDisk.{told_by, failing_calls, calls_of};
+
+    /// An empty disk. Of its changing calls exactly those fail that are listed, by their numbers from 1.
+    pub fn new(alloc: Global, failing: Vec<u64>) -> Self
+        ensures told { ⟦<MemDisk as Disk>⟧.told result ≡ Some empty_disk }
+        ensures moment { ⟦<MemDisk as Disk>⟧.moment result ≡ 0 }
+        ensures faults { ⟦<MemDisk as Disk>⟧.faults result ≡ 0 }
+        ensures failing { failing_calls result ≡ failing.items }
+        ensures calls { calls_of result ≡ 0 }
+    {
+        MemDisk {
+            alloc,
+            plan: Plan::new(failing),
+            entries: Vec::new(alloc),
+            events: Vec::new(alloc),
+        }
+    }
+
+    /// The bytes of a file, if it stands.
+    pub fn bytes(&self, name: Name) -> Option<&[u8]>
+        ensures { ForSome (told_by self.now) (λ disk. option_copied result ≡ option_map (λ file. file.bytes) (get disk.standing name)) }
+    {
+        let at = find(&self.entries, name)?;
+        let entry = &self.entries[at];
+        if entry.stands {
+            Some(&entry.bytes)
+        } else {
+            None
+        }
+    }
+}
+
+impl Disk for MemDisk {
+    ghost use Rattle.std.specs.Prelude.{◌⊎◌, ℕ, OnOk, OnErr, IfOk, IsTrue, IsOk, IsErr, IsErrOf};
+    ghost use Rattle.std.specs.Option.{ForSome};
+    ghost use Rattle.vl_disk.specs.Name.{IsNumbered};
+    ghost use Rattle.vl_disk.specs.DiskState.{file_at, created, appended, synced};
+    ghost use Rattle.vl_disk.specs.Crash.{Unchanged, WhileCreating, WhileAppending, WhileSyncing};
+    ghost use Rattle.vl_disk.specs.Moments.{Elapses};
+    ghost use Rattle.vl_disk.specs.Disk.{Stands, IsFree, Lists, Turns, While, HasCause, IsReady, CanAppend, SameSpare, SameSpareElsewhere, UsesChange, UsesAppend};
+    ghost use Rattle.vl_mem.specs.Past.{told_lawful, counts_present, only_present};
+    ghost use Rattle.vl_mem.specs.MemDisk.{told_by, moment_of, was_since, faults_of, room_of, KeepsPlan, FollowsPlan};
+
+    ghost told = { told_by };
+
+    ghost moment = { moment_of };
+
+    ghost states_since = { was_since };
+
+    ghost faults = { faults_of };
+
+    ghost spare = { room_of };
+
+    ghost lawful = { λ m. told_lawful m.events.items m.numbered m.plan.calls };
+
+    ghost counts_now = { λ m. counts_present m.events.items m.plan.calls };
+
+    ghost only_now = { λ m. only_present m.events.items m.plan.calls };
+
+    fn list(&mut self, alloc: Global) -> Result<Vec<Name>, ListFail>
+        ensures names { IfOk result (λ names. ForSome (told_by self.old) (Lists names.items)) }
+        ensures numbered { IfOk result (λ names. All IsNumbered names.items) }
+        ensures told { told_by self.new ≡ told_by self.old }
+        ensures time { Elapses (moment_of self.old) (moment_of self.new) (was_since self.old) (was_since self.new)
+            (While (told_by self.old) Unchanged) }
+        ensures cause { HasCause (faults_of self.old) (faults_of self.new) (IsErrOf result ListFail.Failed) }
+        ensures spare { SameSpare (room_of self.old) (room_of self.new) }
+
+        // It doesn't fail.
+        ensures plan { KeepsPlan self.old self.new }
+        ensures answers { IsErrOf result ListFail.Failed → ⊥ }
+    {
+        Ok(names_of(alloc, &self.entries)?)
+    }
+
+    fn size(&mut self, name: Name) -> Result<u64, Failed>
+        requires { ForSome (told_by self.old) (Stands name) }
+        ensures size { IfOk result (λ size. ForSome (told_by self.old) (λ disk. size ≡ length (file_at disk name).bytes)) }
+        ensures told { told_by self.new ≡ told_by self.old }
+        ensures time { Elapses (moment_of self.old) (moment_of self.new) (was_since self.old) (was_since self.new)
+            (While (told_by self.old) Unchanged) }
+        ensures cause { HasCause (faults_of self.old) (faults_of self.new) (IsErr result) }
+        ensures spare { SameSpare (room_of self.old) (room_of self.new) }
+
+        // It doesn't fail.
+        ensures plan { KeepsPlan self.old self.new }
+        ensures answers { IsOk result }
+    {
+        let at = place_of(&self.entries, name);
+        Ok(self.entries[at].bytes.len() as u64)
+    }
+
+    fn ready(&mut self, name: Name, bytes: u64) -> Result<(), NoMemory>
+        ensures ready { OnOk result (IsReady bytes (room_of self.new name)) }
+        ensures elsewhere { SameSpareElsewhere name (room_of self.old) (room_of self.new) }
+        ensures refused { OnErr result (SameSpare (room_of self.old) (room_of self.new)) }
+        ensures told { told_by self.new ≡ told_by self.old }
+        ensures time { Elapses (moment_of self.old) (moment_of self.new) (was_since self.old) (was_since self.new)
+            (While (told_by self.old) Unchanged) }
+        ensures faults { faults_of self.new ≡ faults_of self.old }
+        ensures plan { KeepsPlan self.old self.new }
+    {
+        make_room(&mut self.events, self.entries.len() + 1)?;
+        let at = entry_for(self.alloc, &mut self.entries, name)?;
+        self.entries[at].make_room(self.alloc, bytes as usize)
+    }
+
+    fn create(&mut self, name: Name) -> Result<(), Failed>
+        requires numbered { IsNumbered name }
+        requires free { ForSome (told_by self.old) (IsFree name) }
+        requires room { IsTrue (room_of self.old name).change }
+        ensures created { OnOk result (Turns (created name) (told_by self.old) (told_by self.new)) }
+        ensures stands { OnOk result (ForSome (told_by self.new) (Stands name)) }
+        ensures failed { OnErr result (Turns (λ disk. disk) (told_by self.old) (told_by self.new)
+            ⊎ Turns (created name) (told_by self.old) (told_by self.new)) }
+        ensures time { Elapses (moment_of self.old) (moment_of self.new) (was_since self.old) (was_since self.new)
+            (While (told_by self.old) (WhileCreating name)) }
+        ensures cause { HasCause (faults_of self.old) (faults_of self.new) (IsErr result) }
+        ensures spare { UsesChange name (room_of self.old) (room_of self.new) }
+
+        // It fails exactly if it is listed, and then does nothing.
+        ensures plan { FollowsPlan self.old self.new (IsErr result) }
+        ensures nothing { OnErr result (Turns (λ disk. disk) (told_by self.old) (told_by self.new)) }
+    {
+        if self.plan.fails() {
+            return Err(Failed);
+        }
+        let at = place_of(&self.entries, name);
+        self.entries[at].create();
+        note(&mut self.events, Event::Create(name));
+        Ok(())
+    }
+
+    fn append(&mut self, name: Name, piece: &[u8]) -> Result<(), Failed>
+        requires stands { ForSome (told_by self.old) (Stands name) }
+        requires room { CanAppend (length piece.now) (room_of self.old name) }
+        ensures appended { OnOk result (Turns (appended name piece.now (length piece.now)) (told_by self.old) (told_by self.new)) }
+        ensures failed { OnErr result ((taken : ℕ) × (taken ≤ length piece.now)
+            × Turns (appended name piece.now taken) (told_by self.old) (told_by self.new)) }
+        ensures stands { ForSome (told_by self.new) (Stands name) }
+        ensures time { Elapses (moment_of self.old) (moment_of self.new) (was_since self.old) (was_since self.new)
+            (While (told_by self.old) (WhileAppending name piece.now)) }
+        ensures cause { HasCause (faults_of self.old) (faults_of self.new) (IsErr result) }
+        ensures spare { UsesAppend name (room_of self.old) (room_of self.new) }
+
+        // It fails exactly if it is listed, and then takes nothing. The piece is due all the same.
+        ensures plan { FollowsPlan self.old self.new (IsErr result) }
+        ensures nothing { OnErr result (Turns (appended name piece.now 0) (told_by self.old) (told_by self.new)) }
+    {
+        let at = place_of(&self.entries, name);
+        if self.plan.fails() {
+            let kept = self.entries[at].append(self.alloc, piece, false);
+            note(&mut self.events, Event::Refuse(name, kept));
+            return Err(Failed);
+        }
+        let kept = self.entries[at].append(self.alloc, piece, true);
+        note(&mut self.events, Event::Append(name, kept));
+        Ok(())
+    }
+
+    fn sync(&mut self, name: Name) -> Result<(), Failed>
+        requires { ForSome (told_by self.old) (Stands name) }
+        ensures synced { OnOk result (Turns (synced name) (told_by self.old) (told_by self.new)) }
+        ensures failed { OnErr result (Turns (λ disk. disk) (told_by self.old) (told_by self.new)) }
+        ensures stands { ForSome (told_by self.new) (Stands name) }
+        ensures time { Elapses (moment_of self.old) (moment_of self.new) (was_since self.old) (was_since self.new)
+            (While (told_by self.old) (WhileSyncing name)) }
+        ensures cause { HasCause (faults_of self.old) (faults_of self.new) (IsErr result) }
+        ensures spare { SameSpare (room_of self.old) (room_of self.new) }
+
+        // It fails exactly if it is listed.
+        ensures plan { FollowsPlan self.old self.new (IsErr result) }
+    {
+        if self.plan.fails() {
+            return Err(Failed);
+        }
+        let at = place_of(&self.entries, name);
+        if !self.entries[at].unsynced {
+            return Ok(());
+        }
+        self.entries[at].sync();
+        note(&mut self.events, Event::Sync(name));
+        Ok(())
+    }
+}
