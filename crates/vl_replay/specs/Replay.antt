@@ -1,5 +1,5 @@
 -- Whole runs: what is printed for an input, however the run ends.
-use Rattle.std.specs.Prelude.{◌≡◌, ◌+◌, ◌-◌, ◌^◌, ◌<◌, ◌≤◌, ℕ, Bool, true, false, not, ◌==◌, min, if◌then◌else◌, List, [], ◌∷◌, ◌++◌, length, take, codes, count_by, Option, Some, None, option_and_then}
+use Rattle.std.specs.Prelude.{◌≡◌, ◌+◌, ◌-◌, ◌^◌, ◌<◌, ◌≤◌, ℕ, Bool, true, false, ◌==◌, min, if◌then◌else◌, List, [], ◌∷◌, ◌++◌, length, take, codes, count_by, Option, Some, None, option_and_then}
 use Rattle.std.specs.List.{flat_map, AllByRecursion, slice_get}
 use Rattle.std.specs.Fmt.{decimal}
 use Rattle.std.specs.FinMap.{get}
