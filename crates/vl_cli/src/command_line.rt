@@ -1,9 +1,6 @@
 //! The top call: words and a script in, answers and a status out.
 
-mod answering;
 mod ended;
-mod last_line;
-mod replay;
 #[cfg(test)]
 mod tests;
 mod words;
@@ -15,21 +12,20 @@ ghost use Rattle.vl_journal.specs.Files.{StandsSome};
 ghost use Rattle.vl_disk.specs.Faults.{Rose};
 ghost use Rattle.vl_io.specs.Sink.{Takes};
 ghost use Rattle.vl_script.specs.Script.{lines_of};
-ghost use Rattle.vl_cli.specs.Sequential.{empty_store};
-ghost use Rattle.vl_cli.specs.Replay.{Runs, RefusesWords, status_of, is_plain, no_memory_line, exchanges_from, AreExplained, KeepsUp};
-ghost use Rattle.vl_cli.specs.Durable.{DiskEndsFromEmpty, history_of};
-ghost use Rattle.vl_cli.specs.Steps.{Causes, Finishes, IsRefusal};
-ghost use Rattle.vl_cli.specs.declared.ending.Ending.{Ending as HowEnded};
-ghost use Rattle.vl_cli.specs.declared.ending.Ending.TheVariants.{NoMemory};
+ghost use Rattle.vl_replay.specs.Sequential.{empty_store};
+ghost use Rattle.vl_replay.specs.Replay.{status_of, no_memory_line, exchanges_from, AreExplained, KeepsUp};
+ghost use Rattle.vl_replay.specs.Durable.{DiskEndsFromEmpty, history_of};
+ghost use Rattle.vl_replay.specs.Steps.{Causes, Finishes, IsRefusal};
+ghost use Rattle.vl_replay.specs.declared.ending.Ending.{Ending as HowEnded};
+ghost use Rattle.vl_replay.specs.declared.ending.Ending.TheVariants.{NoMemory};
+ghost use Rattle.vl_cli.specs.Run.{Runs, RefusesWords, is_plain};
 
-use crate::Ending;
-use crate::command_line::last_line::{NO_MEMORY, finish};
-use crate::command_line::replay::replay;
 use crate::command_line::words::{USAGE, are_plain};
 pub use ended::Ended;
 use std::alloc::Global;
 use vl_disk::Disk;
 use vl_io::{Sink, Source};
+use vl_replay::{Ending, NO_MEMORY, finish, replay};
 
 /// Ends a run whose words found no memory: status 5, or 7 where the last line can't be put.
 pub fn refuse_without_words<K: Sink>(sink: &mut K) -> u8

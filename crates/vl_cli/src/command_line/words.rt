@@ -1,5 +1,5 @@
 ghost use Rattle.std.specs.Prelude.{◌≡◌, map, string_bytes};
-ghost use Rattle.vl_cli.specs.Replay.{is_plain, is_plain_word};
+ghost use Rattle.vl_cli.specs.Run.{is_plain, is_plain_word};
 
 /// Printed where the words aren't plain.
 pub const USAGE: &[u8] =

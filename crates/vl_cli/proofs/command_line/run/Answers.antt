@@ -2,13 +2,12 @@ use Rattle.std.proofs.Common.{◌∙◌, ap, sym}
 use Rattle.std.specs.Prelude.{map, string_bytes}
 use Rattle.std.specs.Option.{ForSome}
 use Rattle.vl_journal.specs.Files.{StandsSome}
-use Rattle.vl_cli.specs.Replay.{status_of}
-use Rattle.vl_cli.specs.Durable.{DiskEndsFromEmpty}
-use Rattle.vl_cli.specs.Steps.{Causes}
-use Rattle.vl_cli.proofs.Replays.{keeps_up_at_first}
-use Rattle.vl_cli.proofs.OpenedRuns.{plain_answers, other_answers, refused_words}
+use Rattle.vl_replay.specs.Replay.{status_of}
+use Rattle.vl_replay.specs.Durable.{DiskEndsFromEmpty}
+use Rattle.vl_replay.specs.Steps.{Causes}
+use Rattle.vl_replay.specs.Laws.{all_explained, keeps_up_at_first}
+use Rattle.vl_cli.proofs.Words.{plain_answers, other_answers, refused_words}
 use Rattle.vl_script.specs.Script.{lines_of}
-use Rattle.vl_cli.proofs.Explained.{all_explained}
 use Rattle.vl_cli.proofs.command_line.run.Goals as goal
 use Rattle.vl_cli.proofs.command_line.run.Goals.{then-are_plain, else-are_plain}
 

@@ -1,9 +1,0 @@
-use Rattle.vl_cli.specs.Durable.{CarriesOutText}
-use Rattle.vl_cli.specs.Steps.{IsAnswered}
-use Rattle.std.proofs.Common.{subst}
-use Rattle.vl_cli.proofs.command_line.replay.Progress.answer.Goals as goal
-
-pub returns-clause-takes : goal.returns-clause-takes
-returns-clause-takes g c begun s state stands is holds =
-    subst (λ text. CarriesOutText g.D.Disk.told g.D.Disk.moment g.D.Disk.states_since g.D.Disk.faults c.args.disk.now c.answer-ended.new.disk begun s text (IsAnswered c.answer-ended.result)) c.deref.ensures.value
-    (c.answer-ended.ensures.takes begun s state stands is holds)

@@ -1,6 +1,0 @@
-use Rattle.std.proofs.Common.{refl}
-use Rattle.vl_cli.proofs.States.{shows_none}
-use Rattle.vl_cli.proofs.replayer.Replayer.new.Goals as goal
-
-pub returns : goal.returns
-returns c = record { last = refl; log_length = refl; shows = shows_none _ c.new.ensures; in_use = refl }

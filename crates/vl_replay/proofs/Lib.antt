@@ -1,0 +1,14 @@
+pub mod Commits
+pub mod DiskSteps
+pub mod Lines
+pub mod Logged
+pub mod MemtableEntries
+pub mod Noting
+pub mod OpenedRuns
+pub mod Places
+pub mod Replays
+pub mod States
+pub mod Stepping
+pub mod Texts
+pub mod UnderWay
+pub mod WriteEntries

@@ -1,0 +1,94 @@
+-- A run that opens its store first.
+use Rattle.std.proofs.Common.{◌≡◌, ◌⊎◌, inl, ⊎_elim, ◌+◌, ◌-◌, ◌^◌, min, ℕ, suc, ◌≤◌, List, [], ◌++◌, length, take, Option, Some, sym, ◌∙◌, ap, subst}
+use Rattle.vl_model.specs.History.{History}
+use Rattle.vl_disk.specs.Faults.{Rose}
+use Rattle.vl_disk.specs.DiskState.{DiskState}
+use Rattle.vl_disk.specs.Crash.{SameFiles}
+use Rattle.vl_disk.specs.Moments.{HoldsThroughout, holds_weaker}
+use Rattle.vl_seglog.specs.Log.{Commit}
+use Rattle.vl_journal.specs.Files.{Holds, IsEmpty}
+use Rattle.vl_journal.specs.Images.{Leaves, IsNone}
+use Rattle.vl_script.specs.Script.{lines_of}
+use Rattle.vl_replay.specs.Sequential.{empty_store}
+use Rattle.vl_replay.specs.Replay.{exchanges_from, history_after, KeepsUp}
+use Rattle.vl_replay.specs.Durable.{logged, AreFirstOf, AreBetween, EndsBetweenLines, DiskEndsFrom, DiskEndsFromEmpty}
+use Rattle.vl_replay.specs.Steps.{Causes, EndsBefore, EndsRun}
+use Rattle.vl_replay.specs.declared.ending.Ending.{Ending}
+use Rattle.vl_replay.specs.declared.ending.Ending.TheVariants.{Complete, BadLine, BadWords, DiskFault, NotAStore, NoMemory, ReadFault, WriteFault}
+use Rattle.vl_replay.proofs.Logged.{holds_opened}
+use Rattle.vl_replay.proofs.Replays.{ends_weaker, rose_earlier}
+use Rattle.vl_replay.proofs.DiskSteps.{exchanges_extend, leaves_weaker, ends_later}
+
+-- a fault that was counted since the store was opened was counted since the begin
+causes_earlier : (f t fd fd' td : ℕ) (occupied : Type 0) → fd ≤ fd' → (ending : Ending) → Causes f t fd' td ⊥ ending → Causes f t fd td occupied ending
+causes_earlier f t fd fd' td occupied le Complete cause = absurd cause
+causes_earlier f t fd fd' td occupied le BadLine cause = absurd cause
+causes_earlier f t fd fd' td occupied le BadWords cause = absurd cause
+causes_earlier f t fd fd' td occupied le DiskFault cause = rose_earlier fd fd' td le cause
+causes_earlier f t fd fd' td occupied le NotAStore cause = absurd cause
+causes_earlier f t fd fd' td occupied le NoMemory cause = absurd cause
+causes_earlier f t fd fd' td occupied le ReadFault cause = cause
+causes_earlier f t fd fd' td occupied le WriteFault cause = absurd cause
+
+none_up_to : (most : History) (commits : List Commit) → IsNone commits → AreFirstOf most commits
+none_up_to most commits none = (logged most, ap (λ cs. cs ++ logged most) (sym none))
+
+none_within : (most : History) (commits : List Commit) → IsNone commits → AreBetween empty_store.history most commits
+none_within most commits none = ([], none, none_up_to most commits none)
+
+-- a last line that says that the store wasn't opened
+not_whole : (ending result : Ending) (P Q : Type 0) → (EndsBetweenLines ending → ⊥) → ((result ≡ ending) × P) ⊎ ((result ≡ WriteFault) × Q) → EndsBetweenLines result → ⊥
+not_whole ending result P Q none how whole = ⊎_elim
+    (λ (same : (result ≡ ending) × P). none (subst EndsBetweenLines same.0 whole))
+    (λ (cut : (result ≡ WriteFault) × Q). subst EndsBetweenLines cut.0 whole)
+    how
+
+module _ {D : Type 0} (told : D → Option DiskState) (moment : D → ℕ) (since : D → ℕ → DiskState → Type 0) (faults : D → ℕ)
+    (only_now : (disk : D) (state other : DiskState) → told disk ≡ Some state → since disk (moment disk) other → SameFiles other state)
+    (counts_now : (disk : D) (state : DiskState) (t : ℕ) → told disk ≡ Some state → t ≤ moment disk → since disk t state) where
+  -- the store wasn't opened
+  pub unopened : (old new : D) (ending result : Ending) (P Q : Type 0) (most : History) → (EndsBetweenLines ending → ⊥) → ((result ≡ ending) × P) ⊎ ((result ≡ WriteFault) × Q)
+      → ((state : DiskState) → told old ≡ Some state → IsEmpty state → HoldsThroughout moment since old new (Leaves IsNone))
+      → ((state : DiskState) → told old ≡ Some state → (now : DiskState) × (told new ≡ Some now))
+      → ((Rose (faults old) (faults new) → ⊥) → told new ≡ told old)
+      → DiskEndsFromEmpty told moment since faults old new result empty_store.history most
+  unopened old new ending result P Q most none how through tells kept state is empty =
+      let through' = through state is empty in
+      let now = tells state is in
+      record {
+        through = holds_weaker moment since (Leaves IsNone) (Leaves (AreFirstOf most)) old new through' (leaves_weaker IsNone (AreFirstOf most) (none_up_to most));
+        now = (now.0, now.1, leaves_weaker IsNone (AreBetween empty_store.history most) (none_within most) now.0 (through'.each now.0 (counts_now new now.0 (moment old) now.1 through'.later)));
+        settled = λ sound. (state, kept sound ∙ is, inl (kept sound));
+        whole = λ whole. absurd (not_whole ending result P Q none how whole);
+      }
+
+  pub ends_unopened : (cause : Ending → Type 0) (old new : D) (ending result : Ending) (P Q : Type 0) (input : List ℕ) (left asked held held' : Option (List ℕ)) → (EndsBetweenLines ending → ⊥) → ((result ≡ ending) × P) ⊎ ((result ≡ WriteFault) × Q)
+      → EndsBefore cause empty_store 0 input left result held held' → KeepsUp input asked 0
+      → ((state : DiskState) → told old ≡ Some state → IsEmpty state → HoldsThroughout moment since old new (Leaves IsNone))
+      → ((state : DiskState) → told old ≡ Some state → (now : DiskState) × (told new ≡ Some now))
+      → ((Rose (faults old) (faults new) → ⊥) → told new ≡ told old)
+      → EndsRun cause (DiskEndsFromEmpty told moment since faults old new) empty_store 0 input left asked result held held'
+  ends_unopened cause old new ending result P Q input left asked held held' none how (printed, printed_is, run) kept_up through tells kept =
+      (printed, 0, printed_is, run, kept_up, unopened old new ending result P Q (history_after empty_store.history (take 1 (exchanges_from empty_store (lines_of input)))) none how through tells kept)
+
+  -- the store was opened, and a run went on over it
+  pub ends_opened : (f t : ℕ) (occupied : Type 0) (first mid new : D) (input : List ℕ) (left asked : Option (List ℕ)) (ending : Ending) (held held' : Option (List ℕ)) → faults first ≤ faults mid
+      → ((state : DiskState) → told first ≡ Some state → IsEmpty state → (now : DiskState) × (told mid ≡ Some now) × Holds [] now × (now.calls ≡ min (state.calls + 6) (2 ^ 64 - 1)))
+      → ((state : DiskState) → told first ≡ Some state → IsEmpty state → HoldsThroughout moment since first mid (Leaves IsNone))
+      → EndsRun (Causes f t (faults mid) (faults new) ⊥) (DiskEndsFrom told moment since faults mid new empty_store) empty_store 0 input left asked ending held held'
+      → EndsRun (Causes f t (faults first) (faults new) occupied) (DiskEndsFromEmpty told moment since faults first new) empty_store 0 input left asked ending held held'
+  ends_opened f t occupied first mid new input left asked ending held held' earlier opened through (printed, m, printed_is, run, kept_up, so) =
+      let all = exchanges_from empty_store (lines_of input) in
+      let least = history_after empty_store.history (take m all) in
+      let most = history_after empty_store.history (take (suc m) all) in (
+        printed,
+        m,
+        printed_is,
+        ends_weaker (Causes f t (faults mid) (faults new) ⊥) (Causes f t (faults first) (faults new) occupied) (causes_earlier f t (faults first) (faults mid) (faults new) occupied earlier) all (length (lines_of input)) 0 input left m ending printed run,
+        kept_up,
+        λ state is empty.
+            let now = opened state is empty in
+            ends_later told moment since faults only_now counts_now (told new ≡ told first) first mid new state.calls ending empty_store.history least most (exchanges_extend (lines_of input) empty_store (suc m)) earlier
+            (holds_weaker moment since (Leaves IsNone) (Leaves (AreFirstOf empty_store.history)) first mid (through state is empty) (leaves_weaker IsNone (AreFirstOf empty_store.history) (none_up_to empty_store.history)))
+            (so state.calls now.0 now.1 (holds_opened state.calls now.0 now.2 now.3)),
+      )

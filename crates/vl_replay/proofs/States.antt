@@ -1,0 +1,399 @@
+-- What a replayer keeps, and the states that it stands for.
+use Rattle.std.proofs.Common.{min, ◌^◌, ◌≡◌, ℕ, zero, suc, ◌+◌, ◌-◌, ◌≤◌, ◌<◌, Bool, true, false, cond, ◌&&◌, not, List, [], ◌∷◌, ◌++◌, length, take, refl, ap, sym, ◌∙◌, subst, arith, inl, inr, length-append, Bor, ◌==◌}
+use Rattle.vl_model.specs.declared.limits.TheConstants.{MAX_COMMIT_NUMBER}
+use Rattle.vl_replay.specs.declared.replayer.limits.TheConstants.{MAX_LOG_BYTES}
+use Rattle.vl_model.specs.declared.counter.Counter.TheVariants.{Commit as CommitNumber}
+use Rattle.std.specs.Option.{option_copied}
+use Rattle.std.specs.Prelude.{Option, Some, None, is_some, nat_le, Result, Ok, Err, IfOk, OnOk}
+use Rattle.std.proofs.lemmas.Result.{IfOk-weaker}
+use Rattle.vl_replay.specs.declared.replayer.halt.Halt.{Halt}
+use Rattle.std.specs.List.{AllByRecursion}
+use Rattle.std.specs.Ordering.{eq_by_cmp}
+use Rattle.std.specs.Str.{bytes_eq}
+use Rattle.std.specs.Cmp.Lexicographic.{nat_list_cmp_total}
+use Rattle.std.specs.FinMap.{FinMap, get, insert, remove, empty, len, get-insert, get-remove, get-empty, len-insert, len-empty, same_map, slice_cmp-IsAntisymmetric, nat_cmp-IsAntisymmetric}
+use Rattle.std.proofs.lemmas.Bool.{cond-true, cond-false, cases_lt, le-leb, lt-leb}
+use Rattle.std.proofs.lemmas.List.{take-append-le}
+use Rattle.std.proofs.lemmas.Map.Text.{is_eq-slice_cmp}
+use Rattle.std.proofs.lemmas.Slice.Eq.{bytes_eq-Decides}
+use Rattle.vl_model.specs.Keys.{Writes, key_cmp, is_key_length, is_value_length}
+use Rattle.vl_model.specs.History.{History, no_history, last_number, with_commit, value_at, value_left, newer, last_change}
+use Rattle.vl_model.specs.Reads.{KeyRead}
+use Rattle.vl_model.specs.declared.change.Change.{Change}
+use Rattle.vl_model.specs.declared.change.Change.TheVariants.{Set as Put, Delete}
+use Rattle.vl_model.specs.HistoryLaws.{value_at-with_commit}
+use Rattle.vl_replay.specs.Memtable.{newest}
+use Rattle.vl_replay.specs.Sequential as sequential
+use Rattle.vl_replay.specs.Sequential.{State, Outcome, OpenTransaction, OpenView, with_thing, without_thing, opened, read, read_in_transaction, written, committed, frame_length, found, fits_transaction}
+use Rattle.vl_replay.specs.Represents.{IsReadable, Shows, StandsFor, IsOpen, Represents, Gives, thing_named, write_answer, writes_after}
+use Rattle.vl_replay.specs.declared.replayer.entry.Entry.{Entry}
+use Rattle.vl_replay.specs.declared.replayer.open.Open.{Open}
+use Rattle.vl_replay.specs.declared.replayer.open.Thing.{Thing}
+use Rattle.vl_replay.specs.declared.replayer.open.Thing.TheVariants.{Transaction, View}
+use Rattle.vl_replay.specs.declared.replayer.memtable.Memtable.{Memtable}
+use Rattle.vl_replay.specs.declared.replayer.Replayer.{Replayer}
+use Rattle.vl_script.specs.declared.answer.Answer.{Answer}
+use Rattle.vl_script.specs.declared.answer.Answer.TheVariants.{Done, Number, Taken, Invalid, TooBig, TooMany, Nothing, Full, Exhausted}
+
+-- ---- one thing in use
+
+module _ {X : Type 0} where
+  abbrev pub one : List ℕ → X → FinMap key_cmp X
+  one name x = insert empty name x
+
+  pub get-one : (name : List ℕ) (x : X) (q : List ℕ) → get (one name x) q ≡ cond (eq_by_cmp key_cmp q name) (Some x) None
+  get-one name x q = get-insert nat_list_cmp_total empty name x q ∙ ap (cond (eq_by_cmp key_cmp q name) (Some x)) (get-empty key_cmp q)
+
+  pub len-one : (name : List ℕ) (x : X) → len (one name x) ≡ 1
+  len-one name x = len-insert nat_list_cmp_total empty name x ∙ ap (λ o. cond (is_some o) (len (empty {X = X} {R = key_cmp})) (len (empty {X = X} {R = key_cmp}) + 1)) (get-empty key_cmp name) ∙ ap (λ n. n + 1) (len-empty key_cmp X)
+
+  same_at : (b : Bool) (x y : X) → cond b (Some y) (cond b (Some x) None) ≡ cond b (Some y) None
+  same_at true x y = refl
+  same_at false x y = refl
+
+  none_at : (b : Bool) (x : X) → cond b None (cond b (Some x) None) ≡ None
+  none_at true x = refl
+  none_at false x = refl
+
+  pub insert-one : (name : List ℕ) (x y : X) → insert (one name x) name y ≡ one name y
+  insert-one name x y = same_map nat_list_cmp_total (slice_cmp-IsAntisymmetric nat_cmp-IsAntisymmetric) _ _ (λ q.
+      get-insert nat_list_cmp_total (one name x) name y q ∙ ap (cond (eq_by_cmp key_cmp q name) (Some y)) (get-one name x q) ∙ same_at (eq_by_cmp key_cmp q name) x y ∙ sym (get-one name y q))
+
+  pub remove-one : (name : List ℕ) (x : X) → remove (one name x) name ≡ empty
+  remove-one name x = same_map nat_list_cmp_total (slice_cmp-IsAntisymmetric nat_cmp-IsAntisymmetric) _ _ (λ q.
+      get-remove nat_list_cmp_total (one name x) name q ∙ ap (cond (eq_by_cmp key_cmp q name) None) (get-one name x q) ∙ none_at (eq_by_cmp key_cmp q name) x ∙ sym (get-empty key_cmp q))
+
+  pub get-one_own : (name : List ℕ) (x : X) → get (one name x) name ≡ Some x
+  get-one_own name x = get-one name x name ∙ cond-true _ _ _ (is_eq-slice_cmp name name ∙ (bytes_eq-Decides name name).1 refl)
+
+-- ---- what a name stands for
+
+-- a thing that is kept under a name, and what it stands for
+pub record IsInUse (h : History) (things : FinMap key_cmp sequential.Thing) (name : List ℕ) (kept : Thing) : Type 0 where
+  pub thing : sequential.Thing
+  pub stands : StandsFor h kept thing
+  pub alone : things ≡ one name thing
+  pub found_is : get things name ≡ Some thing
+
+pub held_in_use : (h : History) (things : FinMap key_cmp sequential.Thing) (held : Open) (name : List ℕ) → IsOpen h (Some held) things → bytes_eq name held.name ≡ true → IsInUse h things name held.thing
+held_in_use h things held name in_use same =
+    let same_name : held.name ≡ name = sym ((bytes_eq-Decides name held.name).0 same) in
+    let alone : things ≡ one name in_use.0 = in_use.2 ∙ ap (λ n. one n in_use.0) same_name in
+    record { thing = in_use.0; stands = in_use.1; alone = alone; found_is = ap (λ t. get t name) alone ∙ get-one_own name in_use.0 }
+
+pub other_in_use : (h : History) (things : FinMap key_cmp sequential.Thing) (held : Open) (name : List ℕ) → IsOpen h (Some held) things → bytes_eq name held.name ≡ false → get things name ≡ None
+other_in_use h things held name in_use other =
+    ap (λ t. get t name) in_use.2 ∙ get-one held.name in_use.0 name ∙ cond-false _ _ _ (is_eq-slice_cmp name held.name ∙ other)
+
+pub none_in_use : (h : History) (things : FinMap key_cmp sequential.Thing) (name : List ℕ) → IsOpen h None things → get things name ≡ None
+none_in_use h things name none = ap (λ t. get t name) none ∙ get-empty key_cmp name
+
+pub unnamed : (h : History) (things : FinMap key_cmp sequential.Thing) (held : Option Open) (name : List ℕ) → IsOpen h held things → thing_named held name ≡ None → get things name ≡ None
+unnamed h things None name is none = none_in_use h things name is
+unnamed h things (Some held) name is none =
+    elim (bytes_eq name held.name) as (λ b. bytes_eq name held.name ≡ b → cond b (Some held.thing) None ≡ None → get things name ≡ None) [
+      | true ↦ λ _ e. cc
+      | false ↦ λ other _. other_in_use h things held name is other
+    ] refl none
+
+pub named : (h : History) (things : FinMap key_cmp sequential.Thing) (held : Option Open) (name : List ℕ) (kept : Thing) → IsOpen h held things → thing_named held name ≡ Some kept → IsInUse h things name kept
+named h things None name kept is found = cc
+named h things (Some held) name kept is found =
+    elim (bytes_eq name held.name) as (λ b. bytes_eq name held.name ≡ b → cond b (Some held.thing) None ≡ Some kept → IsInUse h things name kept) [
+      | true ↦ λ same e. let kept_is : held.thing ≡ kept = cc in subst (IsInUse h things name) kept_is (held_in_use h things held name is same)
+      | false ↦ λ _ e. cc
+    ] refl found
+
+-- ---- answers
+
+pub gives_as : {answer : Answer} {r : Replayer} {o : Outcome} (p : Outcome) → p ≡ o → Gives answer r o → Gives answer r p
+gives_as {answer} {r} p e g = subst (Gives answer r) (sym e) g
+
+-- an open thing is opened over nothing
+pub opened_taken : (s : State) (name : List ℕ) (opens thing : sequential.Thing) → get s.things name ≡ Some thing → opened s name opens ≡ (Taken name, s)
+opened_taken s name opens thing found = cond-true _ _ _ (ap is_some found)
+
+pub opened_full : (s : State) (name : List ℕ) (opens : sequential.Thing) → get s.things name ≡ None → len s.things ≡ 1 → opened s name opens ≡ (TooMany, s)
+opened_full s name opens missing full = cond-false _ _ _ (ap is_some missing) ∙ cond-true _ _ _ (ap (nat_le 1) full)
+
+pub opened_new : (s : State) (name : List ℕ) (opens : sequential.Thing) → s.things ≡ empty → opened s name opens ≡ (Number (last_number s.history), with_thing s name opens)
+opened_new s name opens none =
+    cond-false _ _ _ (ap is_some (ap (λ t. get t name) none ∙ get-empty key_cmp name)) ∙ cond-false _ _ _ (ap (λ t. nat_le 1 (len t)) none ∙ ap (nat_le 1) (len-empty key_cmp sequential.Thing))
+
+some_of : {X : Type 0} (o : Option X) → is_some o ≡ true → (x : X) × (o ≡ Some x)
+some_of None e = cc
+some_of (Some x) e = (x, refl)
+
+none_of : {X : Type 0} (o : Option X) → is_some o ≡ false → o ≡ None
+none_of None e = refl
+none_of (Some x) e = cc
+
+is_some-copied : {X : Type 0} (o : Option (Bor X)) → is_some (option_copied o) ≡ is_some o
+is_some-copied None = refl
+is_some-copied (Some x) = refl
+
+pub gives_taken : (r : Replayer) (s : State) (name : List ℕ) (opens : sequential.Thing) (o : Option (Bor Thing)) → Represents r s → option_copied o ≡ thing_named r.in_use name → is_some o ≡ true → Gives (Taken name) r (opened s name opens)
+gives_taken r s name opens o rep is some =
+    let kept = some_of (thing_named r.in_use name) (ap is_some (sym is) ∙ is_some-copied o ∙ some) in
+    let holds = named s.history s.things r.in_use name kept.0 rep.in_use kept.1 in
+    gives_as _ (opened_taken s name opens holds.thing holds.found_is) (record { answer_is = refl; stands = rep })
+
+pub gives_full : (r : Replayer) (s : State) (name : List ℕ) (opens : sequential.Thing) (o : Option (Bor Thing)) → Represents r s → option_copied o ≡ thing_named r.in_use name → is_some o ≡ false → is_some r.in_use ≡ true → Gives TooMany r (opened s name opens)
+gives_full r s name opens o rep is none some =
+    let missing = unnamed s.history s.things r.in_use name rep.in_use (sym is ∙ none_of (option_copied o) (is_some-copied o ∙ none)) in
+    let held = some_of r.in_use some in
+    let in_use = subst (λ o. IsOpen s.history o s.things) held.1 rep.in_use in
+    gives_as _ (opened_full s name opens missing (ap len in_use.2 ∙ len-one held.0.name in_use.0)) (record { answer_is = refl; stands = rep })
+
+pub gives_open : (r : Replayer) (s : State) (name : List ℕ) (opens : sequential.Thing) (thing : Thing) → Represents r s → StandsFor s.history thing opens → is_some r.in_use ≡ false →
+    Gives (Number r.last) (record { alloc = r.alloc; last = r.last; log_length = r.log_length; memtable = r.memtable; in_use = Some (record { name = name; thing = thing }) }) (opened s name opens)
+gives_open r s name opens thing rep stands none =
+    let nothing : s.things ≡ empty = subst (λ o. IsOpen s.history o s.things) (none_of r.in_use none) rep.in_use in
+    gives_as _ (opened_new s name opens nothing) (record {
+      answer_is = ap Number rep.last;
+      stands = record { last = rep.last; log_length = rep.log_length; shows = rep.shows; in_use = (opens, stands, ap (λ t. insert t name opens) nothing) };
+    })
+
+-- a thing under a name that is in use takes the place of the one before
+pub IsOpen-insert : (h : History) (things : FinMap key_cmp sequential.Thing) (held : Open) (name : List ℕ) (kept : Thing) (thing : sequential.Thing) → IsOpen h (Some held) things → bytes_eq name held.name ≡ true → StandsFor h kept thing →
+    IsOpen h (Some (record { name = held.name; thing = kept })) (insert things name thing)
+IsOpen-insert h things held name kept thing in_use same stands =
+    let same_name : name ≡ held.name = (bytes_eq-Decides name held.name).0 same in
+    (thing, stands, ap (λ t. insert t name thing) in_use.2 ∙ ap (λ n. insert (one held.name in_use.0) n thing) same_name ∙ insert-one held.name in_use.0 thing)
+
+IsOpen-note : (h : History) (things : FinMap key_cmp sequential.Thing) (held : Option Open) (name : List ℕ) (kept : Thing) (thing : sequential.Thing) → IsOpen h held things → thing_named held name ≡ Some kept → StandsFor h kept thing → IsOpen h held (insert things name thing)
+IsOpen-note h things None name kept thing is named_is stands = cc
+IsOpen-note h things (Some held) name kept thing is named_is stands =
+    elim (bytes_eq name held.name) as (λ b. bytes_eq name held.name ≡ b → cond b (Some held.thing) None ≡ Some kept → IsOpen h (Some held) (insert things name thing)) [
+      | true ↦ λ same e. let kept_is : kept ≡ held.thing = cc in IsOpen-insert h things held name held.thing thing is same (subst (λ k. StandsFor h k thing) kept_is stands)
+      | false ↦ λ _ e. cc
+    ] refl named_is
+
+-- the thing that a name is in use for goes
+pub remove_in_use : (h : History) (things : FinMap key_cmp sequential.Thing) (name : List ℕ) (kept : Thing) → IsInUse h things name kept → remove things name ≡ empty
+remove_in_use h things name kept holds = ap (λ t. remove t name) holds.alone ∙ remove-one name holds.thing
+
+-- ---- reads
+
+pub read_invalid : (s : State) (name key : List ℕ) (kept : Thing) → IsInUse s.history s.things name kept → is_key_length (length key) ≡ false → read s name key (get s.things name) ≡ (Invalid, s)
+read_invalid s name key (Transaction number writes) holds unlawful = ap (read s name key) (holds.found_is ∙ ap Some holds.stands.1.1) ∙ cond-false _ _ _ unlawful
+read_invalid s name key (View number) holds unlawful = ap (read s name key) (holds.found_is ∙ ap Some holds.stands.1) ∙ cond-false _ _ _ unlawful
+
+pub gives_if_ok : (result : Result Answer Halt) (answer : Answer) (r : Replayer) (o : Outcome) → IfOk result (λ a. a ≡ answer) → Gives answer r o → IfOk result (λ a. Gives a r o)
+gives_if_ok result answer r o is gives = IfOk-weaker result (λ a. a ≡ answer) (λ a. Gives a r o) (λ a e. subst (λ x. Gives x r o) (sym e) gives) is
+
+pub read_view : (r : Replayer) (s : State) (name key : List ℕ) (number : ℕ) → Represents r s → IsInUse s.history s.things name (View number) → is_key_length (length key) ≡ true →
+    Gives (found (value_left None (newest r.memtable.entries.items key number))) r (read s name key (get s.things name))
+read_view r s name key number rep holds lawful =
+    gives_as _ (ap (read s name key) (holds.found_is ∙ ap Some holds.stands.1) ∙ cond-true _ _ _ lawful) (record {
+      answer_is = ap found (rep.shows.values number key holds.stands.0);
+      stands = rep;
+    })
+
+pub read_own : (r : Replayer) (s : State) (name key : List ℕ) (number : ℕ) (writes : Writes) (change : Change) → Represents r s → IsInUse s.history s.things name (Transaction number writes) → is_key_length (length key) ≡ true → get writes key ≡ Some change →
+    Gives (found (value_left None (Some change))) r (read s name key (get s.things name))
+read_own r s name key number writes change rep holds lawful own =
+    gives_as _ (
+    ap (read s name key) (holds.found_is ∙ ap Some holds.stands.1.1) ∙ cond-true _ _ _ lawful ∙ ap (read_in_transaction s name key number holds.stands.1.0 writes) own)
+    (record { answer_is = refl; stands = rep })
+
+pub read_noted : (r : Replayer) (s : State) (name key : List ℕ) (number : ℕ) (writes : Writes) → Represents r s → thing_named r.in_use name ≡ Some (Transaction number writes) → is_key_length (length key) ≡ true → get writes key ≡ None →
+    Gives (found (value_left None (newest r.memtable.entries.items key number))) r (read s name key (get s.things name))
+read_noted r s name key number writes rep named_is lawful missing =
+    let holds = named s.history s.things r.in_use name (Transaction number writes) rep.in_use named_is in
+    let reads = holds.stands.1.0 in
+    let noted : sequential.Thing = OpenTransaction number (reads ++ (KeyRead key (value_at s.history number key) ∷ [])) writes in
+    gives_as _ (
+    ap (read s name key) (holds.found_is ∙ ap Some holds.stands.1.1) ∙ cond-true _ _ _ lawful ∙ ap (read_in_transaction s name key number reads writes) missing)
+    (record {
+      answer_is = ap found (rep.shows.values number key holds.stands.0);
+      stands = record {
+        last = rep.last;
+        log_length = rep.log_length;
+        shows = rep.shows;
+        in_use = IsOpen-note s.history s.things r.in_use name (Transaction number writes) noted rep.in_use named_is (holds.stands.0, (reads ++ (KeyRead key (value_at s.history number key) ∷ []), refl));
+      };
+    })
+
+-- ---- writes
+
+kept_open : (h : History) (things : FinMap key_cmp sequential.Thing) (held : Open) (kept : Thing) → IsOpen h (Some held) things → held.thing ≡ kept → IsOpen h (Some (record { name = held.name; thing = kept })) things
+kept_open h things held kept is e = (is.0, subst (λ k. StandsFor h k is.0) e is.1, is.2)
+
+-- the replayer with another thing under the name that is in use
+abbrev pub with_kept : Replayer → Open → Thing → Replayer
+with_kept r held kept = record { alloc = r.alloc; last = r.last; log_length = r.log_length; memtable = r.memtable; in_use = Some (record { name = held.name; thing = kept }) }
+
+pub stands_kept : (r : Replayer) (s : State) (held : Open) (kept : Thing) → Represents r s → r.in_use ≡ Some held → held.thing ≡ kept → Represents (with_kept r held kept) s
+stands_kept r s held kept rep is e =
+    record { last = rep.last; log_length = rep.log_length; shows = rep.shows; in_use = kept_open s.history s.things held kept (subst (λ o. IsOpen s.history o s.things) is rep.in_use) e }
+
+gives_write_answer : (r : Replayer) (s : State) (held : Open) (name key value : List ℕ) (number : ℕ) (writes : Writes) → Represents r s → r.in_use ≡ Some held → bytes_eq name held.name ≡ true → held.thing ≡ Transaction number writes →
+    Gives (write_answer writes key value) (with_kept r held (Transaction number (writes_after writes key value))) (written s name key value (get s.things name))
+gives_write_answer r s held name key value number writes rep is same kept_is =
+    let in_use = subst (λ o. IsOpen s.history o s.things) is rep.in_use in
+    let holds = subst (IsInUse s.history s.things name) kept_is (held_in_use s.history s.things held name in_use same) in
+    let reads = holds.stands.1.0 in
+    let more = insert writes key (Put value) in
+    let after : sequential.Thing = OpenTransaction number reads more in
+    let unchanged = stands_kept r s held (Transaction number writes) rep is kept_is in
+    gives_as _ (ap (written s name key value) (holds.found_is ∙ ap Some holds.stands.1.1))
+    (elim (not (is_key_length (length key) && is_value_length (length value))) as (λ b.
+    Gives (cond b Invalid (cond (fits_transaction more) Done TooBig)) (with_kept r held (Transaction number (cond b writes (cond (fits_transaction more) more writes))))
+    (cond b (Invalid, s) (cond (fits_transaction more) (Done, with_thing s name after) (TooBig, s)))) [
+      | true ↦ record { answer_is = refl; stands = unchanged }
+      | false ↦ elim (fits_transaction more) as (λ b.
+          Gives (cond b Done TooBig) (with_kept r held (Transaction number (cond b more writes))) (cond b (Done, with_thing s name after) (TooBig, s))) [
+            | true ↦ record {
+              answer_is = refl;
+              stands = record { last = rep.last; log_length = rep.log_length; shows = rep.shows; in_use = IsOpen-insert s.history s.things held name (Transaction number more) after in_use same (holds.stands.0, (reads, refl)) };
+            }
+            | false ↦ record { answer_is = refl; stands = unchanged }
+          ]
+    ])
+
+pub gives_write : (result : Result Answer Halt) (r : Replayer) (s : State) (held : Open) (name key value : List ℕ) (number : ℕ) (writes new : Writes) → Represents r s → r.in_use ≡ Some held → bytes_eq name held.name ≡ true → held.thing ≡ Transaction number writes →
+    IfOk result (λ a. a ≡ write_answer writes key value) → OnOk result (new ≡ writes_after writes key value) → IfOk result (λ a. Gives a (with_kept r held (Transaction number new)) (written s name key value (get s.things name)))
+gives_write (Ok a) r s held name key value number writes new rep is same kept_is answer_is new_is =
+    subst (λ x. Gives x (with_kept r held (Transaction number new)) (written s name key value (get s.things name))) (sym answer_is)
+    (subst (λ w. Gives (write_answer writes key value) (with_kept r held (Transaction number w)) (written s name key value (get s.things name))) (sym new_is)
+    (gives_write_answer r s held name key value number writes rep is same kept_is))
+gives_write (Err e) r s held name key value number writes new rep is same kept_is answer_is new_is = tt
+
+-- ---- commits
+
+-- the numbers up to the last keep what they had
+pub value_at-before : (h : History) (writes : Writes) (n : ℕ) (key : List ℕ) → n ≤ last_number h → value_at (with_commit h writes) n key ≡ value_at h n key
+value_at-before h writes n key le =
+    ap (λ commits. value_left (get h.base key) (last_change commits key)) (take-append-le (n - h.first) h.commits (writes ∷ []) (omega arith))
+
+newest-later : (entries : List Entry) (key : List ℕ) (m n : ℕ) → AllByRecursion (λ (entry : Entry). entry.version ≤ m) entries → m ≤ n → newest entries key n ≡ newest entries key m
+newest-later [] key m n all le = refl
+newest-later (e ∷ entries) key m n all le =
+    ap (λ rest. cond (eq_by_cmp key_cmp key e.key && nat_le e.version n) (Some e.change) rest) (newest-later entries key m n all.1 le)
+    ∙ ap (λ b. cond (eq_by_cmp key_cmp key e.key && b) (Some e.change) (newest entries key m)) (le-leb e.version n (omega (arith, all.0)) ∙ sym (le-leb e.version m all.0))
+
+value_left-newer : (old : Option (List ℕ)) (first later : Option Change) → value_left old (newer first later) ≡ value_left (value_left old first) later
+value_left-newer old first None = refl
+value_left-newer old first (Some (Put value)) = refl
+value_left-newer old first (Some Delete) = refl
+
+up_to_more : (m n : ℕ) (entries : List Entry) → m ≤ n → AllByRecursion (λ (entry : Entry). entry.version ≤ m) entries → AllByRecursion (λ (entry : Entry). entry.version ≤ n) entries
+up_to_more m n [] le all = tt
+up_to_more m n (e ∷ entries) le all = (omega (arith, all.0), up_to_more m n entries le all.1)
+
+-- what a memtable owes after it took the writes of a commit
+pub record Takes (entries new : List Entry) (writes : Writes) (number : ℕ) : Type 0 where
+  pub changes : (key : List ℕ) (n : ℕ) → AllByRecursion (λ (entry : Entry). entry.version ≤ number) entries → newest new key n ≡ newer (newest entries key n) (cond (nat_le number n) (get writes key) None)
+  pub up_to : AllByRecursion (λ (entry : Entry). entry.version ≤ number) entries → AllByRecursion (λ (entry : Entry). entry.version ≤ number) new
+
+readable_last : (h : History) → IsReadable h (last_number h)
+readable_last h = (omega arith, omega arith)
+
+-- a memtable that took the writes of a commit shows the history with it
+pub shows_commit : (entries new : List Entry) (h : History) (writes : Writes) (number : ℕ) → number ≡ last_number h + 1 → Shows entries h → Takes entries new writes number → Shows new (with_commit h writes)
+shows_commit entries new h writes number is shows takes =
+    let old_versions = up_to_more (last_number h) number entries (omega (arith, is)) shows.versions in
+    let last_is : last_number (with_commit h writes) ≡ number = omega (arith, is, length-append h.commits (writes ∷ [])) in
+    record {
+      values = values_after old_versions last_is;
+      versions = subst (λ m. AllByRecursion (λ (entry : Entry). entry.version ≤ m) new) (sym last_is) (takes.up_to old_versions);
+    }
+  where
+    values_after : AllByRecursion (λ (entry : Entry). entry.version ≤ number) entries → last_number (with_commit h writes) ≡ number → (n : ℕ) (key : List ℕ) → IsReadable (with_commit h writes) n → value_left None (newest new key n) ≡ value_at (with_commit h writes) n key
+    values_after old_versions last_is n key readable =
+        ap (value_left None) (takes.changes key n old_versions) ∙ elim (cases_lt (last_number h) n) [
+          | inl later ↦
+              let n_is : n ≡ last_number h + 1 = omega (arith, is, last_is, readable.1) in
+              ap (λ b. value_left None (newer (newest entries key n) (cond b (get writes key) None))) (le-leb number n (omega (arith, is)))
+              ∙ value_left-newer None (newest entries key n) (get writes key)
+              ∙ ap (λ change. value_left (value_left None change) (get writes key)) (newest-later entries key (last_number h) n shows.versions (omega (arith, n_is)))
+              ∙ ap (λ value. value_left value (get writes key)) (shows.values (last_number h) key (readable_last h))
+              ∙ sym (value_at-with_commit h writes key)
+              ∙ ap (λ m. value_at (with_commit h writes) m key) (sym n_is)
+          | inr le ↦
+              ap (λ b. value_left None (newer (newest entries key n) (cond b (get writes key) None))) (lt-leb number n (omega (arith, is)))
+              ∙ shows.values n key (readable.0, le)
+              ∙ sym (value_at-before h writes n key le)
+        ]
+
+-- ---- nothing yet
+
+take_none : {X : Type 0} (n : ℕ) → take {A = X} n [] ≡ []
+take_none zero = refl
+take_none (suc n) = refl
+
+pub shows_none : (entries : List Entry) → entries ≡ [] → Shows entries no_history
+shows_none entries none = subst (λ es. Shows es no_history) (sym none) (record {
+  values = λ n key readable. sym (ap (λ commits. value_left (get (empty {X = List ℕ} {R = key_cmp}) key) (last_change commits key)) (take_none (n - 0)) ∙ get-empty key_cmp key);
+  versions = tt;
+})
+
+-- ---- commits, answered
+
+pub held_is : (held : Open) (name : List ℕ) (kept : Thing) → thing_named (Some held) name ≡ Some kept → held.thing ≡ kept
+held_is held name kept is =
+    elim (bytes_eq name held.name) as (λ b. cond b (Some held.thing) None ≡ Some kept → held.thing ≡ kept) [
+      | true ↦ λ e. cc
+      | false ↦ λ e. cc
+    ] is
+
+pub same_writes : (m n : ℕ) (writes others : Writes) (kept : Thing) → kept ≡ Transaction m writes → kept ≡ Transaction n others → writes ≡ others
+same_writes m n writes others kept one_is other_is = cc
+
+-- the replayer after a commit
+abbrev pub committed_replayer : Replayer → ℕ → ℕ → Memtable → Replayer
+committed_replayer r last log_length memtable = record { alloc = r.alloc; last = last; log_length = log_length; memtable = memtable; in_use = None }
+
+pub gives_nothing : (r : Replayer) (s : State) (name : List ℕ) (number : ℕ) (writes : Writes) → Represents r s → IsInUse s.history s.things name (Transaction number writes) → (len writes == 0) ≡ true →
+    Gives Nothing (committed_replayer r r.last r.log_length r.memtable) (committed s name (get s.things name))
+gives_nothing r s name number writes rep holds none =
+    gives_as _ (ap (committed s name) (holds.found_is ∙ ap Some holds.stands.1.1) ∙ cond-true _ _ _ none) (record {
+      answer_is = refl;
+      stands = record { last = rep.last; log_length = rep.log_length; shows = rep.shows; in_use = remove_in_use s.history s.things name (Transaction number writes) holds };
+    })
+
+pub gives_exhausted : (r : Replayer) (s : State) (name : List ℕ) (number : ℕ) (writes : Writes) → Represents r s → IsInUse s.history s.things name (Transaction number writes) → (len writes == 0) ≡ false → MAX_COMMIT_NUMBER ≤ r.last →
+    Gives (Exhausted CommitNumber) r (committed s name (get s.things name))
+gives_exhausted r s name number writes rep holds some past =
+    gives_as _ (
+    ap (committed s name) (holds.found_is ∙ ap Some holds.stands.1.1) ∙ cond-false _ _ _ some ∙ cond-true _ _ _ (ap (nat_le MAX_COMMIT_NUMBER) (sym rep.last) ∙ le-leb _ _ past))
+    (record { answer_is = refl; stands = rep })
+
+-- the log's length with one more commit, as the code adds it up
+abbrev pub longer : Replayer → Writes → ℕ
+longer r writes = min (r.log_length + frame_length writes) (2 ^ 64 - 1)
+
+-- adding up to the last value of a number doesn't change whether the log has room
+longer_is : (length frame : ℕ) → min (length + frame) (2 ^ 64 - 1) ≤ MAX_LOG_BYTES → min (length + frame) (2 ^ 64 - 1) ≡ length + frame
+longer_is length frame le = omega arith
+
+longer_past : (length frame : ℕ) → MAX_LOG_BYTES < min (length + frame) (2 ^ 64 - 1) → MAX_LOG_BYTES < length + frame
+longer_past length frame lt = omega arith
+
+pub gives_log_full : (r : Replayer) (s : State) (name : List ℕ) (number : ℕ) (writes : Writes) → Represents r s → IsInUse s.history s.things name (Transaction number writes) → (len writes == 0) ≡ false → r.last < MAX_COMMIT_NUMBER → MAX_LOG_BYTES < longer r writes →
+    Gives Full r (committed s name (get s.things name))
+gives_log_full r s name number writes rep holds some room full =
+    let past : MAX_LOG_BYTES < s.log_length + frame_length writes = subst (λ n. MAX_LOG_BYTES < n + frame_length writes) rep.log_length (longer_past r.log_length (frame_length writes) full) in
+    gives_as _ (
+    ap (committed s name) (holds.found_is ∙ ap Some holds.stands.1.1) ∙ cond-false _ _ _ some ∙ cond-false _ _ _ (ap (nat_le MAX_COMMIT_NUMBER) (sym rep.last) ∙ lt-leb _ _ room)
+    ∙ cond-false _ _ _ (lt-leb _ _ past))
+    (record { answer_is = refl; stands = rep })
+
+pub gives_commit : (r : Replayer) (s : State) (name : List ℕ) (number : ℕ) (writes : Writes) (memtable : Memtable) → Represents r s → IsInUse s.history s.things name (Transaction number writes) → (len writes == 0) ≡ false → r.last < MAX_COMMIT_NUMBER → longer r writes ≤ MAX_LOG_BYTES →
+    Takes r.memtable.entries.items memtable.entries.items writes (r.last + 1) → Gives (Number (r.last + 1)) (committed_replayer r (r.last + 1) (longer r writes) memtable) (committed s name (get s.things name))
+gives_commit r s name number writes memtable rep holds some room fits takes =
+    let next : r.last + 1 ≡ last_number s.history + 1 = ap (λ n. n + 1) rep.last in
+    let length_is : longer r writes ≡ s.log_length + frame_length writes = longer_is r.log_length (frame_length writes) fits ∙ ap (λ n. n + frame_length writes) rep.log_length in
+    gives_as _ (
+    ap (committed s name) (holds.found_is ∙ ap Some holds.stands.1.1) ∙ cond-false _ _ _ some ∙ cond-false _ _ _ (ap (nat_le MAX_COMMIT_NUMBER) (sym rep.last) ∙ lt-leb _ _ room)
+    ∙ cond-true _ _ _ (le-leb _ _ (subst (λ n. n ≤ MAX_LOG_BYTES) length_is fits)))
+    (record {
+      answer_is = ap Number next;
+      stands = record {
+        last = next ∙ omega (arith, length-append s.history.commits (writes ∷ []));
+        log_length = length_is;
+        shows = shows_commit r.memtable.entries.items memtable.entries.items s.history writes (r.last + 1) next rep.shows takes;
+        in_use = remove_in_use s.history s.things name (Transaction number writes) holds;
+      };
+    })

@@ -1,0 +1,108 @@
+-- What the disk holds while a script is answered, and what a crash leaves of it.
+use Rattle.std.specs.Prelude.{◌≡◌, ◌⊎◌, ◌+◌, ◌-◌, ◌*◌, ◌^◌, min, ℕ, List, [], ◌∷◌, ◌++◌, length, take, Option, None, Some, Err, Result, OnOk}
+use Rattle.std.specs.FinMap.{entries}
+use Rattle.vl_model.specs.Keys.{Writes}
+use Rattle.vl_model.specs.History.{History, no_history}
+use Rattle.vl_disk.specs.Faults.{Rose}
+use Rattle.vl_disk.specs.DiskState.{DiskState}
+use Rattle.vl_disk.specs.Moments.{HoldsThroughout}
+use Rattle.vl_seglog.specs.Log.{Commit, log_bytes}
+use Rattle.vl_journal.specs.Files.{IsEmpty, Holds}
+use Rattle.vl_journal.specs.Images.{Leaves}
+use Rattle.vl_script.specs.declared.answer.Answer.{Answer}
+use Rattle.vl_script.specs.Script.{lines_of}
+use Rattle.vl_replay.specs.Sequential.{State, empty_store}
+use Rattle.vl_replay.specs.Replay.{Exchange, exchange_at, exchanges_from, history_after}
+use Rattle.vl_replay.specs.declared.replayer.halt.Halt.{Halt}
+use Rattle.vl_replay.specs.declared.replayer.halt.Halt.TheVariants.{NoMemory as NoRoom}
+use Rattle.vl_replay.specs.declared.ending.Ending.{Ending}
+use Rattle.vl_replay.specs.declared.ending.Ending.TheVariants.{Complete, BadLine, BadWords, DiskFault, NotAStore, NoMemory, ReadFault, WriteFault}
+
+-- commits with their numbers, of which the first is one above a number, as the log has them
+abbrev pub numbered : ℕ → List Writes → List Commit
+numbered n [] = []
+numbered n (writes ∷ later) = record { number = n + 1; writes = entries writes } ∷ numbered (n + 1) later
+
+-- the commits of a history, as the log has them
+abbrev pub logged : History → List Commit
+logged h = numbered h.first h.commits
+
+-- The disk holds the commits of this history and nothing else, all of it synced. Opening made six changing calls, and
+-- each commit two, on a disk that had been asked for some before.
+pub record HoldsHistory (begun : ℕ) (h : History) (disk : DiskState) : Type 0 where
+  pub commits : Holds (logged h) disk
+  pub calls_are : disk.calls ≡ min (begun + 6 + 2 * length h.commits) (2 ^ 64 - 1)
+
+-- and the log is as long as the state says
+pub record HoldsState (begun : ℕ) (s : State) (disk : DiskState) : Type 0 where
+  pub history : HoldsHistory begun s.history disk
+  pub length_is : s.log_length ≡ length (log_bytes 1 (logged s.history))
+
+-- these commits, up to some of them
+abbrev pub AreFirstOf : History → List Commit → Type 0
+AreFirstOf most commits = (rest : List Commit) × (logged most ≡ commits ++ rest)
+
+-- these commits at least, and at most those
+abbrev pub AreBetween : History → History → List Commit → Type 0
+AreBetween least most commits = (more : List Commit) × (commits ≡ logged least ++ more) × AreFirstOf most commits
+
+-- A line was carried out over a disk that holds the state before it: after an answer the disk holds the state after it;
+-- where memory ran out nothing was changed; and a crash meanwhile leaves the commits before it, or those after it.
+pub record CarriesOut {D : Type 0} (told : D → Option DiskState) (moment : D → ℕ) (since : D → ℕ → DiskState → Type 0) (old new : D) (begun : ℕ) (before after : State) (result : Result Answer Halt) : Type 0 where
+  pub answered : OnOk result ((now : DiskState) × (told new ≡ Some now) × HoldsState begun after now)
+  pub no_memory : result ≡ Err NoRoom → told new ≡ told old
+  pub tells : (now : DiskState) × (told new ≡ Some now)
+  pub through : HoldsThroughout moment since old new (Leaves (AreBetween before.history after.history))
+
+-- the history behind a line, where it is answered
+abbrev pub history_behind : History → Option Exchange → History
+history_behind h None = h
+history_behind h (Some e) = e.after.history
+
+-- A text was taken for a line over a disk that holds the state before it. Where it is a bad line nothing was changed, and
+-- where the disk didn't fail nothing is left half done.
+pub record CarriesOutText {D : Type 0} (told : D → Option DiskState) (moment : D → ℕ) (since : D → ℕ → DiskState → Type 0) (faults : D → ℕ) (old new : D) (begun : ℕ) (s : State) (text : List ℕ) (done : Type 0) : Type 0 where
+  pub answered : done → (e : Exchange) → exchange_at s text ≡ Some e → (now : DiskState) × (told new ≡ Some now) × HoldsState begun e.after now
+  pub bad : done → exchange_at s text ≡ None → (now : DiskState) × (told new ≡ Some now) × HoldsHistory begun s.history now
+  pub settled : (Rose (faults old) (faults new) → ⊥) → (now : DiskState) × (told new ≡ Some now) × (HoldsHistory begun s.history now ⊎ HoldsHistory begun (history_behind s.history (exchange_at s text)) now)
+  pub tells : (now : DiskState) × (told new ≡ Some now)
+  pub through : HoldsThroughout moment since old new (Leaves (AreBetween s.history (history_behind s.history (exchange_at s text))))
+
+-- the run ended between two lines: at the input's end, at a bad line, or where no more could be read
+abbrev pub EndsBetweenLines : Ending → Type 0
+EndsBetweenLines Complete = Unit {0}
+EndsBetweenLines BadLine = Unit {0}
+EndsBetweenLines BadWords = ⊥
+EndsBetweenLines DiskFault = ⊥
+EndsBetweenLines NotAStore = ⊥
+EndsBetweenLines NoMemory = ⊥
+EndsBetweenLines ReadFault = Unit {0}
+EndsBetweenLines WriteFault = ⊥
+
+-- What a run that ended so did to a disk, which had been asked for some changing calls: by the commits that were
+-- acknowledged, and by those that may stand with one that wasn't.
+pub record DiskEnds {D : Type 0} (told : D → Option DiskState) (moment : D → ℕ) (since : D → ℕ → DiskState → Type 0) (faults : D → ℕ) (old new : D) (unopened : Type 0) (begun : ℕ) (ending : Ending) (acknowledged most : History) : Type 0 where
+  -- what a crash at any moment since the begin leaves shows a first part of the commits, if no torn bytes spell a frame by
+  -- chance
+  pub through : HoldsThroughout moment since old new (Leaves (AreFirstOf most))
+  -- and what a crash now leaves shows each acknowledged one
+  pub now : (state : DiskState) × (told new ≡ Some state) × Leaves (AreBetween acknowledged most) state
+  -- where the disk didn't fail nothing is torn: it wasn't opened, or holds the acknowledged commits, or these and the one
+  -- whose answer wasn't put
+  pub settled : (Rose (faults old) (faults new) → ⊥) → (state : DiskState) × (told new ≡ Some state) × (unopened ⊎ (HoldsHistory begun acknowledged state ⊎ HoldsHistory begun most state))
+  -- where the run ended between two lines, the disk holds just the acknowledged ones
+  pub whole : EndsBetweenLines ending → (state : DiskState) × (told new ≡ Some state) × HoldsHistory begun acknowledged state
+
+-- so it is of a run that begins in a state, over a disk that holds it
+abbrev pub DiskEndsFrom : {D : Type 0} (told : D → Option DiskState) (moment : D → ℕ) (since : D → ℕ → DiskState → Type 0) (faults : D → ℕ) (old new : D) → State → Ending → History → History → Type 0
+DiskEndsFrom told moment since faults old new s ending acknowledged most =
+    (begun : ℕ) (state : DiskState) → told old ≡ Some state → HoldsState begun s state → DiskEnds told moment since faults old new ⊥ begun ending acknowledged most
+
+-- the commits that the first so many lines of an input left, from the empty history
+abbrev pub history_of : List ℕ → ℕ → History
+history_of input m = history_after no_history (take m (exchanges_from empty_store (lines_of input)))
+
+-- and of one that begins over a disk on which nothing stands and from which nothing was removed
+abbrev pub DiskEndsFromEmpty : {D : Type 0} (told : D → Option DiskState) (moment : D → ℕ) (since : D → ℕ → DiskState → Type 0) (faults : D → ℕ) (old new : D) → Ending → History → History → Type 0
+DiskEndsFromEmpty told moment since faults old new ending acknowledged most =
+    (state : DiskState) → told old ≡ Some state → IsEmpty state → DiskEnds told moment since faults old new (told new ≡ told old) state.calls ending acknowledged most

@@ -1,0 +1,9 @@
+pub mod Durable
+pub mod Input
+pub mod Laws
+pub mod Memtable
+pub mod Replay
+pub mod Represents
+pub mod Sequential
+pub mod Steps
+pub mod Writes

@@ -1,0 +1,172 @@
+-- Whole runs: what is printed for an input, however the run ends.
+use Rattle.std.specs.Prelude.{◌≡◌, ◌+◌, ◌-◌, ◌^◌, ◌<◌, ◌≤◌, ℕ, Bool, true, false, ◌==◌, min, if◌then◌else◌, List, [], ◌∷◌, ◌++◌, length, take, codes, count_by, Option, Some, None, option_and_then}
+use Rattle.std.specs.List.{flat_map, AllByRecursion, slice_get}
+use Rattle.std.specs.Fmt.{decimal}
+use Rattle.std.specs.FinMap.{get}
+use Rattle.vl_model.specs.History.{History, last_number, value_at}
+use Rattle.vl_model.specs.Reads.{Read, IsExplained}
+use Rattle.vl_model.specs.Keys.{Writes}
+use Rattle.vl_replay.specs.Sequential.{State, outcome, OpenTransaction, OpenView, found}
+use Rattle.vl_script.specs.Script.{line_of, lines_of, text_of}
+use Rattle.vl_script.specs.declared.line.Line.{Line}
+use Rattle.vl_script.specs.declared.line.Line.TheVariants.{Begin, View, Get, Set, Commit}
+use Rattle.vl_script.specs.declared.answer.Answer.{Answer}
+use Rattle.vl_script.specs.declared.answer.Answer.TheVariants.{Done, Number, Found, NoValue, Taken, Unknown, ReadOnly, Invalid, TooBig, TooMany, Nothing, Full, Exhausted}
+use Rattle.vl_replay.specs.declared.ending.Ending.{Ending}
+use Rattle.vl_replay.specs.declared.ending.Ending.TheVariants.{Complete, BadLine, BadWords, DiskFault, NotAStore, NoMemory, ReadFault, WriteFault}
+
+-- The answers that are printed so far. A line that would be answered otherwise is a bad line for now.
+abbrev pub is_printed : Answer → Bool
+is_printed Done = true
+is_printed (Number number) = true
+is_printed (Found value) = true
+is_printed NoValue = true
+is_printed (Taken name) = false
+is_printed (Unknown name) = false
+is_printed ReadOnly = false
+is_printed Invalid = false
+is_printed TooBig = false
+is_printed TooMany = false
+is_printed Nothing = false
+is_printed Full = false
+is_printed (Exhausted counter) = false
+
+-- a line with its answer, and the states before and after it
+pub record Exchange : Type 0 where
+  pub before : State
+  pub line : Line
+  pub answer : Answer
+  pub after : State
+
+-- what the sequential store makes of a line, where it is one of the language and its answer is printed
+abbrev pub exchanged : State → Line → Option Exchange
+exchanged s line =
+    let r = outcome s line in
+    if is_printed r.0 then Some (record { before = s; line = line; answer = r.0; after = r.1 }) else None
+
+abbrev pub exchange_at : State → List ℕ → Option Exchange
+exchange_at s text = option_and_then (exchanged s) (line_of text)
+
+-- an exchange, where there is one, and those behind it
+abbrev pub and_later : (Exchange → List Exchange) → Option Exchange → List Exchange
+and_later later None = []
+and_later later (Some e) = e ∷ later e
+
+-- the exchanges from a state on, up to the first bad line
+abbrev pub exchanges_from : State → List (List ℕ) → List Exchange
+exchanges_from s [] = []
+exchanges_from s (text ∷ texts) = and_later (λ e. exchanges_from e.after texts) (exchange_at s text)
+
+-- the history that these exchanges leave of one
+abbrev pub history_after : History → List Exchange → History
+history_after h [] = h
+history_after h (e ∷ later) = history_after e.after.history later
+
+-- the text of their answers, each one whole
+abbrev pub answers_text : List Exchange → List ℕ
+answers_text exchanges = flat_map (λ e. text_of e.answer) exchanges
+
+-- a count of lines stands still at its type's end
+abbrev pub line_number : ℕ → ℕ
+line_number n = min n (2 ^ 64 - 1)
+
+-- the last lines of runs that don't end with an answer
+abbrev pub bad_line : ℕ → List ℕ
+bad_line n = codes "bad line " ++ decimal (line_number n) ++ (10 ∷ [])
+
+abbrev pub no_memory_line : List ℕ
+no_memory_line = codes "no memory" ++ (10 ∷ [])
+
+abbrev pub disk_fault_line : List ℕ
+disk_fault_line = codes "disk fault" ++ (10 ∷ [])
+
+abbrev pub not_a_store_line : List ℕ
+not_a_store_line = codes "not a store" ++ (10 ∷ [])
+
+abbrev pub read_fault_line : List ℕ
+read_fault_line = codes "read fault" ++ (10 ∷ [])
+
+-- a piece's first bytes, none or all of them included
+abbrev pub IsFront : List ℕ → List ℕ → Type 0
+IsFront front piece = (rest : List ℕ) × (piece ≡ front ++ rest)
+
+-- how many lines end in these bytes
+abbrev pub ended_lines : List ℕ → ℕ
+ended_lines bytes = count_by (λ b. b == 10) bytes
+
+-- What may be printed next after m of these answers: the next one; the bad line, where there is one more line and no
+-- next answer; that memory ran out; that the disk or the source failed, where it did; or, before all, that the disk
+-- holds no store, where something stands on it.
+pub data NextPiece (cause : Ending → Type 0) (all : List Exchange) (lines before m : ℕ) : List ℕ → Type 0 where
+  next_answer : (e : Exchange) → slice_get all m ≡ Some e → NextPiece cause all lines before m (text_of e.answer)
+  next_bad_line : m ≡ length all → length all < lines → NextPiece cause all lines before m (bad_line (before + length all + 1))
+  next_no_memory : NextPiece cause all lines before m no_memory_line
+  next_disk_fault : cause DiskFault → NextPiece cause all lines before m disk_fault_line
+  next_not_a_store : cause NotAStore → m ≡ 0 → NextPiece cause all lines before m not_a_store_line
+  next_read_fault : cause ReadFault → NextPiece cause all lines before m read_fault_line
+
+-- How a run over these bytes ended, how many lines it answered whole, and what it printed. All are the exchanges up to
+-- the first bad line of these bytes, which are so many lines, and some lines came before them in the script. Left is what
+-- the source has left in the end, and cause says what caused an ending that needs a cause.
+--   complete: every line was answered, and the source was read to its end;
+--   a bad line: all lines before it were answered, and there is one more;
+--   a fault of the disk, or want of memory: some lines were answered, each answer whole;
+--   no store: nothing was read;
+--   a fault of the source: each line that had ended in the bytes that it gave was;
+--   a fault of the sink: some lines were, and of the next piece some first bytes came out.
+abbrev pub EndsSo : (Ending → Type 0) → List Exchange → ℕ → ℕ → List ℕ → Option (List ℕ) → ℕ → Ending → List ℕ → Type 0
+EndsSo cause all lines before bytes left m Complete printed =
+    (m ≡ length all) × (length all ≡ lines) × (left ≡ Some []) × (printed ≡ answers_text all)
+EndsSo cause all lines before bytes left m BadLine printed =
+    (m ≡ length all) × (length all < lines) × (printed ≡ answers_text all ++ bad_line (before + length all + 1))
+EndsSo cause all lines before bytes left m BadWords printed = ⊥
+EndsSo cause all lines before bytes left m DiskFault printed =
+    cause DiskFault × (m ≤ length all) × (printed ≡ answers_text (take m all) ++ disk_fault_line)
+EndsSo cause all lines before bytes left m NotAStore printed =
+    cause NotAStore × (m ≡ 0) × (left ≡ Some bytes) × (printed ≡ not_a_store_line)
+EndsSo cause all lines before bytes left m NoMemory printed =
+    (m ≤ length all) × (printed ≡ answers_text (take m all) ++ no_memory_line)
+EndsSo cause all lines before bytes left m ReadFault printed =
+    (given : List ℕ) × (rest : List ℕ) × cause ReadFault × (bytes ≡ given ++ rest) × (left ≡ Some rest)
+    × (m ≡ ended_lines given) × (m ≤ length all) × (printed ≡ answers_text (take m all) ++ read_fault_line)
+EndsSo cause all lines before bytes left m WriteFault printed =
+    (piece : List ℕ) × (front : List ℕ) × (m ≤ length all) × NextPiece cause all lines before m piece
+    × IsFront front piece × (printed ≡ answers_text (take m all) ++ front)
+
+-- what a run prints that answers so many lines of these bytes from a state on, some lines after the script's begin
+abbrev pub Replays : (Ending → Type 0) → State → ℕ → List ℕ → Option (List ℕ) → ℕ → Ending → List ℕ → Type 0
+Replays cause s before bytes left m ending printed =
+    EndsSo cause (exchanges_from s (lines_of bytes)) (length (lines_of bytes)) before bytes left m ending printed
+
+-- A line's answer is put whole before the next line is read: when the source was last asked for bytes, no more lines had
+-- ended in what it had given of these bytes than were answered. Those lines are the ones that ended in these bytes but not
+-- in what it then had left.
+abbrev pub KeepsUp : List ℕ → Option (List ℕ) → ℕ → Type 0
+KeepsUp bytes asked answered = (earlier : List ℕ) × (asked ≡ Some earlier) × (ended_lines bytes ≤ answered + ended_lines earlier)
+
+abbrev pub status_of : Ending → ℕ
+status_of Complete = 0
+status_of BadLine = 1
+status_of BadWords = 2
+status_of DiskFault = 3
+status_of NotAStore = 4
+status_of NoMemory = 5
+status_of ReadFault = 6
+status_of WriteFault = 7
+
+-- What is read is explained by the history at the reader's number: what a view reads, by that at the view's own
+-- number; what the transaction of an accepted commit has read, by that at the commit's number less one, and no
+-- commit came between.
+abbrev pub IsExplainedExchange : Line → Exchange → Type 0
+IsExplainedExchange (Begin name) e = Unit {0}
+IsExplainedExchange (View name) e = Unit {0}
+IsExplainedExchange (Get name key) e =
+    (number : ℕ) → get e.before.things name ≡ Some (OpenView number) → e.answer ≡ found (value_at e.before.history number key)
+IsExplainedExchange (Set name key value) e = Unit {0}
+IsExplainedExchange (Commit name) e =
+    (number : ℕ) (reads : List Read) (writes : Writes) (n : ℕ) → get e.before.things name ≡ Some (OpenTransaction number reads writes)
+    → e.answer ≡ Number n → IsExplained e.after.history (n - 1) reads × (number ≡ last_number e.before.history)
+
+-- so it is in each of these exchanges
+abbrev pub AreExplained : List Exchange → Type 0
+AreExplained exchanges = AllByRecursion (λ e. IsExplainedExchange e.line e) exchanges

@@ -1,0 +1,49 @@
+-- What a transaction has written, as a list of entries in the order of their keys.
+use Rattle.std.specs.Prelude.{◌≡◌, ℕ, Bool, ◌+◌, ◌≤◌, IsTrue, List, length, sum_by, Option, Some, None, refl}
+use Rattle.std.specs.Coded.{Coded, code_by, coded_ℕ, coded_list, coded_option}
+use Rattle.std.specs.FinMap.{from_sorted, is_sorted, code}
+use Rattle.std.specs.Ordering.{is_gt}
+use Rattle.vl_model.specs.Keys.{Stored, Writes, key_cmp}
+use Rattle.vl_model.specs.declared.change.Change.{Change}
+use Rattle.vl_model.specs.declared.change.Change.TheVariants.{Set as Put, Delete}
+use Rattle.vl_model.specs.declared.limits.TheConstants.{MAX_TRANSACTION_BYTES, MAX_TRANSACTION_KEYS}
+use Rattle.vl_seglog.specs.Log.{AreRecords}
+use Rattle.vl_replay.specs.Sequential.{change_bytes}
+
+-- a change is stored as the value that it sets, if any
+abbrev pub value_set : Change → Option Stored
+value_set (Put value) = Some value
+value_set Delete = None
+
+abbrev pub change_to : Option Stored → Change
+change_to (Some value) = Put value
+change_to None = Delete
+
+pub change_to-value_set : (change : Change) → change_to (value_set change) ≡ change
+change_to-value_set (Put value) = refl
+change_to-value_set Delete = refl
+
+abbrev pub coded_change : Coded Change
+coded_change = code_by (Option Stored) (coded_option (coded_list coded_ℕ)) value_set change_to change_to-value_set
+
+abbrev pub coded_writes : Coded Writes
+coded_writes = code (coded_list coded_ℕ) coded_change
+
+abbrev pub writes_of : List (List ℕ × Change) → Writes
+writes_of entries = from_sorted entries
+
+-- the bytes of the keys and of the values
+abbrev pub entry_bytes : List (List ℕ × Change) → ℕ
+entry_bytes entries = sum_by (λ write. length write.0 + change_bytes write.1) entries
+
+-- whether a key is above that of an entry
+abbrev pub is_above : List ℕ → List ℕ × Change → Bool
+is_above key entry = is_gt (key_cmp key entry.0)
+
+-- the keys rise, each write can be spelled as a record, the bytes are counted, and one transaction may have so many of both
+pub record AreWrites (entries : List (List ℕ × Change)) (bytes : ℕ) : Type 0 where
+  pub sorted : IsTrue (is_sorted key_cmp entries)
+  pub records : AreRecords entries
+  pub counted : bytes ≡ entry_bytes entries
+  pub bounded : bytes ≤ MAX_TRANSACTION_BYTES
+  pub few : length entries ≤ MAX_TRANSACTION_KEYS

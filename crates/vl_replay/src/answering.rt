@@ -1,0 +1,104 @@
+ghost use Rattle.std.specs.Prelude.{◌≡◌, ◌≤◌, ℕ, Some, None, Err, IsOk, IfOk, MatchOption};
+ghost use Rattle.std.specs.Option.{ForSome, option_map};
+ghost use Rattle.vl_disk.specs.DiskState.{DiskState};
+ghost use Rattle.vl_disk.specs.Disk.{Stands, HasCause};
+ghost use Rattle.vl_journal.specs.declared.names.TheConstants.{LOG};
+ghost use Rattle.vl_replay.specs.Durable.{HoldsState, CarriesOutText};
+ghost use Rattle.vl_replay.specs.declared.replayer.halt.Halt.TheVariants.{Disk as DiskHalt};
+ghost use Rattle.vl_replay.specs.Sequential.{State};
+ghost use Rattle.vl_replay.specs.Represents.{Represents};
+ghost use Rattle.vl_replay.specs.Replay.{is_printed, line_number};
+ghost use Rattle.vl_replay.specs.Steps.{Answers, Refuses, StepsOn, SinkCounts, DiskCounts, IsAnswered, EndsAtBadLine};
+
+use crate::Ending;
+use crate::last_line::{DISK_FAULT, NO_MEMORY, finish};
+use crate::replayer::{Halt, Replayer};
+use std::alloc::Global;
+use vl_disk::Disk;
+use vl_io::Sink;
+use vl_script::{Answer, parse_line, print_answer, print_bad_line};
+
+/// Whether a line that is answered so is answered, for now, and no bad line.
+fn is_answered(answer: &Answer) -> bool
+    ensures { result ≡ is_printed answer.now }
+{
+    match answer {
+        Answer::Done | Answer::Number { .. } | Answer::Found { .. } | Answer::NoValue => true,
+        Answer::Taken { .. }
+        | Answer::Unknown { .. }
+        | Answer::ReadOnly
+        | Answer::Invalid
+        | Answer::TooBig
+        | Answer::TooMany
+        | Answer::Nothing
+        | Answer::Full
+        | Answer::Exhausted { .. } => false,
+    }
+}
+
+/// The text that answers a line; None where it is a bad line.
+fn answer_text<D: Disk>(
+    alloc: Global,
+    replayer: &mut Replayer,
+    disk: &mut D,
+    text: &[u8],
+) -> Result<Option<Vec<u8>>, Halt>
+    requires { ForSome (D.told disk.old) (Stands LOG) }
+    ensures answers { (s : State) → Represents replayer.old s → IfOk result (λ out. Answers s text.now replayer.new (option_map (λ text. text.items) out)) }
+    ensures takes { (begun : ℕ) (s : State) (state : DiskState) → Represents replayer.old s → D.told disk.old ≡ Some state → HoldsState begun s state
+        → CarriesOutText D.told D.moment D.states_since D.faults disk.old disk.new begun s text.now (IsOk result) }
+    ensures stands { ForSome (D.told disk.new) (Stands LOG) }
+    ensures cause { HasCause (D.faults disk.old) (D.faults disk.new) (result ≡ Err DiskHalt) }
+{
+    let Some(line) = parse_line(alloc, text)? else {
+        return Ok(None);
+    };
+    let answer = replayer.line(disk, line)?;
+    if !is_answered(&answer) {
+        return Ok(None);
+    }
+    Ok(Some(print_answer(alloc, &answer)?))
+}
+
+/// Ends a run at a bad line, with so many lines answered before it.
+pub fn refuse<K: Sink>(alloc: Global, answered: u64, sink: &mut K) -> Ending
+    ensures printed { (before : ℕ) → answered ≡ line_number before → Refuses before result (K.held sink.old) (K.held sink.new) }
+    ensures faults { SinkCounts result (K.faults sink.old) (K.faults sink.new) }
+    ensures ending { EndsAtBadLine result }
+{
+    match print_bad_line(alloc, answered.saturating_add(1)) {
+        Ok(line) => finish(sink, &line, Ending::BadLine),
+        Err(_) => finish(sink, NO_MEMORY, Ending::NoMemory),
+    }
+}
+
+/// Answers a line, with so many lines answered before it. None where the run goes on.
+pub fn answer<K: Sink, D: Disk>(
+    alloc: Global,
+    replayer: &mut Replayer,
+    disk: &mut D,
+    text: &[u8],
+    answered: u64,
+    sink: &mut K,
+) -> Option<Ending>
+    requires { ForSome (D.told disk.old) (Stands LOG) }
+    ensures printed { (fd before : ℕ) (s : State) → fd ≤ D.faults disk.old → Represents replayer.old s → answered ≡ line_number before
+        → StepsOn fd (D.faults disk.new) s before text.now replayer.new result (K.held sink.old) (K.held sink.new) }
+    ensures faults { MatchOption result (K.faults sink.new ≡ K.faults sink.old) (λ ending. SinkCounts ending (K.faults sink.old) (K.faults sink.new)) }
+
+    // Where the line was answered, or refused as a bad one, the disk holds what it should.
+    ensures takes { (begun : ℕ) (s : State) (state : DiskState) → Represents replayer.old s → D.told disk.old ≡ Some state → HoldsState begun s state
+        → CarriesOutText D.told D.moment D.states_since D.faults disk.old disk.new begun s text.now (IsAnswered result) }
+    ensures stands { ForSome (D.told disk.new) (Stands LOG) }
+    ensures disk_faults { DiskCounts result (D.faults disk.old) (D.faults disk.new) }
+{
+    match answer_text(alloc, replayer, disk, text) {
+        Ok(Some(answer)) => match sink.put(&answer) {
+            Ok(()) => None,
+            Err(_) => Some(Ending::WriteFault),
+        },
+        Ok(None) => Some(refuse(alloc, answered, sink)),
+        Err(Halt::NoMemory) => Some(finish(sink, NO_MEMORY, Ending::NoMemory)),
+        Err(Halt::Disk) => Some(finish(sink, DISK_FAULT, Ending::DiskFault)),
+    }
+}

@@ -1,0 +1,14 @@
+//! A script over a disk: its lines are answered one after the other, and each commit is written before it is answered.
+#![tactic(auto)]
+
+mod answering;
+mod ending;
+pub mod input;
+mod last_line;
+pub mod replayer;
+mod running;
+
+pub use ending::Ending;
+pub use last_line::{NO_MEMORY, finish};
+pub use replayer::{Halt, Replayer};
+pub use running::replay;

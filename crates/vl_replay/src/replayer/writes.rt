@@ -1,0 +1,154 @@
+ghost use Rattle.std.specs.Prelude.{◌≡◌, ◌≤◌, ◌<◌, ◌^◌, ◌==◌, true, IsTrue, OnOk, OnErr, length};
+ghost use Rattle.std.specs.List.{prefix_len};
+ghost use Rattle.std.specs.Option.{option_copied};
+ghost use Rattle.std.specs.FinMap as map;
+ghost use Rattle.vl_model.specs.declared.change.Change.TheVariants.{Set as Put};
+ghost use Rattle.vl_model.specs.Keys.{key_cmp, is_key_length, is_value_length};
+ghost use Rattle.vl_seglog.specs.Log.{AreRecords};
+ghost use Rattle.vl_replay.specs.Sequential.{write_bytes, frame_length, fits_transaction};
+ghost use Rattle.vl_replay.specs.Writes.{is_above};
+
+use std::alloc::{AllocError, Global};
+use std::marker::Model;
+use vl_model::{
+    Change, Key, MAX_KEY_BYTES, MAX_TRANSACTION_BYTES, MAX_TRANSACTION_KEYS, MAX_VALUE_BYTES, Value,
+};
+
+/// What a transaction has written: its keys in order, each with the last write of it.
+#[derive(Drop)]
+pub struct Writes {
+    entries: Vec<(Key, Change)>,
+    bytes: usize,
+}
+
+impl Model for Writes {
+    ghost use Rattle.vl_model.specs.Keys.{Writes};
+    ghost use Rattle.vl_replay.specs.Writes.{coded_writes, writes_of, AreWrites};
+
+    ghost Value = { Writes };
+
+    ghost coded = { coded_writes };
+
+    ghost view = { λ a. writes_of a.entries.items };
+
+    ghost invariant = { λ a. AreWrites a.entries.items a.bytes };
+}
+
+impl Writes {
+    pub fn new(alloc: Global) -> Self
+        ensures { result ≡ map.empty }
+    {
+        Writes {
+            entries: Vec::new(alloc),
+            bytes: 0,
+        }
+    }
+
+    pub fn len(&self) -> usize
+        ensures { result ≡ map.len self.now }
+    {
+        self.entries.len()
+    }
+
+    pub fn is_empty(&self) -> bool
+        ensures { result ≡ (map.len self.now == 0) }
+    {
+        self.entries.is_empty()
+    }
+
+    pub fn get(&self, key: &[u8]) -> Option<&Change>
+        ensures { option_copied result ≡ map.get self.now key.now }
+    {
+        match self.entries.get(place(&self.entries, key)) {
+            Some((held, change)) if key == held.as_slice() => Some(change),
+            _ => None,
+        }
+    }
+
+    /// Whether one transaction may have these writes and one more, which takes the place of an earlier one of its key.
+    pub fn fits(&self, key: &[u8], value: &Value) -> bool
+        requires key { length key.now ≤ MAX_KEY_BYTES }
+        requires value { length value.now ≤ MAX_VALUE_BYTES }
+        ensures { result ≡ fits_transaction (map.insert self.now key.now (Put value.now)) }
+    {
+        let keys_fit = match self.get(key) {
+            Some(_) => self.len() <= MAX_TRANSACTION_KEYS,
+            None => self.len() < MAX_TRANSACTION_KEYS,
+        };
+        keys_fit && self.bytes_with(key, value) <= MAX_TRANSACTION_BYTES
+    }
+
+    /// Writes a key, in the place of an earlier write of it.
+    pub fn set(&mut self, key: Key, value: Value) -> Result<(), AllocError>
+        requires lawful_key { is_key_length (length key) ≡ true }
+        requires lawful_value { is_value_length (length value) ≡ true }
+        requires fits { IsTrue (fits_transaction (map.insert self.old key (Put value))) }
+        ensures ok { OnOk result (self.new ≡ map.insert self.old key (Put value)) }
+        ensures err { OnErr result (self.new ≡ self.old) }
+    {
+        let bytes = self.bytes_with(key.as_slice(), &value);
+        put(&mut self.entries, key, Change::Set(value))?;
+        self.bytes = bytes;
+        Ok(())
+    }
+
+    /// How many bytes a commit of these writes takes in the log.
+    pub fn frame_length(&self) -> u64
+        ensures { result ≡ frame_length self.now }
+    {
+        25 + 7 * self.entries.len() as u64 + self.bytes as u64
+    }
+
+    /// The keys in order, each with its change, as a commit of them may be spelled.
+    pub fn as_slice(&self) -> &[(Key, Change)]
+        ensures entries { result.now ≡ map.entries self.now }
+        ensures rising { IsTrue (map.is_sorted key_cmp result.now) }
+        ensures lawful { AreRecords result.now }
+        ensures few { length result.now < 2 ^ 32 }
+    {
+        &self.entries
+    }
+
+    /// The keys in order, each with its change.
+    pub fn into_entries(self) -> Vec<(Key, Change)>
+        ensures { result.items ≡ map.entries self }
+    {
+        self.entries
+    }
+
+    // How many bytes the keys and the values have, with one more write.
+    fn bytes_with(&self, key: &[u8], value: &Value) -> usize
+        requires key { length key.now ≤ MAX_KEY_BYTES }
+        requires value { length value.now ≤ MAX_VALUE_BYTES }
+        ensures { result ≡ write_bytes (map.insert self.now key.now (Put value.now)) }
+    {
+        match self.get(key) {
+            Some(Change::Set(replaced)) => self.bytes - replaced.len() + value.len(),
+            Some(Change::Delete) => self.bytes + value.len(),
+            None => self.bytes + key.len() + value.len(),
+        }
+    }
+}
+
+// How many of the entries have a key below this one.
+fn place(entries: &[(Key, Change)], key: &[u8]) -> usize
+    requires { IsTrue (map.is_sorted key_cmp entries.now) }
+    ensures { result ≡ prefix_len (is_above key.now) entries.now }
+{
+    entries.partition_point(|entry| key.cmp(&entry.0.as_slice()).is_gt())
+}
+
+// Writes a key, in the place of an earlier write of it.
+fn put(entries: &mut Vec<(Key, Change)>, key: Key, change: Change) -> Result<(), AllocError>
+    requires { IsTrue (map.is_sorted key_cmp entries.old.items) }
+    ensures ok { OnOk result (entries.new.items ≡ map.put key_cmp key change entries.old.items) }
+    ensures err { OnErr result (entries.new.items ≡ entries.old.items) }
+{
+    let at = place(entries, key.as_slice());
+    if at < entries.len() && key.as_slice() == entries[at].0.as_slice() {
+        entries[at].1 = change;
+    } else {
+        entries.insert(at, (key, change))?;
+    }
+    Ok(())
+}
