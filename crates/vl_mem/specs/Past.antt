@@ -1,10 +1,13 @@
 -- What a disk in memory tells of this moment and of past ones.
-use Rattle.std.specs.Prelude.{◌≡◌, ℕ, ◌≤◌, List, length, take, Some, All}
+use Rattle.std.specs.Prelude.{◌≡◌, ℕ, ◌≤◌, ◌++◌, List, length, take, Some, All}
+use Rattle.std.specs.FinMap.{get, insert}
 use Rattle.std.proofs.Common.{refl, sym, subst, arith}
 use Rattle.std.proofs.lemmas.List.{take_all}
-use Rattle.vl_disk.specs.DiskState.{DiskState, IsLawful, empty_disk}
+use Rattle.vl_disk.specs.declared.name.Name.{Name}
+use Rattle.vl_disk.specs.DiskState.{File, DiskState, IsLawful, empty_disk, appended}
+use Rattle.vl_disk.specs.Laws.{appended_may_be_torn}
 use Rattle.vl_disk.specs.Lawful.{empty_lawful}
-use Rattle.vl_disk.specs.Crash.{SameFiles}
+use Rattle.vl_disk.specs.Crash.{Image, SameFiles, MayLeave, ImagesSince}
 use Rattle.vl_mem.specs.declared.event.Event.{Event}
 use Rattle.vl_mem.specs.Event.{replayed_lawful, state_after, WasSince, told_of, CreatesNumbered}
 
@@ -28,3 +31,15 @@ only_present events calls state other is was =
     let here : SameFiles other (state_after events) = subst (λ (es : List Event). SameFiles other (state_after es)) whole was.3 in
     let now : SameFiles other (told_of events calls) = record { standing = here.standing; removed = here.removed } in
     subst (λ (s : DiskState). SameFiles other s) (same_state (told_of events calls) state is) now
+
+-- whatever a crash may leave of the disk as it is, is among the images since now
+pub images_now : (events : List Event) (calls : ℕ) (state : DiskState) (image : Image) → Some (told_of events calls) ≡ Some state → MayLeave state image → ImagesSince (WasSince events) (length events) image
+images_now events calls state image is may = (state, counts_present events calls state (length events) is (omega arith), may)
+
+-- so a disk in memory that was handed a piece since its last sync may be left with any bytes past the synced length
+pub torn_now : (events : List Event) (calls : ℕ) (before : DiskState) (name : Name) (file : File) (piece : List ℕ) (taken : ℕ) (tail : List ℕ) (image : Image)
+    → Some (told_of events calls) ≡ Some (appended name piece taken before) → get before.standing name ≡ Some file → file.synced ≤ length file.bytes → MayLeave (appended name piece taken before) image
+    → ImagesSince (WasSince events) (length events) (insert image name (take file.synced file.bytes ++ tail))
+torn_now events calls before name file piece taken tail image is stands within may =
+    images_now events calls (appended name piece taken before) (insert image name (take file.synced file.bytes ++ tail)) is
+    (appended_may_be_torn name before image file stands piece taken tail within may)

@@ -12,8 +12,8 @@ ghost use Rattle.vl_replay.specs.Steps.{Causes, EndsRun, GoesOn, StepsOn, Counts
 
 use crate::Ending;
 use crate::answering::{answer, refuse};
-use crate::last_line::{DISK_FAULT, NO_MEMORY, NOT_A_STORE, READ_FAULT, finish};
 use crate::input::{Buffer, InputFail, Next, read_line};
+use crate::last_line::{DISK_FAULT, NO_MEMORY, NOT_A_STORE, READ_FAULT, finish};
 use crate::replayer::Replayer;
 use std::alloc::Global;
 use vl_disk::Disk;
