@@ -38,16 +38,17 @@ pub record HoldsState (begun : ℕ) (s : State) (disk : DiskState) : Type 0 wher
   pub history : HoldsHistory begun s.history disk
   pub length_is : s.log_length ≡ length (log_bytes 1 (logged s.history))
 
--- these commits, up to some of them
+-- these commits are the first ones of a history, up to some of them or all
 abbrev pub AreFirstOf : History → List Commit → Type 0
 AreFirstOf most commits = (rest : List Commit) × (logged most ≡ commits ++ rest)
 
--- these commits at least, and at most those
+-- these commits are those of a history, or go on towards those of a later one
 abbrev pub AreBetween : History → History → List Commit → Type 0
 AreBetween least most commits = (more : List Commit) × (commits ≡ logged least ++ more) × AreFirstOf most commits
 
 -- A line was carried out over a disk that holds the state before it: after an answer the disk holds the state after it;
--- where memory ran out nothing was changed; and a crash meanwhile leaves the commits before it, or those after it.
+-- where memory ran out nothing was changed; and what a crash meanwhile leaves shows the commits before it, or those after
+-- it, if no torn bytes spell a frame by chance.
 pub record CarriesOut {D : Type 0} (told : D → Option DiskState) (moment : D → ℕ) (since : D → ℕ → DiskState → Type 0) (old new : D) (begun : ℕ) (before after : State) (result : Result Answer Halt) : Type 0 where
   pub answered : OnOk result ((now : DiskState) × (told new ≡ Some now) × HoldsState begun after now)
   pub no_memory : result ≡ Err NoRoom → told new ≡ told old
