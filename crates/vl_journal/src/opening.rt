@@ -20,7 +20,8 @@ pub fn open_store<D: Disk>(alloc: Global, disk: &mut D) -> Result<(), OpenFail>
         → OnOk result ((now : DiskState) × (D.told disk.new ≡ Some now) × Holds [] now × (now.calls ≡ min (state.calls + 6) (2 ^ 64 - 1))) }
     ensures stands { OnOk result (ForSome (D.told disk.new) (Stands LOG)) }
 
-    // Refused, exactly where anything stands. Then, and where memory ran out, nothing was changed.
+    // It isn't opened where anything stands, and is refused as no store only there. Then, and where memory ran out, nothing
+    // was changed.
     ensures free { OnOk result (ForSome (D.told disk.old) StandsNothing) }
     ensures not_a_store { result ≡ Err OpenFail.NotAStore → ForSome (D.told disk.old) StandsSome }
     ensures occupied { (state : DiskState) → D.told disk.old ≡ Some state → StandsSome state → D.told disk.new ≡ D.told disk.old }
