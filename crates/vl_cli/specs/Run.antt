@@ -4,7 +4,7 @@ use Rattle.std.specs.Str.{bytes_eq}
 use Rattle.vl_replay.specs.Sequential.{empty_store}
 use Rattle.vl_replay.specs.Replay.{Replays, IsFront}
 use Rattle.vl_replay.specs.declared.ending.Ending.{Ending}
-use Rattle.vl_replay.specs.declared.ending.Ending.TheVariants.{Complete, BadLine, BadWords, DiskFault, NotAStore, NoMemory, ReadFault, WriteFault}
+use Rattle.vl_replay.specs.declared.ending.Ending.TheVariants.{Complete, BadLine, BadWords, DiskFault, NotAStore, NoMemory, ReadFault, WriteFault, AnswerCut}
 
 -- a word that is neither empty nor an option
 abbrev pub is_plain_word : List ℕ → Bool
@@ -25,6 +25,7 @@ RefusesWords NotAStore printed = ⊥
 RefusesWords NoMemory printed = ⊥
 RefusesWords ReadFault printed = ⊥
 RefusesWords WriteFault printed = IsFront printed usage_line
+RefusesWords AnswerCut printed = ⊥
 
 -- the two words replay and a folder's name
 abbrev pub is_plain : List (List ℕ) → Bool

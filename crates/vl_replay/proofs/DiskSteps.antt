@@ -16,7 +16,7 @@ use Rattle.vl_script.specs.declared.line.Line.{Line}
 use Rattle.vl_script.specs.Script.{line_of}
 use Rattle.vl_replay.specs.Sequential.{State, state_after, answer_to}
 use Rattle.vl_replay.specs.Replay.{Exchange, exchange_at, exchanged, exchanges_from, and_later, history_after, is_printed}
-use Rattle.vl_replay.specs.Durable.{logged, HoldsHistory, HoldsState, AreFirstOf, AreBetween, history_behind, EndsBetweenLines, DiskEnds}
+use Rattle.vl_replay.specs.Durable.{logged, HoldsHistory, HoldsState, AreFirstOf, AreBetween, history_behind, EndsBetweenLines, CutsAnswer, DiskEnds}
 use Rattle.vl_replay.specs.declared.ending.Ending.{Ending}
 use Rattle.vl_replay.proofs.Logged.{line_extends}
 use Rattle.vl_replay.proofs.Replays.{rose_earlier}
@@ -142,18 +142,20 @@ module _ {D : Type 0} (told : D → Option DiskState) (moment : D → ℕ) (sinc
   -- the run ended, by these commits that were acknowledged
   pub ends_within : (old new : D) (begun : ℕ) (ending : Ending) (least most : History) → HoldsThroughout moment since old new (Leaves (AreBetween least most)) → (now : DiskState) × (told new ≡ Some now)
       → ((Rose (faults old) (faults new) → ⊥) → (state : DiskState) × (told new ≡ Some state) × (HoldsHistory begun least state ⊎ HoldsHistory begun most state))
-      → (EndsBetweenLines ending → (state : DiskState) × (told new ≡ Some state) × HoldsHistory begun least state) → DiskEnds told moment since faults old new ⊥ begun ending least most
-  ends_within old new begun ending least most through tells settled whole = record {
+      → (EndsBetweenLines ending → (state : DiskState) × (told new ≡ Some state) × HoldsHistory begun least state)
+      → (CutsAnswer ending → (state : DiskState) × (told new ≡ Some state) × HoldsHistory begun most state) → DiskEnds told moment since faults old new ⊥ begun ending least most
+  ends_within old new begun ending least most through tells settled whole cut = record {
     through = holds_weaker moment since (Leaves (AreBetween least most)) (Leaves (AreFirstOf most)) old new through (leaves_weaker (AreBetween least most) (AreFirstOf most) (within_up_to least most));
     now = (tells.0, tells.1, through.each tells.0 (counts_now new tells.0 (moment old) tells.1 through.later));
     settled = λ sound. let now = settled sound in (now.0, now.1, inr now.2);
     whole = whole;
+    cut = cut;
   }
 
   -- the disk was left alone
-  pub ends_untouched : (most : History) (s : State) → Extends s.history most → (disk : D) (begun : ℕ) (ending : Ending) (state : DiskState) → told disk ≡ Some state → HoldsState begun s state → DiskEnds told moment since faults disk disk ⊥ begun ending s.history most
-  ends_untouched most s extends disk begun ending state is holds =
-      ends_within disk disk begun ending s.history most (rests told moment since only_now counts_now most s extends disk begun state is holds) (state, is) (λ sound. (state, is, inl holds.history)) (λ whole. (state, is, holds.history))
+  pub ends_untouched : (most : History) (s : State) → Extends s.history most → (disk : D) (begun : ℕ) (ending : Ending) → (CutsAnswer ending → ⊥) → (state : DiskState) → told disk ≡ Some state → HoldsState begun s state → DiskEnds told moment since faults disk disk ⊥ begun ending s.history most
+  ends_untouched most s extends disk begun ending none state is holds =
+      ends_within disk disk begun ending s.history most (rests told moment since only_now counts_now most s extends disk begun state is holds) (state, is) (λ sound. (state, is, inl holds.history)) (λ whole. (state, is, holds.history)) (λ cuts. absurd (none cuts))
 
   -- every line was answered
   pub ends_complete : (old new : D) (begun : ℕ) (before after : State) → Extends before.history after.history → HoldsThroughout moment since old new (Leaves (AreBetween before.history after.history))
@@ -163,6 +165,7 @@ module _ {D : Type 0} (told : D → Option DiskState) (moment : D → ℕ) (sinc
     now = (now, is, leaves_weaker (λ commits. commits ≡ logged after.history) (AreBetween after.history after.history) (all_within after.history after.history (extends_itself after.history)) now (held told moment since only_now counts_now after begun now holds now (same_files told moment since only_now counts_now now)));
     settled = λ sound. (now, is, inr (inl holds.history));
     whole = λ whole. (now, is, holds.history);
+    cut = λ cuts. (now, is, holds.history);
   }
 
   -- a run that began earlier
@@ -176,4 +179,5 @@ module _ {D : Type 0} (told : D → Option DiskState) (moment : D → ℕ) (sinc
         let now = ends.settled (λ rose. sound (rose_earlier (faults first) (faults old) (faults new) earlier rose)) in
         (now.0, now.1, ⊎_elim (λ (never : ⊥). absurd never) (λ holds. inr holds) now.2);
     whole = ends.whole;
+    cut = ends.cut;
   }

@@ -11,12 +11,13 @@ use Rattle.vl_journal.specs.Images.{Leaves, IsNone}
 use Rattle.vl_script.specs.Script.{lines_of}
 use Rattle.vl_replay.specs.Sequential.{empty_store}
 use Rattle.vl_replay.specs.Replay.{exchanges_from, history_after, KeepsUp}
-use Rattle.vl_replay.specs.Durable.{logged, AreFirstOf, AreBetween, EndsBetweenLines, DiskEndsFrom, DiskEndsFromEmpty}
+use Rattle.vl_replay.specs.Durable.{logged, AreFirstOf, AreBetween, EndsBetweenLines, CutsAnswer, DiskEndsFrom, DiskEndsFromEmpty}
 use Rattle.vl_replay.specs.Steps.{Causes, EndsBefore, EndsRun}
 use Rattle.vl_replay.specs.declared.ending.Ending.{Ending}
-use Rattle.vl_replay.specs.declared.ending.Ending.TheVariants.{Complete, BadLine, BadWords, DiskFault, NotAStore, NoMemory, ReadFault, WriteFault}
+use Rattle.vl_replay.specs.declared.ending.Ending.TheVariants.{Complete, BadLine, BadWords, DiskFault, NotAStore, NoMemory, ReadFault, WriteFault, AnswerCut}
 use Rattle.vl_replay.proofs.Logged.{holds_opened}
 use Rattle.vl_replay.proofs.Replays.{ends_weaker, rose_earlier}
+use Rattle.vl_replay.proofs.Texts.{last_line_cuts_nothing}
 use Rattle.vl_replay.proofs.DiskSteps.{exchanges_extend, leaves_weaker, ends_later}
 
 -- a fault that was counted since the store was opened was counted since the begin
@@ -29,6 +30,7 @@ causes_earlier f t fd fd' td occupied le NotAStore cause = absurd cause
 causes_earlier f t fd fd' td occupied le NoMemory cause = absurd cause
 causes_earlier f t fd fd' td occupied le ReadFault cause = cause
 causes_earlier f t fd fd' td occupied le WriteFault cause = absurd cause
+causes_earlier f t fd fd' td occupied le AnswerCut cause = absurd cause
 
 none_up_to : (most : History) (commits : List Commit) → IsNone commits → AreFirstOf most commits
 none_up_to most commits none = (logged most, ap (λ cs. cs ++ logged most) (sym none))
@@ -47,12 +49,12 @@ module _ {D : Type 0} (told : D → Option DiskState) (moment : D → ℕ) (sinc
     (only_now : (disk : D) (state other : DiskState) → told disk ≡ Some state → since disk (moment disk) other → SameFiles other state)
     (counts_now : (disk : D) (state : DiskState) (t : ℕ) → told disk ≡ Some state → t ≤ moment disk → since disk t state) where
   -- the store wasn't opened
-  pub unopened : (old new : D) (ending result : Ending) (P Q : Type 0) (most : History) → (EndsBetweenLines ending → ⊥) → ((result ≡ ending) × P) ⊎ ((result ≡ WriteFault) × Q)
+  pub unopened : (old new : D) (ending result : Ending) (P Q : Type 0) (most : History) → (EndsBetweenLines ending → ⊥) → (CutsAnswer ending → ⊥) → ((result ≡ ending) × P) ⊎ ((result ≡ WriteFault) × Q)
       → ((state : DiskState) → told old ≡ Some state → IsEmpty state → HoldsThroughout moment since old new (Leaves IsNone))
       → ((state : DiskState) → told old ≡ Some state → (now : DiskState) × (told new ≡ Some now))
       → ((Rose (faults old) (faults new) → ⊥) → told new ≡ told old)
       → DiskEndsFromEmpty told moment since faults old new result empty_store.history most
-  unopened old new ending result P Q most none how through tells kept state is empty =
+  unopened old new ending result P Q most none none_cut how through tells kept state is empty =
       let through' = through state is empty in
       let now = tells state is in
       record {
@@ -60,16 +62,17 @@ module _ {D : Type 0} (told : D → Option DiskState) (moment : D → ℕ) (sinc
         now = (now.0, now.1, leaves_weaker IsNone (AreBetween empty_store.history most) (none_within most) now.0 (through'.each now.0 (counts_now new now.0 (moment old) now.1 through'.later)));
         settled = λ sound. (state, kept sound ∙ is, inl (kept sound));
         whole = λ whole. absurd (not_whole ending result P Q none how whole);
+        cut = λ cuts. absurd (last_line_cuts_nothing ending result P Q none_cut how cuts);
       }
 
-  pub ends_unopened : (cause : Ending → Type 0) (old new : D) (ending result : Ending) (P Q : Type 0) (input : List ℕ) (left asked held held' : Option (List ℕ)) → (EndsBetweenLines ending → ⊥) → ((result ≡ ending) × P) ⊎ ((result ≡ WriteFault) × Q)
+  pub ends_unopened : (cause : Ending → Type 0) (old new : D) (ending result : Ending) (P Q : Type 0) (input : List ℕ) (left asked held held' : Option (List ℕ)) → (EndsBetweenLines ending → ⊥) → (CutsAnswer ending → ⊥) → ((result ≡ ending) × P) ⊎ ((result ≡ WriteFault) × Q)
       → EndsBefore cause empty_store 0 input left result held held' → KeepsUp input asked 0
       → ((state : DiskState) → told old ≡ Some state → IsEmpty state → HoldsThroughout moment since old new (Leaves IsNone))
       → ((state : DiskState) → told old ≡ Some state → (now : DiskState) × (told new ≡ Some now))
       → ((Rose (faults old) (faults new) → ⊥) → told new ≡ told old)
       → EndsRun cause (DiskEndsFromEmpty told moment since faults old new) empty_store 0 input left asked result held held'
-  ends_unopened cause old new ending result P Q input left asked held held' none how (printed, printed_is, run) kept_up through tells kept =
-      (printed, 0, printed_is, run, kept_up, unopened old new ending result P Q (history_after empty_store.history (take 1 (exchanges_from empty_store (lines_of input)))) none how through tells kept)
+  ends_unopened cause old new ending result P Q input left asked held held' none none_cut how (printed, printed_is, run) kept_up through tells kept =
+      (printed, 0, printed_is, run, kept_up, unopened old new ending result P Q (history_after empty_store.history (take 1 (exchanges_from empty_store (lines_of input)))) none none_cut how through tells kept)
 
   -- the store was opened, and a run went on over it
   pub ends_opened : (f t : ℕ) (occupied : Type 0) (first mid new : D) (input : List ℕ) (left asked : Option (List ℕ)) (ending : Ending) (held held' : Option (List ℕ)) → faults first ≤ faults mid

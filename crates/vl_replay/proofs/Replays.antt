@@ -10,13 +10,13 @@ use Rattle.vl_script.specs.declared.line.Line.{Line}
 use Rattle.vl_script.specs.declared.answer.Answer.{Answer}
 use Rattle.vl_script.specs.Script.{text_of, lines_of, line_of}
 use Rattle.vl_replay.specs.Input.{HasNoLineEnd}
-use Rattle.vl_replay.specs.Replay.{Exchange, exchange_at, exchanged, is_printed, exchanges_from, and_later, answers_text, line_number, bad_line, no_memory_line, disk_fault_line, not_a_store_line, read_fault_line, ended_lines, KeepsUp, NextPiece, next_answer, next_bad_line, next_no_memory, next_disk_fault, next_not_a_store, next_read_fault, EndsSo, Replays}
+use Rattle.vl_replay.specs.Replay.{Exchange, exchange_at, exchanged, is_printed, exchanges_from, and_later, answers_text, line_number, bad_line, no_memory_line, disk_fault_line, not_a_store_line, read_fault_line, ended_lines, KeepsUp, NextPiece, next_bad_line, next_no_memory, next_disk_fault, next_not_a_store, next_read_fault, EndsSo, Replays}
 use Rattle.vl_replay.specs.Steps.{Finishes, EndsBefore, SinkCounts, Counts}
 use Rattle.vl_script.specs.declared.limits.TheConstants.{MAX_LINE_BYTES}
 use Rattle.std.proofs.lemmas.Bool.Decides.{nat_tests}
 use Rattle.vl_disk.specs.Faults.{Rose}
 use Rattle.vl_replay.specs.declared.ending.Ending.{Ending}
-use Rattle.vl_replay.specs.declared.ending.Ending.TheVariants.{Complete, BadLine, BadWords, DiskFault, NotAStore, NoMemory, ReadFault, WriteFault}
+use Rattle.vl_replay.specs.declared.ending.Ending.TheVariants.{Complete, BadLine, BadWords, DiskFault, NotAStore, NoMemory, ReadFault, WriteFault, AnswerCut}
 use Rattle.vl_replay.specs.Laws.{ended_lines-cons}
 use Rattle.vl_replay.proofs.Lines.{lines_of-ended}
 
@@ -92,13 +92,13 @@ read_fault_ends cause s before bytes given rest left fault told parts unended =
 
 -- the sink cause within an answer
 pub answer_cut : (cause : Ending → Type 0) (s : State) (before : ℕ) (bytes text : List ℕ) (texts : List (List ℕ)) (left : Option (List ℕ)) (e : Exchange) (held held' : Option (List ℕ)) →
-    lines_of bytes ≡ text ∷ texts → exchange_at s text ≡ Some e → TakesPrefix held held' (text_of e.answer) → EndsBefore cause s before bytes left WriteFault held held'
+    lines_of bytes ≡ text ∷ texts → exchange_at s text ≡ Some e → TakesPrefix held held' (text_of e.answer) → EndsBefore cause s before bytes left AnswerCut held held'
 answer_cut cause s before bytes text texts left e held held' lines is part =
     let piece = text_of e.answer in (
       take part.0 piece,
       part.2,
       rw (lines, exchanges_from-answered s text texts e is)
-          (piece, take part.0 piece, zero-le, next_answer e refl, (drop part.0 piece, sym (take-append-drop part.0 piece)), refl),
+          (e, take part.0 piece, zero-le, refl, (drop part.0 piece, sym (take-append-drop part.0 piece)), refl),
     )
 
 -- the input's last line was answered
@@ -109,7 +109,6 @@ last_answered cause s before bytes text left e lines is told =
 
 -- one more answer in front
 later_piece : (cause : Ending → Type 0) (e : Exchange) (all : List Exchange) (lines before m : ℕ) (piece : List ℕ) → (cause NotAStore → ⊥) → NextPiece cause all lines (before + 1) m piece → NextPiece cause (e ∷ all) (suc lines) before (suc m) piece
-later_piece cause e all lines before m piece opened (next_answer x is) = next_answer x is
 later_piece cause e all lines before m piece opened (next_bad_line at less) =
     let n : before + suc (length all) + 1 ≡ (before + 1) + length all + 1 = omega arith in
     subst (λ (k : ℕ). NextPiece cause (e ∷ all) (suc lines) before (suc m) (bad_line k)) n (next_bad_line (ap suc at) (omega arith))
@@ -120,7 +119,6 @@ later_piece cause e all lines before m piece opened (next_read_fault fault) = ne
 
 -- what was caused so was caused
 piece_weaker : (cause cause' : Ending → Type 0) → ((ending : Ending) → cause ending → cause' ending) → (all : List Exchange) (lines before m : ℕ) (piece : List ℕ) → NextPiece cause all lines before m piece → NextPiece cause' all lines before m piece
-piece_weaker cause cause' weaker all lines before m piece (next_answer x is) = next_answer x is
 piece_weaker cause cause' weaker all lines before m piece (next_bad_line at less) = next_bad_line at less
 piece_weaker cause cause' weaker all lines before m piece next_no_memory = next_no_memory
 piece_weaker cause cause' weaker all lines before m piece (next_disk_fault fault) = next_disk_fault (weaker DiskFault fault)
@@ -137,6 +135,7 @@ ends_weaker cause cause' weaker all lines before bytes left m NotAStore printed 
 ends_weaker cause cause' weaker all lines before bytes left m NoMemory printed h = h
 ends_weaker cause cause' weaker all lines before bytes left m ReadFault printed (given, rest, fault, parts, told, at, le, text) = (given, rest, weaker ReadFault fault, parts, told, at, le, text)
 ends_weaker cause cause' weaker all lines before bytes left m WriteFault printed (piece, front, le, next, cut, text) = (piece, front, le, piece_weaker cause cause' weaker all lines before m piece next, cut, text)
+ends_weaker cause cause' weaker all lines before bytes left m AnswerCut printed h = h
 
 -- a line with its answer comes in front
 pub keeps_up_behind : (bytes line rest : List ℕ) (asked : Option (List ℕ)) (m : ℕ) → bytes ≡ line ++ 10 ∷ rest → HasNoLineEnd line → KeepsUp rest asked m → KeepsUp bytes asked (suc m)
@@ -191,6 +190,14 @@ one_more cause e all lines before bytes line rest left m WriteFault printed part
   cut,
   ap (λ (p : List ℕ). text_of e.answer ++ p) text ∙ sym (append_assoc (text_of e.answer) (answers_text (take m all)) front),
 )
+one_more cause e all lines before bytes line rest left m AnswerCut printed parts unended opened (x, front, le, next, cut, text) = (
+  x,
+  front,
+  omega arith,
+  next,
+  cut,
+  ap (λ (p : List ℕ). text_of e.answer ++ p) text ∙ sym (append_assoc (text_of e.answer) (answers_text (take m all)) front),
+)
 
 -- a run goes on behind an answered line
 pub goes_on : (cause : Ending → Type 0) (s : State) (before : ℕ) (bytes line rest : List ℕ) (left : Option (List ℕ)) (e : Exchange) (m : ℕ) (ending : Ending) (printed : List ℕ) →
@@ -240,6 +247,7 @@ counts_of_sink NotAStore source source' sink sink' same h = absurd h
 counts_of_sink NoMemory source source' sink sink' same h = (same, h)
 counts_of_sink ReadFault source source' sink sink' same h = absurd h
 counts_of_sink WriteFault source source' sink sink' same h = h
+counts_of_sink AnswerCut source source' sink sink' same h = h
 
 -- what a read that cause within a line's bytes prints, where the source's count rose since an earlier time
 pub rose_earlier : (f a b : ℕ) → f ≤ a → Rose a b → Rose f b

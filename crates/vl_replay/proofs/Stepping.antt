@@ -10,12 +10,12 @@ use Rattle.vl_script.specs.Script.{text_of, lines_of}
 use Rattle.vl_replay.specs.Input.{ReadsLine}
 use Rattle.vl_replay.specs.Sequential.{State}
 use Rattle.vl_replay.specs.Replay.{Exchange, exchange_at, exchanges_from, history_after, KeepsUp, Replays}
-use Rattle.vl_replay.specs.Durable.{HoldsHistory, HoldsState, AreBetween, CarriesOutText, history_behind, EndsBetweenLines, DiskEndsFrom}
+use Rattle.vl_replay.specs.Durable.{HoldsHistory, HoldsState, AreBetween, CarriesOutText, history_behind, EndsBetweenLines, CutsAnswer, DiskEndsFrom}
 use Rattle.vl_replay.specs.Steps.{Causes, EndsBefore, EndsRun, StepsOn, GoesOn, IsAnswered}
 use Rattle.vl_replay.specs.declared.input.lines.Next.TheVariants.{Line as WholeLine, LastLine}
 use Rattle.vl_replay.specs.declared.replayer.Replayer.{Replayer}
 use Rattle.vl_replay.specs.declared.ending.Ending.{Ending}
-use Rattle.vl_replay.specs.declared.ending.Ending.TheVariants.{Complete, BadLine, BadWords, DiskFault, NotAStore, NoMemory, ReadFault, WriteFault}
+use Rattle.vl_replay.specs.declared.ending.Ending.TheVariants.{Complete, BadLine, BadWords, DiskFault, NotAStore, NoMemory, ReadFault, WriteFault, AnswerCut}
 use Rattle.vl_replay.proofs.Lines.{lines_of-ended, lines_of-unended}
 use Rattle.vl_replay.proofs.Replays.{keeps_up_after, last_answered, exchanges_from-answered, takes_nothing}
 use Rattle.vl_replay.proofs.DiskSteps.{Extends, exchange_extends, exchanges_extend, first_behind, ends_within, ends_untouched, ends_complete}
@@ -34,8 +34,8 @@ module _ {D : Type 0} (told : D → Option DiskState) (moment : D → ℕ) (sinc
     (counts_now : (disk : D) (state : DiskState) (t : ℕ) → told disk ≡ Some state → t ≤ moment disk → since disk t state) where
   module _ (old new : D) (s : State) where
     -- the disk was left alone
-    pub untouched : (ending : Ending) (most : History) → Extends s.history most → DiskEndsFrom told moment since faults old old s ending s.history most
-    untouched ending most extends begun state is holds = ends_untouched told moment since faults only_now counts_now most s extends old begun ending state is holds
+    pub untouched : (ending : Ending) (most : History) → (CutsAnswer ending → ⊥) → Extends s.history most → DiskEndsFrom told moment since faults old old s ending s.history most
+    untouched ending most none extends begun state is holds = ends_untouched told moment since faults only_now counts_now most s extends old begun ending none state is holds
 
     module _ (text : List ℕ) (ended : Option Ending) (takes : (begun : ℕ) (state : DiskState) → told old ≡ Some state → HoldsState begun s state → CarriesOutText told moment since faults old new begun s text (IsAnswered ended)) where
       -- the bad line left the disk as it was
@@ -52,6 +52,27 @@ module _ {D : Type 0} (told : D → Option DiskState) (moment : D → ℕ) (sinc
       whole_of cause texts n before bytes left NoMemory printed lines is readable run whole begun state told_is holds = absurd whole
       whole_of cause texts n before bytes left ReadFault printed lines is readable run whole begun state told_is holds = absurd (readable is)
       whole_of cause texts n before bytes left WriteFault printed lines is readable run whole begun state told_is holds = absurd whole
+      whole_of cause texts n before bytes left AnswerCut printed lines is readable run whole begun state told_is holds = absurd whole
+
+      -- the answer that was cut is that of the line
+      cut_of : (cause : Ending → Type 0) (texts : List (List ℕ)) (before : ℕ) (bytes : List ℕ) (left : Option (List ℕ)) (ending : Ending) (printed : List ℕ) → lines_of bytes ≡ text ∷ texts → ended ≡ Some ending
+          → Replays cause s before bytes left 0 ending printed → CutsAnswer ending → (begun : ℕ) (state : DiskState) → told old ≡ Some state → HoldsState begun s state → (now : DiskState) × (told new ≡ Some now) × HoldsHistory begun (history_behind s.history (exchange_at s text)) now
+      cut_of cause texts before bytes left Complete printed lines is run cuts begun state told_is holds = absurd cuts
+      cut_of cause texts before bytes left BadLine printed lines is run cuts begun state told_is holds = absurd cuts
+      cut_of cause texts before bytes left BadWords printed lines is run cuts begun state told_is holds = absurd cuts
+      cut_of cause texts before bytes left DiskFault printed lines is run cuts begun state told_is holds = absurd cuts
+      cut_of cause texts before bytes left NotAStore printed lines is run cuts begun state told_is holds = absurd cuts
+      cut_of cause texts before bytes left NoMemory printed lines is run cuts begun state told_is holds = absurd cuts
+      cut_of cause texts before bytes left ReadFault printed lines is run cuts begun state told_is holds = absurd cuts
+      cut_of cause texts before bytes left WriteFault printed lines is run cuts begun state told_is holds = absurd cuts
+      cut_of cause texts before bytes left AnswerCut printed lines is run cuts begun state told_is holds = behind_now (exchange_at s text) refl
+        where
+          done : IsAnswered ended
+          done = subst IsAnswered (sym is) tt
+
+          behind_now : (o : Option Exchange) → exchange_at s text ≡ o → (now : DiskState) × (told new ≡ Some now) × HoldsHistory begun (history_behind s.history o) now
+          behind_now None none = (takes begun state told_is holds).bad done none
+          behind_now (Some e) some = let now = (takes begun state told_is holds).answered done e some in (now.0, now.1, now.2.history)
 
       -- the run ended before the line was answered whole
       ends_before : (f t fd td : ℕ) (before : ℕ) (bytes : List ℕ) (texts : List (List ℕ)) (left asked : Option (List ℕ)) (ending : Ending) (held held' : Option (List ℕ)) → lines_of bytes ≡ text ∷ texts → ended ≡ Some ending → ended ≢ Some ReadFault
@@ -67,7 +88,8 @@ module _ {D : Type 0} (told : D → Option DiskState) (moment : D → ℕ) (sinc
             subst (λ (h : History). DiskEndsFrom told moment since faults old new s ending s.history h) most (λ begun state told_is holds.
                 let t' = takes begun state told_is holds in
                 ends_within told moment since faults only_now counts_now old new begun ending s.history behind t'.through t'.tells t'.settled
-                (λ whole. whole_of (Causes f t fd td ⊥) texts 0 before bytes left ending printed lines is readable run whole begun state told_is holds)),
+                (λ whole. whole_of (Causes f t fd td ⊥) texts 0 before bytes left ending printed lines is readable run whole begun state told_is holds)
+                (λ cuts. cut_of (Causes f t fd td ⊥) texts before bytes left ending printed lines is run cuts begun state told_is holds)),
           )
 
   -- a line that was read with its end was answered, or the run ended there
@@ -120,11 +142,11 @@ module _ {D : Type 0} (told : D → Option DiskState) (moment : D → ℕ) (sinc
       (ends_before old new s line (Some ending) takes f t fd td before had [] left asked ending held held' lines refl readable (ends f t had [] left lines) kept_up)
 
   -- the run ended before a line was answered, and the disk was left alone
-  pub step_apart : (cause : Ending → Type 0) (disk : D) (s : State) (before : ℕ) (had : List ℕ) (left asked : Option (List ℕ)) (ending : Ending) (held held' : Option (List ℕ)) → EndsBefore cause s before had left ending held held' → KeepsUp had asked 0
+  pub step_apart : (cause : Ending → Type 0) (disk : D) (s : State) (before : ℕ) (had : List ℕ) (left asked : Option (List ℕ)) (ending : Ending) (held held' : Option (List ℕ)) → (CutsAnswer ending → ⊥) → EndsBefore cause s before had left ending held held' → KeepsUp had asked 0
       → EndsRun cause (DiskEndsFrom told moment since faults disk disk s) s before had left asked ending held held'
-  step_apart cause disk s before had left asked ending held held' (printed, printed_is, run) kept_up =
-      (printed, 0, printed_is, run, kept_up, untouched disk disk s ending (history_after s.history (take 1 (exchanges_from s (lines_of had)))) (exchanges_extend (lines_of had) s 1))
+  step_apart cause disk s before had left asked ending held held' none (printed, printed_is, run) kept_up =
+      (printed, 0, printed_is, run, kept_up, untouched disk disk s ending (history_after s.history (take 1 (exchanges_from s (lines_of had)))) none (exchanges_extend (lines_of had) s 1))
 
   -- there is no further line
   pub step_end : (cause : Ending → Type 0) (disk : D) (s : State) (before : ℕ) (had : List ℕ) (left asked held : Option (List ℕ)) → left ≡ Some [] → had ≡ [] → KeepsUp had asked 0 → EndsRun cause (DiskEndsFrom told moment since faults disk disk s) s before had left asked Complete held held
-  step_end cause disk s before had left asked held told_is none kept_up = step_apart cause disk s before had left asked Complete held held ([], takes_nothing held, rw none (refl, refl, told_is, refl)) kept_up
+  step_end cause disk s before had left asked held told_is none kept_up = step_apart cause disk s before had left asked Complete held held (λ never. never) ([], takes_nothing held, rw none (refl, refl, told_is, refl)) kept_up

@@ -13,12 +13,12 @@ use Rattle.vl_script.specs.declared.line.Line.{Line}
 use Rattle.vl_script.specs.Script.{line_of}
 use Rattle.vl_replay.specs.Sequential.{State, state_after, answer_to}
 use Rattle.vl_replay.specs.Replay.{Exchange, exchange_at, exchanged, is_printed}
-use Rattle.vl_replay.specs.Durable.{HoldsHistory, HoldsState, AreBetween, CarriesOut, CarriesOutText, history_behind}
+use Rattle.vl_replay.specs.Durable.{HoldsHistory, HoldsState, AreBetween, CarriesOut, CarriesOutText, history_behind, CutsAnswer}
 use Rattle.vl_replay.specs.Steps.{IsAnswered, EndsAtBadLine, DiskCounts}
 use Rattle.vl_replay.specs.declared.replayer.halt.Halt.{Halt}
 use Rattle.vl_replay.specs.declared.replayer.halt.Halt.TheVariants.{NoMemory as NoRoom, Disk}
 use Rattle.vl_replay.specs.declared.ending.Ending.{Ending}
-use Rattle.vl_replay.specs.declared.ending.Ending.TheVariants.{Complete, BadLine, BadWords, DiskFault, NotAStore, NoMemory, ReadFault, WriteFault}
+use Rattle.vl_replay.specs.declared.ending.Ending.TheVariants.{Complete, BadLine, BadWords, DiskFault, NotAStore, NoMemory, ReadFault, WriteFault, AnswerCut}
 use Rattle.vl_replay.proofs.Logged.{unprinted_keeps}
 use Rattle.vl_replay.proofs.DiskSteps.{text_extends, rests}
 
@@ -122,6 +122,25 @@ counts_nothing NotAStore before now may same = same
 counts_nothing NoMemory before now may same = same
 counts_nothing ReadFault before now may same = same
 counts_nothing WriteFault before now may same = omega (arith, same)
+counts_nothing AnswerCut before now may same = same
 
 pub ok_not_disk : {T : Type 0} (r : Result T Halt) (x : T) → r ≡ Ok x → r ≡ Err Disk → ⊥
 ok_not_disk r x ok err = cc
+
+-- none of these endings is within an answer
+pub bad_line_cuts_nothing : (ending : Ending) → EndsAtBadLine ending → CutsAnswer ending → ⊥
+bad_line_cuts_nothing Complete may cuts = cuts
+bad_line_cuts_nothing BadLine may cuts = cuts
+bad_line_cuts_nothing BadWords may cuts = cuts
+bad_line_cuts_nothing DiskFault may cuts = cuts
+bad_line_cuts_nothing NotAStore may cuts = cuts
+bad_line_cuts_nothing NoMemory may cuts = cuts
+bad_line_cuts_nothing ReadFault may cuts = cuts
+bad_line_cuts_nothing WriteFault may cuts = cuts
+bad_line_cuts_nothing AnswerCut may cuts = may
+
+pub last_line_cuts_nothing : (ending result : Ending) (P Q : Type 0) → (CutsAnswer ending → ⊥) → ((result ≡ ending) × P) ⊎ ((result ≡ WriteFault) × Q) → CutsAnswer result → ⊥
+last_line_cuts_nothing ending result P Q none how cuts = ⊎_elim
+    (λ (same : (result ≡ ending) × P). none (subst CutsAnswer same.0 cuts))
+    (λ (cut : (result ≡ WriteFault) × Q). subst CutsAnswer cut.0 cuts)
+    how

@@ -16,7 +16,7 @@ use Rattle.vl_replay.specs.Replay.{Exchange, exchange_at, exchanges_from, histor
 use Rattle.vl_replay.specs.declared.replayer.halt.Halt.{Halt}
 use Rattle.vl_replay.specs.declared.replayer.halt.Halt.TheVariants.{NoMemory as NoRoom}
 use Rattle.vl_replay.specs.declared.ending.Ending.{Ending}
-use Rattle.vl_replay.specs.declared.ending.Ending.TheVariants.{Complete, BadLine, BadWords, DiskFault, NotAStore, NoMemory, ReadFault, WriteFault}
+use Rattle.vl_replay.specs.declared.ending.Ending.TheVariants.{Complete, BadLine, BadWords, DiskFault, NotAStore, NoMemory, ReadFault, WriteFault, AnswerCut}
 
 -- commits with their numbers, of which the first is one above a number, as the log has them
 abbrev pub numbered : ℕ → List Writes → List Commit
@@ -79,6 +79,19 @@ EndsBetweenLines NotAStore = ⊥
 EndsBetweenLines NoMemory = ⊥
 EndsBetweenLines ReadFault = Unit {0}
 EndsBetweenLines WriteFault = ⊥
+EndsBetweenLines AnswerCut = ⊥
+
+-- the run ended while the answer to a line was put
+abbrev pub CutsAnswer : Ending → Type 0
+CutsAnswer Complete = ⊥
+CutsAnswer BadLine = ⊥
+CutsAnswer BadWords = ⊥
+CutsAnswer DiskFault = ⊥
+CutsAnswer NotAStore = ⊥
+CutsAnswer NoMemory = ⊥
+CutsAnswer ReadFault = ⊥
+CutsAnswer WriteFault = ⊥
+CutsAnswer AnswerCut = Unit {0}
 
 -- What a run that ended so did to a disk, which had been asked for some changing calls: by the commits that were
 -- acknowledged, and by those that may stand with one that wasn't.
@@ -93,6 +106,8 @@ pub record DiskEnds {D : Type 0} (told : D → Option DiskState) (moment : D →
   pub settled : (Rose (faults old) (faults new) → ⊥) → (state : DiskState) × (told new ≡ Some state) × (unopened ⊎ (HoldsHistory begun acknowledged state ⊎ HoldsHistory begun most state))
   -- where the run ended between two lines, the disk holds just the acknowledged ones
   pub whole : EndsBetweenLines ending → (state : DiskState) × (told new ≡ Some state) × HoldsHistory begun acknowledged state
+  -- and where it ended while an answer was put, that answer's commit too, whatever came out of the answer
+  pub cut : CutsAnswer ending → (state : DiskState) × (told new ≡ Some state) × HoldsHistory begun most state
 
 -- so it is of a run that begins in a state, over a disk that holds it
 abbrev pub DiskEndsFrom : {D : Type 0} (told : D → Option DiskState) (moment : D → ℕ) (since : D → ℕ → DiskState → Type 0) (faults : D → ℕ) (old new : D) → State → Ending → History → History → Type 0

@@ -13,7 +13,7 @@ use Rattle.vl_script.specs.declared.line.Line.TheVariants.{Begin, View, Get, Set
 use Rattle.vl_script.specs.declared.answer.Answer.{Answer}
 use Rattle.vl_script.specs.declared.answer.Answer.TheVariants.{Done, Number, Found, NoValue, Taken, Unknown, ReadOnly, Invalid, TooBig, TooMany, Nothing, Full, Exhausted}
 use Rattle.vl_replay.specs.declared.ending.Ending.{Ending}
-use Rattle.vl_replay.specs.declared.ending.Ending.TheVariants.{Complete, BadLine, BadWords, DiskFault, NotAStore, NoMemory, ReadFault, WriteFault}
+use Rattle.vl_replay.specs.declared.ending.Ending.TheVariants.{Complete, BadLine, BadWords, DiskFault, NotAStore, NoMemory, ReadFault, WriteFault, AnswerCut}
 
 -- The answers that are printed so far. A line that would be answered otherwise is a bad line for now.
 abbrev pub is_printed : Answer → Bool
@@ -94,11 +94,10 @@ IsFront front piece = (rest : List ℕ) × (piece ≡ front ++ rest)
 abbrev pub ended_lines : List ℕ → ℕ
 ended_lines bytes = count_by (λ b. b == 10) bytes
 
--- What may be printed next after m of these answers: the next one; the bad line, where there is one more line and no
+-- What may be printed last after m of these answers: the bad line, where there is one more line and no
 -- next answer; that memory ran out; that the disk or the source failed, where it did; or, before all, that the disk
 -- holds no store, where something stands on it.
 pub data NextPiece (cause : Ending → Type 0) (all : List Exchange) (lines before m : ℕ) : List ℕ → Type 0 where
-  next_answer : (e : Exchange) → slice_get all m ≡ Some e → NextPiece cause all lines before m (text_of e.answer)
   next_bad_line : m ≡ length all → length all < lines → NextPiece cause all lines before m (bad_line (before + length all + 1))
   next_no_memory : NextPiece cause all lines before m no_memory_line
   next_disk_fault : cause DiskFault → NextPiece cause all lines before m disk_fault_line
@@ -113,7 +112,7 @@ pub data NextPiece (cause : Ending → Type 0) (all : List Exchange) (lines befo
 --   a fault of the disk, or want of memory: some lines were answered, each answer whole;
 --   no store: nothing was read;
 --   a fault of the source: each line that had ended in the bytes that it gave was;
---   a fault of the sink: some lines were, and of the next piece some first bytes came out.
+--   a fault of the sink: some lines were, and of the last line, or of the next answer, some first bytes came out.
 abbrev pub EndsSo : (Ending → Type 0) → List Exchange → ℕ → ℕ → List ℕ → Option (List ℕ) → ℕ → Ending → List ℕ → Type 0
 EndsSo cause all lines before bytes left m Complete printed =
     (m ≡ length all) × (length all ≡ lines) × (left ≡ Some []) × (printed ≡ answers_text all)
@@ -132,6 +131,9 @@ EndsSo cause all lines before bytes left m ReadFault printed =
 EndsSo cause all lines before bytes left m WriteFault printed =
     (piece : List ℕ) × (front : List ℕ) × (m ≤ length all) × NextPiece cause all lines before m piece
     × IsFront front piece × (printed ≡ answers_text (take m all) ++ front)
+EndsSo cause all lines before bytes left m AnswerCut printed =
+    (e : Exchange) × (front : List ℕ) × (m ≤ length all) × (slice_get all m ≡ Some e)
+    × IsFront front (text_of e.answer) × (printed ≡ answers_text (take m all) ++ front)
 
 -- what a run prints that answers so many lines of these bytes from a state on, some lines after the script's begin
 abbrev pub Replays : (Ending → Type 0) → State → ℕ → List ℕ → Option (List ℕ) → ℕ → Ending → List ℕ → Type 0
@@ -153,6 +155,7 @@ status_of NotAStore = 4
 status_of NoMemory = 5
 status_of ReadFault = 6
 status_of WriteFault = 7
+status_of AnswerCut = 7
 
 -- What is read is explained by the history at the reader's number: what a view reads, by that at the view's own
 -- number; what the transaction of an accepted commit has read, by that at the commit's number less one, and no

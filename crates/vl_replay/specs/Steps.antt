@@ -14,7 +14,7 @@ use Rattle.vl_replay.specs.Represents.{Represents}
 use Rattle.vl_replay.specs.Durable.{HoldsState, AreBetween, DiskEndsFrom}
 use Rattle.vl_replay.specs.declared.replayer.Replayer.{Replayer}
 use Rattle.vl_replay.specs.declared.ending.Ending.{Ending}
-use Rattle.vl_replay.specs.declared.ending.Ending.TheVariants.{Complete, BadLine, BadWords, DiskFault, NotAStore, NoMemory, ReadFault, WriteFault}
+use Rattle.vl_replay.specs.declared.ending.Ending.TheVariants.{Complete, BadLine, BadWords, DiskFault, NotAStore, NoMemory, ReadFault, WriteFault, AnswerCut}
 
 -- the last line was printed whole, or the sink failed behind some first bytes of it
 abbrev pub Finishes : Option (List ℕ) → List ℕ → Ending → Ending → Option (List ℕ) → Type 0
@@ -37,6 +37,7 @@ Causes source source' disk disk' occupied NotAStore = occupied
 Causes source source' disk disk' occupied NoMemory = ⊥
 Causes source source' disk disk' occupied ReadFault = Rose source source'
 Causes source source' disk disk' occupied WriteFault = ⊥
+Causes source source' disk disk' occupied AnswerCut = ⊥
 
 -- the run printed this over the bytes from a state on, before it answered a line of them, and ended
 abbrev pub EndsBefore : (Ending → Type 0) → State → ℕ → List ℕ → Option (List ℕ) → Ending → Option (List ℕ) → Option (List ℕ) → Type 0
@@ -74,6 +75,7 @@ EndsAtBadLine NotAStore = ⊥
 EndsAtBadLine NoMemory = Unit {0}
 EndsAtBadLine ReadFault = ⊥
 EndsAtBadLine WriteFault = Unit {0}
+EndsAtBadLine AnswerCut = ⊥
 
 -- how a run ends on a disk on which something stands
 abbrev pub IsRefusal : Ending → Type 0
@@ -85,8 +87,9 @@ IsRefusal NotAStore = Unit {0}
 IsRefusal NoMemory = Unit {0}
 IsRefusal ReadFault = ⊥
 IsRefusal WriteFault = Unit {0}
+IsRefusal AnswerCut = ⊥
 
--- the run goes on, or was ended by a bad line
+-- the run goes on, or was ended by a bad line or while the answer was put
 abbrev pub IsAnswered : Option Ending → Type 0
 IsAnswered None = Unit {0}
 IsAnswered (Some Complete) = ⊥
@@ -97,6 +100,7 @@ IsAnswered (Some NotAStore) = ⊥
 IsAnswered (Some NoMemory) = ⊥
 IsAnswered (Some ReadFault) = ⊥
 IsAnswered (Some WriteFault) = ⊥
+IsAnswered (Some AnswerCut) = Unit {0}
 
 -- the disk holds the state after a line, and a crash meanwhile left what was before it or after it
 abbrev pub MovesOn : {D : Type 0} (told : D → Option DiskState) (moment : D → ℕ) (since : D → ℕ → DiskState → Type 0) (old new : D) → State → State → Type 0
@@ -124,6 +128,7 @@ SinkCounts NotAStore before now = ⊥
 SinkCounts NoMemory before now = now ≡ before
 SinkCounts ReadFault before now = ⊥
 SinkCounts WriteFault before now = Rose before now
+SinkCounts AnswerCut before now = Rose before now
 
 -- what the source and the sink counted in a replay that ended so: nothing, unless it ended by their fault
 abbrev pub Counts : Ending → ℕ → ℕ → ℕ → ℕ → Type 0
@@ -135,6 +140,7 @@ Counts NotAStore source source' sink sink' = (source' ≡ source) × (sink' ≡ 
 Counts NoMemory source source' sink sink' = (source' ≡ source) × (sink' ≡ sink)
 Counts ReadFault source source' sink sink' = Rose source source' × (sink' ≡ sink)
 Counts WriteFault source source' sink sink' = Rose sink sink'
+Counts AnswerCut source source' sink sink' = Rose sink sink'
 
 -- what the disk counted in a step, or in a run that ended so: a fault where it ended by one, and none where it goes on or
 -- ended otherwise, unless the last line couldn't be put
@@ -148,3 +154,4 @@ DiskCounts (Some NotAStore) before now = now ≡ before
 DiskCounts (Some NoMemory) before now = now ≡ before
 DiskCounts (Some ReadFault) before now = now ≡ before
 DiskCounts (Some WriteFault) before now = before ≤ now
+DiskCounts (Some AnswerCut) before now = now ≡ before

@@ -95,7 +95,7 @@ pub fn answer<K: Sink, D: Disk>(
     match answer_text(alloc, replayer, disk, text) {
         Ok(Some(answer)) => match sink.put(&answer) {
             Ok(()) => None,
-            Err(_) => Some(Ending::WriteFault),
+            Err(_) => Some(Ending::AnswerCut),
         },
         Ok(None) => Some(refuse(alloc, answered, sink)),
         Err(Halt::NoMemory) => Some(finish(sink, NO_MEMORY, Ending::NoMemory)),

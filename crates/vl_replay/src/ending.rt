@@ -17,8 +17,10 @@ pub enum Ending {
     NoMemory,
     /// Status 6: the source failed.
     ReadFault,
-    /// Status 7: the sink failed.
+    /// Status 7: the sink failed at a line that is no answer.
     WriteFault,
+    /// Status 7: the sink failed at the answer to a line.
+    AnswerCut,
 }
 
 impl Ending {
@@ -36,7 +38,7 @@ impl Ending {
             Ending::NotAStore => 4,
             Ending::NoMemory => 5,
             Ending::ReadFault => 6,
-            Ending::WriteFault => 7,
+            Ending::WriteFault | Ending::AnswerCut => 7,
         }
     }
 }

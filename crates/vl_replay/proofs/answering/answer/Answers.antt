@@ -41,7 +41,7 @@ pub returns-in-Ok-clause-takes : goal.returns-in-Ok-clause-takes
 returns-in-Ok-clause-takes g c begun s state stands is holds = takes_less g.D.Disk.told g.D.Disk.moment g.D.Disk.states_since g.D.Disk.faults c.args.disk.now c.answer_text.new.disk begun s c.args.text.now _ _ (λ done. ap is_ok c.in-Ok-Some.is) (c.answer_text.ensures.takes begun s state stands is holds)
 
 pub returns-in-Ok-Some-clause-takes : goal.returns-in-Ok-Some-clause-takes
-returns-in-Ok-Some-clause-takes g c begun s state stands is holds = takes_less g.D.Disk.told g.D.Disk.moment g.D.Disk.states_since g.D.Disk.faults c.args.disk.now c.answer_text.new.disk begun s c.args.text.now _ _ (λ done. absurd done) (c.answer_text.ensures.takes begun s state stands is holds)
+returns-in-Ok-Some-clause-takes g c begun s state stands is holds = takes_less g.D.Disk.told g.D.Disk.moment g.D.Disk.states_since g.D.Disk.faults c.args.disk.now c.answer_text.new.disk begun s c.args.text.now _ _ (λ done. ap is_ok c.in-Ok-Some.is) (c.answer_text.ensures.takes begun s state stands is holds)
 
 pub returns-in-Ok-None-clause-takes : goal.returns-in-Ok-None-clause-takes
 returns-in-Ok-None-clause-takes g c begun s state stands is holds = takes_less g.D.Disk.told g.D.Disk.moment g.D.Disk.states_since g.D.Disk.faults c.args.disk.now c.answer_text.new.disk begun s c.args.text.now _ _ (λ done. ap is_ok c.in-Ok-None.is) (c.answer_text.ensures.takes begun s state stands is holds)

@@ -7,6 +7,7 @@ use Rattle.vl_replay.specs.declared.ending.Ending.TheVariants.{NoMemory}
 use Rattle.vl_replay.specs.Laws.{keeps_up_at_first}
 use Rattle.vl_replay.proofs.Replays.{finished, no_memory_ends}
 use Rattle.vl_replay.proofs.Stepping.{step_apart}
+use Rattle.vl_replay.proofs.Texts.{last_line_cuts_nothing}
 use Rattle.vl_replay.proofs.UnderWay.{UnderWay, begun, further, over}
 use Rattle.vl_replay.proofs.running.answer_lines.Goals as goal
 
@@ -18,6 +19,7 @@ returns-in_default-clause-printed g c input told =
     let kept_up = keeps_up_at_first input asked (g.met.S.Source.since_asked c.args.source.now input told) in
     let ends = no_memory_ends cause empty_store 0 input left in
     step_apart g.D.Disk.told g.D.Disk.moment g.D.Disk.states_since g.D.Disk.faults g.met.D.Disk.only_now g.met.D.Disk.counts_now cause c.args.disk.now empty_store 0 input left asked c.finish.result (g.K.Sink.held c.args.sink.now) (g.K.Sink.held c.finish.new.sink)
+    (last_line_cuts_nothing NoMemory c.finish.result _ _ (λ never. never) c.finish.ensures.faults)
     (finished cause (exchanges_from empty_store (lines_of input)) (length (lines_of input)) 0 input left NoMemory c.finish.result no_memory_line (g.K.Sink.held c.args.sink.now) (g.K.Sink.held c.finish.new.sink) ends.0 ends.1 c.finish.ensures.printed)
     kept_up
 

@@ -25,7 +25,7 @@ returns-in-Err-NotAStore-clause-printed g c input told =
     let failed = c.in-Err-NotAStore.is ∙ ap Err c.in-Err-NotAStore.field-0-is in
     let ends = not_a_store_ends cause empty_store 0 input left (c.open_store.ensures.not_a_store failed) told in
     ends_unopened g.D.Disk.told g.D.Disk.moment g.D.Disk.states_since g.D.Disk.faults g.met.D.Disk.only_now g.met.D.Disk.counts_now cause c.args.disk.now c.open_store.new.disk NotAStore c.finish.result _ _ input left (g.S.Source.asked c.args.source.now) (g.K.Sink.held c.args.sink.now) (g.K.Sink.held c.finish.new.sink)
-    (λ never. never) c.finish.ensures.faults
+    (λ never. never) (λ never. never) c.finish.ensures.faults
     (finished cause (exchanges_from empty_store (lines_of input)) (length (lines_of input)) 0 input left NotAStore c.finish.result not_a_store_line (g.K.Sink.held c.args.sink.now) (g.K.Sink.held c.finish.new.sink) ends.0 ends.1 c.finish.ensures.printed)
     (keeps_up_at_first input (g.S.Source.asked c.args.source.now) (g.met.S.Source.since_asked c.args.source.now input told))
     c.open_store.ensures.through c.open_store.ensures.tells (λ sound. c.open_store.ensures.refused failed)
@@ -38,7 +38,7 @@ returns-in-Err-NoMemory-clause-printed g c input told =
     let failed = c.in-Err-NoMemory.is ∙ ap Err c.in-Err-NoMemory.field-0-is in
     let ends = no_memory_ends cause empty_store 0 input left in
     ends_unopened g.D.Disk.told g.D.Disk.moment g.D.Disk.states_since g.D.Disk.faults g.met.D.Disk.only_now g.met.D.Disk.counts_now cause c.args.disk.now c.open_store.new.disk NoMemory c.finish-in-Err-NoMemory.result _ _ input left (g.S.Source.asked c.args.source.now) (g.K.Sink.held c.args.sink.now) (g.K.Sink.held c.finish-in-Err-NoMemory.new.sink)
-    (λ never. never) c.finish-in-Err-NoMemory.ensures.faults
+    (λ never. never) (λ never. never) c.finish-in-Err-NoMemory.ensures.faults
     (finished cause (exchanges_from empty_store (lines_of input)) (length (lines_of input)) 0 input left NoMemory c.finish-in-Err-NoMemory.result no_memory_line (g.K.Sink.held c.args.sink.now) (g.K.Sink.held c.finish-in-Err-NoMemory.new.sink) ends.0 ends.1 c.finish-in-Err-NoMemory.ensures.printed)
     (keeps_up_at_first input (g.S.Source.asked c.args.source.now) (g.met.S.Source.since_asked c.args.source.now input told))
     c.open_store.ensures.through c.open_store.ensures.tells (λ sound. c.open_store.ensures.no_memory failed)
@@ -52,7 +52,7 @@ returns-in-Err-Disk-clause-printed g c input told =
     let rose = c.open_store.ensures.cause.rose failed in
     let ends = disk_fault_ends cause empty_store 0 input left rose in
     ends_unopened g.D.Disk.told g.D.Disk.moment g.D.Disk.states_since g.D.Disk.faults g.met.D.Disk.only_now g.met.D.Disk.counts_now cause c.args.disk.now c.open_store.new.disk DiskFault c.finish-in-Err-Disk.result _ _ input left (g.S.Source.asked c.args.source.now) (g.K.Sink.held c.args.sink.now) (g.K.Sink.held c.finish-in-Err-Disk.new.sink)
-    (λ never. never) c.finish-in-Err-Disk.ensures.faults
+    (λ never. never) (λ never. never) c.finish-in-Err-Disk.ensures.faults
     (finished cause (exchanges_from empty_store (lines_of input)) (length (lines_of input)) 0 input left DiskFault c.finish-in-Err-Disk.result disk_fault_line (g.K.Sink.held c.args.sink.now) (g.K.Sink.held c.finish-in-Err-Disk.new.sink) ends.0 ends.1 c.finish-in-Err-Disk.ensures.printed)
     (keeps_up_at_first input (g.S.Source.asked c.args.source.now) (g.met.S.Source.since_asked c.args.source.now input told))
     c.open_store.ensures.through c.open_store.ensures.tells (λ sound. absurd (sound rose))

@@ -5,7 +5,7 @@ use Rattle.vl_replay.specs.Steps.{Causes, GoesOn}
 use Rattle.vl_replay.specs.declared.ending.Ending.TheVariants.{NoMemory, ReadFault}
 use Rattle.vl_replay.proofs.Replays.{too_long_is_bad, finished, no_memory_ends, read_fault_ends, rose_earlier, not_by_reading}
 use Rattle.vl_replay.proofs.Stepping.{step_line, step_last, step_apart, step_end}
-use Rattle.vl_replay.proofs.Texts.{counts_nothing}
+use Rattle.vl_replay.proofs.Texts.{counts_nothing, bad_line_cuts_nothing, last_line_cuts_nothing}
 use Rattle.vl_replay.proofs.running.Progress.step.Goals as goal
 
 pub returns-in-Ok-Line-clause-printed : goal.returns-in-Ok-Line-clause-printed
@@ -36,7 +36,7 @@ returns-in-Ok-TooLong-clause-printed g c f fd before s had le earlier stands cou
     let td = g.D.Disk.faults c.args.disk.now in
     let ends = c.refuse.ensures.printed before count f t fd td s bytes reads.0 reads.1 (g.S.Source.left c.read_line.new.source) reads.2 (too_long_is_bad s reads.0 reads.3) in
     step_apart g.D.Disk.told g.D.Disk.moment g.D.Disk.states_since g.D.Disk.faults g.met.D.Disk.only_now g.met.D.Disk.counts_now (Causes f t fd td ⊥) c.args.disk.now s before bytes (g.S.Source.left c.read_line.new.source) (g.S.Source.asked c.read_line.new.source) c.refuse.result (g.K.Sink.held c.args.sink.now) (g.K.Sink.held c.refuse.new.sink)
-    ends (c.read_line.ensures.keeps_up had told kept_up)
+    (bad_line_cuts_nothing c.refuse.result c.refuse.ensures.ending) ends (c.read_line.ensures.keeps_up had told kept_up)
 
 pub returns-in-Ok-TooLong-clause-disk_faults : goal.returns-in-Ok-TooLong-clause-disk_faults
 returns-in-Ok-TooLong-clause-disk_faults g c = counts_nothing c.refuse.result _ _ c.refuse.ensures.ending refl
@@ -53,6 +53,7 @@ returns-in-Err-NoMemory-clause-printed g c f fd before s had le earlier stands c
     let cause = Causes f (g.S.Source.faults c.read_line.new.source) fd (g.D.Disk.faults c.args.disk.now) ⊥ in
     let ends = no_memory_ends cause s before bytes left in
     step_apart g.D.Disk.told g.D.Disk.moment g.D.Disk.states_since g.D.Disk.faults g.met.D.Disk.only_now g.met.D.Disk.counts_now cause c.args.disk.now s before bytes left (g.S.Source.asked c.read_line.new.source) c.finish.result (g.K.Sink.held c.args.sink.now) (g.K.Sink.held c.finish.new.sink)
+    (last_line_cuts_nothing NoMemory c.finish.result _ _ (λ never. never) c.finish.ensures.faults)
     (finished cause (exchanges_from s (lines_of bytes)) (length (lines_of bytes)) before bytes left NoMemory c.finish.result no_memory_line (g.K.Sink.held c.args.sink.now) (g.K.Sink.held c.finish.new.sink) ends.0 ends.1 c.finish.ensures.printed)
     (c.read_line.ensures.keeps_up had told kept_up)
 
@@ -65,5 +66,6 @@ returns-in-Err-Fault-clause-printed g c f fd before s had le earlier stands coun
     let within = c.read_line.ensures.within fault had told in
     let ends = read_fault_ends cause s before bytes within.0 within.1 left (rose_earlier f (g.S.Source.faults c.args.source.now) (g.S.Source.faults c.read_line.new.source) le (rw c.in-Err-Fault.field-0-is at c.in-Err-Fault.ensures.faults)) within.2 within.3 within.4 in
     step_apart g.D.Disk.told g.D.Disk.moment g.D.Disk.states_since g.D.Disk.faults g.met.D.Disk.only_now g.met.D.Disk.counts_now cause c.args.disk.now s before bytes left (g.S.Source.asked c.read_line.new.source) c.finish-in-Err-Fault.result (g.K.Sink.held c.args.sink.now) (g.K.Sink.held c.finish-in-Err-Fault.new.sink)
+    (last_line_cuts_nothing ReadFault c.finish-in-Err-Fault.result _ _ (λ never. never) c.finish-in-Err-Fault.ensures.faults)
     (finished cause (exchanges_from s (lines_of bytes)) (length (lines_of bytes)) before bytes left ReadFault c.finish-in-Err-Fault.result read_fault_line (g.K.Sink.held c.args.sink.now) (g.K.Sink.held c.finish-in-Err-Fault.new.sink) ends.0 ends.1 c.finish-in-Err-Fault.ensures.printed)
     (c.read_line.ensures.keeps_up had told kept_up)
