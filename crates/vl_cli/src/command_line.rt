@@ -14,7 +14,7 @@ ghost use Rattle.vl_io.specs.Sink.{Takes};
 ghost use Rattle.vl_script.specs.Script.{lines_of};
 ghost use Rattle.vl_replay.specs.Sequential.{empty_store};
 ghost use Rattle.vl_replay.specs.Replay.{status_of, no_memory_line, exchanges_from, AreExplained, KeepsUp};
-ghost use Rattle.vl_replay.specs.Durable.{DiskEndsFromEmpty, history_of};
+ghost use Rattle.vl_replay.specs.Durable.{DiskEndsFromEmpty, answered_lines, history_of};
 ghost use Rattle.vl_replay.specs.Steps.{Causes, Finishes, IsRefusal};
 ghost use Rattle.vl_replay.specs.declared.ending.Ending.{Ending as HowEnded};
 ghost use Rattle.vl_replay.specs.declared.ending.Ending.TheVariants.{NoMemory};
@@ -45,14 +45,14 @@ pub fn run<S: Source, K: Sink, D: Disk>(
     disk: D,
 ) -> Ended<D>
     // What is printed, and how the run ends, are those of the sequential store over the lines of the input. Over a disk
-    // on which nothing stood or was removed, each accepted commit is one synced frame of the log before it is answered:
-    // what a crash at any moment since leaves shows a first part of the commits, and what one at the end leaves shows each that
-    // was acknowledged, if no torn bytes spell a frame by chance.
+    // on which nothing stood or was removed, each accepted commit is one synced frame of the log: what a crash at any moment
+    // since the start leaves shows a first part of the commits, and from each answered line on each that was acknowledged
+    // up to it, if no torn bytes spell a frame by chance.
     ensures answers { (input : List ℕ) → S.left source.old ≡ Some input →
         (ending : HowEnded) × (printed : List ℕ) × (answered : ℕ) × (result.status ≡ status_of ending) × Takes (K.held sink.old) (K.held sink.new) printed
         × Runs (Causes (S.faults source.old) (S.faults source.new) (D.faults disk) (D.faults result.disk) (ForSome (D.told disk) StandsSome)) (map string_bytes words.now) input (S.left source.new) answered ending printed
         × KeepsUp input (S.asked source.new) answered
-        × (is_plain (map string_bytes words.now) ≡ true → DiskEndsFromEmpty D.told D.moment D.states_since D.faults disk result.disk ending (history_of input answered) (history_of input (suc answered))) }
+        × (is_plain (map string_bytes words.now) ≡ true → DiskEndsFromEmpty D.told D.moment D.states_since D.faults disk result.disk ending (answered_lines input answered) (history_of input (suc answered))) }
 
     // What was read is explained by the history at the reader's number: a law of the exchanges that `answers` speaks of.
     ensures explained { (input : List ℕ) → S.left source.old ≡ Some input → AreExplained (exchanges_from empty_store (lines_of input)) }

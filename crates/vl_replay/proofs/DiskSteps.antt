@@ -14,9 +14,9 @@ use Rattle.vl_journal.specs.StoreFiles.{same_has}
 use Rattle.vl_journal.specs.StoreImages.{leaves_all}
 use Rattle.vl_script.specs.declared.line.Line.{Line}
 use Rattle.vl_script.specs.Script.{line_of}
-use Rattle.vl_replay.specs.Sequential.{State, state_after, answer_to}
+use Rattle.vl_replay.specs.Sequential.{State, empty_store, state_after, answer_to}
 use Rattle.vl_replay.specs.Replay.{Exchange, exchange_at, exchanged, exchanges_from, and_later, history_after, is_printed}
-use Rattle.vl_replay.specs.Durable.{logged, HoldsHistory, HoldsState, AreFirstOf, AreBetween, history_behind, EndsBetweenLines, CutsAnswer, DiskEnds}
+use Rattle.vl_replay.specs.Durable.{logged, HoldsHistory, HoldsState, AreFirstOf, AreBetween, history_behind, EndsBetweenLines, CutsAnswer, GoesAlong, DiskEnds}
 use Rattle.vl_replay.specs.declared.ending.Ending.{Ending}
 use Rattle.vl_replay.proofs.Logged.{line_extends}
 use Rattle.vl_replay.proofs.Replays.{rose_earlier}
@@ -32,7 +32,7 @@ extends_itself h = ([], sym (append-nil (logged h)))
 pub extends_same : (h k : History) → k ≡ h → Extends h k
 extends_same h k same = ([], ap logged same ∙ sym (append-nil (logged h)))
 
-extends_then : (a b c : History) → Extends a b → Extends b c → Extends a c
+pub extends_then : (a b c : History) → Extends a b → Extends b c → Extends a c
 extends_then a b c (more, is) (later, then) = (more ++ later, then ∙ ap (λ cs. cs ++ later) is ∙ append_assoc (logged a) more later)
 
 pub up_to_further : (a b : History) → Extends a b → (commits : List Commit) → AreFirstOf a commits → AreFirstOf b commits
@@ -47,8 +47,14 @@ all_within least most (more, is) commits same = ([], same ∙ sym (append-nil (l
 pub new_within : (least most : History) → Extends least most → (commits : List Commit) → commits ≡ logged most → AreBetween least most commits
 new_within least most (more, is) commits same = (more, same ∙ is, ([], sym same ∙ sym (append-nil commits)))
 
-none_up_to : (most : History) (commits : List Commit) → IsNone commits → AreFirstOf most commits
-none_up_to most commits none = (logged most, ap (λ cs. cs ++ logged most) (sym none))
+pub between_up_to : (least a b : History) → Extends a b → (commits : List Commit) → AreBetween least a commits → AreBetween least b commits
+between_up_to least a b extends commits (more, is, first) = (more, is, up_to_further a b extends commits first)
+
+pub between_from : (a b most : History) → Extends a b → (commits : List Commit) → AreBetween b most commits → AreBetween a most commits
+between_from a b most (more, is) commits (later, then, first) = (more ++ later, then ∙ ap (λ cs. cs ++ later) is ∙ append_assoc (logged a) more later, first)
+
+pub from_nothing : (most : History) (commits : List Commit) → AreFirstOf most commits → AreBetween empty_store.history most commits
+from_nothing most commits first = (commits, refl, first)
 
 pub leaves_weaker : (P Q : List Commit → Type 0) → ((commits : List Commit) → P commits → Q commits) → (state : DiskState) → Leaves P state → Leaves Q state
 leaves_weaker P Q weaker state leaves image may chance = let left = leaves image may chance in (left.0, weaker left.0 left.1, left.2)
@@ -139,13 +145,14 @@ module _ {D : Type 0} (told : D → Option DiskState) (moment : D → ℕ) (sinc
 module _ {D : Type 0} (told : D → Option DiskState) (moment : D → ℕ) (since : D → ℕ → DiskState → Type 0) (faults : D → ℕ)
     (only_now : (disk : D) (state other : DiskState) → told disk ≡ Some state → since disk (moment disk) other → SameFiles other state)
     (counts_now : (disk : D) (state : DiskState) (t : ℕ) → told disk ≡ Some state → t ≤ moment disk → since disk t state) where
-  -- the run ended, by these commits that were acknowledged
+  -- the run ended before a line was answered
   pub ends_within : (old new : D) (begun : ℕ) (ending : Ending) (least most : History) → HoldsThroughout moment since old new (Leaves (AreBetween least most)) → (now : DiskState) × (told new ≡ Some now)
       → ((Rose (faults old) (faults new) → ⊥) → (state : DiskState) × (told new ≡ Some state) × (HoldsHistory begun least state ⊎ HoldsHistory begun most state))
       → (EndsBetweenLines ending → (state : DiskState) × (told new ≡ Some state) × HoldsHistory begun least state)
-      → (CutsAnswer ending → (state : DiskState) × (told new ≡ Some state) × HoldsHistory begun most state) → DiskEnds told moment since faults old new ⊥ begun ending least most
+      → (CutsAnswer ending → (state : DiskState) × (told new ≡ Some state) × HoldsHistory begun most state) → DiskEnds told moment since faults old new ⊥ begun ending least [] most
   ends_within old new begun ending least most through tells settled whole cut = record {
-    through = holds_weaker moment since (Leaves (AreBetween least most)) (Leaves (AreFirstOf most)) old new through (leaves_weaker (AreBetween least most) (AreFirstOf most) (within_up_to least most));
+    through = through;
+    along = tt;
     now = (tells.0, tells.1, through.each tells.0 (counts_now new tells.0 (moment old) tells.1 through.later));
     settled = λ sound. let now = settled sound in (now.0, now.1, inr now.2);
     whole = whole;
@@ -153,31 +160,41 @@ module _ {D : Type 0} (told : D → Option DiskState) (moment : D → ℕ) (sinc
   }
 
   -- the disk was left alone
-  pub ends_untouched : (most : History) (s : State) → Extends s.history most → (disk : D) (begun : ℕ) (ending : Ending) → (CutsAnswer ending → ⊥) → (state : DiskState) → told disk ≡ Some state → HoldsState begun s state → DiskEnds told moment since faults disk disk ⊥ begun ending s.history most
+  pub ends_untouched : (most : History) (s : State) → Extends s.history most → (disk : D) (begun : ℕ) (ending : Ending) → (CutsAnswer ending → ⊥) → (state : DiskState) → told disk ≡ Some state → HoldsState begun s state → DiskEnds told moment since faults disk disk ⊥ begun ending s.history [] most
   ends_untouched most s extends disk begun ending none state is holds =
       ends_within disk disk begun ending s.history most (rests told moment since only_now counts_now most s extends disk begun state is holds) (state, is) (λ sound. (state, is, inl holds.history)) (λ whole. (state, is, holds.history)) (λ cuts. absurd (none cuts))
 
-  -- every line was answered
-  pub ends_complete : (old new : D) (begun : ℕ) (before after : State) → Extends before.history after.history → HoldsThroughout moment since old new (Leaves (AreBetween before.history after.history))
-      → (now : DiskState) × (told new ≡ Some now) × HoldsState begun after now → (ending : Ending) → DiskEnds told moment since faults old new ⊥ begun ending after.history after.history
-  ends_complete old new begun before after extends through (now, is, holds) ending = record {
-    through = holds_weaker moment since (Leaves (AreBetween before.history after.history)) (Leaves (AreFirstOf after.history)) old new through (leaves_weaker (AreBetween before.history after.history) (AreFirstOf after.history) (within_up_to before.history after.history));
-    now = (now, is, leaves_weaker (λ commits. commits ≡ logged after.history) (AreBetween after.history after.history) (all_within after.history after.history (extends_itself after.history)) now (held told moment since only_now counts_now after begun now holds now (same_files told moment since only_now counts_now now)));
-    settled = λ sound. (now, is, inr (inl holds.history));
-    whole = λ whole. (now, is, holds.history);
-    cut = λ cuts. (now, is, holds.history);
-  }
+  -- the last line was answered
+  pub ends_complete : (old new : D) (begun : ℕ) (before : State) (e : Exchange) → HoldsThroughout moment since old new (Leaves (AreBetween before.history e.after.history))
+      → (now : DiskState) × (told new ≡ Some now) × HoldsState begun e.after now → (ending : Ending) → DiskEnds told moment since faults old new ⊥ begun ending before.history (e ∷ []) e.after.history
+  ends_complete old new begun before e through (now, is, holds) ending =
+      let after = e.after in
+      let rest = rests told moment since only_now counts_now after.history after (extends_itself after.history) new begun now is holds in
+      record {
+        through = through;
+        along = (new, through, (now, is, holds.history), rest, tt);
+        now = (now, is, rest.each now (counts_now new now (moment new) is rest.later));
+        settled = λ sound. (now, is, inr (inl holds.history));
+        whole = λ whole. (now, is, holds.history);
+        cut = λ cuts. (now, is, holds.history);
+      }
 
-  -- a run that began earlier
-  pub ends_later : (unopened : Type 0) (first old new : D) (begun : ℕ) (ending : Ending) (before least most : History) → Extends before most → faults first ≤ faults old → HoldsThroughout moment since first old (Leaves (AreFirstOf before)) → DiskEnds told moment since faults old new ⊥ begun ending least most
-      → DiskEnds told moment since faults first new unopened begun ending least most
-  ends_later unopened first old new begun ending before least most extends earlier so_far ends = record {
-    through = holds_then moment since (Leaves (AreFirstOf most)) first old new
-        (holds_weaker moment since (Leaves (AreFirstOf before)) (Leaves (AreFirstOf most)) first old so_far (leaves_weaker (AreFirstOf before) (AreFirstOf most) (up_to_further before most extends))) ends.through;
-    now = ends.now;
+  -- a run over an empty store that began earlier, and had answered some lines
+  pub ends_later : (unopened : Type 0) (first old new : D) (begun : ℕ) (ending : Ending) (before most : History) (answered whole : List Exchange) → Extends before most → faults first ≤ faults old → HoldsThroughout moment since first old (Leaves (AreFirstOf before))
+      → (HoldsThroughout moment since old new (Leaves (AreBetween before most)) → GoesAlong told moment since new begun most old before answered → GoesAlong told moment since new begun most first empty_store.history whole)
+      → history_after before answered ≡ history_after empty_store.history whole
+      → DiskEnds told moment since faults old new ⊥ begun ending before answered most → DiskEnds told moment since faults first new unopened begun ending empty_store.history whole most
+  ends_later unopened first old new begun ending before most answered whole extends earlier so_far longer same ends = record {
+    through = holds_weaker moment since (Leaves (AreFirstOf most)) (Leaves (AreBetween empty_store.history most)) first new
+        (holds_then moment since (Leaves (AreFirstOf most)) first old new
+        (holds_weaker moment since (Leaves (AreFirstOf before)) (Leaves (AreFirstOf most)) first old so_far (leaves_weaker (AreFirstOf before) (AreFirstOf most) (up_to_further before most extends)))
+        (holds_weaker moment since (Leaves (AreBetween before most)) (Leaves (AreFirstOf most)) old new ends.through (leaves_weaker (AreBetween before most) (AreFirstOf most) (within_up_to before most))))
+        (leaves_weaker (AreFirstOf most) (AreBetween empty_store.history most) (from_nothing most));
+    along = longer ends.through ends.along;
+    now = (ends.now.0, ends.now.1, subst (λ (h : History). Leaves (AreBetween h most) ends.now.0) same ends.now.2);
     settled = λ sound.
         let now = ends.settled (λ rose. sound (rose_earlier (faults first) (faults old) (faults new) earlier rose)) in
-        (now.0, now.1, ⊎_elim (λ (never : ⊥). absurd never) (λ holds. inr holds) now.2);
-    whole = ends.whole;
+        (now.0, now.1, subst (λ (h : History). unopened ⊎ (HoldsHistory begun h now.0 ⊎ HoldsHistory begun most now.0)) same (⊎_elim (λ (never : ⊥). absurd never) (λ holds. inr holds) now.2));
+    whole = λ between. let now = ends.whole between in (now.0, now.1, subst (λ (h : History). HoldsHistory begun h now.0) same now.2);
     cut = ends.cut;
   }

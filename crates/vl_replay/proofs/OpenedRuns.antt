@@ -1,17 +1,17 @@
 -- A run that opens its store first.
-use Rattle.std.proofs.Common.{◌≡◌, ◌⊎◌, inl, ⊎_elim, ◌+◌, ◌-◌, ◌^◌, min, ℕ, suc, ◌≤◌, List, [], ◌++◌, length, take, Option, Some, sym, ◌∙◌, ap, subst}
+use Rattle.std.proofs.Common.{◌≡◌, ◌⊎◌, inl, ⊎_elim, ◌+◌, ◌-◌, ◌^◌, min, ℕ, suc, ◌≤◌, List, [], ◌∷◌, ◌++◌, length, take, Option, Some, refl, sym, ◌∙◌, ap, subst}
 use Rattle.vl_model.specs.History.{History}
 use Rattle.vl_disk.specs.Faults.{Rose}
 use Rattle.vl_disk.specs.DiskState.{DiskState}
 use Rattle.vl_disk.specs.Crash.{SameFiles}
-use Rattle.vl_disk.specs.Moments.{HoldsThroughout, holds_weaker}
+use Rattle.vl_disk.specs.Moments.{HoldsThroughout, holds_weaker, holds_then}
 use Rattle.vl_seglog.specs.Log.{Commit}
 use Rattle.vl_journal.specs.Files.{Holds, IsEmpty}
 use Rattle.vl_journal.specs.Images.{Leaves, IsNone}
 use Rattle.vl_script.specs.Script.{lines_of}
 use Rattle.vl_replay.specs.Sequential.{empty_store}
-use Rattle.vl_replay.specs.Replay.{exchanges_from, history_after, KeepsUp}
-use Rattle.vl_replay.specs.Durable.{logged, AreFirstOf, AreBetween, EndsBetweenLines, CutsAnswer, DiskEndsFrom, DiskEndsFromEmpty}
+use Rattle.vl_replay.specs.Replay.{Exchange, exchanges_from, history_after, KeepsUp}
+use Rattle.vl_replay.specs.Durable.{logged, AreFirstOf, AreBetween, EndsBetweenLines, CutsAnswer, GoesAlong, DiskEndsFrom, DiskEndsFromEmpty}
 use Rattle.vl_replay.specs.Steps.{Causes, EndsBefore, EndsRun}
 use Rattle.vl_replay.specs.declared.ending.Ending.{Ending}
 use Rattle.vl_replay.specs.declared.ending.Ending.TheVariants.{Complete, BadLine, BadWords, DiskFault, NotAStore, NoMemory, ReadFault, WriteFault, AnswerCut}
@@ -53,12 +53,13 @@ module _ {D : Type 0} (told : D → Option DiskState) (moment : D → ℕ) (sinc
       → ((state : DiskState) → told old ≡ Some state → IsEmpty state → HoldsThroughout moment since old new (Leaves IsNone))
       → ((state : DiskState) → told old ≡ Some state → (now : DiskState) × (told new ≡ Some now))
       → ((Rose (faults old) (faults new) → ⊥) → told new ≡ told old)
-      → DiskEndsFromEmpty told moment since faults old new result empty_store.history most
+      → DiskEndsFromEmpty told moment since faults old new result [] most
   unopened old new ending result P Q most none none_cut how through tells kept state is empty =
       let through' = through state is empty in
       let now = tells state is in
       record {
-        through = holds_weaker moment since (Leaves IsNone) (Leaves (AreFirstOf most)) old new through' (leaves_weaker IsNone (AreFirstOf most) (none_up_to most));
+        through = holds_weaker moment since (Leaves IsNone) (Leaves (AreBetween empty_store.history most)) old new through' (leaves_weaker IsNone (AreBetween empty_store.history most) (none_within most));
+        along = tt;
         now = (now.0, now.1, leaves_weaker IsNone (AreBetween empty_store.history most) (none_within most) now.0 (through'.each now.0 (counts_now new now.0 (moment old) now.1 through'.later)));
         settled = λ sound. (state, kept sound ∙ is, inl (kept sound));
         whole = λ whole. absurd (not_whole ending result P Q none how whole);
@@ -74,6 +75,13 @@ module _ {D : Type 0} (told : D → Option DiskState) (moment : D → ℕ) (sinc
   ends_unopened cause old new ending result P Q input left asked held held' none none_cut how (printed, printed_is, run) kept_up through tells kept =
       (printed, 0, printed_is, run, kept_up, unopened old new ending result P Q (history_after empty_store.history (take 1 (exchanges_from empty_store (lines_of input)))) none none_cut how through tells kept)
 
+  -- the store was opened before the first line
+  along_opened : (first mid new : D) (begun : ℕ) (most : History) (answered : List Exchange) → HoldsThroughout moment since first mid (Leaves IsNone) → GoesAlong told moment since new begun most mid empty_store.history answered → GoesAlong told moment since new begun most first empty_store.history answered
+  along_opened first mid new begun most [] through along = tt
+  along_opened first mid new begun most (e ∷ later) through (behind, step, there, on, rest) =
+      let P = AreBetween empty_store.history e.after.history in
+      (behind, holds_then moment since (Leaves P) first mid behind (holds_weaker moment since (Leaves IsNone) (Leaves P) first mid through (leaves_weaker IsNone P (none_within e.after.history))) step, there, on, rest)
+
   -- the store was opened, and a run went on over it
   pub ends_opened : (f t : ℕ) (occupied : Type 0) (first mid new : D) (input : List ℕ) (left asked : Option (List ℕ)) (ending : Ending) (held held' : Option (List ℕ)) → faults first ≤ faults mid
       → ((state : DiskState) → told first ≡ Some state → IsEmpty state → (now : DiskState) × (told mid ≡ Some now) × Holds [] now × (now.calls ≡ min (state.calls + 6) (2 ^ 64 - 1)))
@@ -82,7 +90,6 @@ module _ {D : Type 0} (told : D → Option DiskState) (moment : D → ℕ) (sinc
       → EndsRun (Causes f t (faults first) (faults new) occupied) (DiskEndsFromEmpty told moment since faults first new) empty_store 0 input left asked ending held held'
   ends_opened f t occupied first mid new input left asked ending held held' earlier opened through (printed, m, printed_is, run, kept_up, so) =
       let all = exchanges_from empty_store (lines_of input) in
-      let least = history_after empty_store.history (take m all) in
       let most = history_after empty_store.history (take (suc m) all) in (
         printed,
         m,
@@ -91,7 +98,8 @@ module _ {D : Type 0} (told : D → Option DiskState) (moment : D → ℕ) (sinc
         kept_up,
         λ state is empty.
             let now = opened state is empty in
-            ends_later told moment since faults only_now counts_now (told new ≡ told first) first mid new state.calls ending empty_store.history least most (exchanges_extend (lines_of input) empty_store (suc m)) earlier
+            ends_later told moment since faults only_now counts_now (told new ≡ told first) first mid new state.calls ending empty_store.history most (take m all) (take m all) (exchanges_extend (lines_of input) empty_store (suc m)) earlier
             (holds_weaker moment since (Leaves IsNone) (Leaves (AreFirstOf empty_store.history)) first mid (through state is empty) (leaves_weaker IsNone (AreFirstOf empty_store.history) (none_up_to empty_store.history)))
+            (λ _ along. along_opened first mid new state.calls most (take m all) (through state is empty) along) refl
             (so state.calls now.0 now.1 (holds_opened state.calls now.0 now.2 now.3)),
       )

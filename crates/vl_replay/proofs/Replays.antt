@@ -10,7 +10,7 @@ use Rattle.vl_script.specs.declared.line.Line.{Line}
 use Rattle.vl_script.specs.declared.answer.Answer.{Answer}
 use Rattle.vl_script.specs.Script.{text_of, lines_of, line_of}
 use Rattle.vl_replay.specs.Input.{HasNoLineEnd}
-use Rattle.vl_replay.specs.Replay.{Exchange, exchange_at, exchanged, is_printed, exchanges_from, and_later, answers_text, line_number, bad_line, no_memory_line, disk_fault_line, not_a_store_line, read_fault_line, ended_lines, KeepsUp, NextPiece, next_bad_line, next_no_memory, next_disk_fault, next_not_a_store, next_read_fault, EndsSo, Replays}
+use Rattle.vl_replay.specs.Replay.{Exchange, exchange_at, exchanged, is_printed, exchanges_from, and_later, answers_text, line_number, bad_line, no_memory_line, disk_fault_line, not_a_store_line, read_fault_line, ended_lines, KeepsUp, FailsToRead, LastPiece, last_bad_line, last_no_memory, last_disk_fault, last_not_a_store, last_read_fault, EndsSo, Replays}
 use Rattle.vl_replay.specs.Steps.{Finishes, EndsBefore, SinkCounts, Counts}
 use Rattle.vl_script.specs.declared.limits.TheConstants.{MAX_LINE_BYTES}
 use Rattle.std.proofs.lemmas.Bool.Decides.{nat_tests}
@@ -37,7 +37,7 @@ exchanges_from-answered s text texts x e = gone_on (exchange_at s text) (λ y. e
 
 -- what a run that ends in its next piece prints: the piece, or a front of it where the sink failed
 pub finished : (cause : Ending → Type 0) (all : List Exchange) (lines before : ℕ) (bytes : List ℕ) (left : Option (List ℕ)) (ending result : Ending) (line : List ℕ) (held held' : Option (List ℕ)) →
-    EndsSo cause all lines before bytes left 0 ending line → NextPiece cause all lines before 0 line → Finishes held line ending result held' →
+    EndsSo cause all lines before bytes left 0 ending line → LastPiece cause all lines before bytes left 0 line → Finishes held line ending result held' →
     (printed : List ℕ) × Takes held held' printed × EndsSo cause all lines before bytes left 0 result printed
 finished cause all lines before bytes left ending result line held held' whole next (printed, takes, how) = (
   printed,
@@ -50,22 +50,22 @@ finished cause all lines before bytes left ending result line held held' whole n
 
 -- the run ends at a bad line
 pub bad_line_ends : (cause : Ending → Type 0) (s : State) (before : ℕ) (bytes text : List ℕ) (texts : List (List ℕ)) (left : Option (List ℕ)) → lines_of bytes ≡ text ∷ texts → exchange_at s text ≡ None →
-    Replays cause s before bytes left 0 BadLine (bad_line (before + 1)) × NextPiece cause (exchanges_from s (lines_of bytes)) (length (lines_of bytes)) before 0 (bad_line (before + 1))
+    Replays cause s before bytes left 0 BadLine (bad_line (before + 1)) × LastPiece cause (exchanges_from s (lines_of bytes)) (length (lines_of bytes)) before bytes left 0 (bad_line (before + 1))
 bad_line_ends cause s before bytes text texts left e bad =
     let n : before + 0 + 1 ≡ before + 1 = omega arith in
-    rw (e, exchanges_from-bad s text texts bad) ((refl, omega arith, ap bad_line (sym n)), subst (λ (k : ℕ). NextPiece cause [] (length (text ∷ texts)) before 0 (bad_line k)) n (next_bad_line refl (omega arith)))
+    rw (e, exchanges_from-bad s text texts bad) ((refl, omega arith, ap bad_line (sym n)), subst (λ (k : ℕ). LastPiece cause [] (length (text ∷ texts)) before bytes left 0 (bad_line k)) n (last_bad_line refl (omega arith)))
 
 pub no_memory_ends : (cause : Ending → Type 0) (s : State) (before : ℕ) (bytes : List ℕ) (left : Option (List ℕ)) →
-    Replays cause s before bytes left 0 NoMemory no_memory_line × NextPiece cause (exchanges_from s (lines_of bytes)) (length (lines_of bytes)) before 0 no_memory_line
-no_memory_ends cause s before bytes left = ((zero-le, refl), next_no_memory)
+    Replays cause s before bytes left 0 NoMemory no_memory_line × LastPiece cause (exchanges_from s (lines_of bytes)) (length (lines_of bytes)) before bytes left 0 no_memory_line
+no_memory_ends cause s before bytes left = ((zero-le, refl), last_no_memory)
 
 pub disk_fault_ends : (cause : Ending → Type 0) (s : State) (before : ℕ) (bytes : List ℕ) (left : Option (List ℕ)) → cause DiskFault →
-    Replays cause s before bytes left 0 DiskFault disk_fault_line × NextPiece cause (exchanges_from s (lines_of bytes)) (length (lines_of bytes)) before 0 disk_fault_line
-disk_fault_ends cause s before bytes left fault = ((fault, zero-le, refl), next_disk_fault fault)
+    Replays cause s before bytes left 0 DiskFault disk_fault_line × LastPiece cause (exchanges_from s (lines_of bytes)) (length (lines_of bytes)) before bytes left 0 disk_fault_line
+disk_fault_ends cause s before bytes left fault = ((fault, zero-le, refl), last_disk_fault fault)
 
 pub not_a_store_ends : (cause : Ending → Type 0) (s : State) (before : ℕ) (bytes : List ℕ) (left : Option (List ℕ)) → cause NotAStore → left ≡ Some bytes →
-    Replays cause s before bytes left 0 NotAStore not_a_store_line × NextPiece cause (exchanges_from s (lines_of bytes)) (length (lines_of bytes)) before 0 not_a_store_line
-not_a_store_ends cause s before bytes left occupied unread = ((occupied, refl, unread, refl), next_not_a_store occupied refl)
+    Replays cause s before bytes left 0 NotAStore not_a_store_line × LastPiece cause (exchanges_from s (lines_of bytes)) (length (lines_of bytes)) before bytes left 0 not_a_store_line
+not_a_store_ends cause s before bytes left occupied unread = ((occupied, refl, unread, refl), last_not_a_store occupied refl unread)
 
 tested_no : (b : ℕ) → b ≢ 10 → (b == 10) ≡ false
 tested_no b other = ne_eqb b 10 other
@@ -86,9 +86,10 @@ ended_lines-line (b ∷ line) rest h = ended_lines-cons b (line ++ 10 ∷ rest) 
 
 -- the run ends where the source fails before a line has ended
 pub read_fault_ends : (cause : Ending → Type 0) (s : State) (before : ℕ) (bytes given rest : List ℕ) (left : Option (List ℕ)) → cause ReadFault → left ≡ Some rest → bytes ≡ given ++ rest → HasNoLineEnd given →
-    Replays cause s before bytes left 0 ReadFault read_fault_line × NextPiece cause (exchanges_from s (lines_of bytes)) (length (lines_of bytes)) before 0 read_fault_line
+    Replays cause s before bytes left 0 ReadFault read_fault_line × LastPiece cause (exchanges_from s (lines_of bytes)) (length (lines_of bytes)) before bytes left 0 read_fault_line
 read_fault_ends cause s before bytes given rest left fault told parts unended =
-    ((given, rest, fault, parts, told, sym (ended_lines-none given unended), zero-le, refl), next_read_fault fault)
+    let fails : FailsToRead cause bytes left 0 = (given, rest, fault, parts, told, sym (ended_lines-none given unended)) in
+    ((fails, zero-le, refl), last_read_fault fails)
 
 -- the sink cause within an answer
 pub answer_cut : (cause : Ending → Type 0) (s : State) (before : ℕ) (bytes text : List ℕ) (texts : List (List ℕ)) (left : Option (List ℕ)) (e : Exchange) (held held' : Option (List ℕ)) →
@@ -98,7 +99,7 @@ answer_cut cause s before bytes text texts left e held held' lines is part =
       take part.0 piece,
       part.2,
       rw (lines, exchanges_from-answered s text texts e is)
-          (e, take part.0 piece, zero-le, refl, (drop part.0 piece, sym (take-append-drop part.0 piece)), refl),
+          (e, take part.0 piece, refl, (drop part.0 piece, sym (take-append-drop part.0 piece)), refl),
     )
 
 -- the input's last line was answered
@@ -107,23 +108,16 @@ pub last_answered : (cause : Ending → Type 0) (s : State) (before : ℕ) (byte
 last_answered cause s before bytes text left e lines is told =
     rw (lines, exchanges_from-answered s text [] e is) (refl, refl, told, sym (append-nil (text_of e.answer)))
 
--- one more answer in front
-later_piece : (cause : Ending → Type 0) (e : Exchange) (all : List Exchange) (lines before m : ℕ) (piece : List ℕ) → (cause NotAStore → ⊥) → NextPiece cause all lines (before + 1) m piece → NextPiece cause (e ∷ all) (suc lines) before (suc m) piece
-later_piece cause e all lines before m piece opened (next_bad_line at less) =
-    let n : before + suc (length all) + 1 ≡ (before + 1) + length all + 1 = omega arith in
-    subst (λ (k : ℕ). NextPiece cause (e ∷ all) (suc lines) before (suc m) (bad_line k)) n (next_bad_line (ap suc at) (omega arith))
-later_piece cause e all lines before m piece opened next_no_memory = next_no_memory
-later_piece cause e all lines before m piece opened (next_disk_fault fault) = next_disk_fault fault
-later_piece cause e all lines before m piece opened (next_not_a_store occupied none) = absurd (opened occupied)
-later_piece cause e all lines before m piece opened (next_read_fault fault) = next_read_fault fault
-
 -- what was caused so was caused
-piece_weaker : (cause cause' : Ending → Type 0) → ((ending : Ending) → cause ending → cause' ending) → (all : List Exchange) (lines before m : ℕ) (piece : List ℕ) → NextPiece cause all lines before m piece → NextPiece cause' all lines before m piece
-piece_weaker cause cause' weaker all lines before m piece (next_bad_line at less) = next_bad_line at less
-piece_weaker cause cause' weaker all lines before m piece next_no_memory = next_no_memory
-piece_weaker cause cause' weaker all lines before m piece (next_disk_fault fault) = next_disk_fault (weaker DiskFault fault)
-piece_weaker cause cause' weaker all lines before m piece (next_not_a_store occupied none) = next_not_a_store (weaker NotAStore occupied) none
-piece_weaker cause cause' weaker all lines before m piece (next_read_fault fault) = next_read_fault (weaker ReadFault fault)
+reading_weaker : (cause cause' : Ending → Type 0) → ((ending : Ending) → cause ending → cause' ending) → (bytes : List ℕ) (left : Option (List ℕ)) (m : ℕ) → FailsToRead cause bytes left m → FailsToRead cause' bytes left m
+reading_weaker cause cause' weaker bytes left m (given, rest, fault, parts, told, at) = (given, rest, weaker ReadFault fault, parts, told, at)
+
+piece_weaker : (cause cause' : Ending → Type 0) → ((ending : Ending) → cause ending → cause' ending) → (all : List Exchange) (lines before : ℕ) (bytes : List ℕ) (left : Option (List ℕ)) (m : ℕ) (piece : List ℕ) → LastPiece cause all lines before bytes left m piece → LastPiece cause' all lines before bytes left m piece
+piece_weaker cause cause' weaker all lines before bytes left m piece (last_bad_line at less) = last_bad_line at less
+piece_weaker cause cause' weaker all lines before bytes left m piece last_no_memory = last_no_memory
+piece_weaker cause cause' weaker all lines before bytes left m piece (last_disk_fault fault) = last_disk_fault (weaker DiskFault fault)
+piece_weaker cause cause' weaker all lines before bytes left m piece (last_not_a_store occupied none unread) = last_not_a_store (weaker NotAStore occupied) none unread
+piece_weaker cause cause' weaker all lines before bytes left m piece (last_read_fault fails) = last_read_fault (reading_weaker cause cause' weaker bytes left m fails)
 
 pub ends_weaker : (cause cause' : Ending → Type 0) → ((ending : Ending) → cause ending → cause' ending) → (all : List Exchange) (lines before : ℕ) (bytes : List ℕ) (left : Option (List ℕ)) (m : ℕ) (ending : Ending) (printed : List ℕ) →
     EndsSo cause all lines before bytes left m ending printed → EndsSo cause' all lines before bytes left m ending printed
@@ -133,8 +127,8 @@ ends_weaker cause cause' weaker all lines before bytes left m BadWords printed h
 ends_weaker cause cause' weaker all lines before bytes left m DiskFault printed (fault, le, text) = (weaker DiskFault fault, le, text)
 ends_weaker cause cause' weaker all lines before bytes left m NotAStore printed (occupied, none, unread, text) = (weaker NotAStore occupied, none, unread, text)
 ends_weaker cause cause' weaker all lines before bytes left m NoMemory printed h = h
-ends_weaker cause cause' weaker all lines before bytes left m ReadFault printed (given, rest, fault, parts, told, at, le, text) = (given, rest, weaker ReadFault fault, parts, told, at, le, text)
-ends_weaker cause cause' weaker all lines before bytes left m WriteFault printed (piece, front, le, next, cut, text) = (piece, front, le, piece_weaker cause cause' weaker all lines before m piece next, cut, text)
+ends_weaker cause cause' weaker all lines before bytes left m ReadFault printed (fails, le, text) = (reading_weaker cause cause' weaker bytes left m fails, le, text)
+ends_weaker cause cause' weaker all lines before bytes left m WriteFault printed (piece, front, le, next, cut, text) = (piece, front, le, piece_weaker cause cause' weaker all lines before bytes left m piece next, cut, text)
 ends_weaker cause cause' weaker all lines before bytes left m AnswerCut printed h = h
 
 -- a line with its answer comes in front
@@ -159,6 +153,27 @@ keeps_up_within bytes line rest asked parts unended was =
     let n : ended_lines bytes ≡ ended_lines rest = ap ended_lines parts ∙ ended_lines-unended line rest unended in
     (rest, was, omega arith)
 
+-- one more answer in front
+later_reading : (cause : Ending → Type 0) (bytes line rest : List ℕ) (left : Option (List ℕ)) (m : ℕ) → bytes ≡ line ++ 10 ∷ rest → HasNoLineEnd line → FailsToRead cause rest left m → FailsToRead cause bytes left (suc m)
+later_reading cause bytes line rest left m parts unended (given, rest', fault, split, told, at) = (
+  line ++ 10 ∷ given,
+  rest',
+  fault,
+  parts ∙ ap (λ (r : List ℕ). line ++ 10 ∷ r) split ∙ sym (append_assoc line (10 ∷ given) rest'),
+  told,
+  ap suc at ∙ sym (ended_lines-line line given unended),
+)
+
+later_piece : (cause : Ending → Type 0) (e : Exchange) (all : List Exchange) (lines before : ℕ) (bytes line rest : List ℕ) (left : Option (List ℕ)) (m : ℕ) (piece : List ℕ) → bytes ≡ line ++ 10 ∷ rest → HasNoLineEnd line → (cause NotAStore → ⊥)
+    → LastPiece cause all lines (before + 1) rest left m piece → LastPiece cause (e ∷ all) (suc lines) before bytes left (suc m) piece
+later_piece cause e all lines before bytes line rest left m piece parts unended opened (last_bad_line at less) =
+    let n : before + suc (length all) + 1 ≡ (before + 1) + length all + 1 = omega arith in
+    subst (λ (k : ℕ). LastPiece cause (e ∷ all) (suc lines) before bytes left (suc m) (bad_line k)) n (last_bad_line (ap suc at) (omega arith))
+later_piece cause e all lines before bytes line rest left m piece parts unended opened last_no_memory = last_no_memory
+later_piece cause e all lines before bytes line rest left m piece parts unended opened (last_disk_fault fault) = last_disk_fault fault
+later_piece cause e all lines before bytes line rest left m piece parts unended opened (last_not_a_store occupied none unread) = absurd (opened occupied)
+later_piece cause e all lines before bytes line rest left m piece parts unended opened (last_read_fault fails) = last_read_fault (later_reading cause bytes line rest left m parts unended fails)
+
 one_more : (cause : Ending → Type 0) (e : Exchange) (all : List Exchange) (lines before : ℕ) (bytes line rest : List ℕ) (left : Option (List ℕ)) (m : ℕ) (ending : Ending) (printed : List ℕ) →
     bytes ≡ line ++ 10 ∷ rest → HasNoLineEnd line → (cause NotAStore → ⊥) → EndsSo cause all lines (before + 1) rest left m ending printed → EndsSo cause (e ∷ all) (suc lines) before bytes left (suc m) ending (text_of e.answer ++ printed)
 one_more cause e all lines before bytes line rest left m Complete printed parts unended opened (at, count, told, text) =
@@ -172,13 +187,8 @@ one_more cause e all lines before bytes line rest left m DiskFault printed parts
 one_more cause e all lines before bytes line rest left m NotAStore printed parts unended opened (occupied, none, unread, text) = absurd (opened occupied)
 one_more cause e all lines before bytes line rest left m NoMemory printed parts unended opened (le, text) =
     (omega arith, ap (λ (p : List ℕ). text_of e.answer ++ p) text ∙ sym (append_assoc (text_of e.answer) (answers_text (take m all)) _))
-one_more cause e all lines before bytes line rest left m ReadFault printed parts unended opened (given, rest', fault, split, told, at, le, text) = (
-  line ++ 10 ∷ given,
-  rest',
-  fault,
-  parts ∙ ap (λ (r : List ℕ). line ++ 10 ∷ r) split ∙ sym (append_assoc line (10 ∷ given) rest'),
-  told,
-  ap suc at ∙ sym (ended_lines-line line given unended),
+one_more cause e all lines before bytes line rest left m ReadFault printed parts unended opened (fails, le, text) = (
+  later_reading cause bytes line rest left m parts unended fails,
   omega arith,
   ap (λ (p : List ℕ). text_of e.answer ++ p) text ∙ sym (append_assoc (text_of e.answer) (answers_text (take m all)) _),
 )
@@ -186,14 +196,13 @@ one_more cause e all lines before bytes line rest left m WriteFault printed part
   piece,
   front,
   omega arith,
-  later_piece cause e all lines before m piece opened next,
+  later_piece cause e all lines before bytes line rest left m piece parts unended opened next,
   cut,
   ap (λ (p : List ℕ). text_of e.answer ++ p) text ∙ sym (append_assoc (text_of e.answer) (answers_text (take m all)) front),
 )
-one_more cause e all lines before bytes line rest left m AnswerCut printed parts unended opened (x, front, le, next, cut, text) = (
+one_more cause e all lines before bytes line rest left m AnswerCut printed parts unended opened (x, front, next, cut, text) = (
   x,
   front,
-  omega arith,
   next,
   cut,
   ap (λ (p : List ℕ). text_of e.answer ++ p) text ∙ sym (append_assoc (text_of e.answer) (answers_text (take m all)) front),

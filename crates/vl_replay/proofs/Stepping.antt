@@ -18,7 +18,7 @@ use Rattle.vl_replay.specs.declared.ending.Ending.{Ending}
 use Rattle.vl_replay.specs.declared.ending.Ending.TheVariants.{Complete, BadLine, BadWords, DiskFault, NotAStore, NoMemory, ReadFault, WriteFault, AnswerCut}
 use Rattle.vl_replay.proofs.Lines.{lines_of-ended, lines_of-unended}
 use Rattle.vl_replay.proofs.Replays.{keeps_up_after, last_answered, exchanges_from-answered, takes_nothing}
-use Rattle.vl_replay.proofs.DiskSteps.{Extends, exchange_extends, exchanges_extend, first_behind, ends_within, ends_untouched, ends_complete}
+use Rattle.vl_replay.proofs.DiskSteps.{Extends, exchanges_extend, first_behind, ends_within, ends_untouched, ends_complete}
 
 -- no answer is owed by an answer more
 keeps_up_more : (bytes : List ℕ) (asked : Option (List ℕ)) (m : ℕ) → KeepsUp bytes asked 0 → KeepsUp bytes asked m
@@ -34,7 +34,7 @@ module _ {D : Type 0} (told : D → Option DiskState) (moment : D → ℕ) (sinc
     (counts_now : (disk : D) (state : DiskState) (t : ℕ) → told disk ≡ Some state → t ≤ moment disk → since disk t state) where
   module _ (old new : D) (s : State) where
     -- the disk was left alone
-    pub untouched : (ending : Ending) (most : History) → (CutsAnswer ending → ⊥) → Extends s.history most → DiskEndsFrom told moment since faults old old s ending s.history most
+    pub untouched : (ending : Ending) (most : History) → (CutsAnswer ending → ⊥) → Extends s.history most → DiskEndsFrom told moment since faults old old s ending [] most
     untouched ending most none extends begun state is holds = ends_untouched told moment since faults only_now counts_now most s extends old begun ending none state is holds
 
     module _ (text : List ℕ) (ended : Option Ending) (takes : (begun : ℕ) (state : DiskState) → told old ≡ Some state → HoldsState begun s state → CarriesOutText told moment since faults old new begun s text (IsAnswered ended)) where
@@ -85,7 +85,7 @@ module _ {D : Type 0} (told : D → Option DiskState) (moment : D → ℕ) (sinc
             printed_is,
             run,
             kept_up,
-            subst (λ (h : History). DiskEndsFrom told moment since faults old new s ending s.history h) most (λ begun state told_is holds.
+            subst (λ (h : History). DiskEndsFrom told moment since faults old new s ending [] h) most (λ begun state told_is holds.
                 let t' = takes begun state told_is holds in
                 ends_within told moment since faults only_now counts_now old new begun ending s.history behind t'.through t'.tells t'.settled
                 (λ whole. whole_of (Causes f t fd td ⊥) texts 0 before bytes left ending printed lines is readable run whole begun state told_is holds)
@@ -124,9 +124,9 @@ module _ {D : Type 0} (told : D → Option DiskState) (moment : D → ℕ) (sinc
   step_last f t fd td old new s before had line buffer left asked after None result held held' (told_is, same, unended, some) (e, is, stands, printed) takes readable r kept_up =
       let lines : lines_of had ≡ line ∷ [] = ap lines_of same ∙ lines_of-unended line unended some in
       let all : exchanges_from s (lines_of had) ≡ e ∷ [] = ap (exchanges_from s) lines ∙ exchanges_from-answered s line [] e is in
-      let so : DiskEndsFrom told moment since faults old new s Complete e.after.history e.after.history = λ begun state there holds.
+      let so : DiskEndsFrom told moment since faults old new s Complete (e ∷ []) e.after.history = λ begun state there holds.
       let t' = takes begun state there holds in
-      ends_complete told moment since faults only_now counts_now old new begun s e.after (exchange_extends s line e is)
+      ends_complete told moment since faults only_now counts_now old new begun s e
       (subst (λ o. HoldsThroughout moment since old new (Leaves (AreBetween s.history (history_behind s.history o)))) is t'.through) (t'.answered tt e is) Complete in
       subst (λ (x : Ending). EndsRun (Causes f t fd td ⊥) (DiskEndsFrom told moment since faults old new s) s before had left asked x held held') (sym r) (
         text_of e.answer,
@@ -134,7 +134,7 @@ module _ {D : Type 0} (told : D → Option DiskState) (moment : D → ℕ) (sinc
         printed,
         last_answered (Causes f t fd td ⊥) s before had line left e lines is told_is,
         keeps_up_more had asked 1 kept_up,
-        subst (λ es. DiskEndsFrom told moment since faults old new s Complete (history_after s.history (take 1 es)) (history_after s.history (take 2 es))) (sym all) so,
+        subst (λ es. DiskEndsFrom told moment since faults old new s Complete (take 1 es) (history_after s.history (take 2 es))) (sym all) so,
       )
   step_last f t fd td old new s before had line buffer left asked after (Some ending) result held held' (told_is, same, unended, some) ends takes readable r kept_up =
       let lines : lines_of had ≡ line ∷ [] = ap lines_of same ∙ lines_of-unended line unended some in

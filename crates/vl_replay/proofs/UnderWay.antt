@@ -4,28 +4,32 @@ use Rattle.std.specs.Prelude.{Option, Some, None}
 use Rattle.vl_model.specs.History.{History}
 use Rattle.vl_disk.specs.DiskState.{DiskState}
 use Rattle.vl_disk.specs.Crash.{SameFiles}
-use Rattle.vl_disk.specs.Moments.{HoldsThroughout, holds_weaker}
+use Rattle.vl_disk.specs.Moments.{HoldsThroughout, holds_weaker, holds_then}
 use Rattle.vl_journal.specs.Images.{Leaves}
 use Rattle.vl_io.specs.Sink.{Takes}
 use Rattle.vl_script.specs.Script.{text_of, lines_of}
 use Rattle.vl_replay.specs.Sequential.{State, empty_store}
 use Rattle.vl_replay.specs.Represents.{Represents}
-use Rattle.vl_replay.specs.Replay.{KeepsUp, line_number, Replays, exchanges_from, history_after}
-use Rattle.vl_replay.specs.Durable.{HoldsState, AreFirstOf, AreBetween, DiskEndsFrom}
+use Rattle.vl_replay.specs.Replay.{Exchange, KeepsUp, line_number, Replays, exchanges_from, history_after}
+use Rattle.vl_replay.specs.Durable.{HoldsState, AreFirstOf, AreBetween, GoesAlong, DiskEndsFrom}
 use Rattle.vl_replay.specs.Steps.{Causes, EndsRun, GoesOn}
 use Rattle.vl_replay.specs.declared.replayer.Replayer.{Replayer}
 use Rattle.vl_replay.specs.declared.ending.Ending.{Ending}
 use Rattle.vl_replay.proofs.Lines.{lines_of-ended}
 use Rattle.vl_replay.specs.Laws.{keeps_up_at_first}
 use Rattle.vl_replay.proofs.Replays.{takes_both, takes_nothing, goes_on, keeps_up_behind, exchanges_from-answered}
-use Rattle.vl_replay.proofs.DiskSteps.{exchange_extends, exchanges_extend, extends_itself, rests, ends_later, goes_later, leaves_weaker, within_up_to}
+use Rattle.vl_replay.proofs.DiskSteps.{Extends, exchange_extends, exchanges_extend, extends_itself, extends_then, between_up_to, between_from, rests, ends_later, goes_later, leaves_weaker, within_up_to}
 
--- so far the disk holds the state, and a crash since the begin left no more than its commits
-pub record Carried {D : Type 0} (told : D → Option DiskState) (moment : D → ℕ) (since : D → ℕ → DiskState → Type 0) (first disk : D) (state : State) (begun : ℕ) : Type 0 where
+-- so far the disk holds the state, a crash since the begin left no more than its commits, and what goes along the lines of
+-- the rest goes along those of the whole
+pub record Carried {D : Type 0} (told : D → Option DiskState) (moment : D → ℕ) (since : D → ℕ → DiskState → Type 0) (first disk : D) (state : State) (before : ℕ) (bytes input : List ℕ) (begun : ℕ) : Type 0 where
   pub there : DiskState
   pub told_is : told disk ≡ Some there
   pub holds : HoldsState begun state there
   pub through : HoldsThroughout moment since first disk (Leaves (AreFirstOf state.history))
+  pub along : (new : D) (most : History) (m : ℕ) → Extends state.history most → HoldsThroughout moment since disk new (Leaves (AreBetween state.history most))
+      → GoesAlong told moment since new begun most disk state.history (take m (exchanges_from state (lines_of bytes)))
+      → GoesAlong told moment since new begun most first empty_store.history (take (m + before) (exchanges_from empty_store (lines_of input)))
 
 pub record UnderWay {D : Type 0} (told : D → Option DiskState) (moment : D → ℕ) (since : D → ℕ → DiskState → Type 0) (begin disk : D) (f fd : ℕ) (input : List ℕ) (replayer : Replayer) (answered : ℕ) (buffer : List ℕ) (left asked first held : Option (List ℕ)) : Type 0 where
   pub state : State
@@ -40,7 +44,7 @@ pub record UnderWay {D : Type 0} (told : D → Option DiskState) (moment : D →
   pub later : (t td : ℕ) (left' : Option (List ℕ)) (m : ℕ) (ending : Ending) (printed : List ℕ) → Replays (Causes f t fd td ⊥) state before (buffer ++ had) left' m ending printed → Replays (Causes f t fd td ⊥) empty_store 0 input left' (m + before) ending (so_far ++ printed)
   pub later_kept_up : (asked' : Option (List ℕ)) (m : ℕ) → KeepsUp (buffer ++ had) asked' m → KeepsUp input asked' (m + before)
   pub later_history : (m : ℕ) → history_after state.history (take m (exchanges_from state (lines_of (buffer ++ had)))) ≡ history_after empty_store.history (take (m + before) (exchanges_from empty_store (lines_of input)))
-  pub carried : (begun : ℕ) (old : DiskState) → told begin ≡ Some old → HoldsState begun empty_store old → Carried told moment since begin disk state begun
+  pub carried : (begun : ℕ) (old : DiskState) → told begin ≡ Some old → HoldsState begun empty_store old → Carried told moment since begin disk state before (buffer ++ had) input begun
 
 module _ {D : Type 0} (told : D → Option DiskState) (moment : D → ℕ) (since : D → ℕ → DiskState → Type 0) (faults : D → ℕ)
     (only_now : (disk : D) (state other : DiskState) → told disk ≡ Some state → since disk (moment disk) other → SameFiles other state)
@@ -69,6 +73,7 @@ module _ {D : Type 0} (told : D → Option DiskState) (moment : D → ℕ) (sinc
           through = holds_weaker moment since (Leaves (AreBetween empty_store.history empty_store.history)) (Leaves (AreFirstOf empty_store.history)) begin begin
               (rests told moment since only_now counts_now empty_store.history empty_store (extends_itself empty_store.history) begin n old told_is holds)
               (leaves_weaker (AreBetween empty_store.history empty_store.history) (AreFirstOf empty_store.history) (within_up_to empty_store.history empty_store.history));
+          along = λ new most m extends through along. subst (λ (k : ℕ). GoesAlong told moment since new n most begin empty_store.history (take k (exchanges_from empty_store (lines_of input)))) (none m) along;
         };
       }
 
@@ -78,6 +83,7 @@ module _ {D : Type 0} (told : D → Option DiskState) (moment : D → ℕ) (sinc
     further u (e, line, rest, is_left, parts, unended, is, stands, takes, kept_up, moves) count =
         let next : (m : ℕ) → suc m + u.before ≡ m + (u.before + 1) = λ m. omega arith in
         let lines : lines_of (buffer ++ u.had) ≡ line ∷ lines_of (buffer' ++ rest) = ap lines_of parts ∙ lines_of-ended line (buffer' ++ rest) unended in
+        let all : exchanges_from u.state (lines_of (buffer ++ u.had)) ≡ e ∷ exchanges_from e.after (lines_of (buffer' ++ rest)) = ap (exchanges_from u.state) lines ∙ exchanges_from-answered u.state line (lines_of (buffer' ++ rest)) e is in
         record {
           state = e.after;
           before = u.before + 1;
@@ -94,8 +100,7 @@ module _ {D : Type 0} (told : D → Option DiskState) (moment : D → ℕ) (sinc
               (u.later t' td' left'' (suc m) ending (text_of e.answer ++ printed) (goes_on (Causes f t' fd td' ⊥) u.state u.before (buffer ++ u.had) line (buffer' ++ rest) left'' e m ending printed parts unended is (λ never. never) run)));
           later_kept_up = λ asked'' m kept. subst (KeepsUp input asked'') (next m) (u.later_kept_up asked'' (suc m) (keeps_up_behind (buffer ++ u.had) line (buffer' ++ rest) asked'' m parts unended kept));
           later_history = λ m.
-              sym (ap (λ texts. history_after u.state.history (take (suc m) (exchanges_from u.state texts))) lines
-              ∙ ap (λ all. history_after u.state.history (take (suc m) all)) (exchanges_from-answered u.state line (lines_of (buffer' ++ rest)) e is))
+              sym (ap (λ es. history_after u.state.history (take (suc m) es)) all)
               ∙ u.later_history (suc m)
               ∙ ap (λ (n : ℕ). history_after empty_store.history (take n (exchanges_from empty_store (lines_of input)))) (next m);
           carried = λ n old told_is holds.
@@ -106,6 +111,13 @@ module _ {D : Type 0} (told : D → Option DiskState) (moment : D → ℕ) (sinc
                 told_is = m.1;
                 holds = m.2;
                 through = goes_later told moment since only_now counts_now begin disk disk' u.state.history e.after.history (exchange_extends u.state line e is) c.through m.3;
+                along = λ new most k extends through along.
+                    let P = AreBetween u.state.history most in
+                    let so_far = holds_weaker moment since (Leaves (AreBetween u.state.history e.after.history)) (Leaves P) disk disk' m.3 (leaves_weaker (AreBetween u.state.history e.after.history) P (between_up_to u.state.history e.after.history most extends)) in
+                    let from_here = holds_weaker moment since (Leaves (AreBetween e.after.history most)) (Leaves P) disk' new through (leaves_weaker (AreBetween e.after.history most) P (between_from u.state.history e.after.history most (exchange_extends u.state line e is))) in
+                    subst (λ (j : ℕ). GoesAlong told moment since new n most begin empty_store.history (take j (exchanges_from empty_store (lines_of input)))) (next k)
+                    (c.along new most (suc k) (extends_then u.state.history e.after.history most (exchange_extends u.state line e is) extends) (holds_then moment since (Leaves P) disk disk' new so_far from_here)
+                    (subst (λ (es : List Exchange). GoesAlong told moment since new n most disk u.state.history (take (suc k) es)) (sym all) (disk', m.3, (m.0, m.1, m.2.history), through, along)));
               };
         }
 
@@ -113,7 +125,7 @@ module _ {D : Type 0} (told : D → Option DiskState) (moment : D → ℕ) (sinc
         EndsRun (Causes f t fd td ⊥) (DiskEndsFrom told moment since faults begin disk' empty_store) empty_store 0 input left' asked' ending first held'
     over ending u earlier (printed, m, takes, run, kept_up, so) =
         let all = exchanges_from u.state (lines_of (buffer ++ u.had)) in
-        let least = history_after u.state.history (take m all) in
+        let whole = exchanges_from empty_store (lines_of input) in
         let most = history_after u.state.history (take (suc m) all) in
         let next : suc m + u.before ≡ suc (m + u.before) = omega arith in (
           u.so_far ++ printed,
@@ -121,8 +133,9 @@ module _ {D : Type 0} (told : D → Option DiskState) (moment : D → ℕ) (sinc
           takes_both first held held' u.so_far printed u.takes takes,
           u.later t td left' m ending printed run,
           u.later_kept_up asked' m kept_up,
-          subst (λ (h : History). DiskEndsFrom told moment since faults begin disk' empty_store ending h (history_after empty_store.history (take (suc (m + u.before)) (exchanges_from empty_store (lines_of input))))) (u.later_history m)
-              (subst (λ (h : History). DiskEndsFrom told moment since faults begin disk' empty_store ending least h) (u.later_history (suc m) ∙ ap (λ (n : ℕ). history_after empty_store.history (take n (exchanges_from empty_store (lines_of input)))) next) (λ n old told_is holds.
+          subst (λ (h : History). DiskEndsFrom told moment since faults begin disk' empty_store ending (take (m + u.before) whole) h) (u.later_history (suc m) ∙ ap (λ (n : ℕ). history_after empty_store.history (take n whole)) next) (λ n old told_is holds.
               let c = u.carried n old told_is holds in
-              ends_later told moment since faults only_now counts_now ⊥ begin disk disk' n ending u.state.history least most (exchanges_extend (lines_of (buffer ++ u.had)) u.state (suc m)) earlier c.through (so n c.there c.told_is c.holds))),
+              let extends = exchanges_extend (lines_of (buffer ++ u.had)) u.state (suc m) in
+              ends_later told moment since faults only_now counts_now ⊥ begin disk disk' n ending u.state.history most (take m all) (take (m + u.before) whole) extends earlier c.through
+              (c.along disk' most m extends) (u.later_history m) (so n c.there c.told_is c.holds)),
         )

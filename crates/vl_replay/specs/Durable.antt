@@ -93,32 +93,51 @@ CutsAnswer ReadFault = ⊥
 CutsAnswer WriteFault = ⊥
 CutsAnswer AnswerCut = Unit {0}
 
--- What a run that ended so did to a disk, which had been asked for some changing calls: by the commits that were
--- acknowledged, and by those that may stand with one that wasn't.
-pub record DiskEnds {D : Type 0} (told : D → Option DiskState) (moment : D → ℕ) (since : D → ℕ → DiskState → Type 0) (faults : D → ℕ) (old new : D) (unopened : Type 0) (begun : ℕ) (ending : Ending) (acknowledged most : History) : Type 0 where
+-- The disk went on while these lines were answered, one after the other, from one that held the commits of a history. For
+-- each line there is what the disk was behind it: it held the commits up to that line and nothing else, all of it synced.
+-- What a crash leaves meanwhile shows the commits before the line or those after it, and what one leaves from then on,
+-- until the run's end, shows at least the latter.
+abbrev pub GoesAlong : {D : Type 0} (told : D → Option DiskState) (moment : D → ℕ) (since : D → ℕ → DiskState → Type 0) (new : D) (begun : ℕ) (most : History) → D → History → List Exchange → Type 0
+GoesAlong told moment since new begun most disk h [] = Unit {0}
+GoesAlong {D} told moment since new begun most disk h (e ∷ later) =
+    (behind : D) × HoldsThroughout moment since disk behind (Leaves (AreBetween h e.after.history))
+    × ((state : DiskState) × (told behind ≡ Some state) × HoldsHistory begun e.after.history state)
+    × HoldsThroughout moment since behind new (Leaves (AreBetween e.after.history most))
+    × GoesAlong told moment since new begun most behind e.after.history later
+
+-- What a run that ended so did to a disk, which had been asked for some changing calls: by the history at its begin, the
+-- lines that it answered, and the history that may stand, with one line more, whose answer's put didn't succeed. The
+-- commits of the answered lines are the acknowledged ones.
+pub record DiskEnds {D : Type 0} (told : D → Option DiskState) (moment : D → ℕ) (since : D → ℕ → DiskState → Type 0) (faults : D → ℕ) (old new : D) (unopened : Type 0) (begun : ℕ) (ending : Ending) (first : History) (answered : List Exchange) (most : History) : Type 0 where
   -- what a crash at any moment since the begin leaves shows a first part of the commits, if no torn bytes spell a frame by
   -- chance
-  pub through : HoldsThroughout moment since old new (Leaves (AreFirstOf most))
-  -- and what a crash now leaves shows each acknowledged one
-  pub now : (state : DiskState) × (told new ≡ Some state) × Leaves (AreBetween acknowledged most) state
-  -- where the disk didn't fail nothing is torn: it wasn't opened, or holds the acknowledged commits, or these and the one
-  -- whose answer wasn't put
-  pub settled : (Rose (faults old) (faults new) → ⊥) → (state : DiskState) × (told new ≡ Some state) × (unopened ⊎ (HoldsHistory begun acknowledged state ⊎ HoldsHistory begun most state))
+  pub through : HoldsThroughout moment since old new (Leaves (AreBetween first most))
+  -- and from each answered line on, each commit that was acknowledged up to it
+  pub along : GoesAlong told moment since new begun most old first answered
+  -- and so what a crash now leaves shows all of them
+  pub now : (state : DiskState) × (told new ≡ Some state) × Leaves (AreBetween (history_after first answered) most) state
+  -- where the disk didn't fail nothing is torn: it wasn't opened, or holds the acknowledged commits, or these and that of
+  -- one line more, whose answer's put didn't succeed
+  pub settled : (Rose (faults old) (faults new) → ⊥) → (state : DiskState) × (told new ≡ Some state) × (unopened ⊎ (HoldsHistory begun (history_after first answered) state ⊎ HoldsHistory begun most state))
   -- where the run ended between two lines, the disk holds just the acknowledged ones
-  pub whole : EndsBetweenLines ending → (state : DiskState) × (told new ≡ Some state) × HoldsHistory begun acknowledged state
-  -- and where it ended while an answer was put, that answer's commit too, whatever came out of the answer
+  pub whole : EndsBetweenLines ending → (state : DiskState) × (told new ≡ Some state) × HoldsHistory begun (history_after first answered) state
+  -- and where it ended while an answer was put, the commit of that answer's line too
   pub cut : CutsAnswer ending → (state : DiskState) × (told new ≡ Some state) × HoldsHistory begun most state
 
 -- so it is of a run that begins in a state, over a disk that holds it
-abbrev pub DiskEndsFrom : {D : Type 0} (told : D → Option DiskState) (moment : D → ℕ) (since : D → ℕ → DiskState → Type 0) (faults : D → ℕ) (old new : D) → State → Ending → History → History → Type 0
-DiskEndsFrom told moment since faults old new s ending acknowledged most =
-    (begun : ℕ) (state : DiskState) → told old ≡ Some state → HoldsState begun s state → DiskEnds told moment since faults old new ⊥ begun ending acknowledged most
+abbrev pub DiskEndsFrom : {D : Type 0} (told : D → Option DiskState) (moment : D → ℕ) (since : D → ℕ → DiskState → Type 0) (faults : D → ℕ) (old new : D) → State → Ending → List Exchange → History → Type 0
+DiskEndsFrom told moment since faults old new s ending answered most =
+    (begun : ℕ) (state : DiskState) → told old ≡ Some state → HoldsState begun s state → DiskEnds told moment since faults old new ⊥ begun ending s.history answered most
 
--- the commits that the first so many lines of an input left, from the empty history
+-- the first so many answered lines of an input
+abbrev pub answered_lines : List ℕ → ℕ → List Exchange
+answered_lines input m = take m (exchanges_from empty_store (lines_of input))
+
+-- the commits that they left, from the empty history
 abbrev pub history_of : List ℕ → ℕ → History
-history_of input m = history_after no_history (take m (exchanges_from empty_store (lines_of input)))
+history_of input m = history_after no_history (answered_lines input m)
 
 -- and of one that begins over a disk on which nothing stands and from which nothing was removed
-abbrev pub DiskEndsFromEmpty : {D : Type 0} (told : D → Option DiskState) (moment : D → ℕ) (since : D → ℕ → DiskState → Type 0) (faults : D → ℕ) (old new : D) → Ending → History → History → Type 0
-DiskEndsFromEmpty told moment since faults old new ending acknowledged most =
-    (state : DiskState) → told old ≡ Some state → IsEmpty state → DiskEnds told moment since faults old new (told new ≡ told old) state.calls ending acknowledged most
+abbrev pub DiskEndsFromEmpty : {D : Type 0} (told : D → Option DiskState) (moment : D → ℕ) (since : D → ℕ → DiskState → Type 0) (faults : D → ℕ) (old new : D) → Ending → List Exchange → History → Type 0
+DiskEndsFromEmpty told moment since faults old new ending answered most =
+    (state : DiskState) → told old ≡ Some state → IsEmpty state → DiskEnds told moment since faults old new (told new ≡ told old) state.calls ending no_history answered most

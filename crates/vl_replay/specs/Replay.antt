@@ -94,25 +94,33 @@ IsFront front piece = (rest : List ℕ) × (piece ≡ front ++ rest)
 abbrev pub ended_lines : List ℕ → ℕ
 ended_lines bytes = count_by (λ b. b == 10) bytes
 
+-- The source failed: it had given some of these bytes and has the others left, and so many lines had ended in what it gave.
+abbrev pub FailsToRead : (Ending → Type 0) → List ℕ → Option (List ℕ) → ℕ → Type 0
+FailsToRead cause bytes left m =
+    (given : List ℕ) × (rest : List ℕ) × cause ReadFault × (bytes ≡ given ++ rest) × (left ≡ Some rest) × (m ≡ ended_lines given)
+
 -- What may be printed last after m of these answers: the bad line, where there is one more line and no
 -- next answer; that memory ran out; that the disk or the source failed, where it did; or, before all, that the disk
 -- holds no store, where something stands on it.
-pub data NextPiece (cause : Ending → Type 0) (all : List Exchange) (lines before m : ℕ) : List ℕ → Type 0 where
-  next_bad_line : m ≡ length all → length all < lines → NextPiece cause all lines before m (bad_line (before + length all + 1))
-  next_no_memory : NextPiece cause all lines before m no_memory_line
-  next_disk_fault : cause DiskFault → NextPiece cause all lines before m disk_fault_line
-  next_not_a_store : cause NotAStore → m ≡ 0 → NextPiece cause all lines before m not_a_store_line
-  next_read_fault : cause ReadFault → NextPiece cause all lines before m read_fault_line
+pub data LastPiece (cause : Ending → Type 0) (all : List Exchange) (lines before : ℕ) (bytes : List ℕ) (left : Option (List ℕ)) (m : ℕ) : List ℕ → Type 0 where
+  last_bad_line : m ≡ length all → length all < lines → LastPiece cause all lines before bytes left m (bad_line (before + length all + 1))
+  last_no_memory : LastPiece cause all lines before bytes left m no_memory_line
+  last_disk_fault : cause DiskFault → LastPiece cause all lines before bytes left m disk_fault_line
+  last_not_a_store : cause NotAStore → m ≡ 0 → left ≡ Some bytes → LastPiece cause all lines before bytes left m not_a_store_line
+  last_read_fault : FailsToRead cause bytes left m → LastPiece cause all lines before bytes left m read_fault_line
 
--- How a run over these bytes ended, how many lines it answered whole, and what it printed. All are the exchanges up to
--- the first bad line of these bytes, which are so many lines, and some lines came before them in the script. Left is what
--- the source has left in the end, and cause says what caused an ending that needs a cause.
+-- How a run over these bytes ended, how many lines it answered, and what it printed. A line counts as answered where the
+-- put of its whole answer succeeded. All are the exchanges up to the first bad line of these bytes, which are so many
+-- lines, and some lines came before them in the script. Left is what the source has left in the end, and cause says what
+-- caused an ending that needs a cause.
 --   complete: every line was answered, and the source was read to its end;
 --   a bad line: all lines before it were answered, and there is one more;
---   a fault of the disk, or want of memory: some lines were answered, each answer whole;
+--   a fault of the disk, or want of memory: some lines were answered;
 --   no store: nothing was read;
---   a fault of the source: each line that had ended in the bytes that it gave was;
---   a fault of the sink: some lines were, and of the last line, or of the next answer, some first bytes came out.
+--   a fault of the source: each line that had ended in the bytes that it gave was answered;
+--   a fault of the sink at a last line: some lines were answered, and some first bytes of the last line came out, none or
+--   all of them included;
+--   a fault of the sink at an answer: so it is with the answer to the next line.
 abbrev pub EndsSo : (Ending → Type 0) → List Exchange → ℕ → ℕ → List ℕ → Option (List ℕ) → ℕ → Ending → List ℕ → Type 0
 EndsSo cause all lines before bytes left m Complete printed =
     (m ≡ length all) × (length all ≡ lines) × (left ≡ Some []) × (printed ≡ answers_text all)
@@ -126,13 +134,12 @@ EndsSo cause all lines before bytes left m NotAStore printed =
 EndsSo cause all lines before bytes left m NoMemory printed =
     (m ≤ length all) × (printed ≡ answers_text (take m all) ++ no_memory_line)
 EndsSo cause all lines before bytes left m ReadFault printed =
-    (given : List ℕ) × (rest : List ℕ) × cause ReadFault × (bytes ≡ given ++ rest) × (left ≡ Some rest)
-    × (m ≡ ended_lines given) × (m ≤ length all) × (printed ≡ answers_text (take m all) ++ read_fault_line)
+    FailsToRead cause bytes left m × (m ≤ length all) × (printed ≡ answers_text (take m all) ++ read_fault_line)
 EndsSo cause all lines before bytes left m WriteFault printed =
-    (piece : List ℕ) × (front : List ℕ) × (m ≤ length all) × NextPiece cause all lines before m piece
+    (piece : List ℕ) × (front : List ℕ) × (m ≤ length all) × LastPiece cause all lines before bytes left m piece
     × IsFront front piece × (printed ≡ answers_text (take m all) ++ front)
 EndsSo cause all lines before bytes left m AnswerCut printed =
-    (e : Exchange) × (front : List ℕ) × (m ≤ length all) × (slice_get all m ≡ Some e)
+    (e : Exchange) × (front : List ℕ) × (slice_get all m ≡ Some e)
     × IsFront front (text_of e.answer) × (printed ≡ answers_text (take m all) ++ front)
 
 -- what a run prints that answers so many lines of these bytes from a state on, some lines after the script's begin

@@ -45,11 +45,11 @@ EndsBefore cause s before bytes left ending held held' =
     (printed : List ℕ) × Takes held held' printed × Replays cause s before bytes left 0 ending printed
 
 -- The run printed this over the bytes from a state on, and ended. The answers kept up with the source, and `so` holds of
--- the ending, of the commits that were acknowledged, and of those that may stand with one that wasn't.
-abbrev pub EndsRun : (Ending → Type 0) → (Ending → History → History → Type 0) → State → ℕ → List ℕ → Option (List ℕ) → Option (List ℕ) → Ending → Option (List ℕ) → Option (List ℕ) → Type 0
+-- the ending, of the lines that were answered, and of the history that may stand, with one line more.
+abbrev pub EndsRun : (Ending → Type 0) → (Ending → List Exchange → History → Type 0) → State → ℕ → List ℕ → Option (List ℕ) → Option (List ℕ) → Ending → Option (List ℕ) → Option (List ℕ) → Type 0
 EndsRun cause so s before bytes left asked ending held held' =
     (printed : List ℕ) × (m : ℕ) × Takes held held' printed × Replays cause s before bytes left m ending printed × KeepsUp bytes asked m
-    × so ending (history_after s.history (take m (exchanges_from s (lines_of bytes)))) (history_after s.history (take (suc m) (exchanges_from s (lines_of bytes))))
+    × so ending (take m (exchanges_from s (lines_of bytes))) (history_after s.history (take (suc m) (exchanges_from s (lines_of bytes))))
 
 -- the run ends at the first line of the bytes, where that is a bad one
 abbrev pub Refuses : ℕ → Ending → Option (List ℕ) → Option (List ℕ) → Type 0
