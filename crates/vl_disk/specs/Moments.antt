@@ -26,14 +26,16 @@ elapses_then a b c past between since P Q R first second here there = record {
 pub record HoldsThroughout {D : Type 0} (moment : D → ℕ) (states_since : D → ℕ → DiskState → Type 0) (old new : D) (P : DiskState → Type 0) : Type 0 where
   pub later : moment old ≤ moment new
   pub each : (state : DiskState) → states_since new (moment old) state → P state
-  -- for a run that began earlier
+  -- a state since an earlier moment is one that the old disk had since then, or has P
   pub before : (t : ℕ) (state : DiskState) → t ≤ moment old → states_since new t state → states_since old t state ⊎ P state
+  -- what it was by then it was
+  pub keeps : (t : ℕ) (state : DiskState) → t ≤ moment old → states_since old t state → states_since new t state
 
 -- a run of calls, one after the other
 module _ {D : Type 0} (moment : D → ℕ) (states_since : D → ℕ → DiskState → Type 0) (P : DiskState → Type 0) where
   -- before the first call
   pub begins : (disk : D) → ((state : DiskState) → states_since disk (moment disk) state → P state) → HoldsThroughout moment states_since disk disk P
-  begins disk here = record { later = omega arith; each = here; before = λ t state earlier left. inl left }
+  begins disk here = record { later = omega arith; each = here; before = λ t state earlier left. inl left; keeps = λ t state earlier was. was }
 
   -- one call more, while which the disk has P
   pub goes_on : (old mid new : D) (during : DiskState → Type 0) → HoldsThroughout moment states_since old mid P
@@ -43,6 +45,7 @@ module _ {D : Type 0} (moment : D → ℕ) (states_since : D → ℕ → DiskSta
     later = omega (arith, so_far.later, time.later);
     each = λ state left. ⊎_elim (so_far.each state) (here state) (time.nothing_else (moment old) state so_far.later left);
     before = λ t state earlier left. ⊎_elim (so_far.before t state earlier) (λ now. inr (here state now)) (time.nothing_else t state (omega (arith, earlier, so_far.later)) left);
+    keeps = λ t state earlier was. time.keeps t state (omega (arith, earlier, so_far.later)) (so_far.keeps t state earlier was);
   }
 
 -- what follows from P at each moment
@@ -52,6 +55,7 @@ holds_weaker moment states_since P Q old new holds weaker = record {
   later = holds.later;
   each = λ state left. weaker state (holds.each state left);
   before = λ t state earlier left. ⊎_elim (λ (long_ago : states_since old t state). inl long_ago) (λ (now : P state). inr (weaker state now)) (holds.before t state earlier left);
+  keeps = holds.keeps;
 }
 
 -- two runs, one after the other
@@ -64,4 +68,5 @@ holds_then moment states_since P old mid new first second = record {
       (λ (so_far : states_since mid t state). first.before t state earlier so_far)
       (λ (now : P state). inr now)
       (second.before t state (omega (arith, earlier, first.later)) left);
+  keeps = λ t state earlier was. second.keeps t state (omega (arith, earlier, first.later)) (first.keeps t state earlier was);
 }

@@ -106,18 +106,18 @@ GoesAlong {D} told moment since new begun most disk h (e ∷ later) =
     × GoesAlong told moment since new begun most behind e.after.history later
 
 -- What a run that ended so did to a disk, which had been asked for some changing calls: by the history at its begin, the
--- lines that it answered, and the history that may stand, with one line more, whose answer's put didn't succeed. The
--- commits of the answered lines are the acknowledged ones.
+-- lines that it answered, and the history that may stand, with one line more, which doesn't count as answered. The commits
+-- of the answered lines are the acknowledged ones.
 pub record DiskEnds {D : Type 0} (told : D → Option DiskState) (moment : D → ℕ) (since : D → ℕ → DiskState → Type 0) (faults : D → ℕ) (old new : D) (unopened : Type 0) (begun : ℕ) (ending : Ending) (first : History) (answered : List Exchange) (most : History) : Type 0 where
   -- what a crash at any moment since the begin leaves shows a first part of the commits, if no torn bytes spell a frame by
   -- chance
   pub through : HoldsThroughout moment since old new (Leaves (AreBetween first most))
-  -- and from each answered line on, each commit that was acknowledged up to it
+  -- and each answered line has its place on the disk's clock, one after the other, from which on they show its commit too
   pub along : GoesAlong told moment since new begun most old first answered
-  -- and so what a crash now leaves shows all of them
+  -- and so what a crash now leaves shows each acknowledged one
   pub now : (state : DiskState) × (told new ≡ Some state) × Leaves (AreBetween (history_after first answered) most) state
   -- where the disk didn't fail nothing is torn: it wasn't opened, or holds the acknowledged commits, or these and that of
-  -- one line more, whose answer's put didn't succeed
+  -- one line more
   pub settled : (Rose (faults old) (faults new) → ⊥) → (state : DiskState) × (told new ≡ Some state) × (unopened ⊎ (HoldsHistory begun (history_after first answered) state ⊎ HoldsHistory begun most state))
   -- where the run ended between two lines, the disk holds just the acknowledged ones
   pub whole : EndsBetweenLines ending → (state : DiskState) × (told new ≡ Some state) × HoldsHistory begun (history_after first answered) state

@@ -100,8 +100,8 @@ FailsToRead cause bytes left m =
     (given : List ℕ) × (rest : List ℕ) × cause ReadFault × (bytes ≡ given ++ rest) × (left ≡ Some rest) × (m ≡ ended_lines given)
 
 -- What may be printed last after m of these answers: the bad line, where there is one more line and no
--- next answer; that memory ran out; that the disk or the source failed, where it did; or, before all, that the disk
--- holds no store, where something stands on it.
+-- next answer; that memory ran out; that the disk or the source failed, where it did; or, where nothing was read, that
+-- the disk holds no store, where something stands on it.
 pub data LastPiece (cause : Ending → Type 0) (all : List Exchange) (lines before : ℕ) (bytes : List ℕ) (left : Option (List ℕ)) (m : ℕ) : List ℕ → Type 0 where
   last_bad_line : m ≡ length all → length all < lines → LastPiece cause all lines before bytes left m (bad_line (before + length all + 1))
   last_no_memory : LastPiece cause all lines before bytes left m no_memory_line
@@ -109,10 +109,10 @@ pub data LastPiece (cause : Ending → Type 0) (all : List Exchange) (lines befo
   last_not_a_store : cause NotAStore → m ≡ 0 → left ≡ Some bytes → LastPiece cause all lines before bytes left m not_a_store_line
   last_read_fault : FailsToRead cause bytes left m → LastPiece cause all lines before bytes left m read_fault_line
 
--- How a run over these bytes ended, how many lines it answered, and what it printed. A line counts as answered where the
--- put of its whole answer succeeded. All are the exchanges up to the first bad line of these bytes, which are so many
--- lines, and some lines came before them in the script. Left is what the source has left in the end, and cause says what
--- caused an ending that needs a cause.
+-- How a run over these bytes ended, how many lines (m) it answered, and what it printed. A line counts as answered where
+-- its whole answer was put. `all` are the exchanges up to the first bad line of these bytes, `lines` is how many lines they
+-- are, and `before` how many came before them in the script. `left` is what the source has left in the end, and `cause`
+-- says what caused an ending that needs a cause.
 --   complete: every line was answered, and the source was read to its end;
 --   a bad line: all lines before it were answered, and there is one more;
 --   a fault of the disk, or want of memory: some lines were answered;

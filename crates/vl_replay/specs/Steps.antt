@@ -27,7 +27,7 @@ Answers s text after (Some out) = (e : Exchange) × (exchange_at s text ≡ Some
 Answers s text after None = exchange_at s text ≡ None
 
 -- What caused an ending: a fault of the source or of the disk was counted between two readings of its count, or
--- something stands on the disk. The other endings need no cause.
+-- something stands on the disk. No other ending is asked for its cause.
 abbrev pub Causes : ℕ → ℕ → ℕ → ℕ → Type 0 → Ending → Type 0
 Causes source source' disk disk' occupied Complete = ⊥
 Causes source source' disk disk' occupied BadLine = ⊥
