@@ -25,7 +25,7 @@ pub use ended::Ended;
 use std::alloc::Global;
 use vl_disk::Disk;
 use vl_io::{Sink, Source};
-use vl_replay::{Ending, NO_MEMORY, finish, replay};
+use vl_replay::{Ended as Replayed, Ending, NO_MEMORY, finish, replay};
 
 /// Ends a run whose words found no memory: status 5, or 7 where the last line can't be put.
 pub fn refuse_without_words<K: Sink>(sink: &mut K) -> u8
@@ -82,11 +82,11 @@ pub fn run<S: Source, K: Sink, D: Disk>(
     // There are no other statuses.
     ensures status { (ending : HowEnded) × (result.status ≡ status_of ending) }
 {
-    let mut disk = disk;
-    let ending = if are_plain(words) {
-        replay(alloc, source, sink, &mut disk)
+    let Replayed { ending, disk } = if are_plain(words) {
+        replay(alloc, source, sink, disk)
     } else {
-        finish(sink, USAGE, Ending::BadWords)
+        let ending = finish(sink, USAGE, Ending::BadWords);
+        Replayed { ending, disk }
     };
     Ended {
         status: ending.status(),

@@ -21,7 +21,7 @@ use Rattle.vl_script.specs.declared.line.Line.TheVariants.{Commit as CommitLine}
 use Rattle.vl_replay.specs.Sequential.{State, Outcome, without_thing, committed, frame_length, after_commit}
 use Rattle.vl_replay.specs.Represents.{Represents}
 use Rattle.vl_replay.specs.Durable.{logged, HoldsHistory, HoldsState, AreBetween, CarriesOut}
-use Rattle.vl_replay.specs.declared.replayer.Replayer.{Replayer}
+use Rattle.vl_replay.specs.declared.replayer.store.Store.{Store}
 use Rattle.vl_replay.specs.declared.replayer.halt.Halt.{Halt}
 use Rattle.vl_replay.specs.declared.replayer.halt.Halt.TheVariants.{NoMemory as NoRoom, Disk as DiskFailed}
 use Rattle.vl_replay.specs.declared.replayer.limits.TheConstants.{MAX_LOG_BYTES}
@@ -61,7 +61,7 @@ no_cause faults result memory = record { later = omega arith; rose = λ failed. 
 pub nothing_is : (s : State) (name : List ℕ) (number : ℕ) (writes : Writes) → IsInUse s.history s.things name (Transaction number writes) → (len writes == 0) ≡ true → committed s name (get s.things name) ≡ (Nothing, without_thing s name)
 nothing_is s name number writes holds none = ap (committed s name) (holds.found_is ∙ ap Some holds.stands.1.1) ∙ cond-true _ _ _ none
 
-pub exhausted_is : (r : Replayer) (s : State) (name : List ℕ) (number : ℕ) (writes : Writes) → Represents r s → IsInUse s.history s.things name (Transaction number writes) → (len writes == 0) ≡ false → MAX_COMMIT_NUMBER ≤ r.last
+pub exhausted_is : (r : Store) (s : State) (name : List ℕ) (number : ℕ) (writes : Writes) → Represents r s → IsInUse s.history s.things name (Transaction number writes) → (len writes == 0) ≡ false → MAX_COMMIT_NUMBER ≤ r.last
     → committed s name (get s.things name) ≡ (Exhausted CommitNumber, s)
 exhausted_is r s name number writes rep holds some past =
     ap (committed s name) (holds.found_is ∙ ap Some holds.stands.1.1) ∙ cond-false _ _ _ some ∙ cond-true _ _ _ (ap (nat_le MAX_COMMIT_NUMBER) (sym rep.last) ∙ le-leb _ _ past)
@@ -72,14 +72,14 @@ longer_past length frame lt = omega arith
 longer_within : (length frame : ℕ) → min (length + frame) (2 ^ 64 - 1) ≤ MAX_LOG_BYTES → length + frame ≤ MAX_LOG_BYTES
 longer_within length frame le = omega arith
 
-pub full_is : (r : Replayer) (s : State) (name : List ℕ) (number : ℕ) (writes : Writes) → Represents r s → IsInUse s.history s.things name (Transaction number writes) → (len writes == 0) ≡ false → r.last < MAX_COMMIT_NUMBER → MAX_LOG_BYTES < longer r writes
+pub full_is : (r : Store) (s : State) (name : List ℕ) (number : ℕ) (writes : Writes) → Represents r s → IsInUse s.history s.things name (Transaction number writes) → (len writes == 0) ≡ false → r.last < MAX_COMMIT_NUMBER → MAX_LOG_BYTES < longer r writes
     → committed s name (get s.things name) ≡ (Full, s)
 full_is r s name number writes rep holds some room full =
     let past : MAX_LOG_BYTES < s.log_length + frame_length writes = subst (λ n. MAX_LOG_BYTES < n + frame_length writes) rep.log_length (longer_past r.log_length (frame_length writes) full) in
     ap (committed s name) (holds.found_is ∙ ap Some holds.stands.1.1) ∙ cond-false _ _ _ some ∙ cond-false _ _ _ (ap (nat_le MAX_COMMIT_NUMBER) (sym rep.last) ∙ lt-leb _ _ room)
     ∙ cond-false _ _ _ (lt-leb _ _ past)
 
-pub commit_is : (r : Replayer) (s : State) (name : List ℕ) (number : ℕ) (writes : Writes) → Represents r s → IsInUse s.history s.things name (Transaction number writes) → (len writes == 0) ≡ false → r.last < MAX_COMMIT_NUMBER → longer r writes ≤ MAX_LOG_BYTES
+pub commit_is : (r : Store) (s : State) (name : List ℕ) (number : ℕ) (writes : Writes) → Represents r s → IsInUse s.history s.things name (Transaction number writes) → (len writes == 0) ≡ false → r.last < MAX_COMMIT_NUMBER → longer r writes ≤ MAX_LOG_BYTES
     → committed s name (get s.things name) ≡ (Number (last_number s.history + 1), after_commit s name writes)
 commit_is r s name number writes rep holds some room fits =
     let within : s.log_length + frame_length writes ≤ MAX_LOG_BYTES = subst (λ n. n + frame_length writes ≤ MAX_LOG_BYTES) rep.log_length (longer_within r.log_length (frame_length writes) fits) in
@@ -102,14 +102,14 @@ is_commit last writes list is some room rising lawful few =
     let at_least_one : 1 ≤ length list = omega (arith, lengths, len-entries writes, not_none) in
     record { first = omega arith; last = omega (arith, room); some = at_least_one; few = few; rising = rising; lawful = lawful }
 
-pub same_commit : (r : Replayer) (s : State) (writes : Writes) (list : List (List ℕ × Change)) → Represents r s → list ≡ entries writes → staged r.last list ≡ next_commit s writes
+pub same_commit : (r : Store) (s : State) (writes : Writes) (list : List (List ℕ × Change)) → Represents r s → list ≡ entries writes → staged r.last list ≡ next_commit s writes
 same_commit r s writes list rep is = ap (λ (n : ℕ). staged n list) rep.last ∙ ap (λ (es : List (List ℕ × Change)). staged (last_number s.history) es) is
 
-pub has_frame : (r : Replayer) (s : State) (writes : Writes) (list : List (List ℕ × Change)) → Represents r s → list ≡ entries writes → HasFrame (staged r.last list) → HasFrame (next_commit s writes)
+pub has_frame : (r : Store) (s : State) (writes : Writes) (list : List (List ℕ × Change)) → Represents r s → list ≡ entries writes → HasFrame (staged r.last list) → HasFrame (next_commit s writes)
 has_frame r s writes list rep is lawful = subst HasFrame (same_commit r s writes list rep is) lawful
 
 -- the staged frame is that of the next commit, at the log's end
-pub frame_is : (r : Replayer) (s : State) (begun : ℕ) (state : DiskState) (writes : Writes) (list : List (List ℕ × Change)) (frame : List ℕ) → Represents r s → HoldsState begun s state → list ≡ entries writes → frame ≡ commit_frame 1 r.log_length (staged r.last list)
+pub frame_is : (r : Store) (s : State) (begun : ℕ) (state : DiskState) (writes : Writes) (list : List (List ℕ × Change)) (frame : List ℕ) → Represents r s → HoldsState begun s state → list ≡ entries writes → frame ≡ commit_frame 1 r.log_length (staged r.last list)
     → frame ≡ commit_frame 1 (length (log_bytes 1 (logged s.history))) (next_commit s writes)
 frame_is r s begun state writes list frame rep holds is spelled =
     spelled ∙ ap (λ (n : ℕ). commit_frame 1 n (staged r.last list)) (rep.log_length ∙ holds.length_is) ∙ ap (commit_frame 1 (length (log_bytes 1 (logged s.history)))) (same_commit r s writes list rep is)

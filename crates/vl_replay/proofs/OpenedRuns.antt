@@ -1,22 +1,24 @@
 -- A run that opens its store first.
-use Rattle.std.proofs.Common.{◌≡◌, ◌⊎◌, inl, ⊎_elim, ◌+◌, ◌-◌, ◌^◌, min, ℕ, suc, ◌≤◌, List, [], ◌∷◌, ◌++◌, length, take, Option, Some, refl, sym, ◌∙◌, ap, subst}
+use Rattle.std.proofs.Common.{◌≡◌, ◌⊎◌, inl, ⊎_elim, ◌+◌, ℕ, suc, ◌≤◌, List, [], ◌∷◌, ◌++◌, length, take, Option, Some, refl, sym, ◌∙◌, ap, subst}
 use Rattle.vl_model.specs.History.{History}
 use Rattle.vl_disk.specs.Faults.{Rose}
 use Rattle.vl_disk.specs.DiskState.{DiskState}
 use Rattle.vl_disk.specs.Crash.{SameFiles}
 use Rattle.vl_disk.specs.Moments.{HoldsThroughout, holds_weaker, holds_then}
 use Rattle.vl_seglog.specs.Log.{Commit}
-use Rattle.vl_journal.specs.Files.{Holds, IsEmpty}
+use Rattle.vl_journal.specs.Files.{IsEmpty}
 use Rattle.vl_journal.specs.Images.{Leaves, IsNone}
+use Rattle.vl_journal.specs.declared.fails.OpenFail.{OpenFail as Why}
+use Rattle.vl_journal.specs.declared.fails.OpenFail.TheVariants as why
 use Rattle.vl_script.specs.Script.{lines_of}
 use Rattle.vl_replay.specs.Sequential.{empty_store}
-use Rattle.vl_replay.specs.Replay.{Exchange, exchanges_from, history_after, KeepsUp}
-use Rattle.vl_replay.specs.Durable.{logged, AreFirstOf, AreBetween, EndsBetweenLines, CutsAnswer, GoesAlong, DiskEndsFrom, DiskEndsFromEmpty}
-use Rattle.vl_replay.specs.Steps.{Causes, EndsBefore, EndsRun}
+use Rattle.vl_replay.specs.Replay.{Exchange, exchanges_from, history_after, no_memory_line, disk_fault_line, not_a_store_line, KeepsUp}
+use Rattle.vl_replay.specs.Durable.{HoldsState, logged, AreFirstOf, AreBetween, EndsBetweenLines, CutsAnswer, GoesAlong, DiskEndsFrom, DiskEndsFromEmpty}
+use Rattle.vl_replay.specs.Opening.{refusal_line, refusal_of}
+use Rattle.vl_replay.specs.Steps.{Causes, EndsBefore, EndsRun, Finishes}
 use Rattle.vl_replay.specs.declared.ending.Ending.{Ending}
 use Rattle.vl_replay.specs.declared.ending.Ending.TheVariants.{Complete, BadLine, BadWords, DiskFault, NotAStore, NoMemory, ReadFault, WriteFault, AnswerCut}
-use Rattle.vl_replay.proofs.Logged.{holds_opened}
-use Rattle.vl_replay.proofs.Replays.{ends_weaker, rose_earlier}
+use Rattle.vl_replay.proofs.Replays.{ends_weaker, finished, no_memory_ends, disk_fault_ends, not_a_store_ends, rose_earlier}
 use Rattle.vl_replay.proofs.Texts.{last_line_cuts_nothing}
 use Rattle.vl_replay.proofs.DiskSteps.{exchanges_extend, leaves_weaker, ends_later}
 
@@ -75,6 +77,26 @@ module _ {D : Type 0} (told : D → Option DiskState) (moment : D → ℕ) (sinc
   ends_unopened cause old new ending result P Q input left asked held held' none none_cut how (printed, printed_is, run) kept_up through tells kept =
       (printed, 0, printed_is, run, kept_up, unopened old new ending result P Q (history_after empty_store.history (take 1 (exchanges_from empty_store (lines_of input)))) none none_cut how through tells kept)
 
+  -- the store wasn't opened, and the last line says why
+  pub ends_refused : (how : Why) (cause : Ending → Type 0) (old new : D) (result : Ending) (P Q : Type 0) (input : List ℕ) (left asked held held' : Option (List ℕ)) → (how ≡ why.NotAStore → cause NotAStore) → (how ≡ why.Disk → cause DiskFault) → left ≡ Some input
+      → Finishes held (refusal_line how) (refusal_of how) result held' → ((result ≡ refusal_of how) × P) ⊎ ((result ≡ WriteFault) × Q) → KeepsUp input asked 0
+      → ((state : DiskState) → told old ≡ Some state → IsEmpty state → HoldsThroughout moment since old new (Leaves IsNone))
+      → ((state : DiskState) → told old ≡ Some state → (now : DiskState) × (told new ≡ Some now))
+      → ((Rose (faults old) (faults new) → ⊥) → told new ≡ told old)
+      → EndsRun cause (DiskEndsFromEmpty told moment since faults old new) empty_store 0 input left asked result held held'
+  ends_refused why.NotAStore cause old new result P Q input left asked held held' occupied fault told_is finishes counts kept_up through tells kept =
+      let ends = not_a_store_ends cause empty_store 0 input left (occupied refl) told_is in
+      ends_unopened cause old new NotAStore result P Q input left asked held held' (λ never. never) (λ never. never) counts
+      (finished cause (exchanges_from empty_store (lines_of input)) (length (lines_of input)) 0 input left NotAStore result not_a_store_line held held' ends.0 ends.1 finishes) kept_up through tells kept
+  ends_refused why.NoMemory cause old new result P Q input left asked held held' occupied fault told_is finishes counts kept_up through tells kept =
+      let ends = no_memory_ends cause empty_store 0 input left in
+      ends_unopened cause old new NoMemory result P Q input left asked held held' (λ never. never) (λ never. never) counts
+      (finished cause (exchanges_from empty_store (lines_of input)) (length (lines_of input)) 0 input left NoMemory result no_memory_line held held' ends.0 ends.1 finishes) kept_up through tells kept
+  ends_refused why.Disk cause old new result P Q input left asked held held' occupied fault told_is finishes counts kept_up through tells kept =
+      let ends = disk_fault_ends cause empty_store 0 input left (fault refl) in
+      ends_unopened cause old new DiskFault result P Q input left asked held held' (λ never. never) (λ never. never) counts
+      (finished cause (exchanges_from empty_store (lines_of input)) (length (lines_of input)) 0 input left DiskFault result disk_fault_line held held' ends.0 ends.1 finishes) kept_up through tells kept
+
   -- the store was opened before the first line
   along_opened : (first mid new : D) (begun : ℕ) (most : History) (answered : List Exchange) → HoldsThroughout moment since first mid (Leaves IsNone) → GoesAlong told moment since new begun most mid empty_store.history answered → GoesAlong told moment since new begun most first empty_store.history answered
   along_opened first mid new begun most [] through along = tt
@@ -84,7 +106,7 @@ module _ {D : Type 0} (told : D → Option DiskState) (moment : D → ℕ) (sinc
 
   -- the store was opened, and a run went on over it
   pub ends_opened : (f t : ℕ) (occupied : Type 0) (first mid new : D) (input : List ℕ) (left asked : Option (List ℕ)) (ending : Ending) (held held' : Option (List ℕ)) → faults first ≤ faults mid
-      → ((state : DiskState) → told first ≡ Some state → IsEmpty state → (now : DiskState) × (told mid ≡ Some now) × Holds [] now × (now.calls ≡ min (state.calls + 6) (2 ^ 64 - 1)))
+      → ((state : DiskState) → told first ≡ Some state → IsEmpty state → (now : DiskState) × (told mid ≡ Some now) × HoldsState state.calls empty_store now)
       → ((state : DiskState) → told first ≡ Some state → IsEmpty state → HoldsThroughout moment since first mid (Leaves IsNone))
       → EndsRun (Causes f t (faults mid) (faults new) ⊥) (DiskEndsFrom told moment since faults mid new empty_store) empty_store 0 input left asked ending held held'
       → EndsRun (Causes f t (faults first) (faults new) occupied) (DiskEndsFromEmpty told moment since faults first new) empty_store 0 input left asked ending held held'
@@ -101,5 +123,5 @@ module _ {D : Type 0} (told : D → Option DiskState) (moment : D → ℕ) (sinc
             ends_later told moment since faults only_now counts_now (told new ≡ told first) first mid new state.calls ending empty_store.history most (take m all) (take m all) (exchanges_extend (lines_of input) empty_store (suc m)) earlier
             (holds_weaker moment since (Leaves IsNone) (Leaves (AreFirstOf empty_store.history)) first mid (through state is empty) (leaves_weaker IsNone (AreFirstOf empty_store.history) (none_up_to empty_store.history)))
             (λ _ along. along_opened first mid new state.calls most (take m all) (through state is empty) along) refl
-            (so state.calls now.0 now.1 (holds_opened state.calls now.0 now.2 now.3)),
+            (so state.calls now.0 now.1 now.2),
       )

@@ -31,7 +31,7 @@ use Rattle.vl_replay.specs.declared.replayer.open.Open.{Open}
 use Rattle.vl_replay.specs.declared.replayer.open.Thing.{Thing}
 use Rattle.vl_replay.specs.declared.replayer.open.Thing.TheVariants.{Transaction, View}
 use Rattle.vl_replay.specs.declared.replayer.memtable.Memtable.{Memtable}
-use Rattle.vl_replay.specs.declared.replayer.Replayer.{Replayer}
+use Rattle.vl_replay.specs.declared.replayer.store.Store.{Store}
 use Rattle.vl_script.specs.declared.answer.Answer.{Answer}
 use Rattle.vl_script.specs.declared.answer.Answer.TheVariants.{Done, Number, Taken, Invalid, TooBig, TooMany, Nothing, Full, Exhausted}
 
@@ -106,7 +106,7 @@ named h things (Some held) name kept is found =
 
 -- ---- answers
 
-pub gives_as : {answer : Answer} {r : Replayer} {o : Outcome} (p : Outcome) → p ≡ o → Gives answer r o → Gives answer r p
+pub gives_as : {answer : Answer} {r : Store} {o : Outcome} (p : Outcome) → p ≡ o → Gives answer r o → Gives answer r p
 gives_as {answer} {r} p e g = subst (Gives answer r) (sym e) g
 
 -- an open thing is opened over nothing
@@ -132,20 +132,20 @@ is_some-copied : {X : Type 0} (o : Option (Bor X)) → is_some (option_copied o)
 is_some-copied None = refl
 is_some-copied (Some x) = refl
 
-pub gives_taken : (r : Replayer) (s : State) (name : List ℕ) (opens : sequential.Thing) (o : Option (Bor Thing)) → Represents r s → option_copied o ≡ thing_named r.in_use name → is_some o ≡ true → Gives (Taken name) r (opened s name opens)
+pub gives_taken : (r : Store) (s : State) (name : List ℕ) (opens : sequential.Thing) (o : Option (Bor Thing)) → Represents r s → option_copied o ≡ thing_named r.in_use name → is_some o ≡ true → Gives (Taken name) r (opened s name opens)
 gives_taken r s name opens o rep is some =
     let kept = some_of (thing_named r.in_use name) (ap is_some (sym is) ∙ is_some-copied o ∙ some) in
     let holds = named s.history s.things r.in_use name kept.0 rep.in_use kept.1 in
     gives_as _ (opened_taken s name opens holds.thing holds.found_is) (record { answer_is = refl; stands = rep })
 
-pub gives_full : (r : Replayer) (s : State) (name : List ℕ) (opens : sequential.Thing) (o : Option (Bor Thing)) → Represents r s → option_copied o ≡ thing_named r.in_use name → is_some o ≡ false → is_some r.in_use ≡ true → Gives TooMany r (opened s name opens)
+pub gives_full : (r : Store) (s : State) (name : List ℕ) (opens : sequential.Thing) (o : Option (Bor Thing)) → Represents r s → option_copied o ≡ thing_named r.in_use name → is_some o ≡ false → is_some r.in_use ≡ true → Gives TooMany r (opened s name opens)
 gives_full r s name opens o rep is none some =
     let missing = unnamed s.history s.things r.in_use name rep.in_use (sym is ∙ none_of (option_copied o) (is_some-copied o ∙ none)) in
     let held = some_of r.in_use some in
     let in_use = subst (λ o. IsOpen s.history o s.things) held.1 rep.in_use in
     gives_as _ (opened_full s name opens missing (ap len in_use.2 ∙ len-one held.0.name in_use.0)) (record { answer_is = refl; stands = rep })
 
-pub gives_open : (r : Replayer) (s : State) (name : List ℕ) (opens : sequential.Thing) (thing : Thing) → Represents r s → StandsFor s.history thing opens → is_some r.in_use ≡ false →
+pub gives_open : (r : Store) (s : State) (name : List ℕ) (opens : sequential.Thing) (thing : Thing) → Represents r s → StandsFor s.history thing opens → is_some r.in_use ≡ false →
     Gives (Number r.last) (record { alloc = r.alloc; last = r.last; log_length = r.log_length; memtable = r.memtable; in_use = Some (record { name = name; thing = thing }) }) (opened s name opens)
 gives_open r s name opens thing rep stands none =
     let nothing : s.things ≡ empty = subst (λ o. IsOpen s.history o s.things) (none_of r.in_use none) rep.in_use in
@@ -179,10 +179,10 @@ pub read_invalid : (s : State) (name key : List ℕ) (kept : Thing) → IsInUse 
 read_invalid s name key (Transaction number writes) holds unlawful = ap (read s name key) (holds.found_is ∙ ap Some holds.stands.1.1) ∙ cond-false _ _ _ unlawful
 read_invalid s name key (View number) holds unlawful = ap (read s name key) (holds.found_is ∙ ap Some holds.stands.1) ∙ cond-false _ _ _ unlawful
 
-pub gives_if_ok : (result : Result Answer Halt) (answer : Answer) (r : Replayer) (o : Outcome) → IfOk result (λ a. a ≡ answer) → Gives answer r o → IfOk result (λ a. Gives a r o)
+pub gives_if_ok : (result : Result Answer Halt) (answer : Answer) (r : Store) (o : Outcome) → IfOk result (λ a. a ≡ answer) → Gives answer r o → IfOk result (λ a. Gives a r o)
 gives_if_ok result answer r o is gives = IfOk-weaker result (λ a. a ≡ answer) (λ a. Gives a r o) (λ a e. subst (λ x. Gives x r o) (sym e) gives) is
 
-pub read_view : (r : Replayer) (s : State) (name key : List ℕ) (number : ℕ) → Represents r s → IsInUse s.history s.things name (View number) → is_key_length (length key) ≡ true →
+pub read_view : (r : Store) (s : State) (name key : List ℕ) (number : ℕ) → Represents r s → IsInUse s.history s.things name (View number) → is_key_length (length key) ≡ true →
     Gives (found (value_left None (newest r.memtable.entries.items key number))) r (read s name key (get s.things name))
 read_view r s name key number rep holds lawful =
     gives_as _ (ap (read s name key) (holds.found_is ∙ ap Some holds.stands.1) ∙ cond-true _ _ _ lawful) (record {
@@ -190,14 +190,14 @@ read_view r s name key number rep holds lawful =
       stands = rep;
     })
 
-pub read_own : (r : Replayer) (s : State) (name key : List ℕ) (number : ℕ) (writes : Writes) (change : Change) → Represents r s → IsInUse s.history s.things name (Transaction number writes) → is_key_length (length key) ≡ true → get writes key ≡ Some change →
+pub read_own : (r : Store) (s : State) (name key : List ℕ) (number : ℕ) (writes : Writes) (change : Change) → Represents r s → IsInUse s.history s.things name (Transaction number writes) → is_key_length (length key) ≡ true → get writes key ≡ Some change →
     Gives (found (value_left None (Some change))) r (read s name key (get s.things name))
 read_own r s name key number writes change rep holds lawful own =
     gives_as _ (
     ap (read s name key) (holds.found_is ∙ ap Some holds.stands.1.1) ∙ cond-true _ _ _ lawful ∙ ap (read_in_transaction s name key number holds.stands.1.0 writes) own)
     (record { answer_is = refl; stands = rep })
 
-pub read_noted : (r : Replayer) (s : State) (name key : List ℕ) (number : ℕ) (writes : Writes) → Represents r s → thing_named r.in_use name ≡ Some (Transaction number writes) → is_key_length (length key) ≡ true → get writes key ≡ None →
+pub read_noted : (r : Store) (s : State) (name key : List ℕ) (number : ℕ) (writes : Writes) → Represents r s → thing_named r.in_use name ≡ Some (Transaction number writes) → is_key_length (length key) ≡ true → get writes key ≡ None →
     Gives (found (value_left None (newest r.memtable.entries.items key number))) r (read s name key (get s.things name))
 read_noted r s name key number writes rep named_is lawful missing =
     let holds = named s.history s.things r.in_use name (Transaction number writes) rep.in_use named_is in
@@ -221,14 +221,14 @@ kept_open : (h : History) (things : FinMap key_cmp sequential.Thing) (held : Ope
 kept_open h things held kept is e = (is.0, subst (λ k. StandsFor h k is.0) e is.1, is.2)
 
 -- the replayer with another thing under the name that is in use
-abbrev pub with_kept : Replayer → Open → Thing → Replayer
+abbrev pub with_kept : Store → Open → Thing → Store
 with_kept r held kept = record { alloc = r.alloc; last = r.last; log_length = r.log_length; memtable = r.memtable; in_use = Some (record { name = held.name; thing = kept }) }
 
-pub stands_kept : (r : Replayer) (s : State) (held : Open) (kept : Thing) → Represents r s → r.in_use ≡ Some held → held.thing ≡ kept → Represents (with_kept r held kept) s
+pub stands_kept : (r : Store) (s : State) (held : Open) (kept : Thing) → Represents r s → r.in_use ≡ Some held → held.thing ≡ kept → Represents (with_kept r held kept) s
 stands_kept r s held kept rep is e =
     record { last = rep.last; log_length = rep.log_length; shows = rep.shows; in_use = kept_open s.history s.things held kept (subst (λ o. IsOpen s.history o s.things) is rep.in_use) e }
 
-gives_write_answer : (r : Replayer) (s : State) (held : Open) (name key value : List ℕ) (number : ℕ) (writes : Writes) → Represents r s → r.in_use ≡ Some held → bytes_eq name held.name ≡ true → held.thing ≡ Transaction number writes →
+gives_write_answer : (r : Store) (s : State) (held : Open) (name key value : List ℕ) (number : ℕ) (writes : Writes) → Represents r s → r.in_use ≡ Some held → bytes_eq name held.name ≡ true → held.thing ≡ Transaction number writes →
     Gives (write_answer writes key value) (with_kept r held (Transaction number (writes_after writes key value))) (written s name key value (get s.things name))
 gives_write_answer r s held name key value number writes rep is same kept_is =
     let in_use = subst (λ o. IsOpen s.history o s.things) is rep.in_use in
@@ -252,7 +252,7 @@ gives_write_answer r s held name key value number writes rep is same kept_is =
           ]
     ])
 
-pub gives_write : (result : Result Answer Halt) (r : Replayer) (s : State) (held : Open) (name key value : List ℕ) (number : ℕ) (writes new : Writes) → Represents r s → r.in_use ≡ Some held → bytes_eq name held.name ≡ true → held.thing ≡ Transaction number writes →
+pub gives_write : (result : Result Answer Halt) (r : Store) (s : State) (held : Open) (name key value : List ℕ) (number : ℕ) (writes new : Writes) → Represents r s → r.in_use ≡ Some held → bytes_eq name held.name ≡ true → held.thing ≡ Transaction number writes →
     IfOk result (λ a. a ≡ write_answer writes key value) → OnOk result (new ≡ writes_after writes key value) → IfOk result (λ a. Gives a (with_kept r held (Transaction number new)) (written s name key value (get s.things name)))
 gives_write (Ok a) r s held name key value number writes new rep is same kept_is answer_is new_is =
     subst (λ x. Gives x (with_kept r held (Transaction number new)) (written s name key value (get s.things name))) (sym answer_is)
@@ -342,10 +342,10 @@ pub same_writes : (m n : ℕ) (writes others : Writes) (kept : Thing) → kept �
 same_writes m n writes others kept one_is other_is = cc
 
 -- the replayer after a commit
-abbrev pub committed_replayer : Replayer → ℕ → ℕ → Memtable → Replayer
+abbrev pub committed_replayer : Store → ℕ → ℕ → Memtable → Store
 committed_replayer r last log_length memtable = record { alloc = r.alloc; last = last; log_length = log_length; memtable = memtable; in_use = None }
 
-pub gives_nothing : (r : Replayer) (s : State) (name : List ℕ) (number : ℕ) (writes : Writes) → Represents r s → IsInUse s.history s.things name (Transaction number writes) → (len writes == 0) ≡ true →
+pub gives_nothing : (r : Store) (s : State) (name : List ℕ) (number : ℕ) (writes : Writes) → Represents r s → IsInUse s.history s.things name (Transaction number writes) → (len writes == 0) ≡ true →
     Gives Nothing (committed_replayer r r.last r.log_length r.memtable) (committed s name (get s.things name))
 gives_nothing r s name number writes rep holds none =
     gives_as _ (ap (committed s name) (holds.found_is ∙ ap Some holds.stands.1.1) ∙ cond-true _ _ _ none) (record {
@@ -353,7 +353,7 @@ gives_nothing r s name number writes rep holds none =
       stands = record { last = rep.last; log_length = rep.log_length; shows = rep.shows; in_use = remove_in_use s.history s.things name (Transaction number writes) holds };
     })
 
-pub gives_exhausted : (r : Replayer) (s : State) (name : List ℕ) (number : ℕ) (writes : Writes) → Represents r s → IsInUse s.history s.things name (Transaction number writes) → (len writes == 0) ≡ false → MAX_COMMIT_NUMBER ≤ r.last →
+pub gives_exhausted : (r : Store) (s : State) (name : List ℕ) (number : ℕ) (writes : Writes) → Represents r s → IsInUse s.history s.things name (Transaction number writes) → (len writes == 0) ≡ false → MAX_COMMIT_NUMBER ≤ r.last →
     Gives (Exhausted CommitNumber) r (committed s name (get s.things name))
 gives_exhausted r s name number writes rep holds some past =
     gives_as _ (
@@ -361,7 +361,7 @@ gives_exhausted r s name number writes rep holds some past =
     (record { answer_is = refl; stands = rep })
 
 -- the log's length with one more commit, as the code adds it up
-abbrev pub longer : Replayer → Writes → ℕ
+abbrev pub longer : Store → Writes → ℕ
 longer r writes = min (r.log_length + frame_length writes) (2 ^ 64 - 1)
 
 -- adding up to the last value of a number doesn't change whether the log has room
@@ -371,7 +371,7 @@ longer_is length frame le = omega arith
 longer_past : (length frame : ℕ) → MAX_LOG_BYTES < min (length + frame) (2 ^ 64 - 1) → MAX_LOG_BYTES < length + frame
 longer_past length frame lt = omega arith
 
-pub gives_log_full : (r : Replayer) (s : State) (name : List ℕ) (number : ℕ) (writes : Writes) → Represents r s → IsInUse s.history s.things name (Transaction number writes) → (len writes == 0) ≡ false → r.last < MAX_COMMIT_NUMBER → MAX_LOG_BYTES < longer r writes →
+pub gives_log_full : (r : Store) (s : State) (name : List ℕ) (number : ℕ) (writes : Writes) → Represents r s → IsInUse s.history s.things name (Transaction number writes) → (len writes == 0) ≡ false → r.last < MAX_COMMIT_NUMBER → MAX_LOG_BYTES < longer r writes →
     Gives Full r (committed s name (get s.things name))
 gives_log_full r s name number writes rep holds some room full =
     let past : MAX_LOG_BYTES < s.log_length + frame_length writes = subst (λ n. MAX_LOG_BYTES < n + frame_length writes) rep.log_length (longer_past r.log_length (frame_length writes) full) in
@@ -380,7 +380,7 @@ gives_log_full r s name number writes rep holds some room full =
     ∙ cond-false _ _ _ (lt-leb _ _ past))
     (record { answer_is = refl; stands = rep })
 
-pub gives_commit : (r : Replayer) (s : State) (name : List ℕ) (number : ℕ) (writes : Writes) (memtable : Memtable) → Represents r s → IsInUse s.history s.things name (Transaction number writes) → (len writes == 0) ≡ false → r.last < MAX_COMMIT_NUMBER → longer r writes ≤ MAX_LOG_BYTES →
+pub gives_commit : (r : Store) (s : State) (name : List ℕ) (number : ℕ) (writes : Writes) (memtable : Memtable) → Represents r s → IsInUse s.history s.things name (Transaction number writes) → (len writes == 0) ≡ false → r.last < MAX_COMMIT_NUMBER → longer r writes ≤ MAX_LOG_BYTES →
     Takes r.memtable.entries.items memtable.entries.items writes (r.last + 1) → Gives (Number (r.last + 1)) (committed_replayer r (r.last + 1) (longer r writes) memtable) (committed s name (get s.things name))
 gives_commit r s name number writes memtable rep holds some room fits takes =
     let next : r.last + 1 ≡ last_number s.history + 1 = ap (λ n. n + 1) rep.last in

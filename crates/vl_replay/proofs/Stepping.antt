@@ -13,7 +13,7 @@ use Rattle.vl_replay.specs.Replay.{Exchange, exchange_at, exchanges_from, histor
 use Rattle.vl_replay.specs.Durable.{HoldsHistory, HoldsState, AreBetween, CarriesOutText, history_behind, EndsBetweenLines, CutsAnswer, DiskEndsFrom}
 use Rattle.vl_replay.specs.Steps.{Causes, EndsBefore, EndsRun, StepsOn, GoesOn, IsAnswered}
 use Rattle.vl_replay.specs.declared.input.lines.Next.TheVariants.{Line as WholeLine, LastLine}
-use Rattle.vl_replay.specs.declared.replayer.Replayer.{Replayer}
+use Rattle.vl_replay.specs.declared.replayer.store.Store.{Store}
 use Rattle.vl_replay.specs.declared.ending.Ending.{Ending}
 use Rattle.vl_replay.specs.declared.ending.Ending.TheVariants.{Complete, BadLine, BadWords, DiskFault, NotAStore, NoMemory, ReadFault, WriteFault, AnswerCut}
 use Rattle.vl_replay.proofs.Lines.{lines_of-ended, lines_of-unended}
@@ -93,7 +93,7 @@ module _ {D : Type 0} (told : D → Option DiskState) (moment : D → ℕ) (sinc
           )
 
   -- a line that was read with its end was answered, or the run ended there
-  pub step_line : (f t fd td : ℕ) (old new : D) (s : State) (before : ℕ) (had line buffer : List ℕ) (left asked : Option (List ℕ)) (after : Replayer) (ended : Option Ending) (held held' : Option (List ℕ)) →
+  pub step_line : (f t fd td : ℕ) (old new : D) (s : State) (before : ℕ) (had line buffer : List ℕ) (left asked : Option (List ℕ)) (after : Store) (ended : Option Ending) (held held' : Option (List ℕ)) →
       ReadsLine WholeLine had line buffer left → StepsOn fd td s before line after ended held held' → ((begun : ℕ) (state : DiskState) → told old ≡ Some state → HoldsState begun s state → CarriesOutText told moment since faults old new begun s line (IsAnswered ended)) → ended ≢ Some ReadFault →
       KeepsUp had asked 0 → GoesOn told moment since faults old new (Causes f t fd td ⊥) s before had after buffer left asked ended held held'
   step_line f t fd td old new s before had line buffer left asked after None held held' (rest, told_is, parts, unended) (e, is, stands, printed) takes readable kept_up = (
@@ -118,7 +118,7 @@ module _ {D : Type 0} (told : D → Option DiskState) (moment : D → ℕ) (sinc
       (ends f t had (lines_of (buffer ++ rest)) left lines) kept_up
 
   -- the last line was answered, and so the run is complete, or it ended there
-  pub step_last : (f t fd td : ℕ) (old new : D) (s : State) (before : ℕ) (had line buffer : List ℕ) (left asked : Option (List ℕ)) (after : Replayer) (ended : Option Ending) (result : Ending) (held held' : Option (List ℕ)) →
+  pub step_last : (f t fd td : ℕ) (old new : D) (s : State) (before : ℕ) (had line buffer : List ℕ) (left asked : Option (List ℕ)) (after : Store) (ended : Option Ending) (result : Ending) (held held' : Option (List ℕ)) →
       ReadsLine LastLine had line buffer left → StepsOn fd td s before line after ended held held' → ((begun : ℕ) (state : DiskState) → told old ≡ Some state → HoldsState begun s state → CarriesOutText told moment since faults old new begun s line (IsAnswered ended)) → ended ≢ Some ReadFault →
       result ≡ unwrap_or ended Complete → KeepsUp had asked 0 → EndsRun (Causes f t fd td ⊥) (DiskEndsFrom told moment since faults old new s) s before had left asked result held held'
   step_last f t fd td old new s before had line buffer left asked after None result held held' (told_is, same, unended, some) (e, is, stands, printed) takes readable r kept_up =

@@ -13,7 +13,7 @@ use Rattle.vl_replay.specs.Represents.{Represents}
 use Rattle.vl_replay.specs.Replay.{Exchange, KeepsUp, line_number, Replays, exchanges_from, history_after}
 use Rattle.vl_replay.specs.Durable.{HoldsState, AreFirstOf, AreBetween, GoesAlong, DiskEndsFrom}
 use Rattle.vl_replay.specs.Steps.{Causes, EndsRun, GoesOn}
-use Rattle.vl_replay.specs.declared.replayer.Replayer.{Replayer}
+use Rattle.vl_replay.specs.declared.replayer.store.Store.{Store}
 use Rattle.vl_replay.specs.declared.ending.Ending.{Ending}
 use Rattle.vl_replay.proofs.Lines.{lines_of-ended}
 use Rattle.vl_replay.specs.Laws.{keeps_up_at_first}
@@ -31,7 +31,7 @@ pub record Carried {D : Type 0} (told : D → Option DiskState) (moment : D → 
       → GoesAlong told moment since new begun most disk state.history (take m (exchanges_from state (lines_of bytes)))
       → GoesAlong told moment since new begun most first empty_store.history (take (m + before) (exchanges_from empty_store (lines_of input)))
 
-pub record UnderWay {D : Type 0} (told : D → Option DiskState) (moment : D → ℕ) (since : D → ℕ → DiskState → Type 0) (begin disk : D) (f fd : ℕ) (input : List ℕ) (replayer : Replayer) (answered : ℕ) (buffer : List ℕ) (left asked first held : Option (List ℕ)) : Type 0 where
+pub record UnderWay {D : Type 0} (told : D → Option DiskState) (moment : D → ℕ) (since : D → ℕ → DiskState → Type 0) (begin disk : D) (f fd : ℕ) (input : List ℕ) (replayer : Store) (answered : ℕ) (buffer : List ℕ) (left asked first held : Option (List ℕ)) : Type 0 where
   pub state : State
   pub before : ℕ
   pub had : List ℕ
@@ -49,7 +49,7 @@ pub record UnderWay {D : Type 0} (told : D → Option DiskState) (moment : D →
 module _ {D : Type 0} (told : D → Option DiskState) (moment : D → ℕ) (since : D → ℕ → DiskState → Type 0) (faults : D → ℕ)
     (only_now : (disk : D) (state other : DiskState) → told disk ≡ Some state → since disk (moment disk) other → SameFiles other state)
     (counts_now : (disk : D) (state : DiskState) (t : ℕ) → told disk ≡ Some state → t ≤ moment disk → since disk t state) where
-  pub begun : (begin : D) (f fd : ℕ) (input : List ℕ) (replayer : Replayer) (left asked held : Option (List ℕ)) → Represents replayer empty_store → left ≡ Some input
+  pub begun : (begin : D) (f fd : ℕ) (input : List ℕ) (replayer : Store) (left asked held : Option (List ℕ)) → Represents replayer empty_store → left ≡ Some input
       → ((rest : List ℕ) → left ≡ Some rest → (given : List ℕ) × (asked ≡ Some (given ++ rest))) → UnderWay told moment since begin begin f fd input replayer 0 [] left asked held held
   begun begin f fd input replayer left asked held stands is since_asked =
       let none : (m : ℕ) → m ≡ m + 0 = λ m. omega arith in
@@ -77,7 +77,7 @@ module _ {D : Type 0} (told : D → Option DiskState) (moment : D → ℕ) (sinc
         };
       }
 
-  module _ (begin disk disk' : D) (f t fd td : ℕ) (input : List ℕ) (replayer replayer' : Replayer) (answered answered' : ℕ) (buffer buffer' : List ℕ) (left left' asked asked' first held held' : Option (List ℕ)) where
+  module _ (begin disk disk' : D) (f t fd td : ℕ) (input : List ℕ) (replayer replayer' : Store) (answered answered' : ℕ) (buffer buffer' : List ℕ) (left left' asked asked' first held held' : Option (List ℕ)) where
     pub further : (u : UnderWay told moment since begin disk f fd input replayer answered buffer left asked first held) → GoesOn told moment since faults disk disk' (Causes f t fd td ⊥) u.state u.before (buffer ++ u.had) replayer' buffer' left' asked' None held held' → answered' ≡ line_number (u.before + 1) →
         UnderWay told moment since begin disk' f fd input replayer' answered' buffer' left' asked' first held'
     further u (e, line, rest, is_left, parts, unended, is, stands, takes, kept_up, moves) count =

@@ -2,6 +2,7 @@ pub mod Durable
 pub mod Input
 pub mod Laws
 pub mod Memtable
+pub mod Opening
 pub mod Replay
 pub mod Represents
 pub mod Sequential

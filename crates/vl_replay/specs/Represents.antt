@@ -14,7 +14,7 @@ use Rattle.vl_replay.specs.declared.replayer.entry.Entry.{Entry}
 use Rattle.vl_replay.specs.declared.replayer.open.Open.{Open}
 use Rattle.vl_replay.specs.declared.replayer.open.Thing.{Thing}
 use Rattle.vl_replay.specs.declared.replayer.open.Thing.TheVariants.{Transaction, View}
-use Rattle.vl_replay.specs.declared.replayer.Replayer.{Replayer}
+use Rattle.vl_replay.specs.declared.replayer.store.Store.{Store}
 use Rattle.vl_script.specs.declared.answer.Answer.{Answer}
 use Rattle.vl_script.specs.declared.answer.Answer.TheVariants.{Done, Invalid, TooBig}
 
@@ -37,14 +37,14 @@ abbrev pub IsOpen : History → Option Open → FinMap key_cmp sequential.Thing 
 IsOpen h None things = things ≡ empty
 IsOpen h (Some held) things = (thing : sequential.Thing) × StandsFor h held.thing thing × (things ≡ insert empty held.name thing)
 
-pub record Represents (r : Replayer) (s : State) : Type 0 where
+pub record Represents (r : Store) (s : State) : Type 0 where
   pub last : r.last ≡ last_number s.history
   pub log_length : r.log_length ≡ s.log_length
   pub shows : Shows r.memtable.entries.items s.history
   pub in_use : IsOpen s.history r.in_use s.things
 
 -- the answer of an outcome, from a replayer that stands for its state
-pub record Gives (answer : Answer) (after : Replayer) (outcome : Outcome) : Type 0 where
+pub record Gives (answer : Answer) (after : Store) (outcome : Outcome) : Type 0 where
   pub answer_is : answer ≡ outcome.0
   pub stands : Represents after outcome.1
 

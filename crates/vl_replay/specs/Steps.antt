@@ -12,7 +12,7 @@ use Rattle.vl_replay.specs.Input.{HasNoLineEnd}
 use Rattle.vl_replay.specs.Replay.{Exchange, exchange_at, exchanges_from, history_after, Replays, IsFront, KeepsUp}
 use Rattle.vl_replay.specs.Represents.{Represents}
 use Rattle.vl_replay.specs.Durable.{HoldsState, AreBetween, DiskEndsFrom}
-use Rattle.vl_replay.specs.declared.replayer.Replayer.{Replayer}
+use Rattle.vl_replay.specs.declared.replayer.store.Store.{Store}
 use Rattle.vl_replay.specs.declared.ending.Ending.{Ending}
 use Rattle.vl_replay.specs.declared.ending.Ending.TheVariants.{Complete, BadLine, BadWords, DiskFault, NotAStore, NoMemory, ReadFault, WriteFault, AnswerCut}
 
@@ -22,7 +22,7 @@ Finishes held line ending result held' =
     (printed : List ℕ) × Takes held held' printed × (((result ≡ ending) × (printed ≡ line)) ⊎ ((result ≡ WriteFault) × IsFront printed line))
 
 -- a line's answer was made, and the store stands for the state after it; or it is a bad line
-abbrev pub Answers : State → List ℕ → Replayer → Option (List ℕ) → Type 0
+abbrev pub Answers : State → List ℕ → Store → Option (List ℕ) → Type 0
 Answers s text after (Some out) = (e : Exchange) × (exchange_at s text ≡ Some e) × Represents after e.after × (out ≡ text_of e.answer)
 Answers s text after None = exchange_at s text ≡ None
 
@@ -58,7 +58,7 @@ Refuses before ending held held' =
     → EndsBefore (Causes f t fd td ⊥) s before bytes left ending held held'
 
 -- a line was answered and printed, and the run goes on; or it ended there
-abbrev pub StepsOn : ℕ → ℕ → State → ℕ → List ℕ → Replayer → Option Ending → Option (List ℕ) → Option (List ℕ) → Type 0
+abbrev pub StepsOn : ℕ → ℕ → State → ℕ → List ℕ → Store → Option Ending → Option (List ℕ) → Option (List ℕ) → Type 0
 StepsOn fd td s before text after None held held' =
     (e : Exchange) × (exchange_at s text ≡ Some e) × Represents after e.after × Takes held held' (text_of e.answer)
 StepsOn fd td s before text after (Some ending) held held' =
@@ -110,7 +110,7 @@ MovesOn told moment since old new s after =
 
 -- The first line of the bytes was answered and printed, and a run over the others goes on from here; when the source
 -- was last asked no answer was owed. Or the run ended.
-abbrev pub GoesOn : {D : Type 0} (told : D → Option DiskState) (moment : D → ℕ) (since : D → ℕ → DiskState → Type 0) (faults : D → ℕ) (old new : D) → (Ending → Type 0) → State → ℕ → List ℕ → Replayer → List ℕ → Option (List ℕ) → Option (List ℕ) → Option Ending → Option (List ℕ) → Option (List ℕ) → Type 0
+abbrev pub GoesOn : {D : Type 0} (told : D → Option DiskState) (moment : D → ℕ) (since : D → ℕ → DiskState → Type 0) (faults : D → ℕ) (old new : D) → (Ending → Type 0) → State → ℕ → List ℕ → Store → List ℕ → Option (List ℕ) → Option (List ℕ) → Option Ending → Option (List ℕ) → Option (List ℕ) → Type 0
 GoesOn told moment since faults old new cause s before bytes after buffer left asked None held held' =
     (e : Exchange) × (text : List ℕ) × (rest : List ℕ) × (left ≡ Some rest) × (bytes ≡ text ++ 10 ∷ (buffer ++ rest)) × HasNoLineEnd text
     × (exchange_at s text ≡ Some e) × Represents after e.after × Takes held held' (text_of e.answer) × KeepsUp (buffer ++ rest) asked 0

@@ -39,21 +39,20 @@ fn is_answered(answer: &Answer) -> bool
 /// The text that answers a line; None where it is a bad line.
 fn answer_text<D: Disk>(
     alloc: Global,
-    replayer: &mut Replayer,
-    disk: &mut D,
+    replayer: &mut Replayer<D>,
     text: &[u8],
 ) -> Result<Option<Vec<u8>>, Halt>
-    requires { ForSome (D.told disk.old) (Stands LOG) }
-    ensures answers { (s : State) → Represents replayer.old s → IfOk result (λ out. Answers s text.now replayer.new (option_map (λ text. text.items) out)) }
-    ensures takes { (begun : ℕ) (s : State) (state : DiskState) → Represents replayer.old s → D.told disk.old ≡ Some state → HoldsState begun s state
-        → CarriesOutText D.told D.moment D.states_since D.faults disk.old disk.new begun s text.now (IsOk result) }
-    ensures stands { ForSome (D.told disk.new) (Stands LOG) }
-    ensures cause { HasCause (D.faults disk.old) (D.faults disk.new) (result ≡ Err DiskHalt) }
+    requires { ForSome (D.told replayer.old.disk) (Stands LOG) }
+    ensures answers { (s : State) → Represents replayer.old.store s → IfOk result (λ out. Answers s text.now replayer.new.store (option_map (λ text. text.items) out)) }
+    ensures takes { (begun : ℕ) (s : State) (state : DiskState) → Represents replayer.old.store s → D.told replayer.old.disk ≡ Some state → HoldsState begun s state
+        → CarriesOutText D.told D.moment D.states_since D.faults replayer.old.disk replayer.new.disk begun s text.now (IsOk result) }
+    ensures stands { ForSome (D.told replayer.new.disk) (Stands LOG) }
+    ensures cause { HasCause (D.faults replayer.old.disk) (D.faults replayer.new.disk) (result ≡ Err DiskHalt) }
 {
     let Some(line) = parse_line(alloc, text)? else {
         return Ok(None);
     };
-    let answer = replayer.line(disk, line)?;
+    let answer = replayer.line(line)?;
     if !is_answered(&answer) {
         return Ok(None);
     }
@@ -75,24 +74,23 @@ pub fn refuse<K: Sink>(alloc: Global, answered: u64, sink: &mut K) -> Ending
 /// Answers a line, with so many lines answered before it. None where the run goes on.
 pub fn answer<K: Sink, D: Disk>(
     alloc: Global,
-    replayer: &mut Replayer,
-    disk: &mut D,
+    replayer: &mut Replayer<D>,
     text: &[u8],
     answered: u64,
     sink: &mut K,
 ) -> Option<Ending>
-    requires { ForSome (D.told disk.old) (Stands LOG) }
-    ensures printed { (fd before : ℕ) (s : State) → fd ≤ D.faults disk.old → Represents replayer.old s → answered ≡ line_number before
-        → StepsOn fd (D.faults disk.new) s before text.now replayer.new result (K.held sink.old) (K.held sink.new) }
+    requires { ForSome (D.told replayer.old.disk) (Stands LOG) }
+    ensures printed { (fd before : ℕ) (s : State) → fd ≤ D.faults replayer.old.disk → Represents replayer.old.store s → answered ≡ line_number before
+        → StepsOn fd (D.faults replayer.new.disk) s before text.now replayer.new.store result (K.held sink.old) (K.held sink.new) }
     ensures faults { MatchOption result (K.faults sink.new ≡ K.faults sink.old) (λ ending. SinkCounts ending (K.faults sink.old) (K.faults sink.new)) }
 
     // Where the line was answered, or refused as a bad one, the disk holds what it should.
-    ensures takes { (begun : ℕ) (s : State) (state : DiskState) → Represents replayer.old s → D.told disk.old ≡ Some state → HoldsState begun s state
-        → CarriesOutText D.told D.moment D.states_since D.faults disk.old disk.new begun s text.now (IsAnswered result) }
-    ensures stands { ForSome (D.told disk.new) (Stands LOG) }
-    ensures disk_faults { DiskCounts result (D.faults disk.old) (D.faults disk.new) }
+    ensures takes { (begun : ℕ) (s : State) (state : DiskState) → Represents replayer.old.store s → D.told replayer.old.disk ≡ Some state → HoldsState begun s state
+        → CarriesOutText D.told D.moment D.states_since D.faults replayer.old.disk replayer.new.disk begun s text.now (IsAnswered result) }
+    ensures stands { ForSome (D.told replayer.new.disk) (Stands LOG) }
+    ensures disk_faults { DiskCounts result (D.faults replayer.old.disk) (D.faults replayer.new.disk) }
 {
-    match answer_text(alloc, replayer, disk, text) {
+    match answer_text(alloc, replayer, text) {
         Ok(Some(answer)) => match sink.put(&answer) {
             Ok(()) => None,
             Err(_) => Some(Ending::AnswerCut),

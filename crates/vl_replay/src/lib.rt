@@ -2,13 +2,15 @@
 #![tactic(auto)]
 
 mod answering;
+mod ended;
 mod ending;
 pub mod input;
 mod last_line;
 pub mod replayer;
 mod running;
 
+pub use ended::Ended;
 pub use ending::Ending;
 pub use last_line::{NO_MEMORY, finish};
-pub use replayer::{Halt, Replayer};
+pub use replayer::{Halt, OpenFail, Replayer};
 pub use running::replay;

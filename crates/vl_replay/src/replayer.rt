@@ -1,17 +1,17 @@
-//! The store behind a script: answers one line after the other.
-ghost use Rattle.std.specs.Prelude.{◌≡◌, ℕ, [], Some, Err, IfOk, IfErr, OnOk, OnErr, length};
+//! A script's lines answered, one after the other, over the disk that holds the store.
+ghost use Rattle.std.specs.Prelude.{◌≡◌, ◌≢◌, ℕ, Some, Ok, Err, IfOk, IfErr, IsErr, OnOk, OnErr};
 ghost use Rattle.std.specs.Option.{ForSome};
 ghost use Rattle.vl_disk.specs.DiskState.{DiskState};
 ghost use Rattle.vl_disk.specs.Disk.{Stands, HasCause};
+ghost use Rattle.vl_disk.specs.Moments.{HoldsThroughout};
 ghost use Rattle.vl_journal.specs.declared.names.TheConstants.{LOG};
+ghost use Rattle.vl_journal.specs.declared.fails.OpenFail.TheVariants as why;
+ghost use Rattle.vl_journal.specs.Files.{IsEmpty, StandsSome};
+ghost use Rattle.vl_journal.specs.Images.{Leaves, IsNone};
 ghost use Rattle.vl_replay.specs.Durable.{HoldsState, CarriesOut};
-ghost use Rattle.std.specs.Option.{option_copied};
-ghost use Rattle.std.specs.FinMap.{get, empty};
-ghost use Rattle.vl_model.specs.History.{last_number, value_left};
-ghost use Rattle.vl_model.specs.Keys.{is_key_length, is_value_length};
-ghost use Rattle.vl_replay.specs.Sequential.{State, empty_store, answer_to, state_after, opened, read, written, committed, found};
-ghost use Rattle.vl_replay.specs.Sequential as sequential;
-ghost use Rattle.vl_replay.specs.Represents.{Represents, Gives, StandsFor, thing_named, write_answer, writes_after};
+ghost use Rattle.vl_replay.specs.Sequential.{State, empty_store, answer_to, state_after};
+ghost use Rattle.vl_replay.specs.Represents.{Represents};
+ghost use Rattle.vl_replay.specs.Opening.{disk_of, why_of};
 
 mod entry;
 mod halt;
@@ -19,404 +19,82 @@ mod laws;
 mod limits;
 mod memtable;
 mod open;
+mod open_fail;
+mod store;
 mod writes;
 
 use entry::Entry;
 pub use halt::Halt;
 pub use laws::reads_are_noted;
-use limits::LOG_HEADER_BYTES;
 pub use limits::{MAX_LOG_BYTES, MAX_OPEN};
 use memtable::Memtable;
 use open::{Open, Thing};
+pub use open_fail::OpenFail;
 use std::alloc::Global;
+pub use store::Store;
 use vl_disk::Disk;
-use vl_journal::{stage_commit, write_staged};
-use vl_model::{
-    Bytes, Change, Counter, Key, MAX_COMMIT_NUMBER, MAX_KEY_BYTES, MAX_VALUE_BYTES, Value,
-};
-use vl_script::{Answer, Ident, Line};
+use vl_journal::open_store;
+use vl_script::{Answer, Line};
 use writes::Writes;
 
-/// A store that keeps its commits in memory, and writes each one to a disk before it is answered.
+/// A store on a disk, which answers a script's lines.
 #[derive(Drop)]
-pub struct Replayer {
-    alloc: Global,
-    last: u64,
-    log_length: u64,
-    memtable: Memtable,
-    in_use: Option<Open>,
+pub struct Replayer<D> {
+    store: Store,
+    disk: D,
 }
 
-impl Replayer {
-    /// A store over no commits.
-    pub fn new(alloc: Global) -> Self
-        ensures { Represents result empty_store }
+impl<D: Disk> Replayer<D> {
+    /// Opens the store on a disk. For now it is one without commits, on an empty disk.
+    pub fn new(alloc: Global, disk: D) -> Result<Self, OpenFail<D>>
+        ensures store { IfOk result (λ replayer. Represents replayer.store empty_store) }
+        ensures stands { IfOk result (λ replayer. ForSome (D.told replayer.disk) (Stands LOG)) }
+
+        // The store's files are made by six changing calls, and what a crash leaves meanwhile shows no commit.
+        ensures holds { (state : DiskState) → D.told disk ≡ Some state → IsEmpty state
+            → IfOk result (λ replayer. (now : DiskState) × (D.told replayer.disk ≡ Some now) × HoldsState state.calls empty_store now) }
+        ensures through { (state : DiskState) → D.told disk ≡ Some state → IsEmpty state
+            → HoldsThroughout D.moment D.states_since disk (disk_of result) (Leaves IsNone) }
+        ensures tells { (state : DiskState) → D.told disk ≡ Some state → (now : DiskState) × (D.told (disk_of result) ≡ Some now) }
+
+        // It isn't opened where anything stands, and is refused as no store only there. Then, and where memory ran out,
+        // nothing was changed.
+        ensures not_a_store { why_of result ≡ Some why.NotAStore → ForSome (D.told disk) StandsSome }
+        ensures occupied { (state : DiskState) → D.told disk ≡ Some state → StandsSome state → IsErr result × (D.told (disk_of result) ≡ D.told disk) }
+        ensures unchanged { why_of result ≢ Some why.Disk → IsErr result → D.told (disk_of result) ≡ D.told disk }
+        ensures cause { HasCause (D.faults disk) (D.faults (disk_of result)) (why_of result ≡ Some why.Disk) }
     {
-        Replayer {
-            alloc,
-            last: 0,
-            log_length: LOG_HEADER_BYTES,
-            memtable: Memtable::new(alloc),
-            in_use: None,
+        let mut disk = disk;
+        match open_store(alloc, &mut disk) {
+            Ok(()) => Ok(Replayer {
+                store: Store::new(alloc),
+                disk,
+            }),
+            Err(why) => Err(OpenFail { why, disk }),
         }
     }
 
     /// Answers a line. Want of memory leaves the store and the disk as they were, and so does a fault of the disk the
     /// store.
-    pub fn line<D: Disk>(&mut self, disk: &mut D, line: Line) -> Result<Answer, Halt>
-        requires { ForSome (D.told disk.old) (Stands LOG) }
-        ensures answer { (s : State) → Represents self.old s → IfOk result (λ answer. answer ≡ answer_to s line) }
-        ensures after { (s : State) → Represents self.old s → OnOk result (Represents self.new (state_after s line)) }
-        ensures unchanged { (s : State) → Represents self.old s → OnErr result (Represents self.new s) }
+    pub fn line(&mut self, line: Line) -> Result<Answer, Halt>
+        requires { ForSome (D.told self.old.disk) (Stands LOG) }
+        ensures answer { (s : State) → Represents self.old.store s → IfOk result (λ answer. answer ≡ answer_to s line) }
+        ensures after { (s : State) → Represents self.old.store s → OnOk result (Represents self.new.store (state_after s line)) }
+        ensures unchanged { (s : State) → Represents self.old.store s → OnErr result (Represents self.new.store s) }
 
         // Each accepted commit is one synced frame of the log, which is written before the answer.
-        ensures carries { (begun : ℕ) (s : State) (state : DiskState) → Represents self.old s → D.told disk.old ≡ Some state → HoldsState begun s state
-            → CarriesOut D.told D.moment D.states_since disk.old disk.new begun s (state_after s line) result }
-        ensures stands { ForSome (D.told disk.new) (Stands LOG) }
-        ensures cause { HasCause (D.faults disk.old) (D.faults disk.new) (result ≡ Err Halt.Disk) }
+        ensures carries { (begun : ℕ) (s : State) (state : DiskState) → Represents self.old.store s → D.told self.old.disk ≡ Some state → HoldsState begun s state
+            → CarriesOut D.told D.moment D.states_since self.old.disk self.new.disk begun s (state_after s line) result }
+        ensures stands { ForSome (D.told self.new.disk) (Stands LOG) }
+        ensures cause { HasCause (D.faults self.old.disk) (D.faults self.new.disk) (result ≡ Err Halt.Disk) }
     {
-        match line {
-            Line::Begin { name } => Ok(self.begin(name)),
-            Line::View { name } => Ok(self.view(name)),
-            Line::Get { name, key } => self.get(name, key),
-            Line::Set { name, key, value } => self.set(name, key, value),
-            Line::Commit { name } => self.commit(disk, name),
-        }
+        self.store.line(&mut self.disk, line)
     }
 
-    fn begin(&mut self, name: Ident) -> Answer
-        ensures { (s : State) → Represents self.old s → Gives result self.new (opened s name (sequential.OpenTransaction (last_number s.history) [] empty)) }
+    /// The disk. What is open is ended.
+    pub fn close(self) -> D
+        ensures { result ≡ self.disk }
     {
-        let thing = Thing::Transaction {
-            number: self.last,
-            writes: Writes::new(self.alloc),
-        };
-        self.open(name, thing)
-    }
-
-    fn view(&mut self, name: Ident) -> Answer
-        ensures { (s : State) → Represents self.old s → Gives result self.new (opened s name (sequential.OpenView (last_number s.history))) }
-    {
-        let thing = Thing::View { number: self.last };
-        self.open(name, thing)
-    }
-
-    fn open(&mut self, name: Ident, thing: Thing) -> Answer
-        ensures { (s : State) (opens : sequential.Thing) → Represents self.old s → StandsFor s.history thing opens → Gives result self.new (opened s name opens) }
-    {
-        if self.find(name.as_slice()).is_some() {
-            return Answer::Taken { name };
-        }
-        if self.in_use.is_some() {
-            return Answer::TooMany;
-        }
-        self.in_use = Some(Open { name, thing });
-        Answer::Number { number: self.last }
-    }
-
-    fn get(&self, name: Ident, key: Key) -> Result<Answer, Halt>
-        ensures answer { (s : State) → Represents self.now s → IfOk result (λ answer. Gives answer self.now (read s name key (get s.things name))) }
-        ensures halt { IfErr result (λ halt. halt ≡ Halt.NoMemory) }
-    {
-        let Some(thing) = self.find(name.as_slice()) else {
-            return Ok(Answer::Unknown { name });
-        };
-        if !is_lawful_key(&key) {
-            return Ok(Answer::Invalid);
-        }
-        match thing {
-            Thing::View { number } => self.found(self.memtable.get(key.as_slice(), *number)),
-            Thing::Transaction { number, writes } => match writes.get(key.as_slice()) {
-                Some(change) => self.found(Some(change)),
-                None => self.found(self.memtable.get(key.as_slice(), *number)),
-            },
-        }
-    }
-
-    fn set(&mut self, name: Ident, key: Key, value: Value) -> Result<Answer, Halt>
-        ensures answer { (s : State) → Represents self.old s → IfOk result (λ answer. Gives answer self.new (written s name key value (get s.things name))) }
-        ensures unchanged { (s : State) → Represents self.old s → OnErr result (Represents self.new s) }
-        ensures halt { IfErr result (λ halt. halt ≡ Halt.NoMemory) }
-    {
-        match &mut self.in_use {
-            Some(held) if held.is_named(name.as_slice()) => match &mut held.thing {
-                Thing::View { .. } => Ok(Answer::ReadOnly),
-                Thing::Transaction { writes, .. } => write(writes, key, value),
-            },
-            _ => Ok(Answer::Unknown { name }),
-        }
-    }
-
-    fn commit<D: Disk>(&mut self, disk: &mut D, name: Ident) -> Result<Answer, Halt>
-        requires { ForSome (D.told disk.old) (Stands LOG) }
-        ensures answer { (s : State) → Represents self.old s → IfOk result (λ answer. Gives answer self.new (committed s name (get s.things name))) }
-        ensures unchanged { (s : State) → Represents self.old s → OnErr result (Represents self.new s) }
-        ensures carries { (begun : ℕ) (s : State) (state : DiskState) → Represents self.old s → D.told disk.old ≡ Some state → HoldsState begun s state
-            → CarriesOut D.told D.moment D.states_since disk.old disk.new begun s (committed s name (get s.things name)).1 result }
-        ensures stands { ForSome (D.told disk.new) (Stands LOG) }
-        ensures cause { HasCause (D.faults disk.old) (D.faults disk.new) (result ≡ Err Halt.Disk) }
-    {
-        let Some(thing) = self.find(name.as_slice()) else {
-            return Ok(Answer::Unknown { name });
-        };
-        let Thing::Transaction { writes, .. } = thing else {
-            return Ok(Answer::ReadOnly);
-        };
-        if writes.is_empty() {
-            self.in_use = None;
-            return Ok(Answer::Nothing);
-        }
-        if self.last >= MAX_COMMIT_NUMBER {
-            return Ok(Answer::Exhausted {
-                counter: Counter::Commit,
-            });
-        }
-        let log_length = self.log_length.saturating_add(writes.frame_length());
-        if log_length > MAX_LOG_BYTES {
-            return Ok(Answer::Full);
-        }
-        // All memory is taken before the first call that changes the disk.
-        let frame = stage_commit(
-            self.alloc,
-            disk,
-            self.log_length,
-            self.last + 1,
-            writes.as_slice(),
-        )?;
-        let count = writes.len();
-        self.memtable.reserve(count)?;
-        write_staged(disk, &frame)?;
-        let Some(Open { name: _, thing }) = self.in_use.take() else {
-            unreachable!();
-        };
-        let Thing::Transaction { writes, .. } = thing else {
-            unreachable!();
-        };
-        self.last += 1;
-        self.log_length = log_length;
-        self.memtable.apply(self.last, writes);
-        Ok(Answer::Number { number: self.last })
-    }
-
-    // What a name in use stands for.
-    fn find(&self, name: &[u8]) -> Option<&Thing>
-        ensures { option_copied result ≡ thing_named self.now.in_use name.now }
-    {
-        match &self.in_use {
-            Some(held) if held.is_named(name) => Some(&held.thing),
-            _ => None,
-        }
-    }
-
-    // The value that a change leaves, as an answer.
-    fn found(&self, change: Option<&Change>) -> Result<Answer, Halt>
-        ensures answer { IfOk result (λ answer. answer ≡ found (value_left None (option_copied change.entry))) }
-        ensures halt { IfErr result (λ halt. halt ≡ Halt.NoMemory) }
-    {
-        match change {
-            Some(Change::Set(value)) => Ok(Answer::Found {
-                value: Bytes::copy_of(self.alloc, value.as_slice())?,
-            }),
-            Some(Change::Delete) | None => Ok(Answer::NoValue),
-        }
-    }
-}
-
-fn is_lawful_key(key: &Key) -> bool
-    ensures { result ≡ is_key_length (length key.now) }
-{
-    !key.is_empty() && key.len() <= MAX_KEY_BYTES
-}
-
-fn is_lawful_value(value: &Value) -> bool
-    ensures { result ≡ is_value_length (length value.now) }
-{
-    value.len() <= MAX_VALUE_BYTES
-}
-
-// A write in a transaction.
-fn write(writes: &mut Writes, key: Key, value: Value) -> Result<Answer, Halt>
-    ensures answer { IfOk result (λ answer. answer ≡ write_answer writes.old key value) }
-    ensures ok { OnOk result (writes.new ≡ writes_after writes.old key value) }
-    ensures err { OnErr result (writes.new ≡ writes.old) }
-    ensures halt { IfErr result (λ halt. halt ≡ Halt.NoMemory) }
-{
-    if !(is_lawful_key(&key) && is_lawful_value(&value)) {
-        return Ok(Answer::Invalid);
-    }
-    if !writes.fits(key.as_slice(), &value) {
-        return Ok(Answer::TooBig);
-    }
-    writes.set(key, value)?;
-    Ok(Answer::Done)
-}
-
-#[cfg(test)]
-mod tests {
-    use super::*;
-    use std::alloc::AllocError;
-    use std::test::Fail;
-    use vl_journal::open_store;
-    use vl_mem::MemDisk;
-
-    fn word(alloc: Global, text: &str) -> Result<Bytes, AllocError> {
-        Bytes::copy_of(alloc, text.as_bytes())
-    }
-
-    fn begin(alloc: Global, name: &str) -> Result<Line, AllocError> {
-        Ok(Line::Begin {
-            name: word(alloc, name)?,
-        })
-    }
-
-    fn view(alloc: Global, name: &str) -> Result<Line, AllocError> {
-        Ok(Line::View {
-            name: word(alloc, name)?,
-        })
-    }
-
-    fn get(alloc: Global, name: &str, key: &str) -> Result<Line, AllocError> {
-        Ok(Line::Get {
-            name: word(alloc, name)?,
-            key: word(alloc, key)?,
-        })
-    }
-
-    fn set(alloc: Global, name: &str, key: &str, value: &str) -> Result<Line, AllocError> {
-        Ok(Line::Set {
-            name: word(alloc, name)?,
-            key: word(alloc, key)?,
-            value: word(alloc, value)?,
-        })
-    }
-
-    fn commit(alloc: Global, name: &str) -> Result<Line, AllocError> {
-        Ok(Line::Commit {
-            name: word(alloc, name)?,
-        })
-    }
-
-    #[test]
-    fn a_commit_is_seen_by_a_later_view(rt: HostRuntime) -> Result<(), Fail> {
-        let alloc = rt.alloc();
-        let mut disk = MemDisk::new(alloc, Vec::new(alloc));
-        open_store(alloc, &mut disk)?;
-        let mut store = Replayer::new(alloc);
-        assert!(rt;
-            matches!(
-                store.line(&mut disk, begin(alloc, "a")?)?,
-                Answer::Number { number: 0 }
-            )
-        );
-        assert!(rt;
-            matches!(
-                store.line(&mut disk, set(alloc, "a", "k", "v")?)?,
-                Answer::Done
-            )
-        );
-        assert!(rt;
-            matches!(
-                store.line(&mut disk, get(alloc, "a", "k")?)?,
-                Answer::Found { .. }
-            )
-        );
-        assert!(rt;
-            matches!(
-                store.line(&mut disk, commit(alloc, "a")?)?,
-                Answer::Number { number: 1 }
-            )
-        );
-        assert!(rt;
-            matches!(
-                store.line(&mut disk, view(alloc, "b")?)?,
-                Answer::Number { number: 1 }
-            )
-        );
-        let answer = store.line(&mut disk, get(alloc, "b", "k")?)?;
-        let Answer::Found { value } = answer else {
-            return Err("no value".into());
-        };
-        assert_eq!(rt; value.as_slice(), b"v".as_slice());
-        Ok(())
-    }
-
-    #[test]
-    fn names_and_limits(rt: HostRuntime) -> Result<(), Fail> {
-        let alloc = rt.alloc();
-        let mut disk = MemDisk::new(alloc, Vec::new(alloc));
-        open_store(alloc, &mut disk)?;
-        let mut store = Replayer::new(alloc);
-        assert!(rt;
-            matches!(
-                store.line(&mut disk, view(alloc, "b")?)?,
-                Answer::Number { number: 0 }
-            )
-        );
-        assert!(rt;
-            matches!(
-                store.line(&mut disk, begin(alloc, "b")?)?,
-                Answer::Taken { .. }
-            )
-        );
-        assert!(rt; matches!(store.line(&mut disk, begin(alloc, "c")?)?, Answer::TooMany));
-        assert!(rt;
-            matches!(
-                store.line(&mut disk, get(alloc, "q", "k")?)?,
-                Answer::Unknown { .. }
-            )
-        );
-        assert!(rt;
-            matches!(
-                store.line(&mut disk, get(alloc, "b", "k")?)?,
-                Answer::NoValue
-            )
-        );
-        assert!(rt;
-            matches!(
-                store.line(&mut disk, get(alloc, "b", "")?)?,
-                Answer::Invalid
-            )
-        );
-        assert!(rt;
-            matches!(
-                store.line(&mut disk, set(alloc, "b", "k", "v")?)?,
-                Answer::ReadOnly
-            )
-        );
-        assert!(rt;
-            matches!(
-                store.line(&mut disk, commit(alloc, "b")?)?,
-                Answer::ReadOnly
-            )
-        );
-        Ok(())
-    }
-
-    #[test]
-    fn a_commit_without_writes_is_none(rt: HostRuntime) -> Result<(), Fail> {
-        let alloc = rt.alloc();
-        let mut disk = MemDisk::new(alloc, Vec::new(alloc));
-        open_store(alloc, &mut disk)?;
-        let mut store = Replayer::new(alloc);
-        assert!(rt;
-            matches!(
-                store.line(&mut disk, begin(alloc, "a")?)?,
-                Answer::Number { number: 0 }
-            )
-        );
-        assert!(rt;
-            matches!(
-                store.line(&mut disk, set(alloc, "a", "", "v")?)?,
-                Answer::Invalid
-            )
-        );
-        assert!(rt; matches!(store.line(&mut disk, commit(alloc, "a")?)?, Answer::Nothing));
-        assert!(rt;
-            matches!(
-                store.line(&mut disk, begin(alloc, "a")?)?,
-                Answer::Number { number: 0 }
-            )
-        );
-        Ok(())
+        self.disk
     }
 }

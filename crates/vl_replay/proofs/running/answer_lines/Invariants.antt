@@ -11,11 +11,11 @@ invariant-lines g l =
     let held = g.K.Sink.held in
     record {
       under_way : (input : List ℕ) → left l.fn.source ≡ Some input
-          → UnderWay g.D.Disk.told g.D.Disk.moment g.D.Disk.states_since l.fn.disk l.disk (g.S.Source.faults l.fn.source) (g.D.Disk.faults l.fn.disk) input l.progress.replayer l.progress.answered l.progress.buffer (left l.source) (g.S.Source.asked l.source) (held l.fn.sink) (held l.sink);
+          → UnderWay g.D.Disk.told g.D.Disk.moment g.D.Disk.states_since l.fn.replayer.disk l.progress.replayer.disk (g.S.Source.faults l.fn.source) (g.D.Disk.faults l.fn.replayer.disk) input l.progress.replayer.store l.progress.answered l.progress.buffer (left l.source) (g.S.Source.asked l.source) (held l.fn.sink) (held l.sink);
       steady : g.S.Source.faults l.source ≡ g.S.Source.faults l.fn.source;
       sink_steady : g.K.Sink.faults l.sink ≡ g.K.Sink.faults l.fn.sink;
-      disk_steady : g.D.Disk.faults l.disk ≡ g.D.Disk.faults l.fn.disk;
-      stands : ForSome (g.D.Disk.told l.disk) (Stands LOG);
+      disk_steady : g.D.Disk.faults l.progress.replayer.disk ≡ g.D.Disk.faults l.fn.replayer.disk;
+      stands : ForSome (g.D.Disk.told l.progress.replayer.disk) (Stands LOG);
     }
 
 abbrev pub decreases-lines : goal.decreases-lines

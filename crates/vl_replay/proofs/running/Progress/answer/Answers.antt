@@ -5,5 +5,5 @@ use Rattle.vl_replay.proofs.running.Progress.answer.Goals as goal
 
 pub returns-clause-takes : goal.returns-clause-takes
 returns-clause-takes g c begun s state stands is holds =
-    subst (λ text. CarriesOutText g.D.Disk.told g.D.Disk.moment g.D.Disk.states_since g.D.Disk.faults c.args.disk.now c.answer-ended.new.disk begun s text (IsAnswered c.answer-ended.result)) c.deref.ensures.value
+    subst (λ text. CarriesOutText g.D.Disk.told g.D.Disk.moment g.D.Disk.states_since g.D.Disk.faults c.args.self.now.replayer.disk c.answer-ended.new.replayer.disk begun s text (IsAnswered c.answer-ended.result)) c.deref.ensures.value
     (c.answer-ended.ensures.takes begun s state stands is holds)

@@ -2,7 +2,7 @@ use Rattle.std.proofs.Common.{◌≡◌, ap, ◌∙◌, sym}
 use Rattle.std.specs.Option.{option_copied}
 use Rattle.vl_replay.specs.Represents.{thing_named}
 use Rattle.vl_replay.proofs.States.{gives_taken, gives_full, gives_open}
-use Rattle.vl_replay.proofs.replayer.Replayer.open.Goals as goal
+use Rattle.vl_replay.proofs.replayer.store.Store.open.Goals as goal
 
 pub returns-then-is_some : goal.returns-then-is_some
 returns-then-is_some c s opens rep stands =

@@ -5,8 +5,8 @@ use Rattle.vl_replay.specs.Sequential.{written}
 use Rattle.vl_replay.specs.Represents.{IsOpen, Represents, Gives}
 use Rattle.vl_script.specs.declared.answer.Answer.TheVariants.{Unknown}
 use Rattle.vl_replay.proofs.States.{IsInUse, held_in_use, other_in_use, none_in_use, gives_as, stands_kept, gives_write}
-use Rattle.vl_replay.proofs.replayer.Replayer.set.Goals as goal
-use Rattle.vl_replay.proofs.replayer.Replayer.set.Goals.{in_default-via-in-Some+else-is_named, in_default-via-in_default}
+use Rattle.vl_replay.proofs.replayer.store.Store.set.Goals as goal
+use Rattle.vl_replay.proofs.replayer.store.Store.set.Goals.{in_default-via-in-Some+else-is_named, in_default-via-in_default}
 
 pub returns-in-View-clause-answer : goal.returns-in-View-clause-answer
 returns-in-View-clause-answer c s rep =

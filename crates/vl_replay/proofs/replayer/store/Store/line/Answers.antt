@@ -6,7 +6,7 @@ use Rattle.vl_replay.specs.Sequential.{OpenTransaction, OpenView, state_after}
 use Rattle.vl_replay.specs.Durable.{CarriesOut}
 use Rattle.vl_replay.proofs.Logged.{kept_opened, kept_read, kept_written}
 use Rattle.vl_replay.proofs.Commits.{no_cause, carries_kept}
-use Rattle.vl_replay.proofs.replayer.Replayer.line.Goals as goal
+use Rattle.vl_replay.proofs.replayer.store.Store.line.Goals as goal
 
 pub returns-in-Begin-clause-carries : goal.returns-in-Begin-clause-carries
 returns-in-Begin-clause-carries g c begun s state rep told_is holds_state =

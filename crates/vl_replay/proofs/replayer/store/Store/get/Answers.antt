@@ -8,7 +8,7 @@ use Rattle.vl_replay.specs.Sequential.{read, found}
 use Rattle.vl_replay.specs.Represents.{thing_named}
 use Rattle.vl_replay.specs.declared.replayer.open.Thing.TheVariants.{Transaction, View}
 use Rattle.vl_replay.proofs.States.{unnamed, named, gives_as, gives_if_ok, read_invalid, read_view, read_own, read_noted}
-use Rattle.vl_replay.proofs.replayer.Replayer.get.Goals as goal
+use Rattle.vl_replay.proofs.replayer.store.Store.get.Goals as goal
 
 pub returns-in_default-clause-answer : goal.returns-in_default-clause-answer
 returns-in_default-clause-answer c s rep =

@@ -9,7 +9,7 @@ use Rattle.vl_script.specs.declared.answer.Answer.TheVariants.{Number, Unknown, 
 use Rattle.vl_model.specs.declared.counter.Counter.TheVariants.{Commit as CommitNumber}
 use Rattle.vl_replay.proofs.States.{unnamed, named, held_is, same_writes, gives_as, Takes, gives_nothing, gives_exhausted, longer, gives_log_full, gives_commit}
 use Rattle.vl_replay.proofs.Commits.{nothing_is, exhausted_is, full_is, commit_is, is_commit, has_frame, frame_is, carries_as, carries_kept, carries_no_memory, carries_failed, carries_commit}
-use Rattle.vl_replay.proofs.replayer.Replayer.commit.Goals as goal
+use Rattle.vl_replay.proofs.replayer.store.Store.commit.Goals as goal
 
 pub returns-in_default-clause-answer : goal.returns-in_default-clause-answer
 returns-in_default-clause-answer g c s rep =
