@@ -7,16 +7,16 @@ use Rattle.std.specs.Prelude.{Option, Some, None, ◌==◌, ◌&&◌, nat_le, op
 use Rattle.std.specs.FinMap.{FinMap, get, insert, remove, len, empty, contains_key, get-insert, get-remove, len-insert, len-remove, len-empty, empty_of_len, get-empty}
 use Rattle.std.specs.Cmp.Lexicographic.{nat_list_cmp_total}
 use Rattle.std.specs.Ordering.{eq_by_cmp}
-use Rattle.vl_model.specs.Keys.{Writes, key_cmp, is_key_length, is_value_length}
+use Rattle.vl_model.specs.Keys.{Writes, key_cmp, is_key_length}
 use Rattle.vl_model.specs.History.{History, last_number, with_commit, value_at, commits_up_to}
 use Rattle.vl_model.specs.Reads.{Read, KeyRead, RangeRead, IsExplained, IsExplainedRead}
 use Rattle.vl_model.specs.declared.change.Change.{Change}
-use Rattle.vl_model.specs.declared.change.Change.TheVariants.{Set as Put}
-use Rattle.vl_replay.specs.Sequential.{Thing, OpenTransaction, OpenView, State, Outcome, empty_store, with_thing, without_thing, opened, found, read, read_in_transaction, written, committed, after_commit, frame_length, fits_transaction, answer_to, state_after}
+use Rattle.vl_model.specs.declared.change.Change.TheVariants.{Set as Put, Delete}
+use Rattle.vl_replay.specs.Sequential.{Thing, OpenTransaction, OpenView, State, Outcome, empty_store, with_thing, without_thing, opened, found, read, read_in_transaction, is_lawful_write, written, committed, dropped, after_commit, frame_length, fits_transaction, answer_to, state_after}
 use Rattle.vl_script.specs.Script.{line_of}
 use Rattle.vl_replay.specs.Replay.{exchanged, exchanges_from, and_later, is_printed, IsExplainedExchange, AreExplained, ended_lines, KeepsUp}
 use Rattle.vl_script.specs.declared.line.Line.{Line}
-use Rattle.vl_script.specs.declared.line.Line.TheVariants.{Begin, View, Get, Set, Commit}
+use Rattle.vl_script.specs.declared.line.Line.TheVariants.{Begin, View, Get, Set, Delete as DeleteLine, Commit, Drop}
 use Rattle.vl_script.specs.declared.answer.Answer.TheVariants.{Number, Done, TooBig, Full, Exhausted}
 use Rattle.vl_model.specs.declared.counter.Counter.TheVariants.{Commit as CommitNumber}
 use Rattle.vl_model.specs.declared.limits.TheConstants.{MAX_COMMIT_NUMBER}
@@ -105,13 +105,13 @@ read-sound s name key (Some (OpenView number)) sound is =
 read-sound s name key (Some (OpenTransaction number reads writes)) sound is =
     pick (λ r. IsSound r.1) (is_key_length (length key)) _ _ (λ ok. read_in_transaction-sound s name key number reads writes (get writes key) sound is) (λ bad. sound)
 
-written-sound : (s : State) (name key value : List ℕ) (o : Option Thing) → IsSound s → get s.things name ≡ o → IsSound (written s name key value o).1
-written-sound s name key value None sound is = sound
-written-sound s name key value (Some (OpenView number)) sound is = sound
-written-sound s name key value (Some (OpenTransaction number reads writes)) sound is =
+written-sound : (s : State) (name key : List ℕ) (change : Change) (o : Option Thing) → IsSound s → get s.things name ≡ o → IsSound (written s name key change o).1
+written-sound s name key change None sound is = sound
+written-sound s name key change (Some (OpenView number)) sound is = sound
+written-sound s name key change (Some (OpenTransaction number reads writes)) sound is =
     let now = sound.current name (OpenTransaction number reads writes) is in
-    pick (λ r. IsSound r.1) (not (is_key_length (length key) && is_value_length (length value))) _ _ (λ bad. sound) (λ ok.
-    let new : Writes = insert writes key (Put value) in
+    pick (λ r. IsSound r.1) (not (is_lawful_write key change)) _ _ (λ bad. sound) (λ ok.
+    let new : Writes = insert writes key change in
     let next : Thing = OpenTransaction number reads new in
     pick (λ r. IsSound r.1) (fits_transaction new) (Done, with_thing s name next) (TooBig, s) (λ fits. with_thing-sound s name next sound now (same_len s name (OpenTransaction number reads writes) next sound is)) (λ big. sound))
 
@@ -144,12 +144,18 @@ committed-sound s name (Some (OpenTransaction number reads writes)) sound is =
     pick (λ r. IsSound r.1) (nat_le MAX_COMMIT_NUMBER (last_number s.history)) (Exhausted CommitNumber, s) (cond (has_room s writes) (accepted s name writes) (Full, s)) (λ exhausted. sound) (λ left.
     pick (λ r. IsSound r.1) (has_room s writes) (accepted s name writes) (Full, s) (λ room. accepted-sound s name number reads writes sound is) (λ full. sound)))
 
+dropped-sound : (s : State) (name : List ℕ) (o : Option Thing) → IsSound s → IsSound (dropped s name o).1
+dropped-sound s name None sound = sound
+dropped-sound s name (Some thing) sound = without_thing-sound s name sound
+
 pub state_after-sound : (s : State) (line : Line) → IsSound s → IsSound (state_after s line)
 state_after-sound s (Begin name) sound = opened-sound s name (OpenTransaction (last_number s.history) [] empty) sound (tt, refl)
 state_after-sound s (View name) sound = opened-sound s name (OpenView (last_number s.history)) sound refl
 state_after-sound s (Get name key) sound = read-sound s name key (get s.things name) sound refl
-state_after-sound s (Set name key value) sound = written-sound s name key value (get s.things name) sound refl
+state_after-sound s (Set name key value) sound = written-sound s name key (Put value) (get s.things name) sound refl
+state_after-sound s (DeleteLine name key) sound = written-sound s name key Delete (get s.things name) sound refl
 state_after-sound s (Commit name) sound = committed-sound s name (get s.things name) sound refl
+state_after-sound s (Drop name) sound = dropped-sound s name (get s.things name) sound
 
 -- a commit leaves what stood at the numbers before it
 earlier_commits : (h : History) (writes : Writes) (n : ℕ) → n ≤ last_number h → commits_up_to (with_commit h writes) n ≡ commits_up_to h n
@@ -189,6 +195,8 @@ exchange_explained s (Begin name) sound printed = tt
 exchange_explained s (View name) sound printed = tt
 exchange_explained s (Get name key) sound printed = λ number is. view_read s name key number (get s.things name) is printed
 exchange_explained s (Set name key value) sound printed = tt
+exchange_explained s (DeleteLine name key) sound printed = tt
+exchange_explained s (Drop name) sound printed = tt
 exchange_explained s (Commit name) sound printed = λ number reads writes n is e. commit_explained s name number reads writes n (get s.things name) sound is is e
 
 exchange_of : (s : State) (line : Line) (texts : List (List ℕ)) (b : Bool) → is_printed (answer_to s line) ≡ b → IsSound s → ((s' : State) → IsSound s' → AreExplained (exchanges_from s' texts)) →

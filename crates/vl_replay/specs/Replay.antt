@@ -9,7 +9,7 @@ use Rattle.vl_model.specs.Keys.{Writes}
 use Rattle.vl_replay.specs.Sequential.{State, outcome, OpenTransaction, OpenView, found}
 use Rattle.vl_script.specs.Script.{line_of, lines_of, text_of}
 use Rattle.vl_script.specs.declared.line.Line.{Line}
-use Rattle.vl_script.specs.declared.line.Line.TheVariants.{Begin, View, Get, Set, Commit}
+use Rattle.vl_script.specs.declared.line.Line.TheVariants.{Begin, View, Get, Set, Delete, Commit, Drop}
 use Rattle.vl_script.specs.declared.answer.Answer.{Answer}
 use Rattle.vl_script.specs.declared.answer.Answer.TheVariants.{Done, Number, Found, NoValue, Taken, Unknown, ReadOnly, Invalid, TooBig, TooMany, Nothing, Full, Exhausted}
 use Rattle.vl_replay.specs.declared.ending.Ending.{Ending}
@@ -166,9 +166,11 @@ IsExplainedExchange (View name) e = Unit {0}
 IsExplainedExchange (Get name key) e =
     (number : ℕ) → get e.before.things name ≡ Some (OpenView number) → e.answer ≡ found (value_at e.before.history number key)
 IsExplainedExchange (Set name key value) e = Unit {0}
+IsExplainedExchange (Delete name key) e = Unit {0}
 IsExplainedExchange (Commit name) e =
     (number : ℕ) (reads : List Read) (writes : Writes) (n : ℕ) → get e.before.things name ≡ Some (OpenTransaction number reads writes)
     → e.answer ≡ Number n → IsExplained e.after.history (n - 1) reads × (number ≡ last_number e.before.history)
+IsExplainedExchange (Drop name) e = Unit {0}
 
 -- so it is in each of these exchanges
 abbrev pub AreExplained : List Exchange → Type 0
