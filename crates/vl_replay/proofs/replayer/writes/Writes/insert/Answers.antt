@@ -1,4 +1,4 @@
-use Rattle.std.proofs.Common.{◌≡◌, IsTrue, ap, ◌∙◌}
+use Rattle.std.proofs.Common.{ap, ◌∙◌}
 use Rattle.std.specs.FinMap.{insert}
 use Rattle.vl_replay.specs.Sequential.{write_bytes}
 use Rattle.vl_replay.proofs.WriteEntries.{lawful_record, AreWrites-put, writes_of-put}
