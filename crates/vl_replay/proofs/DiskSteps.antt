@@ -1,6 +1,6 @@
 -- What a line does to a disk that holds the state before it.
-use Rattle.std.proofs.Common.{◌≡◌, ◌⊎◌, ⊎_elim, inl, inr, ℕ, zero, suc, ◌≤◌, List, [], ◌∷◌, ◌++◌, take, append-nil, append_assoc, Option, None, Some, Bool, true, false, cond, refl, sym, ◌∙◌, ap, subst}
-use Rattle.std.specs.Prelude.{option_and_then}
+use Rattle.std.proofs.Common.{◌≡◌, ◌⊎◌, ⊎_elim, inl, inr, ℕ, zero, suc, ◌≤◌, List, [], ◌∷◌, ◌++◌, take, append-nil, append_assoc, Option, None, Some, refl, sym, ◌∙◌, ap, subst}
+use Rattle.std.specs.Option.{option_map}
 use Rattle.vl_model.specs.History.{History}
 use Rattle.vl_disk.specs.Faults.{Rose}
 use Rattle.vl_disk.specs.DiskState.{DiskState}
@@ -14,8 +14,8 @@ use Rattle.vl_journal.specs.StoreFiles.{same_has}
 use Rattle.vl_journal.specs.StoreImages.{leaves_all}
 use Rattle.vl_script.specs.declared.line.Line.{Line}
 use Rattle.vl_script.specs.Script.{line_of}
-use Rattle.vl_replay.specs.Sequential.{State, empty_store, state_after, answer_to}
-use Rattle.vl_replay.specs.Replay.{Exchange, exchange_at, exchanged, exchanges_from, and_later, history_after, is_printed}
+use Rattle.vl_replay.specs.Sequential.{State, empty_store, state_after}
+use Rattle.vl_replay.specs.Replay.{Exchange, exchange_at, exchanged, exchanges_from, and_later, history_after}
 use Rattle.vl_replay.specs.Durable.{logged, HoldsHistory, HoldsState, AreFirstOf, AreBetween, history_behind, EndsBetweenLines, CutsAnswer, GoesAlong, DiskEnds}
 use Rattle.vl_replay.specs.declared.ending.Ending.{Ending}
 use Rattle.vl_replay.proofs.Logged.{line_extends}
@@ -62,13 +62,12 @@ leaves_weaker P Q weaker state leaves image may chance = let left = leaves image
 -- ---- exchanges
 
 -- what an exchange leaves
-printed_exchange : (s : State) (line : Line) (t : Bool) (e : Exchange) → cond t (Some (record { before = s; line = line; answer = answer_to s line; after = state_after s line })) None ≡ Some e → e.after ≡ state_after s line
-printed_exchange s line true e is = cc
-printed_exchange s line false e is = cc
+pub exchange_leaves : (s : State) (line : Line) (e : Exchange) → Some (exchanged s line) ≡ Some e → e.after ≡ state_after s line
+exchange_leaves s line e is = cc
 
-exchange_after : (s : State) (o : Option Line) (e : Exchange) → option_and_then (exchanged s) o ≡ Some e → (line : Line) × (e.after ≡ state_after s line)
+exchange_after : (s : State) (o : Option Line) (e : Exchange) → option_map (exchanged s) o ≡ Some e → (line : Line) × (e.after ≡ state_after s line)
 exchange_after s None e is = cc
-exchange_after s (Some line) e is = (line, printed_exchange s line (is_printed (answer_to s line)) e is)
+exchange_after s (Some line) e is = (line, exchange_leaves s line e is)
 
 pub exchange_extends : (s : State) (text : List ℕ) (e : Exchange) → exchange_at s text ≡ Some e → Extends s.history e.after.history
 exchange_extends s text e is =

@@ -1,5 +1,5 @@
 -- What a line leaves of the commits that the disk must hold, and what a commit adds to them.
-use Rattle.std.proofs.Common.{◌≡◌, ◌+◌, ◌-◌, ◌*◌, ◌^◌, ◌⊎◌, ◌==◌, ◌&&◌, not, min, ℕ, Bool, true, false, cond, List, [], ◌∷◌, ◌++◌, length, refl, ap, sym, ◌∙◌, arith, subst, length-append, inl, inr, append-nil}
+use Rattle.std.proofs.Common.{◌≡◌, ◌+◌, ◌-◌, ◌*◌, ◌^◌, ◌⊎◌, ◌==◌, not, min, ℕ, Bool, true, false, cond, List, [], ◌∷◌, ◌++◌, length, refl, ap, sym, ◌∙◌, arith, subst, length-append, inl, inr, append-nil}
 use Rattle.std.proofs.lemmas.List.Sums.{sum_by-cons}
 use Rattle.std.specs.FinMap.{get, insert, contains_key, entries, len, len-entries, empty}
 use Rattle.std.specs.List.{sum_by}
@@ -7,7 +7,7 @@ use Rattle.std.specs.Prelude.{Option, Some, None, nat_le}
 use Rattle.vl_disk.specs.DiskState.{DiskState}
 use Rattle.vl_journal.specs.Files.{Holds}
 use Rattle.vl_model.specs.History.{History, last_number, value_at, with_commit}
-use Rattle.vl_model.specs.Keys.{Writes, is_key_length, is_value_length}
+use Rattle.vl_model.specs.Keys.{Writes, is_key_length}
 use Rattle.vl_model.specs.Reads.{Read}
 use Rattle.vl_model.specs.declared.change.Change.{Change}
 use Rattle.vl_model.specs.declared.change.Change.TheVariants.{Set as Put, Delete}
@@ -16,13 +16,12 @@ use Rattle.vl_model.specs.declared.limits.TheConstants.{MAX_COMMIT_NUMBER}
 use Rattle.vl_record.specs.Record.{record_length, value_bytes}
 use Rattle.vl_script.specs.declared.answer.Answer.TheVariants.{Done, Number, Taken, Invalid, TooBig, TooMany, Nothing, Full, Exhausted}
 use Rattle.vl_script.specs.declared.line.Line.{Line}
-use Rattle.vl_script.specs.declared.line.Line.TheVariants.{Begin, View, Get, Set, Commit as CommitLine}
+use Rattle.vl_script.specs.declared.line.Line.TheVariants.{Begin, View, Get, Set, Delete as DeleteLine, Commit as CommitLine, Drop}
 use Rattle.vl_seglog.specs.Laws.{commit_frame-length, header_length, log_bytes-length-more, log_bytes-none}
 use Rattle.vl_seglog.specs.Log.{Commit, commit_frame, log_bytes}
 use Rattle.vl_replay.specs.declared.replayer.limits.TheConstants.{MAX_OPEN, MAX_LOG_BYTES}
 use Rattle.vl_replay.specs.Durable.{numbered, logged, HoldsState}
-use Rattle.vl_replay.specs.Replay.{is_printed}
-use Rattle.vl_replay.specs.Sequential.{State, Thing, Outcome, OpenTransaction, OpenView, empty_store, with_thing, without_thing, opened, found, read, read_in_transaction, written, committed, change_bytes, fits_transaction, frame_length, after_commit, answer_to, state_after}
+use Rattle.vl_replay.specs.Sequential.{State, Thing, Outcome, OpenTransaction, OpenView, empty_store, with_thing, without_thing, opened, found, read, read_in_transaction, is_lawful_write, written, committed, dropped, change_bytes, fits_transaction, frame_length, after_commit, state_after}
 
 -- ---- one commit more
 
@@ -92,9 +91,9 @@ either P false x y p q = q
 abbrev Keeps : State → Outcome → Type 0
 Keeps s o = (o.1.history ≡ s.history) × (o.1.log_length ≡ s.log_length)
 
--- a commit's number is answered, and its writes are the last commit
+-- some writes are the last commit
 abbrev Adds : State → Outcome → Type 0
-Adds s o = (n : ℕ) × (o.0 ≡ Number n) × ((writes : Writes) × (o.1.history ≡ with_commit s.history writes))
+Adds s o = (writes : Writes) × (o.1.history ≡ with_commit s.history writes)
 
 pub kept_opened : (s : State) (name : List ℕ) (thing : Thing) → ((opened s name thing).1.history ≡ s.history) × ((opened s name thing).1.log_length ≡ s.log_length)
 kept_opened s name thing =
@@ -113,18 +112,22 @@ kept_read s name key (Some (OpenView number)) = either (Keeps s) (is_key_length 
 kept_read s name key (Some (OpenTransaction number reads writes)) =
     either (Keeps s) (is_key_length (length key)) (read_in_transaction s name key number reads writes (get writes key)) (Invalid, s) (kept_read_in s name key number reads writes (get writes key)) (refl, refl)
 
-pub kept_written : (s : State) (name key value : List ℕ) (thing : Option Thing) → ((written s name key value thing).1.history ≡ s.history) × ((written s name key value thing).1.log_length ≡ s.log_length)
-kept_written s name key value None = (refl, refl)
-kept_written s name key value (Some (OpenView number)) = (refl, refl)
-kept_written s name key value (Some (OpenTransaction number reads writes)) =
-    let more = insert writes key (Put value) in
+pub kept_written : (s : State) (name key : List ℕ) (change : Change) (thing : Option Thing) → ((written s name key change thing).1.history ≡ s.history) × ((written s name key change thing).1.log_length ≡ s.log_length)
+kept_written s name key change None = (refl, refl)
+kept_written s name key change (Some (OpenView number)) = (refl, refl)
+kept_written s name key change (Some (OpenTransaction number reads writes)) =
+    let more = insert writes key change in
     let done : Outcome = (Done, with_thing s name (OpenTransaction number reads more)) in
     let lawful : Outcome = cond (fits_transaction more) done (TooBig, s) in
-    either (Keeps s) (not (is_key_length (length key) && is_value_length (length value))) (Invalid, s) lawful (refl, refl)
+    either (Keeps s) (not (is_lawful_write key change)) (Invalid, s) lawful (refl, refl)
     (either (Keeps s) (fits_transaction more) done (TooBig, s) (refl, refl) (refl, refl))
 
+pub kept_dropped : (s : State) (name : List ℕ) (thing : Option Thing) → ((dropped s name thing).1.history ≡ s.history) × ((dropped s name thing).1.log_length ≡ s.log_length)
+kept_dropped s name None = (refl, refl)
+kept_dropped s name (Some thing) = (refl, refl)
+
 pub committed_keeps : (s : State) (name : List ℕ) (thing : Option Thing) → (((committed s name thing).1.history ≡ s.history) × ((committed s name thing).1.log_length ≡ s.log_length))
-    ⊎ ((n : ℕ) × ((committed s name thing).0 ≡ Number n) × ((writes : Writes) × ((committed s name thing).1.history ≡ with_commit s.history writes)))
+    ⊎ ((writes : Writes) × ((committed s name thing).1.history ≡ with_commit s.history writes))
 committed_keeps s name None = inl (refl, refl)
 committed_keeps s name (Some (OpenView number)) = inl (refl, refl)
 committed_keeps s name (Some (OpenTransaction number reads writes)) =
@@ -135,7 +138,7 @@ committed_keeps s name (Some (OpenTransaction number reads writes)) =
     let some : Outcome = cond (nat_le MAX_COMMIT_NUMBER (last_number s.history)) (Exhausted CommitNumber, s) has_number in
     either (λ o. Keeps s o ⊎ Adds s o) (len writes == 0) (Nothing, without_thing s name) some (inl (refl, refl))
     (either (λ o. Keeps s o ⊎ Adds s o) (nat_le MAX_COMMIT_NUMBER (last_number s.history)) (Exhausted CommitNumber, s) has_number (inl (refl, refl))
-    (either (λ o. Keeps s o ⊎ Adds s o) fits done (Full, s) (inr (number, refl, (writes, refl))) (inl (refl, refl))))
+    (either (λ o. Keeps s o ⊎ Adds s o) fits done (Full, s) (inr (writes, refl)) (inl (refl, refl))))
 
 -- where the history stays, nothing is added
 same_logged : (h after : History) → after ≡ h → (more : List Commit) × (logged after ≡ logged h ++ more)
@@ -149,19 +152,10 @@ pub line_extends : (s : State) (line : Line) → (more : List Commit) × (logged
 line_extends s (Begin name) = same_logged _ _ (kept_opened s name (OpenTransaction (last_number s.history) [] empty)).0
 line_extends s (View name) = same_logged _ _ (kept_opened s name (OpenView (last_number s.history))).0
 line_extends s (Get name key) = same_logged _ _ (kept_read s name key (get s.things name)).0
-line_extends s (Set name key value) = same_logged _ _ (kept_written s name key value (get s.things name)).0
+line_extends s (Set name key value) = same_logged _ _ (kept_written s name key (Put value) (get s.things name)).0
+line_extends s (DeleteLine name key) = same_logged _ _ (kept_written s name key Delete (get s.things name)).0
+line_extends s (Drop name) = same_logged _ _ (kept_dropped s name (get s.things name)).0
 line_extends s (CommitLine name) = elim (committed_keeps s name (get s.things name)) [
   | inl kept ↦ same_logged _ _ kept.0
-  | inr added ↦ one_logged _ _ added.2.0 added.2.1
-]
-
--- a line whose answer isn't printed leaves the history as it was
-pub unprinted_keeps : (s : State) (line : Line) → is_printed (answer_to s line) ≡ false → ((state_after s line).history ≡ s.history) × ((state_after s line).log_length ≡ s.log_length)
-unprinted_keeps s (Begin name) unprinted = kept_opened s name (OpenTransaction (last_number s.history) [] empty)
-unprinted_keeps s (View name) unprinted = kept_opened s name (OpenView (last_number s.history))
-unprinted_keeps s (Get name key) unprinted = kept_read s name key (get s.things name)
-unprinted_keeps s (Set name key value) unprinted = kept_written s name key value (get s.things name)
-unprinted_keeps s (CommitLine name) unprinted = elim (committed_keeps s name (get s.things name)) [
-  | inl kept ↦ kept
-  | inr added ↦ let printed : true ≡ false = sym (ap is_printed added.1) ∙ unprinted in cc
+  | inr added ↦ one_logged _ _ added.0 added.1
 ]

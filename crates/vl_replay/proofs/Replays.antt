@@ -2,7 +2,8 @@
 use Rattle.std.proofs.Common.{append_assoc, append-nil, ◌≡◌, ◌≢◌, ◌+◌, ◌-◌, ◌^◌, ◌<◌, ◌≤◌, ℕ, suc, min, List, [], ◌∷◌, ◌++◌, length, take, drop, refl, ap, sym, ◌∙◌, Bool, true, false, arith, subst, inl, inr, zero-le, one-add, cond}
 use Rattle.std.proofs.lemmas.List.{take-append-drop}
 use Rattle.std.proofs.lemmas.Bool.{ne_eqb}
-use Rattle.std.specs.Prelude.{MatchOption, Option, Some, None, codes, ◌==◌, option_and_then, nat_le}
+use Rattle.std.specs.Prelude.{MatchOption, Option, Some, None, codes, ◌==◌, nat_le}
+use Rattle.std.specs.Option.{option_map}
 use Rattle.std.specs.Fmt.{decimal}
 use Rattle.vl_io.specs.Sink.{Takes, TakesPrefix}
 use Rattle.vl_replay.specs.Sequential.{State, answer_to, state_after}
@@ -10,7 +11,7 @@ use Rattle.vl_script.specs.declared.line.Line.{Line}
 use Rattle.vl_script.specs.declared.answer.Answer.{Answer}
 use Rattle.vl_script.specs.Script.{text_of, lines_of, line_of}
 use Rattle.vl_replay.specs.Input.{HasNoLineEnd}
-use Rattle.vl_replay.specs.Replay.{Exchange, exchange_at, exchanged, is_printed, exchanges_from, and_later, answers_text, line_number, bad_line, no_memory_line, disk_fault_line, not_a_store_line, read_fault_line, ended_lines, KeepsUp, FailsToRead, LastPiece, last_bad_line, last_no_memory, last_disk_fault, last_not_a_store, last_read_fault, EndsSo, Replays}
+use Rattle.vl_replay.specs.Replay.{Exchange, exchange_at, exchanged, exchanges_from, and_later, answers_text, line_number, bad_line, no_memory_line, disk_fault_line, not_a_store_line, read_fault_line, ended_lines, KeepsUp, FailsToRead, LastPiece, last_bad_line, last_no_memory, last_disk_fault, last_not_a_store, last_read_fault, EndsSo, Replays}
 use Rattle.vl_replay.specs.Steps.{Finishes, EndsBefore, SinkCounts, Counts}
 use Rattle.vl_script.specs.declared.limits.TheConstants.{MAX_LINE_BYTES}
 use Rattle.std.proofs.lemmas.Bool.Decides.{nat_tests}
@@ -231,20 +232,13 @@ bad_line_text answered before number line e n text =
     let same : number ≡ line_number (before + 1) = omega arith in
     text ∙ ap (λ (k : ℕ). codes "bad line " ++ decimal k ++ (10 ∷ [])) same
 
-chosen_true : {A : Type 0} (t : Bool) (x y : A) → t ≡ true → cond t x y ≡ x
-chosen_true true x y e = refl
-chosen_true false x y e = absurd (cc)
-
 abbrev some_exchange : State → Line → Answer → Option Exchange
 some_exchange s line answer = Some (record { before = s; line = line; answer = answer; after = state_after s line })
 
 -- the exchange that an answered line is
-pub exchange_at-answered : (s : State) (text : List ℕ) (line : Line) (answer : Answer) → line_of text ≡ Some line → answer ≡ answer_to s line → is_printed answer ≡ true →
+pub exchange_at-answered : (s : State) (text : List ℕ) (line : Line) (answer : Answer) → line_of text ≡ Some line → answer ≡ answer_to s line →
     exchange_at s text ≡ Some (record { before = s; line = line; answer = answer; after = state_after s line })
-exchange_at-answered s text line answer spelled answered printed =
-    ap (option_and_then (exchanged s)) spelled
-    ∙ chosen_true (is_printed (answer_to s line)) _ None (ap is_printed (sym answered) ∙ printed)
-    ∙ ap (some_exchange s line) (sym answered)
+exchange_at-answered s text line answer spelled answered = ap (option_map (exchanged s)) spelled ∙ ap (some_exchange s line) (sym answered)
 
 -- what was counted where the source counted nothing
 pub counts_of_sink : (ending : Ending) (source source' sink sink' : ℕ) → source' ≡ source → SinkCounts ending sink sink' → Counts ending source source' sink sink'
@@ -273,7 +267,7 @@ chosen_false false x y e = refl
 
 -- a line that is too long is a bad one
 pub too_long_is_bad : (s : State) (text : List ℕ) → MAX_LINE_BYTES < length text → exchange_at s text ≡ None
-too_long_is_bad s text long = ap (option_and_then (exchanged s)) (chosen_false (nat_le (length text) MAX_LINE_BYTES) _ None (grind (arith, nat_tests)))
+too_long_is_bad s text long = ap (option_map (exchanged s)) (chosen_false (nat_le (length text) MAX_LINE_BYTES) _ None (grind (arith, nat_tests)))
 
 -- the source had no part in answering a line
 pub not_by_reading : (P : Type 0) (ended : Option Ending) (before now : ℕ) → MatchOption ended P (λ ending. SinkCounts ending before now) → ended ≡ Some ReadFault → ⊥

@@ -16,7 +16,7 @@ use Rattle.std.proofs.lemmas.Bool.{cond-true, cond-false, cases_lt, le-leb, lt-l
 use Rattle.std.proofs.lemmas.List.{take-append-le}
 use Rattle.std.proofs.lemmas.Map.Text.{is_eq-slice_cmp}
 use Rattle.std.proofs.lemmas.Slice.Eq.{bytes_eq-Decides}
-use Rattle.vl_model.specs.Keys.{Writes, key_cmp, is_key_length, is_value_length}
+use Rattle.vl_model.specs.Keys.{Writes, key_cmp, is_key_length}
 use Rattle.vl_model.specs.History.{History, no_history, last_number, with_commit, value_at, value_left, newer, last_change}
 use Rattle.vl_model.specs.Reads.{KeyRead}
 use Rattle.vl_model.specs.declared.change.Change.{Change}
@@ -24,7 +24,7 @@ use Rattle.vl_model.specs.declared.change.Change.TheVariants.{Set as Put, Delete
 use Rattle.vl_model.specs.HistoryLaws.{value_at-with_commit}
 use Rattle.vl_replay.specs.Memtable.{newest}
 use Rattle.vl_replay.specs.Sequential as sequential
-use Rattle.vl_replay.specs.Sequential.{State, Outcome, OpenTransaction, OpenView, with_thing, without_thing, opened, read, read_in_transaction, written, committed, frame_length, found, fits_transaction}
+use Rattle.vl_replay.specs.Sequential.{State, Outcome, OpenTransaction, OpenView, with_thing, without_thing, opened, read, read_in_transaction, is_lawful_write, written, committed, dropped, frame_length, found, fits_transaction}
 use Rattle.vl_replay.specs.Represents.{IsReadable, Shows, StandsFor, IsOpen, Represents, Gives, thing_named, write_answer, writes_after}
 use Rattle.vl_replay.specs.declared.replayer.entry.Entry.{Entry}
 use Rattle.vl_replay.specs.declared.replayer.open.Open.{Open}
@@ -33,7 +33,7 @@ use Rattle.vl_replay.specs.declared.replayer.open.Thing.TheVariants.{Transaction
 use Rattle.vl_replay.specs.declared.replayer.memtable.Memtable.{Memtable}
 use Rattle.vl_replay.specs.declared.replayer.store.Store.{Store}
 use Rattle.vl_script.specs.declared.answer.Answer.{Answer}
-use Rattle.vl_script.specs.declared.answer.Answer.TheVariants.{Done, Number, Taken, Invalid, TooBig, TooMany, Nothing, Full, Exhausted}
+use Rattle.vl_script.specs.declared.answer.Answer.TheVariants.{Done, Number, Taken, Unknown, Invalid, TooBig, TooMany, Nothing, Full, Exhausted}
 
 -- ---- one thing in use
 
@@ -228,17 +228,17 @@ pub stands_kept : (r : Store) (s : State) (held : Open) (kept : Thing) → Repre
 stands_kept r s held kept rep is e =
     record { last = rep.last; log_length = rep.log_length; shows = rep.shows; in_use = kept_open s.history s.things held kept (subst (λ o. IsOpen s.history o s.things) is rep.in_use) e }
 
-gives_write_answer : (r : Store) (s : State) (held : Open) (name key value : List ℕ) (number : ℕ) (writes : Writes) → Represents r s → r.in_use ≡ Some held → bytes_eq name held.name ≡ true → held.thing ≡ Transaction number writes →
-    Gives (write_answer writes key value) (with_kept r held (Transaction number (writes_after writes key value))) (written s name key value (get s.things name))
-gives_write_answer r s held name key value number writes rep is same kept_is =
+gives_write_answer : (r : Store) (s : State) (held : Open) (name key : List ℕ) (change : Change) (number : ℕ) (writes : Writes) → Represents r s → r.in_use ≡ Some held → bytes_eq name held.name ≡ true → held.thing ≡ Transaction number writes →
+    Gives (write_answer writes key change) (with_kept r held (Transaction number (writes_after writes key change))) (written s name key change (get s.things name))
+gives_write_answer r s held name key change number writes rep is same kept_is =
     let in_use = subst (λ o. IsOpen s.history o s.things) is rep.in_use in
     let holds = subst (IsInUse s.history s.things name) kept_is (held_in_use s.history s.things held name in_use same) in
     let reads = holds.stands.1.0 in
-    let more = insert writes key (Put value) in
+    let more = insert writes key change in
     let after : sequential.Thing = OpenTransaction number reads more in
     let unchanged = stands_kept r s held (Transaction number writes) rep is kept_is in
-    gives_as _ (ap (written s name key value) (holds.found_is ∙ ap Some holds.stands.1.1))
-    (elim (not (is_key_length (length key) && is_value_length (length value))) as (λ b.
+    gives_as _ (ap (written s name key change) (holds.found_is ∙ ap Some holds.stands.1.1))
+    (elim (not (is_lawful_write key change)) as (λ b.
     Gives (cond b Invalid (cond (fits_transaction more) Done TooBig)) (with_kept r held (Transaction number (cond b writes (cond (fits_transaction more) more writes))))
     (cond b (Invalid, s) (cond (fits_transaction more) (Done, with_thing s name after) (TooBig, s)))) [
       | true ↦ record { answer_is = refl; stands = unchanged }
@@ -252,13 +252,33 @@ gives_write_answer r s held name key value number writes rep is same kept_is =
           ]
     ])
 
-pub gives_write : (result : Result Answer Halt) (r : Store) (s : State) (held : Open) (name key value : List ℕ) (number : ℕ) (writes new : Writes) → Represents r s → r.in_use ≡ Some held → bytes_eq name held.name ≡ true → held.thing ≡ Transaction number writes →
-    IfOk result (λ a. a ≡ write_answer writes key value) → OnOk result (new ≡ writes_after writes key value) → IfOk result (λ a. Gives a (with_kept r held (Transaction number new)) (written s name key value (get s.things name)))
-gives_write (Ok a) r s held name key value number writes new rep is same kept_is answer_is new_is =
-    subst (λ x. Gives x (with_kept r held (Transaction number new)) (written s name key value (get s.things name))) (sym answer_is)
-    (subst (λ w. Gives (write_answer writes key value) (with_kept r held (Transaction number w)) (written s name key value (get s.things name))) (sym new_is)
-    (gives_write_answer r s held name key value number writes rep is same kept_is))
-gives_write (Err e) r s held name key value number writes new rep is same kept_is answer_is new_is = tt
+pub gives_write : (result : Result Answer Halt) (r : Store) (s : State) (held : Open) (name key : List ℕ) (change : Change) (number : ℕ) (writes new : Writes) → Represents r s → r.in_use ≡ Some held → bytes_eq name held.name ≡ true → held.thing ≡ Transaction number writes →
+    IfOk result (λ a. a ≡ write_answer writes key change) → OnOk result (new ≡ writes_after writes key change) → IfOk result (λ a. Gives a (with_kept r held (Transaction number new)) (written s name key change (get s.things name)))
+gives_write (Ok a) r s held name key change number writes new rep is same kept_is answer_is new_is =
+    subst (λ x. Gives x (with_kept r held (Transaction number new)) (written s name key change (get s.things name))) (sym answer_is)
+    (subst (λ w. Gives (write_answer writes key change) (with_kept r held (Transaction number w)) (written s name key change (get s.things name))) (sym new_is)
+    (gives_write_answer r s held name key change number writes rep is same kept_is))
+gives_write (Err e) r s held name key change number writes new rep is same kept_is answer_is new_is = tt
+
+-- ---- what ends
+
+-- the replayer with nothing in use
+abbrev pub with_none : Store → Store
+with_none r = record { alloc = r.alloc; last = r.last; log_length = r.log_length; memtable = r.memtable; in_use = None }
+
+pub stands_without : (r : Store) (s : State) (name : List ℕ) (kept : Thing) → Represents r s → IsInUse s.history s.things name kept → Represents (with_none r) (without_thing s name)
+stands_without r s name kept rep holds = record { last = rep.last; log_length = rep.log_length; shows = rep.shows; in_use = remove_in_use s.history s.things name kept holds }
+
+pub gives_dropped : (r : Store) (s : State) (name : List ℕ) (o : Option (Bor Thing)) → Represents r s → option_copied o ≡ thing_named r.in_use name → is_some o ≡ true → Gives Done (with_none r) (dropped s name (get s.things name))
+gives_dropped r s name o rep is some =
+    let kept = some_of (thing_named r.in_use name) (ap is_some (sym is) ∙ is_some-copied o ∙ some) in
+    let holds = named s.history s.things r.in_use name kept.0 rep.in_use kept.1 in
+    gives_as _ (ap (dropped s name) holds.found_is) (record { answer_is = refl; stands = stands_without r s name kept.0 rep holds })
+
+pub gives_unknown_dropped : (r : Store) (s : State) (name : List ℕ) (o : Option (Bor Thing)) → Represents r s → option_copied o ≡ thing_named r.in_use name → is_some o ≡ false → Gives (Unknown name) r (dropped s name (get s.things name))
+gives_unknown_dropped r s name o rep is none =
+    let missing = unnamed s.history s.things r.in_use name rep.in_use (sym is ∙ none_of (option_copied o) (is_some-copied o ∙ none)) in
+    gives_as _ (ap (dropped s name) missing) (record { answer_is = refl; stands = rep })
 
 -- ---- commits
 
@@ -350,7 +370,7 @@ pub gives_nothing : (r : Store) (s : State) (name : List ℕ) (number : ℕ) (wr
 gives_nothing r s name number writes rep holds none =
     gives_as _ (ap (committed s name) (holds.found_is ∙ ap Some holds.stands.1.1) ∙ cond-true _ _ _ none) (record {
       answer_is = refl;
-      stands = record { last = rep.last; log_length = rep.log_length; shows = rep.shows; in_use = remove_in_use s.history s.things name (Transaction number writes) holds };
+      stands = stands_without r s name (Transaction number writes) rep holds;
     })
 
 pub gives_exhausted : (r : Store) (s : State) (name : List ℕ) (number : ℕ) (writes : Writes) → Represents r s → IsInUse s.history s.things name (Transaction number writes) → (len writes == 0) ≡ false → MAX_COMMIT_NUMBER ≤ r.last →

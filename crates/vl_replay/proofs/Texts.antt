@@ -1,6 +1,7 @@
 -- What taking a text for a line does to the disk.
-use Rattle.std.proofs.Common.{◌≡◌, ◌⊎◌, inl, inr, ⊎_elim, ℕ, ◌≤◌, List, Option, None, Some, Bool, true, false, cond, Result, Ok, Err, refl, sym, ◌∙◌, ap, subst, arith}
-use Rattle.std.specs.Prelude.{option_and_then, IsOk, IsErr}
+use Rattle.std.proofs.Common.{◌≡◌, ◌⊎◌, inl, inr, ⊎_elim, ℕ, ◌≤◌, List, Option, None, Some, Result, Ok, Err, refl, sym, ◌∙◌, ap, subst, arith}
+use Rattle.std.specs.Prelude.{IsOk, IsErr}
+use Rattle.std.specs.Option.{option_map}
 use Rattle.vl_model.specs.History.{History}
 use Rattle.vl_disk.specs.Faults.{Rose}
 use Rattle.vl_disk.specs.DiskState.{DiskState}
@@ -11,38 +12,26 @@ use Rattle.vl_journal.specs.Images.{Leaves}
 use Rattle.vl_script.specs.declared.answer.Answer.{Answer}
 use Rattle.vl_script.specs.declared.line.Line.{Line}
 use Rattle.vl_script.specs.Script.{line_of}
-use Rattle.vl_replay.specs.Sequential.{State, state_after, answer_to}
-use Rattle.vl_replay.specs.Replay.{Exchange, exchange_at, exchanged, is_printed}
+use Rattle.vl_replay.specs.Sequential.{State, state_after}
+use Rattle.vl_replay.specs.Replay.{Exchange, exchange_at, exchanged}
 use Rattle.vl_replay.specs.Durable.{HoldsHistory, HoldsState, AreBetween, CarriesOut, CarriesOutText, history_behind, CutsAnswer}
 use Rattle.vl_replay.specs.Steps.{IsAnswered, EndsAtBadLine, DiskCounts}
 use Rattle.vl_replay.specs.declared.replayer.halt.Halt.{Halt}
 use Rattle.vl_replay.specs.declared.replayer.halt.Halt.TheVariants.{NoMemory as NoRoom, Disk}
 use Rattle.vl_replay.specs.declared.ending.Ending.{Ending}
 use Rattle.vl_replay.specs.declared.ending.Ending.TheVariants.{Complete, BadLine, BadWords, DiskFault, NotAStore, NoMemory, ReadFault, WriteFault, AnswerCut}
-use Rattle.vl_replay.proofs.Logged.{unprinted_keeps}
-use Rattle.vl_replay.proofs.DiskSteps.{text_extends, rests}
+use Rattle.vl_replay.proofs.DiskSteps.{text_extends, exchange_leaves, rests}
 
-abbrev exchange_if : State → Line → Bool → Option Exchange
-exchange_if s line t = cond t (Some (record { before = s; line = line; answer = answer_to s line; after = state_after s line })) None
-
--- a line of the language, which is answered or not
-exchange_of : (s : State) (text : List ℕ) (line : Line) → line_of text ≡ Some line → exchange_at s text ≡ exchange_if s line (is_printed (answer_to s line))
-exchange_of s text line spelled = ap (option_and_then (exchanged s)) spelled
-
-if_behind : (s : State) (line : Line) (t : Bool) → is_printed (answer_to s line) ≡ t → history_behind s.history (exchange_if s line t) ≡ (state_after s line).history
-if_behind s line true is = refl
-if_behind s line false is = sym (unprinted_keeps s line is).0
+-- a line of the language
+exchange_of : (s : State) (text : List ℕ) (line : Line) → line_of text ≡ Some line → exchange_at s text ≡ Some (exchanged s line)
+exchange_of s text line spelled = ap (option_map (exchanged s)) spelled
 
 pub line_behind : (s : State) (text : List ℕ) (line : Line) → line_of text ≡ Some line → history_behind s.history (exchange_at s text) ≡ (state_after s line).history
-line_behind s text line spelled = ap (history_behind s.history) (exchange_of s text line spelled) ∙ if_behind s line (is_printed (answer_to s line)) refl
+line_behind s text line spelled = ap (history_behind s.history) (exchange_of s text line spelled)
 
-if_after : (s : State) (line : Line) (t : Bool) (e : Exchange) → exchange_if s line t ≡ Some e → e.after ≡ state_after s line
-if_after s line true e is = cc
-if_after s line false e is = cc
-
-if_none : (s : State) (line : Line) (t : Bool) → exchange_if s line t ≡ None → t ≡ false
-if_none s line true is = cc
-if_none s line false is = refl
+-- it is no bad line
+none_of_line : (e : Exchange) → Some e ≡ None → ⊥
+none_of_line e is = cc
 
 module _ {D : Type 0} (told : D → Option DiskState) (moment : D → ℕ) (since : D → ℕ → DiskState → Type 0) (faults : D → ℕ) where
   pub takes_less : (old new : D) (begun : ℕ) (s : State) (text : List ℕ) (done done' : Type 0) → (done' → done) → CarriesOutText told moment since faults old new begun s text done → CarriesOutText told moment since faults old new begun s text done'
@@ -83,10 +72,8 @@ module _ {D : Type 0} (told : D → Option DiskState) (moment : D → ℕ) (sinc
       record {
         answered = λ d e some.
             let now = answered_by old new begun s (state_after s line) result (ok d) carries in
-            (now.0, now.1, subst (λ (after : State). HoldsState begun after now.0) (sym (if_after s line (is_printed (answer_to s line)) e (sym exchange ∙ some))) now.2);
-        bad = λ d none.
-            let now = answered_by old new begun s (state_after s line) result (ok d) carries in
-            (now.0, now.1, subst (λ (h : History). HoldsHistory begun h now.0) (unprinted_keeps s line (if_none s line (is_printed (answer_to s line)) (sym exchange ∙ none))).0 now.2.history);
+            (now.0, now.1, subst (λ (after : State). HoldsState begun after now.0) (sym (exchange_leaves s line e (sym exchange ∙ some))) now.2);
+        bad = λ d none. absurd (none_of_line (exchanged s line) (sym exchange ∙ none));
         settled = λ sound.
             subst (λ (h : History). (now : DiskState) × (told new ≡ Some now) × (HoldsHistory begun s.history now ⊎ HoldsHistory begun h now)) behind
             (settled_by old new begun s (state_after s line) state result is holds carries cause sound);

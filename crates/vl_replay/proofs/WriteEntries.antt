@@ -16,11 +16,12 @@ use Rattle.std.proofs.lemmas.Bool.{cond-true, cond-false, cases_lt, and_parts, l
 use Rattle.std.proofs.lemmas.Option.{slice_get_past}
 use Rattle.std.proofs.lemmas.List.Sums.{sum_by-cons}
 use Rattle.std.proofs.lemmas.Map.Text.{is_eq-slice_cmp}
-use Rattle.vl_model.specs.Keys.{Writes, key_cmp}
+use Rattle.vl_model.specs.Keys.{Writes, key_cmp, is_value_length}
 use Rattle.vl_model.specs.declared.change.Change.{Change}
-use Rattle.vl_record.specs.Record.{IsRecord}
+use Rattle.vl_model.specs.declared.change.Change.TheVariants.{Set as Put, Delete}
+use Rattle.vl_record.specs.Record.{IsRecord, value_bytes}
 use Rattle.vl_seglog.specs.Log.{AreRecords}
-use Rattle.vl_replay.specs.Sequential.{change_bytes, write_bytes, frame_length, fits_transaction}
+use Rattle.vl_replay.specs.Sequential.{change_bytes, is_lawful_write, write_bytes, frame_length, fits_transaction}
 use Rattle.vl_model.specs.declared.limits.TheConstants.{MAX_TRANSACTION_BYTES, MAX_TRANSACTION_KEYS}
 use Rattle.vl_replay.specs.Writes.{writes_of, is_above, entry_bytes, AreWrites}
 use Rattle.vl_replay.proofs.Places.{IsParted, first_failing, put_before, replace_first, slice_get-item, slice_get-prefix_len, slice_get_at, set-prefix_len, insert-prefix_len}
@@ -57,6 +58,16 @@ insert-writes_of list key change sorted =
     ∙ sym (entries-writes_of (put key_cmp key change list) (put_sorted list key change sorted)))
 
 -- ---- records
+
+value_length : (change : Change) → length (value_bytes change) ≡ change_bytes change
+value_length (Put value) = refl
+value_length Delete = refl
+
+-- a write within its limits can be spelled as a record
+pub lawful_record : (key : List ℕ) (change : Change) → IsTrue (is_lawful_write key change) → IsRecord key change
+lawful_record key change lawful =
+    let parts = and_parts _ _ lawful in
+    record { key_length = parts.0; value_length = ap is_value_length (value_length change) ∙ parts.1 }
 
 put-records_at : (key : List ℕ) (change : Change) (x : List ℕ × Change) (list later : List (List ℕ × Change)) (r : Ordering) → IsRecord key change → AreRecords (x ∷ list) → AreRecords later →
     AreRecords (by_order r ((key, change) ∷ x ∷ list) ((x.0, change) ∷ list) (x ∷ later))

@@ -3,21 +3,23 @@ use Rattle.std.proofs.Common.{◌≡◌, ◌+◌, ◌-◌, ◌<◌, ◌≤◌, �
 use Rattle.std.proofs.lemmas.Bool.Decides.{nat_tests}
 use Rattle.std.proofs.lemmas.List.{take-append-le}
 use Rattle.std.proofs.lemmas.List.Sums.{sum_by-cons}
-use Rattle.std.specs.Prelude.{Option, Some, None, ◌==◌, ◌&&◌, nat_le, option_and_then}
+use Rattle.std.specs.Prelude.{Option, Some, None, ◌==◌, nat_le}
+use Rattle.std.specs.Option.{option_map}
 use Rattle.std.specs.FinMap.{FinMap, get, insert, remove, len, empty, contains_key, get-insert, get-remove, len-insert, len-remove, len-empty, empty_of_len, get-empty}
 use Rattle.std.specs.Cmp.Lexicographic.{nat_list_cmp_total}
 use Rattle.std.specs.Ordering.{eq_by_cmp}
-use Rattle.vl_model.specs.Keys.{Writes, key_cmp, is_key_length, is_value_length}
+use Rattle.vl_model.specs.Keys.{Writes, key_cmp, is_key_length}
 use Rattle.vl_model.specs.History.{History, last_number, with_commit, value_at, commits_up_to}
 use Rattle.vl_model.specs.Reads.{Read, KeyRead, RangeRead, IsExplained, IsExplainedRead}
 use Rattle.vl_model.specs.declared.change.Change.{Change}
-use Rattle.vl_model.specs.declared.change.Change.TheVariants.{Set as Put}
-use Rattle.vl_replay.specs.Sequential.{Thing, OpenTransaction, OpenView, State, Outcome, empty_store, with_thing, without_thing, opened, found, read, read_in_transaction, written, committed, after_commit, frame_length, fits_transaction, answer_to, state_after}
+use Rattle.vl_model.specs.declared.change.Change.TheVariants.{Set as Put, Delete}
+use Rattle.vl_replay.specs.Sequential.{Thing, OpenTransaction, OpenView, State, Outcome, empty_store, with_thing, without_thing, opened, found, read, read_in_transaction, is_lawful_write, written, committed, dropped, after_commit, frame_length, fits_transaction, state_after}
 use Rattle.vl_script.specs.Script.{line_of}
-use Rattle.vl_replay.specs.Replay.{exchanged, exchanges_from, and_later, is_printed, IsExplainedExchange, AreExplained, ended_lines, KeepsUp}
+use Rattle.vl_replay.specs.Replay.{exchanged, exchanges_from, and_later, IsExplainedExchange, AreExplained, ended_lines, KeepsUp}
 use Rattle.vl_script.specs.declared.line.Line.{Line}
-use Rattle.vl_script.specs.declared.line.Line.TheVariants.{Begin, View, Get, Set, Commit}
-use Rattle.vl_script.specs.declared.answer.Answer.TheVariants.{Number, Done, TooBig, Full, Exhausted}
+use Rattle.vl_script.specs.declared.line.Line.TheVariants.{Begin, View, Get, Set, Delete as DeleteLine, Commit, Drop}
+use Rattle.vl_script.specs.declared.answer.Answer.{Answer}
+use Rattle.vl_script.specs.declared.answer.Answer.TheVariants.{Number, Done, Invalid, TooBig, Full, Exhausted}
 use Rattle.vl_model.specs.declared.counter.Counter.TheVariants.{Commit as CommitNumber}
 use Rattle.vl_model.specs.declared.limits.TheConstants.{MAX_COMMIT_NUMBER}
 use Rattle.vl_replay.specs.declared.replayer.limits.TheConstants.{MAX_LOG_BYTES}
@@ -105,13 +107,13 @@ read-sound s name key (Some (OpenView number)) sound is =
 read-sound s name key (Some (OpenTransaction number reads writes)) sound is =
     pick (λ r. IsSound r.1) (is_key_length (length key)) _ _ (λ ok. read_in_transaction-sound s name key number reads writes (get writes key) sound is) (λ bad. sound)
 
-written-sound : (s : State) (name key value : List ℕ) (o : Option Thing) → IsSound s → get s.things name ≡ o → IsSound (written s name key value o).1
-written-sound s name key value None sound is = sound
-written-sound s name key value (Some (OpenView number)) sound is = sound
-written-sound s name key value (Some (OpenTransaction number reads writes)) sound is =
+written-sound : (s : State) (name key : List ℕ) (change : Change) (o : Option Thing) → IsSound s → get s.things name ≡ o → IsSound (written s name key change o).1
+written-sound s name key change None sound is = sound
+written-sound s name key change (Some (OpenView number)) sound is = sound
+written-sound s name key change (Some (OpenTransaction number reads writes)) sound is =
     let now = sound.current name (OpenTransaction number reads writes) is in
-    pick (λ r. IsSound r.1) (not (is_key_length (length key) && is_value_length (length value))) _ _ (λ bad. sound) (λ ok.
-    let new : Writes = insert writes key (Put value) in
+    pick (λ r. IsSound r.1) (not (is_lawful_write key change)) _ _ (λ bad. sound) (λ ok.
+    let new : Writes = insert writes key change in
     let next : Thing = OpenTransaction number reads new in
     pick (λ r. IsSound r.1) (fits_transaction new) (Done, with_thing s name next) (TooBig, s) (λ fits. with_thing-sound s name next sound now (same_len s name (OpenTransaction number reads writes) next sound is)) (λ big. sound))
 
@@ -144,12 +146,18 @@ committed-sound s name (Some (OpenTransaction number reads writes)) sound is =
     pick (λ r. IsSound r.1) (nat_le MAX_COMMIT_NUMBER (last_number s.history)) (Exhausted CommitNumber, s) (cond (has_room s writes) (accepted s name writes) (Full, s)) (λ exhausted. sound) (λ left.
     pick (λ r. IsSound r.1) (has_room s writes) (accepted s name writes) (Full, s) (λ room. accepted-sound s name number reads writes sound is) (λ full. sound)))
 
+dropped-sound : (s : State) (name : List ℕ) (o : Option Thing) → IsSound s → IsSound (dropped s name o).1
+dropped-sound s name None sound = sound
+dropped-sound s name (Some thing) sound = without_thing-sound s name sound
+
 pub state_after-sound : (s : State) (line : Line) → IsSound s → IsSound (state_after s line)
 state_after-sound s (Begin name) sound = opened-sound s name (OpenTransaction (last_number s.history) [] empty) sound (tt, refl)
 state_after-sound s (View name) sound = opened-sound s name (OpenView (last_number s.history)) sound refl
 state_after-sound s (Get name key) sound = read-sound s name key (get s.things name) sound refl
-state_after-sound s (Set name key value) sound = written-sound s name key value (get s.things name) sound refl
+state_after-sound s (Set name key value) sound = written-sound s name key (Put value) (get s.things name) sound refl
+state_after-sound s (DeleteLine name key) sound = written-sound s name key Delete (get s.things name) sound refl
 state_after-sound s (Commit name) sound = committed-sound s name (get s.things name) sound refl
+state_after-sound s (Drop name) sound = dropped-sound s name (get s.things name) sound
 
 -- a commit leaves what stood at the numbers before it
 earlier_commits : (h : History) (writes : Writes) (n : ℕ) → n ≤ last_number h → commits_up_to (with_commit h writes) n ≡ commits_up_to h n
@@ -164,10 +172,15 @@ same_reads h writes n [] le p = tt
 same_reads h writes n (x ∷ reads) le p = (same_read h writes n x le p.0, same_reads h writes n reads le p.1)
 
 -- a view's answer is that at its number
-view_read : (s : State) (name key : List ℕ) (number : ℕ) (o : Option Thing) → o ≡ Some (OpenView number) → is_printed (read s name key o).0 ≡ true → (read s name key o).0 ≡ found (value_at s.history number key)
-view_read s name key number o is =
-    subst (λ (o : Option Thing). is_printed (read s name key o).0 ≡ true → (read s name key o).0 ≡ found (value_at s.history number key)) (sym is)
-    (pick (λ r. is_printed r.0 ≡ true → r.0 ≡ found (value_at s.history number key)) (is_key_length (length key)) _ _ (λ ok printed. refl) (λ bad printed. absurd (cc)))
+abbrev answer_in : Outcome → Answer
+answer_in r = r.0
+
+answer_by : (s : State) (b : Bool) (x y : Answer) → answer_in (cond b (x, s) (y, s)) ≡ cond b x y
+answer_by s true x y = refl
+answer_by s false x y = refl
+
+view_read : (s : State) (name key : List ℕ) (number : ℕ) (o : Option Thing) → o ≡ Some (OpenView number) → (read s name key o).0 ≡ cond (is_key_length (length key)) (found (value_at s.history number key)) Invalid
+view_read s name key number o is = ap (λ (o : Option Thing). (read s name key o).0) is ∙ answer_by s (is_key_length (length key)) (found (value_at s.history number key)) Invalid
 
 numbered : (m n : ℕ) → Number m ≡ Number n → m ≡ n
 numbered m n e = cc
@@ -184,21 +197,18 @@ commit_explained s name number reads writes n o sound is same =
     let at : n - 1 ≡ number = let m = numbered (last_number s.history + 1) n e in let c = now.1 in omega arith in
     (rw at (same_reads s.history writes number reads (let c = now.1 in omega arith) now.0), now.1)) (λ full e. absurd (cc)))))
 
-exchange_explained : (s : State) (line : Line) → IsSound s → is_printed (answer_to s line) ≡ true → IsExplainedExchange line (record { before = s; line = line; answer = answer_to s line; after = state_after s line })
-exchange_explained s (Begin name) sound printed = tt
-exchange_explained s (View name) sound printed = tt
-exchange_explained s (Get name key) sound printed = λ number is. view_read s name key number (get s.things name) is printed
-exchange_explained s (Set name key value) sound printed = tt
-exchange_explained s (Commit name) sound printed = λ number reads writes n is e. commit_explained s name number reads writes n (get s.things name) sound is is e
+exchange_explained : (s : State) (line : Line) → IsSound s → IsExplainedExchange line (exchanged s line)
+exchange_explained s (Begin name) sound = tt
+exchange_explained s (View name) sound = tt
+exchange_explained s (Get name key) sound = λ number is. view_read s name key number (get s.things name) is
+exchange_explained s (Set name key value) sound = tt
+exchange_explained s (DeleteLine name key) sound = tt
+exchange_explained s (Drop name) sound = tt
+exchange_explained s (Commit name) sound = λ number reads writes n is e. commit_explained s name number reads writes n (get s.things name) sound is is e
 
-exchange_of : (s : State) (line : Line) (texts : List (List ℕ)) (b : Bool) → is_printed (answer_to s line) ≡ b → IsSound s → ((s' : State) → IsSound s' → AreExplained (exchanges_from s' texts)) →
-    AreExplained (and_later (λ e. exchanges_from e.after texts) (cond b (Some (record { before = s; line = line; answer = answer_to s line; after = state_after s line })) None))
-exchange_of s line texts true printed sound ih = (exchange_explained s line sound printed, ih (state_after s line) (state_after-sound s line sound))
-exchange_of s line texts false printed sound ih = tt
-
-exchanges_behind : (s : State) (texts : List (List ℕ)) (o : Option Line) → IsSound s → ((s' : State) → IsSound s' → AreExplained (exchanges_from s' texts)) → AreExplained (and_later (λ e. exchanges_from e.after texts) (option_and_then (exchanged s) o))
+exchanges_behind : (s : State) (texts : List (List ℕ)) (o : Option Line) → IsSound s → ((s' : State) → IsSound s' → AreExplained (exchanges_from s' texts)) → AreExplained (and_later (λ e. exchanges_from e.after texts) (option_map (exchanged s) o))
 exchanges_behind s texts None sound ih = tt
-exchanges_behind s texts (Some line) sound ih = exchange_of s line texts (is_printed (answer_to s line)) refl sound ih
+exchanges_behind s texts (Some line) sound ih = (exchange_explained s line sound, ih (state_after s line) (state_after-sound s line sound))
 
 exchanges_from-explained : (texts : List (List ℕ)) (s : State) → IsSound s → AreExplained (exchanges_from s texts)
 exchanges_from-explained [] s sound = tt

@@ -1,35 +1,20 @@
 -- Whole runs: what is printed for an input, however the run ends.
-use Rattle.std.specs.Prelude.{◌≡◌, ◌+◌, ◌-◌, ◌^◌, ◌<◌, ◌≤◌, ℕ, Bool, true, false, ◌==◌, min, if◌then◌else◌, List, [], ◌∷◌, ◌++◌, length, take, codes, count_by, Option, Some, None, option_and_then}
+use Rattle.std.specs.Prelude.{◌≡◌, ◌+◌, ◌-◌, ◌^◌, ◌<◌, ◌≤◌, ℕ, ◌==◌, min, if◌then◌else◌, List, [], ◌∷◌, ◌++◌, length, take, codes, count_by, Option, Some, None}
 use Rattle.std.specs.List.{flat_map, AllByRecursion, slice_get}
 use Rattle.std.specs.Fmt.{decimal}
 use Rattle.std.specs.FinMap.{get}
+use Rattle.std.specs.Option.{option_map}
 use Rattle.vl_model.specs.History.{History, last_number, value_at}
 use Rattle.vl_model.specs.Reads.{Read, IsExplained}
-use Rattle.vl_model.specs.Keys.{Writes}
-use Rattle.vl_replay.specs.Sequential.{State, outcome, OpenTransaction, OpenView, found}
+use Rattle.vl_model.specs.Keys.{Writes, is_key_length}
+use Rattle.vl_replay.specs.Sequential.{State, answer_to, state_after, OpenTransaction, OpenView, found}
 use Rattle.vl_script.specs.Script.{line_of, lines_of, text_of}
 use Rattle.vl_script.specs.declared.line.Line.{Line}
-use Rattle.vl_script.specs.declared.line.Line.TheVariants.{Begin, View, Get, Set, Commit}
+use Rattle.vl_script.specs.declared.line.Line.TheVariants.{Begin, View, Get, Set, Delete, Commit, Drop}
 use Rattle.vl_script.specs.declared.answer.Answer.{Answer}
-use Rattle.vl_script.specs.declared.answer.Answer.TheVariants.{Done, Number, Found, NoValue, Taken, Unknown, ReadOnly, Invalid, TooBig, TooMany, Nothing, Full, Exhausted}
+use Rattle.vl_script.specs.declared.answer.Answer.TheVariants.{Number, Invalid}
 use Rattle.vl_replay.specs.declared.ending.Ending.{Ending}
 use Rattle.vl_replay.specs.declared.ending.Ending.TheVariants.{Complete, BadLine, BadWords, DiskFault, NotAStore, NoMemory, ReadFault, WriteFault, AnswerCut}
-
--- The answers that are printed so far. A line that would be answered otherwise is a bad line for now.
-abbrev pub is_printed : Answer → Bool
-is_printed Done = true
-is_printed (Number number) = true
-is_printed (Found value) = true
-is_printed NoValue = true
-is_printed (Taken name) = false
-is_printed (Unknown name) = false
-is_printed ReadOnly = false
-is_printed Invalid = false
-is_printed TooBig = false
-is_printed TooMany = false
-is_printed Nothing = false
-is_printed Full = false
-is_printed (Exhausted counter) = false
 
 -- a line with its answer, and the states before and after it
 pub record Exchange : Type 0 where
@@ -38,14 +23,13 @@ pub record Exchange : Type 0 where
   pub answer : Answer
   pub after : State
 
--- what the sequential store makes of a line, where it is one of the language and its answer is printed
-abbrev pub exchanged : State → Line → Option Exchange
-exchanged s line =
-    let r = outcome s line in
-    if is_printed r.0 then Some (record { before = s; line = line; answer = r.0; after = r.1 }) else None
+-- what the sequential store makes of a line
+abbrev pub exchanged : State → Line → Exchange
+exchanged s line = record { before = s; line = line; answer = answer_to s line; after = state_after s line }
 
+-- and of some text, where it is a line of the language
 abbrev pub exchange_at : State → List ℕ → Option Exchange
-exchange_at s text = option_and_then (exchanged s) (line_of text)
+exchange_at s text = option_map (exchanged s) (line_of text)
 
 -- an exchange, where there is one, and those behind it
 abbrev pub and_later : (Exchange → List Exchange) → Option Exchange → List Exchange
@@ -165,17 +149,20 @@ status_of WriteFault = 7
 status_of AnswerCut = 7
 
 -- What is read is explained by the history at the reader's number: what a view reads, by that at the view's own
--- number; what the transaction of an accepted commit has read, by that at the commit's number less one, and no
--- commit came between.
+-- number, where the key is within its limits; what the transaction of an accepted commit has read, by that at the
+-- commit's number less one, and no commit came between.
 abbrev pub IsExplainedExchange : Line → Exchange → Type 0
 IsExplainedExchange (Begin name) e = Unit {0}
 IsExplainedExchange (View name) e = Unit {0}
 IsExplainedExchange (Get name key) e =
-    (number : ℕ) → get e.before.things name ≡ Some (OpenView number) → e.answer ≡ found (value_at e.before.history number key)
+    (number : ℕ) → get e.before.things name ≡ Some (OpenView number)
+    → e.answer ≡ (if is_key_length (length key) then found (value_at e.before.history number key) else Invalid)
 IsExplainedExchange (Set name key value) e = Unit {0}
+IsExplainedExchange (Delete name key) e = Unit {0}
 IsExplainedExchange (Commit name) e =
     (number : ℕ) (reads : List Read) (writes : Writes) (n : ℕ) → get e.before.things name ≡ Some (OpenTransaction number reads writes)
     → e.answer ≡ Number n → IsExplained e.after.history (n - 1) reads × (number ≡ last_number e.before.history)
+IsExplainedExchange (Drop name) e = Unit {0}
 
 -- so it is in each of these exchanges
 abbrev pub AreExplained : List Exchange → Type 0

@@ -1,14 +1,14 @@
 -- What a replayer keeps, and the state that it stands for.
-use Rattle.std.specs.Prelude.{◌≡◌, ℕ, ◌≤◌, List, Option, Some, None, ◌&&◌, not, length, if◌then◌else◌}
+use Rattle.std.specs.Prelude.{◌≡◌, ℕ, ◌≤◌, List, Option, Some, None, not, if◌then◌else◌}
 use Rattle.std.specs.List.{AllByRecursion}
 use Rattle.std.specs.FinMap.{FinMap, insert, empty}
 use Rattle.std.specs.Str.{bytes_eq}
-use Rattle.vl_model.specs.Keys.{Writes, key_cmp, is_key_length, is_value_length}
-use Rattle.vl_model.specs.declared.change.Change.TheVariants.{Set as Put}
+use Rattle.vl_model.specs.Keys.{Writes, key_cmp}
+use Rattle.vl_model.specs.declared.change.Change.{Change}
 use Rattle.vl_model.specs.History.{History, last_number, value_at, value_left}
 use Rattle.vl_model.specs.Reads.{Read}
 use Rattle.vl_replay.specs.Memtable.{newest}
-use Rattle.vl_replay.specs.Sequential.{State, Outcome, OpenTransaction, OpenView, fits_transaction}
+use Rattle.vl_replay.specs.Sequential.{State, Outcome, OpenTransaction, OpenView, is_lawful_write, fits_transaction}
 use Rattle.vl_replay.specs.Sequential as sequential
 use Rattle.vl_replay.specs.declared.replayer.entry.Entry.{Entry}
 use Rattle.vl_replay.specs.declared.replayer.open.Open.{Open}
@@ -54,12 +54,12 @@ thing_named None name = None
 thing_named (Some held) name = if bytes_eq name held.name then Some held.thing else None
 
 -- the answer to a write in a transaction, and its writes after it
-abbrev pub write_answer : Writes → List ℕ → List ℕ → Answer
-write_answer writes key value =
-    if not (is_key_length (length key) && is_value_length (length value)) then Invalid
-    else (if fits_transaction (insert writes key (Put value)) then Done else TooBig)
+abbrev pub write_answer : Writes → List ℕ → Change → Answer
+write_answer writes key change =
+    if not (is_lawful_write key change) then Invalid
+    else (if fits_transaction (insert writes key change) then Done else TooBig)
 
-abbrev pub writes_after : Writes → List ℕ → List ℕ → Writes
-writes_after writes key value =
-    if not (is_key_length (length key) && is_value_length (length value)) then writes
-    else (if fits_transaction (insert writes key (Put value)) then insert writes key (Put value) else writes)
+abbrev pub writes_after : Writes → List ℕ → Change → Writes
+writes_after writes key change =
+    if not (is_lawful_write key change) then writes
+    else (if fits_transaction (insert writes key change) then insert writes key change else writes)

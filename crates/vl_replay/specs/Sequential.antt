@@ -10,7 +10,7 @@ use Rattle.vl_model.specs.declared.change.Change.TheVariants.{Set as Put, Delete
 use Rattle.vl_model.specs.declared.counter.Counter.TheVariants.{Commit as CommitNumber}
 use Rattle.vl_model.specs.declared.limits.TheConstants.{MAX_TRANSACTION_KEYS, MAX_TRANSACTION_BYTES, MAX_COMMIT_NUMBER}
 use Rattle.vl_script.specs.declared.line.Line.{Line}
-use Rattle.vl_script.specs.declared.line.Line.TheVariants.{Begin, View, Get, Set, Commit}
+use Rattle.vl_script.specs.declared.line.Line.TheVariants.{Begin, View, Get, Set, Delete as DeleteLine, Commit, Drop}
 use Rattle.vl_script.specs.declared.answer.Answer.{Answer}
 use Rattle.vl_script.specs.declared.answer.Answer.TheVariants.{Done, Number, Found, NoValue, Taken, Unknown, ReadOnly, Invalid, TooBig, TooMany, Nothing, Full, Exhausted}
 use Rattle.vl_replay.specs.declared.replayer.limits.TheConstants.{MAX_OPEN, MAX_LOG_BYTES}
@@ -67,9 +67,14 @@ read s name key (Some (OpenView number)) =
 read s name key (Some (OpenTransaction number reads writes)) =
     if is_key_length (length key) then read_in_transaction s name key number reads writes (get writes key) else (Invalid, s)
 
+-- how many bytes of a value a change has: a deletion has none
 abbrev pub change_bytes : Change → ℕ
 change_bytes (Put value) = length value
 change_bytes Delete = 0
+
+-- a key and what is written to it are within their limits
+abbrev pub is_lawful_write : List ℕ → Change → Bool
+is_lawful_write key change = is_key_length (length key) && is_value_length (change_bytes change)
 
 -- the bytes of the written keys and of their values
 abbrev pub write_bytes : Writes → ℕ
@@ -79,13 +84,13 @@ write_bytes writes = sum_by (λ write. length write.0 + change_bytes write.1) (e
 abbrev pub fits_transaction : Writes → Bool
 fits_transaction writes = nat_le (len writes) MAX_TRANSACTION_KEYS && nat_le (write_bytes writes) MAX_TRANSACTION_BYTES
 
--- one write in the place of an earlier one of its key
-abbrev pub written : State → List ℕ → List ℕ → List ℕ → Option Thing → Outcome
-written s name key value None = (Unknown name, s)
-written s name key value (Some (OpenView number)) = (ReadOnly, s)
-written s name key value (Some (OpenTransaction number reads writes)) =
-    if not (is_key_length (length key) && is_value_length (length value)) then (Invalid, s)
-    else (if fits_transaction (insert writes key (Put value)) then (Done, with_thing s name (OpenTransaction number reads (insert writes key (Put value))))
+-- set and del: one write in the place of an earlier one of its key
+abbrev pub written : State → List ℕ → List ℕ → Change → Option Thing → Outcome
+written s name key change None = (Unknown name, s)
+written s name key change (Some (OpenView number)) = (ReadOnly, s)
+written s name key change (Some (OpenTransaction number reads writes)) =
+    if not (is_lawful_write key change) then (Invalid, s)
+    else (if fits_transaction (insert writes key change) then (Done, with_thing s name (OpenTransaction number reads (insert writes key change)))
     else (TooBig, s))
 
 -- what a commit of these writes takes in the log: a frame with the commit's number and a record for each key
@@ -111,12 +116,19 @@ committed s name (Some (OpenTransaction number reads writes)) =
     else (if nat_le (s.log_length + frame_length writes) MAX_LOG_BYTES then (Number (last_number s.history + 1), after_commit s name writes)
     else (Full, s)))
 
+-- a transaction or a view ends, and its name is free again; what a transaction has written goes with it
+abbrev pub dropped : State → List ℕ → Option Thing → Outcome
+dropped s name None = (Unknown name, s)
+dropped s name (Some thing) = (Done, without_thing s name)
+
 abbrev pub outcome : State → Line → Outcome
 outcome s (Begin name) = opened s name (OpenTransaction (last_number s.history) [] empty)
 outcome s (View name) = opened s name (OpenView (last_number s.history))
 outcome s (Get name key) = read s name key (get s.things name)
-outcome s (Set name key value) = written s name key value (get s.things name)
+outcome s (Set name key value) = written s name key (Put value) (get s.things name)
+outcome s (DeleteLine name key) = written s name key Delete (get s.things name)
 outcome s (Commit name) = committed s name (get s.things name)
+outcome s (Drop name) = dropped s name (get s.things name)
 
 abbrev pub answer_to : State → Line → Answer
 answer_to s line = (outcome s line).0

@@ -7,7 +7,7 @@ ghost use Rattle.vl_replay.specs.Durable.{HoldsState, CarriesOutText};
 ghost use Rattle.vl_replay.specs.declared.replayer.halt.Halt.TheVariants.{Disk as DiskHalt};
 ghost use Rattle.vl_replay.specs.Sequential.{State};
 ghost use Rattle.vl_replay.specs.Represents.{Represents};
-ghost use Rattle.vl_replay.specs.Replay.{is_printed, line_number};
+ghost use Rattle.vl_replay.specs.Replay.{line_number};
 ghost use Rattle.vl_replay.specs.Steps.{Answers, Refuses, StepsOn, SinkCounts, DiskCounts, IsAnswered, EndsAtBadLine};
 
 use crate::Ending;
@@ -16,25 +16,7 @@ use crate::replayer::{Halt, Replayer};
 use std::alloc::Global;
 use vl_disk::Disk;
 use vl_io::Sink;
-use vl_script::{Answer, parse_line, print_answer, print_bad_line};
-
-/// Whether a line that is answered so is answered, for now, and no bad line.
-fn is_answered(answer: &Answer) -> bool
-    ensures { result ≡ is_printed answer.now }
-{
-    match answer {
-        Answer::Done | Answer::Number { .. } | Answer::Found { .. } | Answer::NoValue => true,
-        Answer::Taken { .. }
-        | Answer::Unknown { .. }
-        | Answer::ReadOnly
-        | Answer::Invalid
-        | Answer::TooBig
-        | Answer::TooMany
-        | Answer::Nothing
-        | Answer::Full
-        | Answer::Exhausted { .. } => false,
-    }
-}
+use vl_script::{parse_line, print_answer, print_bad_line};
 
 /// The text that answers a line; None where it is a bad line.
 fn answer_text<D: Disk>(
@@ -53,9 +35,6 @@ fn answer_text<D: Disk>(
         return Ok(None);
     };
     let answer = replayer.line(line)?;
-    if !is_answered(&answer) {
-        return Ok(None);
-    }
     Ok(Some(print_answer(alloc, &answer)?))
 }
 

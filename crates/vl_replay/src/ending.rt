@@ -5,7 +5,7 @@ ghost use Rattle.std.specs.Prelude.{◌≡◌};
 pub enum Ending {
     /// Status 0: the input was read to its end and every line answered.
     Complete,
-    /// Status 1: the next line isn't one that is answered.
+    /// Status 1: the next line isn't one of the language.
     BadLine,
     /// Status 2: the words of the command line aren't plain; nothing was read.
     BadWords,

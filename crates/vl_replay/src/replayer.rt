@@ -21,6 +21,8 @@ mod memtable;
 mod open;
 mod open_fail;
 mod store;
+#[cfg(test)]
+mod tests;
 mod writes;
 
 use entry::Entry;

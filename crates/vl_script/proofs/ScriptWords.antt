@@ -6,7 +6,7 @@ use Rattle.std.specs.List.{onto_first, position, position_or_len}
 use Rattle.std.proofs.lemmas.List.Splits.{slice_split_none, slice_split_first}
 use Rattle.std.proofs.lemmas.List.Sums.{fails_before_first}
 use Rattle.std.proofs.lemmas.Bool.Decides.{nat_tests}
-use Rattle.vl_script.specs.Script.{words_of, ident_alone, get_of, set_of}
+use Rattle.vl_script.specs.Script.{words_of, ident_alone, ident_and_key, set_of}
 
 passed_end : (first end : ℕ) → cond (ltb first end) (Some first) None ≡ None → end ≤ first
 passed_end first end e = grind (arith, nat_tests)
@@ -44,13 +44,13 @@ words_behind_begins : (rest : Option (Bor (List ℕ))) → is_some rest ≡ true
 words_behind_begins (Some text) e = words_of_begins text.now
 words_behind_begins None e = cc
 
--- behind the one word that begin, view and commit want, there is none
+-- behind the one word that begin, view, commit and drop want, there is none
 pub ident_alone_of_more : (name : List ℕ) (rest : Option (Bor (List ℕ))) → is_some rest ≡ true → ident_alone (name ∷ words_behind rest) ≡ None
 ident_alone_of_more name rest e = rw (words_behind_begins rest e).2 refl
 
--- nor behind the two that get wants
-pub get_of_more : (name key : List ℕ) (rest : Option (Bor (List ℕ))) → is_some rest ≡ true → get_of (name ∷ key ∷ words_behind rest) ≡ None
-get_of_more name key rest e = rw (words_behind_begins rest e).2 refl
+-- nor behind the two that get and del want
+pub ident_and_key_of_more : (name key : List ℕ) (rest : Option (Bor (List ℕ))) → is_some rest ≡ true → ident_and_key (name ∷ key ∷ words_behind rest) ≡ None
+ident_and_key_of_more name key rest e = rw (words_behind_begins rest e).2 refl
 
 -- nor behind the three that set wants
 pub set_of_more : (name key value : List ℕ) (rest : Option (Bor (List ℕ))) → is_some rest ≡ true → set_of (name ∷ key ∷ value ∷ words_behind rest) ≡ None

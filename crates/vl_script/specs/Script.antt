@@ -9,7 +9,7 @@ use Rattle.hex.specs.declared.error.FromHexError.{FromHexError}
 use Rattle.vl_model.specs.declared.counter.Counter.{Counter}
 use Rattle.vl_model.specs.declared.counter.Counter.TheVariants.{Commit as CommitNumber, Log, Table, Manifest, Version}
 use Rattle.vl_script.specs.declared.line.Line.{Line}
-use Rattle.vl_script.specs.declared.line.Line.TheVariants.{Begin, View, Get, Set, Commit}
+use Rattle.vl_script.specs.declared.line.Line.TheVariants.{Begin, View, Get, Set, Delete, Commit, Drop}
 use Rattle.vl_script.specs.declared.answer.Answer.{Answer}
 use Rattle.vl_script.specs.declared.answer.Answer.TheVariants.{Done, Number, Found, NoValue, Taken, Unknown, ReadOnly, Invalid, TooBig, TooMany, Nothing, Full, Exhausted}
 use Rattle.vl_script.specs.declared.limits.TheConstants.{MAX_LINE_BYTES, MAX_IDENT_BYTES}
@@ -45,15 +45,15 @@ abbrev pub ◌>>=◌ : {A B : Type 0} → Option A → (A → Option B) → Opti
 None >>= f = None
 Some x >>= f = f x
 
--- the words behind begin, view and commit
+-- the words behind begin, view, commit and drop
 abbrev pub ident_alone : List (List ℕ) → Option (List ℕ)
 ident_alone (name ∷ []) = ident_of name
 ident_alone words = None
 
--- the words behind get
-abbrev pub get_of : List (List ℕ) → Option Line
-get_of (name ∷ key ∷ []) = ident_of name >>= λ t. bytes_of key >>= λ k. Some (Get t k)
-get_of words = None
+-- the words behind get and del
+abbrev pub ident_and_key : List (List ℕ) → Option (List ℕ × List ℕ)
+ident_and_key (name ∷ key ∷ []) = ident_of name >>= λ t. bytes_of key >>= λ k. Some (t, k)
+ident_and_key words = None
 
 -- the words behind set
 abbrev pub set_of : List (List ℕ) → Option Line
@@ -65,10 +65,12 @@ line_of_words [] = None
 line_of_words (command ∷ words) =
     if bytes_eq command (codes "begin") then option_map Begin (ident_alone words)
     else (if bytes_eq command (codes "view") then option_map View (ident_alone words)
-    else (if bytes_eq command (codes "get") then get_of words
+    else (if bytes_eq command (codes "get") then option_map (λ p. Get p.0 p.1) (ident_and_key words)
     else (if bytes_eq command (codes "set") then set_of words
+    else (if bytes_eq command (codes "del") then option_map (λ p. Delete p.0 p.1) (ident_and_key words)
     else (if bytes_eq command (codes "commit") then option_map Commit (ident_alone words)
-    else None))))
+    else (if bytes_eq command (codes "drop") then option_map Drop (ident_alone words)
+    else None))))))
 
 -- the line that these bytes are, without the line's end
 abbrev pub line_of : List ℕ → Option Line

@@ -25,8 +25,17 @@ pub enum Line {
         key: Bytes,
         value: Bytes,
     },
+    /// `del T K`: deletes a key in a transaction.
+    Delete {
+        name: Ident,
+        key: Bytes,
+    },
     /// `commit T`: ends a transaction, with its writes as the next commit.
     Commit {
+        name: Ident,
+    },
+    /// `drop X`: ends a transaction or a view, and nothing of it stays.
+    Drop {
         name: Ident,
     },
 }

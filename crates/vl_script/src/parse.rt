@@ -1,7 +1,7 @@
 ghost use Rattle.std.specs.Prelude.{◌≡◌, ◌∷◌, [], ◌&&◌, length, nat_le, IfOk};
 ghost use Rattle.std.specs.List.{list_all};
 ghost use Rattle.std.specs.Option.{option_map_or};
-ghost use Rattle.vl_script.specs.Script.{is_ident_byte, ident_of, bytes_of, ident_alone, get_of, set_of, words_of, line_of};
+ghost use Rattle.vl_script.specs.Script.{is_ident_byte, ident_of, bytes_of, ident_alone, ident_and_key, set_of, words_of, line_of};
 
 use crate::{Ident, Line, MAX_IDENT_BYTES, MAX_LINE_BYTES};
 use hex::FromHexError;
@@ -23,12 +23,19 @@ pub fn parse_line(alloc: Global, text: &[u8]) -> Result<Option<Line>, AllocError
         let name = parse_ident_alone(alloc, rest)?;
         Ok(name.map(|name| Line::View { name }))
     } else if command == b"get".as_slice() {
-        parse_get(alloc, rest)
+        let words = parse_ident_and_key(alloc, rest)?;
+        Ok(words.map(|(name, key)| Line::Get { name, key }))
     } else if command == b"set".as_slice() {
         parse_set(alloc, rest)
+    } else if command == b"del".as_slice() {
+        let words = parse_ident_and_key(alloc, rest)?;
+        Ok(words.map(|(name, key)| Line::Delete { name, key }))
     } else if command == b"commit".as_slice() {
         let name = parse_ident_alone(alloc, rest)?;
         Ok(name.map(|name| Line::Commit { name }))
+    } else if command == b"drop".as_slice() {
+        let name = parse_ident_alone(alloc, rest)?;
+        Ok(name.map(|name| Line::Drop { name }))
     } else {
         Ok(None)
     }
@@ -57,9 +64,12 @@ fn parse_ident_alone(alloc: Global, rest: Option<&[u8]>) -> Result<Option<Ident>
     parse_ident(alloc, name)
 }
 
-#[tactic(auto, using(crate::proofs::ScriptWords::get_of_more))]
-fn parse_get(alloc: Global, rest: Option<&[u8]>) -> Result<Option<Line>, AllocError>
-    ensures { IfOk result (λ line. line ≡ get_of (option_map_or (λ rest. words_of rest.now) rest.entry [])) }
+#[tactic(auto, using(crate::proofs::ScriptWords::ident_and_key_of_more))]
+fn parse_ident_and_key(
+    alloc: Global,
+    rest: Option<&[u8]>,
+) -> Result<Option<(Ident, Bytes)>, AllocError>
+    ensures { IfOk result (λ words. words ≡ ident_and_key (option_map_or (λ rest. words_of rest.now) rest.entry [])) }
 {
     let Some((name, Some(rest))) = rest.map(next_word) else {
         return Ok(None);
@@ -74,7 +84,7 @@ fn parse_get(alloc: Global, rest: Option<&[u8]>) -> Result<Option<Line>, AllocEr
     let Some(key) = parse_bytes(alloc, key)? else {
         return Ok(None);
     };
-    Ok(Some(Line::Get { name, key }))
+    Ok(Some((name, key)))
 }
 
 #[tactic(auto, using(crate::proofs::ScriptWords::set_of_more))]

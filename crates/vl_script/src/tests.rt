@@ -13,13 +13,15 @@ fn parts(line: &Option<Line>) -> (&str, &[u8], &[u8], &[u8]) {
         Some(Line::Set { name, key, value }) => {
             ("set", name.as_slice(), key.as_slice(), value.as_slice())
         }
+        Some(Line::Delete { name, key }) => ("del", name.as_slice(), key.as_slice(), b""),
         Some(Line::Commit { name }) => ("commit", name.as_slice(), b"", b""),
+        Some(Line::Drop { name }) => ("drop", name.as_slice(), b"", b""),
     }
 }
 
 #[test]
 fn parses_lines(rt: HostRuntime) -> Result<(), Fail> {
-    let table: [(&[u8], &str, &[u8], &[u8], &[u8]); 9] = [
+    let table: [(&[u8], &str, &[u8], &[u8], &[u8]); 13] = [
         (b"begin a", "begin", b"a", b"", b""),
         (b"view 0z9", "view", b"0z9", b"", b""),
         (b"get t 6A", "get", b"t", &[0x6a], b""),
@@ -27,7 +29,11 @@ fn parses_lines(rt: HostRuntime) -> Result<(), Fail> {
         (b"set a 61 01", "set", b"a", &[0x61], &[0x01]),
         (b"set a 61 -", "set", b"a", &[0x61], b""),
         (b"set a 00fF 0180", "set", b"a", &[0, 255], &[1, 128]),
+        (b"get a -", "get", b"a", b"", b""),
+        (b"del t 61fF", "del", b"t", &[0x61, 255], b""),
+        (b"del t -", "del", b"t", b"", b""),
         (b"commit a", "commit", b"a", b"", b""),
+        (b"drop x", "drop", b"x", b"", b""),
         (
             b"begin 123456789abcdefg",
             "begin",
@@ -45,7 +51,7 @@ fn parses_lines(rt: HostRuntime) -> Result<(), Fail> {
 
 #[test]
 fn refuses_what_is_no_line(rt: HostRuntime) -> Result<(), Fail> {
-    let table: [&[u8]; 24] = [
+    let table: [&[u8]; 32] = [
         b"",
         b" ",
         b"begin",
@@ -69,6 +75,14 @@ fn refuses_what_is_no_line(rt: HostRuntime) -> Result<(), Fail> {
         b"set a 61",
         b"set a 61 01 02",
         b"set a 61 01\r",
+        b"del a",
+        b"del a ",
+        b"del a 61 62",
+        b"del a 6",
+        b"delete a 61",
+        b"drop",
+        b"drop a b",
+        b"drop A",
         b"commit a\n",
     ];
     for text in table {
@@ -118,6 +132,7 @@ fn prints_answers(rt: HostRuntime) -> Result<(), Fail> {
         (Answer::TooBig, "toobig\n"),
         (Answer::TooMany, "toomany\n"),
         (Answer::Nothing, "nothing\n"),
+        (Answer::Full, "full\n"),
         (exhausted(Counter::Commit), "exhausted commit\n"),
         (exhausted(Counter::Log), "exhausted log\n"),
         (exhausted(Counter::Table), "exhausted table\n"),

@@ -8,19 +8,18 @@ ghost use Rattle.vl_replay.specs.Durable.{HoldsState, CarriesOut};
 ghost use Rattle.std.specs.Option.{option_copied};
 ghost use Rattle.std.specs.FinMap.{get, empty};
 ghost use Rattle.vl_model.specs.History.{last_number, value_left};
-ghost use Rattle.vl_model.specs.Keys.{is_key_length, is_value_length};
-ghost use Rattle.vl_replay.specs.Sequential.{State, empty_store, answer_to, state_after, opened, read, written, committed, found};
+ghost use Rattle.vl_model.specs.Keys.{is_key_length};
+ghost use Rattle.vl_replay.specs.Sequential.{State, empty_store, answer_to, state_after, opened, read, is_lawful_write, written, committed, dropped, found};
 ghost use Rattle.vl_replay.specs.Sequential as sequential;
 ghost use Rattle.vl_replay.specs.Represents.{Represents, Gives, StandsFor, thing_named, write_answer, writes_after};
 
 use crate::replayer::limits::LOG_HEADER_BYTES;
+use crate::replayer::writes::value_len;
 use crate::replayer::{Halt, MAX_LOG_BYTES, Memtable, Open, Thing, Writes};
 use std::alloc::Global;
 use vl_disk::Disk;
 use vl_journal::{stage_commit, write_staged};
-use vl_model::{
-    Bytes, Change, Counter, Key, MAX_COMMIT_NUMBER, MAX_KEY_BYTES, MAX_VALUE_BYTES, Value,
-};
+use vl_model::{Bytes, Change, Counter, Key, MAX_COMMIT_NUMBER, MAX_KEY_BYTES, MAX_VALUE_BYTES};
 use vl_script::{Answer, Ident, Line};
 
 /// Commits in memory, of which each is written to a disk before it is answered, and what the script has open.
@@ -65,8 +64,10 @@ impl Store {
             Line::Begin { name } => Ok(self.begin(name)),
             Line::View { name } => Ok(self.view(name)),
             Line::Get { name, key } => self.get(name, key),
-            Line::Set { name, key, value } => self.set(name, key, value),
+            Line::Set { name, key, value } => self.write(name, key, Change::Set(value)),
+            Line::Delete { name, key } => self.write(name, key, Change::Delete),
             Line::Commit { name } => self.commit(disk, name),
+            Line::Drop { name } => Ok(self.end(name)),
         }
     }
 
@@ -119,15 +120,15 @@ impl Store {
         }
     }
 
-    fn set(&mut self, name: Ident, key: Key, value: Value) -> Result<Answer, Halt>
-        ensures answer { (s : State) → Represents self.old s → IfOk result (λ answer. Gives answer self.new (written s name key value (get s.things name))) }
+    fn write(&mut self, name: Ident, key: Key, change: Change) -> Result<Answer, Halt>
+        ensures answer { (s : State) → Represents self.old s → IfOk result (λ answer. Gives answer self.new (written s name key change (get s.things name))) }
         ensures unchanged { (s : State) → Represents self.old s → OnErr result (Represents self.new s) }
         ensures halt { IfErr result (λ halt. halt ≡ Halt.NoMemory) }
     {
         match &mut self.in_use {
             Some(held) if held.is_named(name.as_slice()) => match &mut held.thing {
                 Thing::View { .. } => Ok(Answer::ReadOnly),
-                Thing::Transaction { writes, .. } => write(writes, key, value),
+                Thing::Transaction { writes, .. } => write(writes, key, change),
             },
             _ => Ok(Answer::Unknown { name }),
         }
@@ -184,6 +185,18 @@ impl Store {
         Ok(Answer::Number { number: self.last })
     }
 
+    // Ends a transaction or a view. What a transaction has written goes with it.
+    fn end(&mut self, name: Ident) -> Answer
+        ensures { (s : State) → Represents self.old s → Gives result self.new (dropped s name (get s.things name)) }
+    {
+        if self.find(name.as_slice()).is_some() {
+            self.in_use = None;
+            Answer::Done
+        } else {
+            Answer::Unknown { name }
+        }
+    }
+
     // What a name in use stands for.
     fn find(&self, name: &[u8]) -> Option<&Thing>
         ensures { option_copied result ≡ thing_named self.now.in_use name.now }
@@ -214,195 +227,25 @@ fn is_lawful_key(key: &Key) -> bool
     !key.is_empty() && key.len() <= MAX_KEY_BYTES
 }
 
-fn is_lawful_value(value: &Value) -> bool
-    ensures { result ≡ is_value_length (length value.now) }
+fn is_within_limits(key: &Key, change: &Change) -> bool
+    ensures { result ≡ is_lawful_write key.now change.now }
 {
-    value.len() <= MAX_VALUE_BYTES
+    is_lawful_key(key) && value_len(change) <= MAX_VALUE_BYTES
 }
 
 // A write in a transaction.
-fn write(writes: &mut Writes, key: Key, value: Value) -> Result<Answer, Halt>
-    ensures answer { IfOk result (λ answer. answer ≡ write_answer writes.old key value) }
-    ensures ok { OnOk result (writes.new ≡ writes_after writes.old key value) }
+fn write(writes: &mut Writes, key: Key, change: Change) -> Result<Answer, Halt>
+    ensures answer { IfOk result (λ answer. answer ≡ write_answer writes.old key change) }
+    ensures ok { OnOk result (writes.new ≡ writes_after writes.old key change) }
     ensures err { OnErr result (writes.new ≡ writes.old) }
     ensures halt { IfErr result (λ halt. halt ≡ Halt.NoMemory) }
 {
-    if !(is_lawful_key(&key) && is_lawful_value(&value)) {
+    if !is_within_limits(&key, &change) {
         return Ok(Answer::Invalid);
     }
-    if !writes.fits(key.as_slice(), &value) {
+    if !writes.fits(key.as_slice(), &change) {
         return Ok(Answer::TooBig);
     }
-    writes.set(key, value)?;
+    writes.insert(key, change)?;
     Ok(Answer::Done)
-}
-
-#[cfg(test)]
-mod tests {
-    use super::*;
-    use std::alloc::AllocError;
-    use std::test::Fail;
-    use vl_journal::open_store;
-    use vl_mem::MemDisk;
-
-    fn word(alloc: Global, text: &str) -> Result<Bytes, AllocError> {
-        Bytes::copy_of(alloc, text.as_bytes())
-    }
-
-    fn begin(alloc: Global, name: &str) -> Result<Line, AllocError> {
-        Ok(Line::Begin {
-            name: word(alloc, name)?,
-        })
-    }
-
-    fn view(alloc: Global, name: &str) -> Result<Line, AllocError> {
-        Ok(Line::View {
-            name: word(alloc, name)?,
-        })
-    }
-
-    fn get(alloc: Global, name: &str, key: &str) -> Result<Line, AllocError> {
-        Ok(Line::Get {
-            name: word(alloc, name)?,
-            key: word(alloc, key)?,
-        })
-    }
-
-    fn set(alloc: Global, name: &str, key: &str, value: &str) -> Result<Line, AllocError> {
-        Ok(Line::Set {
-            name: word(alloc, name)?,
-            key: word(alloc, key)?,
-            value: word(alloc, value)?,
-        })
-    }
-
-    fn commit(alloc: Global, name: &str) -> Result<Line, AllocError> {
-        Ok(Line::Commit {
-            name: word(alloc, name)?,
-        })
-    }
-
-    #[test]
-    fn a_commit_is_seen_by_a_later_view(rt: HostRuntime) -> Result<(), Fail> {
-        let alloc = rt.alloc();
-        let mut disk = MemDisk::new(alloc, Vec::new(alloc));
-        open_store(alloc, &mut disk)?;
-        let mut store = Store::new(alloc);
-        assert!(rt;
-            matches!(
-                store.line(&mut disk, begin(alloc, "a")?)?,
-                Answer::Number { number: 0 }
-            )
-        );
-        assert!(rt;
-            matches!(
-                store.line(&mut disk, set(alloc, "a", "k", "v")?)?,
-                Answer::Done
-            )
-        );
-        assert!(rt;
-            matches!(
-                store.line(&mut disk, get(alloc, "a", "k")?)?,
-                Answer::Found { .. }
-            )
-        );
-        assert!(rt;
-            matches!(
-                store.line(&mut disk, commit(alloc, "a")?)?,
-                Answer::Number { number: 1 }
-            )
-        );
-        assert!(rt;
-            matches!(
-                store.line(&mut disk, view(alloc, "b")?)?,
-                Answer::Number { number: 1 }
-            )
-        );
-        let answer = store.line(&mut disk, get(alloc, "b", "k")?)?;
-        let Answer::Found { value } = answer else {
-            return Err("no value".into());
-        };
-        assert_eq!(rt; value.as_slice(), b"v".as_slice());
-        Ok(())
-    }
-
-    #[test]
-    fn names_and_limits(rt: HostRuntime) -> Result<(), Fail> {
-        let alloc = rt.alloc();
-        let mut disk = MemDisk::new(alloc, Vec::new(alloc));
-        open_store(alloc, &mut disk)?;
-        let mut store = Store::new(alloc);
-        assert!(rt;
-            matches!(
-                store.line(&mut disk, view(alloc, "b")?)?,
-                Answer::Number { number: 0 }
-            )
-        );
-        assert!(rt;
-            matches!(
-                store.line(&mut disk, begin(alloc, "b")?)?,
-                Answer::Taken { .. }
-            )
-        );
-        assert!(rt; matches!(store.line(&mut disk, begin(alloc, "c")?)?, Answer::TooMany));
-        assert!(rt;
-            matches!(
-                store.line(&mut disk, get(alloc, "q", "k")?)?,
-                Answer::Unknown { .. }
-            )
-        );
-        assert!(rt;
-            matches!(
-                store.line(&mut disk, get(alloc, "b", "k")?)?,
-                Answer::NoValue
-            )
-        );
-        assert!(rt;
-            matches!(
-                store.line(&mut disk, get(alloc, "b", "")?)?,
-                Answer::Invalid
-            )
-        );
-        assert!(rt;
-            matches!(
-                store.line(&mut disk, set(alloc, "b", "k", "v")?)?,
-                Answer::ReadOnly
-            )
-        );
-        assert!(rt;
-            matches!(
-                store.line(&mut disk, commit(alloc, "b")?)?,
-                Answer::ReadOnly
-            )
-        );
-        Ok(())
-    }
-
-    #[test]
-    fn a_commit_without_writes_is_none(rt: HostRuntime) -> Result<(), Fail> {
-        let alloc = rt.alloc();
-        let mut disk = MemDisk::new(alloc, Vec::new(alloc));
-        open_store(alloc, &mut disk)?;
-        let mut store = Store::new(alloc);
-        assert!(rt;
-            matches!(
-                store.line(&mut disk, begin(alloc, "a")?)?,
-                Answer::Number { number: 0 }
-            )
-        );
-        assert!(rt;
-            matches!(
-                store.line(&mut disk, set(alloc, "a", "", "v")?)?,
-                Answer::Invalid
-            )
-        );
-        assert!(rt; matches!(store.line(&mut disk, commit(alloc, "a")?)?, Answer::Nothing));
-        assert!(rt;
-            matches!(
-                store.line(&mut disk, begin(alloc, "a")?)?,
-                Answer::Number { number: 0 }
-            )
-        );
-        Ok(())
-    }
 }

@@ -1,17 +1,16 @@
-ghost use Rattle.std.specs.Prelude.{◌≡◌, ◌≤◌, ◌<◌, ◌^◌, ◌==◌, true, IsTrue, OnOk, OnErr, length};
+ghost use Rattle.std.specs.Prelude.{◌≡◌, ◌≤◌, ◌<◌, ◌^◌, ◌==◌, IsTrue, OnOk, OnErr, length};
 ghost use Rattle.std.specs.List.{prefix_len};
 ghost use Rattle.std.specs.Option.{option_copied};
 ghost use Rattle.std.specs.FinMap as map;
-ghost use Rattle.vl_model.specs.declared.change.Change.TheVariants.{Set as Put};
-ghost use Rattle.vl_model.specs.Keys.{key_cmp, is_key_length, is_value_length};
+ghost use Rattle.vl_model.specs.Keys.{key_cmp};
 ghost use Rattle.vl_seglog.specs.Log.{AreRecords};
-ghost use Rattle.vl_replay.specs.Sequential.{write_bytes, frame_length, fits_transaction};
+ghost use Rattle.vl_replay.specs.Sequential.{change_bytes, is_lawful_write, write_bytes, frame_length, fits_transaction};
 ghost use Rattle.vl_replay.specs.Writes.{is_above};
 
 use std::alloc::{AllocError, Global};
 use std::marker::Model;
 use vl_model::{
-    Change, Key, MAX_KEY_BYTES, MAX_TRANSACTION_BYTES, MAX_TRANSACTION_KEYS, MAX_VALUE_BYTES, Value,
+    Change, Key, MAX_KEY_BYTES, MAX_TRANSACTION_BYTES, MAX_TRANSACTION_KEYS, MAX_VALUE_BYTES,
 };
 
 /// What a transaction has written: its keys in order, each with the last write of it.
@@ -66,28 +65,27 @@ impl Writes {
     }
 
     /// Whether one transaction may have these writes and one more, which takes the place of an earlier one of its key.
-    pub fn fits(&self, key: &[u8], value: &Value) -> bool
+    pub fn fits(&self, key: &[u8], change: &Change) -> bool
         requires key { length key.now ≤ MAX_KEY_BYTES }
-        requires value { length value.now ≤ MAX_VALUE_BYTES }
-        ensures { result ≡ fits_transaction (map.insert self.now key.now (Put value.now)) }
+        requires value { change_bytes change.now ≤ MAX_VALUE_BYTES }
+        ensures { result ≡ fits_transaction (map.insert self.now key.now change.now) }
     {
         let keys_fit = match self.get(key) {
             Some(_) => self.len() <= MAX_TRANSACTION_KEYS,
             None => self.len() < MAX_TRANSACTION_KEYS,
         };
-        keys_fit && self.bytes_with(key, value) <= MAX_TRANSACTION_BYTES
+        keys_fit && self.bytes_with(key, change) <= MAX_TRANSACTION_BYTES
     }
 
     /// Writes a key, in the place of an earlier write of it.
-    pub fn set(&mut self, key: Key, value: Value) -> Result<(), AllocError>
-        requires lawful_key { is_key_length (length key) ≡ true }
-        requires lawful_value { is_value_length (length value) ≡ true }
-        requires fits { IsTrue (fits_transaction (map.insert self.old key (Put value))) }
-        ensures ok { OnOk result (self.new ≡ map.insert self.old key (Put value)) }
+    pub fn insert(&mut self, key: Key, change: Change) -> Result<(), AllocError>
+        requires lawful { IsTrue (is_lawful_write key change) }
+        requires fits { IsTrue (fits_transaction (map.insert self.old key change)) }
+        ensures ok { OnOk result (self.new ≡ map.insert self.old key change) }
         ensures err { OnErr result (self.new ≡ self.old) }
     {
-        let bytes = self.bytes_with(key.as_slice(), &value);
-        put(&mut self.entries, key, Change::Set(value))?;
+        let bytes = self.bytes_with(key.as_slice(), &change);
+        put(&mut self.entries, key, change)?;
         self.bytes = bytes;
         Ok(())
     }
@@ -117,16 +115,25 @@ impl Writes {
     }
 
     // How many bytes the keys and the values have, with one more write.
-    fn bytes_with(&self, key: &[u8], value: &Value) -> usize
+    fn bytes_with(&self, key: &[u8], change: &Change) -> usize
         requires key { length key.now ≤ MAX_KEY_BYTES }
-        requires value { length value.now ≤ MAX_VALUE_BYTES }
-        ensures { result ≡ write_bytes (map.insert self.now key.now (Put value.now)) }
+        requires value { change_bytes change.now ≤ MAX_VALUE_BYTES }
+        ensures { result ≡ write_bytes (map.insert self.now key.now change.now) }
     {
         match self.get(key) {
-            Some(Change::Set(replaced)) => self.bytes - replaced.len() + value.len(),
-            Some(Change::Delete) => self.bytes + value.len(),
-            None => self.bytes + key.len() + value.len(),
+            Some(replaced) => self.bytes - value_len(replaced) + value_len(change),
+            None => self.bytes + key.len() + value_len(change),
         }
+    }
+}
+
+/// How many bytes a change has beside its key: a deletion has none.
+pub fn value_len(change: &Change) -> usize
+    ensures { result ≡ change_bytes change.now }
+{
+    match change {
+        Change::Set(value) => value.len(),
+        Change::Delete => 0,
     }
 }
 

@@ -3,7 +3,6 @@ use Rattle.std.proofs.lemmas.Bool.Decides.{nat_tests}
 use Rattle.std.specs.Option.{option_copied}
 use Rattle.std.specs.FinMap.{len, insert}
 use Rattle.vl_model.specs.Keys.{Writes}
-use Rattle.vl_model.specs.declared.change.Change.TheVariants.{Set as Put}
 use Rattle.vl_model.specs.declared.limits.TheConstants.{MAX_TRANSACTION_KEYS, MAX_TRANSACTION_BYTES}
 use Rattle.vl_replay.specs.Sequential.{write_bytes, fits_transaction}
 use Rattle.vl_replay.proofs.WriteEntries.{len-insert_present, len-insert_absent}
@@ -24,7 +23,7 @@ pub returns-then-keys_fit : goal.returns-then-keys_fit
 returns-then-keys_fit c =
     let writes = c.args.self.now in
     let key = c.args.key.now in
-    let put = Put c.args.value.now in
+    let put = c.args.change.now in
     let keys : c.match-get.keys_fit ≡ leb (len (insert writes key put)) MAX_TRANSACTION_KEYS = elim c.match-get.branch [
       | in-Some w ↦
           let found = sym c.get.ensures ∙ ap option_copied w.in-Some.is in
@@ -39,7 +38,7 @@ pub returns-else-keys_fit : goal.returns-else-keys_fit
 returns-else-keys_fit c =
     let writes = c.args.self.now in
     let key = c.args.key.now in
-    let put = Put c.args.value.now in
+    let put = c.args.change.now in
     let keys : c.match-get.keys_fit ≡ leb (len (insert writes key put)) MAX_TRANSACTION_KEYS = elim c.match-get.branch [
       | in-Some w ↦
           let found = sym c.get.ensures ∙ ap option_copied w.in-Some.is in

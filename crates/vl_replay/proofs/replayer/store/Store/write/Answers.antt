@@ -5,8 +5,8 @@ use Rattle.vl_replay.specs.Sequential.{written}
 use Rattle.vl_replay.specs.Represents.{IsOpen, Represents, Gives}
 use Rattle.vl_script.specs.declared.answer.Answer.TheVariants.{Unknown}
 use Rattle.vl_replay.proofs.States.{IsInUse, held_in_use, other_in_use, none_in_use, gives_as, stands_kept, gives_write}
-use Rattle.vl_replay.proofs.replayer.store.Store.set.Goals as goal
-use Rattle.vl_replay.proofs.replayer.store.Store.set.Goals.{in_default-via-in-Some+else-is_named, in_default-via-in_default}
+use Rattle.vl_replay.proofs.replayer.store.Store.write.Goals as goal
+use Rattle.vl_replay.proofs.replayer.store.Store.write.Goals.{in_default-via-in-Some+else-is_named, in_default-via-in_default}
 
 pub returns-in-View-clause-answer : goal.returns-in-View-clause-answer
 returns-in-View-clause-answer c s rep =
@@ -15,20 +15,20 @@ returns-in-View-clause-answer c s rep =
     let same : bytes_eq c.args.name held.name ≡ true = ap (λ name. bytes_eq name held.name) (sym c.as_slice.ensures) ∙ sym c.is_named.ensures ∙ c.if-is_named.true in
     let open_thing = subst (λ o. IsOpen s.history o s.things) c.in-Some.is rep.in_use in
     let holds = subst (IsInUse s.history s.things c.args.name) c.in-View.is (held_in_use s.history s.things held c.args.name open_thing same) in
-    gives_as _ (ap (written s c.args.name c.args.key c.args.value) (holds.found_is ∙ ap Some holds.stands.1)) (record { answer_is = refl; stands = stands_kept r s held held.thing rep c.in-Some.is refl })
+    gives_as _ (ap (written s c.args.name c.args.key c.args.change) (holds.found_is ∙ ap Some holds.stands.1)) (record { answer_is = refl; stands = stands_kept r s held held.thing rep c.in-Some.is refl })
 
 pub returns-in-Some-clause-answer : goal.returns-in-Some-clause-answer
 returns-in-Some-clause-answer c s rep =
     let r = c.args.self.now in
     let held = c.in-Some.held in
     let same : bytes_eq c.args.name held.name ≡ true = ap (λ name. bytes_eq name held.name) (sym c.as_slice.ensures) ∙ sym c.is_named.ensures ∙ c.if-is_named.true in
-    gives_write c.write.result r s held c.args.name c.args.key c.args.value c.in-Transaction.number c.in-Transaction.writes c.write.new.writes rep c.in-Some.is same c.in-Transaction.is c.write.ensures.answer c.write.ensures.ok
+    gives_write c.write.result r s held c.args.name c.args.key c.args.change c.in-Transaction.number c.in-Transaction.writes c.write.new.writes rep c.in-Some.is same c.in-Transaction.is c.write.ensures.answer c.write.ensures.ok
 
 pub returns-clause-answer : goal.returns-clause-answer
 returns-clause-answer c s rep =
     let r = c.args.self.now in
-    let unknown : get s.things c.args.name ≡ None → Represents c.in_default.self s → Gives (Unknown c.args.name) c.in_default.self (written s c.args.name c.args.key c.args.value (get s.things c.args.name)) =
-    λ missing stands. gives_as _ (ap (written s c.args.name c.args.key c.args.value) missing) (record { answer_is = refl; stands = stands }) in
+    let unknown : get s.things c.args.name ≡ None → Represents c.in_default.self s → Gives (Unknown c.args.name) c.in_default.self (written s c.args.name c.args.key c.args.change (get s.things c.args.name)) =
+    λ missing stands. gives_as _ (ap (written s c.args.name c.args.key c.args.change) missing) (record { answer_is = refl; stands = stands }) in
     elim c.in_default.branch [
       | in_default-via-in-Some+else-is_named w ↦
           let held = w.in-Some.held in
