@@ -9,13 +9,11 @@
 
 mod commit;
 mod content;
-mod laws;
 mod read;
 mod write;
 
 pub use commit::Commit;
 pub use content::read_log;
-pub use laws::{one_commit, one_reading};
 pub use read::read_commit;
 pub use write::{LOG_HEADER_BYTES, log_header, write_commit};
 
