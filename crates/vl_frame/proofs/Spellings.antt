@@ -1,89 +1,17 @@
--- Bytes that begin with a kind, a body and a check have one such beginning, and it is found by reading them from the left.
-use Rattle.std.proofs.Common.{◌≡◌, ℕ, zero, suc, ◌+◌, ◌-◌, ◌<◌, ◌≤◌, ◌^◌, cond, nat_eq, List, [], ◌∷◌, ◌++◌, length, take, drop, get_or, refl, sym, ap, subst, ◌∙◌, append_assoc, arith}
-use Rattle.std.proofs.lemmas.List.{take_all, take_at, drop_at, take-append-drop, length-append, length-take-le, length-drop, get_or-drop}
+-- Bytes that begin with a kind, a body and a check are read from the left.
+use Rattle.std.proofs.Common.{◌≡◌, ℕ, zero, suc, ◌+◌, ◌-◌, ◌<◌, ◌≤◌, List, [], ◌∷◌, ◌++◌, length, take, drop, get_or, refl, sym, ap, ◌∙◌, append_assoc, arith}
+use Rattle.std.proofs.lemmas.List.{take_all, drop_at, take-append-drop, length-append, length-take-le, length-drop, get_or-drop}
 use Rattle.std.proofs.lemmas.Nat.{be_bytes_4}
 use Rattle.byteorder.specs.Endian.{big_bytes, big_number}
-use Rattle.byteorder.specs.Numbers.{big_number-reads_back, big_from-lt}
-use Rattle.sha2.specs.Sha256.{sha256}
-use Rattle.sha2.proofs.Facts256.{length-sha256}
+use Rattle.byteorder.specs.Numbers.{big_from-lt}
 use Rattle.vl_frame.specs.declared.kinds.FileKind.{FileKind}
 use Rattle.vl_frame.specs.declared.kinds.FrameKind.{FrameKind}
-use Rattle.vl_frame.specs.declared.kinds.FrameKind.TheVariants.{Commit, Move, Block, Index, Footer, Edits}
-use Rattle.vl_frame.specs.Frame.{frame_code, head_bytes, spelling, check_of, frame_bytes, IsSpelled, file_of, place_bytes}
+use Rattle.vl_frame.specs.Frame.{frame_code, head_bytes, spelling, check_of, frame_bytes, IsSpelled, file_of}
+use Rattle.vl_frame.specs.Laws.{length-frame_bytes, one_apart, spelled_apart}
 use Rattle.vl_frame.specs.Parts.{IsApart}
 
 abbrev pub IsBytes : List ℕ → Type 0
 IsBytes bytes = (i : ℕ) → get_or bytes i 0 < 256
-
--- ---- the byte of a kind
-
-kind_at : ℕ → FrameKind
-kind_at n = cond (nat_eq n 1) Commit (cond (nat_eq n 2) Move (cond (nat_eq n 3) Block (cond (nat_eq n 4) Index (cond (nat_eq n 5) Footer Edits))))
-
-kind_at-code : (kind : FrameKind) → kind_at (frame_code kind) ≡ kind
-unfolding kind_at
-kind_at-code Commit = refl
-kind_at-code Move = refl
-kind_at-code Block = refl
-kind_at-code Index = refl
-kind_at-code Footer = refl
-kind_at-code Edits = refl
-
-one_code : (kind kind' : FrameKind) → frame_code kind ≡ frame_code kind' → kind ≡ kind'
-one_code kind kind' e = sym (kind_at-code kind) ∙ ap kind_at e ∙ kind_at-code kind'
-
--- ---- lengths
-
-length-check_of : (number at : ℕ) (kind : FrameKind) (body : List ℕ) → length (check_of number at kind body) ≡ 8
-unfolding check_of
-length-check_of number at kind body =
-    let m = place_bytes (file_of kind) number at ++ head_bytes kind (length body) ++ body in
-    length-take-le 8 (sha256 m) (omega (arith, length-sha256 m))
-
-length-spelling : (kind : FrameKind) (body check : List ℕ) → length check ≡ 8 → length (spelling kind body check) ≡ length body + 13
-length-spelling kind body check e = omega (arith, length-append body check)
-
-pub frame_bytes_length : (number at : ℕ) (kind : FrameKind) (body : List ℕ) → length (frame_bytes number at kind body) ≡ length body + 13
-unfolding frame_bytes
-frame_bytes_length number at kind body = length-spelling kind body (check_of number at kind body) (length-check_of number at kind body)
-
--- ---- the parts of what is spelled
-
--- what a reader meets at the front of a spelling
-record Meets (bytes : List ℕ) (kind : FrameKind) (body check : List ℕ) : Type 0 where
-  code : get_or bytes 0 0 ≡ frame_code kind
-  size : big_number 4 (drop 1 bytes) ≡ length body
-  body_there : take (length body) (drop 5 bytes) ≡ body
-  check_there : take 8 (drop (length body) (drop 5 bytes)) ≡ check
-
-meets_spelling : (kind : FrameKind) (body check rest : List ℕ) → length body < 2 ^ 32 → length check ≡ 8 → Meets (spelling kind body check ++ rest) kind body check
-meets_spelling kind body check rest short e = record {
-  code = refl;
-  size = big_number-reads_back 4 (length body) ((body ++ check) ++ rest) short;
-  body_there = ap (take (length body)) (append_assoc body check rest) ∙ take_at body (check ++ rest) (length body) refl;
-  check_there = ap (λ l. take 8 (drop (length body) l)) (append_assoc body check rest) ∙ ap (take 8) (drop_at body (check ++ rest) (length body) refl) ∙ take_at check rest 8 e;
-}
-
-meets : (bytes : List ℕ) (kind : FrameKind) (body check : List ℕ) → IsApart bytes kind body check → Meets bytes kind body check
-meets bytes kind body check apart =
-    subst (λ bs. Meets bs kind body check) (sym apart.spelled) (meets_spelling kind body check apart.rest apart.short apart.check_length)
-
--- the parts are the only ones
-pub one_apart : (bytes : List ℕ) (kind kind' : FrameKind) (body body' check check' : List ℕ) → IsApart bytes kind body check → IsApart bytes kind' body' check'
-    → (kind ≡ kind') × (body ≡ body') × (check ≡ check')
-one_apart bytes kind kind' body body' check check' p q =
-    let m = meets bytes kind body check p in
-    let n = meets bytes kind' body' check' q in
-    let size : length body ≡ length body' = sym m.size ∙ n.size in (
-      one_code kind kind' (sym m.code ∙ n.code),
-      sym m.body_there ∙ ap (λ (k : ℕ). take k (drop 5 bytes)) size ∙ n.body_there,
-      sym m.check_there ∙ ap (λ (k : ℕ). take 8 (drop k (drop 5 bytes))) size ∙ n.check_there,
-    )
-
--- a frame that is spelled comes apart
-pub spelled_apart : (file : FileKind) (number at : ℕ) (bytes : List ℕ) (kind : FrameKind) (body : List ℕ) → IsSpelled file number at bytes kind body → IsApart bytes kind body (check_of number at kind body)
-unfolding frame_bytes
-spelled_apart file number at bytes kind body s = record { short = s.short; check_length = length-check_of number at kind body; rest = s.rest; spelled = s.spelled }
 
 -- what comes apart and has its check is spelled
 pub apart_spelled : (file : FileKind) (number at : ℕ) (bytes : List ℕ) (kind : FrameKind) (body check : List ℕ) → IsApart bytes kind body check → file_of kind ≡ file → check ≡ check_of number at kind body
@@ -91,13 +19,6 @@ pub apart_spelled : (file : FileKind) (number at : ℕ) (bytes : List ℕ) (kind
 unfolding frame_bytes
 apart_spelled file number at bytes kind body check apart in_file e =
     record { in_file = in_file; short = apart.short; rest = apart.rest; spelled = apart.spelled ∙ ap (λ c. spelling kind body c ++ apart.rest) e }
-
-pub one_spelled : (file : FileKind) (number at : ℕ) (bytes : List ℕ) (kind kind' : FrameKind) (body body' : List ℕ) → IsSpelled file number at bytes kind body → IsSpelled file number at bytes kind' body' → (kind ≡ kind') × (body ≡ body')
-one_spelled file number at bytes kind kind' body body' p q =
-    let one = one_apart bytes kind kind' body body' (check_of number at kind body) (check_of number at kind' body') (spelled_apart file number at bytes kind body p) (spelled_apart file number at bytes kind' body' q) in
-    (one.0, one.1)
-
--- ---- reading from the left
 
 four_fit : (a b c d e : ℕ) (rest : List ℕ) → IsBytes (a ∷ b ∷ c ∷ d ∷ e ∷ rest) → IsBytes (b ∷ c ∷ d ∷ e ∷ [])
 four_fit a b c d e rest fits zero = fits 1
@@ -152,6 +73,6 @@ comes_apart file number at bytes kind kind' body body' check p s =
 pub rest_behind : (file : FileKind) (number at : ℕ) (bytes : List ℕ) (kind : FrameKind) (body : List ℕ) → IsSpelled file number at bytes kind body
     → (length body + 13 ≤ length bytes) × (bytes ≡ frame_bytes number at kind body ++ drop (length body + 13) bytes)
 rest_behind file number at bytes kind body s =
-    let size = frame_bytes_length number at kind body in
+    let size = length-frame_bytes number at kind body in
     let tail : drop (length body + 13) bytes ≡ s.rest = ap (drop (length body + 13)) s.spelled ∙ drop_at (frame_bytes number at kind body) s.rest (length body + 13) size in
     (omega (arith, size, ap length s.spelled, length-append (frame_bytes number at kind body) s.rest), s.spelled ∙ ap (λ l. frame_bytes number at kind body ++ l) (sym tail))

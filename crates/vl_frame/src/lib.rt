@@ -18,7 +18,6 @@
 mod checks;
 mod frame;
 mod kinds;
-mod laws;
 mod limits;
 mod parts;
 mod reading;
@@ -26,7 +25,6 @@ mod writing;
 
 pub use frame::Frame;
 pub use kinds::{FileKind, FrameKind};
-pub use laws::{frame_length, one_spelling};
 pub use limits::{FRAME_BYTES, MAX_BODY_BYTES};
 pub use reading::read_frame;
 pub use writing::write_frame;

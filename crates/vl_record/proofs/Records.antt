@@ -1,65 +1,17 @@
--- Records: how long they are, that a spelling is of one record, and what the steps of a reader say of the record at the front.
-use Rattle.std.proofs.Common.{◌≡◌, ◌+◌, ◌<◌, ◌≢◌, ℕ, List, [], ◌++◌, true, false, length, drop, get_or, refl, ap, sym, ◌∙◌, arith, append_assoc, length-append}
+-- What the steps of a reader say of the record at the front.
+use Rattle.std.proofs.Common.{◌≡◌, ◌+◌, ◌<◌, ◌≢◌, ℕ, List, [], ◌++◌, true, false, length, refl, ap, sym, ◌∙◌, arith, append_assoc, length-append}
 use Rattle.std.specs.Prelude.{Option, Some, None, IfNone}
 use Rattle.std.proofs.lemmas.Bool.Decides.{nat_tests}
 use Rattle.std.proofs.lemmas.List.{nil_from_length}
-use Rattle.byteorder.specs.Endian.{big_bytes}
 use Rattle.vl_model.specs.Keys.{is_key_length, is_value_length}
 use Rattle.vl_model.specs.declared.change.Change.{Change}
 use Rattle.vl_model.specs.declared.change.Change.TheVariants.{Set, Delete}
-use Rattle.vl_record.specs.Record.{IsRecord, IsSpelled, flag_of, head_bytes, is_head, record_bytes, record_length, value_bytes}
-use Rattle.vl_record.proofs.Fronts.{same_front, same_number}
-
-pub length-record_bytes : (key : List ℕ) (change : Change) → length (record_bytes key change) ≡ record_length key change
-unfolding record_bytes
-length-record_bytes key change = omega (arith, length-append key (value_bytes change))
-
-key_length-fits : (n : ℕ) → is_key_length n ≡ true → n < 65536
-key_length-fits n lawful = grind (arith, nat_tests)
-
-value_length-fits : (n : ℕ) → is_value_length n ≡ true → n < 4294967296
-value_length-fits n lawful = grind (arith, nat_tests)
-
-record SameHead (f k v f' k' v' : ℕ) (x y : List ℕ) : Type 0 where
-  pub flag : f ≡ f'
-  pub key_length : k ≡ k'
-  pub value_length : v ≡ v'
-  pub behind : x ≡ y
-
-same_head : (f k v f' k' v' : ℕ) (x y : List ℕ) → k < 65536 → k' < 65536 → v < 4294967296 → v' < 4294967296 → head_bytes f k v ++ x ≡ head_bytes f' k' v' ++ y → SameHead f k v f' k' v' x y
-same_head f k v f' k' v' x y k-fits k'-fits v-fits v'-fits e =
-    let tails : big_bytes 2 k ++ (big_bytes 4 v ++ x) ≡ big_bytes 2 k' ++ (big_bytes 4 v' ++ y) = ap (drop 1) e in
-    let a = same_number 2 k k' _ _ k-fits k'-fits tails in
-    let b = same_number 4 v v' x y v-fits v'-fits a.1 in
-    record { flag = ap (λ (l : List ℕ). get_or l 0 0) e; key_length = a.0; value_length = b.0; behind = b.1 }
-
-same_change : (one other : Change) → flag_of one ≡ flag_of other → value_bytes one ≡ value_bytes other → one ≡ other
-same_change (Set a) (Set b) flags values = ap Set values
-same_change (Set a) Delete flags values = absurd (omega arith)
-same_change Delete (Set b) flags values = absurd (omega arith)
-same_change Delete Delete flags values = refl
+use Rattle.vl_record.specs.Laws.{spelled_head}
+use Rattle.vl_record.specs.Record.{IsRecord, IsSpelled, flag_of, head_bytes, is_head, record_bytes, value_bytes}
 
 is_head-record : (key : List ℕ) (change : Change) → IsRecord key change → is_head (flag_of change) (length key) (length (value_bytes change)) ≡ true
 is_head-record key (Set value) lawful = let a = lawful.key_length in let b = lawful.value_length in grind (arith, nat_tests)
 is_head-record key Delete lawful = let a = lawful.key_length in grind (arith, nat_tests)
-
--- the numbers at the front of a record's spelling are the record's
-spelled_head : (bytes rest key : List ℕ) (change : Change) (f k v : ℕ) → k < 65536 → v < 4294967296 → bytes ≡ head_bytes f k v ++ rest → (s : IsSpelled bytes key change) →
-    SameHead f k v (flag_of change) (length key) (length (value_bytes change)) rest ((key ++ value_bytes change) ++ s.rest)
-unfolding record_bytes
-spelled_head bytes rest key change f k v k-fits v-fits e s =
-    same_head f k v (flag_of change) (length key) (length (value_bytes change)) rest ((key ++ value_bytes change) ++ s.rest)
-    k-fits (key_length-fits _ s.lawful.key_length) v-fits (value_length-fits _ s.lawful.value_length) (sym e ∙ s.parts)
-
-pub same_record : (bytes key other_key : List ℕ) (change other_change : Change) → IsSpelled bytes key change → IsSpelled bytes other_key other_change → (key ≡ other_key) × (change ≡ other_change)
-unfolding record_bytes
-same_record bytes key other_key change other_change one other =
-    let head = spelled_head bytes ((key ++ value_bytes change) ++ one.rest) other_key other_change (flag_of change) (length key) (length (value_bytes change))
-    (key_length-fits _ one.lawful.key_length) (value_length-fits _ one.lawful.value_length) one.parts other in
-    let keys = same_front key other_key (value_bytes change ++ one.rest) (value_bytes other_change ++ other.rest) head.key_length
-    (sym (append_assoc key (value_bytes change) one.rest) ∙ head.behind ∙ append_assoc other_key (value_bytes other_change) other.rest) in
-    let values = same_front (value_bytes change) (value_bytes other_change) one.rest other.rest head.value_length keys.1 in
-    (keys.0, same_change change other_change head.flag values.0)
 
 -- too few bytes for a head
 pub none_without_head : (bytes key : List ℕ) (change : Change) → length bytes < 7 → IsSpelled bytes key change → ⊥

@@ -6,7 +6,7 @@ use Rattle.byteorder.specs.Endian.{big_bytes}
 use Rattle.vl_model.specs.Keys.{key_cmp}
 use Rattle.vl_model.specs.declared.change.Change.{Change}
 use Rattle.vl_model.specs.declared.limits.TheConstants.{MAX_COMMIT_NUMBER}
-use Rattle.vl_record.proofs.Fronts.{same_number}
+use Rattle.vl_record.specs.Numbers.{one_number}
 use Rattle.vl_seglog.specs.Log.{Commit, IsCommit, commit_body, head_bytes, records_bytes}
 use Rattle.vl_seglog.specs.Reading.{IsRun}
 
@@ -25,8 +25,8 @@ pub agrees : (body : List ℕ) (number count : ℕ) (rest : List ℕ) (c : Commi
 unfolding commit_body
 agrees body number count rest c number_fits count_fits e lawful spelled =
     let both : big_bytes 8 number ++ (big_bytes 4 count ++ rest) ≡ big_bytes 8 c.number ++ (big_bytes 4 (length c.writes) ++ records_bytes c.writes) = sym e ∙ spelled in
-    let a = same_number 8 number c.number _ _ number_fits (omega (arith, lawful.last)) both in
-    let b = same_number 4 count (length c.writes) _ _ count_fits lawful.few a.1 in
+    let a = one_number 8 number c.number _ _ number_fits (omega (arith, lawful.last)) both in
+    let b = one_number 4 count (length c.writes) _ _ count_fits lawful.few a.1 in
     record { number = a.0; count = b.0; run = record { counted = sym b.0; lawful = lawful.lawful; spelled = b.1 } }
 
 -- a head and a run behind it

@@ -3,4 +3,5 @@ pub mod Frames
 pub mod Logs
 pub mod Options
 pub mod Order
+pub mod Placing
 pub mod Runs

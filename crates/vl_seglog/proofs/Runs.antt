@@ -3,8 +3,7 @@ use Rattle.std.proofs.Common.{◌≡◌, ℕ, ◌+◌, ◌-◌, ◌<◌, ◌≤�
 use Rattle.std.proofs.lemmas.List.{append-nil, drop_at, take_all, length-drop}
 use Rattle.vl_model.specs.declared.change.Change.{Change}
 use Rattle.vl_record.specs.Record.{IsRecord, IsSpelled, record_bytes, record_length}
-use Rattle.vl_record.proofs.Fronts.{same_front}
-use Rattle.vl_record.proofs.Records.{length-record_bytes, same_record}
+use Rattle.vl_record.specs.Laws.{length-record_bytes, one_record}
 use Rattle.vl_seglog.specs.Log.{AreRecords, records_bytes}
 use Rattle.vl_seglog.specs.Reading.{IsRun}
 
@@ -64,10 +63,8 @@ behind (r ∷ read) (w ∷ writes) rest p q le e =
     let regrouped : record_bytes r.0 r.1 ++ (records_bytes read ++ rest) ≡ record_bytes w.0 w.1 ++ records_bytes writes = sym (append_assoc (record_bytes r.0 r.1) (records_bytes read) rest) ∙ e in
     let one : IsSpelled (record_bytes r.0 r.1 ++ (records_bytes read ++ rest)) r.0 r.1 = record { lawful = p.0; rest = records_bytes read ++ rest; parts = refl } in
     let other : IsSpelled (record_bytes r.0 r.1 ++ (records_bytes read ++ rest)) w.0 w.1 = record { lawful = q.0; rest = records_bytes writes; parts = regrouped } in
-    let same = same_record (record_bytes r.0 r.1 ++ (records_bytes read ++ rest)) r.0 w.0 r.1 w.1 one other in
-    let fronts : record_bytes r.0 r.1 ≡ record_bytes w.0 w.1 = ap (λ (k : List ℕ). record_bytes k r.1) same.0 ∙ ap (record_bytes w.0) same.1 in
-    let tails = same_front (record_bytes r.0 r.1) (record_bytes w.0 w.1) (records_bytes read ++ rest) (records_bytes writes) (ap length fronts) regrouped in
-    let b = behind read writes rest p.1 q.1 (omega arith) tails.1 in
+    let same = one_record (record_bytes r.0 r.1 ++ (records_bytes read ++ rest)) r.0 w.0 r.1 w.1 one other in
+    let b = behind read writes rest p.1 q.1 (omega arith) same.2 in
     let front : w ≡ r = λ i. (sym same.0 i, sym same.1 i) in
     record { later = b.later; split = ap (λ (x : List ℕ × Change). x ∷ writes) front ∙ ap (λ (ws : List (List ℕ × Change)). r ∷ ws) b.split; lawful = b.lawful; spelled = b.spelled }
 
@@ -100,15 +97,3 @@ no_run_over bytes count total read rest so_far eq some writes run =
 pub run_done : (bytes : List ℕ) (count total : ℕ) (read : List (List ℕ × Change)) (rest : List ℕ) → SoFar bytes count read rest → count ≡ total → rest ≡ [] → IsRun bytes total read
 run_done bytes count total read rest so_far eq empty =
     record { counted = so_far.counted ∙ eq; lawful = so_far.lawful; spelled = so_far.spelled ∙ ap (λ (r : List ℕ). records_bytes read ++ r) empty ∙ append-nil (records_bytes read) }
-
-nothing_later : (later : List (List ℕ × Change)) → length later ≡ 0 → later ≡ []
-nothing_later [] none = refl
-nothing_later (w ∷ later) none = absurd (omega arith)
-
--- the bytes are one run
-pub one_run : (bytes : List ℕ) (count : ℕ) (read writes : List (List ℕ × Change)) → IsRun bytes count read → IsRun bytes count writes → writes ≡ read
-one_run bytes count read writes p q =
-    let so_far : SoFar bytes count read [] = record { counted = p.counted; lawful = p.lawful; spelled = p.spelled ∙ sym (append-nil (records_bytes read)) } in
-    let b = behind_so_far bytes count count read writes [] so_far (omega arith) q in
-    let none : b.later ≡ [] = nothing_later b.later (omega (arith, p.counted, q.counted, ap length b.split, length-append read b.later)) in
-    b.split ∙ ap (λ (l : List (List ℕ × Change)). read ++ l) none ∙ append-nil read

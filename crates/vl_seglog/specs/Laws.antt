@@ -1,4 +1,5 @@
--- What a log's bytes are while commits are written behind one another, and what they hold when a last write was cut.
+-- What the definition of a log says: that its bytes hold one list of commits, what they are while commits are written behind one another, and what they hold
+-- when a last write was cut.
 use Rattle.std.specs.Prelude.{◌≡◌, ◌⊎◌, ℕ, ◌+◌, ◌≤◌, List, [], ◌∷◌, ◌++◌, length, take, drop, refl, true, false, bytes_eq}
 use Rattle.std.specs.List.{AllByRecursion, sum_by}
 use Rattle.std.proofs.Common.{sym, ap, subst, ◌∙◌, append_assoc, length-append, arith, inl, inr, ⊎_elim}
@@ -7,14 +8,16 @@ use Rattle.std.proofs.lemmas.Bool.Decides.{not_from_Decides}
 use Rattle.std.proofs.lemmas.List.{append-nil, take_at, take-append-drop}
 use Rattle.std.proofs.lemmas.List.Sums.{sum_by-cons}
 use Rattle.std.proofs.lemmas.Slice.Eq.{bytes_eq-Decides}
-use Rattle.vl_frame.proofs.Spellings.{frame_bytes_length, one_spelled}
+use Rattle.byteorder.specs.Endian.{big_bytes}
 use Rattle.vl_frame.specs.Frame.{IsSpelled, frame_bytes}
+use Rattle.vl_frame.specs.Laws.{length-frame_bytes, one_frame}
 use Rattle.vl_frame.specs.declared.kinds.FileKind.TheVariants as files
 use Rattle.vl_frame.specs.declared.kinds.FrameKind.TheVariants as kinds
 use Rattle.vl_model.specs.declared.change.Change.{Change}
-use Rattle.vl_record.proofs.Records.{length-record_bytes}
-use Rattle.vl_record.specs.Record.{record_bytes, record_length}
-use Rattle.vl_seglog.specs.Log.{Commit, HasFrame, ReadsAs, ReadsLog, StandsAt, commit_body, commit_frame, frames_bytes, log_bytes, log_header, records_bytes}
+use Rattle.vl_record.specs.Laws.{length-record_bytes, one_record}
+use Rattle.vl_record.specs.Numbers.{one_number}
+use Rattle.vl_record.specs.Record.{IsSpelled as IsRecordSpelled, record_bytes, record_length}
+use Rattle.vl_seglog.specs.Log.{AreRecords, Commit, HasFrame, IsCommit, ReadsAs, ReadsLog, StandsAt, commit_body, commit_frame, frames_bytes, log_bytes, log_header, records_bytes}
 
 -- ---- lengths
 
@@ -33,10 +36,56 @@ body_length c = omega arith
 
 -- A commit's frame has 13 bytes of the frame, 12 of the number and the count, and the records.
 pub commit_frame-length : (file at : ℕ) (c : Commit) → length (commit_frame file at c) ≡ 25 + sum_by (λ write. record_length write.0 write.1) c.writes
-commit_frame-length file at c = omega (arith, frame_bytes_length file at kinds.Commit (commit_body c), body_length c, records_length c.writes)
+commit_frame-length file at c = omega (arith, length-frame_bytes file at kinds.Commit (commit_body c), body_length c, records_length c.writes)
 
 pub frame_is_some : (file at : ℕ) (c : Commit) → 1 ≤ length (commit_frame file at c)
-frame_is_some file at c = omega (arith, frame_bytes_length file at kinds.Commit (commit_body c))
+frame_is_some file at c = omega (arith, length-frame_bytes file at kinds.Commit (commit_body c))
+
+-- ---- one commit, one reading
+
+-- So many records one behind the other are spelled in one way.
+pub one_records : (writes others : List (List ℕ × Change)) → AreRecords writes → AreRecords others → length writes ≡ length others → records_bytes writes ≡ records_bytes others → writes ≡ others
+one_records [] [] p q counts e = refl
+one_records [] (o ∷ others) p q counts e = absurd (omega arith)
+one_records (w ∷ writes) [] p q counts e = absurd (omega arith)
+one_records (w ∷ writes) (o ∷ others) p q counts e =
+    let bytes = records_bytes (w ∷ writes) in
+    let one : IsRecordSpelled bytes w.0 w.1 = record { lawful = p.0; rest = records_bytes writes; parts = refl } in
+    let other : IsRecordSpelled bytes o.0 o.1 = record { lawful = q.0; rest = records_bytes others; parts = e } in
+    let same = one_record bytes w.0 o.0 w.1 o.1 one other in
+    let first : w ≡ o = λ i. (same.0 i, same.1 i) in
+    ap (λ (x : List ℕ × Change). x ∷ writes) first ∙ ap (λ (l : List (List ℕ × Change)). o ∷ l) (one_records writes others p.1 q.1 (omega arith) same.2)
+
+one_body : (c d : Commit) → IsCommit c → IsCommit d → commit_body c ≡ commit_body d → c ≡ d
+unfolding commit_body
+one_body c d p q e =
+    let bytes : big_bytes 8 c.number ++ (big_bytes 4 (length c.writes) ++ records_bytes c.writes) ≡ big_bytes 8 d.number ++ (big_bytes 4 (length d.writes) ++ records_bytes d.writes) = e in
+    let a = one_number 8 c.number d.number _ _ (omega (arith, p.last)) (omega (arith, q.last)) bytes in
+    let b = one_number 4 (length c.writes) (length d.writes) _ _ p.few q.few a.1 in
+    let writes = one_records c.writes d.writes p.lawful q.lawful b.0 b.1 in
+    λ i. record { number = a.0 i; writes = writes i }
+
+-- A commit stands as a frame.
+pub frame_of : (file at : ℕ) (bytes : List ℕ) (c : Commit) (rest : List ℕ) → StandsAt file at bytes c rest → IsSpelled files.Log file at bytes kinds.Commit (commit_body c)
+frame_of file at bytes c rest s = record { in_file = refl; short = s.short; rest = rest; spelled = s.spelled }
+
+-- At one place of one log no two commits stand at the front of the same bytes, and what stands behind the commit is the same.
+pub one_commit : (file at : ℕ) (bytes : List ℕ) (c d : Commit) (rest other : List ℕ) → StandsAt file at bytes c rest → StandsAt file at bytes d other → (c ≡ d) × (rest ≡ other)
+unfolding frame_of
+one_commit file at bytes c d rest other p q =
+    let frames = one_frame files.Log file at bytes kinds.Commit kinds.Commit (commit_body c) (commit_body d) (frame_of file at bytes c rest p) (frame_of file at bytes d other q) in
+    (one_body c d p.lawful q.lawful frames.1, frames.2)
+
+-- A log's bytes hold one list of commits.
+pub one_reading : (file at : ℕ) (bytes : List ℕ) (commits others : List Commit) → ReadsAs file at bytes commits → ReadsAs file at bytes others → commits ≡ others
+one_reading file at bytes [] [] p q = refl
+one_reading file at bytes [] (d ∷ others) p q = absurd (p d q.0 q.1)
+one_reading file at bytes (c ∷ commits) [] p q = absurd (q c p.0 p.1)
+one_reading file at bytes (c ∷ commits) (d ∷ others) p q =
+    let one = one_commit file at bytes c d p.0 q.0 p.1 q.1 in
+    let tail : ReadsAs file (at + length (commit_frame file at c)) p.0 others =
+    subst (λ (x : Commit). ReadsAs file (at + length (commit_frame file at x)) p.0 others) (sym one.0) (subst (λ (r : List ℕ). ReadsAs file (at + length (commit_frame file at d)) r others) (sym one.1) q.2) in
+    ap (λ (x : Commit). x ∷ commits) one.0 ∙ ap (λ (l : List Commit). d ∷ l) (one_reading file (at + length (commit_frame file at c)) p.0 commits others p.2 tail)
 
 -- ---- one commit more
 
@@ -116,7 +165,7 @@ one_front file at c d p q front =
     let whole : frame ≡ commit_frame file at d ++ drop n frame = sym (take-append-drop n frame) ∙ ap (λ (bytes : List ℕ). bytes ++ drop n frame) front in
     let one : IsSpelled files.Log file at frame kinds.Commit (commit_body c) = record { in_file = refl; short = p.short; rest = []; spelled = sym (append-nil frame) } in
     let other : IsSpelled files.Log file at frame kinds.Commit (commit_body d) = record { in_file = refl; short = q.short; rest = drop n frame; spelled = whole } in
-    ap (λ (body : List ℕ). frame_bytes file at kinds.Commit body) (one_spelled files.Log file at frame kinds.Commit kinds.Commit (commit_body d) (commit_body c) other one).1
+    ap (λ (body : List ℕ). frame_bytes file at kinds.Commit body) (one_frame files.Log file at frame kinds.Commit kinds.Commit (commit_body d) (commit_body c) other one).1
 
 -- of the frame of c, which was being written, a frame at the front of the tail is a front, and behind it stands nothing
 module _ (file at : ℕ) (c : Commit) (has : HasFrame c) (tail : List ℕ)

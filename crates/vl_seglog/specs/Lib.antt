@@ -1,3 +1,5 @@
 pub mod Laws
 pub mod Log
+pub mod PointerLaws
+pub mod Pointers
 pub mod Reading

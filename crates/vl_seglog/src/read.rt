@@ -1,6 +1,5 @@
 //! Reading one commit.
 
-mod numbers;
 mod order;
 mod records;
 
@@ -9,12 +8,12 @@ ghost use Rattle.vl_seglog.specs.Log as log;
 ghost use Rattle.vl_seglog.specs.Reading.{commit_of};
 
 use crate::commit::Commit;
-use crate::read::numbers::{take_u32, take_u64};
 use crate::read::order::is_rising;
 use crate::read::records::read_records;
 use std::alloc::{AllocError, Global};
 use vl_frame::{FileKind, FrameKind, read_frame};
 use vl_model::MAX_COMMIT_NUMBER;
+use vl_record::{take_u32, take_u64};
 
 /// The commit whose frame stands at the front of the bytes, which are those of the log with the number `file` from the
 /// place `at` on, and the bytes behind the frame.

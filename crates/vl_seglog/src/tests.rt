@@ -5,7 +5,10 @@ ghost use Rattle.vl_model.specs.declared.limits.TheConstants.{MAX_COMMIT_NUMBER}
 use super::*;
 use std::alloc::{AllocError, Global};
 use std::test::Fail;
+use vl_disk::{Disk, Name, make_file};
+use vl_mem::MemDisk;
 use vl_model::{Bytes, Change, Key};
+use vl_record::Pointer;
 
 // The commit 1 of key 61 with value 01, at place 16 of the log 1.
 const FRAME: [u8; 34] = [
@@ -81,4 +84,35 @@ fn finds_nothing_elsewhere(rt: HostRuntime) -> Result<(), Fail> {
     assert!(rt; read_commit(alloc, &FRAME, 2, 16)?.is_none());
     assert!(rt; read_commit(alloc, &FRAME[..33], 1, 16)?.is_none());
     Ok(())
+}
+
+#[test]
+fn a_log_takes_a_staged_commit(rt: HostRuntime) -> Result<(), Fail> {
+    let alloc = rt.alloc();
+    let mut disk = MemDisk::new(alloc, Vec::new(alloc));
+    disk.ready(Name::Log(1), 16)?;
+    make_file(&mut disk, Name::Log(1), &log_header(1))?;
+    let mut active = ActiveLog::new(1);
+    let writes = [one_write(alloc)?];
+    let staged = active.stage_commit(alloc, &mut disk, 1, &writes)?;
+    assert_eq!(rt; staged.frame.as_slice(), FRAME.as_slice());
+    let record = Pointer {
+        segment: 1,
+        place: 33,
+        length: 9,
+    };
+    assert_eq!(rt; staged.pointers.as_slice(), [record].as_slice());
+    active.append_commit(&mut disk, &staged)?;
+    active.sync(&mut disk)?;
+    assert_eq!(rt; active.length, 50);
+    assert!(rt; ends_in_frame(&disk));
+    Ok(())
+}
+
+// Whether the log 1 is a header and the worked frame.
+fn ends_in_frame(disk: &MemDisk) -> bool {
+    match disk.bytes(Name::Log(1)) {
+        Some(bytes) => bytes.len() == 50 && &bytes[16..] == FRAME.as_slice(),
+        None => false,
+    }
 }

@@ -2,10 +2,10 @@ use Rattle.std.proofs.Common.{◌≡◌, ℕ, List, true, false, sym, ap, ◌∙
 use Rattle.std.specs.FinMap.{is_sorted}
 use Rattle.vl_model.specs.Keys.{key_cmp}
 use Rattle.vl_model.specs.declared.change.Change.{Change}
+use Rattle.vl_seglog.specs.Laws.{one_records}
 use Rattle.vl_seglog.specs.Reading.{IsRun}
 use Rattle.vl_seglog.proofs.Bodies.{agrees, is_body, no_head}
 use Rattle.vl_seglog.proofs.Options.{at_none}
-use Rattle.vl_seglog.proofs.Runs.{one_run}
 use Rattle.vl_seglog.proofs.read.read_body.Goals as goal
 use Rattle.vl_seglog.proofs.read.read_body.Goals.{then-number-eq0-via-then-number-eq0, then-number-eq0-via-else-number-eq0+then-number-gt-MAX_COMMIT_NUMBER, then-number-eq0-via-else-number-eq0+else-number-gt-MAX_COMMIT_NUMBER+then-count-eq0}
 
@@ -31,7 +31,7 @@ pub returns-then-not-is_rising-clause-none : goal.returns-then-not-is_rising-cla
 returns-then-not-is_rising-clause-none c = λ commit lawful spelled.
     let a = agrees c.args.body.now c.in-Some.number c.in-Some.count c.in-Some.rest.now commit c.in-Some.ensures.fits.0 c.in-Some.ensures.fits.1 c.in-Some.ensures.found lawful spelled in
     let run = rw c.in-Some-2.is at c.in_ok-writes.ensures.found in
-    let one : commit.writes ≡ c.in-Some-2.writes.items = one_run c.in-Some.rest.now c.in-Some.count c.in-Some-2.writes.items commit.writes run a.run in
+    let one : commit.writes ≡ c.in-Some-2.writes.items = one_records commit.writes c.in-Some-2.writes.items a.run.lawful run.lawful (a.run.counted ∙ sym run.counted) (sym a.run.spelled ∙ run.spelled) in
     let falls : is_sorted key_cmp c.in-Some-2.writes.items ≡ false = sym (ap (is_sorted key_cmp) c.deref.ensures.value) ∙ sym c.is_rising.ensures ∙ c.if-not-is_rising.true in
     let rises : is_sorted key_cmp commit.writes ≡ true = lawful.rising in
     cc (falls, rises, ap (is_sorted key_cmp) one)

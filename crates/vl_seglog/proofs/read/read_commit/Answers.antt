@@ -1,7 +1,8 @@
 use Rattle.std.proofs.lemmas.Bool.{true≢false}
 use Rattle.vl_frame.specs.declared.kinds.FrameKind.TheVariants as kinds
+use Rattle.vl_seglog.specs.Laws.{frame_of}
 use Rattle.vl_seglog.specs.Log.{commit_body}
-use Rattle.vl_seglog.proofs.Frames.{frame_of, found_of}
+use Rattle.vl_seglog.proofs.Frames.{found_of}
 use Rattle.vl_seglog.proofs.read.read_commit.Goals as goal
 
 pub returns-in_default-clause-none : goal.returns-in_default-clause-none

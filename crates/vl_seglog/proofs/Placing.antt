@@ -1,0 +1,59 @@
+-- Pointers to records one behind the other are found from the left.
+use Rattle.std.proofs.Common.{◌≡◌, ℕ, suc, ◌+◌, ◌<◌, ◌^◌, List, [], ◌∷◌, ◌++◌, length, drop, get_or, sym, ap, subst, ◌∙◌, append_assoc, length-append, arith}
+use Rattle.std.proofs.Math.Seq.{drop-cons}
+use Rattle.vl_model.specs.declared.change.Change.{Change}
+use Rattle.vl_frame.specs.Laws.{length-frame_bytes}
+use Rattle.vl_frame.specs.declared.kinds.FrameKind.TheVariants as kinds
+use Rattle.vl_record.specs.Laws.{length-record_bytes}
+use Rattle.vl_record.specs.Record.{record_bytes, record_length}
+use Rattle.vl_record.specs.declared.pointer.Pointer.{Pointer}
+use Rattle.vl_seglog.specs.Log.{AreRecords, Commit, commit_body, commit_frame, records_bytes}
+use Rattle.vl_seglog.specs.Pointers.{pointers_from}
+
+-- the pointers to the records that are left go behind those that were found
+pub record UnderWay (file place : ℕ) (found all : List Pointer) (left : List (List ℕ × Change)) : Type 0 where
+  pub so_far : found ++ pointers_from file place left ≡ all
+  pub lawful : AreRecords left
+  pub fits : place + length (records_bytes left) < 2 ^ 64
+
+one_more : (file place : ℕ) (found all : List Pointer) (w : List ℕ × Change) (left : List (List ℕ × Change)) (n : ℕ) → n ≡ record_length w.0 w.1 → UnderWay file place found all (w ∷ left)
+    → UnderWay file (place + n) (found ++ record { segment = file; place = place; length = n } ∷ []) all left
+one_more file place found all w left n is so_far = rw is (record {
+  so_far = append_assoc found (record { segment = file; place = place; length = record_length w.0 w.1 } ∷ []) (pointers_from file (place + record_length w.0 w.1) left) ∙ so_far.so_far;
+  lawful = so_far.lawful.1;
+  fits = omega (arith, so_far.fits, length-append (record_bytes w.0 w.1) (records_bytes left), length-record_bytes w.0 w.1);
+})
+
+-- the first that is left
+here : (ws : List (List ℕ × Change)) (i : ℕ) (w : List ℕ × Change) → i < length ws → w ≡ get_or ws i w → drop i ws ≡ w ∷ drop (i + 1) ws
+here ws i w lt is =
+    let more : i + 1 ≡ suc i = omega arith in
+    rw more (drop-cons ws i w lt ∙ ap (λ (x : List ℕ × Change). x ∷ drop (suc i) ws) (sym is))
+
+pub next : (file place : ℕ) (found all : List Pointer) (ws : List (List ℕ × Change)) (i : ℕ) (w : List ℕ × Change) (n : ℕ) → i < length ws → w ≡ get_or ws i w → n ≡ record_length w.0 w.1
+    → UnderWay file place found all (drop i ws) → UnderWay file (place + n) (found ++ record { segment = file; place = place; length = n } ∷ []) all (drop (i + 1) ws)
+next file place found all ws i w n lt is len so_far =
+    one_more file place found all w (drop (i + 1) ws) n len (subst (λ (left : List (List ℕ × Change)). UnderWay file place found all left) (here ws i w lt is) so_far)
+
+-- the place behind the first that is left
+pub next_fits : (file place : ℕ) (found all : List Pointer) (ws : List (List ℕ × Change)) (i : ℕ) (w : List ℕ × Change) (n : ℕ) → i < length ws → w ≡ get_or ws i w → n ≡ record_length w.0 w.1
+    → UnderWay file place found all (drop i ws) → place + n < 2 ^ 64
+next_fits file place found all ws i w n lt is len so_far =
+    let after = next file place found all ws i w n lt is len so_far in
+    omega (arith, after.fits)
+
+-- ---- the frame has room
+
+frame_length : (file at : ℕ) (c : Commit) → length (commit_frame file at c) ≡ 25 + length (records_bytes c.writes)
+unfolding commit_body
+frame_length file at c = omega (arith, length-frame_bytes file at kinds.Commit (commit_body c))
+
+-- what was written behind nothing is the frame
+written_length : (file at : ℕ) (c : Commit) (none out : List ℕ) → out ≡ none ++ commit_frame file at c → none ≡ [] → length out ≡ 25 + length (records_bytes c.writes)
+written_length file at c none out is empty = ap length (is ∙ ap (λ (l : List ℕ). l ++ commit_frame file at c) empty) ∙ frame_length file at c
+
+pub room_before : (file at : ℕ) (c : Commit) (none out : List ℕ) → out ≡ none ++ commit_frame file at c → none ≡ [] → at + length out < 2 ^ 64 → at + 17 < 2 ^ 64
+room_before file at c none out is empty fits = omega (arith, written_length file at c none out is empty, fits)
+
+pub room_behind : (file at : ℕ) (c : Commit) (none out : List ℕ) → out ≡ none ++ commit_frame file at c → none ≡ [] → at + length out < 2 ^ 64 → at + 17 + length (records_bytes c.writes) < 2 ^ 64
+room_behind file at c none out is empty fits = omega (arith, written_length file at c none out is empty, fits)
