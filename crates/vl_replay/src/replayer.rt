@@ -299,7 +299,7 @@ mod tests {
     #[test]
     fn a_commit_is_seen_by_a_later_view(rt: HostRuntime) -> Result<(), Fail> {
         let alloc = rt.alloc();
-        let mut disk = MemDisk::new(alloc, Vec::new(alloc));
+        let mut disk = MemDisk::new(alloc, Vec::new(alloc), Vec::new(alloc));
         open_store(alloc, &mut disk)?;
         let mut store = Replayer::new(alloc);
         assert!(rt;
@@ -343,7 +343,7 @@ mod tests {
     #[test]
     fn names_and_limits(rt: HostRuntime) -> Result<(), Fail> {
         let alloc = rt.alloc();
-        let mut disk = MemDisk::new(alloc, Vec::new(alloc));
+        let mut disk = MemDisk::new(alloc, Vec::new(alloc), Vec::new(alloc));
         open_store(alloc, &mut disk)?;
         let mut store = Replayer::new(alloc);
         assert!(rt;
@@ -395,7 +395,7 @@ mod tests {
     #[test]
     fn a_commit_without_writes_is_none(rt: HostRuntime) -> Result<(), Fail> {
         let alloc = rt.alloc();
-        let mut disk = MemDisk::new(alloc, Vec::new(alloc));
+        let mut disk = MemDisk::new(alloc, Vec::new(alloc), Vec::new(alloc));
         open_store(alloc, &mut disk)?;
         let mut store = Replayer::new(alloc);
         assert!(rt;
