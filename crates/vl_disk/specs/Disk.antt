@@ -1,10 +1,10 @@
 -- The words of the contract of a disk.
-use Rattle.std.specs.Prelude.{◌≡◌, ◌≢◌, ◌↔◌, ℕ, ◌≤◌, Bool, List, Option, None, IsTrue, IsSome, IsSomeAnd, Contains, AllPairs}
+use Rattle.std.specs.Prelude.{◌≡◌, ◌≢◌, ◌↔◌, ℕ, ◌≤◌, Bool, List, length, Option, None, IsTrue, IsSome, IsSomeAnd, Contains, AllPairs}
 use Rattle.std.specs.Option.{ForSome, option_map}
 use Rattle.std.specs.FinMap.{get}
 use Rattle.vl_disk.specs.declared.name.Name.{Name}
 use Rattle.vl_disk.specs.Faults.{Rose}
-use Rattle.vl_disk.specs.DiskState.{DiskState, counted}
+use Rattle.vl_disk.specs.DiskState.{DiskState, file_at, counted}
 
 -- a file stands under this name
 abbrev pub Stands : Name → DiskState → Type 0
@@ -13,6 +13,10 @@ Stands name disk = IsSome (get disk.standing name)
 -- no file stands under this name
 abbrev pub IsFree : Name → DiskState → Type 0
 IsFree name disk = get disk.standing name ≡ None
+
+-- a place that lies inside the file of this name, or at its end
+abbrev pub IsInside : Name → ℕ → DiskState → Type 0
+IsInside name place disk = place ≤ length (file_at disk name).bytes
 
 -- the names of the standing files, each once
 pub record Lists (names : List Name) (disk : DiskState) : Type 0 where

@@ -1,5 +1,5 @@
 -- What a disk holds, and what each call does to it.
-use Rattle.std.specs.Prelude.{◌≡◌, ℕ, ◌+◌, ◌-◌, ◌^◌, ◌≤◌, min, Bool, true, false, List, [], ◌∷◌, ◌++◌, length, take, Option, None, Some, unwrap_or, IsTrue}
+use Rattle.std.specs.Prelude.{◌≡◌, ℕ, ◌+◌, ◌-◌, ◌^◌, ◌≤◌, min, Bool, true, false, List, [], ◌∷◌, ◌++◌, length, take, drop, Option, None, Some, unwrap_or, IsTrue}
 use Rattle.std.specs.Option.{option_map}
 use Rattle.std.specs.FinMap.{FinMap, get, empty, insert, remove}
 use Rattle.vl_disk.specs.declared.name.Name.{Name}
@@ -51,6 +51,10 @@ settled bytes = record { bytes = bytes; synced = length bytes; wholly_synced = t
 -- the file that stands under this name
 abbrev pub file_at : DiskState → Name → File
 file_at disk name = unwrap_or (get disk.standing name) new_file
+
+-- so many bytes of a file from a place on
+abbrev pub bytes_at : ℕ → ℕ → List ℕ → List ℕ
+bytes_at place count bytes = take count (drop place bytes)
 
 -- the files with this one under this name, if there is one
 abbrev pub placed : Name → Option File → Files → Files

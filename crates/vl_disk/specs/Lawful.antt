@@ -1,5 +1,5 @@
 -- Each call keeps a disk lawful.
-use Rattle.std.specs.Prelude.{◌≡◌, ◌≢◌, ℕ, ◌≤◌, true, false, List, take, Option, None, Some}
+use Rattle.std.specs.Prelude.{◌≡◌, ◌≢◌, ℕ, ◌≤◌, true, false, List, length, take, Option, None, Some}
 use Rattle.std.specs.Option.{option_map}
 use Rattle.std.specs.FinMap.{get, insert, remove, get-empty}
 use Rattle.std.proofs.Common.{⊎_elim, refl, sym, ◌∙◌, ap, subst, arith, length-append}
@@ -7,7 +7,8 @@ use Rattle.std.proofs.lemmas.List.{length-take}
 use Rattle.vl_disk.specs.declared.name.Name.{Name}
 use Rattle.vl_disk.specs.Name.{name_cmp, IsNumbered}
 use Rattle.vl_disk.specs.NameMap.{same_or_other, get_inserted, get_inserted_other, get_removed, get_removed_other}
-use Rattle.vl_disk.specs.DiskState.{File, Files, DiskState, IsLawfulFile, IsLawful, empty_disk, new_file, settled, lengthened, shortened, placed, with_file, created, appended, synced, cut_to}
+use Rattle.vl_disk.specs.Changes.{placed_elsewhere}
+use Rattle.vl_disk.specs.DiskState.{File, Files, DiskState, IsLawfulFile, IsLawful, empty_disk, new_file, settled, lengthened, shortened, placed, with_file, created, appended, synced, cut_to, without}
 
 -- each file of a map is lawful
 AllLawful : Files → Type 0
@@ -46,6 +47,12 @@ lengthened_lawful piece taken file lawful = record {
 pub shortened_lawful : (len left : ℕ) → len ≤ left → (file : File) → IsLawfulFile file → IsLawfulFile (shortened len left file)
 shortened_lawful len left short file lawful = record {
   within = omega (arith, short, lawful.within, length-take left file.bytes);
+  as_synced = λ whole. absurd (false_true whole);
+}
+
+pub uncut_lawful : (len : ℕ) (file : File) → IsLawfulFile file → IsLawfulFile (shortened len (length file.bytes) file)
+uncut_lawful len file lawful = record {
+  within = omega (arith, lawful.within, length-take (length file.bytes) file.bytes);
   as_synced = λ whole. absurd (false_true whole);
 }
 
@@ -105,3 +112,47 @@ module _ (disk : DiskState) (lawful : IsLawful disk) (name : Name) where
 
   pub cut_lawful : (len left : ℕ) → len ≤ left → IsLawful (cut_to name len left disk)
   cut_lawful len left short = with_file_lawful (shortened len left) (shortened_lawful len left short)
+
+  -- a cut that left the whole file
+  pub uncut_disk_lawful : (len : ℕ) → IsLawful (with_file name (λ file. shortened len (length file.bytes) file) disk)
+  uncut_disk_lawful len = with_file_lawful (λ file. shortened len (length file.bytes) file) (uncut_lawful len)
+
+  pub without_lawful : IsLawful (without name disk)
+  without_lawful = record {
+    standing = λ q file is. lawful.standing q file (stood q file is).1;
+    removed = λ q file is. ⊎_elim
+        (λ (same : q ≡ name). here file (sym (ap (get (without name disk).removed) same) ∙ is))
+        (λ (other : q ≢ name). lawful.removed q file (sym (elsewhere q other) ∙ is))
+        (same_or_other q name);
+    apart = λ q file is. elsewhere q (stood q file is).0 ∙ lawful.apart q file (stood q file is).1;
+    numbered = λ q file is. lawful.numbered q file (stood q file is).1;
+    removed_numbered = λ q file is. ⊎_elim
+        (λ (same : q ≡ name). subst IsNumbered (sym same) (here_numbered file (sym (ap (get (without name disk).removed) same) ∙ is)))
+        (λ (other : q ≢ name). lawful.removed_numbered q file (sym (elsewhere q other) ∙ is))
+        (same_or_other q name);
+  }
+    where
+      -- a file that still stands has another name, and stood before
+      stood : (q : Name) (file : File) → get (without name disk).standing q ≡ Some file → (q ≢ name) × (get disk.standing q ≡ Some file)
+      stood q file is = ⊎_elim
+          (λ (same : q ≡ name). absurd (none_some file (sym (get_removed disk.standing name) ∙ sym (ap (get (remove disk.standing name)) same) ∙ is)))
+          (λ (other : q ≢ name). (other, sym (get_removed_other disk.standing name q other) ∙ is))
+          (same_or_other q name)
+
+      elsewhere : (q : Name) → q ≢ name → get (without name disk).removed q ≡ get disk.removed q
+      elsewhere q other = placed_elsewhere name disk disk.removed (get disk.standing name) q other
+
+      -- what was removed there stood, or had been removed before
+      here : (file : File) → get (without name disk).removed name ≡ Some file → IsLawfulFile file
+      here = at_file (get disk.standing name) refl
+        where
+          at_file : (stands : Option File) → get disk.standing name ≡ stands → (file : File) → get (placed name stands disk.removed) name ≡ Some file → IsLawfulFile file
+          at_file None e file is = lawful.removed name file is
+          at_file (Some old) e file is = lawful.standing name file (e ∙ sym (get_inserted disk.removed name old) ∙ is)
+
+      here_numbered : (file : File) → get (without name disk).removed name ≡ Some file → IsNumbered name
+      here_numbered = at_file (get disk.standing name) refl
+        where
+          at_file : (stands : Option File) → get disk.standing name ≡ stands → (file : File) → get (placed name stands disk.removed) name ≡ Some file → IsNumbered name
+          at_file None e file is = lawful.removed_numbered name file is
+          at_file (Some old) e file is = lawful.numbered name old e

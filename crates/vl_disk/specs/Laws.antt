@@ -1,9 +1,9 @@
 -- What the definitions of a disk and of a crash say together.
-use Rattle.std.specs.Prelude.{◌≡◌, ◌≢◌, ℕ, ◌<◌, ◌≤◌, min, refl, true, false, List, ◌++◌, length, take, Option, None, Some, IsTrue}
+use Rattle.std.specs.Prelude.{◌≡◌, ◌≢◌, ℕ, ◌<◌, ◌≤◌, min, refl, true, false, List, ◌++◌, length, take, drop, Option, None, Some, IsTrue}
 use Rattle.std.specs.Option.{option_map}
 use Rattle.std.specs.FinMap.{get, empty, insert, remove, get-empty}
 use Rattle.std.proofs.Common.{⊎_elim, sym, ◌∙◌, ap, subst, arith}
-use Rattle.std.proofs.lemmas.List.{take_at, take-take, take-append-le, length-take-le}
+use Rattle.std.proofs.lemmas.List.{take_at, take-take, take-append-le, take-append-drop, length-take-le}
 use Rattle.vl_disk.specs.declared.name.Name.{Name}
 use Rattle.vl_disk.specs.Name.{name_cmp, IsNumbered}
 use Rattle.vl_disk.specs.NameMap.{same_or_other, get_inserted, get_inserted_other, get_removed, get_removed_other}
@@ -78,6 +78,29 @@ module _ (name : Name) (disk : DiskState) (image : Image) where
 
         torn : Agrees (lengthened piece taken file) (take file.synced file.bytes ++ tail)
         torn = record { durable = front ∙ sym (take-append-le file.synced file.bytes (take taken piece) within); whole = λ whole. absurd (not_whole whole) }
+
+    -- A cut file may have any bytes past what stays durable, of any length, and so those that were cut off.
+    pub cut_may_be_torn : (len left : ℕ) (tail : List ℕ) → len ≤ left → file.synced ≤ length file.bytes
+        → MayLeave (cut_to name len left disk) image → MayLeave (cut_to name len left disk) (insert image name (take (min len file.synced) file.bytes ++ tail))
+    cut_may_be_torn len left tail short within may =
+        with_bytes (cut_to name len left disk) image may name (take (min len file.synced) file.bytes ++ tail)
+        (subst (λ (o : Option File). MayLeaveOne o (get disk.removed name) (Some (take (min len file.synced) file.bytes ++ tail))) (sym (changed_there name disk (shortened len left) file stands)) torn)
+      where
+        front : take (min len file.synced) (take (min len file.synced) file.bytes ++ tail) ≡ take (min len file.synced) file.bytes
+        front = take_at (take (min len file.synced) file.bytes) tail (min len file.synced) (length-take-le (min len file.synced) file.bytes (omega (arith, within)))
+
+        torn : Agrees (shortened len left file) (take (min len file.synced) file.bytes ++ tail)
+        torn = record {
+          durable = front ∙ sym (take-take (min len file.synced) left file.bytes (omega (arith, short)));
+          whole = λ whole. absurd (false_true whole);
+        }
+
+    -- So a crash may bring back what was cut off.
+    pub cut_may_come_back : (len left : ℕ) → len ≤ left → file.synced ≤ length file.bytes
+        → MayLeave (cut_to name len left disk) image → MayLeave (cut_to name len left disk) (insert image name file.bytes)
+    cut_may_come_back len left short within may =
+        subst (λ (bytes : List ℕ). MayLeave (cut_to name len left disk) (insert image name bytes)) (take-append-drop (min len file.synced) file.bytes)
+        (cut_may_be_torn len left (drop (min len file.synced) file.bytes) short within may)
 
     -- A synced file stays exactly as a read gives it.
     pub synced_stays : MayLeave (synced name disk) image → get image name ≡ Some file.bytes

@@ -1,14 +1,16 @@
 -- Which names stand and which are free after a call, for a caller that asks the next one.
-use Rattle.std.specs.Prelude.{◌≡◌, ◌≢◌, refl, true, false, Option, None, Some, IsSome}
-use Rattle.std.specs.Option.{ForSome}
+use Rattle.std.specs.Prelude.{◌≡◌, ◌≢◌, ℕ, ◌≤◌, refl, true, false, List, length, Option, None, Some, unwrap_or, IsSome}
+use Rattle.std.specs.Option.{ForSome, option_map}
 use Rattle.std.specs.FinMap.{get, get-empty}
-use Rattle.std.proofs.Common.{⊎_elim, sym, ◌∙◌, subst}
+use Rattle.std.proofs.Common.{⊎_elim, sym, ◌∙◌, subst, arith}
+use Rattle.std.proofs.lemmas.List.{length-take}
 use Rattle.vl_disk.specs.declared.name.Name.{Name}
 use Rattle.vl_disk.specs.Name.{name_cmp}
-use Rattle.vl_disk.specs.NameMap.{same_or_other}
-use Rattle.vl_disk.specs.DiskState.{File, DiskState, empty_disk, counted, with_file, created}
+use Rattle.vl_disk.specs.NameMap.{same_or_other, get_inserted, get_removed, get_removed_other}
+use Rattle.vl_disk.specs.DiskState.{File, DiskState, empty_disk, new_file, settled, shortened, counted, with_file, created, cut_to, without}
 use Rattle.vl_disk.specs.Changes.{created_there, created_elsewhere, changed_there, changed_elsewhere}
-use Rattle.vl_disk.specs.Disk.{Stands, IsFree, Turns}
+use Rattle.vl_disk.specs.Disk.{Stands, IsFree, IsInside, Turns}
+use Rattle.vl_disk.specs.MadeFile.{made}
 
 some_state : (a b : DiskState) → Some a ≡ Some b → a ≡ b
 some_state a b e = cc
@@ -59,3 +61,37 @@ created_free name disk q other free = created_elsewhere name disk q other ∙ fr
 
 pub changed_free : (name : Name) (change : File → File) (disk : DiskState) (q : Name) → q ≢ name → IsFree q disk → IsFree q (with_file name change disk)
 changed_free name change disk q other free = changed_elsewhere name disk change q other ∙ free
+
+-- a removed name is free, and the others are as they were
+pub without_free : (name : Name) (disk : DiskState) → IsFree name (without name disk)
+without_free name disk = get_removed disk.standing name
+
+pub removed_free : (name : Name) (old new : Option DiskState) → Turns (without name) old new → ForSome new (IsFree name)
+removed_free name old new turns = turned (without name) old new (λ _. Unit {0}) (IsFree name) turns (λ disk _. without_free name disk) (λ _ _. tt)
+
+pub without_elsewhere : (name : Name) (disk : DiskState) (q : Name) → q ≢ name → get (without name disk).standing q ≡ get disk.standing q
+without_elsewhere name disk q other = get_removed_other disk.standing name q other
+
+-- a file that was made has all its bytes
+pub made_inside : (name : Name) (bytes : List ℕ) (old new : Option DiskState) → new ≡ option_map (made name bytes) old → ForSome new (IsInside name (length bytes))
+made_inside name bytes None new makes disk is = absurd (none_some disk (sym makes ∙ is))
+made_inside name bytes (Some old) new makes disk is =
+    subst (IsInside name (length bytes)) (some_state (made name bytes old) disk (sym makes ∙ is))
+    (subst (λ (o : Option File). length bytes ≤ length (unwrap_or o new_file).bytes) (sym (get_inserted old.standing name (settled bytes))) (omega arith))
+
+-- and one that was cut has the length of the cut
+pub cut_inside : (name : Name) (len : ℕ) (old new : Option DiskState) → Turns (cut_to name len len) old new → ForSome old (Stands name) → ForSome old (IsInside name len) → ForSome new (IsInside name len)
+cut_inside name len None new turns stands inside disk is = absurd (none_some disk (sym turns ∙ is))
+cut_inside name len (Some old) new turns stands inside disk is =
+    subst (IsInside name len) (some_state (counted (cut_to name len len old)) disk (sym turns ∙ is))
+    (at_file (get old.standing name) refl (stands old refl) (inside old refl))
+  where
+    at_file : (file : Option File) → get old.standing name ≡ file → IsSome (get old.standing name) → IsInside name len old → IsInside name len (cut_to name len len old)
+    at_file None there some within = absurd (nothing (subst IsSome there some))
+      where
+        nothing : false ≡ true → ⊥
+        nothing e = cc
+    at_file (Some file) there some within =
+        let long : len ≤ length file.bytes = subst (λ (o : Option File). len ≤ length (unwrap_or o new_file).bytes) there within in
+        subst (λ (o : Option File). len ≤ length (unwrap_or o new_file).bytes) (sym (changed_there name old (shortened len len) file there))
+        (omega (arith, long, length-take len file.bytes))

@@ -1,17 +1,16 @@
-ghost use Rattle.std.specs.Prelude.{◌≡◌, ◌⊎◌, ℕ, ◌≤◌, List, length, Option, Some, IsTrue, All, IfOk, OnOk, OnErr, IsErr, IsErrOf};
+ghost use Rattle.std.specs.Prelude.{◌≡◌, ◌⊎◌, ℕ, ◌+◌, ◌≤◌, List, length, Option, Some, IsTrue, All, IfOk, OnOk, OnErr, IsErr, IsErrOf};
 ghost use Rattle.std.specs.Option.{ForSome};
 ghost use Rattle.vl_disk.specs.declared.name.Name.{Name};
 ghost use Rattle.vl_disk.specs.Name.{IsNumbered};
-ghost use Rattle.vl_disk.specs.DiskState.{DiskState, IsLawful, file_at, created, appended, synced};
-ghost use Rattle.vl_disk.specs.Crash.{SameFiles, Unchanged, WhileCreating, WhileAppending, WhileSyncing};
+ghost use Rattle.vl_disk.specs.DiskState.{DiskState, IsLawful, bytes_at, file_at, created, appended, synced, cut_to, without};
+ghost use Rattle.vl_disk.specs.Crash.{SameFiles, Unchanged, WhileCreating, WhileAppending, WhileSyncing, WhileCutting, WhileRemoving};
 ghost use Rattle.vl_disk.specs.Moments.{Elapses};
-ghost use Rattle.vl_disk.specs.Disk.{Stands, IsFree, Lists, Turns, While, HasCause, Spare, IsReady, CanAppend, SameSpare, SameSpareElsewhere, UsesChange, UsesAppend};
+ghost use Rattle.vl_disk.specs.Disk.{Stands, IsFree, IsInside, Lists, Turns, While, HasCause, Spare, IsReady, CanAppend, SameSpare, SameSpareElsewhere, UsesChange, UsesAppend};
 
 use crate::{Failed, ListFail, Name, NoMemory};
 use std::alloc::Global;
 
-/// A disk of named files, which a sync makes durable. Today its calls only make files and make them longer. Calls
-/// that cut and remove files come later.
+/// A disk of named files, which a sync makes durable.
 pub trait Disk {
     /// What it holds. A disk that doesn't tell it claims nothing of its bytes.
     ghost told: { Self → Option DiskState };
@@ -49,8 +48,20 @@ pub trait Disk {
         ensures cause { HasCause (faults self.old) (faults self.new) (IsErr result) }
         ensures spare { SameSpare (spare self.old) (spare self.new) };
 
-    /// Makes room. Afterwards `create` of this name, one append to it of at most so many bytes, and the syncs
-    /// after them want no memory.
+    /// Reads the bytes of a file from a place on, as many as fill `out`. If it fails, `out` may hold anything.
+    fn read(&mut self, name: Name, place: u64, out: &mut [u8]) -> Result<(), Failed>
+        requires stands { ForSome (told self.old) (Stands name) }
+        requires inside { ForSome (told self.old) (IsInside name (place + length out.old)) }
+        ensures bytes { OnOk result (ForSome (told self.old)
+            (λ disk. out.new ≡ bytes_at place (length out.old) (file_at disk name).bytes)) }
+        ensures told { told self.new ≡ told self.old }
+        ensures time { Elapses (moment self.old) (moment self.new) (states_since self.old) (states_since self.new)
+            (While (told self.old) Unchanged) }
+        ensures cause { HasCause (faults self.old) (faults self.new) (IsErr result) }
+        ensures spare { SameSpare (spare self.old) (spare self.new) };
+
+    /// Makes room. Afterwards `create` or one `cut` of this name, one append to it of at most so many bytes, and the
+    /// syncs after them want no memory. A `sync` and a `remove` never want any.
     fn ready(&mut self, name: Name, bytes: u64) -> Result<(), NoMemory>
         ensures ready { OnOk result (IsReady bytes (spare self.new name)) }
         ensures elsewhere { SameSpareElsewhere name (spare self.old) (spare self.new) }
@@ -95,6 +106,33 @@ pub trait Disk {
         ensures stands { ForSome (told self.new) (Stands name) }
         ensures time { Elapses (moment self.old) (moment self.new) (states_since self.old) (states_since self.new)
             (While (told self.old) (WhileSyncing name)) }
+        ensures cause { HasCause (faults self.old) (faults self.new) (IsErr result) }
+        ensures spare { SameSpare (spare self.old) (spare self.new) };
+
+    /// Cuts a file to a length. What was to be cut off may come back until the next sync. If it fails, the file has that
+    /// length, its old one or one between, and no more than was to stay is durable.
+    fn cut(&mut self, name: Name, len: u64) -> Result<(), Failed>
+        requires stands { ForSome (told self.old) (Stands name) }
+        requires inside { ForSome (told self.old) (IsInside name len) }
+        requires room { IsTrue (spare self.old name).change }
+        ensures cut { OnOk result (Turns (cut_to name len len) (told self.old) (told self.new)) }
+        ensures failed { OnErr result ((left : ℕ) × (len ≤ left) × ForSome (told self.old) (IsInside name left)
+            × Turns (cut_to name len left) (told self.old) (told self.new)) }
+        ensures stands { ForSome (told self.new) (Stands name) }
+        ensures time { Elapses (moment self.old) (moment self.new) (states_since self.old) (states_since self.new)
+            (While (told self.old) (WhileCutting name len)) }
+        ensures cause { HasCause (faults self.old) (faults self.new) (IsErr result) }
+        ensures spare { UsesChange name (spare self.old) (spare self.new) };
+
+    /// Removes a file. It may stand again after a crash. If it fails, the file may stand or not.
+    fn remove(&mut self, name: Name) -> Result<(), Failed>
+        requires { ForSome (told self.old) (Stands name) }
+        ensures removed { OnOk result (Turns (without name) (told self.old) (told self.new)) }
+        ensures free { OnOk result (ForSome (told self.new) (IsFree name)) }
+        ensures failed { OnErr result (Turns (λ disk. disk) (told self.old) (told self.new)
+            ⊎ Turns (without name) (told self.old) (told self.new)) }
+        ensures time { Elapses (moment self.old) (moment self.new) (states_since self.old) (states_since self.new)
+            (While (told self.old) (WhileRemoving name)) }
         ensures cause { HasCause (faults self.old) (faults self.new) (IsErr result) }
         ensures spare { SameSpare (spare self.old) (spare self.new) };
 

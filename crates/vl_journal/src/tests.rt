@@ -41,7 +41,7 @@ fn holds(disk: &MemDisk, name: Name, bytes: &[u8]) -> bool {
 #[test]
 fn an_empty_disk_gets_a_manifest_and_a_log(rt: HostRuntime) -> Result<(), Fail> {
     let alloc = rt.alloc();
-    let mut disk = MemDisk::new(alloc, Vec::new(alloc));
+    let mut disk = MemDisk::new(alloc, Vec::new(alloc), Vec::new(alloc));
     open_store(alloc, &mut disk)?;
     assert!(rt; holds(&disk, MANIFEST, &MANIFEST_BYTES));
     assert!(rt; holds(&disk, LOG, &HEADER_BYTES));
@@ -51,7 +51,7 @@ fn an_empty_disk_gets_a_manifest_and_a_log(rt: HostRuntime) -> Result<(), Fail> 
 #[test]
 fn a_commit_is_one_frame_of_a_log_that_stays(rt: HostRuntime) -> Result<(), Fail> {
     let alloc = rt.alloc();
-    let mut disk = MemDisk::new(alloc, Vec::new(alloc));
+    let mut disk = MemDisk::new(alloc, Vec::new(alloc), Vec::new(alloc));
     open_store(alloc, &mut disk)?;
     let writes = [one_write(alloc)?];
     let frame = stage_commit(alloc, &mut disk, 16, 1, &writes)?;
@@ -67,13 +67,13 @@ fn a_commit_is_one_frame_of_a_log_that_stays(rt: HostRuntime) -> Result<(), Fail
 fn faults_are_answered(rt: HostRuntime) -> Result<(), Fail> {
     let alloc = rt.alloc();
     // The log isn't made where the manifest's append failed.
-    let mut disk = MemDisk::new(alloc, [2].to_vec(alloc)?);
+    let mut disk = MemDisk::new(alloc, [2].to_vec(alloc)?, Vec::new(alloc));
     assert_eq!(rt; open_store(alloc, &mut disk), Err(OpenFail::Disk));
     assert!(rt; disk.bytes(LOG).is_none());
     assert_eq!(rt; open_store(alloc, &mut disk), Err(OpenFail::NotAStore));
 
     // The seventh call is the append of the first commit's frame.
-    let mut disk = MemDisk::new(alloc, [7].to_vec(alloc)?);
+    let mut disk = MemDisk::new(alloc, [7].to_vec(alloc)?, Vec::new(alloc));
     open_store(alloc, &mut disk)?;
     let writes = [one_write(alloc)?];
     let frame = stage_commit(alloc, &mut disk, 16, 1, &writes)?;

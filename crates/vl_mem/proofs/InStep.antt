@@ -1,5 +1,5 @@
 -- The entries of a disk in memory keep up with its files, call by call.
-use Rattle.std.proofs.Common.{◌≡◌, ◌≢◌, ⊎_elim, ℕ, ◌+◌, ◌<◌, ◌≤◌, Bool, true, false, List, [], ◌∷◌, ◌++◌, length, get_or, set, Option, None, Some, refl, sym, ◌∙◌, ap, subst, arith, rules, length-append, sum_by, All, IsSome, IsTrue, unwrap_or, if◌then◌else◌, Vec, Global}
+use Rattle.std.proofs.Common.{◌≡◌, ◌≢◌, ⊎_elim, ℕ, ◌+◌, ◌<◌, ◌≤◌, Bool, true, false, List, [], ◌∷◌, ◌++◌, length, take, get_or, set, Option, None, Some, refl, sym, ◌∙◌, ap, subst, arith, rules, length-append, sum_by, All, IsSome, IsTrue, unwrap_or, if◌then◌else◌, Vec, Global}
 use Rattle.std.specs.Option.{option_map}
 use Rattle.std.specs.FinMap.{get, get-empty}
 use Rattle.std.proofs.lemmas.Bool.{cases_eq}
@@ -7,14 +7,14 @@ use Rattle.std.proofs.lemmas.List.{get_or-set_same, get_or-set_other, length-set
 use Rattle.std.proofs.lemmas.List.Sums.{sum_by-set}
 use Rattle.vl_disk.specs.declared.name.Name.{Name}
 use Rattle.vl_disk.specs.Name.{name_cmp}
-use Rattle.vl_disk.specs.NameMap.{same_or_other}
-use Rattle.vl_disk.specs.DiskState.{File, DiskState, empty_disk, new_file, settled, lengthened, file_at, with_file, synced}
+use Rattle.vl_disk.specs.NameMap.{same_or_other, get_removed, get_removed_other}
+use Rattle.vl_disk.specs.DiskState.{File, DiskState, empty_disk, new_file, settled, lengthened, shortened, file_at, with_file, synced}
 use Rattle.vl_disk.specs.Disk.{Spare, CanAppend, SameSpare, SameSpareElsewhere, UsesChange, UsesAppend}
 use Rattle.vl_disk.specs.Changes.{created_there, created_elsewhere, changed_there, changed_elsewhere, unchanged}
 use Rattle.vl_disk.specs.Lawful.{empty_lawful}
 use Rattle.vl_mem.specs.declared.entry.Entry.{Entry}
 use Rattle.vl_mem.specs.declared.event.Event.{Event}
-use Rattle.vl_mem.specs.declared.event.Event.TheVariants.{Create, Append, Refuse, Sync}
+use Rattle.vl_mem.specs.declared.event.Event.TheVariants.{Create, Append, RefuseAppend, Sync, Cut, RefuseCut, Remove}
 use Rattle.vl_mem.specs.Event.{after_event, replayed-push, replayed_lawful, state_after, CreatesNumbered}
 use Rattle.vl_mem.specs.Entry.{Fits, slots, entry_of, IsAt, IsDistinct, HasBytes, NotesUnsynced, shown, spare_of}
 use Rattle.vl_mem.proofs.Entries.{at_within, at_entry, at_name, set_same, set_other}
@@ -267,12 +267,38 @@ module _ (name : Name) (entries : List Entry) (i : ℕ) (old new : Entry) (at : 
             (bytes ∙ ap (λ (l : List ℕ). l ++ piece.items) old_bytes ∙ sym (ap (λ (l : List ℕ). file.bytes ++ l) (take_all (length piece.items) piece.items (omega arith)))) step.has_bytes)
             (changed_notes (lengthened piece.items (length piece.items)) file there (Append name piece) pushed refl (λ clean. absurd (true_false (sym unsynced ∙ clean))) step.notes_unsynced)
 
-        pub refused_step : (piece : Vec ℕ Global) → later ≡ events ++ Refuse name piece ∷ [] → new.bytes.items ≡ old.bytes.items → new.unsynced ≡ true → IsInStep (set entries i new) later wider
-        refused_step piece pushed bytes unsynced = in_step (Refuse name piece) pushed
-            (changed_bytes (lengthened piece.items 0) file there (Refuse name piece) pushed refl still (bytes ∙ old_bytes ∙ sym (append-nil file.bytes)) step.has_bytes)
-            (changed_notes (lengthened piece.items 0) file there (Refuse name piece) pushed refl (λ clean. absurd (true_false (sym unsynced ∙ clean))) step.notes_unsynced)
+        pub refused_step : (piece : Vec ℕ Global) → later ≡ events ++ RefuseAppend name piece ∷ [] → new.bytes.items ≡ old.bytes.items → new.unsynced ≡ true → IsInStep (set entries i new) later wider
+        refused_step piece pushed bytes unsynced = in_step (RefuseAppend name piece) pushed
+            (changed_bytes (lengthened piece.items 0) file there (RefuseAppend name piece) pushed refl still (bytes ∙ old_bytes ∙ sym (append-nil file.bytes)) step.has_bytes)
+            (changed_notes (lengthened piece.items 0) file there (RefuseAppend name piece) pushed refl (λ clean. absurd (true_false (sym unsynced ∙ clean))) step.notes_unsynced)
 
         pub synced_step : later ≡ events ++ Sync name ∷ [] → new.bytes.items ≡ old.bytes.items → IsInStep (set entries i new) later wider
         synced_step pushed bytes = in_step (Sync name) pushed
             (changed_bytes (λ f. settled f.bytes) file there (Sync name) pushed refl still (bytes ∙ old_bytes) step.has_bytes)
             (changed_notes (λ f. settled f.bytes) file there (Sync name) pushed refl (λ clean. refl) step.notes_unsynced)
+
+        pub cut_step : (len : ℕ) → later ≡ events ++ Cut name len ∷ [] → new.bytes.items ≡ take len old.bytes.items → new.unsynced ≡ true → IsInStep (set entries i new) later wider
+        cut_step len pushed bytes unsynced = in_step (Cut name len) pushed
+            (changed_bytes (shortened len len) file there (Cut name len) pushed refl still (bytes ∙ ap (take len) old_bytes) step.has_bytes)
+            (changed_notes (shortened len len) file there (Cut name len) pushed refl (λ clean. absurd (true_false (sym unsynced ∙ clean))) step.notes_unsynced)
+
+        pub refused_cut_step : (len : ℕ) → later ≡ events ++ RefuseCut name len ∷ [] → new.bytes.items ≡ old.bytes.items → new.unsynced ≡ true → IsInStep (set entries i new) later wider
+        refused_cut_step len pushed bytes unsynced = in_step (RefuseCut name len) pushed
+            (changed_bytes (λ f. shortened len (length f.bytes) f) file there (RefuseCut name len) pushed refl still
+            (bytes ∙ old_bytes ∙ sym (take_all (length file.bytes) file.bytes (omega arith))) step.has_bytes)
+            (changed_notes (λ f. shortened len (length f.bytes) f) file there (RefuseCut name len) pushed refl (λ clean. absurd (true_false (sym unsynced ∙ clean))) step.notes_unsynced)
+
+      pub removed_step : later ≡ events ++ Remove name ∷ [] → new.stands ≡ false → IsInStep (set entries i new) later wider
+      removed_step pushed gone = in_step (Remove name) pushed
+          (bytes_by (Remove name) pushed elsewhere
+          (ap (λ (b : Bool). if b then Some new.bytes.items else None) gone ∙ sym (ap bytes_of nothing)) step.has_bytes)
+          (notes_by (Remove name) pushed elsewhere (λ f is clean. absurd (none_file f (sym nothing ∙ is))) step.notes_unsynced)
+        where
+          nothing : get (after_event (Remove name) (state_after events)).standing name ≡ None
+          nothing = get_removed (state_after events).standing name
+
+          elsewhere : (other : Name) → other ≢ name → get (after_event (Remove name) (state_after events)).standing other ≡ get (state_after events).standing other
+          elsewhere other apart = get_removed_other (state_after events).standing name other apart
+
+          none_file : (f : File) → None ≡ Some f → ⊥
+          none_file f e = cc

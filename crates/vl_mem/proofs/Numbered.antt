@@ -8,7 +8,7 @@ use Rattle.vl_disk.specs.Disk.{Lists}
 use Rattle.vl_disk.specs.DiskState.{DiskState, IsLawful}
 use Rattle.vl_disk.specs.Name.{IsNumbered}
 use Rattle.vl_mem.specs.declared.event.Event.{Event}
-use Rattle.vl_mem.specs.declared.event.Event.TheVariants.{Create, Append, Refuse, Sync}
+use Rattle.vl_mem.specs.declared.event.Event.TheVariants.{Create, Append, RefuseAppend, Sync, Cut, RefuseCut, Remove}
 use Rattle.vl_mem.specs.Event.{CreatesNumbered}
 use Rattle.vl_mem.proofs.InStep.{standing_file}
 
@@ -21,16 +21,34 @@ append_numbered name piece created is = absurd (apart is)
     apart : Append name piece ≡ Create created → ⊥
     apart e = cc
 
-pub refuse_numbered : (name : Name) (piece : Vec ℕ Global) → CreatesNumbered (Refuse name piece)
+pub refuse_numbered : (name : Name) (piece : Vec ℕ Global) → CreatesNumbered (RefuseAppend name piece)
 refuse_numbered name piece created is = absurd (apart is)
   where
-    apart : Refuse name piece ≡ Create created → ⊥
+    apart : RefuseAppend name piece ≡ Create created → ⊥
     apart e = cc
 
 pub sync_numbered : (name : Name) → CreatesNumbered (Sync name)
 sync_numbered name created is = absurd (apart is)
   where
     apart : Sync name ≡ Create created → ⊥
+    apart e = cc
+
+pub cut_numbered : (name : Name) (len : ℕ) → CreatesNumbered (Cut name len)
+cut_numbered name len created is = absurd (apart is)
+  where
+    apart : Cut name len ≡ Create created → ⊥
+    apart e = cc
+
+pub refuse_cut_numbered : (name : Name) (len : ℕ) → CreatesNumbered (RefuseCut name len)
+refuse_cut_numbered name len created is = absurd (apart is)
+  where
+    apart : RefuseCut name len ≡ Create created → ⊥
+    apart e = cc
+
+pub remove_numbered : (name : Name) → CreatesNumbered (Remove name)
+remove_numbered name created is = absurd (apart is)
+  where
+    apart : Remove name ≡ Create created → ⊥
     apart e = cc
 
 pub numbered_push : (events later : List Event) (event : Event) → later ≡ events ++ event ∷ [] → All CreatesNumbered events → CreatesNumbered event → All CreatesNumbered later

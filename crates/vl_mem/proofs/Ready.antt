@@ -59,9 +59,10 @@ bytes_of = option_map (λ (file : File). file.bytes)
 -- an entry with nothing in it is as none
 module _ (name : Name) (entry : Entry) (blank : IsBlank name entry) where
   blank_slots : slots entry ≡ 0
-  blank_slots = ap (λ (b : Bool). (if b then 2 else 0) + (if is_some entry.buffer then 2 else 0) + (if entry.unsynced then 1 else 0)) blank.change
-      ∙ ap (λ o. 0 + (if is_some o then 2 else 0) + (if entry.unsynced then 1 else 0)) blank.buffer
-      ∙ ap (λ (b : Bool). 0 + 0 + (if b then 1 else 0)) blank.unsynced
+  blank_slots = ap (λ (b : Bool). (if b then 3 else 0) + (if is_some entry.buffer then 2 else 0) + (if entry.unsynced then 1 else 0) + (if entry.stands then 1 else 0)) blank.change
+      ∙ ap (λ o. 0 + (if is_some o then 2 else 0) + (if entry.unsynced then 1 else 0) + (if entry.stands then 1 else 0)) blank.buffer
+      ∙ ap (λ (b : Bool). 0 + 0 + (if b then 1 else 0) + (if entry.stands then 1 else 0)) blank.unsynced
+      ∙ ap (λ (b : Bool). 0 + 0 + 0 + (if b then 1 else 0)) blank.stands
 
   blank_shown : shown (Some entry) ≡ None
   blank_shown = ap (λ (b : Bool). if b then Some entry.bytes.items else None) blank.stands
@@ -131,25 +132,24 @@ same_step entries later_entries events later capacity wider same_entries same_ev
     subst (λ es. IsInStep es later wider) (sym same_entries) (subst (λ evs. IsInStep entries evs wider) (sym same_events)
     (record { room = omega (arith, step.room, wide); fits = step.fits; distinct = step.distinct; has_bytes = step.has_bytes; notes_unsynced = step.notes_unsynced }))
 
-few_slots : (entry : Entry) → slots entry ≤ 5
-few_slots entry = few entry.change (is_some entry.buffer) entry.unsynced
+few_slots : (entry : Entry) → slots entry ≤ 7
+few_slots entry =
+    let a = at_most entry.change 3 in
+    let b = at_most (is_some entry.buffer) 2 in
+    let c = at_most entry.unsynced 1 in
+    let d = at_most entry.stands 1 in
+    omega (arith, a, b, c, d)
   where
-    few : (a b c : Bool) → (if a then 2 else 0) + (if b then 2 else 0) + (if c then 1 else 0) ≤ 5
-    few true true true = omega arith
-    few true true false = omega arith
-    few true false true = omega arith
-    few true false false = omega arith
-    few false true true = omega arith
-    few false true false = omega arith
-    few false false true = omega arith
-    few false false false = omega arith
+    at_most : (b : Bool) (n : ℕ) → (if b then n else 0) ≤ n
+    at_most true n = omega arith
+    at_most false n = omega arith
 
 -- room was made in one entry
 pub roomed_step : (name : Name) (entries : List Entry) (i : ℕ) (old new : Entry) → IsAt name entries i → old ≡ get_or entries i old → new.name ≡ old.name
-    → (events : List Event) (capacity : ℕ) → length events + 5 * length entries ≤ capacity → (Fits old → Fits new) → new.stands ≡ old.stands → new.bytes.items ≡ old.bytes.items → new.unsynced ≡ old.unsynced
+    → (events : List Event) (capacity : ℕ) → length events + 7 * length entries ≤ capacity → (Fits old → Fits new) → new.stands ≡ old.stands → new.bytes.items ≡ old.bytes.items → new.unsynced ≡ old.unsynced
     → IsInStep entries events capacity → IsInStep (set entries i new) events capacity
 roomed_step name entries i old new at was same_name events capacity room fit stands bytes unsynced step = record {
-  room = omega (arith, room, length-set entries i new, sum_by-le slots 5 (set entries i new) (λ k d within. few_slots (get_or (set entries i new) k d)));
+  room = omega (arith, room, length-set entries i new, sum_by-le slots 7 (set entries i new) (λ k d within. few_slots (get_or (set entries i new) k d)));
   fits = fits_set name entries i old new at was same_name (fit (fitting name entries i old at was step.fits)) step.fits;
   distinct = distinct_set name entries i old new at was same_name step.distinct;
   has_bytes = has_bytes_set name entries i old new at was same_name (state_after events) (state_after events) (λ other apart. refl) (same_shown ∙ sym (ap shown here) ∙ step.has_bytes name) step.has_bytes;

@@ -1,23 +1,37 @@
 -- What a disk in memory tells after a call, and what it tells of the moments of the call.
-use Rattle.std.proofs.Common.{◌≡◌, ℕ, ◌+◌, ◌-◌, ◌^◌, min, List, [], ◌∷◌, ◌++◌, length, Some, refl, sym, ◌∙◌, ap, subst}
-use Rattle.vl_disk.specs.DiskState.{DiskState, empty_disk, counted, synced}
+use Rattle.std.proofs.Common.{◌≡◌, ℕ, ◌+◌, ◌-◌, ◌^◌, min, List, [], ◌∷◌, ◌++◌, length, Option, None, Some, unwrap_or, refl, sym, ◌∙◌, ap, subst}
+use Rattle.std.specs.Option.{option_map}
+use Rattle.std.specs.FinMap.{get}
+use Rattle.vl_disk.specs.DiskState.{File, DiskState, empty_disk, counted, new_file, shortened, placed, with_file, file_at, synced, cut_to}
 use Rattle.vl_disk.specs.declared.name.Name.{Name}
 use Rattle.vl_disk.specs.Crash.{SameFiles}
 use Rattle.vl_disk.specs.Moments.{Elapses}
 use Rattle.vl_disk.specs.Disk.{Turns, While}
 use Rattle.vl_mem.specs.declared.event.Event.{Event}
-use Rattle.vl_mem.specs.declared.event.Event.TheVariants.{Create, Append, Refuse, Sync}
+use Rattle.vl_mem.specs.declared.event.Event.TheVariants.{Create, Append, RefuseAppend, Sync, Cut, RefuseCut, Remove}
 use Rattle.vl_mem.specs.Event.{after_event, replayed-push, state_after, WasSince, told_of}
 use Rattle.vl_mem.proofs.Elapsed.{elapses_push}
 
 pub some_state : (a b : DiskState) → Some a ≡ Some b → a ≡ b
 some_state a b e = cc
 
+-- a cut that left the whole file
+pub uncut : (name : Name) (len : ℕ) (disk : DiskState) → with_file name (λ file. shortened len (length file.bytes) file) disk ≡ cut_to name len (length (file_at disk name).bytes) disk
+uncut name len disk = at_file (get disk.standing name)
+  where
+    at_file : (stands : Option File) → record disk { standing = placed name (option_map (λ file. shortened len (length file.bytes) file) stands) disk.standing }
+        ≡ record disk { standing = placed name (option_map (shortened len (length (unwrap_or stands new_file).bytes)) stands) disk.standing }
+    at_file None = refl
+    at_file (Some file) = refl
+
 told_after : (event : Event) (state : DiskState) (calls : ℕ) → Some (record (after_event event state) { calls = min (calls + 1) (2 ^ 64 - 1) }) ≡ Some (counted (after_event event (record state { calls = calls })))
 told_after (Create name) state calls = refl
 told_after (Append name piece) state calls = refl
-told_after (Refuse name piece) state calls = refl
+told_after (RefuseAppend name piece) state calls = refl
 told_after (Sync name) state calls = refl
+told_after (Cut name len) state calls = refl
+told_after (RefuseCut name len) state calls = refl
+told_after (Remove name) state calls = refl
 
 module _ (events later : List Event) (calls counts : ℕ) (count : counts ≡ min (calls + 1) (2 ^ 64 - 1)) where
   -- nothing was left

@@ -12,9 +12,10 @@ use Rattle.vl_disk.specs.DiskState.{File, DiskState}
 abbrev pub Fits : Entry → Type 0
 Fits entry = ForSome entry.buffer (λ buffer. (buffer.items ≡ []) × (length entry.bytes.items + vec_capacity buffer ≤ vec_capacity entry.bytes))
 
--- how many events may yet come of this name before the next `ready`: a create, an append, and a sync after each
+-- how many events may yet come of this name before the next `ready`: a create with a sync and a remove after it, an
+-- append with a sync, a sync and a remove of what is there
 abbrev pub slots : Entry → ℕ
-slots entry = (if entry.change then 2 else 0) + (if is_some entry.buffer then 2 else 0) + (if entry.unsynced then 1 else 0)
+slots entry = (if entry.change then 3 else 0) + (if is_some entry.buffer then 2 else 0) + (if entry.unsynced then 1 else 0) + (if entry.stands then 1 else 0)
 
 -- the first entry of a name
 abbrev pub entry_of : Name → List Entry → Option Entry

@@ -4,17 +4,20 @@ use Rattle.std.proofs.Common.{refl, arith}
 use Rattle.std.proofs.lemmas.List.Elements.{All-tail}
 use Rattle.vl_disk.specs.declared.name.Name.{Name}
 use Rattle.vl_disk.specs.Name.{IsNumbered}
-use Rattle.vl_disk.specs.DiskState.{DiskState, IsLawful, empty_disk, created, appended, synced}
-use Rattle.vl_disk.specs.Lawful.{created_lawful, appended_lawful, synced_lawful}
+use Rattle.vl_disk.specs.DiskState.{DiskState, IsLawful, empty_disk, shortened, with_file, created, appended, synced, cut_to, without}
+use Rattle.vl_disk.specs.Lawful.{created_lawful, appended_lawful, synced_lawful, cut_lawful, uncut_disk_lawful, without_lawful}
 use Rattle.vl_disk.specs.Crash.{SameFiles}
 use Rattle.vl_mem.specs.declared.event.Event.{Event}
-use Rattle.vl_mem.specs.declared.event.Event.TheVariants.{Create, Append, Refuse, Sync}
+use Rattle.vl_mem.specs.declared.event.Event.TheVariants.{Create, Append, RefuseAppend, Sync, Cut, RefuseCut, Remove}
 
 abbrev pub after_event : Event → DiskState → DiskState
 after_event (Create name) disk = created name disk
 after_event (Append name piece) disk = appended name piece.items (length piece.items) disk
-after_event (Refuse name piece) disk = appended name piece.items 0 disk
+after_event (RefuseAppend name piece) disk = appended name piece.items 0 disk
 after_event (Sync name) disk = synced name disk
+after_event (Cut name len) disk = cut_to name len len disk
+after_event (RefuseCut name len) disk = with_file name (λ file. shortened len (length file.bytes) file) disk
+after_event (Remove name) disk = without name disk
 
 abbrev pub replayed : List Event → DiskState → DiskState
 replayed [] disk = disk
@@ -31,8 +34,11 @@ CreatesNumbered event = (name : Name) → event ≡ Create name → IsNumbered n
 event_lawful : (event : Event) (disk : DiskState) → CreatesNumbered event → IsLawful disk → IsLawful (after_event event disk)
 event_lawful (Create name) disk numbered lawful = created_lawful disk lawful name (numbered name refl)
 event_lawful (Append name piece) disk numbered lawful = appended_lawful disk lawful name piece.items (length piece.items)
-event_lawful (Refuse name piece) disk numbered lawful = appended_lawful disk lawful name piece.items 0
+event_lawful (RefuseAppend name piece) disk numbered lawful = appended_lawful disk lawful name piece.items 0
 event_lawful (Sync name) disk numbered lawful = synced_lawful disk lawful name
+event_lawful (Cut name len) disk numbered lawful = cut_lawful disk lawful name len len (omega arith)
+event_lawful (RefuseCut name len) disk numbered lawful = uncut_disk_lawful disk lawful name len
+event_lawful (Remove name) disk numbered lawful = without_lawful disk lawful name
 
 pub replayed_lawful : (events : List Event) (disk : DiskState) → All CreatesNumbered events → IsLawful disk → IsLawful (replayed events disk)
 replayed_lawful [] disk numbered lawful = lawful

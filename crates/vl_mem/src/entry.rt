@@ -1,5 +1,6 @@
 // What a disk in memory keeps under one name.
-ghost use Rattle.std.specs.Prelude.{◌≡◌, ◌+◌, ◌≤◌, [], ◌++◌, length, Some, true, false, IsTrue, IsSome, vec_capacity, OnOk, OnErr};
+ghost use Rattle.std.specs.Prelude.{◌≡◌, ◌+◌, ◌≤◌, [], ◌++◌, length, take, Some, true, false, IsTrue, IsSome, vec_capacity, OnOk, OnErr};
+ghost use Rattle.vl_disk.specs.DiskState.{bytes_at};
 
 use std::alloc::Global;
 use vl_disk::{Name, NoMemory};
@@ -47,7 +48,7 @@ impl Entry {
         ensures bytes { self.new.bytes.items ≡ self.old.bytes.items }
         ensures unsynced { self.new.unsynced ≡ self.old.unsynced }
         ensures fits { Fits self.old → Fits self.new }
-        ensures slots { slots self.new ≤ 5 }
+        ensures slots { slots self.new ≤ 7 }
     {
         let Ok(buffer) = Vec::with_capacity(alloc, bytes) else {
             return Err(NoMemory);
@@ -58,6 +59,14 @@ impl Entry {
         self.buffer = Some(buffer);
         self.change = true;
         Ok(())
+    }
+
+    /// Reads from a place on, as many bytes as fill `out`.
+    pub fn read(&self, place: usize, out: &mut [u8])
+        requires { place + length out.old ≤ length self.now.bytes.items }
+        ensures { out.new ≡ bytes_at place (length out.old) self.now.bytes.items }
+    {
+        out.copy_from_slice(&self.bytes[place..place + out.len()]);
     }
 
     /// The file stands, and is empty.
@@ -112,5 +121,36 @@ impl Entry {
         ensures slots { slots self.new + 1 ≤ slots self.old }
     {
         self.unsynced = false;
+    }
+
+    /// So many bytes of the file are left, or all of it.
+    pub fn cut(&mut self, len: usize, cuts: bool)
+        requires { self.old.change ≡ true }
+        ensures name { self.new.name ≡ self.old.name }
+        ensures stands { self.new.stands ≡ self.old.stands }
+        ensures cuts { cuts ≡ true → self.new.bytes.items ≡ take len self.old.bytes.items }
+        ensures refuses { cuts ≡ false → self.new.bytes.items ≡ self.old.bytes.items }
+        ensures unsynced { self.new.unsynced ≡ true }
+        ensures buffer { self.new.buffer ≡ self.old.buffer }
+        ensures fits { Fits self.old → Fits self.new }
+        ensures slots { slots self.new + 1 ≤ slots self.old }
+    {
+        if cuts {
+            self.bytes.truncate(len);
+        }
+        self.unsynced = true;
+        self.change = false;
+    }
+
+    /// The file doesn't stand any more.
+    pub fn remove(&mut self)
+        requires { self.old.stands ≡ true }
+        ensures name { self.new.name ≡ self.old.name }
+        ensures stands { self.new.stands ≡ false }
+        ensures spare { spare_of (Some self.new) ≡ spare_of (Some self.old) }
+        ensures fits { Fits self.old → Fits self.new }
+        ensures slots { slots self.new + 1 ≤ slots self.old }
+    {
+        self.stands = false;
     }
 }

@@ -9,8 +9,13 @@ pub enum Event {
     Create(Name),
     Append(Name, Vec<u8>),
     /// An append that failed: it took nothing of the piece, which is due all the same.
-    Refuse(Name, Vec<u8>),
+    RefuseAppend(Name, Vec<u8>),
     Sync(Name),
+    /// A cut to a length.
+    Cut(Name, u64),
+    /// A cut that failed: the whole file is left, but what was to be cut off isn't durable any more.
+    RefuseCut(Name, u64),
+    Remove(Name),
 }
 
 /// Writes down an event in the room that was made for it.
@@ -22,13 +27,13 @@ pub fn note(events: &mut Vec<Event>, event: Event)
     let _ = events.push(event);
 }
 
-/// The most events that may come of a name between two calls of `ready`: a create, an append, and a sync after
-/// each, and one sync of what was there before.
-const EVENTS_OF_A_NAME: usize = 5;
+/// The most events that may come of a name between two calls of `ready`: a create or a cut, an append, a sync after
+/// each and one of what was there before, and two removes, of what was there before and of what was created.
+const EVENTS_OF_A_NAME: usize = 7;
 
 /// Makes room for the events of so many names.
 pub fn make_room(events: &mut Vec<Event>, names: usize) -> Result<(), AllocError>
-    ensures room { OnOk result (length events.new.items + 5 * names ≤ vec_capacity events.new) }
+    ensures room { OnOk result (length events.new.items + 7 * names ≤ vec_capacity events.new) }
     ensures items { events.new.items ≡ events.old.items }
     ensures capacity { vec_capacity events.old ≤ vec_capacity events.new }
 {

@@ -17,7 +17,10 @@ use vl_disk::{Disk, Failed, ListFail, Name, NoMemory};
 #[derive(Drop)]
 pub struct MemDisk {
     alloc: Global,
+    // of the changing calls
     plan: Plan,
+    // of the other calls that can fail
+    reads: Plan,
     entries: Vec<Entry>,
     events: Vec<Event>,
     // Room for each event that may yet come without a call of `ready`.
@@ -32,19 +35,23 @@ pub struct MemDisk {
 impl MemDisk {
     ghost use Rattle.std.specs.Option.{ForSome, option_copied, option_map};
     ghost use Rattle.std.specs.FinMap.{get};
-    ghost use Rattle.vl_mem.specs.MemDisk.{told_by, failing_calls, calls_of};
+    ghost use Rattle.vl_mem.specs.MemDisk.{told_by, failing_calls, calls_of, failing_reads, reads_of};
 
-    /// An empty disk. Of its changing calls exactly those fail that are listed, by their numbers from 1.
-    pub fn new(alloc: Global, failing: Vec<u64>) -> Self
+    /// An empty disk. Of its changing calls exactly those fail that `faults` lists, by their numbers from 1, and of its
+    /// other calls that can fail those that `read_faults` lists.
+    pub fn new(alloc: Global, faults: Vec<u64>, read_faults: Vec<u64>) -> Self
         ensures told { ⟦<MemDisk as Disk>⟧.told result ≡ Some empty_disk }
         ensures moment { ⟦<MemDisk as Disk>⟧.moment result ≡ 0 }
         ensures faults { ⟦<MemDisk as Disk>⟧.faults result ≡ 0 }
-        ensures failing { failing_calls result ≡ failing.items }
+        ensures failing { failing_calls result ≡ faults.items }
         ensures calls { calls_of result ≡ 0 }
+        ensures failing_reads { failing_reads result ≡ read_faults.items }
+        ensures reads { reads_of result ≡ 0 }
     {
         MemDisk {
             alloc,
-            plan: Plan::new(failing),
+            plan: Plan::new(faults),
+            reads: Plan::new(read_faults),
             entries: Vec::new(alloc),
             events: Vec::new(alloc),
         }
@@ -68,12 +75,12 @@ impl Disk for MemDisk {
     ghost use Rattle.std.specs.Prelude.{◌⊎◌, ℕ, OnOk, OnErr, IfOk, IsTrue, IsOk, IsErr, IsErrOf};
     ghost use Rattle.std.specs.Option.{ForSome};
     ghost use Rattle.vl_disk.specs.Name.{IsNumbered};
-    ghost use Rattle.vl_disk.specs.DiskState.{file_at, created, appended, synced};
-    ghost use Rattle.vl_disk.specs.Crash.{Unchanged, WhileCreating, WhileAppending, WhileSyncing};
+    ghost use Rattle.vl_disk.specs.DiskState.{bytes_at, file_at, created, appended, synced, cut_to, without};
+    ghost use Rattle.vl_disk.specs.Crash.{Unchanged, WhileCreating, WhileAppending, WhileSyncing, WhileCutting, WhileRemoving};
     ghost use Rattle.vl_disk.specs.Moments.{Elapses};
-    ghost use Rattle.vl_disk.specs.Disk.{Stands, IsFree, Lists, Turns, While, HasCause, IsReady, CanAppend, SameSpare, SameSpareElsewhere, UsesChange, UsesAppend};
+    ghost use Rattle.vl_disk.specs.Disk.{Stands, IsFree, IsInside, Lists, Turns, While, HasCause, IsReady, CanAppend, SameSpare, SameSpareElsewhere, UsesChange, UsesAppend};
     ghost use Rattle.vl_mem.specs.Past.{told_lawful, counts_present, only_present};
-    ghost use Rattle.vl_mem.specs.MemDisk.{told_by, moment_of, was_since, faults_of, room_of, KeepsPlan, FollowsPlan};
+    ghost use Rattle.vl_mem.specs.MemDisk.{told_by, moment_of, was_since, faults_of, room_of, KeepsPlan, KeepsReads, FollowsPlan, FollowsReads};
 
     ghost told = { told_by };
 
@@ -100,10 +107,13 @@ impl Disk for MemDisk {
         ensures cause { HasCause (faults_of self.old) (faults_of self.new) (IsErrOf result ListFail.Failed) }
         ensures spare { SameSpare (room_of self.old) (room_of self.new) }
 
-        // It doesn't fail.
+        // It fails exactly if it is listed.
         ensures plan { KeepsPlan self.old self.new }
-        ensures answers { IsErrOf result ListFail.Failed → ⊥ }
+        ensures reads { FollowsReads self.old self.new (IsErrOf result ListFail.Failed) }
     {
+        if self.reads.fails() {
+            return Err(ListFail::Failed);
+        }
         Ok(names_of(alloc, &self.entries)?)
     }
 
@@ -116,12 +126,39 @@ impl Disk for MemDisk {
         ensures cause { HasCause (faults_of self.old) (faults_of self.new) (IsErr result) }
         ensures spare { SameSpare (room_of self.old) (room_of self.new) }
 
-        // It doesn't fail.
+        // It fails exactly if it is listed.
         ensures plan { KeepsPlan self.old self.new }
-        ensures answers { IsOk result }
+        ensures reads { FollowsReads self.old self.new (IsErr result) }
     {
+        if self.reads.fails() {
+            return Err(Failed);
+        }
         let at = place_of(&self.entries, name);
         Ok(self.entries[at].bytes.len() as u64)
+    }
+
+    fn read(&mut self, name: Name, place: u64, out: &mut [u8]) -> Result<(), Failed>
+        requires stands { ForSome (told_by self.old) (Stands name) }
+        requires inside { ForSome (told_by self.old) (IsInside name (place + length out.old)) }
+        ensures bytes { OnOk result (ForSome (told_by self.old)
+            (λ disk. out.new ≡ bytes_at place (length out.old) (file_at disk name).bytes)) }
+        ensures told { told_by self.new ≡ told_by self.old }
+        ensures time { Elapses (moment_of self.old) (moment_of self.new) (was_since self.old) (was_since self.new)
+            (While (told_by self.old) Unchanged) }
+        ensures cause { HasCause (faults_of self.old) (faults_of self.new) (IsErr result) }
+        ensures spare { SameSpare (room_of self.old) (room_of self.new) }
+
+        // It fails exactly if it is listed, and then reads nothing.
+        ensures plan { KeepsPlan self.old self.new }
+        ensures reads { FollowsReads self.old self.new (IsErr result) }
+        ensures nothing { OnErr result (out.new ≡ out.old) }
+    {
+        if self.reads.fails() {
+            return Err(Failed);
+        }
+        let at = place_of(&self.entries, name);
+        self.entries[at].read(place as usize, out);
+        Ok(())
     }
 
     fn ready(&mut self, name: Name, bytes: u64) -> Result<(), NoMemory>
@@ -133,6 +170,7 @@ impl Disk for MemDisk {
             (While (told_by self.old) Unchanged) }
         ensures faults { faults_of self.new ≡ faults_of self.old }
         ensures plan { KeepsPlan self.old self.new }
+        ensures reads { KeepsReads self.old self.new }
     {
         make_room(&mut self.events, self.entries.len() + 1)?;
         let at = entry_for(self.alloc, &mut self.entries, name)?;
@@ -154,6 +192,7 @@ impl Disk for MemDisk {
 
         // It fails exactly if it is listed, and then does nothing.
         ensures plan { FollowsPlan self.old self.new (IsErr result) }
+        ensures reads { KeepsReads self.old self.new }
         ensures nothing { OnErr result (Turns (λ disk. disk) (told_by self.old) (told_by self.new)) }
     {
         if self.plan.fails() {
@@ -179,12 +218,13 @@ impl Disk for MemDisk {
 
         // It fails exactly if it is listed, and then takes nothing. The piece is due all the same.
         ensures plan { FollowsPlan self.old self.new (IsErr result) }
+        ensures reads { KeepsReads self.old self.new }
         ensures nothing { OnErr result (Turns (appended name piece.now 0) (told_by self.old) (told_by self.new)) }
     {
         let at = place_of(&self.entries, name);
         if self.plan.fails() {
             let kept = self.entries[at].append(self.alloc, piece, false);
-            note(&mut self.events, Event::Refuse(name, kept));
+            note(&mut self.events, Event::RefuseAppend(name, kept));
             return Err(Failed);
         }
         let kept = self.entries[at].append(self.alloc, piece, true);
@@ -204,6 +244,7 @@ impl Disk for MemDisk {
 
         // It fails exactly if it is listed.
         ensures plan { FollowsPlan self.old self.new (IsErr result) }
+        ensures reads { KeepsReads self.old self.new }
     {
         if self.plan.fails() {
             return Err(Failed);
@@ -214,6 +255,61 @@ impl Disk for MemDisk {
         }
         self.entries[at].sync();
         note(&mut self.events, Event::Sync(name));
+        Ok(())
+    }
+
+    fn cut(&mut self, name: Name, len: u64) -> Result<(), Failed>
+        requires stands { ForSome (told_by self.old) (Stands name) }
+        requires inside { ForSome (told_by self.old) (IsInside name len) }
+        requires room { IsTrue (room_of self.old name).change }
+        ensures cut { OnOk result (Turns (cut_to name len len) (told_by self.old) (told_by self.new)) }
+        ensures failed { OnErr result ((left : ℕ) × (len ≤ left) × ForSome (told_by self.old) (IsInside name left)
+            × Turns (cut_to name len left) (told_by self.old) (told_by self.new)) }
+        ensures stands { ForSome (told_by self.new) (Stands name) }
+        ensures time { Elapses (moment_of self.old) (moment_of self.new) (was_since self.old) (was_since self.new)
+            (While (told_by self.old) (WhileCutting name len)) }
+        ensures cause { HasCause (faults_of self.old) (faults_of self.new) (IsErr result) }
+        ensures spare { UsesChange name (room_of self.old) (room_of self.new) }
+
+        // It fails exactly if it is listed, and then leaves the whole file. What was to be cut off isn't durable any more.
+        ensures plan { FollowsPlan self.old self.new (IsErr result) }
+        ensures reads { KeepsReads self.old self.new }
+        ensures nothing { OnErr result (ForSome (told_by self.old)
+            (λ disk. Turns (cut_to name len (length (file_at disk name).bytes)) (told_by self.old) (told_by self.new))) }
+    {
+        let at = place_of(&self.entries, name);
+        if self.plan.fails() {
+            self.entries[at].cut(len as usize, false);
+            note(&mut self.events, Event::RefuseCut(name, len));
+            return Err(Failed);
+        }
+        self.entries[at].cut(len as usize, true);
+        note(&mut self.events, Event::Cut(name, len));
+        Ok(())
+    }
+
+    fn remove(&mut self, name: Name) -> Result<(), Failed>
+        requires { ForSome (told_by self.old) (Stands name) }
+        ensures removed { OnOk result (Turns (without name) (told_by self.old) (told_by self.new)) }
+        ensures free { OnOk result (ForSome (told_by self.new) (IsFree name)) }
+        ensures failed { OnErr result (Turns (λ disk. disk) (told_by self.old) (told_by self.new)
+            ⊎ Turns (without name) (told_by self.old) (told_by self.new)) }
+        ensures time { Elapses (moment_of self.old) (moment_of self.new) (was_since self.old) (was_since self.new)
+            (While (told_by self.old) (WhileRemoving name)) }
+        ensures cause { HasCause (faults_of self.old) (faults_of self.new) (IsErr result) }
+        ensures spare { SameSpare (room_of self.old) (room_of self.new) }
+
+        // It fails exactly if it is listed, and then does nothing.
+        ensures plan { FollowsPlan self.old self.new (IsErr result) }
+        ensures reads { KeepsReads self.old self.new }
+        ensures nothing { OnErr result (Turns (λ disk. disk) (told_by self.old) (told_by self.new)) }
+    {
+        if self.plan.fails() {
+            return Err(Failed);
+        }
+        let at = place_of(&self.entries, name);
+        self.entries[at].remove();
+        note(&mut self.events, Event::Remove(name));
         Ok(())
     }
 }

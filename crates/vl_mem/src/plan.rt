@@ -1,4 +1,4 @@
-// Which of the changing calls are to fail, and how many came and failed so far.
+// Which calls of one kind are to fail, and how many of them came and failed so far.
 ghost use Rattle.std.specs.Prelude.{◌≡◌, ◌+◌, ◌-◌, ◌^◌, ◌↔◌, ◌≤◌, min, false, IsTrue, Contains};
 ghost use Rattle.vl_disk.specs.Faults.{Rose};
 
@@ -22,7 +22,7 @@ impl Plan {
         }
     }
 
-    /// Counts a changing call, and answers whether it fails.
+    /// Counts a call, and answers whether it fails.
     pub fn fails(&mut self) -> bool
         ensures listed { IsTrue result ↔ Contains self.old.failing.items (self.old.calls + 1) }
         ensures failing { self.new.failing.items ≡ self.old.failing.items }

@@ -27,7 +27,7 @@ fn main(rt: HostRuntime) -> ExitCode {
         return ExitCode::from(refuse_without_words(&mut sink));
     };
     let mut source = StdSource::new(rt.reader());
-    let disk = MemDisk::new(rt.alloc(), Vec::new(rt.alloc()));
+    let disk = MemDisk::new(rt.alloc(), Vec::new(rt.alloc()), Vec::new(rt.alloc()));
     let Ended { status, disk: _ } = run(rt.alloc(), words.as_slice(), &mut source, &mut sink, disk);
     ExitCode::from(status)
 }

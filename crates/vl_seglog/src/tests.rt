@@ -89,7 +89,7 @@ fn finds_nothing_elsewhere(rt: HostRuntime) -> Result<(), Fail> {
 #[test]
 fn a_log_takes_a_staged_commit(rt: HostRuntime) -> Result<(), Fail> {
     let alloc = rt.alloc();
-    let mut disk = MemDisk::new(alloc, Vec::new(alloc));
+    let mut disk = MemDisk::new(alloc, Vec::new(alloc), Vec::new(alloc));
     disk.ready(Name::Log(1), 16)?;
     make_file(&mut disk, Name::Log(1), &log_header(1))?;
     let mut active = ActiveLog::new(1);

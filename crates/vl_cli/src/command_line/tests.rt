@@ -50,7 +50,7 @@ fn outcome_over(alloc: Global, case: &Case, disk: MemDisk) -> Result<(u8, Vec<u8
 }
 
 fn outcome(alloc: Global, case: &Case) -> Result<(u8, Vec<u8>), Fail> {
-    let disk = MemDisk::new(alloc, Vec::new(alloc));
+    let disk = MemDisk::new(alloc, Vec::new(alloc), Vec::new(alloc));
     let (status, printed, _) = outcome_over(alloc, case, disk)?;
     Ok((status, printed))
 }
@@ -182,7 +182,11 @@ fn commits_are_written_to_the_disk(rt: HostRuntime) -> Result<(), Fail> {
         ),
     ];
     for (input, failing, answers, log) in cases {
-        let empty = MemDisk::new(rt.alloc(), Vec::from_slice(rt.alloc(), failing)?);
+        let empty = MemDisk::new(
+            rt.alloc(),
+            Vec::from_slice(rt.alloc(), failing)?,
+            Vec::new(rt.alloc()),
+        );
         let first = plain(input, answers, 0);
         let (status, printed, disk) = outcome_over(rt.alloc(), &first, empty)?;
         assert_eq!(rt; printed.as_slice(), first.printed.as_bytes());
@@ -211,7 +215,7 @@ fn faults_of_the_disk_end_a_run(rt: HostRuntime) -> Result<(), Fail> {
             "ok 0\nok\ndisk fault\n"
         };
         let case = plain("begin a\nset a 61 01\ncommit a\n", printed, 3);
-        let disk = MemDisk::new(rt.alloc(), [call].to_vec(rt.alloc())?);
+        let disk = MemDisk::new(rt.alloc(), [call].to_vec(rt.alloc())?, Vec::new(rt.alloc()));
         let (status, printed, disk) = outcome_over(rt.alloc(), &case, disk)?;
         assert_eq!(rt; printed.as_slice(), case.printed.as_bytes(), "call {call}");
         assert_eq!(rt; status, case.status, "call {call}");

@@ -58,7 +58,7 @@ fn drop_line(alloc: Global, name: &str) -> Result<Line, AllocError> {
 #[test]
 fn a_commit_is_seen_by_a_later_view(rt: HostRuntime) -> Result<(), Fail> {
     let alloc = rt.alloc();
-    let Ok(mut replayer) = Replayer::new(alloc, MemDisk::new(alloc, Vec::new(alloc))) else {
+    let Ok(mut replayer) = Replayer::new(alloc, MemDisk::new(alloc, Vec::new(alloc), Vec::new(alloc))) else {
         return Err("not opened".into());
     };
     assert!(rt;
@@ -102,7 +102,7 @@ fn a_commit_is_seen_by_a_later_view(rt: HostRuntime) -> Result<(), Fail> {
 #[test]
 fn names_and_limits(rt: HostRuntime) -> Result<(), Fail> {
     let alloc = rt.alloc();
-    let Ok(mut replayer) = Replayer::new(alloc, MemDisk::new(alloc, Vec::new(alloc))) else {
+    let Ok(mut replayer) = Replayer::new(alloc, MemDisk::new(alloc, Vec::new(alloc), Vec::new(alloc))) else {
         return Err("not opened".into());
     };
     assert!(rt;
@@ -154,7 +154,7 @@ fn names_and_limits(rt: HostRuntime) -> Result<(), Fail> {
 #[test]
 fn a_commit_without_writes_is_none(rt: HostRuntime) -> Result<(), Fail> {
     let alloc = rt.alloc();
-    let Ok(mut replayer) = Replayer::new(alloc, MemDisk::new(alloc, Vec::new(alloc))) else {
+    let Ok(mut replayer) = Replayer::new(alloc, MemDisk::new(alloc, Vec::new(alloc), Vec::new(alloc))) else {
         return Err("not opened".into());
     };
     assert!(rt;
@@ -182,7 +182,7 @@ fn a_commit_without_writes_is_none(rt: HostRuntime) -> Result<(), Fail> {
 #[test]
 fn a_deletion_is_read_and_committed(rt: HostRuntime) -> Result<(), Fail> {
     let alloc = rt.alloc();
-    let Ok(mut replayer) = Replayer::new(alloc, MemDisk::new(alloc, Vec::new(alloc))) else {
+    let Ok(mut replayer) = Replayer::new(alloc, MemDisk::new(alloc, Vec::new(alloc), Vec::new(alloc))) else {
         return Err("not opened".into());
     };
     assert!(rt;
@@ -257,7 +257,7 @@ fn a_deletion_is_read_and_committed(rt: HostRuntime) -> Result<(), Fail> {
 #[test]
 fn what_is_dropped_leaves_nothing(rt: HostRuntime) -> Result<(), Fail> {
     let alloc = rt.alloc();
-    let Ok(mut replayer) = Replayer::new(alloc, MemDisk::new(alloc, Vec::new(alloc))) else {
+    let Ok(mut replayer) = Replayer::new(alloc, MemDisk::new(alloc, Vec::new(alloc), Vec::new(alloc))) else {
         return Err("not opened".into());
     };
     assert!(rt;

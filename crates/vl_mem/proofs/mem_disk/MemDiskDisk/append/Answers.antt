@@ -3,7 +3,7 @@ use Rattle.vl_disk.specs.Crash.{SameFiles, WhileAppending}
 use Rattle.vl_disk.specs.DiskState.{appended, lengthened}
 use Rattle.vl_disk.specs.Disk.{Turns, Stands}
 use Rattle.vl_disk.specs.Standing.{turned, changed_stands}
-use Rattle.vl_mem.specs.declared.event.Event.TheVariants.{Append, Refuse}
+use Rattle.vl_mem.specs.declared.event.Event.TheVariants.{Append, RefuseAppend}
 use Rattle.vl_mem.specs.Event.{told_of}
 use Rattle.vl_mem.specs.Entry.{IsAt}
 use Rattle.vl_mem.proofs.Kept.{kept}
@@ -24,7 +24,7 @@ invariant_of-self c =
     let step = refused_step c.args.name m.entries.items c.place_of-at.result c.index_mut.result.now c.append-kept.new.self at c.index_mut.ensures.value c.append-kept.ensures.name
     m.events.items c.note.new.events.items (vec_capacity m.events) (vec_capacity c.note.new.events) c.note.ensures.capacity c.append-kept.ensures.slots (λ _. c.append-kept.ensures.fits) (kept m)
     (c.requires.stands _ refl) c.append-kept.ensures.stands c.append-kept.result c.note.ensures.items (c.append-kept.ensures.refuses refl) c.append-kept.ensures.unsynced in
-    record { room = step.room; fits = step.fits; distinct = step.distinct; has_bytes = step.has_bytes; notes_unsynced = step.notes_unsynced; numbered = numbered_push m.events.items c.note.new.events.items (Refuse c.args.name c.append-kept.result) c.note.ensures.items m.numbered (refuse_numbered c.args.name c.append-kept.result) }
+    record { room = step.room; fits = step.fits; distinct = step.distinct; has_bytes = step.has_bytes; notes_unsynced = step.notes_unsynced; numbered = numbered_push m.events.items c.note.new.events.items (RefuseAppend c.args.name c.append-kept.result) c.note.ensures.items m.numbered (refuse_numbered c.args.name c.append-kept.result) }
 
 pub append-kept-requires-2-clause-room : goal.append-kept-requires-2-clause-room
 append-kept-requires-2-clause-room c =
@@ -42,12 +42,12 @@ invariant_of-self-2 c =
 
 pub returns-then-fails-clause-failed : goal.returns-then-fails-clause-failed
 returns-then-fails-clause-failed c =
-    let turned = turns_by c.args.self.now.events.items c.note.new.events.items c.args.self.now.plan.calls c.fails.new.self.calls c.fails.ensures.calls (Refuse c.args.name c.append-kept.result) c.note.ensures.items in
+    let turned = turns_by c.args.self.now.events.items c.note.new.events.items c.args.self.now.plan.calls c.fails.new.self.calls c.fails.ensures.calls (RefuseAppend c.args.name c.append-kept.result) c.note.ensures.items in
     (0, omega arith, subst (λ l. Turns (appended c.args.name l 0) (Some (told_of c.args.self.now.events.items c.args.self.now.plan.calls)) (Some (told_of c.note.new.events.items c.fails.new.self.calls))) c.append-kept.ensures.piece turned)
 
 pub returns-then-fails-clause-time : goal.returns-then-fails-clause-time
 returns-then-fails-clause-time c =
-    elapses_by c.args.self.now.events.items c.note.new.events.items c.args.self.now.plan.calls c.fails.new.self.calls c.fails.ensures.calls (Refuse c.args.name c.append-kept.result) (WhileAppending c.args.name c.args.piece.now) c.note.ensures.items
+    elapses_by c.args.self.now.events.items c.note.new.events.items c.args.self.now.plan.calls c.fails.new.self.calls c.fails.ensures.calls (RefuseAppend c.args.name c.append-kept.result) (WhileAppending c.args.name c.args.piece.now) c.note.ensures.items
     (λ now same. inr (0, omega arith, subst (λ l. SameFiles now (appended c.args.name l 0 (told_of c.args.self.now.events.items c.args.self.now.plan.calls))) c.append-kept.ensures.piece (record { standing = same.standing; removed = same.removed })))
 
 pub returns-then-fails-clause-spare : goal.returns-then-fails-clause-spare
@@ -73,11 +73,11 @@ returns-clause-spare c =
 pub returns-then-fails-clause-nothing : goal.returns-then-fails-clause-nothing
 returns-then-fails-clause-nothing c =
     subst (λ l. Turns (appended c.args.name l 0) (Some (told_of c.args.self.now.events.items c.args.self.now.plan.calls)) (Some (told_of c.note.new.events.items c.fails.new.self.calls))) c.append-kept.ensures.piece
-    (turns_by c.args.self.now.events.items c.note.new.events.items c.args.self.now.plan.calls c.fails.new.self.calls c.fails.ensures.calls (Refuse c.args.name c.append-kept.result) c.note.ensures.items)
+    (turns_by c.args.self.now.events.items c.note.new.events.items c.args.self.now.plan.calls c.fails.new.self.calls c.fails.ensures.calls (RefuseAppend c.args.name c.append-kept.result) c.note.ensures.items)
 
 pub returns-then-fails-clause-stands : goal.returns-then-fails-clause-stands
 returns-then-fails-clause-stands c = turned (appended c.args.name c.append-kept.result.items 0) _ _ (Stands c.args.name) (Stands c.args.name)
-    (turns_by c.args.self.now.events.items c.note.new.events.items c.args.self.now.plan.calls c.fails.new.self.calls c.fails.ensures.calls (Refuse c.args.name c.append-kept.result) c.note.ensures.items)
+    (turns_by c.args.self.now.events.items c.note.new.events.items c.args.self.now.plan.calls c.fails.new.self.calls c.fails.ensures.calls (RefuseAppend c.args.name c.append-kept.result) c.note.ensures.items)
     (λ disk stands. changed_stands c.args.name (lengthened c.append-kept.result.items 0) disk c.args.name stands) c.requires.stands
 
 pub returns-clause-stands : goal.returns-clause-stands

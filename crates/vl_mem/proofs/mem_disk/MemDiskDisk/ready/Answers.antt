@@ -26,7 +26,7 @@ invariant_of-self-2 c =
     let m = c.args.self.now in
     let added = added_step c.args.name m.entries.items c.entry_for.new.entries.items c.in_ok-at.ensures.added m.events.items (vec_capacity m.events) (kept m) in
     let wide = same_step c.entry_for.new.entries.items c.entry_for.new.entries.items m.events.items c.make_room.new.events.items (vec_capacity m.events) (vec_capacity c.make_room.new.events) refl c.make_room.ensures.items c.make_room.ensures.capacity added in
-    let room : length c.make_room.new.events.items + 5 * length c.entry_for.new.entries.items ≤ vec_capacity c.make_room.new.events =
+    let room : length c.make_room.new.events.items + 7 * length c.entry_for.new.entries.items ≤ vec_capacity c.make_room.new.events =
     omega (arith, c.in_ok-make_room.ensures.room, added_length c.args.name m.entries.items c.entry_for.new.entries.items c.in_ok-at.ensures.added, c.len.ensures, m.entries.ok.0) in
     let step = roomed_step c.args.name c.entry_for.new.entries.items c.in_ok-at.at c.index_mut.result.now c.make_room-2.new.self c.in_ok-at.ensures.at c.index_mut.ensures.value c.make_room-2.ensures.name
     c.make_room.new.events.items (vec_capacity c.make_room.new.events) room c.make_room-2.ensures.fits c.make_room-2.ensures.stands c.make_room-2.ensures.bytes c.make_room-2.ensures.unsynced wide in
