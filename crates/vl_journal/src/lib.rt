@@ -13,9 +13,9 @@ mod opening;
 mod writing;
 
 pub use fails::OpenFail;
-pub use names::{LOG, MANIFEST};
+pub use names::{LOG, MANIFEST, NUMBER};
 pub use opening::open_store;
-pub use writing::{stage_commit, write_staged};
+pub use writing::write_staged;
 
 #[cfg(test)]
 mod tests;

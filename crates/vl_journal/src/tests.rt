@@ -7,6 +7,7 @@ use std::test::Fail;
 use vl_disk::{Failed, Name};
 use vl_mem::MemDisk;
 use vl_model::{Bytes, Change, Key};
+use vl_seglog::ActiveLog;
 
 // The first manifest: the header, and the frame of the edits Head (1, 0) and Next (1, 1).
 const MANIFEST_BYTES: [u8; 55] = [
@@ -54,9 +55,10 @@ fn a_commit_is_one_frame_of_a_log_that_stays(rt: HostRuntime) -> Result<(), Fail
     let mut disk = MemDisk::new(alloc, Vec::new(alloc), Vec::new(alloc));
     open_store(alloc, &mut disk)?;
     let writes = [one_write(alloc)?];
-    let frame = stage_commit(alloc, &mut disk, 16, 1, &writes)?;
+    let mut log = ActiveLog::new(NUMBER);
+    let staged = log.stage_commit(alloc, &mut disk, 1, &writes)?;
     assert!(rt; holds(&disk, LOG, &HEADER_BYTES));
-    write_staged(&mut disk, &frame)?;
+    write_staged(&mut log, &mut disk, &staged)?;
     assert_eq!(rt; open_store(alloc, &mut disk), Err(OpenFail::NotAStore));
     assert!(rt; holds(&disk, LOG, &LOG_BYTES));
     assert!(rt; holds(&disk, MANIFEST, &MANIFEST_BYTES));
@@ -76,8 +78,9 @@ fn faults_are_answered(rt: HostRuntime) -> Result<(), Fail> {
     let mut disk = MemDisk::new(alloc, [7].to_vec(alloc)?, Vec::new(alloc));
     open_store(alloc, &mut disk)?;
     let writes = [one_write(alloc)?];
-    let frame = stage_commit(alloc, &mut disk, 16, 1, &writes)?;
-    assert_eq!(rt; write_staged(&mut disk, &frame), Err(Failed));
+    let mut log = ActiveLog::new(NUMBER);
+    let staged = log.stage_commit(alloc, &mut disk, 1, &writes)?;
+    assert_eq!(rt; write_staged(&mut log, &mut disk, &staged), Err(Failed));
     assert!(rt; holds(&disk, LOG, &HEADER_BYTES));
     Ok(())
 }

@@ -18,9 +18,10 @@ use crate::replayer::writes::value_len;
 use crate::replayer::{Halt, MAX_LOG_BYTES, Memtable, Open, Thing, Writes};
 use std::alloc::Global;
 use vl_disk::Disk;
-use vl_journal::{stage_commit, write_staged};
+use vl_journal::{NUMBER, write_staged};
 use vl_model::{Bytes, Change, Counter, Key, MAX_COMMIT_NUMBER, MAX_KEY_BYTES, MAX_VALUE_BYTES};
 use vl_script::{Answer, Ident, Line};
+use vl_seglog::ActiveLog;
 
 /// Commits in memory, of which each is written to a disk before it is answered, and what the script has open.
 #[derive(Drop)]
@@ -163,16 +164,14 @@ impl Store {
             return Ok(Answer::Full);
         }
         // All memory is taken before the first call that changes the disk.
-        let frame = stage_commit(
-            self.alloc,
-            disk,
-            self.log_length,
-            self.last + 1,
-            writes.as_slice(),
-        )?;
+        let mut log = ActiveLog {
+            number: NUMBER,
+            length: self.log_length,
+        };
+        let staged = log.stage_commit(self.alloc, disk, self.last + 1, writes.as_slice())?;
         let count = writes.len();
         self.memtable.reserve(count)?;
-        write_staged(disk, &frame)?;
+        write_staged(&mut log, disk, &staged)?;
         let Some(Open { name: _, thing }) = self.in_use.take() else {
             unreachable!();
         };

@@ -134,19 +134,19 @@ pub stage_commit-requires : goal.stage_commit-requires
 stage_commit-requires g c =
     is_commit c.args.self.now.last c.in-Transaction.writes c.as_slice-2.result.now c.as_slice-2.ensures.entries (sym c.is_empty.ensures ∙ c.if-is_empty.false) c.if-self-ge-MAX_COMMIT_NUMBER.false c.as_slice-2.ensures.rising c.as_slice-2.ensures.lawful c.as_slice-2.ensures.few
 
-pub returns-in_err-frame-clause-carries : goal.returns-in_err-frame-clause-carries
-returns-in_err-frame-clause-carries g c begun s state rep told_is holds_state =
+pub returns-in_err-staged-clause-carries : goal.returns-in_err-staged-clause-carries
+returns-in_err-staged-clause-carries g c begun s state rep told_is holds_state =
     let told = g.D.Disk.told in
     let moment = g.D.Disk.moment in
     let since = g.D.Disk.states_since in
-    carries_no_memory told moment since g.met.D.Disk.only_now g.met.D.Disk.counts_now begun s c.args.name state c.args.disk.now c.stage_commit.new.disk c.from_residual.result c.from_residual.ensures.0 told_is holds_state c.in_err-frame.ensures.told c.in_err-frame.ensures.time
+    carries_no_memory told moment since g.met.D.Disk.only_now g.met.D.Disk.counts_now begun s c.args.name state c.args.disk.now c.stage_commit.new.disk c.from_residual.result c.from_residual.ensures.0 told_is holds_state c.in_err-staged.ensures.told c.in_err-staged.ensures.time
 
 pub returns-in_err-reserve-clause-carries : goal.returns-in_err-reserve-clause-carries
 returns-in_err-reserve-clause-carries g c begun s state rep told_is holds_state =
     let told = g.D.Disk.told in
     let moment = g.D.Disk.moment in
     let since = g.D.Disk.states_since in
-    carries_no_memory told moment since g.met.D.Disk.only_now g.met.D.Disk.counts_now begun s c.args.name state c.args.disk.now c.stage_commit.new.disk c.from_residual-in_err-reserve.result c.from_residual-in_err-reserve.ensures.0 told_is holds_state c.in_ok-frame.ensures.told c.in_ok-frame.ensures.time
+    carries_no_memory told moment since g.met.D.Disk.only_now g.met.D.Disk.counts_now begun s c.args.name state c.args.disk.now c.stage_commit.new.disk c.from_residual-in_err-reserve.result c.from_residual-in_err-reserve.ensures.0 told_is holds_state c.in_ok-staged.ensures.told c.in_ok-staged.ensures.time
 
 pub returns-in_err-write_staged-clause-carries : goal.returns-in_err-write_staged-clause-carries
 returns-in_err-write_staged-clause-carries g c begun s state rep told_is holds_state =
@@ -164,14 +164,14 @@ returns-in_err-write_staged-clause-carries g c begun s state rep told_is holds_s
     let new = c.write_staged.new.disk in
     let committed_is = commit_is r s c.args.name c.in-Transaction.number writes rep holds (sym c.is_empty.ensures ∙ c.if-is_empty.false) c.if-self-ge-MAX_COMMIT_NUMBER.false (subst (λ n. n ≤ MAX_LOG_BYTES) longer_is c.if-log_length-gt-MAX_LOG_BYTES.false) in
     let entries_are = c.as_slice-2.ensures.entries in
-    let mid_is : told mid ≡ Some state = c.in_ok-frame.ensures.told ∙ told_is in
-    let lawful = has_frame r s writes list rep entries_are c.in_ok-frame.ensures.has_frame in
-    let spelled = frame_is r s begun state writes list c.deref.result.now rep holds_state entries_are (c.deref.ensures.value ∙ c.in_ok-frame.ensures.frame) in
+    let mid_is : told mid ≡ Some state = c.in_ok-staged.ensures.told ∙ told_is in
+    let lawful = has_frame r s writes list rep entries_are c.in_ok-staged.ensures.has_frame in
+    let spelled = frame_is r s begun state writes list c.in_ok-staged.staged.frame.items rep holds_state entries_are c.in_ok-staged.ensures.frame in
     let commits = holds_state.history.commits in
     let through = c.in_err-write_staged.ensures.through state _ _ mid_is commits lawful spelled in
     let result = c.from_residual-in_err-write_staged.result in
     let residual = c.from_residual-in_err-write_staged.ensures in
-    let carries = carries_failed told moment since g.met.D.Disk.only_now g.met.D.Disk.counts_now begun s c.args.name writes state old mid new result residual.0 residual.1 told_is holds_state c.in_ok-frame.ensures.time (c.in_err-write_staged.ensures.tells state mid_is) through in
+    let carries = carries_failed told moment since g.met.D.Disk.only_now g.met.D.Disk.counts_now begun s c.args.name writes state old mid new result residual.0 residual.1 told_is holds_state c.in_ok-staged.ensures.time (c.in_err-write_staged.ensures.tells state mid_is) through in
     carries_as told moment since old new begun s result (committed s c.args.name (get s.things c.args.name)) _ committed_is carries
 
 pub returns-clause-carries : goal.returns-clause-carries
@@ -190,11 +190,11 @@ returns-clause-carries g c begun s state rep told_is holds_state =
     let new = c.write_staged.new.disk in
     let committed_is = commit_is r s c.args.name c.in-Transaction.number writes rep holds (sym c.is_empty.ensures ∙ c.if-is_empty.false) c.if-self-ge-MAX_COMMIT_NUMBER.false (subst (λ n. n ≤ MAX_LOG_BYTES) longer_is c.if-log_length-gt-MAX_LOG_BYTES.false) in
     let entries_are = c.as_slice-2.ensures.entries in
-    let mid_is : told mid ≡ Some state = c.in_ok-frame.ensures.told ∙ told_is in
-    let lawful = has_frame r s writes list rep entries_are c.in_ok-frame.ensures.has_frame in
-    let spelled = frame_is r s begun state writes list c.deref.result.now rep holds_state entries_are (c.deref.ensures.value ∙ c.in_ok-frame.ensures.frame) in
+    let mid_is : told mid ≡ Some state = c.in_ok-staged.ensures.told ∙ told_is in
+    let lawful = has_frame r s writes list rep entries_are c.in_ok-staged.ensures.has_frame in
+    let spelled = frame_is r s begun state writes list c.in_ok-staged.staged.frame.items rep holds_state entries_are c.in_ok-staged.ensures.frame in
     let commits = holds_state.history.commits in
     let through = c.in_ok-write_staged.ensures.through state _ _ mid_is commits lawful spelled in
     let written = c.in_ok-write_staged.ensures.written state _ _ mid_is commits lawful spelled in
-    let carries = carries_commit told moment since g.met.D.Disk.only_now g.met.D.Disk.counts_now begun s c.args.name writes state old mid new (Number (r.last + 1)) told_is holds_state c.in_ok-frame.ensures.time written through in
+    let carries = carries_commit told moment since g.met.D.Disk.only_now g.met.D.Disk.counts_now begun s c.args.name writes state old mid new (Number (r.last + 1)) told_is holds_state c.in_ok-staged.ensures.time written through in
     carries_as told moment since old new begun s (Ok (Number (r.last + 1))) (committed s c.args.name (get s.things c.args.name)) _ committed_is carries
