@@ -86,3 +86,17 @@ fn writes_and_reads_pointers(rt: HostRuntime) -> Result<(), Fail> {
     assert_eq!(rt; read_pointer(&spelled[..15]), None);
     Ok(())
 }
+
+#[test]
+fn takes_what_stands_at_the_front(rt: HostRuntime) {
+    let bytes = [1, 2, 3, 4, 5, 6, 7, 8, 9];
+    assert_eq!(rt; take_bytes(&bytes, 2), Some((&bytes[..2], &bytes[2..])));
+    assert_eq!(rt; take_u16(&bytes), Some((0x0102, &bytes[2..])));
+    assert_eq!(rt; take_u32(&bytes), Some((0x0102_0304, &bytes[4..])));
+    assert_eq!(rt;
+        take_u64(&bytes),
+        Some((0x0102_0304_0506_0708, &bytes[8..]))
+    );
+    assert!(rt; take_bytes(&bytes, 10).is_none());
+    assert!(rt; take_u64(&bytes[..7]).is_none());
+}

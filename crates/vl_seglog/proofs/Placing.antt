@@ -2,12 +2,11 @@
 use Rattle.std.proofs.Common.{◌≡◌, ℕ, suc, ◌+◌, ◌<◌, ◌^◌, List, [], ◌∷◌, ◌++◌, length, drop, get_or, sym, ap, subst, ◌∙◌, append_assoc, length-append, arith}
 use Rattle.std.proofs.Math.Seq.{drop-cons}
 use Rattle.vl_model.specs.declared.change.Change.{Change}
-use Rattle.vl_frame.specs.Laws.{length-frame_bytes}
-use Rattle.vl_frame.specs.declared.kinds.FrameKind.TheVariants as kinds
 use Rattle.vl_record.specs.Laws.{length-record_bytes}
 use Rattle.vl_record.specs.Record.{record_bytes, record_length}
 use Rattle.vl_record.specs.declared.pointer.Pointer.{Pointer}
-use Rattle.vl_seglog.specs.Log.{AreRecords, Commit, commit_body, commit_frame, records_bytes}
+use Rattle.vl_seglog.specs.Laws.{commit_frame-length, records_length}
+use Rattle.vl_seglog.specs.Log.{AreRecords, Commit, commit_frame, records_bytes}
 use Rattle.vl_seglog.specs.Pointers.{pointers_from}
 
 -- the pointers to the records that are left go behind those that were found
@@ -45,8 +44,7 @@ next_fits file place found all ws i w n lt is len so_far =
 -- ---- the frame has room
 
 frame_length : (file at : ℕ) (c : Commit) → length (commit_frame file at c) ≡ 25 + length (records_bytes c.writes)
-unfolding commit_body
-frame_length file at c = omega (arith, length-frame_bytes file at kinds.Commit (commit_body c))
+frame_length file at c = omega (arith, commit_frame-length file at c, records_length c.writes)
 
 -- what was written behind nothing is the frame
 written_length : (file at : ℕ) (c : Commit) (none out : List ℕ) → out ≡ none ++ commit_frame file at c → none ≡ [] → length out ≡ 25 + length (records_bytes c.writes)

@@ -1,6 +1,6 @@
 -- What the definition of a log says: that its bytes hold one list of commits, what they are while commits are written behind one another, and what they hold
 -- when a last write was cut.
-use Rattle.std.specs.Prelude.{◌≡◌, ◌⊎◌, ℕ, ◌+◌, ◌≤◌, List, [], ◌∷◌, ◌++◌, length, take, drop, refl, true, false, bytes_eq}
+use Rattle.std.specs.Prelude.{◌≡◌, ◌⊎◌, ℕ, ◌+◌, ◌-◌, ◌^◌, ◌<◌, ◌≤◌, min, List, [], ◌∷◌, ◌++◌, length, take, drop, refl, true, false, bytes_eq}
 use Rattle.std.specs.List.{AllByRecursion, sum_by}
 use Rattle.std.proofs.Common.{sym, ap, subst, ◌∙◌, append_assoc, length-append, arith, inl, inr, ⊎_elim}
 use Rattle.std.proofs.lemmas.Bool.{cases_Bool}
@@ -21,10 +21,12 @@ use Rattle.vl_seglog.specs.Log.{AreRecords, Commit, HasFrame, IsCommit, ReadsAs,
 
 -- ---- lengths
 
+-- A log's header has 16 bytes.
 pub header_length : (file : ℕ) → length (log_header file) ≡ 16
 header_length file = refl
 
-records_length : (writes : List (List ℕ × Change)) → length (records_bytes writes) ≡ sum_by (λ write. record_length write.0 write.1) writes
+-- Records one behind the other have the sum of their lengths.
+pub records_length : (writes : List (List ℕ × Change)) → length (records_bytes writes) ≡ sum_by (λ write. record_length write.0 write.1) writes
 records_length [] = refl
 records_length (w ∷ writes) =
     length-append (record_bytes w.0 w.1) (records_bytes writes) ∙ ap (λ (n : ℕ). n + length (records_bytes writes)) (length-record_bytes w.0 w.1)
@@ -38,6 +40,7 @@ body_length c = omega arith
 pub commit_frame-length : (file at : ℕ) (c : Commit) → length (commit_frame file at c) ≡ 25 + sum_by (λ write. record_length write.0 write.1) c.writes
 commit_frame-length file at c = omega (arith, length-frame_bytes file at kinds.Commit (commit_body c), body_length c, records_length c.writes)
 
+-- A commit's frame is not empty.
 pub frame_is_some : (file at : ℕ) (c : Commit) → 1 ≤ length (commit_frame file at c)
 frame_is_some file at c = omega (arith, length-frame_bytes file at kinds.Commit (commit_body c))
 
@@ -104,6 +107,7 @@ frames_bytes-more file at (d ∷ commits) c =
 frames_place : (file : ℕ) (commits : List Commit) → 16 + length (frames_bytes file 16 commits) ≡ length (log_bytes file commits)
 frames_place file commits = omega arith
 
+-- A log of no commits is its header.
 pub log_bytes-none : (file : ℕ) → log_bytes file [] ≡ log_header file
 log_bytes-none file = refl
 
@@ -113,9 +117,17 @@ log_bytes-more file commits c =
     ap (λ (bytes : List ℕ). log_header file ++ bytes) (frames_bytes-more file 16 commits c ∙ ap (λ (n : ℕ). frames_bytes file 16 commits ++ commit_frame file n c) (frames_place file commits))
     ∙ sym (append_assoc (log_header file) (frames_bytes file 16 commits) (commit_frame file (length (log_bytes file commits)) c))
 
+-- It is longer by that frame.
 pub log_bytes-length-more : (file : ℕ) (commits : List Commit) (c : Commit) → length (log_bytes file (commits ++ c ∷ [])) ≡ length (log_bytes file commits) + length (commit_frame file (length (log_bytes file commits)) c)
 log_bytes-length-more file commits c =
     ap length (log_bytes-more file commits c) ∙ length-append (log_bytes file commits) (commit_frame file (length (log_bytes file commits)) c)
+
+-- A count of the log's bytes, which would stand still at its type's end, is right after one commit more, if the frame ends before that.
+pub log_length-counted : (file : ℕ) (commits : List Commit) (c : Commit) (n : ℕ) → n ≡ length (log_bytes file commits) → n + length (commit_frame file n c) < 2 ^ 64
+    → min (n + length (commit_frame file n c)) (2 ^ 64 - 1) ≡ length (log_bytes file (commits ++ c ∷ []))
+log_length-counted file commits c n is fits =
+    let exact : min (n + length (commit_frame file n c)) (2 ^ 64 - 1) ≡ n + length (commit_frame file n c) = omega (arith, fits) in
+    exact ∙ ap (λ (k : ℕ). k + length (commit_frame file k c)) is ∙ sym (log_bytes-length-more file commits c)
 
 -- ---- what is read
 

@@ -71,13 +71,11 @@ impl ActiveLog {
         requires room { CanAppend (length staged.now.frame.items) (D.spare disk.old (names.Log self.old.number)) }
         ensures appended { OnOk result (Turns (appended (names.Log self.old.number) staged.now.frame.items (length staged.now.frame.items))
             (D.told disk.old) (D.told disk.new)) }
-        ensures longer { OnOk result (self.new ≡ record {
-          number = self.old.number;
-          length = min (self.old.length + length staged.now.frame.items) (2 ^ 64 - 1);
-        }) }
+        ensures number { self.new.number ≡ self.old.number }
+        ensures longer { OnOk result (self.new.length ≡ min (self.old.length + length staged.now.frame.items) (2 ^ 64 - 1)) }
         ensures failed { OnErr result ((taken : ℕ) × (taken ≤ length staged.now.frame.items)
             × Turns (appended (names.Log self.old.number) staged.now.frame.items taken) (D.told disk.old) (D.told disk.new)) }
-        ensures kept { OnErr result (self.new ≡ self.old) }
+        ensures kept { OnErr result (self.new.length ≡ self.old.length) }
         ensures stands { ForSome (D.told disk.new) (Stands (names.Log self.old.number)) }
         ensures time { Elapses (D.moment disk.old) (D.moment disk.new) (D.states_since disk.old) (D.states_since disk.new)
             (While (D.told disk.old) (WhileAppending (names.Log self.old.number) staged.now.frame.items)) }
