@@ -5,6 +5,7 @@ pub mod Logged
 pub mod MemtableEntries
 pub mod Noting
 pub mod OpenedRuns
+pub mod Pending
 pub mod Places
 pub mod Replays
 pub mod States

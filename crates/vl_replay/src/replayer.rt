@@ -27,7 +27,7 @@ mod writes;
 
 use entry::Entry;
 pub use halt::Halt;
-pub use laws::reads_are_noted;
+pub use laws::{drops_free_names, reads_are_noted, writes_are_read_back};
 pub use limits::{MAX_LOG_BYTES, MAX_OPEN};
 use memtable::Memtable;
 use open::{Open, Thing};

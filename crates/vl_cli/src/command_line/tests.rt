@@ -86,7 +86,7 @@ fn scripts_are_answered(rt: HostRuntime) -> Result<(), Fail> {
         ),
         plain("", "", 0),
         plain("fetch a 61\n", "bad line 1\n", 1),
-        plain("begin a\nbegin b\n", "ok 0\nbad line 2\n", 1),
+        plain("begin a\nbegin b\n", "ok 0\ntoomany\n", 0),
         plain("begin a\nget a 61", "ok 0\nnone\n", 0),
         // The input's end comes at the second call, and there is no third.
         Case {
@@ -94,7 +94,12 @@ fn scripts_are_answered(rt: HostRuntime) -> Result<(), Fail> {
             ..plain("begin a\nget a 61", "ok 0\nnone\n", 0)
         },
         plain("begin a\n\nget a 61\n", "ok 0\nbad line 2\n", 1),
-        plain("begin a\nset a - 01\n", "ok 0\nbad line 2\n", 1),
+        plain("begin a\nset a - 01\n", "ok 0\ninvalid\n", 0),
+        plain(
+            "begin a\nset a 61 01\nget a 61\ndrop a\nview b\nget b 61\n",
+            "ok 0\nok\nvalue 01\nok\nok 0\nnone\n",
+            0,
+        ),
         plain(
             "begin a\nset a 6A -\nget a 6a\ncommit a\nbegin a\nget a 6a\nget a 6b\n",
             "ok 0\nok\nvalue -\nok 1\nok 1\nvalue -\nnone\n",
@@ -106,6 +111,159 @@ fn scripts_are_answered(rt: HostRuntime) -> Result<(), Fail> {
         assert_eq!(rt; printed.as_slice(), case.printed.as_bytes(), "case {i}");
         assert_eq!(rt; status, case.status, "case {i}");
     }
+    Ok(())
+}
+
+#[test]
+fn refusals_are_printed(rt: HostRuntime) -> Result<(), Fail> {
+    let cases = [
+        plain(
+            "begin a\nbegin a\nget b 61\nview c\nview a\n",
+            "ok 0\ntaken a\nunknown b\ntoomany\ntaken a\n",
+            0,
+        ),
+        plain(
+            "view c\nset c 61 01\ndel c 61\ncommit c\nset c - 01\ndel c -\n",
+            "ok 0\nreadonly\nreadonly\nreadonly\nreadonly\nreadonly\n",
+            0,
+        ),
+        plain(
+            "get q 61\nset q 61 01\ndel q 61\ncommit q\ndrop q\n",
+            "unknown q\nunknown q\nunknown q\nunknown q\nunknown q\n",
+            0,
+        ),
+        plain(
+            "begin a\nget a -\ndel a -\ncommit a\ncommit a\n",
+            "ok 0\ninvalid\ninvalid\nnothing\nunknown a\n",
+            0,
+        ),
+        // An unknown word is no line.
+        plain(
+            "begin a\nbegin a\nfetch a 61\n",
+            "ok 0\ntaken a\nbad line 3\n",
+            1,
+        ),
+    ];
+    for (i, case) in cases.iter().enumerate() {
+        let (status, printed) = outcome(rt.alloc(), case)?;
+        assert_eq!(rt; printed.as_slice(), case.printed.as_bytes(), "case {i}");
+        assert_eq!(rt; status, case.status, "case {i}");
+    }
+    Ok(())
+}
+
+#[test]
+fn deletions_and_drops_are_answered(rt: HostRuntime) -> Result<(), Fail> {
+    let cases = [
+        // A deletion is read back, and committed.
+        plain(
+            "begin t\nset t 61 01\nset t 62 02\ncommit t\nbegin a\nset a 63 03\ndel a 61\nget a 61\nget a 62\ncommit a\nview v\nget v 61\nget v 63\n",
+            "ok 0\nok\nok\nok 1\nok 1\nok\nok\nnone\nvalue 02\nok 2\nok 2\nnone\nvalue 03\n",
+            0,
+        ),
+        // A deletion of a key without a value is a commit too, and the last write of a key counts.
+        plain(
+            "begin t\nset t 61 01\ndel t 61\ncommit t\nbegin t\ndel t 61\nset t 61 02\nget t 61\ncommit t\nview v\nget v 61\n",
+            "ok 0\nok\nok\nok 1\nok 1\nok\nok\nvalue 02\nok 2\nok 2\nvalue 02\n",
+            0,
+        ),
+        // A dropped name is free, whatever it stood for.
+        plain(
+            "begin a\ndrop a\nget a 61\nview a\ndrop a\nbegin a\ndrop b\n",
+            "ok 0\nok\nunknown a\nok 0\nok\nok 0\nunknown b\n",
+            0,
+        ),
+    ];
+    for (i, case) in cases.iter().enumerate() {
+        let (status, printed) = outcome(rt.alloc(), case)?;
+        assert_eq!(rt; printed.as_slice(), case.printed.as_bytes(), "case {i}");
+        assert_eq!(rt; status, case.status, "case {i}");
+    }
+    Ok(())
+}
+
+/// The status of a replay of a script, and what it prints, which is at most so many bytes.
+fn replayed(alloc: Global, script: &[u8], room: usize) -> Result<(u8, Vec<u8>), Fail> {
+    let mut words = Vec::new(alloc);
+    for word in REPLAY {
+        words.push(String::from_str(alloc, word)?)?;
+    }
+    let mut source = SliceSource::new(script, Vec::new(alloc));
+    let mut sink = VecSink::new(alloc, room, Vec::new(alloc))?;
+    let disk = MemDisk::new(alloc, Vec::new(alloc));
+    let Ended { status, disk: _ } = run(alloc, words.as_slice(), &mut source, &mut sink, disk);
+    Ok((status, sink.into_bytes()))
+}
+
+/// Adds a line that has so many bytes, spelled, between two parts.
+fn add_line(script: &mut Vec<u8>, front: &[u8], bytes: usize, back: &[u8]) -> Result<(), Fail> {
+    script.extend_from_slice(front)?;
+    let end = script.len().saturating_add(bytes.saturating_mul(2));
+    script.resize(end, b'6')?;
+    script.extend_from_slice(back)?;
+    Ok(())
+}
+
+#[test]
+fn keys_have_at_most_4096_bytes(rt: HostRuntime) -> Result<(), Fail> {
+    let mut script = Vec::from_slice(rt.alloc(), b"begin a\n")?;
+    for bytes in [4096, 4097] {
+        add_line(&mut script, b"set a ", bytes, b" 01\n")?;
+        add_line(&mut script, b"get a ", bytes, b"\n")?;
+        add_line(&mut script, b"del a ", bytes, b"\n")?;
+    }
+    let (status, printed) = replayed(rt.alloc(), &script, 4096)?;
+    assert_eq!(rt;
+        printed.as_slice(),
+        b"ok 0\nok\nvalue 01\nok\ninvalid\ninvalid\ninvalid\n".as_slice()
+    );
+    assert_eq!(rt; status, 0);
+    Ok(())
+}
+
+#[test]
+fn a_transaction_writes_at_most_4194304_bytes(rt: HostRuntime) -> Result<(), Fail> {
+    let mut script = Vec::from_slice(rt.alloc(), b"begin a\n")?;
+    add_line(&mut script, b"set a 61 ", 1_048_577, b"\n")?;
+    add_line(&mut script, b"set a 61 ", 1_048_576, b"\n")?;
+    add_line(&mut script, b"set a 62 ", 1_048_576, b"\n")?;
+    add_line(&mut script, b"set a 63 ", 1_048_576, b"\n")?;
+    // With 3 * 1,048,577 bytes before it, this one comes to 4,194,304, its key included.
+    add_line(&mut script, b"set a 64 ", 1_048_572, b"\n")?;
+    // A deletion counts its key, and a write in the place of another frees that one's bytes.
+    script.extend_from_slice(b"del a 65\nset a 64 01\ndel a 65\n")?;
+    let (status, printed) = replayed(rt.alloc(), &script, 4096)?;
+    let answers = b"ok 0\ninvalid\nok\nok\nok\nok\ntoobig\nok\nok\n";
+    assert_eq!(rt; printed.as_slice(), answers.as_slice());
+    assert_eq!(rt; status, 0);
+    Ok(())
+}
+
+#[test]
+fn a_transaction_writes_at_most_4096_keys(rt: HostRuntime) -> Result<(), Fail> {
+    let mut script = Vec::from_slice(rt.alloc(), b"begin a\n")?;
+    let mut answers = Vec::from_slice(rt.alloc(), b"ok 0\n")?;
+    // The keys 010000 to 014095; every other write is a deletion.
+    for number in 10_000_u64..14_096 {
+        let digits = number.to_string(rt.alloc())?;
+        let (front, back) = if number % 2 == 0 {
+            (b"set a 0".as_slice(), b" 01\n".as_slice())
+        } else {
+            (b"del a 0".as_slice(), b"\n".as_slice())
+        };
+        script.extend_from_slice(front)?;
+        script.extend_from_slice(digits.as_bytes())?;
+        script.extend_from_slice(back)?;
+        answers.extend_from_slice(b"ok\n")?;
+    }
+    // New keys don't fit any more, and keys that are written do.
+    script.extend_from_slice(
+        b"set a 61 02\ndel a 61\nset a 010001 02\nget a 010001\ndel a 010000\nget a 010000\n",
+    )?;
+    answers.extend_from_slice(b"toobig\ntoobig\nok\nvalue 02\nok\nnone\n")?;
+    let (status, printed) = replayed(rt.alloc(), &script, 20_000)?;
+    assert!(rt; printed.as_slice() == answers.as_slice());
+    assert_eq!(rt; status, 0);
     Ok(())
 }
 

@@ -1,0 +1,13 @@
+use Rattle.std.proofs.Common.{ap, ◌∙◌}
+use Rattle.std.specs.FinMap.{get}
+use Rattle.vl_replay.specs.Sequential.{Outcome}
+use Rattle.vl_replay.proofs.Pending.{drops, free_after}
+use Rattle.vl_replay.proofs.replayer.laws.drops_free_names.Goals as goal
+
+pub returns : goal.returns
+returns c s name thing is =
+    let dropped = drops s name thing (get s.things name) is in (
+      ap (λ (r : Outcome). r.0) dropped,
+      ap (λ (r : Outcome). get r.1.things name) dropped ∙ free_after s.things name,
+      ap (λ (r : Outcome). r.1.history) dropped,
+    )
