@@ -1,5 +1,5 @@
 -- What a run prints for its words, where they are plain and where they aren't.
-use Rattle.std.proofs.Common.{◌≡◌, ◌⊎◌, ⊎_elim, ℕ, suc, List, Bool, true, false, Option, sym, ◌∙◌, subst}
+use Rattle.std.proofs.Common.{◌≡◌, ⊎_elim, ℕ, suc, List, Bool, true, false, Option, sym, ◌∙◌, subst}
 use Rattle.std.specs.Prelude.{MatchBool}
 use Rattle.vl_io.specs.Sink.{Takes}
 use Rattle.vl_model.specs.History.{History}

@@ -8,7 +8,7 @@ use Rattle.vl_disk.specs.Crash.{SameFiles, Unchanged}
 use Rattle.vl_disk.specs.Disk.{While}
 use Rattle.vl_disk.specs.Moments.{Elapses, HoldsThroughout, holds_weaker, holds_then}
 use Rattle.vl_seglog.specs.Log.{Commit}
-use Rattle.vl_journal.specs.Images.{Leaves, IsNone, IsOneOf}
+use Rattle.vl_journal.specs.Images.{Leaves, IsOneOf}
 use Rattle.vl_journal.specs.Steps.{waits, goes_by}
 use Rattle.vl_journal.specs.StoreFiles.{same_has}
 use Rattle.vl_journal.specs.StoreImages.{leaves_all}
