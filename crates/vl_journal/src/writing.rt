@@ -2,7 +2,7 @@ ghost use Rattle.std.specs.Prelude.{◌≡◌, ◌+◌, ◌-◌, ◌^◌, ◌++�
 ghost use Rattle.std.specs.Option.{ForSome};
 ghost use Rattle.vl_disk.specs.Crash.{Unchanged};
 ghost use Rattle.vl_disk.specs.DiskState.{DiskState};
-ghost use Rattle.vl_disk.specs.Disk.{Stands, HasCause, CanAppend, While};
+ghost use Rattle.vl_disk.specs.Disk.{Stands, IsUnheld, HasCause, CanAppend, While};
 ghost use Rattle.vl_disk.specs.Moments.{Elapses, HoldsThroughout};
 ghost use Rattle.vl_seglog.specs.Log as log;
 ghost use Rattle.vl_journal.specs.Files.{Holds};
@@ -40,12 +40,13 @@ pub fn stage_commit<D: Disk>(
 
 /// Appends a staged frame to the log by one call, and makes it durable by another.
 pub fn write_staged<D: Disk>(disk: &mut D, frame: &[u8]) -> Result<(), Failed>
-    requires stands { ForSome (D.told disk.old) (Stands LOG) }
+    requires unheld { ForSome (D.told disk.old) (IsUnheld LOG) }
     requires room { CanAppend (length frame.now) (D.spare disk.old LOG) }
     ensures written { (state : DiskState) (commits : List log.Commit) (c : log.Commit) → D.told disk.old ≡ Some state → Holds commits state
         → log.HasFrame c → frame.now ≡ log.commit_frame 1 (length (log.log_bytes 1 commits)) c
         → OnOk result ((now : DiskState) × (D.told disk.new ≡ Some now) × Holds (commits ++ c ∷ []) now × (now.calls ≡ min (state.calls + 2) (2 ^ 64 - 1))) }
     ensures stands { ForSome (D.told disk.new) (Stands LOG) }
+    ensures unheld { ForSome (D.told disk.new) (IsUnheld LOG) }
     ensures tells { (state : DiskState) → D.told disk.old ≡ Some state → (now : DiskState) × (D.told disk.new ≡ Some now) }
 
     // What a crash leaves meanwhile shows the commits before, and this one behind them or not, if no torn bytes spell a
