@@ -5,7 +5,7 @@ use Rattle.std.specs.Option.{option_map}
 use Rattle.std.specs.FinMap.{get, insert}
 use Rattle.vl_disk.specs.declared.name.Name.{Name}
 use Rattle.vl_disk.specs.NameMap.{get_inserted, inserted_twice}
-use Rattle.vl_disk.specs.DiskState.{File, Files, DiskState, new_file, settled, lengthened, counted, created, appended, synced}
+use Rattle.vl_disk.specs.DiskState.{File, Files, DiskState, new_file, settled, synced_file, lengthened, counted, created, appended, synced}
 use Rattle.vl_disk.specs.Changes.{created_there, changed_files}
 use Rattle.vl_disk.specs.Crash.{SameFiles, WhileCreating, WhileAppending, WhileSyncing}
 use Rattle.vl_disk.specs.Disk.{Turns, While}
@@ -33,7 +33,7 @@ module _ (name : Name) (bytes : List ℕ) where
 
     pub all_synced : (synced name (appended name bytes (length bytes) (created name disk))).standing ≡ insert disk.standing name (settled bytes)
     all_synced =
-        changed_files name (appended name bytes (length bytes) (created name disk)) (λ file. settled file.bytes) whole (ap (λ (files : Files). get files name) created_appended ∙ get_inserted disk.standing name whole)
+        changed_files name (appended name bytes (length bytes) (created name disk)) synced_file whole (ap (λ (files : Files). get files name) created_appended ∙ get_inserted disk.standing name whole)
         ∙ ap (λ (files : Files). insert files name (settled whole.bytes)) created_appended
         ∙ inserted_twice disk.standing name whole (settled whole.bytes)
         ∙ ap (λ (b : List ℕ). insert disk.standing name (settled b)) whole_bytes

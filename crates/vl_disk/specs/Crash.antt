@@ -3,7 +3,7 @@ use Rattle.std.specs.Prelude.{◌≡◌, ◌⊎◌, ℕ, ◌≤◌, false, List,
 use Rattle.std.specs.FinMap.{FinMap, get}
 use Rattle.vl_disk.specs.declared.name.Name.{Name}
 use Rattle.vl_disk.specs.Name.{name_cmp}
-use Rattle.vl_disk.specs.DiskState.{File, DiskState, file_at, created, appended, synced, cut_to, without}
+use Rattle.vl_disk.specs.DiskState.{File, DiskState, file_at, created, appended, synced, cut_to, without, sealed}
 
 -- what stands on the disk after a crash
 abbrev pub Image : Type 0
@@ -62,6 +62,9 @@ WhileCutting name len disk now =
 
 abbrev pub WhileRemoving : Name → DiskState → DiskState → Type 0
 WhileRemoving name disk now = SameFiles now disk ⊎ SameFiles now (without name disk)
+
+abbrev pub WhileHolding : Name → DiskState → DiskState → Type 0
+WhileHolding name disk now = SameFiles now disk ⊎ SameFiles now (sealed name disk)
 
 -- what a call leaves alone
 abbrev pub Unchanged : DiskState → DiskState → Type 0

@@ -1,5 +1,5 @@
 -- The words of the contract of a disk.
-use Rattle.std.specs.Prelude.{◌≡◌, ◌≢◌, ◌↔◌, ℕ, ◌≤◌, Bool, List, length, Option, None, IsTrue, IsSome, IsSomeAnd, Contains, AllPairs}
+use Rattle.std.specs.Prelude.{◌≡◌, ◌≢◌, ◌↔◌, ℕ, ◌≤◌, Bool, false, List, length, Option, None, IsTrue, IsSome, IsSomeAnd, Contains, AllPairs}
 use Rattle.std.specs.Option.{ForSome, option_map}
 use Rattle.std.specs.FinMap.{get}
 use Rattle.vl_disk.specs.declared.name.Name.{Name}
@@ -9,6 +9,10 @@ use Rattle.vl_disk.specs.DiskState.{DiskState, file_at, counted}
 -- a file stands under this name
 abbrev pub Stands : Name → DiskState → Type 0
 Stands name disk = IsSome (get disk.standing name)
+
+-- a file stands under this name that nobody holds
+abbrev pub IsUnheld : Name → DiskState → Type 0
+IsUnheld name disk = IsSomeAnd (get disk.standing name) (λ file. file.held ≡ false)
 
 -- no file stands under this name
 abbrev pub IsFree : Name → DiskState → Type 0
@@ -43,6 +47,8 @@ pub record Spare : Type 0 where
   pub change : Bool
   -- for one `append` of at most so many bytes, and the sync after it
   pub append : Option ℕ
+  -- for one `hold`
+  pub hold : Bool
 
 -- there is room for an append of so many bytes
 abbrev pub CanAppend : ℕ → Spare → Type 0
@@ -64,9 +70,17 @@ SameSpareElsewhere name old new = (other : Name) → other ≢ name → new othe
 -- a `create` or a `cut` of this name uses no more than the room for it
 pub record UsesChange (name : Name) (old new : Name → Spare) : Type 0 where
   pub append : (new name).append ≡ (old name).append
+  pub hold : (new name).hold ≡ (old name).hold
   pub elsewhere : SameSpareElsewhere name old new
 
 -- an append to this name uses no more than the room for it
 pub record UsesAppend (name : Name) (old new : Name → Spare) : Type 0 where
   pub change : (new name).change ≡ (old name).change
+  pub hold : (new name).hold ≡ (old name).hold
+  pub elsewhere : SameSpareElsewhere name old new
+
+-- a hold of this name uses no more than the room for it
+pub record UsesHold (name : Name) (old new : Name → Spare) : Type 0 where
+  pub change : (new name).change ≡ (old name).change
+  pub append : (new name).append ≡ (old name).append
   pub elsewhere : SameSpareElsewhere name old new

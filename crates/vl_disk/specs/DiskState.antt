@@ -21,6 +21,8 @@ pub record File : Type 0 where
   pub lasting : Bool
   -- the pieces handed to `append` since the last sync that answered Ok
   pub due : List Piece
+  -- it was held once since the disk was started, and isn't appended to or cut any more
+  pub held : Bool
 
 abbrev pub Files : Type 0
 Files = FinMap name_cmp File
@@ -42,11 +44,19 @@ counted disk = record disk { calls = min (disk.calls + 1) (2 ^ 64 - 1) }
 
 -- a file as `create` makes it
 abbrev pub new_file : File
-new_file = record { bytes = []; synced = 0; wholly_synced = false; lasting = false; due = [] }
+new_file = record { bytes = []; synced = 0; wholly_synced = false; lasting = false; due = []; held = false }
 
--- a file of these bytes as a sync leaves it, or as it stands when the disk is started
+-- a file of these bytes as a sync leaves one that nobody holds, or as it stands when the disk is started
 abbrev pub settled : List ℕ → File
-settled bytes = record { bytes = bytes; synced = length bytes; wholly_synced = true; lasting = true; due = [] }
+settled bytes = record { bytes = bytes; synced = length bytes; wholly_synced = true; lasting = true; due = []; held = false }
+
+-- a file as a sync leaves it
+abbrev pub synced_file : File → File
+synced_file file = record (settled file.bytes) { held = file.held }
+
+-- a file that is held
+abbrev pub sealed_file : File → File
+sealed_file file = record file { held = true }
 
 -- the file that stands under this name
 abbrev pub file_at : DiskState → Name → File
@@ -68,7 +78,7 @@ with_file name change disk = record disk { standing = placed name (option_map ch
 -- what is durable stands in the file, and a wholly synced file is as a sync leaves it
 pub record IsLawfulFile (file : File) : Type 0 where
   pub within : file.synced ≤ length file.bytes
-  pub as_synced : IsTrue file.wholly_synced → file ≡ settled file.bytes
+  pub as_synced : IsTrue file.wholly_synced → file ≡ synced_file file
 
 -- what is so of each disk
 pub record IsLawful (disk : DiskState) : Type 0 where
@@ -98,10 +108,14 @@ abbrev pub appended : Name → List ℕ → ℕ → DiskState → DiskState
 appended name piece taken disk = with_file name (lengthened piece taken) disk
 
 abbrev pub synced : Name → DiskState → DiskState
-synced name disk = with_file name (λ file. settled file.bytes) disk
+synced name disk = with_file name synced_file disk
 
 abbrev pub cut_to : Name → ℕ → ℕ → DiskState → DiskState
 cut_to name len left disk = with_file name (shortened len left) disk
 
 abbrev pub without : Name → DiskState → DiskState
 without name disk = record disk { standing = remove disk.standing name; removed = placed name (get disk.standing name) disk.removed }
+
+-- the file of this name is held
+abbrev pub sealed : Name → DiskState → DiskState
+sealed name disk = with_file name sealed_file disk

@@ -8,7 +8,7 @@ use Rattle.vl_disk.specs.declared.name.Name.{Name}
 use Rattle.vl_disk.specs.Name.{name_cmp, IsNumbered}
 use Rattle.vl_disk.specs.NameMap.{same_or_other, get_inserted, get_inserted_other, get_removed, get_removed_other}
 use Rattle.vl_disk.specs.Changes.{placed_elsewhere}
-use Rattle.vl_disk.specs.DiskState.{File, Files, DiskState, IsLawfulFile, IsLawful, empty_disk, new_file, settled, lengthened, shortened, placed, with_file, created, appended, synced, cut_to, without}
+use Rattle.vl_disk.specs.DiskState.{File, Files, DiskState, IsLawfulFile, IsLawful, empty_disk, new_file, settled, synced_file, sealed_file, lengthened, shortened, placed, with_file, created, appended, synced, cut_to, without, sealed}
 
 -- each file of a map is lawful
 AllLawful : Files → Type 0
@@ -37,6 +37,12 @@ new_file_lawful = record { within = omega arith; as_synced = λ whole. absurd (f
 
 pub settled_lawful : (bytes : List ℕ) → IsLawfulFile (settled bytes)
 settled_lawful bytes = record { within = omega arith; as_synced = λ whole. refl }
+
+pub synced_file_lawful : (file : File) → IsLawfulFile (synced_file file)
+synced_file_lawful file = record { within = omega arith; as_synced = λ whole. refl }
+
+pub sealed_file_lawful : (file : File) → IsLawfulFile file → IsLawfulFile (sealed_file file)
+sealed_file_lawful file lawful = record { within = lawful.within; as_synced = λ whole. ap sealed_file (lawful.as_synced whole) }
 
 pub lengthened_lawful : (piece : List ℕ) (taken : ℕ) (file : File) → IsLawfulFile file → IsLawfulFile (lengthened piece taken file)
 lengthened_lawful piece taken file lawful = record {
@@ -108,7 +114,10 @@ module _ (disk : DiskState) (lawful : IsLawful disk) (name : Name) where
   appended_lawful piece taken = with_file_lawful (lengthened piece taken) (lengthened_lawful piece taken)
 
   pub synced_lawful : IsLawful (synced name disk)
-  synced_lawful = with_file_lawful (λ file. settled file.bytes) (λ file _. settled_lawful file.bytes)
+  synced_lawful = with_file_lawful synced_file (λ file _. synced_file_lawful file)
+
+  pub sealed_lawful : IsLawful (sealed name disk)
+  sealed_lawful = with_file_lawful sealed_file sealed_file_lawful
 
   pub cut_lawful : (len left : ℕ) → len ≤ left → IsLawful (cut_to name len left disk)
   cut_lawful len left short = with_file_lawful (shortened len left) (shortened_lawful len left short)

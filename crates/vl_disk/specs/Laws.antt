@@ -7,7 +7,7 @@ use Rattle.std.proofs.lemmas.List.{take_at, take-take, take-append-le, take-appe
 use Rattle.vl_disk.specs.declared.name.Name.{Name}
 use Rattle.vl_disk.specs.Name.{name_cmp, IsNumbered}
 use Rattle.vl_disk.specs.NameMap.{same_or_other, get_inserted, get_inserted_other, get_removed, get_removed_other}
-use Rattle.vl_disk.specs.DiskState.{File, Files, DiskState, IsLawful, empty_disk, new_file, settled, lengthened, shortened, placed, with_file, created, appended, synced, cut_to, without}
+use Rattle.vl_disk.specs.DiskState.{File, Files, DiskState, IsLawful, empty_disk, new_file, synced_file, sealed_file, lengthened, shortened, placed, with_file, created, appended, synced, cut_to, without, sealed}
 use Rattle.vl_disk.specs.Changes.{created_there, created_elsewhere, placed_elsewhere, changed_there, changed_elsewhere, unchanged}
 use Rattle.vl_disk.specs.Crash.{Image, Agrees, last_file, MayLeaveOne, MayLeave, SameFiles}
 use Rattle.vl_disk.specs.Chance.{NoChanceMatch, torn_from}
@@ -27,7 +27,7 @@ at_same {standing} {removed} {standing_before} {removed_before} {left} {left_bef
 -- a sync of a file that is wholly synced changes nothing
 pub synced_again : (name : Name) (disk : DiskState) → IsLawful disk → (file : File) → get disk.standing name ≡ Some file → IsTrue file.wholly_synced → synced name disk ≡ disk
 synced_again name disk lawful file stands whole =
-    unchanged name disk (λ f. settled f.bytes) file stands (sym ((lawful.standing name file stands).as_synced whole))
+    unchanged name disk synced_file file stands (sym ((lawful.standing name file stands).as_synced whole))
 
 -- a crash leaves the same of the same files
 pub same_leaves : {a b : DiskState} (image : Image) → SameFiles a b → MayLeave a image → MayLeave b image
@@ -105,12 +105,12 @@ module _ (name : Name) (disk : DiskState) (image : Image) where
     -- A synced file stays exactly as a read gives it.
     pub synced_stays : MayLeave (synced name disk) image → get image name ≡ Some file.bytes
     synced_stays may =
-        exactly (get image name) (subst (λ (o : Option File). MayLeaveOne o (get disk.removed name) (get image name)) (changed_there name disk (λ f. settled f.bytes) file stands) (may name))
+        exactly (get image name) (subst (λ (o : Option File). MayLeaveOne o (get disk.removed name) (get image name)) (changed_there name disk synced_file file stands) (may name))
       where
         kept : true ≡ false → ⊥
         kept e = cc
 
-        exactly : (left : Option (List ℕ)) → MayLeaveOne (Some (settled file.bytes)) (get disk.removed name) left → left ≡ Some file.bytes
+        exactly : (left : Option (List ℕ)) → MayLeaveOne (Some (synced_file file)) (get disk.removed name) left → left ≡ Some file.bytes
         exactly None may = absurd (kept may)
         exactly (Some bytes) may = ap Some (may.whole refl)
 
@@ -172,12 +172,20 @@ appended_leaves name piece taken disk image lawful may = changed_leaves name (le
 pub synced_leaves : (name : Name) (disk : DiskState) (image : Image) (file : File) → get disk.standing name ≡ Some file → MayLeave disk image → MayLeave (synced name disk) (insert image name file.bytes)
 synced_leaves name disk image file stands may q = ⊎_elim
     (λ (same : q ≡ name). subst (λ (n : Name). MayLeaveOne (get (synced name disk).standing n) (get disk.removed n) (get (insert image name file.bytes) n)) (sym same)
-    (at_same (changed_there name disk (λ f. settled f.bytes) file stands) refl (get_inserted image name file.bytes) whole))
-    (λ (other : q ≢ name). at_same (changed_elsewhere name disk (λ f. settled f.bytes) q other) refl (get_inserted_other image name file.bytes q other) (may q))
+    (at_same (changed_there name disk synced_file file stands) refl (get_inserted image name file.bytes) whole))
+    (λ (other : q ≢ name). at_same (changed_elsewhere name disk synced_file q other) refl (get_inserted_other image name file.bytes q other) (may q))
     (same_or_other q name)
   where
-    whole : MayLeaveOne (Some (settled file.bytes)) (get disk.removed name) (Some file.bytes)
+    whole : MayLeaveOne (Some (synced_file file)) (get disk.removed name) (Some file.bytes)
     whole = record { durable = refl; whole = λ _. refl }
+
+-- A hold changes nothing of what a crash may leave.
+pub sealed_leaves : (name : Name) (disk : DiskState) (image : Image) → MayLeave disk image → MayLeave (sealed name disk) image
+sealed_leaves name disk image may = changed_leaves name sealed_file disk image keeps may
+  where
+    keeps : (file : File) (left : Option (List ℕ)) → get disk.standing name ≡ Some file → MayLeaveOne (Some file) (get disk.removed name) left → MayLeaveOne (Some (sealed_file file)) (get disk.removed name) left
+    keeps file None is one = one
+    keeps file (Some bytes) is one = record { durable = one.durable; whole = one.whole }
 
 pub cut_leaves : (name : Name) (len left : ℕ) (disk : DiskState) (image : Image) → len ≤ left → IsLawful disk → MayLeave disk image → MayLeave (cut_to name len left disk) image
 cut_leaves name len left disk image short lawful may = changed_leaves name (shortened len left) disk image keeps may

@@ -1,5 +1,5 @@
 -- Which names stand and which are free after a call, for a caller that asks the next one.
-use Rattle.std.specs.Prelude.{◌≡◌, ◌≢◌, ℕ, ◌≤◌, refl, true, false, List, length, Option, None, Some, unwrap_or, IsSome}
+use Rattle.std.specs.Prelude.{◌≡◌, ◌≢◌, ℕ, ◌≤◌, refl, true, false, List, length, Option, None, Some, unwrap_or, IsSome, IsSomeAnd}
 use Rattle.std.specs.Option.{ForSome, option_map}
 use Rattle.std.specs.FinMap.{get, get-empty}
 use Rattle.std.proofs.Common.{⊎_elim, sym, ◌∙◌, subst, arith}
@@ -7,9 +7,9 @@ use Rattle.std.proofs.lemmas.List.{length-take}
 use Rattle.vl_disk.specs.declared.name.Name.{Name}
 use Rattle.vl_disk.specs.Name.{name_cmp}
 use Rattle.vl_disk.specs.NameMap.{same_or_other, get_inserted, get_removed, get_removed_other}
-use Rattle.vl_disk.specs.DiskState.{File, DiskState, empty_disk, new_file, settled, shortened, counted, with_file, created, cut_to, without}
+use Rattle.vl_disk.specs.DiskState.{File, DiskState, empty_disk, new_file, settled, sealed_file, shortened, counted, with_file, created, cut_to, without, sealed}
 use Rattle.vl_disk.specs.Changes.{created_there, created_elsewhere, changed_there, changed_elsewhere}
-use Rattle.vl_disk.specs.Disk.{Stands, IsFree, IsInside, Turns}
+use Rattle.vl_disk.specs.Disk.{Stands, IsUnheld, IsFree, IsInside, Turns}
 use Rattle.vl_disk.specs.MadeFile.{made}
 
 some_state : (a b : DiskState) → Some a ≡ Some b → a ≡ b
@@ -48,6 +48,38 @@ changed_stands name change disk q stands = ⊎_elim
 pub created_stands : (name : Name) (old new : Option DiskState) → Turns (created name) old new → ForSome new (Stands name)
 created_stands name old new turns =
     turned (created name) old new (λ _. Unit {0}) (Stands name) turns (λ disk _. is_some (get (created name disk).standing name) _ (created_there name disk)) (λ _ _. tt)
+
+-- ---- files that nobody holds
+
+unheld_file : (o : Option File) (file : File) → o ≡ Some file → file.held ≡ false → IsSomeAnd o (λ (f : File). f.held ≡ false)
+unheld_file o file is unheld = subst (λ (x : Option File). IsSomeAnd x (λ (f : File). f.held ≡ false)) (sym is) unheld
+
+pub unheld_stands : (name : Name) (disk : DiskState) → IsUnheld name disk → Stands name disk
+unheld_stands name disk = at_file (get disk.standing name)
+  where
+    at_file : (file : Option File) → IsSomeAnd file (λ (f : File). f.held ≡ false) → IsSome file
+    at_file None unheld = absurd unheld
+    at_file (Some file) unheld = refl
+
+pub created_unheld : (name : Name) (old new : Option DiskState) → Turns (created name) old new → ForSome new (IsUnheld name)
+created_unheld name old new turns =
+    turned (created name) old new (λ _. Unit {0}) (IsUnheld name) turns (λ disk _. unheld_file (get (created name disk).standing name) new_file (created_there name disk) refl) (λ _ _. tt)
+
+-- a change that leaves the file unheld
+pub changed_unheld : (name : Name) (change : File → File) (disk : DiskState) → ((file : File) → file.held ≡ false → (change file).held ≡ false) → IsUnheld name disk → IsUnheld name (with_file name change disk)
+changed_unheld name change disk keeps = at_file (get disk.standing name) refl
+  where
+    at_file : (file : Option File) → get disk.standing name ≡ file → IsSomeAnd (get disk.standing name) (λ (f : File). f.held ≡ false) → IsUnheld name (with_file name change disk)
+    at_file None is unheld = absurd (subst (λ (o : Option File). IsSomeAnd o (λ (f : File). f.held ≡ false)) is unheld)
+    at_file (Some file) is unheld = unheld_file (get (with_file name change disk).standing name) (change file) (changed_there name disk change file is)
+        (keeps file (subst (λ (o : Option File). IsSomeAnd o (λ (f : File). f.held ≡ false)) is unheld))
+
+-- a file that is held stands
+pub sealed_stands : (name : Name) (old new : Option DiskState) → new ≡ option_map (sealed name) old → ForSome old (Stands name) → ForSome new (Stands name)
+sealed_stands name None new seals stands disk is = absurd (none_some disk (sym seals ∙ is))
+sealed_stands name (Some old) new seals stands disk is = subst (Stands name) (some_state (sealed name old) disk (sym seals ∙ is)) (changed_stands name sealed_file old name (stands old refl))
+
+-- ---- and those that stand
 
 pub created_keeps : (name : Name) (disk : DiskState) (q : Name) → Stands q disk → Stands q (created name disk)
 created_keeps name disk q stands = ⊎_elim

@@ -2,7 +2,7 @@
 use Rattle.std.proofs.Common.{◌≡◌, inl, inr, ⊎_elim, ℕ, ◌+◌, ◌-◌, ◌^◌, ◌≤◌, min, List, [], ◌∷◌, ◌++◌, length, take, Option, Some, refl, sym, ◌∙◌, ap, subst, arith}
 use Rattle.std.proofs.lemmas.List.{take_all}
 use Rattle.std.specs.List.{AllByRecursion}
-use Rattle.vl_disk.specs.DiskState.{File, DiskState, settled, lengthened, counted, appended, synced}
+use Rattle.vl_disk.specs.DiskState.{File, DiskState, settled, synced_file, lengthened, counted, appended, synced}
 use Rattle.vl_disk.specs.Crash.{SameFiles, WhileAppending, WhileSyncing}
 use Rattle.vl_disk.specs.Disk.{Turns}
 use Rattle.vl_seglog.specs.Log.{Commit, HasFrame, log_bytes, commit_frame}
@@ -55,7 +55,7 @@ module _ (commits : List Commit) (c : Commit) (frame : List ℕ) (spelled : fram
   holds_synced now same = record {
     have_frames = all_more commits c holds.have_frames lawful;
     files_are = subst (λ (bytes : List ℕ). HasFiles (Some (settled first_manifest)) (Some (settled bytes)) now) same_log
-        (log_changed whole now (settled first_manifest) (lengthened frame (length frame) (settled (log_bytes NUMBER commits))) (λ file. settled file.bytes) has_whole same);
+        (log_changed whole now (settled first_manifest) (lengthened frame (length frame) (settled (log_bytes NUMBER commits))) synced_file has_whole same);
   }
 
   pub leaves_syncing : (now : DiskState) → WhileSyncing LOG whole now → P now

@@ -1,7 +1,7 @@
 ghost use Rattle.std.specs.Prelude.{◌≡◌, ◌+◌, ◌-◌, ◌^◌, [], min, Some, Err, OnOk};
 ghost use Rattle.std.specs.Option.{ForSome};
 ghost use Rattle.vl_disk.specs.DiskState.{DiskState};
-ghost use Rattle.vl_disk.specs.Disk.{Stands, HasCause};
+ghost use Rattle.vl_disk.specs.Disk.{Stands, IsUnheld, HasCause};
 ghost use Rattle.vl_disk.specs.Moments.{HoldsThroughout};
 ghost use Rattle.vl_journal.specs.Files.{IsEmpty, Holds, StandsSome, StandsNothing};
 ghost use Rattle.vl_journal.specs.Images.{Leaves, IsNone};
@@ -19,6 +19,7 @@ pub fn open_store<D: Disk>(alloc: Global, disk: &mut D) -> Result<(), OpenFail>
     ensures opened { (state : DiskState) → D.told disk.old ≡ Some state → IsEmpty state
         → OnOk result ((now : DiskState) × (D.told disk.new ≡ Some now) × Holds [] now × (now.calls ≡ min (state.calls + 6) (2 ^ 64 - 1))) }
     ensures stands { OnOk result (ForSome (D.told disk.new) (Stands LOG)) }
+    ensures unheld { OnOk result (ForSome (D.told disk.new) (IsUnheld LOG)) }
 
     // It isn't opened where anything stands, and is refused as no store only there. Then, and where memory ran out, nothing
     // was changed.

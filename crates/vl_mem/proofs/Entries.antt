@@ -61,6 +61,11 @@ set_same name [] i new at is = absurd at
 set_same name (e ∷ entries) zero new at is = named name new entries is
 set_same name (e ∷ entries) (suc i) new at is = named_other name e (set entries i new) at.0 ∙ set_same name entries i new at.1 is
 
+pub at_set : (name : Name) (entries : List Entry) (i : ℕ) (new : Entry) → IsAt name entries i → new.name ≡ name → IsAt name (set entries i new) i
+at_set name [] i new at is = absurd at
+at_set name (e ∷ entries) zero new at is = is
+at_set name (e ∷ entries) (suc i) new at is = (at.0, at_set name entries i new at.1 is)
+
 pub set_other : (name : Name) (entries : List Entry) (i : ℕ) (new : Entry) (other : Name) → IsAt name entries i → new.name ≡ name → other ≢ name → entry_of other (set entries i new) ≡ entry_of other entries
 set_other name [] i new other at is apart = absurd at
 set_other name (e ∷ entries) zero new other at is apart =

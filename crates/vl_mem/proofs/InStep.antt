@@ -1,5 +1,5 @@
 -- The entries of a disk in memory keep up with its files, call by call.
-use Rattle.std.proofs.Common.{◌≡◌, ◌≢◌, ⊎_elim, ℕ, ◌+◌, ◌<◌, ◌≤◌, Bool, true, false, List, [], ◌∷◌, ◌++◌, length, take, get_or, set, Option, None, Some, refl, sym, ◌∙◌, ap, subst, arith, rules, length-append, sum_by, All, IsSome, IsTrue, unwrap_or, if◌then◌else◌, Vec, Global}
+use Rattle.std.proofs.Common.{◌≡◌, ◌≢◌, ⊎_elim, ℕ, ◌+◌, ◌<◌, ◌≤◌, Bool, true, false, List, [], ◌∷◌, ◌++◌, length, take, get_or, set, Option, None, Some, refl, sym, ◌∙◌, ap, subst, arith, rules, length-append, sum_by, All, IsSome, IsTrue, is_some, vec_capacity, unwrap_or, if◌then◌else◌, Vec, Global}
 use Rattle.std.specs.Option.{option_map}
 use Rattle.std.specs.FinMap.{get, get-empty}
 use Rattle.std.proofs.lemmas.Bool.{cases_eq}
@@ -8,16 +8,16 @@ use Rattle.std.proofs.lemmas.List.Sums.{sum_by-set}
 use Rattle.vl_disk.specs.declared.name.Name.{Name}
 use Rattle.vl_disk.specs.Name.{name_cmp}
 use Rattle.vl_disk.specs.NameMap.{same_or_other, get_removed, get_removed_other}
-use Rattle.vl_disk.specs.DiskState.{File, DiskState, empty_disk, new_file, settled, lengthened, shortened, file_at, with_file, synced}
-use Rattle.vl_disk.specs.Disk.{Spare, CanAppend, SameSpare, SameSpareElsewhere, UsesChange, UsesAppend}
+use Rattle.vl_disk.specs.DiskState.{File, DiskState, empty_disk, new_file, synced_file, sealed_file, lengthened, shortened, file_at, with_file, synced}
+use Rattle.vl_disk.specs.Disk.{Spare, CanAppend, SameSpare, SameSpareElsewhere, UsesChange, UsesAppend, UsesHold}
 use Rattle.vl_disk.specs.Changes.{created_there, created_elsewhere, changed_there, changed_elsewhere, unchanged}
 use Rattle.vl_disk.specs.Lawful.{empty_lawful}
 use Rattle.vl_mem.specs.declared.entry.Entry.{Entry}
 use Rattle.vl_mem.specs.declared.event.Event.{Event}
-use Rattle.vl_mem.specs.declared.event.Event.TheVariants.{Create, Append, RefuseAppend, Sync, Cut, RefuseCut, Remove}
+use Rattle.vl_mem.specs.declared.event.Event.TheVariants.{Create, Append, RefuseAppend, Sync, Cut, RefuseCut, Remove, Hold}
 use Rattle.vl_mem.specs.Event.{after_event, replayed-push, replayed_lawful, state_after, CreatesNumbered}
 use Rattle.vl_mem.specs.Entry.{Fits, slots, entry_of, IsAt, IsDistinct, HasBytes, NotesUnsynced, shown, spare_of}
-use Rattle.vl_mem.proofs.Entries.{at_within, at_entry, at_name, set_same, set_other}
+use Rattle.vl_mem.proofs.Entries.{at_within, at_entry, at_name, at_set, set_same, set_other}
 
 abbrev bytes_of : Option File → Option (List ℕ)
 bytes_of = option_map (λ (file : File). file.bytes)
@@ -90,7 +90,7 @@ pub already_synced : (name : Name) (entries : List Entry) (events : List Event) 
 already_synced name entries events numbered capacity step stands entry is clean =
     let there = standing_file (get (state_after events).standing name) stands in
     let lawful = (replayed_lawful events empty_disk numbered empty_lawful).standing name there.0 there.1 in
-    unchanged name (state_after events) (λ f. settled f.bytes) there.0 there.1 (sym (lawful.as_synced (step.notes_unsynced name there.0 entry there.1 is clean)))
+    unchanged name (state_after events) synced_file there.0 there.1 (sym (lawful.as_synced (step.notes_unsynced name there.0 entry there.1 is clean)))
 
 module _ (name : Name) (entries : List Entry) (i : ℕ) (old : Entry) (at : IsAt name entries i) (was : old ≡ get_or entries i old) where
   -- the entry that a call finds
@@ -103,18 +103,35 @@ module _ (name : Name) (entries : List Entry) (i : ℕ) (old : Entry) (at : IsAt
   pub has_append : (bytes : ℕ) → CanAppend bytes (spare_of (entry_of name entries)) → CanAppend bytes (spare_of (Some old))
   has_append bytes room = subst (λ (o : Option Entry). CanAppend bytes (spare_of o)) was_there room
 
+  pub has_hold : IsTrue (spare_of (entry_of name entries)).hold → is_some old.copy ≡ true
+  has_hold room = sym (ap (λ (o : Option Entry). (spare_of o).hold) was_there) ∙ room
+
   pub fitting : All Fits entries → Fits old
   fitting all = subst Fits (sym was) (all i old (at_within name entries i at))
+
+pub uses_hold_then : (name : Name) (a b c : Name → Spare) → UsesHold name a b → UsesHold name b c → UsesHold name a c
+uses_hold_then name a b c first second = record {
+  change = second.change ∙ first.change;
+  append = second.append ∙ first.append;
+  elsewhere = λ other apart. second.elsewhere other apart ∙ first.elsewhere other apart;
+}
 
 -- one entry is changed, and with it the file of its name
 module _ (name : Name) (entries : List Entry) (i : ℕ) (old new : Entry) (at : IsAt name entries i) (was : old ≡ get_or entries i old) (same_name : new.name ≡ old.name) where
   named : new.name ≡ name
   named = same_name ∙ ap (λ (e : Entry). e.name) was ∙ at_name name entries i old at
 
+  pub still_at : IsAt name (set entries i new) i
+  still_at = at_set name entries i new at named
+
   pub room_push : (events : List Event) (event : Event) (capacity : ℕ) → slots new + 1 ≤ slots old → length events + sum_by slots entries ≤ capacity → length (events ++ event ∷ []) + sum_by slots (set entries i new) ≤ capacity
   room_push events event capacity fewer room =
       let slots_was : slots old ≡ slots (get_or entries i old) = ap slots was in
       omega (arith, fewer, room, slots_was, length-append events (event ∷ []), sum_by-set slots entries i new old (at_within name entries i at))
+
+  -- there is room for the event of such a call
+  pub has_slot : (events : List Event) (event : Event) (capacity : ℕ) → slots new + 1 ≤ slots old → length events + sum_by slots entries ≤ capacity → length events < capacity
+  has_slot events event capacity fewer room = omega (arith, room_push events event capacity fewer room, length-append events (event ∷ []))
 
   pub fits_set : Fits new → All Fits entries → All Fits (set entries i new)
   fits_set fits all k e within = ⊎_elim
@@ -165,17 +182,23 @@ module _ (name : Name) (entries : List Entry) (i : ℕ) (old new : Entry) (at : 
   spare_was : before name ≡ spare_of (Some old)
   spare_was = ap spare_of (was_there name entries i old at was)
 
-  pub uses_change : (spare_of (Some new)).append ≡ (spare_of (Some old)).append → UsesChange name before after
-  uses_change same = record {
-    append = ap (λ (s : Spare). s.append) spare_there ∙ same ∙ sym (ap (λ (s : Spare). s.append) spare_was);
-    elsewhere = spare_elsewhere;
-  }
+  same_change : new.change ≡ old.change → (after name).change ≡ (before name).change
+  same_change same = ap (λ (s : Spare). s.change) spare_there ∙ same ∙ sym (ap (λ (s : Spare). s.change) spare_was)
 
-  pub uses_append : new.change ≡ old.change → UsesAppend name before after
-  uses_append same = record {
-    change = ap (λ (s : Spare). s.change) spare_there ∙ same ∙ sym (ap (λ (s : Spare). s.change) spare_was);
-    elsewhere = spare_elsewhere;
-  }
+  same_append : new.buffer ≡ old.buffer → (after name).append ≡ (before name).append
+  same_append same = ap (λ (s : Spare). s.append) spare_there ∙ ap (option_map vec_capacity) same ∙ sym (ap (λ (s : Spare). s.append) spare_was)
+
+  same_hold : new.copy ≡ old.copy → (after name).hold ≡ (before name).hold
+  same_hold same = ap (λ (s : Spare). s.hold) spare_there ∙ ap is_some same ∙ sym (ap (λ (s : Spare). s.hold) spare_was)
+
+  pub uses_change : new.buffer ≡ old.buffer → new.copy ≡ old.copy → UsesChange name before after
+  uses_change buffer copy = record { append = same_append buffer; hold = same_hold copy; elsewhere = spare_elsewhere }
+
+  pub uses_append : new.change ≡ old.change → new.copy ≡ old.copy → UsesAppend name before after
+  uses_append change copy = record { change = same_change change; hold = same_hold copy; elsewhere = spare_elsewhere }
+
+  pub uses_hold : new.change ≡ old.change → new.buffer ≡ old.buffer → UsesHold name before after
+  uses_hold change buffer = record { change = same_change change; append = same_append buffer; elsewhere = spare_elsewhere }
 
   pub same_spare : spare_of (Some new) ≡ spare_of (Some old) → SameSpare before after
   same_spare same q = ⊎_elim
@@ -274,8 +297,8 @@ module _ (name : Name) (entries : List Entry) (i : ℕ) (old new : Entry) (at : 
 
         pub synced_step : later ≡ events ++ Sync name ∷ [] → new.bytes.items ≡ old.bytes.items → IsInStep (set entries i new) later wider
         synced_step pushed bytes = in_step (Sync name) pushed
-            (changed_bytes (λ f. settled f.bytes) file there (Sync name) pushed refl still (bytes ∙ old_bytes) step.has_bytes)
-            (changed_notes (λ f. settled f.bytes) file there (Sync name) pushed refl (λ clean. refl) step.notes_unsynced)
+            (changed_bytes synced_file file there (Sync name) pushed refl still (bytes ∙ old_bytes) step.has_bytes)
+            (changed_notes synced_file file there (Sync name) pushed refl (λ clean. refl) step.notes_unsynced)
 
         pub cut_step : (len : ℕ) → later ≡ events ++ Cut name len ∷ [] → new.bytes.items ≡ take len old.bytes.items → new.unsynced ≡ true → IsInStep (set entries i new) later wider
         cut_step len pushed bytes unsynced = in_step (Cut name len) pushed
@@ -287,6 +310,11 @@ module _ (name : Name) (entries : List Entry) (i : ℕ) (old new : Entry) (at : 
             (changed_bytes (λ f. shortened len (length f.bytes) f) file there (RefuseCut name len) pushed refl still
             (bytes ∙ old_bytes ∙ sym (take_all (length file.bytes) file.bytes (omega arith))) step.has_bytes)
             (changed_notes (λ f. shortened len (length f.bytes) f) file there (RefuseCut name len) pushed refl (λ clean. absurd (true_false (sym unsynced ∙ clean))) step.notes_unsynced)
+
+        pub held_step : later ≡ events ++ Hold name ∷ [] → new.bytes.items ≡ old.bytes.items → new.unsynced ≡ old.unsynced → IsInStep (set entries i new) later wider
+        held_step pushed bytes unsynced = in_step (Hold name) pushed
+            (changed_bytes sealed_file file there (Hold name) pushed refl still (bytes ∙ old_bytes) step.has_bytes)
+            (changed_notes sealed_file file there (Hold name) pushed refl (λ clean. step.notes_unsynced name file old there old_is (sym unsynced ∙ clean)) step.notes_unsynced)
 
       pub removed_step : later ≡ events ++ Remove name ∷ [] → new.stands ≡ false → IsInStep (set entries i new) later wider
       removed_step pushed gone = in_step (Remove name) pushed

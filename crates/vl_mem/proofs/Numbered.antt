@@ -8,7 +8,7 @@ use Rattle.vl_disk.specs.Disk.{Lists}
 use Rattle.vl_disk.specs.DiskState.{DiskState, IsLawful}
 use Rattle.vl_disk.specs.Name.{IsNumbered}
 use Rattle.vl_mem.specs.declared.event.Event.{Event}
-use Rattle.vl_mem.specs.declared.event.Event.TheVariants.{Create, Append, RefuseAppend, Sync, Cut, RefuseCut, Remove}
+use Rattle.vl_mem.specs.declared.event.Event.TheVariants.{Create, Append, RefuseAppend, Sync, Cut, RefuseCut, Remove, Hold}
 use Rattle.vl_mem.specs.Event.{CreatesNumbered}
 use Rattle.vl_mem.proofs.InStep.{standing_file}
 
@@ -49,6 +49,12 @@ pub remove_numbered : (name : Name) → CreatesNumbered (Remove name)
 remove_numbered name created is = absurd (apart is)
   where
     apart : Remove name ≡ Create created → ⊥
+    apart e = cc
+
+pub hold_numbered : (name : Name) → CreatesNumbered (Hold name)
+hold_numbered name created is = absurd (apart is)
+  where
+    apart : Hold name ≡ Create created → ⊥
     apart e = cc
 
 pub numbered_push : (events later : List Event) (event : Event) → later ≡ events ++ event ∷ [] → All CreatesNumbered events → CreatesNumbered event → All CreatesNumbered later

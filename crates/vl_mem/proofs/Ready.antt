@@ -59,20 +59,25 @@ bytes_of = option_map (λ (file : File). file.bytes)
 -- an entry with nothing in it is as none
 module _ (name : Name) (entry : Entry) (blank : IsBlank name entry) where
   blank_slots : slots entry ≡ 0
-  blank_slots = ap (λ (b : Bool). (if b then 3 else 0) + (if is_some entry.buffer then 2 else 0) + (if entry.unsynced then 1 else 0) + (if entry.stands then 1 else 0)) blank.change
-      ∙ ap (λ o. 0 + (if is_some o then 2 else 0) + (if entry.unsynced then 1 else 0) + (if entry.stands then 1 else 0)) blank.buffer
-      ∙ ap (λ (b : Bool). 0 + 0 + (if b then 1 else 0) + (if entry.stands then 1 else 0)) blank.unsynced
-      ∙ ap (λ (b : Bool). 0 + 0 + 0 + (if b then 1 else 0)) blank.stands
+  blank_slots = ap (λ (b : Bool). (if b then 3 else 0) + (if is_some entry.buffer then 2 else 0) + (if entry.unsynced then 1 else 0) + (if entry.stands then 1 else 0) + (if is_some entry.copy then 1 else 0)) blank.change
+      ∙ ap (λ o. 0 + (if is_some o then 2 else 0) + (if entry.unsynced then 1 else 0) + (if entry.stands then 1 else 0) + (if is_some entry.copy then 1 else 0)) blank.buffer
+      ∙ ap (λ (b : Bool). 0 + 0 + (if b then 1 else 0) + (if entry.stands then 1 else 0) + (if is_some entry.copy then 1 else 0)) blank.unsynced
+      ∙ ap (λ (b : Bool). 0 + 0 + 0 + (if b then 1 else 0) + (if is_some entry.copy then 1 else 0)) blank.stands
+      ∙ ap (λ o. 0 + 0 + 0 + 0 + (if is_some o then 1 else 0)) blank.copy
 
   blank_shown : shown (Some entry) ≡ None
   blank_shown = ap (λ (b : Bool). if b then Some entry.bytes.items else None) blank.stands
 
   blank_spare : spare_of (Some entry) ≡ spare_of None
-  blank_spare = ap (λ (b : Bool). record { change = b; append = option_map vec_capacity entry.buffer }) blank.change
-      ∙ ap (λ o. record { change = false; append = option_map vec_capacity o }) blank.buffer
+  blank_spare = ap (λ (b : Bool). record { change = b; append = option_map vec_capacity entry.buffer; hold = is_some entry.copy }) blank.change
+      ∙ ap (λ o. record { change = false; append = option_map vec_capacity o; hold = is_some entry.copy }) blank.buffer
+      ∙ ap (λ o. record { change = false; append = None; hold = is_some o }) blank.copy
 
   blank_fits : Fits entry
-  blank_fits buffer is = absurd (some_none buffer (sym is ∙ blank.buffer))
+  blank_fits = record {
+    piece = λ buffer is. absurd (some_none buffer (sym is ∙ blank.buffer));
+    copy = λ copy is. absurd (some_none copy (sym is ∙ blank.copy));
+  }
 
   module _ (entries : List Entry) (none : entry_of name entries ≡ None) where
     pushed_shown : (q : Name) → shown (entry_of q (entries ++ entry ∷ [])) ≡ shown (entry_of q entries)
@@ -132,13 +137,14 @@ same_step entries later_entries events later capacity wider same_entries same_ev
     subst (λ es. IsInStep es later wider) (sym same_entries) (subst (λ evs. IsInStep entries evs wider) (sym same_events)
     (record { room = omega (arith, step.room, wide); fits = step.fits; distinct = step.distinct; has_bytes = step.has_bytes; notes_unsynced = step.notes_unsynced }))
 
-few_slots : (entry : Entry) → slots entry ≤ 7
+few_slots : (entry : Entry) → slots entry ≤ 8
 few_slots entry =
     let a = at_most entry.change 3 in
     let b = at_most (is_some entry.buffer) 2 in
     let c = at_most entry.unsynced 1 in
     let d = at_most entry.stands 1 in
-    omega (arith, a, b, c, d)
+    let e = at_most (is_some entry.copy) 1 in
+    omega (arith, a, b, c, d, e)
   where
     at_most : (b : Bool) (n : ℕ) → (if b then n else 0) ≤ n
     at_most true n = omega arith
@@ -146,10 +152,10 @@ few_slots entry =
 
 -- room was made in one entry
 pub roomed_step : (name : Name) (entries : List Entry) (i : ℕ) (old new : Entry) → IsAt name entries i → old ≡ get_or entries i old → new.name ≡ old.name
-    → (events : List Event) (capacity : ℕ) → length events + 7 * length entries ≤ capacity → (Fits old → Fits new) → new.stands ≡ old.stands → new.bytes.items ≡ old.bytes.items → new.unsynced ≡ old.unsynced
+    → (events : List Event) (capacity : ℕ) → length events + 8 * length entries ≤ capacity → (Fits old → Fits new) → new.stands ≡ old.stands → new.bytes.items ≡ old.bytes.items → new.unsynced ≡ old.unsynced
     → IsInStep entries events capacity → IsInStep (set entries i new) events capacity
 roomed_step name entries i old new at was same_name events capacity room fit stands bytes unsynced step = record {
-  room = omega (arith, room, length-set entries i new, sum_by-le slots 7 (set entries i new) (λ k d within. few_slots (get_or (set entries i new) k d)));
+  room = omega (arith, room, length-set entries i new, sum_by-le slots 8 (set entries i new) (λ k d within. few_slots (get_or (set entries i new) k d)));
   fits = fits_set name entries i old new at was same_name (fit (fitting name entries i old at was step.fits)) step.fits;
   distinct = distinct_set name entries i old new at was same_name step.distinct;
   has_bytes = has_bytes_set name entries i old new at was same_name (state_after events) (state_after events) (λ other apart. refl) (same_shown ∙ sym (ap shown here) ∙ step.has_bytes name) step.has_bytes;

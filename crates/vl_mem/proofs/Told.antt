@@ -1,14 +1,14 @@
 -- What a disk in memory tells after a call, and what it tells of the moments of the call.
-use Rattle.std.proofs.Common.{◌≡◌, ℕ, ◌+◌, ◌-◌, ◌^◌, min, List, [], ◌∷◌, ◌++◌, length, Option, None, Some, unwrap_or, refl, sym, ◌∙◌, ap, subst}
+use Rattle.std.proofs.Common.{◌≡◌, ℕ, ◌+◌, ◌-◌, ◌^◌, min, List, [], ◌∷◌, ◌++◌, length, Option, None, Some, unwrap_or, inr, refl, sym, ◌∙◌, ap, subst}
 use Rattle.std.specs.Option.{option_map}
 use Rattle.std.specs.FinMap.{get}
-use Rattle.vl_disk.specs.DiskState.{File, DiskState, empty_disk, counted, new_file, shortened, placed, with_file, file_at, synced, cut_to}
+use Rattle.vl_disk.specs.DiskState.{File, DiskState, empty_disk, counted, new_file, shortened, placed, with_file, file_at, synced, cut_to, sealed}
 use Rattle.vl_disk.specs.declared.name.Name.{Name}
-use Rattle.vl_disk.specs.Crash.{SameFiles}
+use Rattle.vl_disk.specs.Crash.{SameFiles, WhileHolding}
 use Rattle.vl_disk.specs.Moments.{Elapses}
 use Rattle.vl_disk.specs.Disk.{Turns, While}
 use Rattle.vl_mem.specs.declared.event.Event.{Event}
-use Rattle.vl_mem.specs.declared.event.Event.TheVariants.{Create, Append, RefuseAppend, Sync, Cut, RefuseCut, Remove}
+use Rattle.vl_mem.specs.declared.event.Event.TheVariants.{Create, Append, RefuseAppend, Sync, Cut, RefuseCut, Remove, Hold}
 use Rattle.vl_mem.specs.Event.{after_event, replayed-push, state_after, WasSince, told_of}
 use Rattle.vl_mem.proofs.Elapsed.{elapses_push}
 
@@ -32,6 +32,7 @@ told_after (Sync name) state calls = refl
 told_after (Cut name len) state calls = refl
 told_after (RefuseCut name len) state calls = refl
 told_after (Remove name) state calls = refl
+told_after (Hold name) state calls = refl
 
 module _ (events later : List Event) (calls counts : ℕ) (count : counts ≡ min (calls + 1) (2 ^ 64 - 1)) where
   -- nothing was left
@@ -57,3 +58,17 @@ module _ (events later : List Event) (calls counts : ℕ) (count : counts ≡ mi
   elapses_by event during pushed there =
       subst (λ (es : List Event). Elapses (length events) (length es) (WasSince events) (WasSince es) (While (Some (told_of events calls)) during)) (sym pushed)
       (elapses_push events event (While (Some (told_of events calls)) during) (λ now same disk is. subst (λ (d : DiskState). during d now) (some_state (told_of events calls) disk is) (there now same)))
+
+-- a hold is no changing call
+pub told_sealed : (events later : List Event) (calls : ℕ) (name : Name) → later ≡ events ++ Hold name ∷ [] → Some (told_of later calls) ≡ Some (sealed name (told_of events calls))
+told_sealed events later calls name pushed =
+    ap (λ (es : List Event). Some (told_of es calls)) pushed
+    ∙ ap (λ (s : DiskState). Some (record s { calls = calls })) (replayed-push events (Hold name) empty_disk)
+
+pub elapses_hold : (events between later : List Event) (calls : ℕ) (name : Name) → between ≡ events → later ≡ between ++ Hold name ∷ []
+    → Elapses (length events) (length later) (WasSince events) (WasSince later) (While (Some (told_of events calls)) (WhileHolding name))
+elapses_hold events between later calls name same pushed =
+    subst (λ (es : List Event). Elapses (length events) (length es) (WasSince events) (WasSince es) (While (Some (told_of events calls)) (WhileHolding name)))
+    (sym (pushed ∙ ap (λ (es : List Event). es ++ Hold name ∷ []) same))
+    (elapses_push events (Hold name) (While (Some (told_of events calls)) (WhileHolding name))
+    (λ now was disk is. subst (λ (d : DiskState). WhileHolding name d now) (some_state (told_of events calls) disk is) (inr (record { standing = was.standing; removed = was.removed }))))

@@ -1,5 +1,6 @@
 -- What a disk in memory keeps under each name.
-use Rattle.std.specs.Prelude.{◌≡◌, ◌≢◌, ◌⊎◌, ◌++◌, ℕ, zero, suc, ◌+◌, ◌≤◌, true, false, List, [], ◌∷◌, length, Option, None, Some, is_some, ◌==◌, if◌then◌else◌, vec_capacity, AllPairs}
+use Rattle.std.specs.Prelude.{◌≡◌, ◌≢◌, ◌⊎◌, ◌++◌, ℕ, zero, suc, ◌+◌, ◌≤◌, true, false, List, [], ◌∷◌, length, Option, None, Some, is_some, ◌==◌, if◌then◌else◌, vec_capacity, AllPairs, Vec}
+use Rattle.std.specs.Global.{Global}
 use Rattle.std.specs.Option.{ForSome, option_map}
 use Rattle.vl_disk.specs.declared.name.Name.{Name}
 use Rattle.vl_disk.specs.Name.{name_number}
@@ -8,14 +9,21 @@ use Rattle.std.specs.FinMap.{get}
 use Rattle.vl_disk.specs.Disk.{Spare}
 use Rattle.vl_disk.specs.DiskState.{File, DiskState}
 
--- the room for the next piece is empty, and the file has as much behind its end
-abbrev pub Fits : Entry → Type 0
-Fits entry = ForSome entry.buffer (λ buffer. (buffer.items ≡ []) × (length entry.bytes.items + vec_capacity buffer ≤ vec_capacity entry.bytes))
+-- so many bytes may yet come into some room
+abbrev pub room_in : Option (Vec ℕ Global) → ℕ
+room_in None = 0
+room_in (Some buffer) = vec_capacity buffer
+
+-- The room for the next piece is empty, and the file has as much behind its end. The room for a copy is empty, and has
+-- place for the file with that piece.
+pub record Fits (entry : Entry) : Type 0 where
+  pub piece : ForSome entry.buffer (λ buffer. (buffer.items ≡ []) × (length entry.bytes.items + vec_capacity buffer ≤ vec_capacity entry.bytes))
+  pub copy : ForSome entry.copy (λ copy. (copy.items ≡ []) × (length entry.bytes.items + room_in entry.buffer ≤ vec_capacity copy))
 
 -- how many events may yet come of this name before the next `ready`: a create with a sync and a remove after it, an
--- append with a sync, a sync and a remove of what is there
+-- append with a sync, a sync and a remove of what is there, and a hold
 abbrev pub slots : Entry → ℕ
-slots entry = (if entry.change then 3 else 0) + (if is_some entry.buffer then 2 else 0) + (if entry.unsynced then 1 else 0) + (if entry.stands then 1 else 0)
+slots entry = (if entry.change then 3 else 0) + (if is_some entry.buffer then 2 else 0) + (if entry.unsynced then 1 else 0) + (if entry.stands then 1 else 0) + (if is_some entry.copy then 1 else 0)
 
 -- the first entry of a name
 abbrev pub entry_of : Name → List Entry → Option Entry
@@ -35,8 +43,8 @@ shown (Some entry) = if entry.stands then Some entry.bytes.items else None
 
 -- the room that is made there
 abbrev pub spare_of : Option Entry → Spare
-spare_of None = record { change = false; append = None }
-spare_of (Some entry) = record { change = entry.change; append = option_map vec_capacity entry.buffer }
+spare_of None = record { change = false; append = None; hold = false }
+spare_of (Some entry) = record { change = entry.change; append = option_map vec_capacity entry.buffer; hold = is_some entry.copy }
 
 -- the names of the files that stand
 abbrev pub standing_names : List Entry → List Name
@@ -63,6 +71,7 @@ pub record IsBlank (name : Name) (entry : Entry) : Type 0 where
   pub unsynced : entry.unsynced ≡ false
   pub change : entry.change ≡ false
   pub buffer : entry.buffer ≡ None
+  pub copy : entry.copy ≡ None
 
 -- the entries are as they were, or have one more, with nothing in it, of a name that had none
 abbrev pub AddsNone : Name → List Entry → List Entry → Type 0

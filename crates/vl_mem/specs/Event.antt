@@ -4,11 +4,11 @@ use Rattle.std.proofs.Common.{refl, arith}
 use Rattle.std.proofs.lemmas.List.Elements.{All-tail}
 use Rattle.vl_disk.specs.declared.name.Name.{Name}
 use Rattle.vl_disk.specs.Name.{IsNumbered}
-use Rattle.vl_disk.specs.DiskState.{DiskState, IsLawful, empty_disk, shortened, with_file, created, appended, synced, cut_to, without}
-use Rattle.vl_disk.specs.Lawful.{created_lawful, appended_lawful, synced_lawful, cut_lawful, uncut_disk_lawful, without_lawful}
+use Rattle.vl_disk.specs.DiskState.{DiskState, IsLawful, empty_disk, shortened, with_file, created, appended, synced, cut_to, without, sealed}
+use Rattle.vl_disk.specs.Lawful.{created_lawful, appended_lawful, synced_lawful, cut_lawful, uncut_disk_lawful, without_lawful, sealed_lawful}
 use Rattle.vl_disk.specs.Crash.{SameFiles}
 use Rattle.vl_mem.specs.declared.event.Event.{Event}
-use Rattle.vl_mem.specs.declared.event.Event.TheVariants.{Create, Append, RefuseAppend, Sync, Cut, RefuseCut, Remove}
+use Rattle.vl_mem.specs.declared.event.Event.TheVariants.{Create, Append, RefuseAppend, Sync, Cut, RefuseCut, Remove, Hold}
 
 abbrev pub after_event : Event → DiskState → DiskState
 after_event (Create name) disk = created name disk
@@ -18,6 +18,7 @@ after_event (Sync name) disk = synced name disk
 after_event (Cut name len) disk = cut_to name len len disk
 after_event (RefuseCut name len) disk = with_file name (λ file. shortened len (length file.bytes) file) disk
 after_event (Remove name) disk = without name disk
+after_event (Hold name) disk = sealed name disk
 
 abbrev pub replayed : List Event → DiskState → DiskState
 replayed [] disk = disk
@@ -39,6 +40,7 @@ event_lawful (Sync name) disk numbered lawful = synced_lawful disk lawful name
 event_lawful (Cut name len) disk numbered lawful = cut_lawful disk lawful name len len (omega arith)
 event_lawful (RefuseCut name len) disk numbered lawful = uncut_disk_lawful disk lawful name len
 event_lawful (Remove name) disk numbered lawful = without_lawful disk lawful name
+event_lawful (Hold name) disk numbered lawful = sealed_lawful disk lawful name
 
 pub replayed_lawful : (events : List Event) (disk : DiskState) → All CreatesNumbered events → IsLawful disk → IsLawful (replayed events disk)
 replayed_lawful [] disk numbered lawful = lawful

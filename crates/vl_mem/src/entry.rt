@@ -1,6 +1,5 @@
 // What a disk in memory keeps under one name.
-ghost use Rattle.std.specs.Prelude.{◌≡◌, ◌+◌, ◌≤◌, [], ◌++◌, length, take, Some, true, false, IsTrue, IsSome, vec_capacity, OnOk, OnErr};
-ghost use Rattle.vl_disk.specs.DiskState.{bytes_at};
+ghost use Rattle.std.specs.Prelude.{◌≡◌, ◌+◌, ◌≤◌, [], ◌++◌, length, take, Some, true, false, is_some, IsTrue, IsSome, vec_capacity, OnOk, OnErr};
 
 use std::alloc::Global;
 use vl_disk::{Name, NoMemory};
@@ -16,6 +15,8 @@ pub struct Entry {
     pub change: bool,
     /// Room for the next piece. `bytes` has as much room behind its end.
     pub buffer: Option<Vec<u8>>,
+    /// Room for a copy of the file, with the next piece.
+    pub copy: Option<Vec<u8>>,
 }
 
 impl Entry {
@@ -28,6 +29,7 @@ impl Entry {
         ensures unsynced { result.unsynced ≡ false }
         ensures change { result.change ≡ false }
         ensures buffer { result.buffer ≡ None }
+        ensures copy { result.copy ≡ None }
     {
         Entry {
             name,
@@ -36,19 +38,21 @@ impl Entry {
             unsynced: false,
             change: false,
             buffer: None,
+            copy: None,
         }
     }
 
-    /// Makes room for a create and for an append of so many bytes.
+    /// Makes room for a create or a cut, for an append of so many bytes, and for a hold.
     pub fn make_room(&mut self, alloc: Global, bytes: usize) -> Result<(), NoMemory>
         ensures ready { OnOk result (IsReady bytes (spare_of (Some self.new))) }
+        ensures hold { OnOk result (is_some self.new.copy ≡ true) }
         ensures refused { OnErr result (spare_of (Some self.new) ≡ spare_of (Some self.old)) }
         ensures name { self.new.name ≡ self.old.name }
         ensures stands { self.new.stands ≡ self.old.stands }
         ensures bytes { self.new.bytes.items ≡ self.old.bytes.items }
         ensures unsynced { self.new.unsynced ≡ self.old.unsynced }
         ensures fits { Fits self.old → Fits self.new }
-        ensures slots { slots self.new ≤ 7 }
+        ensures slots { slots self.new ≤ 8 }
     {
         let Ok(buffer) = Vec::with_capacity(alloc, bytes) else {
             return Err(NoMemory);
@@ -56,17 +60,31 @@ impl Entry {
         if self.bytes.reserve(buffer.capacity()).is_err() {
             return Err(NoMemory);
         }
+        let Ok(copy) = Vec::with_capacity(alloc, self.bytes.capacity()) else {
+            return Err(NoMemory);
+        };
         self.buffer = Some(buffer);
+        self.copy = Some(copy);
         self.change = true;
         Ok(())
     }
 
-    /// Reads from a place on, as many bytes as fill `out`.
-    pub fn read(&self, place: usize, out: &mut [u8])
-        requires { place + length out.old ≤ length self.now.bytes.items }
-        ensures { out.new ≡ bytes_at place (length out.old) self.now.bytes.items }
+    /// Makes room for a hold.
+    pub fn make_hold_room(&mut self, alloc: Global) -> Result<(), NoMemory>
+        ensures hold { OnOk result (is_some self.new.copy ≡ true) }
+        ensures name { self.new.name ≡ self.old.name }
+        ensures stands { self.new.stands ≡ self.old.stands }
+        ensures bytes { self.new.bytes.items ≡ self.old.bytes.items }
+        ensures unsynced { self.new.unsynced ≡ self.old.unsynced }
+        ensures change { self.new.change ≡ self.old.change }
+        ensures buffer { self.new.buffer ≡ self.old.buffer }
+        ensures fits { Fits self.old → Fits self.new }
     {
-        out.copy_from_slice(&self.bytes[place..place + out.len()]);
+        let Ok(copy) = Vec::with_capacity(alloc, self.bytes.capacity()) else {
+            return Err(NoMemory);
+        };
+        self.copy = Some(copy);
+        Ok(())
     }
 
     /// The file stands, and is empty.
@@ -77,6 +95,7 @@ impl Entry {
         ensures bytes { self.new.bytes.items ≡ [] }
         ensures unsynced { self.new.unsynced ≡ true }
         ensures buffer { self.new.buffer ≡ self.old.buffer }
+        ensures copy { self.new.copy ≡ self.old.copy }
         ensures fits { Fits self.old → Fits self.new }
         ensures slots { slots self.new + 1 ≤ slots self.old }
     {
@@ -97,6 +116,7 @@ impl Entry {
         ensures refuses { takes ≡ false → self.new.bytes.items ≡ self.old.bytes.items }
         ensures unsynced { self.new.unsynced ≡ true }
         ensures change { self.new.change ≡ self.old.change }
+        ensures copy { self.new.copy ≡ self.old.copy }
         ensures fits { Fits self.new }
         ensures slots { slots self.new + 1 ≤ slots self.old }
     {
@@ -132,6 +152,7 @@ impl Entry {
         ensures refuses { cuts ≡ false → self.new.bytes.items ≡ self.old.bytes.items }
         ensures unsynced { self.new.unsynced ≡ true }
         ensures buffer { self.new.buffer ≡ self.old.buffer }
+        ensures copy { self.new.copy ≡ self.old.copy }
         ensures fits { Fits self.old → Fits self.new }
         ensures slots { slots self.new + 1 ≤ slots self.old }
     {
@@ -152,5 +173,24 @@ impl Entry {
         ensures slots { slots self.new + 1 ≤ slots self.old }
     {
         self.stands = false;
+    }
+
+    /// Copies the file into the room that was made for it.
+    pub fn hold(&mut self) -> Vec<u8>
+        requires room { is_some self.old.copy ≡ true }
+        requires fits { Fits self.old }
+        ensures copied { result.items ≡ self.old.bytes.items }
+        ensures name { self.new.name ≡ self.old.name }
+        ensures stands { self.new.stands ≡ self.old.stands }
+        ensures bytes { self.new.bytes.items ≡ self.old.bytes.items }
+        ensures unsynced { self.new.unsynced ≡ self.old.unsynced }
+        ensures change { self.new.change ≡ self.old.change }
+        ensures buffer { self.new.buffer ≡ self.old.buffer }
+        ensures fits { Fits self.new }
+        ensures slots { slots self.new + 1 ≤ slots self.old }
+    {
+        let mut copy = self.copy.take().unwrap();
+        let _ = copy.extend_from_slice(&self.bytes);
+        copy
     }
 }

@@ -16,6 +16,7 @@ pub enum Event {
     /// A cut that failed: the whole file is left, but what was to be cut off isn't durable any more.
     RefuseCut(Name, u64),
     Remove(Name),
+    Hold(Name),
 }
 
 /// Writes down an event in the room that was made for it.
@@ -28,12 +29,12 @@ pub fn note(events: &mut Vec<Event>, event: Event)
 }
 
 /// The most events that may come of a name between two calls of `ready`: a create or a cut, an append, a sync after
-/// each and one of what was there before, and two removes, of what was there before and of what was created.
-const EVENTS_OF_A_NAME: usize = 7;
+/// each and one of what was there before, two removes, of what was there before and of what was created, and a hold.
+const EVENTS_OF_A_NAME: usize = 8;
 
 /// Makes room for the events of so many names.
 pub fn make_room(events: &mut Vec<Event>, names: usize) -> Result<(), AllocError>
-    ensures room { OnOk result (length events.new.items + 7 * names ≤ vec_capacity events.new) }
+    ensures room { OnOk result (length events.new.items + 8 * names ≤ vec_capacity events.new) }
     ensures items { events.new.items ≡ events.old.items }
     ensures capacity { vec_capacity events.old ≤ vec_capacity events.new }
 {

@@ -8,10 +8,13 @@ ghost use Rattle.std.proofs.Props.{props};
 
 use crate::entry::Entry;
 use crate::event::{Event, make_room, note};
+use crate::held::MemHeld;
+use crate::mem_reader::MemReader;
 use crate::plan::Plan;
+use crate::reading::read_bytes;
 use crate::table::{entry_for, find, names_of, place_of};
 use std::alloc::Global;
-use vl_disk::{Disk, Failed, ListFail, Name, NoMemory};
+use vl_disk::{Disk, Failed, HeldFile, HoldFail, ListFail, Name, NoMemory, Reader};
 
 /// A disk in memory. It tells its bytes.
 #[derive(Drop)]
@@ -33,9 +36,12 @@ pub struct MemDisk {
 }
 
 impl MemDisk {
+    ghost use Rattle.std.specs.Prelude.{OnOk, IsOk, IsTrue};
+    ghost use Rattle.vl_disk.specs.Disk.{UsesHold};
+    ghost use Rattle.vl_mem.specs.Entry.{IsAt};
     ghost use Rattle.std.specs.Option.{ForSome, option_copied, option_map};
     ghost use Rattle.std.specs.FinMap.{get};
-    ghost use Rattle.vl_mem.specs.MemDisk.{told_by, failing_calls, calls_of, failing_reads, reads_of};
+    ghost use Rattle.vl_mem.specs.MemDisk.{told_by, room_of, failing_calls, calls_of, failing_reads, reads_of};
 
     /// An empty disk. Of its changing calls exactly those fail that `faults` lists, by their numbers from 1, and of its
     /// other calls that can fail those that `read_faults` lists.
@@ -57,6 +63,24 @@ impl MemDisk {
         }
     }
 
+    // Makes room for a hold of the name whose entry stands there, where there is none.
+    fn make_hold_room(&mut self, name: Name, at: usize) -> Result<(), NoMemory>
+        requires { IsAt name self.old.entries.items at }
+        ensures hold { OnOk result (IsTrue (room_of self.new name).hold) }
+        ensures has_room { IsTrue (room_of self.old name).hold → IsOk result }
+        ensures spare { UsesHold name (room_of self.old) (room_of self.new) }
+        ensures at { IsAt name self.new.entries.items at }
+        ensures events { self.new.events.items ≡ self.old.events.items }
+        ensures plan { self.new.plan ≡ self.old.plan }
+        ensures reads { self.new.reads ≡ self.old.reads }
+    {
+        if self.entries[at].copy.is_some() {
+            return Ok(());
+        }
+        make_room(&mut self.events, self.entries.len())?;
+        self.entries[at].make_hold_room(self.alloc)
+    }
+
     /// The bytes of a file, if it stands.
     pub fn bytes(&self, name: Name) -> Option<&[u8]>
         ensures { ForSome (told_by self.now) (λ disk. option_copied result ≡ option_map (λ file. file.bytes) (get disk.standing name)) }
@@ -72,15 +96,20 @@ impl MemDisk {
 }
 
 impl Disk for MemDisk {
+    type Held = MemHeld;
+
+    type Reader = MemReader;
+
     ghost use Rattle.std.specs.Prelude.{◌⊎◌, ℕ, OnOk, OnErr, IfOk, IsTrue, IsOk, IsErr, IsErrOf};
-    ghost use Rattle.std.specs.Option.{ForSome};
+    ghost use Rattle.std.specs.Option.{ForSome, option_map};
     ghost use Rattle.vl_disk.specs.Name.{IsNumbered};
-    ghost use Rattle.vl_disk.specs.DiskState.{bytes_at, file_at, created, appended, synced, cut_to, without};
-    ghost use Rattle.vl_disk.specs.Crash.{Unchanged, WhileCreating, WhileAppending, WhileSyncing, WhileCutting, WhileRemoving};
+    ghost use Rattle.vl_disk.specs.DiskState.{bytes_at, file_at, created, appended, synced, cut_to, without, sealed};
+    ghost use Rattle.vl_disk.specs.Crash.{Unchanged, WhileCreating, WhileAppending, WhileSyncing, WhileCutting, WhileRemoving, WhileHolding};
     ghost use Rattle.vl_disk.specs.Moments.{Elapses};
-    ghost use Rattle.vl_disk.specs.Disk.{Stands, IsFree, IsInside, Lists, Turns, While, HasCause, IsReady, CanAppend, SameSpare, SameSpareElsewhere, UsesChange, UsesAppend};
+    ghost use Rattle.vl_disk.specs.Disk.{Stands, IsUnheld, IsFree, IsInside, Lists, Turns, While, HasCause, IsReady, CanAppend, SameSpare, SameSpareElsewhere, UsesChange, UsesAppend, UsesHold};
     ghost use Rattle.vl_mem.specs.Past.{told_lawful, counts_present, only_present};
-    ghost use Rattle.vl_mem.specs.MemDisk.{told_by, moment_of, was_since, faults_of, room_of, KeepsPlan, KeepsReads, FollowsPlan, FollowsReads};
+    ghost use Rattle.vl_mem.specs.MemReader.{failing_of, reads_by};
+    ghost use Rattle.vl_mem.specs.MemDisk.{failing_reads, told_by, moment_of, was_since, faults_of, room_of, KeepsPlan, KeepsReads, FollowsPlan, FollowsReads};
 
     ghost told = { told_by };
 
@@ -157,12 +186,13 @@ impl Disk for MemDisk {
             return Err(Failed);
         }
         let at = place_of(&self.entries, name);
-        self.entries[at].read(place as usize, out);
+        read_bytes(&self.entries[at].bytes, place as usize, out);
         Ok(())
     }
 
     fn ready(&mut self, name: Name, bytes: u64) -> Result<(), NoMemory>
         ensures ready { OnOk result (IsReady bytes (room_of self.new name)) }
+        ensures hold { OnOk result (IsTrue (room_of self.new name).hold) }
         ensures elsewhere { SameSpareElsewhere name (room_of self.old) (room_of self.new) }
         ensures refused { OnErr result (SameSpare (room_of self.old) (room_of self.new)) }
         ensures told { told_by self.new ≡ told_by self.old }
@@ -183,6 +213,7 @@ impl Disk for MemDisk {
         requires room { IsTrue (room_of self.old name).change }
         ensures created { OnOk result (Turns (created name) (told_by self.old) (told_by self.new)) }
         ensures stands { OnOk result (ForSome (told_by self.new) (Stands name)) }
+        ensures unheld { OnOk result (ForSome (told_by self.new) (IsUnheld name)) }
         ensures failed { OnErr result (Turns (λ disk. disk) (told_by self.old) (told_by self.new)
             ⊎ Turns (created name) (told_by self.old) (told_by self.new)) }
         ensures time { Elapses (moment_of self.old) (moment_of self.new) (was_since self.old) (was_since self.new)
@@ -205,12 +236,13 @@ impl Disk for MemDisk {
     }
 
     fn append(&mut self, name: Name, piece: &[u8]) -> Result<(), Failed>
-        requires stands { ForSome (told_by self.old) (Stands name) }
+        requires unheld { ForSome (told_by self.old) (IsUnheld name) }
         requires room { CanAppend (length piece.now) (room_of self.old name) }
         ensures appended { OnOk result (Turns (appended name piece.now (length piece.now)) (told_by self.old) (told_by self.new)) }
         ensures failed { OnErr result ((taken : ℕ) × (taken ≤ length piece.now)
             × Turns (appended name piece.now taken) (told_by self.old) (told_by self.new)) }
         ensures stands { ForSome (told_by self.new) (Stands name) }
+        ensures unheld { ForSome (told_by self.new) (IsUnheld name) }
         ensures time { Elapses (moment_of self.old) (moment_of self.new) (was_since self.old) (was_since self.new)
             (While (told_by self.old) (WhileAppending name piece.now)) }
         ensures cause { HasCause (faults_of self.old) (faults_of self.new) (IsErr result) }
@@ -237,6 +269,7 @@ impl Disk for MemDisk {
         ensures synced { OnOk result (Turns (synced name) (told_by self.old) (told_by self.new)) }
         ensures failed { OnErr result (Turns (λ disk. disk) (told_by self.old) (told_by self.new)) }
         ensures stands { ForSome (told_by self.new) (Stands name) }
+        ensures unheld { ForSome (told_by self.old) (IsUnheld name) → ForSome (told_by self.new) (IsUnheld name) }
         ensures time { Elapses (moment_of self.old) (moment_of self.new) (was_since self.old) (was_since self.new)
             (While (told_by self.old) (WhileSyncing name)) }
         ensures cause { HasCause (faults_of self.old) (faults_of self.new) (IsErr result) }
@@ -259,13 +292,14 @@ impl Disk for MemDisk {
     }
 
     fn cut(&mut self, name: Name, len: u64) -> Result<(), Failed>
-        requires stands { ForSome (told_by self.old) (Stands name) }
+        requires unheld { ForSome (told_by self.old) (IsUnheld name) }
         requires inside { ForSome (told_by self.old) (IsInside name len) }
         requires room { IsTrue (room_of self.old name).change }
         ensures cut { OnOk result (Turns (cut_to name len len) (told_by self.old) (told_by self.new)) }
         ensures failed { OnErr result ((left : ℕ) × (len ≤ left) × ForSome (told_by self.old) (IsInside name left)
             × Turns (cut_to name len left) (told_by self.old) (told_by self.new)) }
         ensures stands { ForSome (told_by self.new) (Stands name) }
+        ensures unheld { ForSome (told_by self.new) (IsUnheld name) }
         ensures time { Elapses (moment_of self.old) (moment_of self.new) (was_since self.old) (was_since self.new)
             (While (told_by self.old) (WhileCutting name len)) }
         ensures cause { HasCause (faults_of self.old) (faults_of self.new) (IsErr result) }
@@ -311,5 +345,42 @@ impl Disk for MemDisk {
         self.entries[at].remove();
         note(&mut self.events, Event::Remove(name));
         Ok(())
+    }
+
+    fn hold(&mut self, name: Name) -> Result<MemHeld, HoldFail>
+        requires { ForSome (told_by self.old) (Stands name) }
+        ensures held { IfOk result (λ held. ForSome (told_by self.old)
+            (λ disk. ⟦<MemHeld as HeldFile>⟧.bytes held ≡ Some (file_at disk name).bytes)) }
+        ensures sealed { OnOk result (told_by self.new ≡ option_map (sealed name) (told_by self.old)) }
+        ensures refused { OnErr result (told_by self.new ≡ told_by self.old) }
+        ensures stands { ForSome (told_by self.new) (Stands name) }
+        ensures time { Elapses (moment_of self.old) (moment_of self.new) (was_since self.old) (was_since self.new)
+            (While (told_by self.old) (WhileHolding name)) }
+        ensures cause { HasCause (faults_of self.old) (faults_of self.new) (IsErrOf result HoldFail.Failed) }
+        ensures memory { IsTrue (room_of self.old name).hold → IsErrOf result HoldFail.NoMemory → ⊥ }
+        ensures spare { UsesHold name (room_of self.old) (room_of self.new) }
+
+        // It fails exactly if it is listed.
+        ensures plan { KeepsPlan self.old self.new }
+        ensures reads { FollowsReads self.old self.new (IsErrOf result HoldFail.Failed) }
+    {
+        if self.reads.fails() {
+            return Err(HoldFail::Failed);
+        }
+        let at = place_of(&self.entries, name);
+        self.make_hold_room(name, at)?;
+        let copy = self.entries[at].hold();
+        note(&mut self.events, Event::Hold(name));
+        Ok(MemHeld::new(self.alloc, copy))
+    }
+
+    fn reader(&self, alloc: Global) -> Result<MemReader, NoMemory>
+        ensures faults { IfOk result (λ reader. ⟦<MemReader as Reader>⟧.faults reader ≡ 0) }
+
+        // Of its reads those fail that are listed for the disk's calls, counted anew.
+        ensures failing { IfOk result (λ reader. failing_of reader ≡ failing_reads self.now) }
+        ensures reads { IfOk result (λ reader. reads_by reader ≡ 0) }
+    {
+        Ok(MemReader::new(self.reads.listed(alloc)?))
     }
 }

@@ -1,6 +1,8 @@
 // Which calls of one kind are to fail, and how many of them came and failed so far.
-ghost use Rattle.std.specs.Prelude.{◌≡◌, ◌+◌, ◌-◌, ◌^◌, ◌↔◌, ◌≤◌, min, false, IsTrue, Contains};
+ghost use Rattle.std.specs.Prelude.{◌≡◌, ◌+◌, ◌-◌, ◌^◌, ◌↔◌, ◌≤◌, min, false, IsTrue, IfOk, Contains};
 ghost use Rattle.vl_disk.specs.Faults.{Rose};
+
+use std::alloc::{AllocError, Global};
 
 #[derive(Drop)]
 pub struct Plan {
@@ -20,6 +22,13 @@ impl Plan {
             calls: 0,
             faults: 0,
         }
+    }
+
+    /// The numbers of the calls that are to fail.
+    pub fn listed(&self, alloc: Global) -> Result<Vec<u64>, AllocError>
+        ensures { IfOk result (λ listed. listed.items ≡ self.now.failing.items) }
+    {
+        Vec::from_slice(alloc, &self.failing)
     }
 
     /// Counts a call, and answers whether it fails.

@@ -1,6 +1,6 @@
 use crate::MemDisk;
 use std::test::Fail;
-use vl_disk::{Disk, Failed, Name, make_file};
+use vl_disk::{Disk, Failed, HeldFile, HoldFail, Name, Reader, make_file};
 
 const LOG: Name = Name::Log(1);
 
@@ -90,5 +90,39 @@ fn a_listed_read_fails_alone(rt: HostRuntime) -> Result<(), Fail> {
     assert_eq!(rt; byte, [0]);
     disk.read(LOG, 1, &mut byte)?;
     assert_eq!(rt; byte, [2]);
+    Ok(())
+}
+
+#[test]
+fn a_held_file_is_read_after_its_removal(rt: HostRuntime) -> Result<(), Fail> {
+    let alloc = rt.alloc();
+    let mut disk = MemDisk::new(alloc, Vec::new(alloc), Vec::new(alloc));
+    disk.ready(LOG, 3)?;
+    make_file(&mut disk, LOG, &[1, 2, 3])?;
+    let held = disk.hold(LOG)?;
+    disk.remove(LOG)?;
+    let copy = held.clone()?;
+    let mut reader = disk.reader(alloc)?;
+    let mut two = [0; 2];
+    reader.read(&copy, 1, &mut two)?;
+    assert_eq!(rt; two, [2, 3]);
+    assert_eq!(rt; held.len(), 3);
+    Ok(())
+}
+
+// The list is that of the disk's calls that change nothing, and again that of each reader's reads.
+#[test]
+fn a_listed_hold_and_a_listed_read_of_a_reader_fail_alone(rt: HostRuntime) -> Result<(), Fail> {
+    let alloc = rt.alloc();
+    let mut disk = MemDisk::new(alloc, Vec::new(alloc), [2].to_vec(alloc)?);
+    disk.ready(LOG, 3)?;
+    make_file(&mut disk, LOG, &[1, 2, 3])?;
+    let held = disk.hold(LOG)?;
+    assert_eq!(rt; disk.hold(LOG).err(), Some(HoldFail::Failed));
+    let mut reader = disk.reader(alloc)?;
+    let mut byte = [0];
+    reader.read(&held, 0, &mut byte)?;
+    assert_eq!(rt; reader.read(&held, 1, &mut byte), Err(Failed));
+    assert_eq!(rt; byte, [1]);
     Ok(())
 }

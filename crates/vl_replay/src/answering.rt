@@ -1,7 +1,7 @@
 ghost use Rattle.std.specs.Prelude.{◌≡◌, ◌≤◌, ℕ, Some, None, Err, IsOk, IfOk, MatchOption};
 ghost use Rattle.std.specs.Option.{ForSome, option_map};
 ghost use Rattle.vl_disk.specs.DiskState.{DiskState};
-ghost use Rattle.vl_disk.specs.Disk.{Stands, HasCause};
+ghost use Rattle.vl_disk.specs.Disk.{IsUnheld, HasCause};
 ghost use Rattle.vl_journal.specs.declared.names.TheConstants.{LOG};
 ghost use Rattle.vl_replay.specs.Durable.{HoldsState, CarriesOutText};
 ghost use Rattle.vl_replay.specs.declared.replayer.halt.Halt.TheVariants.{Disk as DiskHalt};
@@ -24,11 +24,11 @@ fn answer_text<D: Disk>(
     replayer: &mut Replayer<D>,
     text: &[u8],
 ) -> Result<Option<Vec<u8>>, Halt>
-    requires { ForSome (D.told replayer.old.disk) (Stands LOG) }
+    requires { ForSome (D.told replayer.old.disk) (IsUnheld LOG) }
     ensures answers { (s : State) → Represents replayer.old.store s → IfOk result (λ out. Answers s text.now replayer.new.store (option_map (λ text. text.items) out)) }
     ensures takes { (begun : ℕ) (s : State) (state : DiskState) → Represents replayer.old.store s → D.told replayer.old.disk ≡ Some state → HoldsState begun s state
         → CarriesOutText D.told D.moment D.states_since D.faults replayer.old.disk replayer.new.disk begun s text.now (IsOk result) }
-    ensures stands { ForSome (D.told replayer.new.disk) (Stands LOG) }
+    ensures unheld { ForSome (D.told replayer.new.disk) (IsUnheld LOG) }
     ensures cause { HasCause (D.faults replayer.old.disk) (D.faults replayer.new.disk) (result ≡ Err DiskHalt) }
 {
     let Some(line) = parse_line(alloc, text)? else {
@@ -58,7 +58,7 @@ pub fn answer<K: Sink, D: Disk>(
     answered: u64,
     sink: &mut K,
 ) -> Option<Ending>
-    requires { ForSome (D.told replayer.old.disk) (Stands LOG) }
+    requires { ForSome (D.told replayer.old.disk) (IsUnheld LOG) }
     ensures printed { (fd before : ℕ) (s : State) → fd ≤ D.faults replayer.old.disk → Represents replayer.old.store s → answered ≡ line_number before
         → StepsOn fd (D.faults replayer.new.disk) s before text.now replayer.new.store result (K.held sink.old) (K.held sink.new) }
     ensures faults { MatchOption result (K.faults sink.new ≡ K.faults sink.old) (λ ending. SinkCounts ending (K.faults sink.old) (K.faults sink.new)) }
@@ -66,7 +66,7 @@ pub fn answer<K: Sink, D: Disk>(
     // Where the line was answered, or refused as a bad one, the disk holds what it should.
     ensures takes { (begun : ℕ) (s : State) (state : DiskState) → Represents replayer.old.store s → D.told replayer.old.disk ≡ Some state → HoldsState begun s state
         → CarriesOutText D.told D.moment D.states_since D.faults replayer.old.disk replayer.new.disk begun s text.now (IsAnswered result) }
-    ensures stands { ForSome (D.told replayer.new.disk) (Stands LOG) }
+    ensures unheld { ForSome (D.told replayer.new.disk) (IsUnheld LOG) }
     ensures disk_faults { DiskCounts result (D.faults replayer.old.disk) (D.faults replayer.new.disk) }
 {
     match answer_text(alloc, replayer, text) {

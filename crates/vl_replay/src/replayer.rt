@@ -2,7 +2,7 @@
 ghost use Rattle.std.specs.Prelude.{◌≡◌, ◌≢◌, ℕ, Some, Ok, Err, IfOk, IfErr, IsErr, OnOk, OnErr};
 ghost use Rattle.std.specs.Option.{ForSome};
 ghost use Rattle.vl_disk.specs.DiskState.{DiskState};
-ghost use Rattle.vl_disk.specs.Disk.{Stands, HasCause};
+ghost use Rattle.vl_disk.specs.Disk.{IsUnheld, HasCause};
 ghost use Rattle.vl_disk.specs.Moments.{HoldsThroughout};
 ghost use Rattle.vl_journal.specs.declared.names.TheConstants.{LOG};
 ghost use Rattle.vl_journal.specs.declared.fails.OpenFail.TheVariants as why;
@@ -50,7 +50,7 @@ impl<D: Disk> Replayer<D> {
     /// Opens the store on a disk. For now it is one without commits, on an empty disk.
     pub fn new(alloc: Global, disk: D) -> Result<Self, OpenFail<D>>
         ensures store { IfOk result (λ replayer. Represents replayer.store empty_store) }
-        ensures stands { IfOk result (λ replayer. ForSome (D.told replayer.disk) (Stands LOG)) }
+        ensures unheld { IfOk result (λ replayer. ForSome (D.told replayer.disk) (IsUnheld LOG)) }
 
         // The store's files are made by six changing calls, and what a crash leaves meanwhile shows no commit.
         ensures holds { (state : DiskState) → D.told disk ≡ Some state → IsEmpty state
@@ -79,7 +79,7 @@ impl<D: Disk> Replayer<D> {
     /// Answers a line. Want of memory leaves the store and the disk as they were, and so does a fault of the disk the
     /// store.
     pub fn line(&mut self, line: Line) -> Result<Answer, Halt>
-        requires { ForSome (D.told self.old.disk) (Stands LOG) }
+        requires { ForSome (D.told self.old.disk) (IsUnheld LOG) }
         ensures answer { (s : State) → Represents self.old.store s → IfOk result (λ answer. answer ≡ answer_to s line) }
         ensures after { (s : State) → Represents self.old.store s → OnOk result (Represents self.new.store (state_after s line)) }
         ensures unchanged { (s : State) → Represents self.old.store s → OnErr result (Represents self.new.store s) }
@@ -87,7 +87,7 @@ impl<D: Disk> Replayer<D> {
         // Each accepted commit is one synced frame of the log, which is written before the answer.
         ensures carries { (begun : ℕ) (s : State) (state : DiskState) → Represents self.old.store s → D.told self.old.disk ≡ Some state → HoldsState begun s state
             → CarriesOut D.told D.moment D.states_since self.old.disk self.new.disk begun s (state_after s line) result }
-        ensures stands { ForSome (D.told self.new.disk) (Stands LOG) }
+        ensures unheld { ForSome (D.told self.new.disk) (IsUnheld LOG) }
         ensures cause { HasCause (D.faults self.old.disk) (D.faults self.new.disk) (result ≡ Err Halt.Disk) }
     {
         self.store.line(&mut self.disk, line)

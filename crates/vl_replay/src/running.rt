@@ -1,7 +1,7 @@
 ghost use Rattle.std.specs.Prelude.{◌≡◌, ◌≢◌, ◌⊎◌, ◌+◌, ◌<◌, ◌≤◌, ◌++◌, ℕ, List, Option, Some, None, MatchOption, length};
 ghost use Rattle.std.specs.Option.{ForSome};
 ghost use Rattle.vl_disk.specs.DiskState.{DiskState};
-ghost use Rattle.vl_disk.specs.Disk.{Stands};
+ghost use Rattle.vl_disk.specs.Disk.{IsUnheld};
 ghost use Rattle.vl_journal.specs.declared.names.TheConstants.{LOG};
 ghost use Rattle.vl_journal.specs.Files.{StandsSome};
 ghost use Rattle.vl_replay.specs.Durable.{HoldsState, CarriesOutText, DiskEndsFrom, DiskEndsFromEmpty};
@@ -35,7 +35,7 @@ struct Progress<D> {
 impl<D: Disk> Progress<D> {
     /// Reads a line and answers it. None where the run goes on.
     fn step<S: Source, K: Sink>(&mut self, source: &mut S, sink: &mut K) -> Option<Ending>
-        requires { ForSome (D.told self.old.replayer.disk) (Stands LOG) }
+        requires { ForSome (D.told self.old.replayer.disk) (IsUnheld LOG) }
         ensures printed { (f fd before : ℕ) (s : State) (had : List ℕ) → f ≤ S.faults source.old → fd ≤ D.faults self.old.replayer.disk → Represents self.old.replayer.store s
             → self.old.answered ≡ line_number before → S.left source.old ≡ Some had
             → KeepsUp (self.old.buffer ++ had) (S.asked source.old) 0
@@ -44,7 +44,7 @@ impl<D: Disk> Progress<D> {
         ensures shorter { result ≡ None → length self.new.buffer + S.budget source.new < length self.old.buffer + S.budget source.old }
         ensures faults { MatchOption result ((S.faults source.new ≡ S.faults source.old) × (K.faults sink.new ≡ K.faults sink.old))
             (λ ending. Counts ending (S.faults source.old) (S.faults source.new) (K.faults sink.old) (K.faults sink.new)) }
-        ensures stands { ForSome (D.told self.new.replayer.disk) (Stands LOG) }
+        ensures unheld { ForSome (D.told self.new.replayer.disk) (IsUnheld LOG) }
         ensures disk_faults { DiskCounts result (D.faults self.old.replayer.disk) (D.faults self.new.replayer.disk) }
         ensures possible { result ≢ Some Ending.NotAStore }
     {
@@ -60,7 +60,7 @@ impl<D: Disk> Progress<D> {
 
     /// Answers the line that was read.
     fn answer<K: Sink>(&mut self, sink: &mut K) -> Option<Ending>
-        requires { ForSome (D.told self.old.replayer.disk) (Stands LOG) }
+        requires { ForSome (D.told self.old.replayer.disk) (IsUnheld LOG) }
         ensures printed { (fd before : ℕ) (s : State) → fd ≤ D.faults self.old.replayer.disk → Represents self.old.replayer.store s → self.old.answered ≡ line_number before
             → StepsOn fd (D.faults self.new.replayer.disk) s before self.old.line.items self.new.replayer.store result (K.held sink.old) (K.held sink.new) }
         ensures counted { (before : ℕ) → self.old.answered ≡ line_number before → result ≡ None → self.new.answered ≡ line_number (before + 1) }
@@ -68,7 +68,7 @@ impl<D: Disk> Progress<D> {
         ensures faults { MatchOption result (K.faults sink.new ≡ K.faults sink.old) (λ ending. SinkCounts ending (K.faults sink.old) (K.faults sink.new)) }
         ensures takes { (begun : ℕ) (s : State) (state : DiskState) → Represents self.old.replayer.store s → D.told self.old.replayer.disk ≡ Some state → HoldsState begun s state
             → CarriesOutText D.told D.moment D.states_since D.faults self.old.replayer.disk self.new.replayer.disk begun s self.old.line.items (IsAnswered result) }
-        ensures stands { ForSome (D.told self.new.replayer.disk) (Stands LOG) }
+        ensures unheld { ForSome (D.told self.new.replayer.disk) (IsUnheld LOG) }
         ensures disk_faults { DiskCounts result (D.faults self.old.replayer.disk) (D.faults self.new.replayer.disk) }
     {
         let ended = answer(
@@ -133,7 +133,7 @@ fn answer_lines<S: Source, K: Sink, D: Disk>(
     sink: &mut K,
     replayer: Replayer<D>,
 ) -> Ended<D>
-    requires stands { ForSome (D.told replayer.disk) (Stands LOG) }
+    requires unheld { ForSome (D.told replayer.disk) (IsUnheld LOG) }
     requires empty { Represents replayer.store empty_store }
     ensures printed { (input : List ℕ) → S.left source.old ≡ Some input
         → EndsRun (Causes (S.faults source.old) (S.faults source.new) (D.faults replayer.disk) (D.faults result.disk) ⊥)

@@ -3,7 +3,7 @@ ghost use Rattle.std.specs.Option.{ForSome};
 ghost use Rattle.vl_disk.specs.declared.name.Name.TheVariants as names;
 ghost use Rattle.vl_disk.specs.Crash.{Unchanged, WhileAppending, WhileSyncing};
 ghost use Rattle.vl_disk.specs.DiskState.{appended, synced};
-ghost use Rattle.vl_disk.specs.Disk.{CanAppend, HasCause, SameSpare, SameSpareElsewhere, Stands, Turns, UsesAppend, While};
+ghost use Rattle.vl_disk.specs.Disk.{CanAppend, HasCause, IsUnheld, SameSpare, SameSpareElsewhere, Stands, Turns, UsesAppend, While};
 ghost use Rattle.vl_disk.specs.Moments.{Elapses};
 ghost use Rattle.vl_seglog.specs.Log as log;
 ghost use Rattle.vl_seglog.specs.Pointers.{pointers_at};
@@ -67,7 +67,7 @@ impl ActiveLog {
     /// Hands a staged frame to the disk, which isn't durable before `sync`. If it fails, the file has taken some first
     /// bytes of it, and the log is not to be appended to any more.
     pub fn append_commit<D: Disk>(&mut self, disk: &mut D, staged: &Staged) -> Result<(), Failed>
-        requires stands { ForSome (D.told disk.old) (Stands (names.Log self.old.number)) }
+        requires unheld { ForSome (D.told disk.old) (IsUnheld (names.Log self.old.number)) }
         requires room { CanAppend (length staged.now.frame.items) (D.spare disk.old (names.Log self.old.number)) }
         ensures appended { OnOk result (Turns (appended (names.Log self.old.number) staged.now.frame.items (length staged.now.frame.items))
             (D.told disk.old) (D.told disk.new)) }
@@ -77,6 +77,7 @@ impl ActiveLog {
             × Turns (appended (names.Log self.old.number) staged.now.frame.items taken) (D.told disk.old) (D.told disk.new)) }
         ensures kept { OnErr result (self.new.length ≡ self.old.length) }
         ensures stands { ForSome (D.told disk.new) (Stands (names.Log self.old.number)) }
+        ensures unheld { ForSome (D.told disk.new) (IsUnheld (names.Log self.old.number)) }
         ensures time { Elapses (D.moment disk.old) (D.moment disk.new) (D.states_since disk.old) (D.states_since disk.new)
             (While (D.told disk.old) (WhileAppending (names.Log self.old.number) staged.now.frame.items)) }
         ensures cause { HasCause (D.faults disk.old) (D.faults disk.new) (IsErr result) }
@@ -95,6 +96,7 @@ impl ActiveLog {
         ensures failed { OnErr result (Turns (λ disk. disk) (D.told disk.old) (D.told disk.new)) }
         ensures kept { self.new ≡ self.old }
         ensures stands { ForSome (D.told disk.new) (Stands (names.Log self.old.number)) }
+        ensures unheld { ForSome (D.told disk.old) (IsUnheld (names.Log self.old.number)) → ForSome (D.told disk.new) (IsUnheld (names.Log self.old.number)) }
         ensures time { Elapses (D.moment disk.old) (D.moment disk.new) (D.states_since disk.old) (D.states_since disk.new)
             (While (D.told disk.old) (WhileSyncing (names.Log self.old.number))) }
         ensures cause { HasCause (D.faults disk.old) (D.faults disk.new) (IsErr result) }

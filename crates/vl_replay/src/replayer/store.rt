@@ -2,7 +2,7 @@
 ghost use Rattle.std.specs.Prelude.{◌≡◌, ℕ, [], Some, Err, IfOk, IfErr, OnOk, OnErr, length};
 ghost use Rattle.std.specs.Option.{ForSome};
 ghost use Rattle.vl_disk.specs.DiskState.{DiskState};
-ghost use Rattle.vl_disk.specs.Disk.{Stands, HasCause};
+ghost use Rattle.vl_disk.specs.Disk.{IsUnheld, HasCause};
 ghost use Rattle.vl_journal.specs.declared.names.TheConstants.{LOG};
 ghost use Rattle.vl_replay.specs.Durable.{HoldsState, CarriesOut};
 ghost use Rattle.std.specs.Option.{option_copied};
@@ -50,7 +50,7 @@ impl Store {
     /// Answers a line. Want of memory leaves the store and the disk as they were, and so does a fault of the disk the
     /// store.
     pub fn line<D: Disk>(&mut self, disk: &mut D, line: Line) -> Result<Answer, Halt>
-        requires { ForSome (D.told disk.old) (Stands LOG) }
+        requires { ForSome (D.told disk.old) (IsUnheld LOG) }
         ensures answer { (s : State) → Represents self.old s → IfOk result (λ answer. answer ≡ answer_to s line) }
         ensures after { (s : State) → Represents self.old s → OnOk result (Represents self.new (state_after s line)) }
         ensures unchanged { (s : State) → Represents self.old s → OnErr result (Represents self.new s) }
@@ -58,7 +58,7 @@ impl Store {
         // Each accepted commit is one synced frame of the log, which is written before the answer.
         ensures carries { (begun : ℕ) (s : State) (state : DiskState) → Represents self.old s → D.told disk.old ≡ Some state → HoldsState begun s state
             → CarriesOut D.told D.moment D.states_since disk.old disk.new begun s (state_after s line) result }
-        ensures stands { ForSome (D.told disk.new) (Stands LOG) }
+        ensures unheld { ForSome (D.told disk.new) (IsUnheld LOG) }
         ensures cause { HasCause (D.faults disk.old) (D.faults disk.new) (result ≡ Err Halt.Disk) }
     {
         match line {
@@ -136,12 +136,12 @@ impl Store {
     }
 
     fn commit<D: Disk>(&mut self, disk: &mut D, name: Ident) -> Result<Answer, Halt>
-        requires { ForSome (D.told disk.old) (Stands LOG) }
+        requires { ForSome (D.told disk.old) (IsUnheld LOG) }
         ensures answer { (s : State) → Represents self.old s → IfOk result (λ answer. Gives answer self.new (committed s name (get s.things name))) }
         ensures unchanged { (s : State) → Represents self.old s → OnErr result (Represents self.new s) }
         ensures carries { (begun : ℕ) (s : State) (state : DiskState) → Represents self.old s → D.told disk.old ≡ Some state → HoldsState begun s state
             → CarriesOut D.told D.moment D.states_since disk.old disk.new begun s (committed s name (get s.things name)).1 result }
-        ensures stands { ForSome (D.told disk.new) (Stands LOG) }
+        ensures unheld { ForSome (D.told disk.new) (IsUnheld LOG) }
         ensures cause { HasCause (D.faults disk.old) (D.faults disk.new) (result ≡ Err Halt.Disk) }
     {
         let Some(thing) = self.find(name.as_slice()) else {

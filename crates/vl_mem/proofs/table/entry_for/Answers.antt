@@ -18,7 +18,7 @@ returns-clause-added c =
       missing,
       (
         c.new.result,
-        record { name_is = c.new.ensures.name; stands = c.new.ensures.stands; unsynced = c.new.ensures.unsynced; change = c.new.ensures.change; buffer = c.new.ensures.buffer },
+        record { name_is = c.new.ensures.name; stands = c.new.ensures.stands; unsynced = c.new.ensures.unsynced; change = c.new.ensures.change; buffer = c.new.ensures.buffer; copy = c.new.ensures.copy },
         c.in_ok-push.ensures.items,
       ),
     )

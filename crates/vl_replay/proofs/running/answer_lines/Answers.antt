@@ -31,7 +31,7 @@ lines-init g c = record {
   steady = refl;
   sink_steady = refl;
   disk_steady = refl;
-  stands = c.requires.stands;
+  unheld = c.requires.unheld;
 }
 
 pub returns-in-Some-clause-printed : goal.returns-in-Some-clause-printed
@@ -61,5 +61,5 @@ lines-preserved g c = record {
   steady = c.in_default-step.ensures.faults.0 ∙ c.lines.invariant.steady;
   sink_steady = c.in_default-step.ensures.faults.1 ∙ c.lines.invariant.sink_steady;
   disk_steady = (rw c.in_default-step.is at c.step.ensures.disk_faults) ∙ c.lines.invariant.disk_steady;
-  stands = c.step.ensures.stands;
+  unheld = c.step.ensures.unheld;
 }

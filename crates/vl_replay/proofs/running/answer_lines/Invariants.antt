@@ -1,6 +1,6 @@
 use Rattle.std.proofs.Common.{◌≡◌, ◌+◌, ℕ, List, length, Some}
 use Rattle.std.specs.Option.{ForSome}
-use Rattle.vl_disk.specs.Disk.{Stands}
+use Rattle.vl_disk.specs.Disk.{IsUnheld}
 use Rattle.vl_journal.specs.declared.names.TheConstants.{LOG}
 use Rattle.vl_replay.proofs.UnderWay.{UnderWay}
 use Rattle.vl_replay.proofs.running.answer_lines.Given as goal
@@ -15,7 +15,7 @@ invariant-lines g l =
       steady : g.S.Source.faults l.source ≡ g.S.Source.faults l.fn.source;
       sink_steady : g.K.Sink.faults l.sink ≡ g.K.Sink.faults l.fn.sink;
       disk_steady : g.D.Disk.faults l.progress.replayer.disk ≡ g.D.Disk.faults l.fn.replayer.disk;
-      stands : ForSome (g.D.Disk.told l.progress.replayer.disk) (Stands LOG);
+      unheld : ForSome (g.D.Disk.told l.progress.replayer.disk) (IsUnheld LOG);
     }
 
 abbrev pub decreases-lines : goal.decreases-lines

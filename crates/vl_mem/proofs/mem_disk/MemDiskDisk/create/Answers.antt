@@ -1,7 +1,6 @@
-use Rattle.std.proofs.Common.{Some, inr, ap, subst, vec_capacity}
-use Rattle.std.specs.Option.{option_map}
+use Rattle.std.proofs.Common.{Some, inr, subst, vec_capacity}
 use Rattle.vl_disk.specs.Crash.{WhileCreating}
-use Rattle.vl_disk.specs.Standing.{created_stands}
+use Rattle.vl_disk.specs.Standing.{created_stands, created_unheld}
 use Rattle.vl_mem.specs.declared.event.Event.TheVariants.{Create}
 use Rattle.vl_mem.specs.Entry.{IsAt}
 use Rattle.vl_mem.specs.Event.{told_of}
@@ -35,9 +34,12 @@ returns-clause-time c =
 pub returns-clause-spare : goal.returns-clause-spare
 returns-clause-spare c =
     let at = subst (λ es. IsAt c.args.name es c.place_of-at.result) c.deref.ensures.value c.place_of-at.ensures.at in
-    uses_change c.args.name c.args.self.now.entries.items c.place_of-at.result c.index_mut.result.now c.create.new.self at c.index_mut.ensures.value c.create.ensures.name
-    (ap (option_map vec_capacity) c.create.ensures.buffer)
+    uses_change c.args.name c.args.self.now.entries.items c.place_of-at.result c.index_mut.result.now c.create.new.self at c.index_mut.ensures.value c.create.ensures.name c.create.ensures.buffer c.create.ensures.copy
 
 pub returns-clause-stands : goal.returns-clause-stands
 returns-clause-stands c = created_stands c.args.name (Some (told_of c.args.self.now.events.items c.args.self.now.plan.calls)) (Some (told_of c.note.new.events.items c.fails.new.self.calls))
+    (turns_by c.args.self.now.events.items c.note.new.events.items c.args.self.now.plan.calls c.fails.new.self.calls c.fails.ensures.calls (Create c.args.name) c.note.ensures.items)
+
+pub returns-clause-unheld : goal.returns-clause-unheld
+returns-clause-unheld c = created_unheld c.args.name (Some (told_of c.args.self.now.events.items c.args.self.now.plan.calls)) (Some (told_of c.note.new.events.items c.fails.new.self.calls))
     (turns_by c.args.self.now.events.items c.note.new.events.items c.args.self.now.plan.calls c.fails.new.self.calls c.fails.ensures.calls (Create c.args.name) c.note.ensures.items)

@@ -1,4 +1,4 @@
-use Rattle.std.proofs.Common.{◌≡◌, ◌+◌, ◌*◌, ◌≤◌, Some, refl, sym, subst, ◌∙◌, length, arith, vec_capacity, All}
+use Rattle.std.proofs.Common.{◌≡◌, ◌+◌, ◌*◌, ◌≤◌, true, Some, is_some, ap, refl, sym, subst, ◌∙◌, length, arith, vec_capacity, All}
 use Rattle.vl_disk.specs.Crash.{Unchanged}
 use Rattle.vl_disk.specs.Disk.{While, IsReady}
 use Rattle.vl_mem.specs.Event.{told_of, CreatesNumbered}
@@ -26,7 +26,7 @@ invariant_of-self-2 c =
     let m = c.args.self.now in
     let added = added_step c.args.name m.entries.items c.entry_for.new.entries.items c.in_ok-at.ensures.added m.events.items (vec_capacity m.events) (kept m) in
     let wide = same_step c.entry_for.new.entries.items c.entry_for.new.entries.items m.events.items c.make_room.new.events.items (vec_capacity m.events) (vec_capacity c.make_room.new.events) refl c.make_room.ensures.items c.make_room.ensures.capacity added in
-    let room : length c.make_room.new.events.items + 7 * length c.entry_for.new.entries.items ≤ vec_capacity c.make_room.new.events =
+    let room : length c.make_room.new.events.items + 8 * length c.entry_for.new.entries.items ≤ vec_capacity c.make_room.new.events =
     omega (arith, c.in_ok-make_room.ensures.room, added_length c.args.name m.entries.items c.entry_for.new.entries.items c.in_ok-at.ensures.added, c.len.ensures, m.entries.ok.0) in
     let step = roomed_step c.args.name c.entry_for.new.entries.items c.in_ok-at.at c.index_mut.result.now c.make_room-2.new.self c.in_ok-at.ensures.at c.index_mut.ensures.value c.make_room-2.ensures.name
     c.make_room.new.events.items (vec_capacity c.make_room.new.events) room c.make_room-2.ensures.fits c.make_room-2.ensures.stands c.make_room-2.ensures.bytes c.make_room-2.ensures.unsynced wide in
@@ -36,6 +36,11 @@ pub returns-clause-ready : goal.returns-clause-ready
 returns-clause-ready c = on_ok c.make_room-2.result _ _
     (λ (ready : IsReady c.args.bytes (spare_of (Some c.make_room-2.new.self))). subst (IsReady c.args.bytes) (sym (spare_there c.args.name c.entry_for.new.entries.items c.in_ok-at.at c.index_mut.result.now c.make_room-2.new.self c.in_ok-at.ensures.at c.index_mut.ensures.value c.make_room-2.ensures.name)) ready)
     c.make_room-2.ensures.ready
+
+pub returns-clause-hold : goal.returns-clause-hold
+returns-clause-hold c = on_ok c.make_room-2.result _ _
+    (λ (has : is_some c.make_room-2.new.self.copy ≡ true). ap (λ s. s.hold) (spare_there c.args.name c.entry_for.new.entries.items c.in_ok-at.at c.index_mut.result.now c.make_room-2.new.self c.in_ok-at.ensures.at c.index_mut.ensures.value c.make_room-2.ensures.name) ∙ has)
+    c.make_room-2.ensures.hold
 
 pub returns-clause-elsewhere : goal.returns-clause-elsewhere
 returns-clause-elsewhere c other apart =

@@ -1,8 +1,8 @@
 use Rattle.std.proofs.Common.{inr, refl, sym, subst, IsSome, vec_capacity}
 use Rattle.vl_disk.specs.Crash.{WhileSyncing}
-use Rattle.vl_disk.specs.DiskState.{settled, synced}
-use Rattle.vl_disk.specs.Disk.{Stands}
-use Rattle.vl_disk.specs.Standing.{turned, changed_stands}
+use Rattle.vl_disk.specs.DiskState.{synced_file, synced}
+use Rattle.vl_disk.specs.Disk.{Stands, IsUnheld}
+use Rattle.vl_disk.specs.Standing.{turned, changed_stands, changed_unheld}
 use Rattle.vl_mem.specs.declared.event.Event.TheVariants.{Sync}
 use Rattle.vl_mem.specs.Entry.{IsAt, entry_of}
 use Rattle.vl_mem.specs.Event.{state_after}
@@ -57,4 +57,17 @@ returns-then-not-index-clause-stands c = turned (λ disk. disk) _ _ (Stands c.ar
 pub returns-clause-stands : goal.returns-clause-stands
 returns-clause-stands c = turned (synced c.args.name) _ _ (Stands c.args.name) (Stands c.args.name)
     (turns_by c.args.self.now.events.items c.note.new.events.items c.args.self.now.plan.calls c.fails.new.self.calls c.fails.ensures.calls (Sync c.args.name) c.note.ensures.items)
-    (λ disk stands. changed_stands c.args.name (λ file. settled file.bytes) disk c.args.name stands) c.requires
+    (λ disk stands. changed_stands c.args.name synced_file disk c.args.name stands) c.requires
+
+pub returns-then-fails-clause-unheld : goal.returns-then-fails-clause-unheld
+returns-then-fails-clause-unheld c = turned (λ disk. disk) _ _ (IsUnheld c.args.name) (IsUnheld c.args.name)
+    (turns_same c.args.self.now.events.items c.args.self.now.events.items c.args.self.now.plan.calls c.fails.new.self.calls c.fails.ensures.calls refl) (λ disk unheld. unheld)
+
+pub returns-then-not-index-clause-unheld : goal.returns-then-not-index-clause-unheld
+returns-then-not-index-clause-unheld c = turned (λ disk. disk) _ _ (IsUnheld c.args.name) (IsUnheld c.args.name)
+    (turns_same c.args.self.now.events.items c.args.self.now.events.items c.args.self.now.plan.calls c.fails.new.self.calls c.fails.ensures.calls refl) (λ disk unheld. unheld)
+
+pub returns-clause-unheld : goal.returns-clause-unheld
+returns-clause-unheld c = turned (synced c.args.name) _ _ (IsUnheld c.args.name) (IsUnheld c.args.name)
+    (turns_by c.args.self.now.events.items c.note.new.events.items c.args.self.now.plan.calls c.fails.new.self.calls c.fails.ensures.calls (Sync c.args.name) c.note.ensures.items)
+    (λ disk. changed_unheld c.args.name synced_file disk (λ file unheld. unheld))
