@@ -58,7 +58,10 @@ fn drop_line(alloc: Global, name: &str) -> Result<Line, AllocError> {
 #[test]
 fn a_commit_is_seen_by_a_later_view(rt: HostRuntime) -> Result<(), Fail> {
     let alloc = rt.alloc();
-    let Ok(mut replayer) = Replayer::new(alloc, MemDisk::new(alloc, Vec::new(alloc), Vec::new(alloc))) else {
+    let Ok(mut replayer) = Replayer::new(
+        alloc,
+        MemDisk::new(alloc, Vec::new(alloc), Vec::new(alloc)),
+    ) else {
         return Err("not opened".into());
     };
     assert!(rt;
@@ -67,18 +70,8 @@ fn a_commit_is_seen_by_a_later_view(rt: HostRuntime) -> Result<(), Fail> {
             Answer::Number { number: 0 }
         )
     );
-    assert!(rt;
-        matches!(
-            replayer.line(set(alloc, "a", "k", "v")?)?,
-            Answer::Done
-        )
-    );
-    assert!(rt;
-        matches!(
-            replayer.line(get(alloc, "a", "k")?)?,
-            Answer::Found { .. }
-        )
-    );
+    assert!(rt; matches!(replayer.line(set(alloc, "a", "k", "v")?)?, Answer::Done));
+    assert!(rt; matches!(replayer.line(get(alloc, "a", "k")?)?, Answer::Found { .. }));
     assert!(rt;
         matches!(
             replayer.line(commit(alloc, "a")?)?,
@@ -102,7 +95,10 @@ fn a_commit_is_seen_by_a_later_view(rt: HostRuntime) -> Result<(), Fail> {
 #[test]
 fn names_and_limits(rt: HostRuntime) -> Result<(), Fail> {
     let alloc = rt.alloc();
-    let Ok(mut replayer) = Replayer::new(alloc, MemDisk::new(alloc, Vec::new(alloc), Vec::new(alloc))) else {
+    let Ok(mut replayer) = Replayer::new(
+        alloc,
+        MemDisk::new(alloc, Vec::new(alloc), Vec::new(alloc)),
+    ) else {
         return Err("not opened".into());
     };
     assert!(rt;
@@ -111,12 +107,7 @@ fn names_and_limits(rt: HostRuntime) -> Result<(), Fail> {
             Answer::Number { number: 0 }
         )
     );
-    assert!(rt;
-        matches!(
-            replayer.line(begin(alloc, "b")?)?,
-            Answer::Taken { .. }
-        )
-    );
+    assert!(rt; matches!(replayer.line(begin(alloc, "b")?)?, Answer::Taken { .. }));
     assert!(rt; matches!(replayer.line(begin(alloc, "c")?)?, Answer::TooMany));
     assert!(rt;
         matches!(
@@ -124,37 +115,20 @@ fn names_and_limits(rt: HostRuntime) -> Result<(), Fail> {
             Answer::Unknown { .. }
         )
     );
-    assert!(rt;
-        matches!(
-            replayer.line(get(alloc, "b", "k")?)?,
-            Answer::NoValue
-        )
-    );
-    assert!(rt;
-        matches!(
-            replayer.line(get(alloc, "b", "")?)?,
-            Answer::Invalid
-        )
-    );
-    assert!(rt;
-        matches!(
-            replayer.line(set(alloc, "b", "k", "v")?)?,
-            Answer::ReadOnly
-        )
-    );
-    assert!(rt;
-        matches!(
-            replayer.line(commit(alloc, "b")?)?,
-            Answer::ReadOnly
-        )
-    );
+    assert!(rt; matches!(replayer.line(get(alloc, "b", "k")?)?, Answer::NoValue));
+    assert!(rt; matches!(replayer.line(get(alloc, "b", "")?)?, Answer::Invalid));
+    assert!(rt; matches!(replayer.line(set(alloc, "b", "k", "v")?)?, Answer::ReadOnly));
+    assert!(rt; matches!(replayer.line(commit(alloc, "b")?)?, Answer::ReadOnly));
     Ok(())
 }
 
 #[test]
 fn a_commit_without_writes_is_none(rt: HostRuntime) -> Result<(), Fail> {
     let alloc = rt.alloc();
-    let Ok(mut replayer) = Replayer::new(alloc, MemDisk::new(alloc, Vec::new(alloc), Vec::new(alloc))) else {
+    let Ok(mut replayer) = Replayer::new(
+        alloc,
+        MemDisk::new(alloc, Vec::new(alloc), Vec::new(alloc)),
+    ) else {
         return Err("not opened".into());
     };
     assert!(rt;
@@ -163,12 +137,7 @@ fn a_commit_without_writes_is_none(rt: HostRuntime) -> Result<(), Fail> {
             Answer::Number { number: 0 }
         )
     );
-    assert!(rt;
-        matches!(
-            replayer.line(set(alloc, "a", "", "v")?)?,
-            Answer::Invalid
-        )
-    );
+    assert!(rt; matches!(replayer.line(set(alloc, "a", "", "v")?)?, Answer::Invalid));
     assert!(rt; matches!(replayer.line(commit(alloc, "a")?)?, Answer::Nothing));
     assert!(rt;
         matches!(
@@ -182,7 +151,10 @@ fn a_commit_without_writes_is_none(rt: HostRuntime) -> Result<(), Fail> {
 #[test]
 fn a_deletion_is_read_and_committed(rt: HostRuntime) -> Result<(), Fail> {
     let alloc = rt.alloc();
-    let Ok(mut replayer) = Replayer::new(alloc, MemDisk::new(alloc, Vec::new(alloc), Vec::new(alloc))) else {
+    let Ok(mut replayer) = Replayer::new(
+        alloc,
+        MemDisk::new(alloc, Vec::new(alloc), Vec::new(alloc)),
+    ) else {
         return Err("not opened".into());
     };
     assert!(rt;
@@ -191,12 +163,7 @@ fn a_deletion_is_read_and_committed(rt: HostRuntime) -> Result<(), Fail> {
             Answer::Number { number: 0 }
         )
     );
-    assert!(rt;
-        matches!(
-            replayer.line(set(alloc, "a", "k", "v")?)?,
-            Answer::Done
-        )
-    );
+    assert!(rt; matches!(replayer.line(set(alloc, "a", "k", "v")?)?, Answer::Done));
     assert!(rt;
         matches!(
             replayer.line(commit(alloc, "a")?)?,
@@ -209,18 +176,8 @@ fn a_deletion_is_read_and_committed(rt: HostRuntime) -> Result<(), Fail> {
             Answer::Number { number: 1 }
         )
     );
-    assert!(rt;
-        matches!(
-            replayer.line(delete(alloc, "a", "k")?)?,
-            Answer::Done
-        )
-    );
-    assert!(rt;
-        matches!(
-            replayer.line(get(alloc, "a", "k")?)?,
-            Answer::NoValue
-        )
-    );
+    assert!(rt; matches!(replayer.line(delete(alloc, "a", "k")?)?, Answer::Done));
+    assert!(rt; matches!(replayer.line(get(alloc, "a", "k")?)?, Answer::NoValue));
     assert!(rt;
         matches!(
             replayer.line(commit(alloc, "a")?)?,
@@ -233,18 +190,8 @@ fn a_deletion_is_read_and_committed(rt: HostRuntime) -> Result<(), Fail> {
             Answer::Number { number: 2 }
         )
     );
-    assert!(rt;
-        matches!(
-            replayer.line(get(alloc, "b", "k")?)?,
-            Answer::NoValue
-        )
-    );
-    assert!(rt;
-        matches!(
-            replayer.line(delete(alloc, "b", "")?)?,
-            Answer::ReadOnly
-        )
-    );
+    assert!(rt; matches!(replayer.line(get(alloc, "b", "k")?)?, Answer::NoValue));
+    assert!(rt; matches!(replayer.line(delete(alloc, "b", "")?)?, Answer::ReadOnly));
     assert!(rt;
         matches!(
             replayer.line(delete(alloc, "a", "k")?)?,
@@ -257,7 +204,10 @@ fn a_deletion_is_read_and_committed(rt: HostRuntime) -> Result<(), Fail> {
 #[test]
 fn what_is_dropped_leaves_nothing(rt: HostRuntime) -> Result<(), Fail> {
     let alloc = rt.alloc();
-    let Ok(mut replayer) = Replayer::new(alloc, MemDisk::new(alloc, Vec::new(alloc), Vec::new(alloc))) else {
+    let Ok(mut replayer) = Replayer::new(
+        alloc,
+        MemDisk::new(alloc, Vec::new(alloc), Vec::new(alloc)),
+    ) else {
         return Err("not opened".into());
     };
     assert!(rt;
@@ -266,18 +216,8 @@ fn what_is_dropped_leaves_nothing(rt: HostRuntime) -> Result<(), Fail> {
             Answer::Number { number: 0 }
         )
     );
-    assert!(rt;
-        matches!(
-            replayer.line(set(alloc, "a", "k", "v")?)?,
-            Answer::Done
-        )
-    );
-    assert!(rt;
-        matches!(
-            replayer.line(get(alloc, "a", "k")?)?,
-            Answer::Found { .. }
-        )
-    );
+    assert!(rt; matches!(replayer.line(set(alloc, "a", "k", "v")?)?, Answer::Done));
+    assert!(rt; matches!(replayer.line(get(alloc, "a", "k")?)?, Answer::Found { .. }));
     assert!(rt;
         matches!(
             replayer.line(drop_line(alloc, "b")?)?,
@@ -297,12 +237,7 @@ fn what_is_dropped_leaves_nothing(rt: HostRuntime) -> Result<(), Fail> {
             Answer::Number { number: 0 }
         )
     );
-    assert!(rt;
-        matches!(
-            replayer.line(get(alloc, "b", "k")?)?,
-            Answer::NoValue
-        )
-    );
+    assert!(rt; matches!(replayer.line(get(alloc, "b", "k")?)?, Answer::NoValue));
     assert!(rt; matches!(replayer.line(drop_line(alloc, "b")?)?, Answer::Done));
     assert!(rt;
         matches!(
