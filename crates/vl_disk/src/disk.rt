@@ -14,7 +14,7 @@ use std::alloc::Global;
 pub trait Disk {
     type Held: HeldFile;
 
-    type Reader: Reader<Held = Self::Held> + Drop + Send;
+    type Reader: Reader<Held = Self::Held> + Drop;
 
     /// What it holds. A disk that doesn't tell it claims nothing of its bytes.
     ghost told: { Self → Option DiskState };

@@ -7,7 +7,7 @@ use crate::Failed;
 
 /// A file that is shared and complete: its bytes never change, also where the disk removes it. A clone is of the same
 /// file, and may find no memory.
-pub trait HeldFile: Clone + Drop + Send + Sync {
+pub trait HeldFile: Clone + Drop {
     /// Its bytes. One that doesn't tell them claims nothing of them.
     ghost bytes: { Self → Option (List ℕ) };
 

@@ -4,6 +4,11 @@ use vl_disk::{Disk, Failed, HeldFile, HoldFail, Name, Reader, make_file};
 
 const LOG: Name = Name::Log(1);
 
+// Held files and readers go to other threads.
+fn may_be_sent<T: Send>(_sent: &T) {}
+
+fn may_be_shared<T: Sync>(_shared: &T) {}
+
 #[test]
 fn a_file_takes_pieces_and_is_listed(rt: HostRuntime) -> Result<(), Fail> {
     let alloc = rt.alloc();
@@ -103,6 +108,9 @@ fn a_held_file_is_read_after_its_removal(rt: HostRuntime) -> Result<(), Fail> {
     disk.remove(LOG)?;
     let copy = held.clone()?;
     let mut reader = disk.reader(alloc)?;
+    may_be_sent(&held);
+    may_be_shared(&held);
+    may_be_sent(&reader);
     let mut two = [0; 2];
     reader.read(&copy, 1, &mut two)?;
     assert_eq!(rt; two, [2, 3]);

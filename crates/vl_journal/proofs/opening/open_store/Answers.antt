@@ -71,7 +71,7 @@ returns-in_err-make_file-clause-through g c state is empty =
     goes_by told moment since _ _ _ _ state _ is3 ready2 c.in_err-make_file.ensures.time (leaves_manifest state empty c.deref.result.now)
 
 pub make_file-requires-2-clause-free : goal.make_file-requires-2-clause-free
-make_file-requires-2-clause-free g c lifetimes outlive =
+make_file-requires-2-clause-free g c =
     let told = g.D.Disk.told in
     log_free c.in_ok-list.field-0.items c.deref.result.now (told c.ready-2.new.self) (told c.make_file.new.disk)
     (λ disk is. c.in_ok-list.ensures.names disk (sym (c.in_ok-ready-2.ensures.told ∙ c.in_ok-ready.ensures.told ∙ c.in_ok-list.ensures.told) ∙ is)) (omega (arith, c.in_ok-list.field-0.ok.0, eqb-true _ _ (sym c.if-not-is_empty.ensures))) c.in_ok-make_file.ensures.made

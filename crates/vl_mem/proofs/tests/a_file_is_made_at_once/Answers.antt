@@ -5,4 +5,4 @@ use Rattle.vl_mem.specs.MemDisk.{told_by}
 use Rattle.vl_mem.proofs.tests.a_file_is_made_at_once.Goals as goal
 
 pub make_file-requires-clause-free : goal.make_file-requires-clause-free
-make_file-requires-clause-free g c lifetimes = empty_free (Log 1) (told_by c.ready.new.self) (c.in_ok-ready.ensures.told ∙ c.new-disk.ensures.told)
+make_file-requires-clause-free g c = empty_free (Log 1) (told_by c.ready.new.self) (c.in_ok-ready.ensures.told ∙ c.new-disk.ensures.told)

@@ -5,7 +5,7 @@ use Rattle.vl_mem.specs.MemDisk.{told_by}
 use Rattle.vl_mem.proofs.tests.a_file_is_read_cut_and_removed.Goals as goal
 
 pub make_file-requires-clause-free : goal.make_file-requires-clause-free
-make_file-requires-clause-free g c lifetimes = empty_free (Log 1) (told_by c.ready.new.self) (c.in_ok-ready.ensures.told ∙ c.new-disk.ensures.told)
+make_file-requires-clause-free g c = empty_free (Log 1) (told_by c.ready.new.self) (c.in_ok-ready.ensures.told ∙ c.new-disk.ensures.told)
 
 pub read-requires-clause-inside : goal.read-requires-clause-inside
 read-requires-clause-inside g c = made_inside (Log 1) (1 ∷ 2 ∷ 3 ∷ []) (told_by c.ready.new.self) (told_by c.make_file.new.disk) c.in_ok-make_file.ensures.made

@@ -5,7 +5,7 @@ use Rattle.vl_mem.specs.MemDisk.{told_by}
 use Rattle.vl_mem.proofs.tests.a_listed_cut_and_a_listed_remove_leave_the_file.Goals as goal
 
 pub make_file-requires-clause-free : goal.make_file-requires-clause-free
-make_file-requires-clause-free g c lifetimes = empty_free (Log 1) (told_by c.ready.new.self) (c.in_ok-ready.ensures.told ∙ c.new-disk.ensures.told)
+make_file-requires-clause-free g c = empty_free (Log 1) (told_by c.ready.new.self) (c.in_ok-ready.ensures.told ∙ c.new-disk.ensures.told)
 
 pub cut-requires-clause-inside : goal.cut-requires-clause-inside
 cut-requires-clause-inside g c state is =

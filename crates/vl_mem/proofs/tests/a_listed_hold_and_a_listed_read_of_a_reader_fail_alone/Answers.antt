@@ -9,7 +9,7 @@ long : (held copy there : List ℕ) → Some held ≡ Some there → copy ≡ he
 long held copy there is same within = let e : copy ≡ there = cc in omega (arith, within, ap length e)
 
 pub make_file-requires-clause-free : goal.make_file-requires-clause-free
-make_file-requires-clause-free g c lifetimes = empty_free (Log 1) (told_by c.ready.new.self) (c.in_ok-ready.ensures.told ∙ c.new-disk.ensures.told)
+make_file-requires-clause-free g c = empty_free (Log 1) (told_by c.ready.new.self) (c.in_ok-ready.ensures.told ∙ c.new-disk.ensures.told)
 
 pub read-requires : goal.read-requires
 read-requires g c =

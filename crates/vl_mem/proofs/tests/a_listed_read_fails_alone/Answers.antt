@@ -5,7 +5,7 @@ use Rattle.vl_mem.specs.MemDisk.{told_by}
 use Rattle.vl_mem.proofs.tests.a_listed_read_fails_alone.Goals as goal
 
 pub make_file-requires-clause-free : goal.make_file-requires-clause-free
-make_file-requires-clause-free g c lifetimes = empty_free (Log 1) (told_by c.ready.new.self) (c.in_ok-ready.ensures.told ∙ c.new-disk.ensures.told)
+make_file-requires-clause-free g c = empty_free (Log 1) (told_by c.ready.new.self) (c.in_ok-ready.ensures.told ∙ c.new-disk.ensures.told)
 
 pub read-requires-clause-inside : goal.read-requires-clause-inside
 read-requires-clause-inside g c state is =
