@@ -131,16 +131,8 @@ returns-then-log_length-gt-MAX_LOG_BYTES-clause-carries g c begun s state rep to
     carries_as told moment since disk disk begun s (Ok Full) (committed s c.args.name (get s.things c.args.name)) _ (full_is r s c.args.name c.in-Transaction.number c.in-Transaction.writes rep holds (sym c.is_empty.ensures ∙ c.if-is_empty.false) c.if-self-ge-MAX_COMMIT_NUMBER.false (subst (λ n. MAX_LOG_BYTES < n) longer_is c.if-log_length-gt-MAX_LOG_BYTES.true)) kept
 
 pub stage_commit-requires : goal.stage_commit-requires
-stage_commit-requires g c = (
-  c.type_bounds.send-D-Held,
-  (
-    c.type_bounds.send-D-Reader,
-    (
-      c.type_bounds.sync-D-Held,
-      is_commit c.args.self.now.last c.in-Transaction.writes c.as_slice-2.result.now c.as_slice-2.ensures.entries (sym c.is_empty.ensures ∙ c.if-is_empty.false) c.if-self-ge-MAX_COMMIT_NUMBER.false c.as_slice-2.ensures.rising c.as_slice-2.ensures.lawful c.as_slice-2.ensures.few,
-    ),
-  ),
-)
+stage_commit-requires g c =
+    is_commit c.args.self.now.last c.in-Transaction.writes c.as_slice-2.result.now c.as_slice-2.ensures.entries (sym c.is_empty.ensures ∙ c.if-is_empty.false) c.if-self-ge-MAX_COMMIT_NUMBER.false c.as_slice-2.ensures.rising c.as_slice-2.ensures.lawful c.as_slice-2.ensures.few
 
 pub returns-in_err-staged-clause-carries : goal.returns-in_err-staged-clause-carries
 returns-in_err-staged-clause-carries g c begun s state rep told_is holds_state =
