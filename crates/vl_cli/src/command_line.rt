@@ -67,8 +67,8 @@ pub fn run<S: Source, K: Sink, D: Disk>(
     ensures disk_fault { result.status ≡ 3 → Rose (D.faults disk) (D.faults result.disk) }
     ensures disk_steady { result.status ≢ 3 → result.status ≢ 7 → D.faults result.disk ≡ D.faults disk }
 
-    // Status 4 comes exactly where anything stands on the disk, unless the disk failed, memory ran out, or the last line
-    // couldn't be put. Then nothing was changed or read.
+    // Where the words are plain, status 4 comes exactly where anything stands on the disk, unless the disk failed, memory
+    // ran out, or the last line couldn't be put. Then nothing was changed or read.
     ensures not_a_store { result.status ≡ 4 → ForSome (D.told disk) StandsSome × (D.told result.disk ≡ D.told disk) × (source.new ≡ source.old) }
     ensures occupied { is_plain (map string_bytes words.now) ≡ true → (state : DiskState) → D.told disk ≡ Some state → StandsSome state
         → (source.new ≡ source.old) × (D.told result.disk ≡ D.told disk) × ((ending : HowEnded) × (result.status ≡ status_of ending) × IsRefusal ending) }

@@ -76,8 +76,8 @@ impl<D: Disk> Replayer<D> {
         }
     }
 
-    /// Answers a line. Want of memory leaves the store and the disk as they were, and so does a fault of the disk the
-    /// store.
+    /// Answers a line. Want of memory leaves the store and the disk's bytes as they were, and so does a fault of the disk
+    /// the store. After such a fault the disk may hold less or more than the store, and no further line is to be answered.
     pub fn line(&mut self, line: Line) -> Result<Answer, Halt>
         requires { ForSome (D.told self.old.disk) (IsUnheld LOG) }
         ensures answer { (s : State) → Represents self.old.store s → IfOk result (λ answer. answer ≡ answer_to s line) }

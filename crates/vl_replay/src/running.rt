@@ -97,8 +97,8 @@ pub fn replay<S: Source, K: Sink, D: Disk>(
     ensures faults { Counts result.ending (S.faults source.old) (S.faults source.new) (K.faults sink.old) (K.faults sink.new) }
     ensures disk_faults { DiskCounts (Some result.ending) (D.faults disk) (D.faults result.disk) }
 
-    // No store is found only where anything stands; and where it does, unless a fault or want of memory comes first.
-    // Then nothing was changed or read.
+    // The run ends as no store only where anything stands, and there always, unless a fault or want of memory comes
+    // first. Then nothing was changed or read.
     ensures found { result.ending ≡ Ending.NotAStore → ForSome (D.told disk) StandsSome }
     ensures refused { result.ending ≡ Ending.NotAStore → (D.told result.disk ≡ D.told disk) × (source.new ≡ source.old) }
     ensures occupied { (state : DiskState) → D.told disk ≡ Some state → StandsSome state

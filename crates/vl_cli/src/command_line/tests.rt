@@ -190,7 +190,7 @@ fn replayed(alloc: Global, script: &[u8], room: usize) -> Result<(u8, Vec<u8>), 
     }
     let mut source = SliceSource::new(script, Vec::new(alloc));
     let mut sink = VecSink::new(alloc, room, Vec::new(alloc))?;
-    let disk = MemDisk::new(alloc, Vec::new(alloc));
+    let disk = MemDisk::new(alloc, Vec::new(alloc), Vec::new(alloc));
     let Ended { status, disk: _ } = run(alloc, words.as_slice(), &mut source, &mut sink, disk);
     Ok((status, sink.into_bytes()))
 }

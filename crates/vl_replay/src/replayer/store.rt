@@ -13,6 +13,9 @@ ghost use Rattle.vl_replay.specs.Sequential.{State, empty_store, answer_to, stat
 ghost use Rattle.vl_replay.specs.Sequential as sequential;
 ghost use Rattle.vl_replay.specs.Represents.{Represents, Gives, StandsFor, thing_named, write_answer, writes_after};
 
+#[cfg(test)]
+mod tests;
+
 use crate::replayer::limits::LOG_HEADER_BYTES;
 use crate::replayer::writes::value_len;
 use crate::replayer::{Halt, MAX_LOG_BYTES, Memtable, Open, Thing, Writes};
@@ -47,8 +50,7 @@ impl Store {
         }
     }
 
-    /// Answers a line. Want of memory leaves the store and the disk as they were, and so does a fault of the disk the
-    /// store.
+    /// Answers a line over the disk that holds the store.
     pub fn line<D: Disk>(&mut self, disk: &mut D, line: Line) -> Result<Answer, Halt>
         requires { ForSome (D.told disk.old) (IsUnheld LOG) }
         ensures answer { (s : State) → Represents self.old s → IfOk result (λ answer. answer ≡ answer_to s line) }
