@@ -10,7 +10,7 @@ use Rattle.vl_disk.specs.DiskState.{DiskState, file_at, counted}
 abbrev pub Stands : Name → DiskState → Type 0
 Stands name disk = IsSome (get disk.standing name)
 
--- a file stands under this name that nobody holds
+-- a file stands under this name that wasn't held since it was created, or since the disk was started
 abbrev pub IsUnheld : Name → DiskState → Type 0
 IsUnheld name disk = IsSomeAnd (get disk.standing name) (λ file. file.held ≡ false)
 

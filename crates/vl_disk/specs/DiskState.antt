@@ -15,13 +15,13 @@ pub record File : Type 0 where
   pub bytes : List ℕ
   -- how many of them are durable, whatever was asked for since
   pub synced : ℕ
-  -- nothing was asked for since the last sync that answered Ok, or since the disk was started
+  -- no create, append or cut was asked for since the last sync that answered Ok, or since the disk was started
   pub wholly_synced : Bool
   -- it was synced once, or stood when the disk was started
   pub lasting : Bool
   -- the pieces handed to `append` since the last sync that answered Ok
   pub due : List Piece
-  -- it was held once since the disk was started, and isn't appended to or cut any more
+  -- it was held since it was created or the disk was started, and isn't appended to or cut any more
   pub held : Bool
 
 abbrev pub Files : Type 0
@@ -46,7 +46,7 @@ counted disk = record disk { calls = min (disk.calls + 1) (2 ^ 64 - 1) }
 abbrev pub new_file : File
 new_file = record { bytes = []; synced = 0; wholly_synced = false; lasting = false; due = []; held = false }
 
--- a file of these bytes as a sync leaves one that nobody holds, or as it stands when the disk is started
+-- a file of these bytes as a sync leaves one that wasn't held, or as it stands when the disk is started
 abbrev pub settled : List ℕ → File
 settled bytes = record { bytes = bytes; synced = length bytes; wholly_synced = true; lasting = true; due = []; held = false }
 

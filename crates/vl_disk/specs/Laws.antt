@@ -1,8 +1,8 @@
 -- What the definitions of a disk and of a crash say together.
-use Rattle.std.specs.Prelude.{◌≡◌, ◌≢◌, ℕ, ◌<◌, ◌≤◌, min, refl, true, false, List, ◌++◌, length, take, drop, Option, None, Some, IsTrue}
+use Rattle.std.specs.Prelude.{◌≡◌, ◌≢◌, ◌⊎◌, ℕ, ◌+◌, ◌<◌, ◌≤◌, min, refl, true, false, List, ◌++◌, length, take, drop, Option, None, Some, IsTrue, Any}
 use Rattle.std.specs.Option.{option_map}
 use Rattle.std.specs.FinMap.{get, empty, insert, remove, get-empty}
-use Rattle.std.proofs.Common.{⊎_elim, sym, ◌∙◌, ap, subst, arith}
+use Rattle.std.proofs.Common.{⊎_elim, inl, inr, sym, ◌∙◌, ap, subst, arith}
 use Rattle.std.proofs.lemmas.List.{take_at, take-take, take-append-le, take-append-drop, length-take-le}
 use Rattle.vl_disk.specs.declared.name.Name.{Name}
 use Rattle.vl_disk.specs.Name.{name_cmp, IsNumbered}
@@ -10,7 +10,7 @@ use Rattle.vl_disk.specs.NameMap.{same_or_other, get_inserted, get_inserted_othe
 use Rattle.vl_disk.specs.DiskState.{File, Files, DiskState, IsLawful, empty_disk, new_file, synced_file, sealed_file, lengthened, shortened, placed, with_file, created, appended, synced, cut_to, without, sealed}
 use Rattle.vl_disk.specs.Changes.{created_there, created_elsewhere, placed_elsewhere, changed_there, changed_elsewhere, unchanged}
 use Rattle.vl_disk.specs.Crash.{Image, Agrees, last_file, MayLeaveOne, MayLeave, SameFiles}
-use Rattle.vl_disk.specs.Chance.{NoChanceMatch, torn_from}
+use Rattle.vl_disk.specs.Chance.{StandsIn, NoChanceMatch, torn_from}
 use Rattle.vl_disk.specs.Disk.{IsFree}
 
 false_true : false ≡ true → ⊥
@@ -187,6 +187,22 @@ sealed_leaves name disk image may = changed_leaves name sealed_file disk image k
     keeps file None is one = one
     keeps file (Some bytes) is one = record { durable = one.durable; whole = one.whole }
 
+-- and nothing is added to it
+pub sealed_left : (name : Name) (disk : DiskState) (image : Image) → MayLeave (sealed name disk) image → MayLeave disk image
+sealed_left name disk image may q = ⊎_elim
+    (λ (same : q ≡ name). subst (λ (n : Name). MayLeaveOne (get disk.standing n) (get disk.removed n) (get image n)) (sym same) (there (get disk.standing name) refl (may name)))
+    (λ (other : q ≢ name). at_same (sym (changed_elsewhere name disk sealed_file q other)) refl refl (may q))
+    (same_or_other q name)
+  where
+    back : (file : File) (left : Option (List ℕ)) → MayLeaveOne (Some (sealed_file file)) (get disk.removed name) left → MayLeaveOne (Some file) (get disk.removed name) left
+    back file None one = one
+    back file (Some bytes) one = record { durable = one.durable; whole = one.whole }
+
+    there : (file : Option File) → get disk.standing name ≡ file → MayLeaveOne (get (sealed name disk).standing name) (get disk.removed name) (get image name)
+        → MayLeaveOne (get disk.standing name) (get disk.removed name) (get image name)
+    there None is one = at_same (sym (ap (λ (o : Option File). get (placed name (option_map sealed_file o) disk.standing) name) is)) refl refl one
+    there (Some file) is one = at_same is refl refl (back file (get image name) (at_same (sym (changed_there name disk sealed_file file is)) refl refl one))
+
 pub cut_leaves : (name : Name) (len left : ℕ) (disk : DiskState) (image : Image) → len ≤ left → IsLawful disk → MayLeave disk image → MayLeave (cut_to name len left disk) image
 cut_leaves name len left disk image short lawful may = changed_leaves name (shortened len left) disk image keeps may
   where
@@ -245,3 +261,76 @@ synced_has_no_chance spells disk image whole name file bytes frame grows last to
   where
     apart : true ≡ false → ⊥
     apart e = cc
+
+-- ---- a hold, and what may match by chance
+
+some_file : (a b : File) → Some a ≡ Some b → b ≡ a
+some_file a b e = cc
+
+module _ (spells : Name → List ℕ → ℕ → List ℕ → Type 0) (name : Name) (disk : DiskState) (image : Image) where
+  -- what is asked of a file where a frame may match by chance; whether it is held makes no difference
+  abbrev WasHandedOver : Name → List ℕ → List ℕ → File → Type 0
+  WasHandedOver q bytes frame file = file.wholly_synced ≡ false → spells q bytes (torn_from file) frame
+      → Any (StandsIn (torn_from file) frame) file.due
+      × ((next : List ℕ) → spells q bytes (torn_from file + length frame) next → Any (StandsIn (torn_from file + length frame) next) file.due)
+
+  -- the file of this name before a hold, and behind it
+  abbrev IsHeldOr : Name → File → File → Type 0
+  IsHeldOr q before after = (last_file (get disk.standing q) (get disk.removed q) ≡ Some before) × (last_file (get (sealed name disk).standing q) (get disk.removed q) ≡ Some after)
+      × ((after ≡ sealed_file before) ⊎ (after ≡ before))
+
+  same_last : (q : Name) (a b : Option File) → a ≡ b → last_file a (get disk.removed q) ≡ last_file b (get disk.removed q)
+  same_last q a b e = ap (λ (o : Option File). last_file o (get disk.removed q)) e
+
+  free_alike : (q : Name) → get (sealed name disk).standing q ≡ get disk.standing q → (file : File) → last_file (get disk.standing q) (get disk.removed q) ≡ Some file → IsHeldOr q file file
+  free_alike q alike file last = (last, same_last q _ _ alike ∙ last, inr refl)
+
+  held_there : (before : File) → get disk.standing name ≡ Some before → IsHeldOr name before (sealed_file before)
+  held_there before is = (same_last name _ _ is, same_last name _ _ (changed_there name disk sealed_file before is), inl refl)
+
+  free_there : get disk.standing name ≡ None → get (sealed name disk).standing name ≡ get disk.standing name
+  free_there is = ap (λ (o : Option File). get (placed name (option_map sealed_file o) disk.standing) name) is
+
+  before_hold : (q : Name) (after : File) → last_file (get (sealed name disk).standing q) (get disk.removed q) ≡ Some after → (before : File) × IsHeldOr q before after
+  before_hold q after last = ⊎_elim
+      (λ (same : q ≡ name). subst (λ (n : Name). (before : File) × IsHeldOr n before after) (sym same) (there (get disk.standing name) refl (subst (λ (n : Name). last_file (get (sealed name disk).standing n) (get disk.removed n) ≡ Some after) same last)))
+      (λ (other : q ≢ name). let alike = changed_elsewhere name disk sealed_file q other in (after, free_alike q alike after (same_last q _ _ (sym alike) ∙ last)))
+      (same_or_other q name)
+    where
+      there : (stands : Option File) → get disk.standing name ≡ stands → last_file (get (sealed name disk).standing name) (get disk.removed name) ≡ Some after → (before : File) × IsHeldOr name before after
+      there None is last = let alike = free_there is in (after, free_alike name alike after (same_last name _ _ (sym alike) ∙ last))
+      there (Some before) is last =
+          let held = held_there before is in
+          (before, (held.0, last, inl (some_file (sealed_file before) after (sym held.1 ∙ last))))
+
+  behind_hold : (q : Name) (before : File) → last_file (get disk.standing q) (get disk.removed q) ≡ Some before → (after : File) × IsHeldOr q before after
+  behind_hold q before last = ⊎_elim
+      (λ (same : q ≡ name). subst (λ (n : Name). (after : File) × IsHeldOr n before after) (sym same) (there (get disk.standing name) refl (subst (λ (n : Name). last_file (get disk.standing n) (get disk.removed n) ≡ Some before) same last)))
+      (λ (other : q ≢ name). (before, free_alike q (changed_elsewhere name disk sealed_file q other) before last))
+      (same_or_other q name)
+    where
+      there : (stands : Option File) → get disk.standing name ≡ stands → last_file (get disk.standing name) (get disk.removed name) ≡ Some before → (after : File) × IsHeldOr name before after
+      there None is last = (before, free_alike name (free_there is) before last)
+      there (Some file) is last =
+          let held = held_there file is in
+          let same : before ≡ file = some_file file before (sym held.0 ∙ last) in
+          (sealed_file file, (last, held.1, inl (ap sealed_file (sym same))))
+
+  -- A hold adds no chance match,
+  pub sealed_chance : NoChanceMatch spells disk image → NoChanceMatch spells (sealed name disk) image
+  sealed_chance none q after bytes frame grows last torn is spelled =
+      let (before, (was, now, held)) = before_hold q after last in
+      ⊎_elim
+      (λ (e : after ≡ sealed_file before). subst (WasHandedOver q bytes frame) (sym e) (λ torn spelled. none q before bytes frame grows was torn is spelled))
+      (λ (e : after ≡ before). subst (WasHandedOver q bytes frame) (sym e) (λ torn spelled. none q before bytes frame grows was torn is spelled))
+      held torn spelled
+
+  -- and takes none away.
+  pub sealed_chance_before : NoChanceMatch spells (sealed name disk) image → NoChanceMatch spells disk image
+  sealed_chance_before none q before bytes frame grows last torn is spelled =
+      let (after, (was, now, held)) = behind_hold q before last in
+      let handed_over : WasHandedOver q bytes frame after = λ torn spelled. none q after bytes frame grows now torn is spelled in
+      ⊎_elim
+      (λ (e : after ≡ sealed_file before). (subst (WasHandedOver q bytes frame) e handed_over) torn spelled)
+      (λ (e : after ≡ before). (subst (WasHandedOver q bytes frame) e handed_over) torn spelled)
+      held

@@ -49,7 +49,7 @@ pub created_stands : (name : Name) (old new : Option DiskState) → Turns (creat
 created_stands name old new turns =
     turned (created name) old new (λ _. Unit {0}) (Stands name) turns (λ disk _. is_some (get (created name disk).standing name) _ (created_there name disk)) (λ _ _. tt)
 
--- ---- files that nobody holds
+-- ---- files that were not held
 
 unheld_file : (o : Option File) (file : File) → o ≡ Some file → file.held ≡ false → IsSomeAnd o (λ (f : File). f.held ≡ false)
 unheld_file o file is unheld = subst (λ (x : Option File). IsSomeAnd x (λ (f : File). f.held ≡ false)) (sym is) unheld

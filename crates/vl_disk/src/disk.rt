@@ -117,8 +117,8 @@ pub trait Disk {
         ensures cause { HasCause (faults self.old) (faults self.new) (IsErr result) }
         ensures spare { SameSpare (spare self.old) (spare self.new) };
 
-    /// Cuts a file to a length. What was to be cut off may come back until the next sync. If it fails, the file has that
-    /// length, its old one or one between, and no more than was to stay is durable.
+    /// Cuts a file to a length. What was to be cut off may come back until the next sync that answers Ok. If it fails, the
+    /// file has that length, its old one or one between, and no more than was to stay is durable.
     fn cut(&mut self, name: Name, len: u64) -> Result<(), Failed>
         requires unheld { ForSome (told self.old) (IsUnheld name) }
         requires inside { ForSome (told self.old) (IsInside name len) }
@@ -145,8 +145,7 @@ pub trait Disk {
         ensures cause { HasCause (faults self.old) (faults self.new) (IsErr result) }
         ensures spare { SameSpare (spare self.old) (spare self.new) };
 
-    /// Shares a file that is complete. From then on it isn't appended to or cut. Its bytes stay readable where it is
-    /// removed.
+    /// Shares a file, which isn't appended to or cut any more. Its bytes stay readable where it is removed.
     fn hold(&mut self, name: Name) -> Result<Self::Held, HoldFail>
         requires { ForSome (told self.old) (Stands name) }
         ensures held { IfOk result (λ held. ForSome (told self.old) (λ disk. Self.Held.bytes held ≡ Some (file_at disk name).bytes)) }

@@ -5,8 +5,8 @@ ghost use Rattle.vl_disk.specs.Disk.{HasCause};
 
 use crate::Failed;
 
-/// A file that is shared and complete: its bytes never change, also where the disk removes it. A clone is of the same
-/// file, and may find no memory.
+/// A file that a disk shares: its bytes never change, also where the disk removes it. A clone is of the same file, and may
+/// find no memory.
 pub trait HeldFile: Clone + Drop {
     /// Its bytes. One that doesn't tell them claims nothing of them.
     ghost bytes: { Self → Option (List ℕ) };
@@ -25,7 +25,7 @@ pub trait HeldFile: Clone + Drop {
     ghost shared: { (held copy : Self) → Self.is_clone held copy → (bytes copy ≡ bytes held) × (size copy ≡ size held) };
 }
 
-/// What reads held files, beside the disk and in any thread.
+/// What reads held files, beside the disk.
 pub trait Reader {
     type Held: HeldFile;
 

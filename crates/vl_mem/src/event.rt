@@ -3,7 +3,7 @@ ghost use Rattle.std.specs.Prelude.{◌≡◌, ◌+◌, ◌*◌, ◌<◌, ◌≤
 use std::alloc::AllocError;
 use vl_disk::Name;
 
-/// A changing call of a disk in memory that left something.
+/// A call of a disk in memory that left something: a changing one, or a hold.
 #[derive(Drop)]
 pub enum Event {
     Create(Name),

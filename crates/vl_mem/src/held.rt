@@ -1,4 +1,4 @@
-// A file that a disk in memory shares, and what reads it beside the disk.
+// A file that a disk in memory shares.
 ghost use Rattle.std.specs.Prelude.{◌≡◌, ℕ, ◌+◌, ◌≤◌, length, Some};
 ghost use Rattle.vl_mem.specs.Held.{held_bytes, same_size, same_shared};
 
