@@ -18,6 +18,7 @@ use Rattle.vl_replay.specs.Sequential.{State, empty_store, state_after}
 use Rattle.vl_replay.specs.Replay.{Exchange, exchange_at, exchanged, exchanges_from, and_later, history_after}
 use Rattle.vl_replay.specs.Durable.{logged, HoldsHistory, HoldsState, AreFirstOf, AreBetween, history_behind, EndsBetweenLines, CutsAnswer, GoesAlong, DiskEnds}
 use Rattle.vl_replay.specs.declared.ending.Ending.{Ending}
+use Rattle.vl_replay.specs.declared.ending.Ending.TheVariants.{NoMemory}
 use Rattle.vl_replay.proofs.Logged.{line_extends}
 use Rattle.vl_replay.proofs.Replays.{rose_earlier}
 
@@ -148,12 +149,14 @@ module _ {D : Type 0} (told : D → Option DiskState) (moment : D → ℕ) (sinc
   pub ends_within : (old new : D) (begun : ℕ) (ending : Ending) (least most : History) → HoldsThroughout moment since old new (Leaves (AreBetween least most)) → (now : DiskState) × (told new ≡ Some now)
       → ((Rose (faults old) (faults new) → ⊥) → (state : DiskState) × (told new ≡ Some state) × (HoldsHistory begun least state ⊎ HoldsHistory begun most state))
       → (EndsBetweenLines ending → (state : DiskState) × (told new ≡ Some state) × HoldsHistory begun least state)
-      → (CutsAnswer ending → (state : DiskState) × (told new ≡ Some state) × HoldsHistory begun most state) → DiskEnds told moment since faults old new ⊥ begun ending least [] most
-  ends_within old new begun ending least most through tells settled whole cut = record {
+      → (CutsAnswer ending → (state : DiskState) × (told new ≡ Some state) × HoldsHistory begun most state)
+      → (ending ≡ NoMemory → (state : DiskState) × (told new ≡ Some state) × HoldsHistory begun least state) → DiskEnds told moment since faults old new ⊥ begun ending least [] most
+  ends_within old new begun ending least most through tells settled whole cut no_memory = record {
     through = through;
     along = tt;
     now = (tells.0, tells.1, through.each tells.0 (counts_now new tells.0 (moment old) tells.1 through.later));
     settled = λ sound. let now = settled sound in (now.0, now.1, inr now.2);
+    no_memory = λ out. let now = no_memory out in (now.0, now.1, inr now.2);
     whole = whole;
     cut = cut;
   }
@@ -161,7 +164,7 @@ module _ {D : Type 0} (told : D → Option DiskState) (moment : D → ℕ) (sinc
   -- the disk was left alone
   pub ends_untouched : (most : History) (s : State) → Extends s.history most → (disk : D) (begun : ℕ) (ending : Ending) → (CutsAnswer ending → ⊥) → (state : DiskState) → told disk ≡ Some state → HoldsState begun s state → DiskEnds told moment since faults disk disk ⊥ begun ending s.history [] most
   ends_untouched most s extends disk begun ending none state is holds =
-      ends_within disk disk begun ending s.history most (rests told moment since only_now counts_now most s extends disk begun state is holds) (state, is) (λ sound. (state, is, inl holds.history)) (λ whole. (state, is, holds.history)) (λ cuts. absurd (none cuts))
+      ends_within disk disk begun ending s.history most (rests told moment since only_now counts_now most s extends disk begun state is holds) (state, is) (λ sound. (state, is, inl holds.history)) (λ whole. (state, is, holds.history)) (λ cuts. absurd (none cuts)) (λ out. (state, is, holds.history))
 
   -- the last line was answered
   pub ends_complete : (old new : D) (begun : ℕ) (before : State) (e : Exchange) → HoldsThroughout moment since old new (Leaves (AreBetween before.history e.after.history))
@@ -174,6 +177,7 @@ module _ {D : Type 0} (told : D → Option DiskState) (moment : D → ℕ) (sinc
         along = (new, through, (now, is, holds.history), rest, tt);
         now = (now, is, rest.each now (counts_now new now (moment new) is rest.later));
         settled = λ sound. (now, is, inr (inl holds.history));
+        no_memory = λ out. (now, is, inr holds.history);
         whole = λ whole. (now, is, holds.history);
         cut = λ cuts. (now, is, holds.history);
       }
@@ -194,6 +198,9 @@ module _ {D : Type 0} (told : D → Option DiskState) (moment : D → ℕ) (sinc
     settled = λ sound.
         let now = ends.settled (λ rose. sound (rose_earlier (faults first) (faults old) (faults new) earlier rose)) in
         (now.0, now.1, subst (λ (h : History). unopened ⊎ (HoldsHistory begun h now.0 ⊎ HoldsHistory begun most now.0)) same (⊎_elim (λ (never : ⊥). absurd never) (λ holds. inr holds) now.2));
+    no_memory = λ out.
+        let now = ends.no_memory out in
+        (now.0, now.1, subst (λ (h : History). unopened ⊎ HoldsHistory begun h now.0) same (⊎_elim (λ (never : ⊥). absurd never) (λ holds. inr holds) now.2));
     whole = λ between. let now = ends.whole between in (now.0, now.1, subst (λ (h : History). HoldsHistory begun h now.0) same now.2);
     cut = ends.cut;
   }

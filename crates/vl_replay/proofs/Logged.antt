@@ -21,7 +21,7 @@ use Rattle.vl_seglog.specs.Laws.{commit_frame-length, header_length, log_bytes-l
 use Rattle.vl_seglog.specs.Log.{Commit, commit_frame, log_bytes}
 use Rattle.vl_replay.specs.declared.replayer.limits.TheConstants.{MAX_OPEN, MAX_LOG_BYTES}
 use Rattle.vl_replay.specs.Durable.{numbered, logged, HoldsState}
-use Rattle.vl_replay.specs.Sequential.{State, Thing, Outcome, OpenTransaction, OpenView, empty_store, with_thing, without_thing, opened, found, read, read_in_transaction, is_lawful_write, written, committed, dropped, change_bytes, fits_transaction, frame_length, after_commit, state_after}
+use Rattle.vl_replay.specs.Sequential.{State, Thing, Outcome, OpenTransaction, OpenView, empty_store, with_thing, without_thing, opened, found, read, read_in_transaction, is_lawful_write, written, committed, dropped, change_bytes, fits_transaction, frame_length, after_commit, answer_to, state_after}
 
 -- ---- one commit more
 
@@ -158,4 +158,34 @@ line_extends s (Drop name) = same_logged _ _ (kept_dropped s name (get s.things 
 line_extends s (CommitLine name) = elim (committed_keeps s name (get s.things name)) [
   | inl kept ↦ same_logged _ _ kept.0
   | inr added ↦ one_logged _ _ added.0 added.1
+]
+
+-- ---- a line that gives no number makes no commit
+
+abbrev StaysOrNumbers : State → Outcome → Type 0
+StaysOrNumbers s o = (o.1.history ≡ s.history) ⊎ ((n : ℕ) × (o.0 ≡ Number n))
+
+committed_numbers : (s : State) (name : List ℕ) (thing : Option Thing) → StaysOrNumbers s (committed s name thing)
+committed_numbers s name None = inl refl
+committed_numbers s name (Some (OpenView number)) = inl refl
+committed_numbers s name (Some (OpenTransaction number reads writes)) =
+    let number = last_number s.history + 1 in
+    let fits = nat_le (s.log_length + frame_length writes) MAX_LOG_BYTES in
+    let done : Outcome = (Number number, after_commit s name writes) in
+    let has_number : Outcome = cond fits done (Full, s) in
+    let some : Outcome = cond (nat_le MAX_COMMIT_NUMBER (last_number s.history)) (Exhausted CommitNumber, s) has_number in
+    either (StaysOrNumbers s) (len writes == 0) (Nothing, without_thing s name) some (inl refl)
+    (either (StaysOrNumbers s) (nat_le MAX_COMMIT_NUMBER (last_number s.history)) (Exhausted CommitNumber, s) has_number (inl refl)
+    (either (StaysOrNumbers s) fits done (Full, s) (inr (number, refl)) (inl refl)))
+
+pub history_stays : (s : State) (line : Line) → ((n : ℕ) → answer_to s line ≡ Number n → ⊥) → (state_after s line).history ≡ s.history
+history_stays s (Begin name) none = (kept_opened s name (OpenTransaction (last_number s.history) [] empty)).0
+history_stays s (View name) none = (kept_opened s name (OpenView (last_number s.history))).0
+history_stays s (Get name key) none = (kept_read s name key (get s.things name)).0
+history_stays s (Set name key value) none = (kept_written s name key (Put value) (get s.things name)).0
+history_stays s (DeleteLine name key) none = (kept_written s name key Delete (get s.things name)).0
+history_stays s (Drop name) none = (kept_dropped s name (get s.things name)).0
+history_stays s (CommitLine name) none = elim (committed_numbers s name (get s.things name)) [
+  | inl stays ↦ stays
+  | inr numbered ↦ absurd (none numbered.0 numbered.1)
 ]

@@ -19,7 +19,7 @@ use Rattle.vl_replay.specs.Steps.{Causes, EndsBefore, EndsRun, Finishes}
 use Rattle.vl_replay.specs.declared.ending.Ending.{Ending}
 use Rattle.vl_replay.specs.declared.ending.Ending.TheVariants.{Complete, BadLine, BadWords, DiskFault, NotAStore, NoMemory, ReadFault, WriteFault, AnswerCut}
 use Rattle.vl_replay.proofs.Replays.{ends_weaker, finished, no_memory_ends, disk_fault_ends, not_a_store_ends, rose_earlier}
-use Rattle.vl_replay.proofs.Texts.{last_line_cuts_nothing}
+use Rattle.vl_replay.proofs.Texts.{last_line_cuts_nothing, fault_with_memory}
 use Rattle.vl_replay.proofs.DiskSteps.{exchanges_extend, leaves_weaker, ends_later}
 
 -- a fault that was counted since the store was opened was counted since the begin
@@ -47,6 +47,12 @@ not_whole ending result P Q none how whole = ⊎_elim
     (λ (cut : (result ≡ WriteFault) × Q). subst EndsBetweenLines cut.0 whole)
     how
 
+not_a_store_apart : why.NotAStore ≡ why.Disk → ⊥
+not_a_store_apart e = cc
+
+no_memory_apart : why.NoMemory ≡ why.Disk → ⊥
+no_memory_apart e = cc
+
 module _ {D : Type 0} (told : D → Option DiskState) (moment : D → ℕ) (since : D → ℕ → DiskState → Type 0) (faults : D → ℕ)
     (only_now : (disk : D) (state other : DiskState) → told disk ≡ Some state → since disk (moment disk) other → SameFiles other state)
     (counts_now : (disk : D) (state : DiskState) (t : ℕ) → told disk ≡ Some state → t ≤ moment disk → since disk t state) where
@@ -55,8 +61,9 @@ module _ {D : Type 0} (told : D → Option DiskState) (moment : D → ℕ) (sinc
       → ((state : DiskState) → told old ≡ Some state → IsEmpty state → HoldsThroughout moment since old new (Leaves IsNone))
       → ((state : DiskState) → told old ≡ Some state → (now : DiskState) × (told new ≡ Some now))
       → ((Rose (faults old) (faults new) → ⊥) → told new ≡ told old)
+      → (result ≡ NoMemory → told new ≡ told old)
       → DiskEndsFromEmpty told moment since faults old new result [] most
-  unopened old new ending result P Q most none none_cut how through tells kept state is empty =
+  unopened old new ending result P Q most none none_cut how through tells kept kept_out state is empty =
       let through' = through state is empty in
       let now = tells state is in
       record {
@@ -64,6 +71,7 @@ module _ {D : Type 0} (told : D → Option DiskState) (moment : D → ℕ) (sinc
         along = tt;
         now = (now.0, now.1, leaves_weaker IsNone (AreBetween empty_store.history most) (none_within most) now.0 (through'.each now.0 (counts_now new now.0 (moment old) now.1 through'.later)));
         settled = λ sound. (state, kept sound ∙ is, inl (kept sound));
+        no_memory = λ out. (state, kept_out out ∙ is, inl (kept_out out));
         whole = λ whole. absurd (not_whole ending result P Q none how whole);
         cut = λ cuts. absurd (last_line_cuts_nothing ending result P Q none_cut how cuts);
       }
@@ -73,9 +81,10 @@ module _ {D : Type 0} (told : D → Option DiskState) (moment : D → ℕ) (sinc
       → ((state : DiskState) → told old ≡ Some state → IsEmpty state → HoldsThroughout moment since old new (Leaves IsNone))
       → ((state : DiskState) → told old ≡ Some state → (now : DiskState) × (told new ≡ Some now))
       → ((Rose (faults old) (faults new) → ⊥) → told new ≡ told old)
+      → (result ≡ NoMemory → told new ≡ told old)
       → EndsRun cause (DiskEndsFromEmpty told moment since faults old new) empty_store 0 input left asked result held held'
-  ends_unopened cause old new ending result P Q input left asked held held' none none_cut how (printed, printed_is, run) kept_up through tells kept =
-      (printed, 0, printed_is, run, kept_up, unopened old new ending result P Q (history_after empty_store.history (take 1 (exchanges_from empty_store (lines_of input)))) none none_cut how through tells kept)
+  ends_unopened cause old new ending result P Q input left asked held held' none none_cut how (printed, printed_is, run) kept_up through tells kept kept_out =
+      (printed, 0, printed_is, run, kept_up, unopened old new ending result P Q (history_after empty_store.history (take 1 (exchanges_from empty_store (lines_of input)))) none none_cut how through tells kept kept_out)
 
   -- the store wasn't opened, and the last line says why
   pub ends_refused : (how : Why) (cause : Ending → Type 0) (old new : D) (result : Ending) (P Q : Type 0) (input : List ℕ) (left asked held held' : Option (List ℕ)) → (how ≡ why.NotAStore → cause NotAStore) → (how ≡ why.Disk → cause DiskFault) → left ≡ Some input
@@ -83,19 +92,20 @@ module _ {D : Type 0} (told : D → Option DiskState) (moment : D → ℕ) (sinc
       → ((state : DiskState) → told old ≡ Some state → IsEmpty state → HoldsThroughout moment since old new (Leaves IsNone))
       → ((state : DiskState) → told old ≡ Some state → (now : DiskState) × (told new ≡ Some now))
       → ((Rose (faults old) (faults new) → ⊥) → told new ≡ told old)
+      → ((how ≡ why.Disk → ⊥) → told new ≡ told old)
       → EndsRun cause (DiskEndsFromEmpty told moment since faults old new) empty_store 0 input left asked result held held'
-  ends_refused why.NotAStore cause old new result P Q input left asked held held' occupied fault told_is finishes counts kept_up through tells kept =
+  ends_refused why.NotAStore cause old new result P Q input left asked held held' occupied fault told_is finishes counts kept_up through tells kept unfailed =
       let ends = not_a_store_ends cause empty_store 0 input left (occupied refl) told_is in
       ends_unopened cause old new NotAStore result P Q input left asked held held' (λ never. never) (λ never. never) counts
-      (finished cause (exchanges_from empty_store (lines_of input)) (length (lines_of input)) 0 input left NotAStore result not_a_store_line held held' ends.0 ends.1 finishes) kept_up through tells kept
-  ends_refused why.NoMemory cause old new result P Q input left asked held held' occupied fault told_is finishes counts kept_up through tells kept =
+      (finished cause (exchanges_from empty_store (lines_of input)) (length (lines_of input)) 0 input left NotAStore result not_a_store_line held held' ends.0 ends.1 finishes) kept_up through tells kept (λ out. unfailed not_a_store_apart)
+  ends_refused why.NoMemory cause old new result P Q input left asked held held' occupied fault told_is finishes counts kept_up through tells kept unfailed =
       let ends = no_memory_ends cause empty_store 0 input left in
       ends_unopened cause old new NoMemory result P Q input left asked held held' (λ never. never) (λ never. never) counts
-      (finished cause (exchanges_from empty_store (lines_of input)) (length (lines_of input)) 0 input left NoMemory result no_memory_line held held' ends.0 ends.1 finishes) kept_up through tells kept
-  ends_refused why.Disk cause old new result P Q input left asked held held' occupied fault told_is finishes counts kept_up through tells kept =
+      (finished cause (exchanges_from empty_store (lines_of input)) (length (lines_of input)) 0 input left NoMemory result no_memory_line held held' ends.0 ends.1 finishes) kept_up through tells kept (λ out. unfailed no_memory_apart)
+  ends_refused why.Disk cause old new result P Q input left asked held held' occupied fault told_is finishes counts kept_up through tells kept unfailed =
       let ends = disk_fault_ends cause empty_store 0 input left (fault refl) in
       ends_unopened cause old new DiskFault result P Q input left asked held held' (λ never. never) (λ never. never) counts
-      (finished cause (exchanges_from empty_store (lines_of input)) (length (lines_of input)) 0 input left DiskFault result disk_fault_line held held' ends.0 ends.1 finishes) kept_up through tells kept
+      (finished cause (exchanges_from empty_store (lines_of input)) (length (lines_of input)) 0 input left DiskFault result disk_fault_line held held' ends.0 ends.1 finishes) kept_up through tells kept (λ out. absurd (fault_with_memory result P Q counts (ap Some out)))
 
   -- the store was opened before the first line
   along_opened : (first mid new : D) (begun : ℕ) (most : History) (answered : List Exchange) → HoldsThroughout moment since first mid (Leaves IsNone) → GoesAlong told moment since new begun most mid empty_store.history answered → GoesAlong told moment since new begun most first empty_store.history answered

@@ -37,7 +37,7 @@ module _ {D : Type 0} (told : D → Option DiskState) (moment : D → ℕ) (sinc
     pub untouched : (ending : Ending) (most : History) → (CutsAnswer ending → ⊥) → Extends s.history most → DiskEndsFrom told moment since faults old old s ending [] most
     untouched ending most none extends begun state is holds = ends_untouched told moment since faults only_now counts_now most s extends old begun ending none state is holds
 
-    module _ (text : List ℕ) (ended : Option Ending) (takes : (begun : ℕ) (state : DiskState) → told old ≡ Some state → HoldsState begun s state → CarriesOutText told moment since faults old new begun s text (IsAnswered ended)) where
+    module _ (text : List ℕ) (ended : Option Ending) (takes : (begun : ℕ) (state : DiskState) → told old ≡ Some state → HoldsState begun s state → CarriesOutText told moment since faults old new begun s text (IsAnswered ended) (ended ≡ Some NoMemory)) where
       -- the bad line left the disk as it was
       whole_of : (cause : Ending → Type 0) (texts : List (List ℕ)) (lines before : ℕ) (bytes : List ℕ) (left : Option (List ℕ)) (ending : Ending) (printed : List ℕ) → lines_of bytes ≡ text ∷ texts → ended ≡ Some ending → ended ≢ Some ReadFault
           → Replays cause s before bytes left 0 ending printed → EndsBetweenLines ending → (begun : ℕ) (state : DiskState) → told old ≡ Some state → HoldsState begun s state → (now : DiskState) × (told new ≡ Some now) × HoldsHistory begun s.history now
@@ -89,12 +89,13 @@ module _ {D : Type 0} (told : D → Option DiskState) (moment : D → ℕ) (sinc
                 let t' = takes begun state told_is holds in
                 ends_within told moment since faults only_now counts_now old new begun ending s.history behind t'.through t'.tells t'.settled
                 (λ whole. whole_of (Causes f t fd td ⊥) texts 0 before bytes left ending printed lines is readable run whole begun state told_is holds)
-                (λ cuts. cut_of (Causes f t fd td ⊥) texts before bytes left ending printed lines is run cuts begun state told_is holds)),
+                (λ cuts. cut_of (Causes f t fd td ⊥) texts before bytes left ending printed lines is run cuts begun state told_is holds)
+                (λ out. t'.no_memory (is ∙ ap Some out))),
           )
 
   -- a line that was read with its end was answered, or the run ended there
   pub step_line : (f t fd td : ℕ) (old new : D) (s : State) (before : ℕ) (had line buffer : List ℕ) (left asked : Option (List ℕ)) (after : Store) (ended : Option Ending) (held held' : Option (List ℕ)) →
-      ReadsLine WholeLine had line buffer left → StepsOn fd td s before line after ended held held' → ((begun : ℕ) (state : DiskState) → told old ≡ Some state → HoldsState begun s state → CarriesOutText told moment since faults old new begun s line (IsAnswered ended)) → ended ≢ Some ReadFault →
+      ReadsLine WholeLine had line buffer left → StepsOn fd td s before line after ended held held' → ((begun : ℕ) (state : DiskState) → told old ≡ Some state → HoldsState begun s state → CarriesOutText told moment since faults old new begun s line (IsAnswered ended) (ended ≡ Some NoMemory)) → ended ≢ Some ReadFault →
       KeepsUp had asked 0 → GoesOn told moment since faults old new (Causes f t fd td ⊥) s before had after buffer left asked ended held held'
   step_line f t fd td old new s before had line buffer left asked after None held held' (rest, told_is, parts, unended) (e, is, stands, printed) takes readable kept_up = (
     e,
@@ -119,7 +120,7 @@ module _ {D : Type 0} (told : D → Option DiskState) (moment : D → ℕ) (sinc
 
   -- the last line was answered, and so the run is complete, or it ended there
   pub step_last : (f t fd td : ℕ) (old new : D) (s : State) (before : ℕ) (had line buffer : List ℕ) (left asked : Option (List ℕ)) (after : Store) (ended : Option Ending) (result : Ending) (held held' : Option (List ℕ)) →
-      ReadsLine LastLine had line buffer left → StepsOn fd td s before line after ended held held' → ((begun : ℕ) (state : DiskState) → told old ≡ Some state → HoldsState begun s state → CarriesOutText told moment since faults old new begun s line (IsAnswered ended)) → ended ≢ Some ReadFault →
+      ReadsLine LastLine had line buffer left → StepsOn fd td s before line after ended held held' → ((begun : ℕ) (state : DiskState) → told old ≡ Some state → HoldsState begun s state → CarriesOutText told moment since faults old new begun s line (IsAnswered ended) (ended ≡ Some NoMemory)) → ended ≢ Some ReadFault →
       result ≡ unwrap_or ended Complete → KeepsUp had asked 0 → EndsRun (Causes f t fd td ⊥) (DiskEndsFrom told moment since faults old new s) s before had left asked result held held'
   step_last f t fd td old new s before had line buffer left asked after None result held held' (told_is, same, unended, some) (e, is, stands, printed) takes readable r kept_up =
       let lines : lines_of had ≡ line ∷ [] = ap lines_of same ∙ lines_of-unended line unended some in

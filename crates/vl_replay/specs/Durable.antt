@@ -60,11 +60,12 @@ abbrev pub history_behind : History → Option Exchange → History
 history_behind h None = h
 history_behind h (Some e) = e.after.history
 
--- A text was taken for a line over a disk that holds the state before it. Where it is a bad line nothing was changed, and
--- where the disk didn't fail nothing is left half done.
-pub record CarriesOutText {D : Type 0} (told : D → Option DiskState) (moment : D → ℕ) (since : D → ℕ → DiskState → Type 0) (faults : D → ℕ) (old new : D) (begun : ℕ) (s : State) (text : List ℕ) (done : Type 0) : Type 0 where
+-- A text was taken for a line over a disk that holds the state before it. Where it is a bad line or memory ran out, no
+-- commit was added, and where the disk didn't fail nothing is left half done.
+pub record CarriesOutText {D : Type 0} (told : D → Option DiskState) (moment : D → ℕ) (since : D → ℕ → DiskState → Type 0) (faults : D → ℕ) (old new : D) (begun : ℕ) (s : State) (text : List ℕ) (done ran_out : Type 0) : Type 0 where
   pub answered : done → (e : Exchange) → exchange_at s text ≡ Some e → (now : DiskState) × (told new ≡ Some now) × HoldsState begun e.after now
   pub bad : done → exchange_at s text ≡ None → (now : DiskState) × (told new ≡ Some now) × HoldsHistory begun s.history now
+  pub no_memory : ran_out → (now : DiskState) × (told new ≡ Some now) × HoldsHistory begun s.history now
   pub settled : (Rose (faults old) (faults new) → ⊥) → (now : DiskState) × (told new ≡ Some now) × (HoldsHistory begun s.history now ⊎ HoldsHistory begun (history_behind s.history (exchange_at s text)) now)
   pub tells : (now : DiskState) × (told new ≡ Some now)
   pub through : HoldsThroughout moment since old new (Leaves (AreBetween s.history (history_behind s.history (exchange_at s text))))
@@ -93,17 +94,17 @@ CutsAnswer ReadFault = ⊥
 CutsAnswer WriteFault = ⊥
 CutsAnswer AnswerCut = Unit {0}
 
--- The disk went on while these lines were answered, one after the other, from one that held the commits of a history. For
--- each line there is what the disk was behind it: it held the commits up to that line and nothing else, all of it synced.
--- What a crash leaves meanwhile shows the commits before the line or those after it, and what one leaves from then on,
--- until the run's end, shows at least the latter.
+-- The disk went, from one that held the commits of a history, through one for each of these lines, in order: that of a line
+-- held the commits up to it and nothing else, all of it synced. What a crash leaves at a moment between that of the line
+-- before and it shows the commits before the line or those after it, and what one leaves from it on, until the run's end,
+-- shows at least the latter, without a chance match. When the line was answered isn't said.
 abbrev pub GoesAlong : {D : Type 0} (told : D → Option DiskState) (moment : D → ℕ) (since : D → ℕ → DiskState → Type 0) (new : D) (begun : ℕ) (most : History) → D → History → List Exchange → Type 0
 GoesAlong told moment since new begun most disk h [] = Unit {0}
 GoesAlong {D} told moment since new begun most disk h (e ∷ later) =
-    (behind : D) × HoldsThroughout moment since disk behind (Leaves (AreBetween h e.after.history))
-    × ((state : DiskState) × (told behind ≡ Some state) × HoldsHistory begun e.after.history state)
-    × HoldsThroughout moment since behind new (Leaves (AreBetween e.after.history most))
-    × GoesAlong told moment since new begun most behind e.after.history later
+    (passed : D) × HoldsThroughout moment since disk passed (Leaves (AreBetween h e.after.history))
+    × ((state : DiskState) × (told passed ≡ Some state) × HoldsHistory begun e.after.history state)
+    × HoldsThroughout moment since passed new (Leaves (AreBetween e.after.history most))
+    × GoesAlong told moment since new begun most passed e.after.history later
 
 -- What a run that ended so did to a disk, which had been asked for some changing calls: by the history at its begin, the
 -- lines that it answered, and the history that may stand, with one line more, which doesn't count as answered. The commits
@@ -112,13 +113,16 @@ pub record DiskEnds {D : Type 0} (told : D → Option DiskState) (moment : D →
   -- what a crash at any moment since the begin leaves shows a first part of the commits, if no torn bytes spell a frame by
   -- chance
   pub through : HoldsThroughout moment since old new (Leaves (AreBetween first most))
-  -- and each answered line has its place on the disk's clock, one after the other, from which on they show its commit too
+  -- and the disk went through one for each answered line, from which on a crash leaves its commit too
   pub along : GoesAlong told moment since new begun most old first answered
-  -- and so what a crash now leaves shows each acknowledged one
+  -- what a crash leaves after the run's end shows each acknowledged one, over a disk of which each call from some put on
+  -- failed too
   pub now : (state : DiskState) × (told new ≡ Some state) × Leaves (AreBetween (history_after first answered) most) state
   -- where the disk didn't fail nothing is torn: it wasn't opened, or holds the acknowledged commits, or these and that of
   -- one line more
   pub settled : (Rose (faults old) (faults new) → ⊥) → (state : DiskState) × (told new ≡ Some state) × (unopened ⊎ (HoldsHistory begun (history_after first answered) state ⊎ HoldsHistory begun most state))
+  -- where the run ended as one out of memory, it wasn't opened, or holds just the acknowledged ones
+  pub no_memory : ending ≡ NoMemory → (state : DiskState) × (told new ≡ Some state) × (unopened ⊎ HoldsHistory begun (history_after first answered) state)
   -- where the run ended between two lines, the disk holds just the acknowledged ones
   pub whole : EndsBetweenLines ending → (state : DiskState) × (told new ≡ Some state) × HoldsHistory begun (history_after first answered) state
   -- and where it ended while an answer was put, the commit of that answer's line too

@@ -4,7 +4,8 @@ ghost use Rattle.vl_disk.specs.DiskState.{DiskState};
 ghost use Rattle.vl_disk.specs.Disk.{IsUnheld, HasCause};
 ghost use Rattle.vl_journal.specs.declared.names.TheConstants.{LOG};
 ghost use Rattle.vl_replay.specs.Durable.{HoldsState, CarriesOutText};
-ghost use Rattle.vl_replay.specs.declared.replayer.halt.Halt.TheVariants.{Disk as DiskHalt};
+ghost use Rattle.vl_replay.specs.declared.replayer.halt.Halt.TheVariants.{Disk as DiskHalt, NoMemory as NoRoom};
+ghost use Rattle.vl_replay.specs.declared.ending.Ending.TheVariants.{NoMemory};
 ghost use Rattle.vl_replay.specs.Sequential.{State};
 ghost use Rattle.vl_replay.specs.Represents.{Represents};
 ghost use Rattle.vl_replay.specs.Replay.{line_number};
@@ -16,9 +17,10 @@ use crate::replayer::{Halt, Replayer};
 use std::alloc::Global;
 use vl_disk::Disk;
 use vl_io::Sink;
-use vl_script::{parse_line, print_answer, print_bad_line};
+use vl_script::{NUMBER_ROOM, parse_line, print_answer, print_bad_line};
 
-/// The text that answers a line; None where it is a bad line.
+/// The text that answers a line; None where it is a bad line. The room for the answer to a commit is there before the
+/// commit, so that no commit stands whose answer found no memory.
 fn answer_text<D: Disk>(
     alloc: Global,
     replayer: &mut Replayer<D>,
@@ -27,15 +29,17 @@ fn answer_text<D: Disk>(
     requires { ForSome (D.told replayer.old.disk) (IsUnheld LOG) }
     ensures answers { (s : State) → Represents replayer.old.store s → IfOk result (λ out. Answers s text.now replayer.new.store (option_map (λ text. text.items) out)) }
     ensures takes { (begun : ℕ) (s : State) (state : DiskState) → Represents replayer.old.store s → D.told replayer.old.disk ≡ Some state → HoldsState begun s state
-        → CarriesOutText D.told D.moment D.states_since D.faults replayer.old.disk replayer.new.disk begun s text.now (IsOk result) }
+        → CarriesOutText D.told D.moment D.states_since D.faults replayer.old.disk replayer.new.disk begun s text.now (IsOk result) (result ≡ Err NoRoom) }
     ensures unheld { ForSome (D.told replayer.new.disk) (IsUnheld LOG) }
     ensures cause { HasCause (D.faults replayer.old.disk) (D.faults replayer.new.disk) (result ≡ Err DiskHalt) }
 {
     let Some(line) = parse_line(alloc, text)? else {
         return Ok(None);
     };
+    let mut out = Vec::with_capacity(alloc, NUMBER_ROOM)?;
     let answer = replayer.line(line)?;
-    Ok(Some(print_answer(alloc, &answer)?))
+    print_answer(alloc, &mut out, &answer)?;
+    Ok(Some(out))
 }
 
 /// Ends a run at a bad line, with so many lines answered before it.
@@ -44,8 +48,9 @@ pub fn refuse<K: Sink>(alloc: Global, answered: u64, sink: &mut K) -> Ending
     ensures faults { SinkCounts result (K.faults sink.old) (K.faults sink.new) }
     ensures ending { EndsAtBadLine result }
 {
-    match print_bad_line(alloc, answered.saturating_add(1)) {
-        Ok(line) => finish(sink, &line, Ending::BadLine),
+    let mut line = Vec::new(alloc);
+    match print_bad_line(&mut line, answered.saturating_add(1)) {
+        Ok(()) => finish(sink, &line, Ending::BadLine),
         Err(_) => finish(sink, NO_MEMORY, Ending::NoMemory),
     }
 }
@@ -63,9 +68,9 @@ pub fn answer<K: Sink, D: Disk>(
         → StepsOn fd (D.faults replayer.new.disk) s before text.now replayer.new.store result (K.held sink.old) (K.held sink.new) }
     ensures faults { MatchOption result (K.faults sink.new ≡ K.faults sink.old) (λ ending. SinkCounts ending (K.faults sink.old) (K.faults sink.new)) }
 
-    // Where the line was answered, or refused as a bad one, the disk holds what it should.
+    // Where the line was answered, or refused as a bad one, or memory ran out, the disk holds what it should.
     ensures takes { (begun : ℕ) (s : State) (state : DiskState) → Represents replayer.old.store s → D.told replayer.old.disk ≡ Some state → HoldsState begun s state
-        → CarriesOutText D.told D.moment D.states_since D.faults replayer.old.disk replayer.new.disk begun s text.now (IsAnswered result) }
+        → CarriesOutText D.told D.moment D.states_since D.faults replayer.old.disk replayer.new.disk begun s text.now (IsAnswered result) (result ≡ Some NoMemory) }
     ensures unheld { ForSome (D.told replayer.new.disk) (IsUnheld LOG) }
     ensures disk_faults { DiskCounts result (D.faults replayer.old.disk) (D.faults replayer.new.disk) }
 {

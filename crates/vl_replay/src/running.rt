@@ -67,7 +67,7 @@ impl<D: Disk> Progress<D> {
         ensures same { self.new.buffer ≡ self.old.buffer }
         ensures faults { MatchOption result (K.faults sink.new ≡ K.faults sink.old) (λ ending. SinkCounts ending (K.faults sink.old) (K.faults sink.new)) }
         ensures takes { (begun : ℕ) (s : State) (state : DiskState) → Represents self.old.replayer.store s → D.told self.old.replayer.disk ≡ Some state → HoldsState begun s state
-            → CarriesOutText D.told D.moment D.states_since D.faults self.old.replayer.disk self.new.replayer.disk begun s self.old.line.items (IsAnswered result) }
+            → CarriesOutText D.told D.moment D.states_since D.faults self.old.replayer.disk self.new.replayer.disk begun s self.old.line.items (IsAnswered result) (result ≡ Some Ending.NoMemory) }
         ensures unheld { ForSome (D.told self.new.replayer.disk) (IsUnheld LOG) }
         ensures disk_faults { DiskCounts result (D.faults self.old.replayer.disk) (D.faults self.new.replayer.disk) }
     {

@@ -6,7 +6,7 @@ use vl_model::{Counter, Value};
 pub enum Answer {
     /// `ok`
     Done,
-    /// `ok N`: the number of the last commit at a begin, or of the commit that was made.
+    /// `ok N`: the number of the last commit, at a begin or a view, or of the commit that was made.
     Number { number: u64 },
     /// `value V`
     Found { value: Value },

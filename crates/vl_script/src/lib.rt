@@ -13,4 +13,4 @@ pub use answer::Answer;
 pub use limits::{MAX_IDENT_BYTES, MAX_LINE_BYTES};
 pub use line::{Ident, Line};
 pub use parse::parse_line;
-pub use print::{print_answer, print_bad_line};
+pub use print::{NUMBER_ROOM, print_answer, print_bad_line};

@@ -1,64 +1,66 @@
-ghost use Rattle.std.specs.Prelude.{◌≡◌, ◌++◌, ◌∷◌, [], codes, IfOk};
+ghost use Rattle.std.specs.Prelude.{◌≡◌, ◌+◌, ◌≤◌, ◌++◌, ◌∷◌, ℕ, [], codes, length, vec_capacity, IsOk, IfOk, OnOk};
 ghost use Rattle.std.specs.Fmt.{decimal};
 ghost use Rattle.std.specs.String.{string_bytes};
 ghost use Rattle.vl_script.specs.Script.{bytes_text, counter_text, text_of};
+ghost use Rattle.vl_script.specs.declared.answer.Answer.TheVariants.{Number};
 
 use crate::Answer;
 use std::alloc::{AllocError, Global};
 use vl_model::{Bytes, Counter};
 
-/// What is printed for an answer: its text, and its line's end.
-pub fn print_answer(alloc: Global, answer: &Answer) -> Result<Vec<u8>, AllocError>
-    ensures { IfOk result (λ text. text.items ≡ text_of answer.now) }
+/// The room, in bytes, that the text of an answer with a number takes at most.
+pub const NUMBER_ROOM: usize = 24;
+
+/// Appends what is printed for an answer: its text, and its line's end. Where memory is missing, some first bytes of it may
+/// have been appended. An answer with a number wants none where the text has `NUMBER_ROOM` left.
+pub fn print_answer(alloc: Global, text: &mut Vec<u8>, answer: &Answer) -> Result<(), AllocError>
+    ensures text { OnOk result (text.new.items ≡ text.old.items ++ text_of answer.now) }
+    ensures room { (number : ℕ) → answer.now ≡ Number number → length text.old.items + NUMBER_ROOM ≤ vec_capacity text.old → IsOk result }
 {
     match answer {
-        Answer::Done => print_word(alloc, b"ok"),
-        Answer::Number { number } => print_number(alloc, b"ok ", *number),
-        Answer::Found { value } => {
-            print_line(alloc, b"value ", encode(alloc, value)?.as_bytes())
-        }
-        Answer::NoValue => print_word(alloc, b"none"),
-        Answer::Taken { name } => print_line(alloc, b"taken ", name.as_slice()),
-        Answer::Unknown { name } => print_line(alloc, b"unknown ", name.as_slice()),
-        Answer::ReadOnly => print_word(alloc, b"readonly"),
-        Answer::Invalid => print_word(alloc, b"invalid"),
-        Answer::TooBig => print_word(alloc, b"toobig"),
-        Answer::TooMany => print_word(alloc, b"toomany"),
-        Answer::Nothing => print_word(alloc, b"nothing"),
-        Answer::Full => print_word(alloc, b"full"),
+        Answer::Done => print_line(text, b"ok", b""),
+        Answer::Number { number } => print_number(text, b"ok ", *number),
+        Answer::Found { value } => print_line(text, b"value ", encode(alloc, value)?.as_bytes()),
+        Answer::NoValue => print_line(text, b"none", b""),
+        Answer::Taken { name } => print_line(text, b"taken ", name.as_slice()),
+        Answer::Unknown { name } => print_line(text, b"unknown ", name.as_slice()),
+        Answer::ReadOnly => print_line(text, b"readonly", b""),
+        Answer::Invalid => print_line(text, b"invalid", b""),
+        Answer::TooBig => print_line(text, b"toobig", b""),
+        Answer::TooMany => print_line(text, b"toomany", b""),
+        Answer::Nothing => print_line(text, b"nothing", b""),
+        Answer::Full => print_line(text, b"full", b""),
         Answer::Exhausted { counter } => {
-            print_line(alloc, b"exhausted ", counter_name(*counter).as_bytes())
+            print_line(text, b"exhausted ", counter_name(*counter).as_bytes())
         }
     }
 }
 
-/// What is printed for a bad line, the first line being line 1.
-pub fn print_bad_line(alloc: Global, number: u64) -> Result<Vec<u8>, AllocError>
-    ensures { IfOk result (λ text. text.items ≡ codes "bad line " ++ decimal number ++ (10 ∷ [])) }
+/// Appends what is printed for a bad line, the first line being line 1. Where memory is missing, some first bytes of it may
+/// have been appended.
+pub fn print_bad_line(text: &mut Vec<u8>, number: u64) -> Result<(), AllocError>
+    ensures { OnOk result (text.new.items ≡ text.old.items ++ codes "bad line " ++ decimal number ++ (10 ∷ [])) }
 {
-    print_number(alloc, b"bad line ", number)
+    print_number(text, b"bad line ", number)
 }
 
-fn print_word(alloc: Global, word: &[u8]) -> Result<Vec<u8>, AllocError>
-    ensures { IfOk result (λ text. text.items ≡ word.now ++ (10 ∷ [])) }
+fn print_number(text: &mut Vec<u8>, front: &[u8], number: u64) -> Result<(), AllocError>
+    ensures text { OnOk result (text.new.items ≡ text.old.items ++ front.now ++ decimal number ++ (10 ∷ [])) }
+    ensures room { length text.old.items + length front.now + 21 ≤ vec_capacity text.old → IsOk result }
 {
-    print_line(alloc, word, b"")
-}
-
-fn print_number(alloc: Global, front: &[u8], number: u64) -> Result<Vec<u8>, AllocError>
-    ensures { IfOk result (λ text. text.items ≡ front.now ++ decimal number ++ (10 ∷ [])) }
-{
-    print_line(alloc, front, number.to_string(alloc)?.as_bytes())
+    let mut digits = itoa::Buffer::new();
+    print_line(text, front, digits.format(number).as_bytes())
 }
 
 // Both parts, and the line's end.
-fn print_line(alloc: Global, front: &[u8], back: &[u8]) -> Result<Vec<u8>, AllocError>
-    ensures { IfOk result (λ text. text.items ≡ front.now ++ back.now ++ (10 ∷ [])) }
+fn print_line(text: &mut Vec<u8>, front: &[u8], back: &[u8]) -> Result<(), AllocError>
+    ensures text { OnOk result (text.new.items ≡ text.old.items ++ front.now ++ back.now ++ (10 ∷ [])) }
+    ensures room { length text.old.items + length front.now + length back.now + 1 ≤ vec_capacity text.old → IsOk result }
 {
-    let mut text = Vec::from_slice(alloc, front)?;
+    text.extend_from_slice(front)?;
     text.extend_from_slice(back)?;
     text.push(b'\n')?;
-    Ok(text)
+    Ok(())
 }
 
 fn encode(alloc: Global, bytes: &Bytes) -> Result<String, AllocError>

@@ -140,7 +140,8 @@ fn prints_answers(rt: HostRuntime) -> Result<(), Fail> {
         (exhausted(Counter::Version), "exhausted version\n"),
     ];
     for (answer, wanted) in table {
-        let text = print_answer(alloc, &answer)?;
+        let mut text = Vec::new(alloc);
+        print_answer(alloc, &mut text, &answer)?;
         assert!(rt; text.as_slice() == wanted.as_bytes(), "{wanted}");
     }
     Ok(())
@@ -148,7 +149,8 @@ fn prints_answers(rt: HostRuntime) -> Result<(), Fail> {
 
 #[test]
 fn prints_the_number_of_a_bad_line(rt: HostRuntime) -> Result<(), Fail> {
-    let text = print_bad_line(rt.alloc(), 12)?;
+    let mut text = Vec::new(rt.alloc());
+    print_bad_line(&mut text, 12)?;
     assert!(rt; text.as_slice() == b"bad line 12\n".as_slice());
     Ok(())
 }

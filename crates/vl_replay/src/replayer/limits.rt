@@ -1,8 +1,5 @@
 /// How many transactions and views may be open together.
 pub const MAX_OPEN: usize = 1;
 
-/// How many bytes a log has before its first commit.
-pub const LOG_HEADER_BYTES: u64 = 16;
-
 /// The longest log, in bytes.
 pub const MAX_LOG_BYTES: u64 = 1_073_741_824;

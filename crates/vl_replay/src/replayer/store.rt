@@ -16,7 +16,6 @@ ghost use Rattle.vl_replay.specs.Represents.{Represents, Gives, StandsFor, thing
 #[cfg(test)]
 mod tests;
 
-use crate::replayer::limits::LOG_HEADER_BYTES;
 use crate::replayer::writes::value_len;
 use crate::replayer::{Halt, MAX_LOG_BYTES, Memtable, Open, Thing, Writes};
 use std::alloc::Global;
@@ -24,7 +23,7 @@ use vl_disk::Disk;
 use vl_journal::{NUMBER, write_staged};
 use vl_model::{Bytes, Change, Counter, Key, MAX_COMMIT_NUMBER, MAX_KEY_BYTES, MAX_VALUE_BYTES};
 use vl_script::{Answer, Ident, Line};
-use vl_seglog::ActiveLog;
+use vl_seglog::{ActiveLog, LOG_HEADER_BYTES};
 
 /// Commits in memory, of which each is written to a disk before it is answered, and what the script has open.
 #[derive(Drop)]
@@ -44,7 +43,7 @@ impl Store {
         Store {
             alloc,
             last: 0,
-            log_length: LOG_HEADER_BYTES,
+            log_length: LOG_HEADER_BYTES as u64,
             memtable: Memtable::new(alloc),
             in_use: None,
         }
