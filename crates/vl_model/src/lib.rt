@@ -1,4 +1,5 @@
-//! What a store is about, whatever it is made of: keys, values, limits, histories of commits, and what a reader noted.
+//! What a store is about, whatever it is made of: keys, values, limits, pointers, histories of commits, and what a reader
+//! noted.
 #![tactic(auto)]
 
 mod bytes;
@@ -6,6 +7,7 @@ mod change;
 mod counter;
 mod laws;
 mod limits;
+mod pointer;
 mod way;
 
 pub use bytes::{Bytes, Key, Value};
@@ -15,6 +17,7 @@ pub use laws::{contents_agree_with_values, value_after_one_more_commit, value_wi
 pub use limits::{
     MAX_COMMIT_NUMBER, MAX_KEY_BYTES, MAX_TRANSACTION_BYTES, MAX_TRANSACTION_KEYS, MAX_VALUE_BYTES,
 };
+pub use pointer::Pointer;
 pub use way::Way;
 
 #[cfg(test)]

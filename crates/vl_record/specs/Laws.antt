@@ -6,7 +6,7 @@ use Rattle.byteorder.specs.Endian.{big_bytes}
 use Rattle.vl_model.specs.Keys.{is_key_length, is_value_length}
 use Rattle.vl_model.specs.declared.change.Change.{Change}
 use Rattle.vl_model.specs.declared.change.Change.TheVariants.{Set, Delete}
-use Rattle.vl_record.specs.declared.pointer.Pointer.{Pointer}
+use Rattle.vl_model.specs.declared.pointer.Pointer.{Pointer}
 use Rattle.vl_record.specs.Numbers.{one_number}
 use Rattle.vl_record.specs.Pointer.{IsPointerSpelled, pointer_bytes}
 use Rattle.vl_record.specs.Record.{IsSpelled, flag_of, head_bytes, record_bytes, record_length, value_bytes}

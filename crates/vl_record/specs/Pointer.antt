@@ -1,7 +1,7 @@
 -- How a pointer is spelled: segment, place and length, in 4, 8 and 4 bytes, each with its highest byte first.
 use Rattle.std.specs.Prelude.{◌≡◌, ◌<◌, ◌^◌, ℕ, List, ◌++◌}
 use Rattle.byteorder.specs.Endian.{big_bytes}
-use Rattle.vl_record.specs.declared.pointer.Pointer.{Pointer}
+use Rattle.vl_model.specs.declared.pointer.Pointer.{Pointer}
 
 -- the numbers fit their bytes
 pub record IsPointer (p : Pointer) : Type 0 where

@@ -6,7 +6,7 @@ mod pointer;
 mod record;
 
 pub use numbers::{take_bytes, take_u16, take_u32, take_u64};
-pub use pointer::{POINTER_BYTES, Pointer, read_pointer, write_pointer};
+pub use pointer::{POINTER_BYTES, read_pointer, write_pointer};
 pub use record::{RECORD_HEAD_BYTES, RecordRef, read_record, write_record};
 
 #[cfg(test)]

@@ -4,17 +4,10 @@ ghost use Rattle.vl_record.specs.Pointer.{IsPointerSpelled, pointer_bytes};
 use crate::numbers::{take_u32, take_u64};
 use byteorder::{BigEndian, ByteOrder};
 use std::alloc::AllocError;
+use vl_model::Pointer;
 
 /// How many bytes a pointer has.
 pub const POINTER_BYTES: usize = 16;
-
-/// Where a record lies: its segment, the place of its first byte there, and how many bytes it has.
-#[derive(Clone, Copy, Debug, PartialEq, Eq)]
-pub struct Pointer {
-    pub segment: u32,
-    pub place: u64,
-    pub length: u32,
-}
 
 /// Appends the 16 bytes of a pointer: segment, place and length, each with its highest byte first.
 pub fn write_pointer(out: &mut Vec<u8>, pointer: Pointer) -> Result<(), AllocError>

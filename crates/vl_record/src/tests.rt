@@ -1,6 +1,7 @@
 use super::*;
 use std::alloc::{AllocError, Global};
 use std::test::Fail;
+use vl_model::Pointer;
 
 // Of key 61 with value 01.
 const VALUE: [u8; 9] = [0, 0, 1, 0, 0, 0, 1, 0x61, 1];

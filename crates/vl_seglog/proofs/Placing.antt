@@ -4,7 +4,7 @@ use Rattle.std.proofs.Math.Seq.{drop-cons}
 use Rattle.vl_model.specs.declared.change.Change.{Change}
 use Rattle.vl_record.specs.Laws.{length-record_bytes}
 use Rattle.vl_record.specs.Record.{record_bytes, record_length}
-use Rattle.vl_record.specs.declared.pointer.Pointer.{Pointer}
+use Rattle.vl_model.specs.declared.pointer.Pointer.{Pointer}
 use Rattle.vl_seglog.specs.Laws.{commit_frame-length, records_length}
 use Rattle.vl_seglog.specs.Log.{AreRecords, Commit, commit_frame, records_bytes}
 use Rattle.vl_seglog.specs.Pointers.{pointers_from}

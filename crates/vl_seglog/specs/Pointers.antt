@@ -2,7 +2,7 @@
 use Rattle.std.specs.Prelude.{◌≡◌, ℕ, ◌+◌, List, [], ◌∷◌, drop}
 use Rattle.vl_model.specs.declared.change.Change.{Change}
 use Rattle.vl_record.specs.Record.{IsSpelled, record_length}
-use Rattle.vl_record.specs.declared.pointer.Pointer.{Pointer}
+use Rattle.vl_model.specs.declared.pointer.Pointer.{Pointer}
 use Rattle.vl_seglog.specs.Log.{Commit}
 use Rattle.vl_seglog.specs.declared.staged.TheConstants.{BEFORE_RECORDS}
 

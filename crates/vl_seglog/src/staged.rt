@@ -5,8 +5,8 @@ ghost use Rattle.vl_seglog.specs.Pointers.{pointers_at, pointers_from};
 
 use crate::write::write_commit;
 use std::alloc::{AllocError, Global};
-use vl_model::{Change, Key};
-use vl_record::{Pointer, RECORD_HEAD_BYTES};
+use vl_model::{Change, Key, Pointer};
+use vl_record::RECORD_HEAD_BYTES;
 
 /// How many bytes of a commit's frame stand before its records: five of the frame's, and its number and count.
 pub const BEFORE_RECORDS: usize = 17;

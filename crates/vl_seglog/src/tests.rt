@@ -7,8 +7,7 @@ use std::alloc::{AllocError, Global};
 use std::test::Fail;
 use vl_disk::{Disk, Name, make_file};
 use vl_mem::MemDisk;
-use vl_model::{Bytes, Change, Key};
-use vl_record::Pointer;
+use vl_model::{Bytes, Change, Key, Pointer};
 
 // The commit 1 of key 61 with value 01, at place 16 of the log 1.
 const FRAME: [u8; 34] = [
