@@ -4,9 +4,9 @@
 mod answering;
 mod ended;
 mod ending;
-pub mod input;
+mod input;
 mod last_line;
-pub mod replayer;
+mod replayer;
 mod running;
 
 pub use ended::Ended;
@@ -14,3 +14,4 @@ pub use ending::Ending;
 pub use last_line::{NO_MEMORY, finish};
 pub use replayer::{Halt, OpenFail, Replayer};
 pub use running::replay;
+pub use vl_journal::OpenFail as Why;

@@ -1,10 +1,11 @@
 use crate::{Ended, refuse_without_words, run};
 use std::alloc::Global;
 use std::test::Fail;
-use vl_disk::Name;
+use vl_disk::{Failed, Name};
 use vl_io::{SliceSource, VecSink};
 use vl_journal::{LOG, MANIFEST};
 use vl_mem::MemDisk;
+use vl_replay::{Halt, Why};
 
 const USAGE: &str =
     "usage: vlstore replay DIR, trial STOP OUTCOME, bench SEED COUNT or drive CLIENTS TXNS SEED\n";
@@ -299,6 +300,23 @@ fn words_without_memory(rt: HostRuntime) -> Result<(), Fail> {
     let printed = sink.into_bytes();
     assert_eq!(rt; printed.as_slice(), b"no memory\n".as_slice());
     assert_eq!(rt; status, 5);
+    Ok(())
+}
+
+#[test]
+fn errors_say_what_failed(rt: HostRuntime) -> Result<(), Fail> {
+    let alloc = rt.alloc();
+    let table = [
+        (Why::NotAStore.to_string(alloc)?, "not a store"),
+        (Why::NoMemory.to_string(alloc)?, "no memory"),
+        (Why::Disk.to_string(alloc)?, "disk fault"),
+        (Halt::NoMemory.to_string(alloc)?, "no memory"),
+        (Halt::Disk.to_string(alloc)?, "disk fault"),
+        (Failed.to_string(alloc)?, "a call to the outside failed"),
+    ];
+    for (text, wanted) in table {
+        assert!(rt; text.as_bytes() == wanted.as_bytes(), "{wanted}");
+    }
     Ok(())
 }
 

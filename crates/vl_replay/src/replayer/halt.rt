@@ -2,14 +2,17 @@ ghost use Rattle.vl_replay.specs.declared.replayer.halt.Halt.TheVariants.{NoMemo
 ghost use Rattle.std.specs.Prelude.{◌≡◌};
 
 use std::alloc::{AllocError, AllocFailed};
+use thiserror::Error;
 use vl_disk::{Failed, NoMemory as NoRoom};
 
 /// Why a line was given no answer.
-#[derive(Clone, Copy, Debug, PartialEq, Eq)]
+#[derive(Clone, Copy, Debug, PartialEq, Eq, Error)]
 pub enum Halt {
     /// Memory ran out.
+    #[error("no memory")]
     NoMemory,
     /// The disk failed.
+    #[error("disk fault")]
     Disk,
 }
 

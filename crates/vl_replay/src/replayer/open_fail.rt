@@ -1,6 +1,8 @@
-/// Why a store wasn't opened, with the disk.
+use vl_journal::OpenFail as Why;
+
+/// Why a store wasn't opened, which says it in words, and the disk.
 #[derive(Drop)]
 pub struct OpenFail<D> {
-    pub why: vl_journal::OpenFail,
+    pub why: Why,
     pub disk: D,
 }
