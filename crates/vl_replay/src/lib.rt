@@ -12,6 +12,9 @@ mod running;
 pub use ended::Ended;
 pub use ending::Ending;
 pub use last_line::{NO_MEMORY, finish};
-pub use replayer::{Halt, OpenFail, Replayer};
+pub use replayer::{
+    Halt, MAX_LOG_BYTES, MAX_OPEN, OpenFail, Replayer, drops_free_names, reads_are_noted,
+    writes_are_read_back,
+};
 pub use running::replay;
 pub use vl_journal::OpenFail as Why;

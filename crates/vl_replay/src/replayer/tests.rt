@@ -16,19 +16,6 @@ fn begin(alloc: Global, name: &str) -> Result<Line, AllocError> {
     })
 }
 
-fn view(alloc: Global, name: &str) -> Result<Line, AllocError> {
-    Ok(Line::View {
-        name: word(alloc, name)?,
-    })
-}
-
-fn get(alloc: Global, name: &str, key: &str) -> Result<Line, AllocError> {
-    Ok(Line::Get {
-        name: word(alloc, name)?,
-        key: word(alloc, key)?,
-    })
-}
-
 fn set(alloc: Global, name: &str, key: &str, value: &str) -> Result<Line, AllocError> {
     Ok(Line::Set {
         name: word(alloc, name)?,
@@ -43,8 +30,9 @@ fn commit(alloc: Global, name: &str) -> Result<Line, AllocError> {
     })
 }
 
+// A commit of one byte under a key of one has a frame of 34 bytes, behind the log's header of 16.
 #[test]
-fn a_commit_is_seen_by_a_later_view_and_stands_on_the_disk(rt: HostRuntime) -> Result<(), Fail> {
+fn a_commit_stands_on_the_disk_that_is_handed_back(rt: HostRuntime) -> Result<(), Fail> {
     let alloc = rt.alloc();
     let Ok(mut replayer) = Replayer::new(
         alloc,
@@ -59,25 +47,16 @@ fn a_commit_is_seen_by_a_later_view_and_stands_on_the_disk(rt: HostRuntime) -> R
         )
     );
     assert!(rt; matches!(replayer.line(set(alloc, "a", "k", "v")?)?, Answer::Done));
-    assert!(rt; matches!(replayer.line(get(alloc, "a", "k")?)?, Answer::Found { .. }));
     assert!(rt;
         matches!(
             replayer.line(commit(alloc, "a")?)?,
             Answer::Number { number: 1 }
         )
     );
-    assert!(rt;
-        matches!(
-            replayer.line(view(alloc, "b")?)?,
-            Answer::Number { number: 1 }
-        )
-    );
-    let answer = replayer.line(get(alloc, "b", "k")?)?;
-    let Answer::Found { value } = answer else {
-        return Err("no value".into());
-    };
-    assert_eq!(rt; value.as_slice(), b"v".as_slice());
     let disk = replayer.close();
-    assert!(rt; disk.bytes(LOG).is_some());
+    let Some(log) = disk.bytes(LOG) else {
+        return Err("no log".into());
+    };
+    assert_eq!(rt; log.len(), 50);
     Ok(())
 }
