@@ -40,6 +40,16 @@ fn a_listed_append_fails_and_takes_nothing(rt: HostRuntime) -> Result<(), Fail> 
 }
 
 #[test]
+fn a_file_is_made_at_once(rt: HostRuntime) -> Result<(), Fail> {
+    let alloc = rt.alloc();
+    let mut disk = MemDisk::new(alloc, Vec::new(alloc), Vec::new(alloc));
+    disk.ready(LOG, 3)?;
+    make_file(&mut disk, LOG, &[1, 2, 3])?;
+    assert_eq!(rt; disk.bytes(LOG), Some([1, 2, 3].as_slice()));
+    Ok(())
+}
+
+#[test]
 fn a_file_is_read_cut_and_removed(rt: HostRuntime) -> Result<(), Fail> {
     let alloc = rt.alloc();
     let mut disk = MemDisk::new(alloc, Vec::new(alloc), Vec::new(alloc));
