@@ -47,7 +47,8 @@ pub fn run<S: Source, K: Sink, D: Disk>(
     // What is printed, and how the run ends, are those of the sequential store over the lines of the input. Over a disk
     // on which nothing stood or was removed, each accepted commit is one synced frame of the log: what a crash at any moment
     // since the start leaves shows a first part of the commits, and what it leaves behind the run's end, whichever call ends
-    // it by failing, shows every commit whose answer was put, if no torn bytes spell a frame by chance.
+    // it by failing, shows every commit whose answer was put, if no torn bytes spell a frame by chance. Where memory ran out
+    // (status 5) no commit stands whose answer wasn't put.
     ensures answers { (input : List ℕ) → S.left source.old ≡ Some input →
         (ending : HowEnded) × (printed : List ℕ) × (answered : ℕ) × (result.status ≡ status_of ending) × Takes (K.held sink.old) (K.held sink.new) printed
         × Runs (Causes (S.faults source.old) (S.faults source.new) (D.faults disk) (D.faults result.disk) (ForSome (D.told disk) StandsSome)) (map string_bytes words.now) input (S.left source.new) answered ending printed

@@ -113,10 +113,11 @@ pub record DiskEnds {D : Type 0} (told : D → Option DiskState) (moment : D →
   -- what a crash at any moment since the begin leaves shows a first part of the commits, if no torn bytes spell a frame by
   -- chance
   pub through : HoldsThroughout moment since old new (Leaves (AreBetween first most))
-  -- and the disk went through one for each answered line, from which on a crash leaves its commit too
+  -- and the disk went through one for each answered line, from which on a crash leaves its commit too, without a chance
+  -- match
   pub along : GoesAlong told moment since new begun most old first answered
-  -- what a crash leaves after the run's end shows each acknowledged one, over a disk of which each call from some put on
-  -- failed too
+  -- what a crash leaves after the run's end shows each acknowledged one, without a chance match; so it is over a disk of
+  -- which each call from some put on failed too
   pub now : (state : DiskState) × (told new ≡ Some state) × Leaves (AreBetween (history_after first answered) most) state
   -- where the disk didn't fail nothing is torn: it wasn't opened, or holds the acknowledged commits, or these and that of
   -- one line more
