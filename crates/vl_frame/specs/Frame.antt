@@ -1,5 +1,5 @@
 -- How a frame is spelled, and what it means that one stands at the front of some bytes.
-use Rattle.std.specs.Prelude.{◌≡◌, ◌<◌, ◌^◌, ◌∷◌, ◌++◌, List, length, take, ℕ}
+use Rattle.std.specs.Prelude.{◌≡◌, ◌+◌, ◌<◌, ◌^◌, ◌∷◌, ◌++◌, List, length, take, ℕ}
 use Rattle.byteorder.specs.Endian.{big_bytes}
 use Rattle.sha2.specs.Sha256.{sha256}
 use Rattle.vl_frame.specs.declared.kinds.FileKind.{FileKind}
@@ -50,6 +50,10 @@ spelling kind body check = head_bytes kind (length body) ++ body ++ check
 -- the one spelling of a frame that stands at a place of a file
 unfoldable pub frame_bytes : ℕ → ℕ → FrameKind → List ℕ → List ℕ
 frame_bytes number at kind body = spelling kind body (check_of number at kind body)
+
+-- how many bytes a frame has whose body has n: 5 before it, and 8 behind it
+abbrev pub frame_length : ℕ → ℕ
+frame_length n = n + 13
 
 -- A frame of this kind and body stands at the front of the bytes, which are those of a file from a place on. The file has this kind and number.
 pub record IsSpelled (file : FileKind) (number at : ℕ) (bytes : List ℕ) (kind : FrameKind) (body : List ℕ) : Type 0 where

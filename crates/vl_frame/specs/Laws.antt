@@ -1,14 +1,14 @@
 -- What the definition of a frame says: how long a frame is, and that of one place and file one frame at most stands at the front of some bytes.
 use Rattle.std.proofs.Common.{◌≡◌, ℕ, ◌+◌, ◌<◌, ◌^◌, cond, nat_eq, List, ◌++◌, length, take, drop, get_or, refl, sym, ap, subst, ◌∙◌, append_assoc, arith}
 use Rattle.std.proofs.lemmas.List.{append_cancel_left, take_at, drop_at, length-append, length-take-le}
-use Rattle.byteorder.specs.Endian.{big_number}
-use Rattle.byteorder.specs.Numbers.{big_number-reads_back}
+use Rattle.byteorder.specs.Endian.{big_bytes}
 use Rattle.sha2.specs.Sha256.{sha256}
 use Rattle.sha2.proofs.Facts256.{length-sha256}
 use Rattle.vl_frame.specs.declared.kinds.FileKind.{FileKind}
 use Rattle.vl_frame.specs.declared.kinds.FrameKind.{FrameKind}
 use Rattle.vl_frame.specs.declared.kinds.FrameKind.TheVariants.{Commit, Move, Block, Index, Footer, Edits}
-use Rattle.vl_frame.specs.Frame.{frame_code, head_bytes, spelling, check_of, frame_bytes, IsSpelled, file_of, place_bytes}
+use Rattle.vl_frame.specs.Frame.{frame_code, head_bytes, spelling, check_of, frame_bytes, IsSpelled, file_of, frame_length, place_bytes}
+use Rattle.vl_frame.specs.Numbers.{one_number, same_front}
 use Rattle.vl_frame.specs.Parts.{IsApart}
 
 kind_at : ℕ → FrameKind
@@ -32,44 +32,24 @@ length-check_of number at kind body =
     let m = place_bytes (file_of kind) number at ++ head_bytes kind (length body) ++ body in
     length-take-le 8 (sha256 m) (omega (arith, length-sha256 m))
 
-length-spelling : (kind : FrameKind) (body check : List ℕ) → length check ≡ 8 → length (spelling kind body check) ≡ length body + 13
+length-spelling : (kind : FrameKind) (body check : List ℕ) → length check ≡ 8 → length (spelling kind body check) ≡ frame_length (length body)
 length-spelling kind body check e = omega (arith, length-append body check)
 
 -- A frame has 13 bytes more than its body.
-pub length-frame_bytes : (number at : ℕ) (kind : FrameKind) (body : List ℕ) → length (frame_bytes number at kind body) ≡ length body + 13
+pub length-frame_bytes : (number at : ℕ) (kind : FrameKind) (body : List ℕ) → length (frame_bytes number at kind body) ≡ frame_length (length body)
 unfolding frame_bytes
 length-frame_bytes number at kind body = length-spelling kind body (check_of number at kind body) (length-check_of number at kind body)
-
--- what a reader meets at the front of a spelling
-record Meets (bytes : List ℕ) (kind : FrameKind) (body check : List ℕ) : Type 0 where
-  code : get_or bytes 0 0 ≡ frame_code kind
-  size : big_number 4 (drop 1 bytes) ≡ length body
-  body_there : take (length body) (drop 5 bytes) ≡ body
-  check_there : take 8 (drop (length body) (drop 5 bytes)) ≡ check
-
-meets_spelling : (kind : FrameKind) (body check rest : List ℕ) → length body < 2 ^ 32 → length check ≡ 8 → Meets (spelling kind body check ++ rest) kind body check
-meets_spelling kind body check rest short e = record {
-  code = refl;
-  size = big_number-reads_back 4 (length body) ((body ++ check) ++ rest) short;
-  body_there = ap (take (length body)) (append_assoc body check rest) ∙ take_at body (check ++ rest) (length body) refl;
-  check_there = ap (λ l. take 8 (drop (length body) l)) (append_assoc body check rest) ∙ ap (take 8) (drop_at body (check ++ rest) (length body) refl) ∙ take_at check rest 8 e;
-}
-
-meets : (bytes : List ℕ) (kind : FrameKind) (body check : List ℕ) → IsApart bytes kind body check → Meets bytes kind body check
-meets bytes kind body check apart =
-    subst (λ bs. Meets bs kind body check) (sym apart.spelled) (meets_spelling kind body check apart.rest apart.short apart.check_length)
 
 -- Bytes come apart into a kind, a body and a check in one way.
 pub one_apart : (bytes : List ℕ) (kind kind' : FrameKind) (body body' check check' : List ℕ) → IsApart bytes kind body check → IsApart bytes kind' body' check'
     → (kind ≡ kind') × (body ≡ body') × (check ≡ check')
 one_apart bytes kind kind' body body' check check' p q =
-    let m = meets bytes kind body check p in
-    let n = meets bytes kind' body' check' q in
-    let size : length body ≡ length body' = sym m.size ∙ n.size in (
-      one_code kind kind' (sym m.code ∙ n.code),
-      sym m.body_there ∙ ap (λ (k : ℕ). take k (drop 5 bytes)) size ∙ n.body_there,
-      sym m.check_there ∙ ap (λ (k : ℕ). take 8 (drop k (drop 5 bytes))) size ∙ n.check_there,
-    )
+    let both = sym p.spelled ∙ q.spelled in
+    let behind : big_bytes 4 (length body) ++ ((body ++ check) ++ p.rest) ≡ big_bytes 4 (length body') ++ ((body' ++ check') ++ q.rest) = ap (drop 1) both in
+    let size = one_number 4 (length body) (length body') _ _ p.short q.short behind in
+    let bodies = same_front body body' (check ++ p.rest) (check' ++ q.rest) size.0 (sym (append_assoc body check p.rest) ∙ size.1 ∙ append_assoc body' check' q.rest) in
+    let checks = same_front check check' p.rest q.rest (p.check_length ∙ sym q.check_length) bodies.1 in
+    (one_code kind kind' (ap (λ (l : List ℕ). get_or l 0 0) both), bodies.0, checks.0)
 
 -- A frame that stands comes apart into its kind, its body and its check.
 pub spelled_apart : (file : FileKind) (number at : ℕ) (bytes : List ℕ) (kind : FrameKind) (body : List ℕ) → IsSpelled file number at bytes kind body → IsApart bytes kind body (check_of number at kind body)

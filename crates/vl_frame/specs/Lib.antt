@@ -1,3 +1,6 @@
 pub mod Frame
+pub mod Header
+pub mod HeaderLaws
 pub mod Laws
+pub mod Numbers
 pub mod Parts

@@ -1,5 +1,6 @@
 ghost use Rattle.std.specs.Prelude.{◌≡◌, ◌↔◌, IfNone, IfSome, IsTrue};
 ghost use Rattle.vl_frame.specs.Frame.{file_code, file_of, frame_code};
+ghost use Rattle.vl_frame.specs.Header.{letters};
 ghost use Rattle.vl_frame.specs.declared.kinds.FrameKind.{FrameKind};
 
 /// What a file is.
@@ -39,6 +40,17 @@ impl FileKind {
             FileKind::Log => 1,
             FileKind::Table => 2,
             FileKind::Manifest => 3,
+        }
+    }
+
+    // What its files begin with.
+    pub(crate) fn letters(self) -> [u8; 4]
+        ensures { result ≡ letters self }
+    {
+        match self {
+            FileKind::Log => *b"VLOG",
+            FileKind::Table => *b"VTAB",
+            FileKind::Manifest => *b"VMAN",
         }
     }
 }

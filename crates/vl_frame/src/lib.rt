@@ -17,15 +17,19 @@
 
 mod checks;
 mod frame;
+mod header;
 mod kinds;
 mod limits;
+mod numbers;
 mod parts;
 mod reading;
 mod writing;
 
 pub use frame::Frame;
+pub use header::{HEADER_BYTES, file_header, read_format, read_header};
 pub use kinds::{FileKind, FrameKind};
-pub use limits::{FRAME_BYTES, MAX_BODY_BYTES};
+pub use limits::{FRAME_BYTES, MAX_FRAME_BYTES};
+pub use numbers::{take_bytes, take_u8, take_u16, take_u32, take_u64};
 pub use reading::read_frame;
 pub use writing::write_frame;
 

@@ -5,8 +5,7 @@ ghost use Rattle.vl_frame.specs.declared.kinds.FrameKind.{FrameKind};
 
 use crate::checks::check;
 use crate::kinds::FrameKind;
-use crate::limits::FRAME_BYTES;
-use byteorder::{BigEndian, ByteOrder};
+use crate::numbers::{take_bytes, take_u8, take_u32};
 
 /// A frame taken apart, whatever its check is.
 #[derive(Clone, Copy)]
@@ -33,18 +32,10 @@ pub fn take_apart(bytes: &[u8]) -> Option<Parts<'_>>
     ensures none { IfNone result
         ((kind : FrameKind) (body check : List ℕ) → IsApart bytes.now kind body check → ⊥) }
 {
-    if bytes.len() < FRAME_BYTES {
-        return None;
-    }
-    let kind = FrameKind::of_code(bytes[0])?;
-    let length = BigEndian::read_u32(&bytes[1..]) as usize;
-    let rest = &bytes[5..];
-    if rest.len() < length + 8 {
-        return None;
-    }
-    Some(Parts {
-        kind,
-        body: &rest[..length],
-        check: &rest[length..length + 8],
-    })
+    let (code, rest) = take_u8(bytes)?;
+    let kind = FrameKind::of_code(code)?;
+    let (length, rest) = take_u32(rest)?;
+    let (body, rest) = take_bytes(rest, length as usize)?;
+    let (check, _) = take_bytes(rest, 8)?;
+    Some(Parts { kind, body, check })
 }

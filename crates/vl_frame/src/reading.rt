@@ -1,5 +1,5 @@
-ghost use Rattle.std.specs.Prelude.{◌≡◌, ◌+◌, ◌++◌, ◌≤◌, IfNone, IfSome, List, drop, length, ℕ};
-ghost use Rattle.vl_frame.specs.Frame.{IsSpelled, frame_bytes};
+ghost use Rattle.std.specs.Prelude.{◌≡◌, ◌++◌, ◌≤◌, IfNone, IfSome, List, drop, length, ℕ};
+ghost use Rattle.vl_frame.specs.Frame.{IsSpelled, frame_bytes, frame_length};
 ghost use Rattle.vl_frame.specs.declared.kinds.FrameKind.{FrameKind};
 
 use crate::frame::Frame;
@@ -10,7 +10,7 @@ use crate::parts::take_apart;
 /// The frame that stands at the front of the bytes, which are those of a file from the place `at` on.
 pub fn read_frame(bytes: &[u8], file: FileKind, number: u32, at: u64) -> Option<Frame<'_>>
     ensures found { IfSome result (λ f. IsSpelled file number at bytes.now f.kind f.body.now
-        × (f.length ≡ length f.body.now + FRAME_BYTES)) }
+        × (f.length ≡ frame_length (length f.body.now))) }
     ensures within { IfSome result (λ f. f.length ≤ length bytes.now) }
     ensures rest { IfSome result (λ f.
         bytes.now ≡ frame_bytes number at f.kind f.body.now ++ drop f.length bytes.now) }

@@ -1,6 +1,6 @@
 use Rattle.std.proofs.Common.{arith}
-use Rattle.vl_record.proofs.Fronts.{front_of_8}
-use Rattle.vl_record.proofs.numbers.take_u64.Goals as goal
+use Rattle.vl_frame.proofs.Fronts.{front_of_8}
+use Rattle.vl_frame.proofs.numbers.take_u64.Goals as goal
 
 pub returns-clause-found : goal.returns-clause-found
 returns-clause-found c =

@@ -1,6 +1,6 @@
 //! What stands at the front of some bytes, and the bytes behind it. Numbers are unsigned, the highest byte first.
 
-ghost use Rattle.std.specs.Prelude.{◌≡◌, ◌<◌, ◌^◌, ◌++◌, length, IfNone, IfSome};
+ghost use Rattle.std.specs.Prelude.{◌≡◌, ◌<◌, ◌^◌, ◌∷◌, ◌++◌, length, IfNone, IfSome};
 ghost use Rattle.byteorder.specs.Endian.{big_bytes};
 
 use byteorder::{BigEndian, ByteOrder};
@@ -15,6 +15,18 @@ pub fn take_bytes(bytes: &[u8], count: usize) -> Option<(&[u8], &[u8])>
         return None;
     }
     Some(bytes.split_at(count))
+}
+
+/// The first byte, and the bytes behind it; none where there is none.
+pub fn take_u8(bytes: &[u8]) -> Option<(u8, &[u8])>
+    ensures found { IfSome result (λ r. bytes.now ≡ r.0 ∷ r.1.now) }
+    ensures fits { IfSome result (λ r. r.0 < 2 ^ 8) }
+    ensures none { IfNone result (length bytes.now < 1) }
+{
+    match bytes {
+        [] => None,
+        [first, rest @ ..] => Some((*first, rest)),
+    }
 }
 
 /// The number in the first two bytes, and the bytes behind it; none where there are fewer.
