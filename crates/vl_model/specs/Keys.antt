@@ -1,11 +1,12 @@
 -- Keys and values as lists of bytes, and which of them are lawful.
-use Rattle.std.specs.Prelude.{ℕ, List, Bool, ◌&&◌, nat_le}
+use Rattle.std.specs.Prelude.{ℕ, List, [], Bool, ◌&&◌, nat_le}
 use Rattle.std.specs.FinMap.{FinMap}
 use Rattle.std.specs.Cmp.Lexicographic.{slice_cmp}
 use Rattle.std.specs.Ordering.{nat_cmp}
 use Rattle.std.specs.declared.cmp.Ordering.{Ordering}
-use Rattle.vl_model.specs.declared.limits.TheConstants.{MAX_KEY_BYTES, MAX_VALUE_BYTES}
+use Rattle.vl_model.specs.Limits.{max_key_bytes, max_value_bytes}
 use Rattle.vl_model.specs.declared.change.Change.{Change}
+use Rattle.vl_model.specs.declared.change.Change.TheVariants.{Set, Delete}
 
 -- the value that stands at a key
 abbrev pub Stored : Type 0
@@ -23,9 +24,15 @@ Pairs = FinMap key_cmp Stored
 abbrev pub Writes : Type 0
 Writes = FinMap key_cmp Change
 
--- a key has 1 byte to MAX_KEY_BYTES
-abbrev pub is_key_length : ℕ → Bool
-is_key_length n = nat_le 1 n && nat_le n MAX_KEY_BYTES
+-- the bytes of the value that a change sets; a deletion has none
+abbrev pub value_bytes : Change → List ℕ
+value_bytes (Set value) = value
+value_bytes Delete = []
 
+-- whether a key may have so many bytes
+abbrev pub is_key_length : ℕ → Bool
+is_key_length n = nat_le 1 n && nat_le n max_key_bytes
+
+-- whether a value may have so many bytes
 abbrev pub is_value_length : ℕ → Bool
-is_value_length n = nat_le n MAX_VALUE_BYTES
+is_value_length n = nat_le n max_value_bytes

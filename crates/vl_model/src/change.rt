@@ -1,3 +1,6 @@
+ghost use Rattle.std.specs.Prelude.{◌≡◌, length};
+ghost use Rattle.vl_model.specs.Keys.{value_bytes};
+
 use crate::Value;
 
 /// What a commit does to a key that it names.
@@ -5,4 +8,16 @@ use crate::Value;
 pub enum Change {
     Set(Value),
     Delete,
+}
+
+impl Change {
+    /// How many bytes of a value it has. A deletion has none.
+    pub fn value_len(&self) -> usize
+        ensures { result ≡ length (value_bytes self.now) }
+    {
+        match self {
+            Change::Set(value) => value.len(),
+            Change::Delete => 0,
+        }
+    }
 }

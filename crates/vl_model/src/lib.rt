@@ -6,6 +6,7 @@ mod bytes;
 mod change;
 mod counter;
 mod laws;
+mod lengths;
 mod limits;
 mod pointer;
 mod way;
@@ -13,9 +14,15 @@ mod way;
 pub use bytes::{Bytes, Key, Value};
 pub use change::Change;
 pub use counter::Counter;
-pub use laws::{contents_agree_with_values, value_after_one_more_commit, value_without_commits};
+pub use laws::{
+    constants_are_the_limits, contents_agree_with_values, value_after_one_more_commit,
+    value_without_commits,
+};
+pub use lengths::{is_key_len, is_value_len};
 pub use limits::{
-    MAX_COMMIT_NUMBER, MAX_KEY_BYTES, MAX_TRANSACTION_BYTES, MAX_TRANSACTION_KEYS, MAX_VALUE_BYTES,
+    MAX_BATCH_BYTES, MAX_BATCH_RECORDS, MAX_COMMIT_NUMBER, MAX_FILE_NUMBER, MAX_INLINE_BYTES,
+    MAX_KEY_BYTES, MAX_LEVEL, MAX_LIVE, MAX_ROOM, MAX_SESSIONS, MAX_TRANSACTION_BYTES,
+    MAX_TRANSACTION_KEYS, MAX_VALUE_BYTES, MAX_VERSION_NUMBER, MIN_ROOM,
 };
 pub use pointer::Pointer;
 pub use way::Way;
