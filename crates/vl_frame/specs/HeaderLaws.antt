@@ -7,6 +7,10 @@ use Rattle.vl_frame.specs.declared.kinds.FileKind.TheVariants.{Log, Table, Manif
 use Rattle.vl_frame.specs.Header.{HasFormat, IsHeader, IsHeaderApart, header_bytes, letters}
 use Rattle.vl_frame.specs.Numbers.{one_number, same_front}
 
+-- The header of log 1 in format 1.
+pub worked_header : header_bytes Log 1 1 ≡ 86 ∷ 76 ∷ 79 ∷ 71 ∷ 0 ∷ 0 ∷ 0 ∷ 1 ∷ 0 ∷ 0 ∷ 0 ∷ 1 ∷ 0 ∷ 0 ∷ 0 ∷ 0 ∷ []
+worked_header = refl
+
 -- A header has 16 bytes.
 pub length-header_bytes : (kind : FileKind) (format number : ℕ) → length (header_bytes kind format number) ≡ 16
 length-header_bytes Log format number = refl

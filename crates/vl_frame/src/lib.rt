@@ -1,4 +1,5 @@
-//! Frames, of which the store's files are made: how they are written, and how they are found again.
+//! What the store's files are made of: a header, and frames behind it; how both are written, and how they are found again.
+//! docs/FORMATS.md lists them.
 //!
 //! A frame is its kind in one byte, the length of its body in four, the body, and a check of eight bytes.
 //! Numbers are unsigned, the highest byte first. The check is the first eight bytes of the SHA-256 digest of
@@ -32,6 +33,3 @@ pub use limits::{FRAME_BYTES, MAX_FRAME_BYTES};
 pub use numbers::{take_bytes, take_u8, take_u16, take_u32, take_u64};
 pub use reading::read_frame;
 pub use writing::write_frame;
-
-#[cfg(test)]
-mod tests;

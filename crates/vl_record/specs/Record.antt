@@ -1,8 +1,8 @@
 -- How a record is spelled: a flag (0 a value, 1 a deletion) in one byte, the key's length in 2, the value's length in 4 (0 for a deletion), each with its
 -- highest byte first; then the key and the value.
-use Rattle.std.specs.Prelude.{◌≡◌, ◌+◌, ◌==◌, ◌&&◌, ◌||◌, ℕ, List, [], ◌∷◌, ◌++◌, length, Bool, true, Option, Some, None}
+use Rattle.std.specs.Prelude.{◌≡◌, ◌+◌, ◌<◌, ◌^◌, ℕ, List, ◌∷◌, ◌++◌, length, true, Option, Some, None}
 use Rattle.byteorder.specs.Endian.{big_bytes}
-use Rattle.vl_model.specs.Keys.{is_key_length, is_value_length}
+use Rattle.vl_model.specs.Keys.{is_key_length, is_value_length, value_bytes}
 use Rattle.vl_model.specs.declared.change.Change.{Change}
 use Rattle.vl_model.specs.declared.change.Change.TheVariants.{Set, Delete}
 
@@ -10,11 +10,6 @@ use Rattle.vl_model.specs.declared.change.Change.TheVariants.{Set, Delete}
 abbrev pub change_of : Option (List ℕ) → Change
 change_of None = Delete
 change_of (Some value) = Set value
-
--- the bytes behind the key
-abbrev pub value_bytes : Change → List ℕ
-value_bytes (Set value) = value
-value_bytes Delete = []
 
 abbrev pub flag_of : Change → ℕ
 flag_of (Set value) = 0
@@ -25,14 +20,14 @@ pub record IsRecord (key : List ℕ) (change : Change) : Type 0 where
   pub key_length : is_key_length (length key) ≡ true
   pub value_length : is_value_length (length (value_bytes change)) ≡ true
 
+-- their lengths have room in the bytes that they are spelled in
+pub record HasWidths (key : List ℕ) (change : Change) : Type 0 where
+  pub key_fits : length key < 2 ^ 16
+  pub value_fits : length (value_bytes change) < 2 ^ 32
+
 -- a record's first 7 bytes
 abbrev pub head_bytes : ℕ → ℕ → ℕ → List ℕ
-head_bytes flag key_length value_length = (flag ∷ []) ++ big_bytes 2 key_length ++ big_bytes 4 value_length
-
--- whether these three numbers may stand at the front of a record
-abbrev pub is_head : ℕ → ℕ → ℕ → Bool
-is_head flag key_length value_length =
-    is_key_length key_length && ((flag == 0 && is_value_length value_length) || (flag == 1 && value_length == 0))
+head_bytes flag key_length value_length = flag ∷ big_bytes 2 key_length ++ big_bytes 4 value_length
 
 -- the one spelling
 unfoldable pub record_bytes : List ℕ → Change → List ℕ
@@ -47,3 +42,10 @@ pub record IsSpelled (bytes key : List ℕ) (change : Change) : Type 0 where
   pub lawful : IsRecord key change
   pub rest : List ℕ
   pub parts : bytes ≡ record_bytes key change ++ rest
+
+-- The bytes begin with a flag, a key and a value, behind their lengths, whatever these are.
+pub record IsApart (bytes : List ℕ) (flag : ℕ) (key value : List ℕ) : Type 0 where
+  pub key_fits : length key < 2 ^ 16
+  pub value_fits : length value < 2 ^ 32
+  pub rest : List ℕ
+  pub spelled : bytes ≡ (head_bytes flag (length key) (length value) ++ key ++ value) ++ rest

@@ -3,8 +3,9 @@ ghost use Rattle.std.specs.Option.{option_copied};
 ghost use Rattle.vl_record.specs.Record.{change_of, record_length, IsSpelled};
 ghost use Rattle.vl_model.specs.declared.change.Change.{Change};
 
-use crate::numbers::take_bytes;
-use crate::record::head::{RECORD_HEAD_BYTES, VALUE_FLAG, take_head};
+use crate::record::head::RECORD_HEAD_BYTES;
+use crate::record::parts::take_apart;
+use vl_model::{is_key_len, is_value_len};
 
 /// A record where it lies in memory.
 #[derive(Clone, Copy, Debug)]
@@ -25,24 +26,15 @@ pub fn read_record(bytes: &[u8]) -> Option<RecordRef<'_>>
     ensures none { IfNone result
         ((key : List ℕ) (change : Change) → IsSpelled bytes.now key change → ⊥) }
 {
-    let (head, rest) = take_head(bytes)?;
-    if !head.is_lawful() {
+    let parts = take_apart(bytes)?;
+    if !is_key_len(parts.key.len()) || !is_value_len(parts.value.len()) {
         return None;
     }
-    let (key, rest) = take_bytes(rest, head.key_length as usize)?;
-    let (value, _) = take_bytes(rest, head.value_length as usize)?;
-    let length = RECORD_HEAD_BYTES as u32 + head.key_length as u32 + head.value_length;
-    if head.flag == VALUE_FLAG {
-        Some(RecordRef {
-            key,
-            value: Some(value),
-            length,
-        })
-    } else {
-        Some(RecordRef {
-            key,
-            value: None,
-            length,
-        })
-    }
+    let value = parts.change()?;
+    let length = RECORD_HEAD_BYTES + parts.key.len() + parts.value.len();
+    Some(RecordRef {
+        key: parts.key,
+        value,
+        length: length as u32,
+    })
 }

@@ -1,39 +1,37 @@
-use Rattle.std.proofs.Common.{arith, sym, ap, ◌∙◌, length, length-append}
-use Rattle.vl_record.proofs.Records.{if_none, none_at_unlawful, none_cut, none_without_head, spelled_deletion, spelled_value}
+use Rattle.std.proofs.Common.{sym, ◌∙◌}
+use Rattle.std.specs.Option.{option_copied}
+use Rattle.vl_model.specs.Keys.{value_bytes}
+use Rattle.vl_record.specs.Record.{change_of, flag_of}
+use Rattle.vl_record.specs.Laws.{spelled_apart}
+use Rattle.vl_record.proofs.Records.{agrees, is_spelled}
 use Rattle.vl_record.proofs.record.read.read_record.Goals as goal
+use Rattle.vl_record.proofs.record.read.read_record.Goals.{then-not-is_key_len-via-then-not-is_key_len, then-not-is_key_len-via-else-not-is_key_len+then-not-is_value_len}
 
-pub returns-in_err-head-clause-none : goal.returns-in_err-head-clause-none
-returns-in_err-head-clause-none c =
-    if_none _ c.args.bytes.now (λ key change s. none_without_head c.args.bytes.now key change c.in_err-head.ensures.none s)
+-- nothing comes apart
+pub returns-in_err-parts-clause-none : goal.returns-in_err-parts-clause-none
+returns-in_err-parts-clause-none c =
+    rw c.from_residual.ensures (λ key change s. c.in_err-parts.ensures.none (flag_of change) key (value_bytes change) (spelled_apart c.args.bytes.now key change s))
 
-pub returns-then-not-is_lawful-clause-none : goal.returns-then-not-is_lawful-clause-none
-returns-then-not-is_lawful-clause-none c key change s =
-    none_at_unlawful c.args.bytes.now c.in_ok-head.rest.now key change c.in_ok-head.head.flag c.in_ok-head.head.key_length c.in_ok-head.head.value_length
-    c.in_ok-head.ensures.fits.0 c.in_ok-head.ensures.fits.1 c.in_ok-head.ensures.found (sym c.is_lawful.ensures ∙ c.if-not-is_lawful.true) s
+-- a length isn't lawful
+pub returns-then-not-is_key_len-clause-none : goal.returns-then-not-is_key_len-clause-none
+returns-then-not-is_key_len-clause-none c = λ key change s.
+    let parts = c.in_ok-parts.parts in
+    let a = agrees c.args.bytes.now parts.key.now parts.value.now parts.flag key change c.in_ok-parts.ensures.found s in
+    elim c.then-not-is_key_len.branch [
+      | then-not-is_key_len-via-then-not-is_key_len w ↦ cc (a.key_length, c.is_key_len.ensures, w.if-not-is_key_len.true)
+      | then-not-is_key_len-via-else-not-is_key_len+then-not-is_value_len w ↦ cc (a.value_length, w.is_value_len.ensures, w.if-not-is_value_len.true)
+    ]
 
-pub returns-in_err-key-clause-none : goal.returns-in_err-key-clause-none
-returns-in_err-key-clause-none c =
-    if_none _ c.args.bytes.now (λ key change s.
-    none_cut c.args.bytes.now c.in_ok-head.rest.now key change c.in_ok-head.head.flag c.in_ok-head.head.key_length c.in_ok-head.head.value_length
-    c.in_ok-head.ensures.fits.0 c.in_ok-head.ensures.fits.1 c.in_ok-head.ensures.found (omega (arith, c.in_err-key.ensures.none)) s)
-
+-- no change has the flag and the value
 pub returns-in_err-value-clause-none : goal.returns-in_err-value-clause-none
 returns-in_err-value-clause-none c =
-    if_none _ c.args.bytes.now (λ key change s.
-    none_cut c.args.bytes.now c.in_ok-head.rest.now key change c.in_ok-head.head.flag c.in_ok-head.head.key_length c.in_ok-head.head.value_length
-    c.in_ok-head.ensures.fits.0 c.in_ok-head.ensures.fits.1 c.in_ok-head.ensures.found
-    (omega (arith, c.in_err-value.ensures.none, c.in_ok-key.ensures.count, ap length c.in_ok-key.ensures.found, length-append c.in_ok-key.key.now c.in_ok-key.rest.now)) s)
+    let parts = c.in_ok-parts.parts in
+    rw c.from_residual-in_err-value.ensures (λ key change s.
+    let a = agrees c.args.bytes.now parts.key.now parts.value.now parts.flag key change c.in_ok-parts.ensures.found s in
+    c.in_err-value.ensures.none change a.flag_is a.value_is)
 
-pub returns-then-head-eq-VALUE_FLAG-clause-found : goal.returns-then-head-eq-VALUE_FLAG-clause-found
-returns-then-head-eq-VALUE_FLAG-clause-found c =
-    spelled_value c.args.bytes.now c.in_ok-head.rest.now c.in_ok-key.rest.now c.in_ok-value.field-0-1.now c.in_ok-key.key.now c.in_ok-value.value.now
-    c.in_ok-head.head.flag c.in_ok-head.head.key_length c.in_ok-head.head.value_length
-    (sym c.is_lawful.ensures ∙ c.if-not-is_lawful.false) c.if-head-eq-VALUE_FLAG.true c.in_ok-head.ensures.found
-    c.in_ok-key.ensures.found c.in_ok-key.ensures.count c.in_ok-value.ensures.found c.in_ok-value.ensures.count
-
-pub returns-else-head-eq-VALUE_FLAG-clause-found : goal.returns-else-head-eq-VALUE_FLAG-clause-found
-returns-else-head-eq-VALUE_FLAG-clause-found c =
-    spelled_deletion c.args.bytes.now c.in_ok-head.rest.now c.in_ok-key.rest.now c.in_ok-value.field-0-1.now c.in_ok-key.key.now c.in_ok-value.value.now
-    c.in_ok-head.head.flag c.in_ok-head.head.key_length c.in_ok-head.head.value_length
-    (sym c.is_lawful.ensures ∙ c.if-not-is_lawful.false) c.if-head-eq-VALUE_FLAG.false c.in_ok-head.ensures.found
-    c.in_ok-key.ensures.found c.in_ok-key.ensures.count c.in_ok-value.ensures.found c.in_ok-value.ensures.count
+pub returns-clause-found : goal.returns-clause-found
+returns-clause-found c =
+    let parts = c.in_ok-parts.parts in
+    is_spelled c.args.bytes.now parts.key.now parts.value.now parts.flag (change_of (option_copied c.in_ok-value.value)) c.in_ok-parts.ensures.found c.in_ok-value.ensures.flag c.in_ok-value.ensures.value
+    (sym c.is_key_len.ensures ∙ c.if-not-is_key_len.false) (sym c.is_value_len.ensures ∙ c.if-not-is_value_len.false)
