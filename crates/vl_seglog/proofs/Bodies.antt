@@ -5,8 +5,9 @@ use Rattle.std.specs.FinMap.{is_sorted}
 use Rattle.byteorder.specs.Endian.{big_bytes}
 use Rattle.vl_model.specs.Keys.{key_cmp}
 use Rattle.vl_model.specs.declared.change.Change.{Change}
-use Rattle.vl_model.specs.declared.limits.TheConstants.{MAX_COMMIT_NUMBER}
-use Rattle.vl_record.specs.Numbers.{one_number}
+use Rattle.vl_model.specs.Limits.{max_commit_number}
+use Rattle.vl_frame.specs.Numbers.{one_number}
+use Rattle.vl_seglog.specs.Laws.{few_records}
 use Rattle.vl_seglog.specs.Log.{Commit, IsCommit, commit_body, head_bytes, records_bytes}
 use Rattle.vl_seglog.specs.Reading.{IsRun}
 
@@ -21,19 +22,19 @@ pub no_head : (body : List ℕ) (c : Commit) → length body < 12 → body ≡ c
 unfolding commit_body
 no_head body c short spelled = let len = ap length spelled in omega (arith, len)
 
-pub agrees : (body : List ℕ) (number count : ℕ) (rest : List ℕ) (c : Commit) → number < 2 ^ 64 → count < 2 ^ 32 → body ≡ head_bytes number count ++ rest → IsCommit c → body ≡ commit_body c → Agrees c number count rest
+pub agrees : (body : List ℕ) (number count : ℕ) (rest : List ℕ) (c : Commit) → number < 2 ^ 64 → count < 2 ^ 32 → body ≡ head_bytes number count ++ rest → length body < 2 ^ 32 → IsCommit c → body ≡ commit_body c → Agrees c number count rest
 unfolding commit_body
-agrees body number count rest c number_fits count_fits e lawful spelled =
+agrees body number count rest c number_fits count_fits e short lawful spelled =
     let both : big_bytes 8 number ++ (big_bytes 4 count ++ rest) ≡ big_bytes 8 c.number ++ (big_bytes 4 (length c.writes) ++ records_bytes c.writes) = sym e ∙ spelled in
     let a = one_number 8 number c.number _ _ number_fits (omega (arith, lawful.last)) both in
-    let b = one_number 4 count (length c.writes) _ _ count_fits lawful.few a.1 in
+    let b = one_number 4 count (length c.writes) _ _ count_fits (few_records c (rw (← spelled) short)) a.1 in
     record { number = a.0; count = b.0; run = record { counted = sym b.0; lawful = lawful.lawful; spelled = b.1 } }
 
 -- a head and a run behind it
-pub is_body : (body : List ℕ) (number count : ℕ) (rest : List ℕ) (writes : List (List ℕ × Change)) → count < 2 ^ 32 → body ≡ head_bytes number count ++ rest → 1 ≤ number → number ≤ MAX_COMMIT_NUMBER → 1 ≤ count
+pub is_body : (body : List ℕ) (number count : ℕ) (rest : List ℕ) (writes : List (List ℕ × Change)) → body ≡ head_bytes number count ++ rest → 1 ≤ number → number ≤ max_commit_number → 1 ≤ count
     → IsRun rest count writes → IsTrue (is_sorted key_cmp writes) → IsCommit (record { number = number; writes = writes }) × (body ≡ commit_body (record { number = number; writes = writes }))
 unfolding commit_body
-is_body body number count rest writes count_fits e first last some run rising = (
-  record { first = first; last = last; some = omega (arith, run.counted); few = omega (arith, run.counted); rising = rising; lawful = run.lawful },
+is_body body number count rest writes e first last some run rising = (
+  record { first = first; last = last; some = omega (arith, run.counted); rising = rising; lawful = run.lawful },
   e ∙ ap (λ (r : List ℕ). head_bytes number count ++ r) run.spelled ∙ ap (λ (n : ℕ). head_bytes number n ++ records_bytes writes) (sym run.counted),
 )

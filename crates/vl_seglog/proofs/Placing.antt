@@ -6,20 +6,20 @@ use Rattle.vl_record.specs.Laws.{length-record_bytes}
 use Rattle.vl_record.specs.Record.{record_bytes, record_length}
 use Rattle.vl_model.specs.declared.pointer.Pointer.{Pointer}
 use Rattle.vl_seglog.specs.Laws.{commit_frame-length, records_length}
-use Rattle.vl_seglog.specs.Log.{AreRecords, Commit, commit_frame, records_bytes}
-use Rattle.vl_seglog.specs.Pointers.{pointers_from}
+use Rattle.vl_seglog.specs.Log.{Commit, commit_frame, records_bytes}
+use Rattle.vl_seglog.specs.PointerLaws.{pointers_from}
 
 -- the pointers to the records that are left go behind those that were found
 pub record UnderWay (file place : ℕ) (found all : List Pointer) (left : List (List ℕ × Change)) : Type 0 where
   pub so_far : found ++ pointers_from file place left ≡ all
-  pub lawful : AreRecords left
+  pub short : length (records_bytes left) < 2 ^ 32
   pub fits : place + length (records_bytes left) < 2 ^ 64
 
 one_more : (file place : ℕ) (found all : List Pointer) (w : List ℕ × Change) (left : List (List ℕ × Change)) (n : ℕ) → n ≡ record_length w.0 w.1 → UnderWay file place found all (w ∷ left)
     → UnderWay file (place + n) (found ++ record { segment = file; place = place; length = n } ∷ []) all left
 one_more file place found all w left n is so_far = rw is (record {
   so_far = append_assoc found (record { segment = file; place = place; length = record_length w.0 w.1 } ∷ []) (pointers_from file (place + record_length w.0 w.1) left) ∙ so_far.so_far;
-  lawful = so_far.lawful.1;
+  short = omega (arith, so_far.short, length-append (record_bytes w.0 w.1) (records_bytes left));
   fits = omega (arith, so_far.fits, length-append (record_bytes w.0 w.1) (records_bytes left), length-record_bytes w.0 w.1);
 })
 
@@ -40,6 +40,13 @@ pub next_fits : (file place : ℕ) (found all : List Pointer) (ws : List (List �
 next_fits file place found all ws i w n lt is len so_far =
     let after = next file place found all ws i w n lt is len so_far in
     omega (arith, after.fits)
+
+-- the record of the first that is left has a length below that of all
+pub next_short : (file place : ℕ) (found all : List Pointer) (ws : List (List ℕ × Change)) (i : ℕ) (w : List ℕ × Change) → i < length ws → w ≡ get_or ws i w → UnderWay file place found all (drop i ws) → record_length w.0 w.1 < 2 ^ 32
+next_short file place found all ws i w lt is so_far =
+    let left = drop (i + 1) ws in
+    let under_way = subst (λ (left : List (List ℕ × Change)). UnderWay file place found all left) (here ws i w lt is) so_far in
+    omega (arith, under_way.short, length-append (record_bytes w.0 w.1) (records_bytes left), length-record_bytes w.0 w.1)
 
 -- ---- the frame has room
 

@@ -1,6 +1,6 @@
 -- What the definition of a log says: that its bytes hold one list of commits, what they are while commits are written behind one another, and what they hold
 -- when a last write was cut.
-use Rattle.std.specs.Prelude.{◌≡◌, ◌⊎◌, ℕ, ◌+◌, ◌-◌, ◌^◌, ◌<◌, ◌≤◌, min, List, [], ◌∷◌, ◌++◌, length, take, drop, refl, true, false, bytes_eq}
+use Rattle.std.specs.Prelude.{◌≡◌, ◌⊎◌, ℕ, ◌+◌, ◌*◌, ◌-◌, ◌^◌, ◌<◌, ◌≤◌, min, List, [], ◌∷◌, ◌++◌, length, take, drop, refl, true, false, bytes_eq}
 use Rattle.std.specs.List.{AllByRecursion, sum_by}
 use Rattle.std.proofs.Common.{sym, ap, subst, ◌∙◌, append_assoc, length-append, arith, inl, inr, ⊎_elim}
 use Rattle.std.proofs.lemmas.Bool.{cases_Bool}
@@ -13,11 +13,12 @@ use Rattle.vl_frame.specs.Frame.{IsSpelled, frame_bytes}
 use Rattle.vl_frame.specs.Laws.{length-frame_bytes, one_frame}
 use Rattle.vl_frame.specs.declared.kinds.FileKind.TheVariants as files
 use Rattle.vl_frame.specs.declared.kinds.FrameKind.TheVariants as kinds
+use Rattle.vl_model.specs.Keys.{value_bytes}
 use Rattle.vl_model.specs.declared.change.Change.{Change}
 use Rattle.vl_record.specs.Laws.{length-record_bytes, one_record}
-use Rattle.vl_record.specs.Numbers.{one_number}
+use Rattle.vl_frame.specs.Numbers.{one_number}
 use Rattle.vl_record.specs.Record.{IsSpelled as IsRecordSpelled, record_bytes, record_length}
-use Rattle.vl_seglog.specs.Log.{AreRecords, Commit, HasFrame, IsCommit, ReadsAs, ReadsLog, StandsAt, commit_body, commit_frame, frames_bytes, log_bytes, log_header, records_bytes}
+use Rattle.vl_seglog.specs.Log.{AreRecords, Commit, HasFrame, IsCommit, ReadsAs, ReadsLog, StandsAt, commit_body, commit_frame, commit_length, frames_bytes, log_bytes, log_header, records_bytes}
 
 -- ---- lengths
 
@@ -35,6 +36,20 @@ records_length (w ∷ writes) =
 body_length : (c : Commit) → length (commit_body c) ≡ 12 + length (records_bytes c.writes)
 unfolding commit_body
 body_length c = omega arith
+
+-- 7 bytes for each record, and those of the keys and values
+parts_length : (writes : List (List ℕ × Change)) → length (records_bytes writes) ≡ 7 * length writes + sum_by (λ write. length write.0 + length (value_bytes write.1)) writes
+parts_length [] = refl
+parts_length (w ∷ writes) =
+    omega (arith, length-append (record_bytes w.0 w.1) (records_bytes writes), length-record_bytes w.0 w.1, parts_length writes, sum_by-cons (λ (write : List ℕ × Change). length write.0 + length (value_bytes write.1)) w writes)
+
+-- A commit's frame has the length that its records' count, and its keys and values give.
+pub length-commit_frame : (file at : ℕ) (c : Commit) → length (commit_frame file at c) ≡ commit_length (length c.writes) (sum_by (λ write. length write.0 + length (value_bytes write.1)) c.writes)
+length-commit_frame file at c = omega (arith, length-frame_bytes file at kinds.Commit (commit_body c), body_length c, parts_length c.writes)
+
+-- Where a body is short enough for a frame, its records can be counted.
+pub few_records : (c : Commit) → length (commit_body c) < 2 ^ 32 → length c.writes < 2 ^ 32
+few_records c short = omega (arith, short, body_length c, parts_length c.writes)
 
 -- A commit's frame has 13 bytes of the frame, 12 of the number and the count, and the records.
 pub commit_frame-length : (file at : ℕ) (c : Commit) → length (commit_frame file at c) ≡ 25 + sum_by (λ write. record_length write.0 write.1) c.writes
@@ -59,13 +74,13 @@ one_records (w ∷ writes) (o ∷ others) p q counts e =
     let first : w ≡ o = λ i. (same.0 i, same.1 i) in
     ap (λ (x : List ℕ × Change). x ∷ writes) first ∙ ap (λ (l : List (List ℕ × Change)). o ∷ l) (one_records writes others p.1 q.1 (omega arith) same.2)
 
-one_body : (c d : Commit) → IsCommit c → IsCommit d → commit_body c ≡ commit_body d → c ≡ d
+one_body : (c d : Commit) → HasFrame c → HasFrame d → commit_body c ≡ commit_body d → c ≡ d
 unfolding commit_body
 one_body c d p q e =
     let bytes : big_bytes 8 c.number ++ (big_bytes 4 (length c.writes) ++ records_bytes c.writes) ≡ big_bytes 8 d.number ++ (big_bytes 4 (length d.writes) ++ records_bytes d.writes) = e in
-    let a = one_number 8 c.number d.number _ _ (omega (arith, p.last)) (omega (arith, q.last)) bytes in
-    let b = one_number 4 (length c.writes) (length d.writes) _ _ p.few q.few a.1 in
-    let writes = one_records c.writes d.writes p.lawful q.lawful b.0 b.1 in
+    let a = one_number 8 c.number d.number _ _ (omega (arith, p.lawful.last)) (omega (arith, q.lawful.last)) bytes in
+    let b = one_number 4 (length c.writes) (length d.writes) _ _ (few_records c p.short) (few_records d q.short) a.1 in
+    let writes = one_records c.writes d.writes p.lawful.lawful q.lawful.lawful b.0 b.1 in
     λ i. record { number = a.0 i; writes = writes i }
 
 -- A commit stands as a frame.
@@ -77,7 +92,7 @@ pub one_commit : (file at : ℕ) (bytes : List ℕ) (c d : Commit) (rest other :
 unfolding frame_of
 one_commit file at bytes c d rest other p q =
     let frames = one_frame files.Log file at bytes kinds.Commit kinds.Commit (commit_body c) (commit_body d) (frame_of file at bytes c rest p) (frame_of file at bytes d other q) in
-    (one_body c d p.lawful q.lawful frames.1, frames.2)
+    (one_body c d (record { lawful = p.lawful; short = p.short }) (record { lawful = q.lawful; short = q.short }) frames.1, frames.2)
 
 -- A log's bytes hold one list of commits.
 pub one_reading : (file at : ℕ) (bytes : List ℕ) (commits others : List Commit) → ReadsAs file at bytes commits → ReadsAs file at bytes others → commits ≡ others

@@ -1,19 +1,20 @@
--- How a log is spelled: 16 bytes that say which file it is, and behind them commits, each in a frame of its own.
-use Rattle.std.specs.Prelude.{◌≡◌, ◌+◌, ◌<◌, ◌≤◌, ◌^◌, ℕ, List, [], ◌∷◌, ◌++◌, length, drop, IsTrue}
+-- How a log is spelled: the header of its file, and behind these 16 bytes commits, each in a frame of its own.
+use Rattle.std.specs.Prelude.{◌≡◌, ◌+◌, ◌*◌, ◌<◌, ◌≤◌, ◌^◌, ℕ, List, [], ◌∷◌, ◌++◌, length, drop, IsTrue}
 use Rattle.std.specs.FinMap.{is_sorted}
 use Rattle.std.specs.List.{AllByRecursion}
 use Rattle.byteorder.specs.Endian.{big_bytes}
 use Rattle.vl_model.specs.Keys.{key_cmp}
 use Rattle.vl_model.specs.declared.change.Change.{Change}
-use Rattle.vl_model.specs.declared.limits.TheConstants.{MAX_COMMIT_NUMBER}
+use Rattle.vl_model.specs.Limits.{max_commit_number}
 use Rattle.vl_frame.specs.Frame.{frame_bytes}
+use Rattle.vl_frame.specs.Header.{header_bytes}
+use Rattle.vl_frame.specs.declared.kinds.FileKind.TheVariants as files
 use Rattle.vl_frame.specs.declared.kinds.FrameKind.TheVariants as kinds
 use Rattle.vl_record.specs.Record.{IsRecord, record_bytes}
-use Rattle.vl_seglog.specs.declared.write.TheConstants.{LOG_HEADER_BYTES}
 
--- the first 16 bytes of the log with this number: VLOG, the format 1, the number, and zero
+-- the header of the log with this number, in format 1
 abbrev pub log_header : ℕ → List ℕ
-log_header number = (86 ∷ 76 ∷ 79 ∷ 71 ∷ []) ++ big_bytes 4 1 ++ big_bytes 4 number ++ big_bytes 4 0
+log_header number = header_bytes files.Log 1 number
 
 -- a commit, and what it does to each key that it names
 pub record Commit : Type 0 where
@@ -24,12 +25,11 @@ pub record Commit : Type 0 where
 abbrev pub AreRecords : List (List ℕ × Change) → Type 0
 AreRecords writes = AllByRecursion (λ write. IsRecord write.0 write.1) writes
 
--- the commits that have a spelling
+-- the commits that a log may have
 pub record IsCommit (c : Commit) : Type 0 where
   pub first : 1 ≤ c.number
-  pub last : c.number ≤ MAX_COMMIT_NUMBER
+  pub last : c.number ≤ max_commit_number
   pub some : 1 ≤ length c.writes
-  pub few : length c.writes < 2 ^ 32
   pub rising : IsTrue (is_sorted key_cmp c.writes)
   pub lawful : AreRecords c.writes
 
@@ -50,6 +50,10 @@ commit_body c = head_bytes c.number (length c.writes) ++ records_bytes c.writes
 abbrev pub commit_frame : ℕ → ℕ → Commit → List ℕ
 commit_frame file at c = frame_bytes file at kinds.Commit (commit_body c)
 
+-- how many bytes the frame of a commit has: 13 of the frame, 12 of the number and the count, 7 for each record, and the keys and values, which have so many together
+abbrev pub commit_length : ℕ → ℕ → ℕ
+commit_length records bytes = 25 + 7 * records + bytes
+
 -- a commit that a frame can hold
 pub record HasFrame (c : Commit) : Type 0 where
   pub lawful : IsCommit c
@@ -62,7 +66,7 @@ frames_bytes file at (c ∷ others) = commit_frame file at c ++ frames_bytes fil
 
 -- the log with this number that holds these commits and nothing else
 abbrev pub log_bytes : ℕ → List Commit → List ℕ
-log_bytes file commits = log_header file ++ frames_bytes file LOG_HEADER_BYTES commits
+log_bytes file commits = log_header file ++ frames_bytes file 16 commits
 
 -- the commit's frame stands at the front of the bytes, which are those of the file from a place on, and the rest follows
 pub record StandsAt (file at : ℕ) (bytes : List ℕ) (c : Commit) (rest : List ℕ) : Type 0 where
@@ -75,6 +79,6 @@ abbrev pub ReadsAs : ℕ → ℕ → List ℕ → List Commit → Type 0
 ReadsAs file at bytes [] = (c : Commit) (rest : List ℕ) → StandsAt file at bytes c rest → ⊥
 ReadsAs file at bytes (c ∷ others) = (rest : List ℕ) × StandsAt file at bytes c rest × ReadsAs file (at + length (commit_frame file at c)) rest others
 
--- the commits that the bytes of the log with this number hold: behind its first bytes stand their frames, and then no commit's
+-- the commits that the bytes of the log with this number hold: from byte 16 on stand their frames, and then no commit's
 abbrev pub ReadsLog : ℕ → List ℕ → List Commit → Type 0
-ReadsLog file bytes commits = ReadsAs file LOG_HEADER_BYTES (drop LOG_HEADER_BYTES bytes) commits
+ReadsLog file bytes commits = ReadsAs file 16 (drop 16 bytes) commits

@@ -1,20 +1,20 @@
 -- Where the records of a commit stand in its log.
-use Rattle.std.specs.Prelude.{◌≡◌, ℕ, ◌+◌, List, [], ◌∷◌, drop}
+use Rattle.std.specs.Prelude.{◌≡◌, ℕ, ◌+◌, List, [], ◌∷◌, ◌++◌, drop, length, slice_get, Some}
 use Rattle.vl_model.specs.declared.change.Change.{Change}
 use Rattle.vl_record.specs.Record.{IsSpelled, record_length}
 use Rattle.vl_model.specs.declared.pointer.Pointer.{Pointer}
-use Rattle.vl_seglog.specs.Log.{Commit}
-use Rattle.vl_seglog.specs.declared.staged.TheConstants.{BEFORE_RECORDS}
+use Rattle.vl_seglog.specs.Log.{records_bytes}
 
--- the pointers to records one behind the other, of which the first stands at a place of the log with this number
-abbrev pub pointers_from : ℕ → ℕ → List (List ℕ × Change) → List Pointer
-pointers_from file place [] = []
-pointers_from file place (write ∷ others) =
-    record { segment = file; place = place; length = record_length write.0 write.1 } ∷ pointers_from file (place + record_length write.0 write.1) others
+-- the pointer to the record of a write that stands behind those of other writes, in a commit whose frame stands at a place of the log with this number:
+-- 17 bytes of the frame stand before the first
+abbrev pub pointer_behind : ℕ → ℕ → List (List ℕ × Change) → List ℕ × Change → Pointer
+pointer_behind file at before write = record { segment = file; place = at + 17 + length (records_bytes before); length = record_length write.0 write.1 }
 
--- the pointers to the records of a commit whose frame stands at a place of the log with this number
-abbrev pub pointers_at : ℕ → ℕ → Commit → List Pointer
-pointers_at file at c = pointers_from file (at + BEFORE_RECORDS) c.writes
+-- These are the pointers to the records of a commit whose frame stands there, one for each write, in their order.
+pub record ArePointers (file at : ℕ) (writes : List (List ℕ × Change)) (pointers : List Pointer) : Type 0 where
+  pub counted : length pointers ≡ length writes
+  pub each : (before : List (List ℕ × Change)) (write : List ℕ × Change) (after : List (List ℕ × Change)) → writes ≡ before ++ write ∷ after
+      → slice_get pointers (length before) ≡ Some (pointer_behind file at before write)
 
 -- the record of this change to the key stands where the pointer leads to, in the bytes of the log with this number, and has its length
 pub record LeadsTo (file : ℕ) (bytes : List ℕ) (p : Pointer) (key : List ℕ) (change : Change) : Type 0 where

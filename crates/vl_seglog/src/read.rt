@@ -11,9 +11,8 @@ use crate::commit::Commit;
 use crate::read::order::is_rising;
 use crate::read::records::read_records;
 use std::alloc::{AllocError, Global};
-use vl_frame::{FileKind, FrameKind, read_frame};
+use vl_frame::{FileKind, FrameKind, read_frame, take_u32, take_u64};
 use vl_model::MAX_COMMIT_NUMBER;
-use vl_record::{take_u32, take_u64};
 
 /// The commit whose frame stands at the front of the bytes, which are those of the log with the number `file` from the
 /// place `at` on, and the bytes behind the frame.
@@ -43,6 +42,7 @@ pub fn read_commit(
 
 // The commit that the body of a frame spells.
 fn read_body(alloc: Global, body: &[u8]) -> Result<Option<Commit>, AllocError>
+    requires { length body.now < 2 ^ 32 }
     ensures found { IfOk result (λ read. IfSome read (λ c. log.IsCommit (commit_of c) × (body.now ≡ log.commit_body (commit_of c)))) }
     ensures none { IfOk result (λ read. IfNone read ((c : log.Commit) → log.IsCommit c → body.now ≡ log.commit_body c → ⊥)) }
 {

@@ -1,19 +1,24 @@
 ghost use Rattle.std.specs.Prelude.{◌≡◌, ◌+◌, ◌<◌, ◌^◌, length, IfOk, OnOk};
-ghost use Rattle.vl_record.specs.Record.{IsRecord, record_length};
+ghost use Rattle.vl_frame.specs.Frame.{frame_length};
+ghost use Rattle.vl_record.specs.Record.{record_length};
 ghost use Rattle.vl_seglog.specs.Log as log;
-ghost use Rattle.vl_seglog.specs.Pointers.{pointers_at, pointers_from};
+ghost use Rattle.vl_seglog.specs.Pointers.{ArePointers};
 
 use crate::write::write_commit;
 use std::alloc::{AllocError, Global};
 use vl_model::{Change, Key, Pointer};
 use vl_record::RECORD_HEAD_BYTES;
 
-/// How many bytes of a commit's frame stand before its records: five of the frame's, and its number and count.
-pub const BEFORE_RECORDS: usize = 17;
+// How many bytes of a commit's frame stand before its records: five of the frame's, and its number and count.
+const BEFORE_RECORDS: u64 = 17;
 
 /// A frame that is to be appended to a log, and where its records stand then.
 #[derive(Drop)]
 pub struct Staged {
+    /// The number of the log that it was staged for.
+    pub log: u32,
+    /// In bytes: where the frame is to stand there.
+    pub place: u64,
     pub frame: Vec<u8>,
     /// One for each record, in their order.
     pub pointers: Vec<Pointer>,
@@ -28,12 +33,12 @@ pub fn staged_commit(
     number: u64,
     writes: &[(Key, Change)],
 ) -> Result<Staged, AllocError>
-    requires { log.IsCommit (record { number = number; writes = writes.now }) }
+    ensures bound { IfOk result (λ s. (s.log ≡ file) × (s.place ≡ at)) }
     ensures frame { IfOk result (λ s. s.frame.items ≡
         log.commit_frame file at (record { number = number; writes = writes.now })) }
-    ensures pointers { IfOk result (λ s. s.pointers.items ≡
-        pointers_at file at (record { number = number; writes = writes.now })) }
-    ensures has_frame { OnOk result (log.HasFrame (record { number = number; writes = writes.now })) }
+    ensures pointers { IfOk result (λ s. ArePointers file at writes.now s.pointers.items) }
+    ensures short { OnOk result (frame_length
+        (length (log.commit_body (record { number = number; writes = writes.now }))) < 2 ^ 32) }
     ensures fits { IfOk result (λ s. at + length s.frame.items < 2 ^ 64) }
 {
     let mut frame = Vec::new(alloc);
@@ -41,23 +46,28 @@ pub fn staged_commit(
     if frame.len() as u64 > u64::MAX - at {
         return Err(AllocError);
     }
-    let pointers = pointers(alloc, file, at + BEFORE_RECORDS as u64, writes)?;
-    Ok(Staged { frame, pointers })
+    let pointers = pointers(alloc, file, at, writes)?;
+    Ok(Staged {
+        log: file,
+        place: at,
+        frame,
+        pointers,
+    })
 }
 
-// The pointers to records one behind the other, of which the first stands at this place.
+// The pointers to the records of a commit whose frame is to stand at this place.
 fn pointers(
     alloc: Global,
     segment: u32,
-    place: u64,
+    at: u64,
     writes: &[(Key, Change)],
 ) -> Result<Vec<Pointer>, AllocError>
-    requires lawful { log.AreRecords writes.now }
-    requires fits { place + length (log.records_bytes writes.now) < 2 ^ 64 }
-    ensures { IfOk result (λ pointers. pointers.items ≡ pointers_from segment place writes.now) }
+    requires short { length (log.records_bytes writes.now) < 2 ^ 32 }
+    requires fits { at + 17 + length (log.records_bytes writes.now) < 2 ^ 64 }
+    ensures { IfOk result (λ pointers. ArePointers segment at writes.now pointers.items) }
 {
     let mut pointers = Vec::new(alloc);
-    let mut place = place;
+    let mut place = at + BEFORE_RECORDS;
     for (key, change) in writes {
         let length = length_of(key, change);
         pointers.push(Pointer {
@@ -72,12 +82,8 @@ fn pointers(
 
 // How many bytes a record has.
 fn length_of(key: &Key, change: &Change) -> u32
-    requires { IsRecord key.now change.now }
+    requires { record_length key.now change.now < 2 ^ 32 }
     ensures { result ≡ record_length key.now change.now }
 {
-    let value_length = match change {
-        Change::Set(value) => value.as_slice().len(),
-        Change::Delete => 0,
-    };
-    (RECORD_HEAD_BYTES + key.as_slice().len() + value_length) as u32
+    (RECORD_HEAD_BYTES + key.len() + change.value_len()) as u32
 }

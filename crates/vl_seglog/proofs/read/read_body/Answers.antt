@@ -15,7 +15,7 @@ returns-in_default-clause-none c = λ commit lawful spelled.
 
 pub returns-then-number-eq0-clause-none : goal.returns-then-number-eq0-clause-none
 returns-then-number-eq0-clause-none c = λ commit lawful spelled.
-    let a = agrees c.args.body.now c.in-Some.number c.in-Some.count c.in-Some.rest.now commit c.in-Some.ensures.fits.0 c.in-Some.ensures.fits.1 c.in-Some.ensures.found lawful spelled in
+    let a = agrees c.args.body.now c.in-Some.number c.in-Some.count c.in-Some.rest.now commit c.in-Some.ensures.fits.0 c.in-Some.ensures.fits.1 c.in-Some.ensures.found c.requires lawful spelled in
     elim c.then-number-eq0.branch [
       | then-number-eq0-via-then-number-eq0 w ↦ omega (arith, a.number, lawful.first)
       | then-number-eq0-via-else-number-eq0+then-number-gt-MAX_COMMIT_NUMBER w ↦ omega (arith, a.number, lawful.last)
@@ -24,12 +24,12 @@ returns-then-number-eq0-clause-none c = λ commit lawful spelled.
 
 pub returns-in_default-2-clause-none : goal.returns-in_default-2-clause-none
 returns-in_default-2-clause-none c = λ commit lawful spelled.
-    let a = agrees c.args.body.now c.in-Some.number c.in-Some.count c.in-Some.rest.now commit c.in-Some.ensures.fits.0 c.in-Some.ensures.fits.1 c.in-Some.ensures.found lawful spelled in
+    let a = agrees c.args.body.now c.in-Some.number c.in-Some.count c.in-Some.rest.now commit c.in-Some.ensures.fits.0 c.in-Some.ensures.fits.1 c.in-Some.ensures.found c.requires lawful spelled in
     at_none c.in_ok-writes.field-0 ((writes : List (List ℕ × Change)) → IsRun c.in-Some.rest.now c.in-Some.count writes → ⊥) c.in_default-2.not-Some c.in_ok-writes.ensures.none commit.writes a.run
 
 pub returns-then-not-is_rising-clause-none : goal.returns-then-not-is_rising-clause-none
 returns-then-not-is_rising-clause-none c = λ commit lawful spelled.
-    let a = agrees c.args.body.now c.in-Some.number c.in-Some.count c.in-Some.rest.now commit c.in-Some.ensures.fits.0 c.in-Some.ensures.fits.1 c.in-Some.ensures.found lawful spelled in
+    let a = agrees c.args.body.now c.in-Some.number c.in-Some.count c.in-Some.rest.now commit c.in-Some.ensures.fits.0 c.in-Some.ensures.fits.1 c.in-Some.ensures.found c.requires lawful spelled in
     let run = rw c.in-Some-2.is at c.in_ok-writes.ensures.found in
     let one : commit.writes ≡ c.in-Some-2.writes.items = one_records commit.writes c.in-Some-2.writes.items a.run.lawful run.lawful (a.run.counted ∙ sym run.counted) (sym a.run.spelled ∙ run.spelled) in
     let falls : is_sorted key_cmp c.in-Some-2.writes.items ≡ false = sym (ap (is_sorted key_cmp) c.deref.ensures.value) ∙ sym c.is_rising.ensures ∙ c.if-not-is_rising.true in
@@ -39,5 +39,5 @@ returns-then-not-is_rising-clause-none c = λ commit lawful spelled.
 pub returns-clause-found : goal.returns-clause-found
 returns-clause-found c =
     let run = rw c.in-Some-2.is at c.in_ok-writes.ensures.found in
-    is_body c.args.body.now c.in-Some.number c.in-Some.count c.in-Some.rest.now c.in-Some-2.writes.items c.in-Some.ensures.fits.1 c.in-Some.ensures.found
+    is_body c.args.body.now c.in-Some.number c.in-Some.count c.in-Some.rest.now c.in-Some-2.writes.items c.in-Some.ensures.found
     (omega arith) (omega arith) (omega arith) run (sym (ap (is_sorted key_cmp) c.deref.ensures.value) ∙ sym c.is_rising.ensures ∙ c.if-not-is_rising.false)
