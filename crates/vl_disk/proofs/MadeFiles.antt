@@ -1,100 +1,155 @@
 -- The three calls that make a file.
-use Rattle.std.proofs.Common.{◌≡◌, ⊎_elim, ℕ, ◌+◌, ◌-◌, ◌^◌, ◌≤◌, min, List, length, Option, None, Some, ◌∙◌, ap, arith, ◌⊎◌, Result, Ok, Err, OnErr, refl}
+use Rattle.std.proofs.Common.{◌≡◌, ◌⊎◌, ⊎_elim, ℕ, ◌+◌, ◌-◌, ◌^◌, ◌≤◌, min, true, false, List, length, Option, None, Some, Result, Ok, Err, IsErr, OnOk, OnErr, ◌∙◌, ap, sym, subst, arith, refl}
 use Rattle.std.proofs.lemmas.List.{take_all}
-use Rattle.std.specs.Option.{option_map}
+use Rattle.std.proofs.lemmas.Result.{on_ok_weaker, on_err_weaker}
 use Rattle.std.specs.FinMap.{get, insert}
 use Rattle.vl_disk.specs.declared.name.Name.{Name}
 use Rattle.vl_disk.specs.NameMap.{get_inserted, inserted_twice}
-use Rattle.vl_disk.specs.DiskState.{File, Files, DiskState, new_file, settled, synced_file, lengthened, counted, created, appended, synced}
+use Rattle.vl_disk.specs.DiskState.{File, Files, DiskState, new_file, settled, synced_file, lengthened, created, appended, synced}
 use Rattle.vl_disk.specs.Changes.{created_there, changed_files}
-use Rattle.vl_disk.specs.Crash.{SameFiles, WhileCreating, WhileAppending, WhileSyncing}
-use Rattle.vl_disk.specs.Disk.{Turns, While}
-use Rattle.vl_disk.specs.MadeFile.{made, WhileMaking, TellsPart, not_there, empty, in_part, durable}
-
--- of a call that fails
-pub at_err : {T E : Type 0} (r : Result T E) (P : Type 0) → P → OnErr r P
-at_err (Ok x) P p = tt
-at_err (Err e) P p = p
-
-none_state : (d : DiskState) → None ≡ Some d → ⊥
-none_state d e = cc
+use Rattle.vl_disk.specs.declared.watched.Watched.{Ghosts}
+use Rattle.vl_disk.specs.Calls.{Creates, Appends, Syncs}
+use Rattle.vl_disk.specs.Faults.{HasCause, one_more, after_calls}
+use Rattle.vl_disk.specs.Spare.{Spare}
+use Rattle.vl_disk.specs.Crash.{WhileCreating, WhileAppending, WhileSyncing}
+use Rattle.vl_disk.specs.Disk.{Turns}
+use Rattle.vl_disk.specs.Moments.{Elapses, While, passes_weaker, passes_then}
+use Rattle.vl_disk.specs.MadeFile.{made, WhileMaking, TellsPart, Makes, not_there, empty, in_part, durable}
 
 module _ (name : Name) (bytes : List ℕ) where
-  module _ (disk : DiskState) where
-    abbrev whole : File
-    whole = lengthened bytes (length bytes) new_file
+  abbrev whole : File
+  whole = lengthened bytes (length bytes) new_file
 
-    created_appended : (appended name bytes (length bytes) (created name disk)).standing ≡ insert disk.standing name whole
-    created_appended =
-        changed_files name (created name disk) (lengthened bytes (length bytes)) new_file (created_there name disk) ∙ inserted_twice disk.standing name new_file whole
+  -- after the first call, and after the second
+  abbrev first : DiskState → DiskState
+  first disk = created name disk
 
-    whole_bytes : whole.bytes ≡ bytes
-    whole_bytes = take_all (length bytes) bytes (omega arith)
+  abbrev second : DiskState → DiskState
+  second disk = appended name bytes (length bytes) (first disk)
 
-    pub all_synced : (synced name (appended name bytes (length bytes) (created name disk))).standing ≡ insert disk.standing name (settled bytes)
-    all_synced =
-        changed_files name (appended name bytes (length bytes) (created name disk)) synced_file whole (ap (λ (files : Files). get files name) created_appended ∙ get_inserted disk.standing name whole)
-        ∙ ap (λ (files : Files). insert files name (settled whole.bytes)) created_appended
-        ∙ inserted_twice disk.standing name whole (settled whole.bytes)
-        ∙ ap (λ (b : List ℕ). insert disk.standing name (settled b)) whole_bytes
+  is_made : (disk : DiskState) → synced name (second disk) ≡ made name bytes disk
+  is_made disk = ap (λ (files : Files). record (made name bytes disk) { standing = files })
+      (changed_files name (second disk) synced_file whole (ap (λ (files : Files). get files name) handed ∙ get_inserted disk.standing name whole)
+      ∙ ap (λ (files : Files). insert files name (settled whole.bytes)) handed
+      ∙ inserted_twice disk.standing name whole (settled whole.bytes)
+      ∙ ap (λ (b : List ℕ). insert disk.standing name (settled b)) (take_all (length bytes) bytes (omega arith)))
+    where
+      handed : (second disk).standing ≡ insert disk.standing name whole
+      handed = changed_files name (first disk) (lengthened bytes (length bytes)) new_file (created_there name disk) ∙ inserted_twice disk.standing name new_file whole
 
-    three : (n : ℕ) → min (min (min (n + 1) (2 ^ 64 - 1) + 1) (2 ^ 64 - 1) + 1) (2 ^ 64 - 1) ≡ min (n + 3) (2 ^ 64 - 1)
-    three n = omega arith
-
-    pub is_made : counted (synced name (counted (appended name bytes (length bytes) (counted (created name disk))))) ≡ made name bytes disk
-    is_made =
-        ap (λ (files : Files). record (counted (synced name (counted (appended name bytes (length bytes) (counted (created name disk)))))) { standing = files }) all_synced
-        ∙ ap (λ (n : ℕ). record (made name bytes disk) { calls = n }) (three disk.calls)
+  while_created : (told : Option DiskState) (now : DiskState) → While told (WhileCreating name) now → While told (WhileMaking name bytes) now
+  while_created told now is disk there = ⊎_elim (λ (same : now ≡ disk). not_there same) (λ (same : now ≡ first disk). empty same) (is disk there)
 
   module _ (told0 told1 : Option DiskState) (creates : Turns (created name) told0 told1) (now : DiskState) where
-    pub while_created : While told0 (WhileCreating name) now → While told0 (WhileMaking name bytes) now
-    while_created is disk told = ⊎_elim (λ (same : SameFiles now disk). not_there same) (λ (same : SameFiles now (created name disk)). empty same) (is disk told)
-
-    pub while_appended : While told1 (WhileAppending name bytes) now → While told0 (WhileMaking name bytes) now
+    while_appended : While told1 (WhileAppending name bytes) now → While told0 (WhileMaking name bytes) now
     while_appended is disk told =
-        let after : told1 ≡ Some (counted (created name disk)) = cc in
+        let after : told1 ≡ Some (first disk) = cc in
         ⊎_elim
-        (λ (same : SameFiles now (counted (created name disk))). empty (record { standing = same.standing; removed = same.removed }))
-        (λ (part : (taken : ℕ) × (taken ≤ length bytes) × SameFiles now (appended name bytes taken (counted (created name disk)))). in_part part.0 part.1 (record { standing = part.2.standing; removed = part.2.removed }))
-        (is (counted (created name disk)) after)
+        (λ (same : now ≡ first disk). empty same)
+        (λ (part : (taken : ℕ) × (taken ≤ length bytes) × (now ≡ appended name bytes taken (first disk))). in_part part.0 part.1 part.2)
+        (is (first disk) after)
 
-    pub while_synced : (told2 : Option DiskState) → Turns (appended name bytes (length bytes)) told1 told2 → While told2 (WhileSyncing name) now → While told0 (WhileMaking name bytes) now
+    while_synced : (told2 : Option DiskState) → Turns (appended name bytes (length bytes)) told1 told2 → While told2 (WhileSyncing name) now → While told0 (WhileMaking name bytes) now
     while_synced told2 appends is disk told =
-        let after : told1 ≡ Some (counted (created name disk)) = cc in
-        let later : told2 ≡ Some (counted (appended name bytes (length bytes) (counted (created name disk)))) = cc in
+        let after : told1 ≡ Some (first disk) = cc in
+        let later : told2 ≡ Some (second disk) = cc in
         ⊎_elim
-        (λ (same : SameFiles now (counted (appended name bytes (length bytes) (counted (created name disk))))). in_part (length bytes) (omega arith) (record { standing = same.standing; removed = same.removed }))
-        (λ (same : SameFiles now (synced name (counted (appended name bytes (length bytes) (counted (created name disk)))))). durable (record { standing = same.standing ∙ all_synced disk; removed = same.removed }))
-        (is (counted (appended name bytes (length bytes) (counted (created name disk)))) later)
+        (λ (same : now ≡ second disk). in_part (length bytes) (omega arith) same)
+        (λ (same : now ≡ synced name (second disk)). durable (same ∙ is_made disk))
+        (is (second disk) later)
 
-  pub told_made : (told0 told1 told2 told3 : Option DiskState) → Turns (created name) told0 told1 → Turns (appended name bytes (length bytes)) told1 told2 → Turns (synced name) told2 told3 → told3 ≡ option_map (made name bytes) told0
+  told_made : (told0 told1 told2 told3 : Option DiskState) → Turns (created name) told0 told1 → Turns (appended name bytes (length bytes)) told1 told2 → Turns (synced name) told2 told3 → Turns (made name bytes) told0 told3
   told_made None told1 told2 told3 a b c = cc
   told_made (Some disk) told1 told2 told3 a b c =
-      let after : told3 ≡ Some (counted (synced name (counted (appended name bytes (length bytes) (counted (created name disk)))))) = cc in
+      let after : told3 ≡ Some (synced name (second disk)) = cc in
       after ∙ ap Some (is_made disk)
 
   -- what stands where the first call fails, the second, or the third
-  pub create_failed : (told0 told1 : Option DiskState) → Turns (λ disk. disk) told0 told1 ⊎ Turns (created name) told0 told1 → TellsPart name bytes told0 told1
+  create_failed : (told0 told1 : Option DiskState) → (told1 ≡ told0) ⊎ Turns (created name) told0 told1 → TellsPart name bytes told0 told1
   create_failed None told1 failed = ⊎_elim (λ (same : told1 ≡ None). same) (λ (same : told1 ≡ None). same) failed
   create_failed (Some disk) told1 failed = ⊎_elim
-      (λ (is : told1 ≡ Some (counted disk)).
-      (counted disk, is, not_there (record { standing = refl; removed = refl }), (1, omega arith, omega arith, refl)))
-      (λ (is : told1 ≡ Some (counted (created name disk))).
-      (counted (created name disk), is, empty (record { standing = refl; removed = refl }), (1, omega arith, omega arith, refl)))
+      (λ (is : told1 ≡ Some disk). (disk, is, not_there refl))
+      (λ (is : told1 ≡ Some (first disk)). (first disk, is, empty refl))
       failed
 
-  two : (n : ℕ) → min (min (n + 1) (2 ^ 64 - 1) + 1) (2 ^ 64 - 1) ≡ min (n + 2) (2 ^ 64 - 1)
-  two n = omega arith
-
-  pub append_failed : (told0 told1 told2 : Option DiskState) → Turns (created name) told0 told1 → (taken : ℕ) × (taken ≤ length bytes) × Turns (appended name bytes taken) told1 told2 → TellsPart name bytes told0 told2
+  append_failed : (told0 told1 told2 : Option DiskState) → Turns (created name) told0 told1 → (taken : ℕ) × (taken ≤ length bytes) × Turns (appended name bytes taken) told1 told2 → TellsPart name bytes told0 told2
   append_failed None told1 told2 a failed = let b : Turns (appended name bytes failed.0) told1 told2 = failed.2 in cc
   append_failed (Some disk) told1 told2 a failed =
       let b : Turns (appended name bytes failed.0) told1 told2 = failed.2 in
-      let is : told2 ≡ Some (counted (appended name bytes failed.0 (counted (created name disk)))) = cc in
-      (counted (appended name bytes failed.0 (counted (created name disk))), is, in_part failed.0 failed.1 (record { standing = refl; removed = refl }), (2, omega arith, omega arith, two disk.calls))
+      let is : told2 ≡ Some (appended name bytes failed.0 (first disk)) = cc in
+      (appended name bytes failed.0 (first disk), is, in_part failed.0 failed.1 refl)
 
-  pub sync_failed : (told0 told1 told2 told3 : Option DiskState) → Turns (created name) told0 told1 → Turns (appended name bytes (length bytes)) told1 told2 → Turns (λ disk. disk) told2 told3 → TellsPart name bytes told0 told3
+  sync_failed : (told0 told1 told2 told3 : Option DiskState) → Turns (created name) told0 told1 → Turns (appended name bytes (length bytes)) told1 told2 → told3 ≡ told2 → TellsPart name bytes told0 told3
   sync_failed None told1 told2 told3 a b failed = cc
   sync_failed (Some disk) told1 told2 told3 a b failed =
-      let is : told3 ≡ Some (counted (counted (appended name bytes (length bytes) (counted (created name disk))))) = cc in
-      (counted (counted (appended name bytes (length bytes) (counted (created name disk)))), is, in_part (length bytes) (omega arith) (record { standing = refl; removed = refl }), (3, omega arith, omega arith, three disk disk.calls))
+      let is : told3 ≡ Some (second disk) = cc in
+      (second disk, is, in_part (length bytes) (omega arith) refl)
+
+false_true : false ≡ true → ⊥
+false_true e = cc
+
+-- a call that passed, and one behind it
+cause_then : (a b c : ℕ) (P Q : Type 0) → HasCause a b P → (P → ⊥) → HasCause b c Q → HasCause a c Q
+cause_then a b c P Q first passed second = subst (λ n. HasCause n c Q) (first.steady passed) second
+
+-- how the making of a file ends, by the call that fails or none
+module _ {D X E : Type 0} (g : Ghosts D) (name : Name) (bytes : List ℕ) (old one : D) where
+  pub ends_at_create : (e : E) (result : Result X E) → IsErr result → Creates {T = X} g name old one (Err e) → Makes g name bytes old one result
+  ends_at_create e (Ok x) fails call = absurd (false_true fails)
+  ends_at_create e (Err f) fails call = record {
+    made = tt;
+    stands = tt;
+    failed = create_failed name bytes (g.told old) (g.told one) call.failed;
+    calls = tt;
+    stops = (1, omega arith, omega arith, call.works.calls);
+    time = passes_weaker _ _ _ _ _ _ call.works.time (while_created name bytes (g.told old));
+    cause = call.works.cause;
+    hold = call.spare.hold;
+    spare = call.spare.elsewhere;
+  }
+
+  module _ (x : X) (creates : Creates {E = E} g name old one (Ok x)) (two : D) where
+    -- time until behind the second call
+    two_pass : Elapses g one two (WhileAppending name bytes) → Elapses g old two (WhileMaking name bytes)
+    two_pass time = passes_then _ _ _ _ _ _ _ _ _ creates.works.time time
+        (while_created name bytes (g.told old)) (while_appended name bytes (g.told old) (g.told one) creates.created)
+
+    pub ends_at_append : (e : E) (result : Result X E) → IsErr result → Appends {T = X} g name bytes one two (Err e) → Makes g name bytes old two result
+    ends_at_append e (Ok y) fails call = absurd (false_true fails)
+    ends_at_append e (Err f) fails call = record {
+      made = tt;
+      stands = tt;
+      failed = append_failed name bytes (g.told old) (g.told one) (g.told two) creates.created call.failed;
+      calls = tt;
+      stops = (2, omega arith, omega arith, call.works.calls ∙ ap one_more creates.works.calls);
+      time = two_pass call.works.time;
+      cause = cause_then _ _ _ _ _ creates.works.cause false_true call.works.cause;
+      hold = call.spare.hold ∙ creates.spare.hold;
+      spare = λ other apart. call.spare.elsewhere other apart ∙ creates.spare.elsewhere other apart;
+    }
+
+    module _ (y : X) (appends : Appends {E = E} g name bytes one two (Ok y)) (new : D) where
+      pub ends_at_sync : (result : Result X E) → Syncs g name two new result → Makes g name bytes old new result
+      ends_at_sync result call = record {
+        made = on_ok_weaker result (told_made name bytes (g.told old) (g.told one) (g.told two) (g.told new) creates.created appends.appended) call.synced;
+        stands = on_ok_always result call.stands;
+        failed = on_err_weaker result (sync_failed name bytes (g.told old) (g.told one) (g.told two) (g.told new) creates.created appends.appended) call.failed;
+        calls = on_ok_always result counts;
+        stops = on_err_always result (3, omega arith, omega arith, counts);
+        time = passes_then _ _ _ _ _ _ _ _ _ (two_pass appends.works.time) call.works.time
+            (λ now is. is) (λ now. while_synced name bytes (g.told old) (g.told one) creates.created now (g.told two) appends.appended);
+        cause = cause_then _ _ _ _ _ creates.works.cause false_true (cause_then _ _ _ _ _ appends.works.cause false_true call.works.cause);
+        hold = ap (λ (s : Spare). s.hold) (call.spare name) ∙ appends.spare.hold ∙ creates.spare.hold;
+        spare = λ other apart. call.spare other ∙ appends.spare.elsewhere other apart ∙ creates.spare.elsewhere other apart;
+      }
+        where
+          counts : g.calls new ≡ after_calls 3 (g.calls old)
+          counts = call.works.calls ∙ ap one_more (appends.works.calls ∙ ap one_more creates.works.calls)
+
+          on_ok_always : {P : Type 0} (r : Result X E) → P → OnOk r P
+          on_ok_always (Ok x) p = p
+          on_ok_always (Err e) p = tt
+
+          on_err_always : {P : Type 0} (r : Result X E) → P → OnErr r P
+          on_err_always (Ok x) p = tt
+          on_err_always (Err e) p = p

@@ -3,7 +3,8 @@ use Rattle.std.specs.Prelude.{◌≡◌, ◌⊎◌, ℕ, ◌≤◌, false, List,
 use Rattle.std.specs.FinMap.{FinMap, get}
 use Rattle.vl_disk.specs.declared.name.Name.{Name}
 use Rattle.vl_disk.specs.Name.{name_cmp}
-use Rattle.vl_disk.specs.DiskState.{File, DiskState, file_at, created, appended, synced, cut_to, without, sealed}
+use Rattle.vl_disk.specs.DiskState.{File, DiskState, created, appended, synced, cut_to, without}
+use Rattle.vl_disk.specs.Disk.{IsInside}
 
 -- what stands on the disk after a crash
 abbrev pub Image : Type 0
@@ -39,33 +40,23 @@ MayLeave disk image = (name : Name) → MayLeaveOne (get disk.standing name) (ge
 abbrev pub ImagesSince : (ℕ → DiskState → Type 0) → ℕ → Image → Type 0
 ImagesSince since t image = (state : DiskState) × since t state × MayLeave state image
 
--- the same files, whatever was counted
-pub record SameFiles (a b : DiskState) : Type 0 where
-  pub standing : a.standing ≡ b.standing
-  pub removed : a.removed ≡ b.removed
-
--- what a disk may be while a call is under way: the call has done nothing yet, or its work in whole or in part
+-- What a disk may be while a call is under way: the call has done nothing yet, or its work in whole or in part.
 
 abbrev pub WhileCreating : Name → DiskState → DiskState → Type 0
-WhileCreating name disk now = SameFiles now disk ⊎ SameFiles now (created name disk)
+WhileCreating name disk now = (now ≡ disk) ⊎ (now ≡ created name disk)
 
 abbrev pub WhileAppending : Name → List ℕ → DiskState → DiskState → Type 0
-WhileAppending name piece disk now =
-    SameFiles now disk ⊎ ((taken : ℕ) × (taken ≤ length piece) × SameFiles now (appended name piece taken disk))
+WhileAppending name piece disk now = (now ≡ disk) ⊎ ((taken : ℕ) × (taken ≤ length piece) × (now ≡ appended name piece taken disk))
 
 abbrev pub WhileSyncing : Name → DiskState → DiskState → Type 0
-WhileSyncing name disk now = SameFiles now disk ⊎ SameFiles now (synced name disk)
+WhileSyncing name disk now = (now ≡ disk) ⊎ (now ≡ synced name disk)
 
 abbrev pub WhileCutting : Name → ℕ → DiskState → DiskState → Type 0
-WhileCutting name len disk now =
-    SameFiles now disk ⊎ ((left : ℕ) × (len ≤ left) × (left ≤ length (file_at disk name).bytes) × SameFiles now (cut_to name len left disk))
+WhileCutting name len disk now = (now ≡ disk) ⊎ ((left : ℕ) × (len ≤ left) × IsInside name left disk × (now ≡ cut_to name len left disk))
 
 abbrev pub WhileRemoving : Name → DiskState → DiskState → Type 0
-WhileRemoving name disk now = SameFiles now disk ⊎ SameFiles now (without name disk)
-
-abbrev pub WhileHolding : Name → DiskState → DiskState → Type 0
-WhileHolding name disk now = SameFiles now disk ⊎ SameFiles now (sealed name disk)
+WhileRemoving name disk now = (now ≡ disk) ⊎ (now ≡ without name disk)
 
 -- what a call leaves alone
 abbrev pub Unchanged : DiskState → DiskState → Type 0
-Unchanged disk now = SameFiles now disk
+Unchanged disk now = now ≡ disk

@@ -1,5 +1,5 @@
 -- What a disk holds, and what each call does to it.
-use Rattle.std.specs.Prelude.{◌≡◌, ℕ, ◌+◌, ◌-◌, ◌^◌, ◌≤◌, min, Bool, true, false, List, [], ◌∷◌, ◌++◌, length, take, drop, Option, None, Some, unwrap_or, IsTrue}
+use Rattle.std.specs.Prelude.{◌≡◌, ℕ, ◌≤◌, min, Bool, true, false, List, [], ◌∷◌, ◌++◌, length, take, drop, Option, None, Some, unwrap_or, IsTrue, All}
 use Rattle.std.specs.Option.{option_map}
 use Rattle.std.specs.FinMap.{FinMap, get, empty, insert, remove}
 use Rattle.vl_disk.specs.declared.name.Name.{Name}
@@ -21,8 +21,6 @@ pub record File : Type 0 where
   pub lasting : Bool
   -- the pieces handed to `append` since the last sync that answered Ok
   pub due : List Piece
-  -- it was held since it was created or the disk was started, and isn't appended to or cut any more
-  pub held : Bool
 
 abbrev pub Files : Type 0
 Files = FinMap name_cmp File
@@ -31,32 +29,22 @@ pub record DiskState : Type 0 where
   pub standing : Files
   -- the files removed since the disk was started that were not created again, as they last were
   pub removed : Files
-  -- how many changing calls were asked for: create, append, sync, cut and remove, failed ones too
-  pub calls : ℕ
 
 -- a disk on which nothing ever stood
 abbrev pub empty_disk : DiskState
-empty_disk = record { standing = empty; removed = empty; calls = 0 }
-
--- a changing call was asked for; the count stands still at its last value
-abbrev pub counted : DiskState → DiskState
-counted disk = record disk { calls = min (disk.calls + 1) (2 ^ 64 - 1) }
+empty_disk = record { standing = empty; removed = empty }
 
 -- a file as `create` makes it
 abbrev pub new_file : File
-new_file = record { bytes = []; synced = 0; wholly_synced = false; lasting = false; due = []; held = false }
+new_file = record { bytes = []; synced = 0; wholly_synced = false; lasting = false; due = [] }
 
--- a file of these bytes as a sync leaves one that wasn't held, or as it stands when the disk is started
+-- a file of these bytes as a sync leaves it, or as it stands when the disk is started
 abbrev pub settled : List ℕ → File
-settled bytes = record { bytes = bytes; synced = length bytes; wholly_synced = true; lasting = true; due = []; held = false }
+settled bytes = record { bytes = bytes; synced = length bytes; wholly_synced = true; lasting = true; due = [] }
 
 -- a file as a sync leaves it
 abbrev pub synced_file : File → File
-synced_file file = record (settled file.bytes) { held = file.held }
-
--- a file that is held
-abbrev pub sealed_file : File → File
-sealed_file file = record file { held = true }
+synced_file file = settled file.bytes
 
 -- the file that stands under this name
 abbrev pub file_at : DiskState → Name → File
@@ -75,10 +63,13 @@ placed name (Some file) files = insert files name file
 abbrev pub with_file : Name → (File → File) → DiskState → DiskState
 with_file name change disk = record disk { standing = placed name (option_map change (get disk.standing name)) disk.standing }
 
--- what is durable stands in the file, and a wholly synced file is as a sync leaves it
 pub record IsLawfulFile (file : File) : Type 0 where
+  -- what is durable stands in the file
   pub within : file.synced ≤ length file.bytes
+  -- a wholly synced file is as a sync leaves it
   pub as_synced : IsTrue file.wholly_synced → file ≡ synced_file file
+  -- a piece that is due begins at the synced length or past it
+  pub due : All (λ piece. file.synced ≤ piece.place) file.due
 
 -- what is so of each disk
 pub record IsLawful (disk : DiskState) : Type 0 where
@@ -115,7 +106,3 @@ cut_to name len left disk = with_file name (shortened len left) disk
 
 abbrev pub without : Name → DiskState → DiskState
 without name disk = record disk { standing = remove disk.standing name; removed = placed name (get disk.standing name) disk.removed }
-
--- the file of this name is held
-abbrev pub sealed : Name → DiskState → DiskState
-sealed name disk = with_file name sealed_file disk

@@ -1,6 +1,21 @@
--- The count of faults that each outside object has: a disk, a reader, a source, a sink.
-use Rattle.std.specs.Prelude.{◌+◌, ◌-◌, ◌^◌, ◌≤◌, ℕ, min}
+-- The counts of calls and of faults that each outside object has: a disk, a reader, a source, a sink.
+use Rattle.std.specs.Prelude.{◌≡◌, ◌+◌, ◌-◌, ◌^◌, ◌≤◌, ℕ, zero, suc, min}
+
+-- one more; a count stands still at its last value
+abbrev pub one_more : ℕ → ℕ
+one_more count = min (count + 1) (2 ^ 64 - 1)
+
+-- so many more
+abbrev pub after_calls : ℕ → ℕ → ℕ
+after_calls zero count = count
+after_calls (suc n) count = one_more (after_calls n count)
 
 -- a fault was counted between these two readings of one count; a count at its last value counts as risen
 abbrev pub Rose : ℕ → ℕ → Type 0
-Rose before now = min (before + 1) (2 ^ 64 - 1) ≤ now
+Rose before now = one_more before ≤ now
+
+-- a fault was counted where the call failed, and none where it didn't
+pub record HasCause (before now : ℕ) (failed : Type 0) : Type 0 where
+  pub later : before ≤ now
+  pub rose : failed → Rose before now
+  pub steady : (failed → ⊥) → now ≡ before

@@ -1,13 +1,16 @@
+pub mod Calls
 pub mod Chance
 pub mod Changes
 pub mod Crash
 pub mod Disk
 pub mod DiskState
+pub mod FaultPlan
 pub mod Faults
 pub mod Lawful
-pub mod Laws
 pub mod MadeFile
 pub mod Moments
 pub mod Name
 pub mod NameMap
+pub mod Spare
 pub mod Standing
+pub mod Started

@@ -1,19 +1,49 @@
 -- Time as a disk has it: what it was at the moments since an earlier one, and so what a crash at one of them may have left.
-use Rattle.std.specs.Prelude.{◌⊎◌, ℕ, ◌≤◌}
-use Rattle.std.proofs.Common.{inl, inr, ⊎_elim, arith}
+use Rattle.std.specs.Prelude.{◌≡◌, ◌⊎◌, ℕ, ◌≤◌, Option, Some}
+use Rattle.std.specs.Option.{ForSome}
+use Rattle.std.proofs.Common.{inl, inr, ⊎_elim, sym, subst, arith}
+use Rattle.vl_disk.specs.declared.watched.Watched.{Ghosts}
 use Rattle.vl_disk.specs.DiskState.{DiskState}
 
 -- Time goes on by a call: since t the disk was what it had been before, or what the call makes of it while it is under way.
-pub record Elapses (before now : ℕ) (past since : ℕ → DiskState → Type 0) (during : DiskState → Type 0) : Type 0 where
+pub record Passes (before now : ℕ) (past since : ℕ → DiskState → Type 0) (during : DiskState → Type 0) : Type 0 where
   pub later : before ≤ now
   pub nothing_else : (t : ℕ) (state : DiskState) → t ≤ before → since t state → past t state ⊎ during state
   pub keeps : (t : ℕ) (state : DiskState) → t ≤ before → past t state → since t state
 
+-- what a disk that tells its bytes may be while a call is under way
+abbrev pub While : Option DiskState → (DiskState → DiskState → Type 0) → DiskState → Type 0
+While told during now = ForSome told (λ disk. during disk now)
+
+-- time goes on for a disk, on which meanwhile stands what `during` says
+abbrev pub Elapses : {D : Type 0} → Ghosts D → D → D → (DiskState → DiskState → Type 0) → Type 0
+Elapses g old new during =
+    Passes (g.moment old) (g.moment new) (g.states_since old) (g.states_since new) (While (g.told old) during)
+
+-- at each moment from old to new the disk has P
+pub record HoldsThroughout {D : Type 0} (g : Ghosts D) (old new : D) (P : DiskState → Type 0) : Type 0 where
+  pub later : g.moment old ≤ g.moment new
+  pub each : (state : DiskState) → g.states_since new (g.moment old) state → P state
+  -- a state since an earlier moment is one that the old disk had since then, or has P
+  pub before : (t : ℕ) (state : DiskState) → t ≤ g.moment old → g.states_since new t state → g.states_since old t state ⊎ P state
+  -- what it was by then it was
+  pub keeps : (t : ℕ) (state : DiskState) → t ≤ g.moment old → g.states_since old t state → g.states_since new t state
+
+-- what follows from what a call makes of it
+pub passes_weaker : (a b : ℕ) (past since : ℕ → DiskState → Type 0) (P Q : DiskState → Type 0)
+    → Passes a b past since P → ((state : DiskState) → P state → Q state) → Passes a b past since Q
+passes_weaker a b past since P Q passes weaker = record {
+  later = passes.later;
+  nothing_else = λ t state earlier was. ⊎_elim
+      (λ (before : past t state). inl before) (λ (now : P state). inr (weaker state now)) (passes.nothing_else t state earlier was);
+  keeps = passes.keeps;
+}
+
 -- two calls, one after the other
-pub elapses_then : (a b c : ℕ) (past between since : ℕ → DiskState → Type 0) (P Q R : DiskState → Type 0)
-    → Elapses a b past between P → Elapses b c between since Q → ((state : DiskState) → P state → R state) → ((state : DiskState) → Q state → R state)
-    → Elapses a c past since R
-elapses_then a b c past between since P Q R first second here there = record {
+pub passes_then : (a b c : ℕ) (past between since : ℕ → DiskState → Type 0) (P Q R : DiskState → Type 0)
+    → Passes a b past between P → Passes b c between since Q → ((state : DiskState) → P state → R state) → ((state : DiskState) → Q state → R state)
+    → Passes a c past since R
+passes_then a b c past between since P Q R first second here there = record {
   later = omega (arith, first.later, second.later);
   nothing_else = λ t state earlier was. ⊎_elim
       (λ (before : between t state). ⊎_elim (λ (long_ago : past t state). inl long_ago) (λ (now : P state). inr (here state now)) (first.nothing_else t state earlier before))
@@ -22,50 +52,50 @@ elapses_then a b c past between since P Q R first second here there = record {
   keeps = λ t state earlier was. second.keeps t state (omega (arith, earlier, first.later)) (first.keeps t state earlier was);
 }
 
--- At each moment from old to new the disk has P.
-pub record HoldsThroughout {D : Type 0} (moment : D → ℕ) (states_since : D → ℕ → DiskState → Type 0) (old new : D) (P : DiskState → Type 0) : Type 0 where
-  pub later : moment old ≤ moment new
-  pub each : (state : DiskState) → states_since new (moment old) state → P state
-  -- a state since an earlier moment is one that the old disk had since then, or has P
-  pub before : (t : ℕ) (state : DiskState) → t ≤ moment old → states_since new t state → states_since old t state ⊎ P state
-  -- what it was by then it was
-  pub keeps : (t : ℕ) (state : DiskState) → t ≤ moment old → states_since old t state → states_since new t state
-
 -- a run of calls, one after the other
-module _ {D : Type 0} (moment : D → ℕ) (states_since : D → ℕ → DiskState → Type 0) (P : DiskState → Type 0) where
+module _ {D : Type 0} (g : Ghosts D) (P : DiskState → Type 0) where
   -- before the first call
-  pub begins : (disk : D) → ((state : DiskState) → states_since disk (moment disk) state → P state) → HoldsThroughout moment states_since disk disk P
+  pub begins : (disk : D) → ((state : DiskState) → g.states_since disk (g.moment disk) state → P state) → HoldsThroughout g disk disk P
   begins disk here = record { later = omega arith; each = here; before = λ t state earlier left. inl left; keeps = λ t state earlier was. was }
 
+  -- the same, by the law `only_now` of a disk
+  pub waits : ((disk : D) (state other : DiskState) → g.told disk ≡ Some state → g.states_since disk (g.moment disk) other → other ≡ state)
+      → (disk : D) (state : DiskState) → g.told disk ≡ Some state → P state → HoldsThroughout g disk disk P
+  waits only_now disk state is here = begins disk (λ now was. subst P (sym (only_now disk state now is was)) here)
+
   -- one call more, while which the disk has P
-  pub goes_on : (old mid new : D) (during : DiskState → Type 0) → HoldsThroughout moment states_since old mid P
-      → Elapses (moment mid) (moment new) (states_since mid) (states_since new) during → ((state : DiskState) → during state → P state)
-      → HoldsThroughout moment states_since old new P
+  pub goes_on : (old mid new : D) (during : DiskState → DiskState → Type 0) → HoldsThroughout g old mid P
+      → Elapses g mid new during → ((state : DiskState) → While (g.told mid) during state → P state) → HoldsThroughout g old new P
   goes_on old mid new during so_far time here = record {
     later = omega (arith, so_far.later, time.later);
-    each = λ state left. ⊎_elim (so_far.each state) (here state) (time.nothing_else (moment old) state so_far.later left);
+    each = λ state left. ⊎_elim (so_far.each state) (here state) (time.nothing_else (g.moment old) state so_far.later left);
     before = λ t state earlier left. ⊎_elim (so_far.before t state earlier) (λ now. inr (here state now)) (time.nothing_else t state (omega (arith, earlier, so_far.later)) left);
     keeps = λ t state earlier was. time.keeps t state (omega (arith, earlier, so_far.later)) (so_far.keeps t state earlier was);
   }
 
+  -- the same of a disk that tells its bytes
+  pub goes_by : (old mid new : D) (state : DiskState) (during : DiskState → DiskState → Type 0) → g.told mid ≡ Some state → HoldsThroughout g old mid P
+      → Elapses g mid new during → ((now : DiskState) → during state now → P now) → HoldsThroughout g old new P
+  goes_by old mid new state during is so_far time here = goes_on old mid new during so_far time (λ now meanwhile. here now (meanwhile state is))
+
 -- what follows from P at each moment
-pub holds_weaker : {D : Type 0} (moment : D → ℕ) (states_since : D → ℕ → DiskState → Type 0) (P Q : DiskState → Type 0) (old new : D)
-    → HoldsThroughout moment states_since old new P → ((state : DiskState) → P state → Q state) → HoldsThroughout moment states_since old new Q
-holds_weaker moment states_since P Q old new holds weaker = record {
+pub holds_weaker : {D : Type 0} (g : Ghosts D) (P Q : DiskState → Type 0) (old new : D)
+    → HoldsThroughout g old new P → ((state : DiskState) → P state → Q state) → HoldsThroughout g old new Q
+holds_weaker g P Q old new holds weaker = record {
   later = holds.later;
   each = λ state left. weaker state (holds.each state left);
-  before = λ t state earlier left. ⊎_elim (λ (long_ago : states_since old t state). inl long_ago) (λ (now : P state). inr (weaker state now)) (holds.before t state earlier left);
+  before = λ t state earlier left. ⊎_elim (λ (long_ago : g.states_since old t state). inl long_ago) (λ (now : P state). inr (weaker state now)) (holds.before t state earlier left);
   keeps = holds.keeps;
 }
 
 -- two runs, one after the other
-pub holds_then : {D : Type 0} (moment : D → ℕ) (states_since : D → ℕ → DiskState → Type 0) (P : DiskState → Type 0) (old mid new : D)
-    → HoldsThroughout moment states_since old mid P → HoldsThroughout moment states_since mid new P → HoldsThroughout moment states_since old new P
-holds_then moment states_since P old mid new first second = record {
+pub holds_then : {D : Type 0} (g : Ghosts D) (P : DiskState → Type 0) (old mid new : D)
+    → HoldsThroughout g old mid P → HoldsThroughout g mid new P → HoldsThroughout g old new P
+holds_then g P old mid new first second = record {
   later = omega (arith, first.later, second.later);
-  each = λ state left. ⊎_elim (λ (so_far : states_since mid (moment old) state). first.each state so_far) (λ (now : P state). now) (second.before (moment old) state first.later left);
+  each = λ state left. ⊎_elim (λ (so_far : g.states_since mid (g.moment old) state). first.each state so_far) (λ (now : P state). now) (second.before (g.moment old) state first.later left);
   before = λ t state earlier left. ⊎_elim
-      (λ (so_far : states_since mid t state). first.before t state earlier so_far)
+      (λ (so_far : g.states_since mid t state). first.before t state earlier so_far)
       (λ (now : P state). inr now)
       (second.before t state (omega (arith, earlier, first.later)) left);
   keeps = λ t state earlier was. second.keeps t state (omega (arith, earlier, first.later)) (first.keeps t state earlier was);

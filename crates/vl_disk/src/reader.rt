@@ -1,7 +1,7 @@
 ghost use Rattle.std.specs.Prelude.{◌≡◌, ℕ, ◌+◌, ◌≤◌, List, length, Option, Some, OnOk, IsErr};
 ghost use Rattle.std.specs.Option.{ForSome};
 ghost use Rattle.vl_disk.specs.DiskState.{bytes_at};
-ghost use Rattle.vl_disk.specs.Disk.{HasCause};
+ghost use Rattle.vl_disk.specs.Faults.{HasCause};
 
 use crate::Failed;
 

@@ -1,6 +1,6 @@
 -- A source over bytes in memory, as a caller sees it.
 use Rattle.std.specs.Prelude.{◌≡◌, ◌++◌, [], List, Some, drop, take, ℕ}
-use Rattle.vl_io.specs.FaultPlan.{Plan, plan_after_failure, plan_after_success}
+use Rattle.vl_disk.specs.FaultPlan.{Plan, plan_after_failure, plan_after_success}
 
 -- the bytes that the last call gave, those that are left, and the calls that fail
 pub record Feed : Type 0 where

@@ -1,6 +1,6 @@
 -- A sink into memory, as a caller sees it.
 use Rattle.std.specs.Prelude.{◌+◌, ◌++◌, ◌<◌, ◌⊎◌, List, length, ℕ}
-use Rattle.vl_io.specs.FaultPlan.{IsDue, Plan, plan_after_failure, plan_after_success}
+use Rattle.vl_disk.specs.FaultPlan.{IsDue, Plan, plan_after_failure, plan_after_success}
 
 -- the bytes that were taken, how many fit in all, and the calls that fail
 pub record Tank : Type 0 where

@@ -1,7 +1,6 @@
 //! Input and output as the program sees them: sources that give bytes and sinks that take them.
 #![tactic(auto)]
 
-mod fault_plan;
 mod sink;
 mod slice_source;
 mod source;

@@ -1,5 +1,5 @@
-ghost use Rattle.std.specs.Prelude.{◌≡◌, ◌≤◌, List, OnErr, OnOk, Option, ℕ};
-ghost use Rattle.vl_disk.specs.Faults.{Rose};
+ghost use Rattle.std.specs.Prelude.{List, IsErr, OnErr, OnOk, Option, ℕ};
+ghost use Rattle.vl_disk.specs.Faults.{HasCause};
 ghost use Rattle.vl_io.specs.Sink.{Takes, TakesPrefix};
 
 use vl_disk::Failed;
@@ -17,7 +17,5 @@ pub trait Sink {
         ensures taken { OnOk result (Takes (held self.old) (held self.new) piece.now) }
         ensures part { OnErr result (TakesPrefix (held self.old) (held self.new) piece.now) }
 
-        ensures counts { faults self.old ≤ faults self.new }
-        ensures steady { OnOk result (faults self.new ≡ faults self.old) }
-        ensures failed { OnErr result (Rose (faults self.old) (faults self.new)) };
+        ensures cause { HasCause (faults self.old) (faults self.new) (IsErr result) };
 }

@@ -1,12 +1,11 @@
-ghost use Rattle.std.specs.Prelude.{◌≡◌, ◌↔◌, ◌+◌, ◌++◌, ◌<◌, ◌≤◌, [], IsErr, IsOk, MatchResult, OnErr, OnOk, IfOk, Some, drop, length, min, take};
-ghost use Rattle.vl_disk.specs.Faults.{Rose};
-ghost use Rattle.vl_io.specs.FaultPlan.{IsDue, new_plan};
+ghost use Rattle.std.specs.Prelude.{◌≡◌, ◌↔◌, ◌+◌, ◌++◌, ◌<◌, ◌≤◌, [], IsErr, IsOk, MatchResult, OnErr, IfOk, Some, drop, length, min, take};
+ghost use Rattle.vl_disk.specs.Faults.{HasCause};
+ghost use Rattle.vl_disk.specs.FaultPlan.{IsDue, new_plan};
 ghost use Rattle.vl_io.specs.SliceSource.{feed_after_failure, feed_after_giving};
 
-use crate::fault_plan::FaultPlan;
 use crate::source::Source;
 use std::marker::Model;
-use vl_disk::Failed;
+use vl_disk::{Failed, FaultPlan};
 
 /// A source over bytes in memory, some calls of which fail.
 #[derive(Drop)]
@@ -65,9 +64,7 @@ impl Source for SliceSource<'_> {
         ensures spends { MatchResult result
             (λ n. length self.new.rest + n ≤ length self.old.rest)
             (λ _. length self.new.rest ≤ length self.old.rest) }
-        ensures counts { self.old.plan.faults ≤ self.new.plan.faults }
-        ensures steady { OnOk result (self.new.plan.faults ≡ self.old.plan.faults) }
-        ensures failed { OnErr result (Rose self.old.plan.faults self.new.plan.faults) }
+        ensures cause { HasCause self.old.plan.faults self.new.plan.faults (IsErr result) }
 
         // What this one does exactly.
         ensures due { IsErr result ↔ IsDue self.old.plan }

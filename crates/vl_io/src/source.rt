@@ -1,5 +1,5 @@
-ghost use Rattle.std.specs.Prelude.{◌≡◌, ◌+◌, ◌++◌, ◌<◌, ◌≤◌, [], List, IfOk, IfSome, MatchResult, OnErr, OnOk, Option, Some, length, take, ℕ};
-ghost use Rattle.vl_disk.specs.Faults.{Rose};
+ghost use Rattle.std.specs.Prelude.{◌≡◌, ◌+◌, ◌++◌, ◌<◌, ◌≤◌, [], List, IfOk, IfSome, IsErr, MatchResult, OnErr, Option, Some, length, take, ℕ};
+ghost use Rattle.vl_disk.specs.Faults.{HasCause};
 ghost use Rattle.vl_io.specs.Source.{Gives};
 
 use vl_disk::Failed;
@@ -36,9 +36,7 @@ pub trait Source {
             (λ n. budget self.new + n ≤ budget self.old)
             (λ _. budget self.new ≤ budget self.old) }
 
-        ensures counts { faults self.old ≤ faults self.new }
-        ensures steady { OnOk result (faults self.new ≡ faults self.old) }
-        ensures failed { OnErr result (Rose (faults self.old) (faults self.new)) };
+        ensures cause { HasCause (faults self.old) (faults self.new) (IsErr result) };
 
     /// What was left when it was last asked is what it gave then and what is left.
     ghost since_asked: { (source : Self) (rest : List ℕ) → left source ≡ Some rest

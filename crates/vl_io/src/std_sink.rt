@@ -1,7 +1,6 @@
 ghost use Rattle.std.specs.Io.KnownBytes.{Appends};
-ghost use Rattle.std.specs.Prelude.{◌≡◌, ◌≤◌, MatchResult, None, OnErr, OnOk};
-ghost use Rattle.vl_disk.specs.Faults.{Rose};
-ghost use Rattle.vl_io.specs.FaultPlan.{one_more};
+ghost use Rattle.std.specs.Prelude.{◌≡◌, IsErr, MatchResult, None, OnOk};
+ghost use Rattle.vl_disk.specs.Faults.{HasCause, one_more};
 
 use crate::sink::Sink;
 use std::io;
@@ -50,9 +49,7 @@ impl<W: Write> Sink for StdSink<W> {
     /// Writes the whole piece and flushes it; no contract tells of the flush.
     fn put(&mut self, piece: &[u8]) -> Result<(), Failed>
         // What each sink promises.
-        ensures counts { self.old.faults ≤ self.new.faults }
-        ensures steady { OnOk result (self.new.faults ≡ self.old.faults) }
-        ensures failed { OnErr result (Rose self.old.faults self.new.faults) }
+        ensures cause { HasCause self.old.faults self.new.faults (IsErr result) }
 
         // What this one does: the piece reaches the writer, where the writer tells its bytes.
         ensures written { OnOk result

@@ -1,7 +1,6 @@
 ghost use Rattle.std.specs.Io.KnownBytes.{Consumes, IsAtEnd, Keeps};
-ghost use Rattle.std.specs.Prelude.{◌≡◌, ◌+◌, ◌-◌, ◌<◌, ◌^◌, ◌≤◌, IfOk, MatchResult, None, OnErr, OnOk, length, take};
-ghost use Rattle.vl_disk.specs.Faults.{Rose};
-ghost use Rattle.vl_io.specs.FaultPlan.{one_more};
+ghost use Rattle.std.specs.Prelude.{◌≡◌, ◌+◌, ◌-◌, ◌<◌, ◌^◌, ◌≤◌, IfOk, IsErr, MatchResult, None, OnErr, length, take};
+ghost use Rattle.vl_disk.specs.Faults.{HasCause, one_more};
 
 use crate::source::Source;
 use std::io::Read;
@@ -63,9 +62,7 @@ impl<R: Read> Source for StdSource<R> {
         ensures spends { MatchResult result
             (λ n. self.new.budget + n ≤ self.old.budget)
             (λ _. self.new.budget ≤ self.old.budget) }
-        ensures counts { self.old.faults ≤ self.new.faults }
-        ensures steady { OnOk result (self.new.faults ≡ self.old.faults) }
-        ensures failed { OnErr result (Rose self.old.faults self.new.faults) }
+        ensures cause { HasCause self.old.faults self.new.faults (IsErr result) }
 
         // What this one does: it gives the bytes that the reader gives, where the reader tells them.
         ensures passes_on { IfOk result (λ n.

@@ -1,14 +1,13 @@
-ghost use Rattle.std.specs.Prelude.{◌≡◌, ◌↔◌, ◌+◌, ◌++◌, ◌≤◌, [], IfOk, IsErr, IsOk, MatchResult, OnErr, OnOk, OnOk, Some, length};
-ghost use Rattle.vl_disk.specs.Faults.{Rose};
-ghost use Rattle.vl_io.specs.FaultPlan.{new_plan};
+ghost use Rattle.std.specs.Prelude.{◌≡◌, ◌↔◌, ◌+◌, ◌++◌, ◌≤◌, [], IfOk, IsErr, IsOk, MatchResult, OnErr, OnOk, Some, length};
+ghost use Rattle.vl_disk.specs.Faults.{HasCause};
+ghost use Rattle.vl_disk.specs.FaultPlan.{new_plan};
 ghost use Rattle.vl_io.specs.Sink.{TakesPrefix};
 ghost use Rattle.vl_io.specs.VecSink.{Refuses, tank_after_failure, tank_after_taking};
 
-use crate::fault_plan::FaultPlan;
 use crate::sink::Sink;
 use std::alloc::{AllocError, Global};
 use std::marker::Model;
-use vl_disk::Failed;
+use vl_disk::{Failed, FaultPlan};
 
 /// A sink into memory, with room for a fixed number of bytes, some calls of which fail.
 #[derive(Drop)]
@@ -70,9 +69,7 @@ impl Sink for VecSink {
         ensures taken { OnOk result (self.new.bytes ≡ self.old.bytes ++ piece.now) }
         ensures part { OnErr result
             (TakesPrefix (Some self.old.bytes) (Some self.new.bytes) piece.now) }
-        ensures counts { self.old.plan.faults ≤ self.new.plan.faults }
-        ensures steady { OnOk result (self.new.plan.faults ≡ self.old.plan.faults) }
-        ensures failed { OnErr result (Rose self.old.plan.faults self.new.plan.faults) }
+        ensures cause { HasCause self.old.plan.faults self.new.plan.faults (IsErr result) }
 
         // What this one does exactly.
         ensures refused { IsErr result ↔ Refuses self.old piece.now }
