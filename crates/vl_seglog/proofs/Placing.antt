@@ -4,7 +4,8 @@ use Rattle.std.proofs.Math.Seq.{drop-cons}
 use Rattle.std.proofs.lemmas.List.{append-nil, drop_all}
 use Rattle.vl_model.specs.declared.change.Change.{Change}
 use Rattle.vl_record.specs.Laws.{length-record_bytes}
-use Rattle.vl_record.specs.Record.{record_bytes, record_length}
+use Rattle.vl_model.specs.Frames.{record_length}
+use Rattle.vl_record.specs.Record.{record_bytes}
 use Rattle.vl_model.specs.declared.pointer.Pointer.{Pointer}
 use Rattle.vl_frame.specs.Frame.{frame_length}
 use Rattle.vl_frame.specs.Laws.{length-frame_bytes}
