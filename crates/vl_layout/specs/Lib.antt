@@ -1,0 +1,16 @@
+pub mod Garbage
+pub mod Levels
+pub mod Logs
+pub mod Merging
+pub mod Relocation
+pub mod Rows
+pub mod Ruling
+pub mod Rulings
+pub mod Shows
+pub mod ShowsLaws
+pub mod Sources
+pub mod Start
+pub mod Tables
+pub mod CommitShows
+pub mod RelocationShows
+pub mod MergeShows

@@ -1,0 +1,11 @@
+-- A pass ends.
+use Rattle.std.specs.Prelude.{None}
+use Rattle.vl_model.specs.History.{History}
+use Rattle.vl_layout.specs.Ruling.{Ruling, leaving}
+use Rattle.vl_layout.specs.declared.layout.Layout.{Layout}
+
+abbrev pub without_pass : Layout → Layout
+without_pass l = record l { pass = None }
+
+abbrev pub end_pass_ruling : Layout → History → Ruling (Unit {0})
+end_pass_ruling l h = leaving tt h (without_pass l)

@@ -1,0 +1,70 @@
+-- Retired files that no pin holds are removed.
+use Rattle.std.specs.Prelude.{ℕ, Bool, not, nat_lt, ◌==◌, List, [], ◌∷◌, ◌++◌, map, length, Option, Some, None, false}
+use Rattle.std.specs.List.{filter, list_any}
+use Rattle.vl_model.specs.History.{History}
+use Rattle.vl_layout.specs.Ruling.{Ruling, leaving}
+use Rattle.vl_layout.specs.declared.file_name.FileName.{FileName}
+use Rattle.vl_layout.specs.declared.file_name.FileName.TheVariants.{Log, Table, Manifest}
+use Rattle.vl_layout.specs.declared.file_name.Retired.{Retired}
+use Rattle.vl_layout.specs.declared.job.OpenJob.{OpenJob}
+use Rattle.vl_layout.specs.declared.job.OpenPass.{OpenPass}
+use Rattle.vl_layout.specs.declared.layout.Layout.{Layout}
+use Rattle.vl_layout.specs.declared.live.Live.{Live}
+use Rattle.vl_layout.specs.declared.live.Pin.{Pin}
+
+-- the files removed
+pub data SweepAnswer : Type 0 where
+  Removed : ℕ → SweepAnswer
+  Halted : FileName → SweepAnswer
+
+abbrev pub job_pin : Option OpenJob → List Pin
+job_pin None = []
+job_pin (Some job) = job.pin ∷ []
+
+abbrev pub pass_pin : Option OpenPass → List Pin
+pass_pin None = []
+pass_pin (Some pass) = pass.pin ∷ []
+
+-- the pins of all that lives or is open
+abbrev pub pins : Layout → List Pin
+pins l = map (λ (x : Live). x.pin) l.live ++ job_pin l.job ++ pass_pin l.pass
+
+-- a pin is below the version number that the file's retirement made
+abbrev pub is_held : List Pin → Retired → Bool
+is_held ps file = list_any (λ (p : Pin). nat_lt p.version_number file.version_number) ps
+
+-- the files that a sweep removes, the earliest retired first
+abbrev pub swept : Layout → List FileName
+swept l = map (λ (r : Retired). r.file) (filter (λ r. not (is_held (pins l) r)) l.retired)
+
+abbrev pub is_same : FileName → FileName → Bool
+is_same (Log a) (Log b) = a == b
+is_same (Log a) (Table b) = false
+is_same (Log a) (Manifest b) = false
+is_same (Table a) (Log b) = false
+is_same (Table a) (Table b) = a == b
+is_same (Table a) (Manifest b) = false
+is_same (Manifest a) (Log b) = false
+is_same (Manifest a) (Table b) = false
+is_same (Manifest a) (Manifest b) = a == b
+
+-- without the retired files that have gone
+abbrev pub without_files : List FileName → Layout → Layout
+without_files gone l = record l { retired = filter (λ (r : Retired). not (list_any (is_same r.file) gone)) l.retired }
+
+-- what is left where a removal fails after these files have gone, but for the halt
+abbrev pub sweep_lost : Layout → List FileName → Layout
+sweep_lost l gone = without_files gone l
+
+abbrev pub sweep_unless : Option FileName → Layout → History → Ruling SweepAnswer
+sweep_unless (Some name) l h = leaving (Halted name) h l
+sweep_unless None l h = record {
+  answer = Removed (length (swept l));
+  history = h;
+  layout = without_files (swept l) l;
+  calls = length (swept l);
+  gone = swept l;
+}
+
+abbrev pub sweep_ruling : Layout → History → Ruling SweepAnswer
+sweep_ruling l h = sweep_unless l.halted l h

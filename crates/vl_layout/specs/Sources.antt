@@ -1,0 +1,68 @@
+-- What a layout has: its sources, its head, its floor, and what its version needs.
+use Rattle.std.specs.Prelude.{ℕ, Bool, true, nat_le, min, ◌==◌, if◌then◌else◌, List, [], ◌∷◌, ◌++◌, map, Option, Some, None}
+use Rattle.std.specs.List.{flat_map, list_any}
+use Rattle.vl_model.specs.History.{History, last_number}
+use Rattle.vl_model.specs.declared.entry.Entry.{Entry}
+use Rattle.vl_layout.specs.Logs.{memtable}
+use Rattle.vl_layout.specs.declared.file_name.FileName.{FileName}
+use Rattle.vl_layout.specs.declared.file_name.FileName.TheVariants.{Log as LogFile, Table as TableFile}
+use Rattle.vl_layout.specs.declared.layout.Layout.{Layout}
+use Rattle.vl_layout.specs.declared.live.Live.{Live}
+use Rattle.vl_layout.specs.declared.segment.Segment.{Segment}
+use Rattle.vl_layout.specs.declared.table.Point.{Point}
+use Rattle.vl_layout.specs.declared.table.Table.{Table}
+
+-- the tables of all levels, the newest source first
+abbrev pub tables : Layout → List Table
+tables l = flat_map (λ level. level) l.levels
+
+abbrev pub table_entries : Table → List Entry
+table_entries t = t.entries
+
+-- the entries of all sources behind the active memtable: the frozen ones, and the tables
+abbrev pub behind_active : Layout → List Entry
+behind_active l = flat_map memtable l.frozen ++ flat_map table_entries (tables l)
+
+-- all entries, end to end, the newest source first
+abbrev pub sources : Layout → List Entry
+sources l = memtable l.active ++ behind_active l
+
+-- of the frozen logs the one that waits longest
+abbrev pub oldest : List Segment → Option Segment
+oldest [] = None
+oldest (s ∷ []) = Some s
+oldest (s ∷ t ∷ ss) = oldest (t ∷ ss)
+
+abbrev pub but_oldest : List Segment → List Segment
+but_oldest [] = []
+but_oldest (s ∷ []) = []
+but_oldest (s ∷ t ∷ ss) = s ∷ but_oldest (t ∷ ss)
+
+abbrev pub number_or : Segment → Option Segment → ℕ
+number_or active None = active.number
+number_or active (Some s) = s.number
+
+-- the least segment whose memtable isn't flushed
+abbrev pub head : Layout → ℕ
+head l = number_or l.active (oldest l.frozen)
+
+abbrev pub least_number : ℕ → List Live → ℕ
+least_number last [] = last
+least_number last (x ∷ xs) = min x.number (least_number last xs)
+
+-- the least number at which a live transaction or view reads, else the last one
+abbrev pub floor : Layout → History → ℕ
+floor l h = least_number (last_number h) l.live
+
+abbrev pub log_of : Segment → FileName
+log_of s = LogFile s.number
+
+abbrev pub table_of : Table → FileName
+table_of t = TableFile t.number
+
+abbrev pub pointed_logs : Table → List FileName
+pointed_logs t = map (λ (p : Point). LogFile p.segment) t.points
+
+-- the files that the version needs: its tables, the logs into which they lead, and the logs of its memtables
+abbrev pub needed : Layout → List FileName
+needed l = map table_of (tables l) ++ flat_map pointed_logs (tables l) ++ map log_of (l.active ∷ l.frozen)

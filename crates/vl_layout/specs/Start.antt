@@ -1,0 +1,52 @@
+-- The layout that an opening leaves. Only here are all of its parts written.
+use Rattle.std.specs.Prelude.{ℕ, List, [], ◌∷◌, None}
+use Rattle.vl_layout.specs.Logs.{new_segment}
+use Rattle.vl_layout.specs.declared.layout.Layout.{Layout}
+use Rattle.vl_layout.specs.declared.segment.Segment.{Segment}
+use Rattle.vl_layout.specs.declared.table.Table.{Table}
+
+-- what an opening found or made
+pub record Found : Type 0 where
+  pub active : Segment
+  -- the logs with frames from head on, and the other ones that stay, the newest first
+  pub frozen : List Segment
+  pub others : List Segment
+  pub levels : List (List Table)
+  pub covered : ℕ
+  pub next_log : ℕ
+  pub next_table : ℕ
+
+-- with nothing live, open, retired or failed
+abbrev pub layout_at_start : ℕ → Found → Layout
+layout_at_start room found = record {
+  active = found.active;
+  frozen = found.frozen;
+  flushed = found.others;
+  levels = found.levels;
+  covered = found.covered;
+  next_log = found.next_log;
+  next_table = found.next_table;
+  version_number = 0;
+  room = room;
+  live = [];
+  job = None;
+  pass = None;
+  retired = [];
+  halted = None;
+}
+
+-- the levels from 0 to the deepest, without tables
+abbrev pub no_tables : List (List Table)
+no_tables = [] ∷ [] ∷ [] ∷ [] ∷ [] ∷ [] ∷ [] ∷ []
+
+-- of a disk that was empty
+abbrev pub fresh_layout : ℕ → Layout
+fresh_layout room = layout_at_start room (record {
+  active = new_segment 1 [];
+  frozen = [];
+  others = [];
+  levels = no_tables;
+  covered = 0;
+  next_log = 2;
+  next_table = 1;
+})
