@@ -45,7 +45,7 @@ module _ {T E : Type 0} (stands : T → T → List E → Type 0) (by : E → ℕ
       let made : (next ≡ count) × (id ≡ root) = subst (λ o. IfSome o (λ k. (k ≡ count) × (id ≡ root))) is mine.made in
       let more = seat_more by seat count id in
       let own : (count < count + 1) × (more count ≡ id) × ([] ≡ entries_by by count list)
-          = (omega arith, ap (λ b. if b then id else seat count) (eq-eqb count count refl), sym (of_next by count list numbers)) in (
+      = (omega arith, ap (λ b. if b then id else seat count) (eq-eqb count count refl), sym (of_next by count list numbers)) in (
         made.0,
         made.1,
         record {
@@ -115,8 +115,8 @@ module _ {T E : Type 0} (stands : T → T → List E → Type 0) (by : E → ℕ
   split_keeps id v s r at =
       let mine = r.views id v at in
       kept_with_new s r r.seat id v v (copied v) at refl refl refl refl mine
-          (record { same = mine.same; seen = mine.seen; told = (v.seen, refl); owns = tt; apart = tt; made = tt })
-          (λ j u _ e. r.views j u e)
+      (record { same = mine.same; seen = mine.seen; told = (v.seen, refl); owns = tt; apart = tt; made = tt })
+      (λ j u _ e. r.views j u e)
 
   -- the split that hands the token's sessions to the new one
   pub deal_keeps : (id : ℕ) (v : View T E) → Splits (Rule stands by start) id v (disowned v) (dealt v)
@@ -124,9 +124,9 @@ module _ {T E : Type 0} (stands : T → T → List E → Type 0) (by : E → ℕ
       let mine = r.views id v at in
       let new : ℕ = length (set s.views id (disowned v)) in
       kept_with_new s r (seat_moved by r.seat id new) id v (disowned v) (dealt v) at refl refl refl refl
-          (record { same = mine.same; seen = mine.seen; told = mine.told; owns = tt; apart = tt; made = mine.made })
-          (record { same = mine.same; seen = mine.seen; told = (v.seen, refl); owns = fit_moves by r.list r.count r.seat id new v.owns mine.owns; apart = mine.apart; made = tt })
-          (λ j u other e. let f = r.views j u e in record { same = f.same; seen = f.seen; told = f.told; owns = fit_stays by r.list r.count r.seat id new j u.owns other f.owns; apart = f.apart; made = f.made })
+      (record { same = mine.same; seen = mine.seen; told = mine.told; owns = tt; apart = tt; made = mine.made })
+      (record { same = mine.same; seen = mine.seen; told = (v.seen, refl); owns = fit_moves by r.list r.count r.seat id new v.owns mine.owns; apart = mine.apart; made = tt })
+      (λ j u other e. let f = r.views j u e in record { same = f.same; seen = f.seen; told = f.told; owns = fit_stays by r.list r.count r.seat id new j u.owns other f.owns; apart = f.apart; made = f.made })
 
   -- join
 
@@ -153,7 +153,7 @@ module _ {T E : Type 0} (stands : T → T → List E → Type 0) (by : E → ℕ
       let middle = changed stands by start s s.words s.homes id both in
       let first = state_still stands by start s s.words r.list r.turn id v both at refl refl (λ has. absurd (false≢true (sym idle ∙ has))) r.state in
       let stays : (j : ℕ) (u : View T E) → j ≢ other → get_elem? s.views j ≡ some u → Fit j u
-          = λ j u far e. let f = r.views j u e in record { same = f.same; seen = f.seen; told = f.told; owns = fit_stays by r.list r.count r.seat other id j u.owns far f.owns; apart = f.apart; made = f.made } in
+      = λ j u far e. let f = r.views j u e in record { same = f.same; seen = f.seen; told = f.told; owns = fit_stays by r.list r.count r.seat other id j u.owns far f.owns; apart = f.apart; made = f.made } in
       record {
         list = r.list;
         turn = r.turn;

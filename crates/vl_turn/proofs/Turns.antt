@@ -61,7 +61,7 @@ module _ {T E : Type 0} (stands : T → T → List E → Type 0) (by : E → ℕ
       let w : View T E = holding m.0 r.list in
       let hs = set s.homes 0 none in
       let alone : (j : ℕ) (u : View T E) → get_elem? (set s.views id w) j ≡ some u → u.holds ≡ true → j ≡ id
-          = each_after_change (λ (j : ℕ) (u : View T E). u.holds ≡ true → j ≡ id) s.views id w (λ _. refl) (λ j u _ e has. absurd (false≢true (sym (f.nobody j u e) ∙ has))) in (
+      = each_after_change (λ (j : ℕ) (u : View T E). u.holds ≡ true → j ≡ id) s.views id w (λ _. refl) (λ j u _ e has. absurd (false≢true (sym (f.nobody j u e) ∙ has))) in (
         w,
         takes 0 (Some f.value),
         ap (λ hs. get_elem? hs 0) f.home,
@@ -166,7 +166,7 @@ module _ {T E : Type 0} (stands : T → T → List E → Type 0) (by : E → ℕ
       let same : x ≡ start = subst (λ o. IfSome o (λ y. y ≡ start)) from mine.same in
       let w : View T E = gave m.0 in
       let nobody : (j : ℕ) (u : View T E) → get_elem? (set s.views id w) j ≡ some u → u.holds ≡ false
-          = each_after_change (λ (j : ℕ) (u : View T E). u.holds ≡ false) s.views id w refl (λ j u other e. not_true u.holds (λ has'. other (h.alone j u e has'))) in (
+      = each_after_change (λ (j : ℕ) (u : View T E). u.holds ≡ false) s.views id w refl (λ j u other e. not_true u.holds (λ has'. other (h.alone j u e has'))) in (
         w,
         gives,
         tt,

@@ -16,6 +16,7 @@ use std::alloc::{AllocError, Global};
 use std::sync::Wait;
 
 /// A lock round a value that stands for a list of entries.
+#[derive(Drop)]
 pub struct TurnLock<T: Standing> {
     raw: RawLock<T>,
 }

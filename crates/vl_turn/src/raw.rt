@@ -23,6 +23,7 @@ const SESSIONS: usize = 2;
 const VALUE: usize = 0;
 
 /// The words and the slot of a lock.
+#[derive(Drop)]
 pub(crate) struct RawLock<T: Standing> {
     table: Table<Option<T>, View<T, T::Entry>, Snapshot<T>, Law, Global>,
     ghost sized: { (table.shared.table_id.words ≡ 3) × (table.shared.table_id.slots ≡ 1) },
@@ -92,7 +93,9 @@ impl<T: Standing> RawLock<T> {
         ensures here { token.new.table_id ≡ token.old.table_id }
         ensures entered { token.new.me ≡ (entered token.old.me.0 W.entry, token.old.me.1) }
     {
-        self.table.shared.fetch_add::<Enter<W>>(token, ENTRIES, amount(enters));
+        self.table
+            .shared
+            .fetch_add::<Enter<W>>(token, ENTRIES, amount(enters));
     }
 
     /// Gives the turn up, with a value in the slot that stands for all that was seen.
