@@ -8,7 +8,7 @@ use Rattle.vl_turn.specs.declared.view.View.{View}
 use Rattle.vl_turn.specs.Entries.{AreNumbered}
 use Rattle.vl_turn.specs.Views.{holding}
 use Rattle.vl_turn.specs.Rule.{OwnsFit, Table, out_slot}
-use Rattle.vl_turn.specs.Steps.{Holder, IsTaken}
+use Rattle.vl_turn.specs.Steps.{TokenState, IsTaken}
 use Rattle.vl_turn.specs.Tokens.{Begins, Owned, IsWhole}
 use Rattle.vl_turn.proofs.Keeping.{Rule, has_it}
 
@@ -17,9 +17,9 @@ pub in_front : {T : Type 0} (slots : List (ℕ × T)) (value : T) → slots ≡ 
 in_front slots value is = is ∙ ap (λ c. (0, value) ∷ rest c) (sym is)
 
 module _ {T E : Type 0} (stands : T → T → List E → Type 0) (by : E → ℕ) (start : T) where
-  owned : (list : List E) (count : ℕ) (seat : ℕ → ℕ) (id : ℕ) (os : List (Own E)) → OwnsFit by list count seat id os → Owned by list os
-  owned list count seat id [] fit = tt
-  owned list count seat id (o ∷ os) fit = (fit.0.2, owned list count seat id os fit.1)
+  owned : (list : List E) (count : ℕ) (token_of : ℕ → ℕ) (id : ℕ) (os : List (Own E)) → OwnsFit by list count token_of id os → Owned by list os
+  owned list count token_of id [] fit = tt
+  owned list count token_of id (o ∷ os) fit = (fit.0.2, owned list count token_of id os fit.1)
 
   all_numbered : (made : Option ℕ) (count root id : ℕ) (list : List E) → IfSome made (λ n. (n ≡ count) × (id ≡ root)) → AreNumbered by count list → IfSome made (λ n. AreNumbered by n list)
   all_numbered None count root id list is all = tt
@@ -33,7 +33,7 @@ module _ {T E : Type 0} (stands : T → T → List E → Type 0) (by : E → ℕ
       let fit = r.views id v at in
       let out : s.homes ≡ some None ∷ [] = h.out ∙ ap out_slot closed in (
         record {
-          owns = subst (λ l. Owned by l v.owns) (sym h.knows) (owned r.list r.count r.seat id v.owns fit.owns);
+          owns = subst (λ l. Owned by l v.owns) (sym h.knows) (owned r.list r.count r.token_of id v.owns fit.owns);
           apart = fit.apart;
           numbers = subst (λ l. IfSome v.made (λ n. AreNumbered by n l)) (sym h.knows) (all_numbered v.made r.count r.root id r.list fit.made r.numbers);
         },

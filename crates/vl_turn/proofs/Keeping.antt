@@ -123,15 +123,15 @@ module _ {T E : Type 0} (stands : T → T → List E → Type 0) (by : E → ℕ
 
   -- a token knows something else, and the list and the sessions are as before
   pub kept_still : (s : Table T E) (r : Rule s) (ws : List ℕ) (hs : List (maybe.Option (Option T))) (turn id : ℕ) (w : View T E) → ws ≡ length r.list % 2 ^ 64 ∷ turn ∷ r.count % 2 ^ 64 ∷ []
-      → Fits by start r.list r.count r.seat r.root id w → IsState (stands start) (changed s ws hs id w) r.list turn → Rule (changed s ws hs id w)
+      → Fits by start r.list r.count r.token_of r.root id w → IsState (stands start) (changed s ws hs id w) r.list turn → Rule (changed s ws hs id w)
   kept_still s r ws hs turn id w words fits state = record {
     list = r.list;
     turn = turn;
     count = r.count;
-    seat = r.seat;
+    token_of = r.token_of;
     root = r.root;
     words = words;
     numbers = r.numbers;
-    views = each_after_change (Fits by start r.list r.count r.seat r.root) s.views id w fits (λ j u _ e. r.views j u e);
+    views = each_after_change (Fits by start r.list r.count r.token_of r.root) s.views id w fits (λ j u _ e. r.views j u e);
     state = state;
   }

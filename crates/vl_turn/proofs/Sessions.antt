@@ -37,66 +37,66 @@ module _ {E : Type 0} (by : E → ℕ) where
   -- the sessions of a token
 
   -- an entry of another token's session
-  pub fit_grown : (list : List E) (count : ℕ) (seat : ℕ → ℕ) (id j : ℕ) (e : E) (os : List (Own E)) → seat (by e) ≡ id → j ≢ id → OwnsFit by list count seat j os → OwnsFit by (list ++ e ∷ []) count seat j os
-  fit_grown list count seat id j e [] its other fit = tt
-  fit_grown list count seat id j e (o ∷ os) its other fit =
+  pub fit_grown : (list : List E) (count : ℕ) (token_of : ℕ → ℕ) (id j : ℕ) (e : E) (os : List (Own E)) → token_of (by e) ≡ id → j ≢ id → OwnsFit by list count token_of j os → OwnsFit by (list ++ e ∷ []) count token_of j os
+  fit_grown list count token_of id j e [] its other fit = tt
+  fit_grown list count token_of id j e (o ∷ os) its other fit =
       let f = fit.0 in
-      let apart : by e ≢ o.number = λ is. other (sym f.1 ∙ (ap seat (sym is) ∙ its)) in
-      ((f.0, f.1, f.2 ∙ sym (of_another list e o.number apart)), fit_grown list count seat id j e os its other fit.1)
+      let apart : by e ≢ o.number = λ is. other (sym f.1 ∙ (ap token_of (sym is) ∙ its)) in
+      ((f.0, f.1, f.2 ∙ sym (of_another list e o.number apart)), fit_grown list count token_of id j e os its other fit.1)
 
   -- with one session more, which the token `id` has
-  abbrev pub seat_more : (ℕ → ℕ) → ℕ → ℕ → ℕ → ℕ
-  seat_more seat count id n = if n == count then id else seat n
+  abbrev pub token_more : (ℕ → ℕ) → ℕ → ℕ → ℕ → ℕ
+  token_more token_of count id n = if n == count then id else token_of n
 
-  pub fit_more : (list : List E) (count : ℕ) (seat : ℕ → ℕ) (id j : ℕ) (os : List (Own E)) → OwnsFit by list count seat j os → OwnsFit by list (count + 1) (seat_more seat count id) j os
-  fit_more list count seat id j [] fit = tt
-  fit_more list count seat id j (o ∷ os) fit =
+  pub fit_more : (list : List E) (count : ℕ) (token_of : ℕ → ℕ) (id j : ℕ) (os : List (Own E)) → OwnsFit by list count token_of j os → OwnsFit by list (count + 1) (token_more token_of count id) j os
+  fit_more list count token_of id j [] fit = tt
+  fit_more list count token_of id j (o ∷ os) fit =
       let f = fit.0 in
       let below : o.number < count = f.0 in
-      ((omega arith, ap (λ b. if b then id else seat o.number) (ne_eqb o.number count (λ e. omega arith)) ∙ f.1, f.2), fit_more list count seat id j os fit.1)
+      ((omega arith, ap (λ b. if b then id else token_of o.number) (ne_eqb o.number count (λ e. omega arith)) ∙ f.1, f.2), fit_more list count token_of id j os fit.1)
 
   -- what the token `other` had, the token `id` has
-  abbrev pub seat_moved : (ℕ → ℕ) → ℕ → ℕ → ℕ → ℕ
-  seat_moved seat other id n = if seat n == other then id else seat n
+  abbrev pub token_moved : (ℕ → ℕ) → ℕ → ℕ → ℕ → ℕ
+  token_moved token_of other id n = if token_of n == other then id else token_of n
 
-  pub fit_stays : (list : List E) (count : ℕ) (seat : ℕ → ℕ) (other id j : ℕ) (os : List (Own E)) → j ≢ other → OwnsFit by list count seat j os → OwnsFit by list count (seat_moved seat other id) j os
-  fit_stays list count seat other id j [] apart fit = tt
-  fit_stays list count seat other id j (o ∷ os) apart fit =
+  pub fit_stays : (list : List E) (count : ℕ) (token_of : ℕ → ℕ) (other id j : ℕ) (os : List (Own E)) → j ≢ other → OwnsFit by list count token_of j os → OwnsFit by list count (token_moved token_of other id) j os
+  fit_stays list count token_of other id j [] apart fit = tt
+  fit_stays list count token_of other id j (o ∷ os) apart fit =
       let f = fit.0 in
-      ((f.0, ap (λ b. if b then id else seat o.number) (ne_eqb (seat o.number) other (λ e. apart (sym f.1 ∙ e))) ∙ f.1, f.2), fit_stays list count seat other id j os apart fit.1)
+      ((f.0, ap (λ b. if b then id else token_of o.number) (ne_eqb (token_of o.number) other (λ e. apart (sym f.1 ∙ e))) ∙ f.1, f.2), fit_stays list count token_of other id j os apart fit.1)
 
-  pub fit_moves : (list : List E) (count : ℕ) (seat : ℕ → ℕ) (other id : ℕ) (os : List (Own E)) → OwnsFit by list count seat other os → OwnsFit by list count (seat_moved seat other id) id os
-  fit_moves list count seat other id [] fit = tt
-  fit_moves list count seat other id (o ∷ os) fit =
+  pub fit_moves : (list : List E) (count : ℕ) (token_of : ℕ → ℕ) (other id : ℕ) (os : List (Own E)) → OwnsFit by list count token_of other os → OwnsFit by list count (token_moved token_of other id) id os
+  fit_moves list count token_of other id [] fit = tt
+  fit_moves list count token_of other id (o ∷ os) fit =
       let f = fit.0 in
-      ((f.0, ap (λ b. if b then id else seat o.number) (eq-eqb (seat o.number) other f.1), f.2), fit_moves list count seat other id os fit.1)
+      ((f.0, ap (λ b. if b then id else token_of o.number) (eq-eqb (token_of o.number) other f.1), f.2), fit_moves list count token_of other id os fit.1)
 
-  pub fit_both : (list : List E) (count : ℕ) (seat : ℕ → ℕ) (id : ℕ) (os ps : List (Own E)) → OwnsFit by list count seat id os → OwnsFit by list count seat id ps → OwnsFit by list count seat id (os ++ ps)
-  fit_both list count seat id [] ps fit also = also
-  fit_both list count seat id (o ∷ os) ps fit also = (fit.0, fit_both list count seat id os ps fit.1 also)
+  pub fit_both : (list : List E) (count : ℕ) (token_of : ℕ → ℕ) (id : ℕ) (os ps : List (Own E)) → OwnsFit by list count token_of id os → OwnsFit by list count token_of id ps → OwnsFit by list count token_of id (os ++ ps)
+  fit_both list count token_of id [] ps fit also = also
+  fit_both list count token_of id (o ∷ os) ps fit also = (fit.0, fit_both list count token_of id os ps fit.1 also)
 
   -- sessions differ
 
-  pub next_differs : (list : List E) (count : ℕ) (seat : ℕ → ℕ) (id : ℕ) (os : List (Own E)) → OwnsFit by list count seat id os → AreOthers count os
-  next_differs list count seat id [] fit = tt
-  next_differs list count seat id (o ∷ os) fit =
+  pub next_differs : (list : List E) (count : ℕ) (token_of : ℕ → ℕ) (id : ℕ) (os : List (Own E)) → OwnsFit by list count token_of id os → AreOthers count os
+  next_differs list count token_of id [] fit = tt
+  next_differs list count token_of id (o ∷ os) fit =
       let below : o.number < count = fit.0.0 in
-      ((λ e. omega arith), next_differs list count seat id os fit.1)
+      ((λ e. omega arith), next_differs list count token_of id os fit.1)
 
-  others_elsewhere : (list : List E) (count : ℕ) (seat : ℕ → ℕ) (id other n : ℕ) (ps : List (Own E)) → seat n ≡ id → other ≢ id → OwnsFit by list count seat other ps → AreOthers n ps
-  others_elsewhere list count seat id other n [] mine apart fit = tt
-  others_elsewhere list count seat id other n (p ∷ ps) mine apart fit =
-      let its : seat p.number ≡ other = fit.0.1 in
-      ((λ e. apart (sym its ∙ (ap seat e ∙ mine))), others_elsewhere list count seat id other n ps mine apart fit.1)
+  others_elsewhere : (list : List E) (count : ℕ) (token_of : ℕ → ℕ) (id other n : ℕ) (ps : List (Own E)) → token_of n ≡ id → other ≢ id → OwnsFit by list count token_of other ps → AreOthers n ps
+  others_elsewhere list count token_of id other n [] mine apart fit = tt
+  others_elsewhere list count token_of id other n (p ∷ ps) mine apart fit =
+      let its : token_of p.number ≡ other = fit.0.1 in
+      ((λ e. apart (sym its ∙ (ap token_of e ∙ mine))), others_elsewhere list count token_of id other n ps mine apart fit.1)
 
   others_both : (n : ℕ) (os ps : List (Own E)) → AreOthers n os → AreOthers n ps → AreOthers n (os ++ ps)
   others_both n [] ps these those = those
   others_both n (o ∷ os) ps these those = (these.0, others_both n os ps these.1 those)
 
   -- the sessions of two tokens
-  pub apart_both : (list : List E) (count : ℕ) (seat : ℕ → ℕ) (id other : ℕ) (os ps : List (Own E)) → other ≢ id → OwnsFit by list count seat id os → OwnsFit by list count seat other ps → AreApart os → AreApart ps → AreApart (os ++ ps)
-  apart_both list count seat id other [] ps tokens fit fits differ differs = differs
-  apart_both list count seat id other (o ∷ os) ps tokens fit fits differ differs = (
-    others_both o.number os ps differ.0 (others_elsewhere list count seat id other o.number ps fit.0.1 tokens fits),
-    apart_both list count seat id other os ps tokens fit.1 fits differ.1 differs,
+  pub apart_both : (list : List E) (count : ℕ) (token_of : ℕ → ℕ) (id other : ℕ) (os ps : List (Own E)) → other ≢ id → OwnsFit by list count token_of id os → OwnsFit by list count token_of other ps → AreApart os → AreApart ps → AreApart (os ++ ps)
+  apart_both list count token_of id other [] ps tokens fit fits differ differs = differs
+  apart_both list count token_of id other (o ∷ os) ps tokens fit fits differ differs = (
+    others_both o.number os ps differ.0 (others_elsewhere list count token_of id other o.number ps fit.0.1 tokens fits),
+    apart_both list count token_of id other os ps tokens fit.1 fits differ.1 differs,
   )

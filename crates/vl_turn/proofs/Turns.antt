@@ -11,7 +11,7 @@ use Rattle.vl_turn.specs.declared.view.View.{View}
 use Rattle.vl_turn.specs.Entries.{AreApart, own_grown}
 use Rattle.vl_turn.specs.Views.{root, holding, entered, gave, opened, closing}
 use Rattle.vl_turn.specs.Rule.{OwnsFit, Fits, Table, IsFree, IsHeld, out_slot, Kept}
-use Rattle.vl_turn.specs.Steps.{Holder, MayEnter, Takes, Enters, Gives, Opens, Closes}
+use Rattle.vl_turn.specs.Steps.{TokenState, MayEnter, Takes, Enters, Gives, Opens, Closes}
 use Rattle.vl_turn.proofs.Prefixes.{begins_itself, begins_more, begins_grown}
 use Rattle.vl_turn.proofs.Sessions.{of_this, numbered_grown, fit_grown}
 use Rattle.vl_turn.proofs.Places.{at_changed, each_after_change, place_of_one}
@@ -38,7 +38,7 @@ module _ {T E : Type 0} (stands : T → T → List E → Type 0) (by : E → ℕ
     list = [];
     turn = 1;
     count = 0;
-    seat = λ _. 0;
+    token_of = λ _. 0;
     root = 0;
     words = refl;
     numbers = tt;
@@ -51,7 +51,7 @@ module _ {T E : Type 0} (stands : T → T → List E → Type 0) (by : E → ℕ
 
   -- take
 
-  taken_free : (n id : ℕ) (m : Holder T E) → m.0.closed ≡ false → (s : Table T E) (r : Rule stands by start s) → get_elem? s.views id ≡ some m.0 → (r.turn ≡ 0) × IsFree (stands start) s r.list
+  taken_free : (n id : ℕ) (m : TokenState T E) → m.0.closed ≡ false → (s : Table T E) (r : Rule stands by start s) → get_elem? s.views id ≡ some m.0 → (r.turn ≡ 0) × IsFree (stands start) s r.list
       → (w : View T E) × (a : Act (Option T)) × Valid s.homes m.1 a
       × Rule stands by start (stepped s 1 1 id m.1 w a) × Takes stands m (get_or s.words 1 0) (w, carried_after m.1 a)
   taken_free n id m unclosed s r at free =
@@ -75,7 +75,7 @@ module _ {T E : Type 0} (stands : T → T → List E → Type 0) (by : E → ℕ
         ),
       )
 
-  pub take_keeps : (n id : ℕ) (m : Holder T E) → m.0.closed ≡ false → Allows (Rule stands by start) n id m 1 (λ _. 1) (Takes stands m)
+  pub take_keeps : (n id : ℕ) (m : TokenState T E) → m.0.closed ≡ false → Allows (Rule stands by start) n id m 1 (λ _. 1) (Takes stands m)
   take_keeps n id m unclosed s r wide at _ = ⊎_elim
       (taken_free n id m unclosed s r at)
       (λ (held : (r.turn ≡ 1) × IsHeld s r.list).
@@ -96,23 +96,23 @@ module _ {T E : Type 0} (stands : T → T → List E → Type 0) (by : E → ℕ
       → set ws 0 ((get_or ws 0 0 + k) % 2 ^ 64) ≡ length list' % 2 ^ 64 ∷ turn ∷ count % 2 ^ 64 ∷ []
   counted_up ws list list' turn count k is more = ap (λ us. set us 0 ((get_or us 0 0 + k) % 2 ^ 64)) is ∙ ap (λ x. x ∷ turn ∷ count % 2 ^ 64 ∷ []) (mod-add-mod (length list) (2 ^ 64) k ∙ ap (λ y. y % 2 ^ 64) more)
 
-  entered_fits : (list : List E) (count : ℕ) (seat : ℕ → ℕ) (root id : ℕ) (v : View T E) (e : E) (own : List E) → v.owns ≡ record { number = by e; entries = own } ∷ [] → v.seen ≡ list
-      → Fits by start list count seat root id v → (by e < count) × (seat (by e) ≡ id) × Fits by start (list ++ e ∷ []) count seat root id (entered v (Some e))
-  entered_fits list count seat root id v e own owns knows mine =
-      let fit = subst (OwnsFit by list count seat id) owns mine.owns in (
+  entered_fits : (list : List E) (count : ℕ) (token_of : ℕ → ℕ) (root id : ℕ) (v : View T E) (e : E) (own : List E) → v.owns ≡ record { number = by e; entries = own } ∷ [] → v.seen ≡ list
+      → Fits by start list count token_of root id v → (by e < count) × (token_of (by e) ≡ id) × Fits by start (list ++ e ∷ []) count token_of root id (entered v (Some e))
+  entered_fits list count token_of root id v e own owns knows mine =
+      let fit = subst (OwnsFit by list count token_of id) owns mine.owns in (
         fit.0.0,
         fit.0.1,
         record {
           same = mine.same;
           seen = subst (λ l. IsPrefix (v.seen ++ e ∷ []) (l ++ e ∷ [])) knows (begins_itself (v.seen ++ e ∷ []));
           told = begins_grown v.told v.seen e mine.told;
-          owns = subst (λ os. OwnsFit by (list ++ e ∷ []) count seat id (own_grown e os)) (sym owns) ((fit.0.0, fit.0.1, ap (λ l. l ++ e ∷ []) fit.0.2 ∙ sym (of_this by list e)), tt);
+          owns = subst (λ os. OwnsFit by (list ++ e ∷ []) count token_of id (own_grown e os)) (sym owns) ((fit.0.0, fit.0.1, ap (λ l. l ++ e ∷ []) fit.0.2 ∙ sym (of_this by list e)), tt);
           apart = subst (λ os. AreApart (own_grown e os)) (sym owns) (tt, tt);
           made = mine.made;
         },
       )
 
-  pub enter_keeps : (n id : ℕ) (m : Holder T E) (k : ℕ) (e : Option E) → m.0.holds ≡ true → MayEnter by m.0 e k → Allows (Rule stands by start) n id m 0 (λ x. (x + k) % 2 ^ 64) (Enters e m)
+  pub enter_keeps : (n id : ℕ) (m : TokenState T E) (k : ℕ) (e : Option E) → m.0.holds ≡ true → MayEnter by m.0 e k → Allows (Rule stands by start) n id m 0 (λ x. (x + k) % 2 ^ 64) (Enters e m)
   enter_keeps n id m k None has may s r wide at _ =
       let ws = set s.words 0 ((get_or s.words 0 0 + k) % 2 ^ 64) in (
         m.0,
@@ -129,7 +129,7 @@ module _ {T E : Type 0} (stands : T → T → List E → Type 0) (by : E → ℕ
       let one : k ≡ 1 = may.0 in
       let list : List E = r.list ++ e ∷ [] in
       let w : View T E = entered m.0 (Some e) in
-      let mine = entered_fits r.list r.count r.seat r.root id m.0 e may.1.0 may.1.1 h.knows (r.views id m.0 at) in
+      let mine = entered_fits r.list r.count r.token_of r.root id m.0 e may.1.0 may.1.1 h.knows (r.views id m.0 at) in
       let ws = set s.words 0 ((get_or s.words 0 0 + k) % 2 ^ 64) in (
         w,
         keeps,
@@ -138,16 +138,16 @@ module _ {T E : Type 0} (stands : T → T → List E → Type 0) (by : E → ℕ
           list = list;
           turn = r.turn;
           count = r.count;
-          seat = r.seat;
+          token_of = r.token_of;
           root = r.root;
           words = counted_up s.words r.list list r.turn r.count k r.words (omega (arith, length-append r.list (e ∷ [])));
           numbers = numbered_grown by r.count r.list e r.numbers mine.0;
-          views = each_after_change (Fits by start list r.count r.seat r.root) s.views id w mine.2
+          views = each_after_change (Fits by start list r.count r.token_of r.root) s.views id w mine.2
               (λ j u other at'. let f = r.views j u at' in record {
                 same = f.same;
                 seen = begins_grown u.seen r.list e f.seen;
                 told = f.told;
-                owns = fit_grown by r.list r.count r.seat id j e u.owns mine.1 other f.owns;
+                owns = fit_grown by r.list r.count r.token_of id j e u.owns mine.1 other f.owns;
                 apart = f.apart;
                 made = f.made;
               });
@@ -158,7 +158,7 @@ module _ {T E : Type 0} (stands : T → T → List E → Type 0) (by : E → ℕ
 
   -- give
 
-  pub give_keeps : (n id : ℕ) (m : Holder T E) (x value : T) → m.0.holds ≡ true → m.0.closed ≡ false → m.0.start ≡ Some x → m.1 ≡ (0, Some value) ∷ [] → stands x value m.0.seen
+  pub give_keeps : (n id : ℕ) (m : TokenState T E) (x value : T) → m.0.holds ≡ true → m.0.closed ≡ false → m.0.start ≡ Some x → m.1 ≡ (0, Some value) ∷ [] → stands x value m.0.seen
       → Allows (Rule stands by start) n id m 1 (λ _. 0) (λ _. Gives m 0)
   give_keeps n id m x value has unclosed from slot meaning s r wide at _ =
       let h = has_it stands by start s r id m.0 at has in
@@ -187,7 +187,7 @@ module _ {T E : Type 0} (stands : T → T → List E → Type 0) (by : E → ℕ
 
   -- an empty lock: the slot is taken with nothing in it, and goes home with nothing in it
 
-  pub open_keeps : (n id : ℕ) (m : Holder T E) → m.0.holds ≡ true → m.0.closed ≡ true → Allows (Rule stands by start) n id m 1 (λ _. 1) (λ _. Opens m 1)
+  pub open_keeps : (n id : ℕ) (m : TokenState T E) → m.0.holds ≡ true → m.0.closed ≡ true → Allows (Rule stands by start) n id m 1 (λ _. 1) (λ _. Opens m 1)
   open_keeps n id m has closed s r wide at _ =
       let h = has_it stands by start s r id m.0 at has in
       let mine = r.views id m.0 at in
@@ -203,7 +203,7 @@ module _ {T E : Type 0} (stands : T → T → List E → Type 0) (by : E → ℕ
         refl,
       )
 
-  pub close_keeps : (n id : ℕ) (m : Holder T E) → m.0.holds ≡ true → m.0.closed ≡ false → m.1 ≡ (0, None) ∷ [] → Allows (Rule stands by start) n id m 1 (λ _. 1) (λ _. Closes m 1)
+  pub close_keeps : (n id : ℕ) (m : TokenState T E) → m.0.holds ≡ true → m.0.closed ≡ false → m.1 ≡ (0, None) ∷ [] → Allows (Rule stands by start) n id m 1 (λ _. 1) (λ _. Closes m 1)
   close_keeps n id m has unclosed slot s r wide at _ =
       let h = has_it stands by start s r id m.0 at has in
       let mine = r.views id m.0 at in

@@ -1,5 +1,7 @@
--- The rule of the lock: what is so between any two steps, of its three words, its slot and what all tokens know.
--- The list is what the value stands for. It is stored nowhere. Word 0 counts its entries, word 1 is 1 while a token has the turn, word 2 counts the sessions; both counts are kept modulo 2 ^ 64.
+-- The rule of the lock: what is so between any two steps, of its three words, its slot and what
+-- all tokens know. The list is what the value stands for, and is stored nowhere. Word 0 counts its
+-- entries, word 1 is 1 while a token has the turn, word 2 counts the sessions. Both counts are kept
+-- modulo 2 ^ 64.
 use Rattle.std.specs.Prelude.{◌≡◌, ◌⊎◌, ℕ, ◌%◌, ◌^◌, ◌<◌, true, false, Bool, List, [], ◌∷◌, length, Option, Some, None, IfSome}
 use mathlib.Core.List.{IsPrefix}
 use mathlib.Core.Option.{none, some}
@@ -10,17 +12,23 @@ use Rattle.vl_turn.specs.declared.view.Own.{Own}
 use Rattle.vl_turn.specs.declared.view.View.{View}
 use Rattle.vl_turn.specs.Entries.{entries_by, AreNumbered, AreApart}
 
--- each is a session of this token (`seat` says whose a session is), with all its entries so far
+-- a session that was numbered, which the token `id` has, with all its entries so far; `token_of` says
+-- whose each session is
+abbrev pub OwnFits : {E : Type 0} → (E → ℕ) → List E → ℕ → (ℕ → ℕ) → ℕ → Own E → Type 0
+OwnFits by list count token_of id own =
+    (own.number < count) × (token_of own.number ≡ id) × (own.entries ≡ entries_by by own.number list)
+
 abbrev pub OwnsFit : {E : Type 0} → (E → ℕ) → List E → ℕ → (ℕ → ℕ) → ℕ → List (Own E) → Type 0
-OwnsFit by list count seat id [] = Unit {0}
-OwnsFit by list count seat id (o ∷ os) = ((o.number < count) × (seat o.number ≡ id) × (o.entries ≡ entries_by by o.number list)) × OwnsFit by list count seat id os
+OwnsFit by list count token_of id [] = Unit {0}
+OwnsFit by list count token_of id (own ∷ owns) =
+    OwnFits by list count token_of id own × OwnsFit by list count token_of id owns
 
 -- what the token `id` knows is so; `root` is the one token that numbers sessions
-pub record Fits {T E : Type 0} (by : E → ℕ) (start : T) (list : List E) (count : ℕ) (seat : ℕ → ℕ) (root id : ℕ) (v : View T E) : Type 0 where
+pub record Fits {T E : Type 0} (by : E → ℕ) (start : T) (list : List E) (count : ℕ) (token_of : ℕ → ℕ) (root id : ℕ) (v : View T E) : Type 0 where
   pub same : IfSome v.start (λ x. x ≡ start)
   pub seen : IsPrefix v.seen list
   pub told : IsPrefix v.told v.seen
-  pub owns : OwnsFit by list count seat id v.owns
+  pub owns : OwnsFit by list count token_of id v.owns
   pub apart : AreApart v.owns
   pub made : IfSome v.made (λ n. (n ≡ count) × (id ≡ root))
 
@@ -34,7 +42,7 @@ pub record IsFree {T E : Type 0} (meaning : T → List E → Type 0) (s : Table 
   pub stands : meaning value list
   pub nobody : (id : ℕ) (v : View T E) → get_elem? s.views id ≡ some v → v.holds ≡ false
 
--- the slot, while the value isn't home: it is out, or home with nothing in it
+-- the slot while a token has the turn: it is out with the token, or home with nothing in it
 abbrev pub out_slot : {T : Type 0} → Bool → List (maybe.Option (Option T))
 out_slot false = none ∷ []
 out_slot true = some None ∷ []
@@ -56,9 +64,9 @@ pub record Kept {T E : Type 0} (meaning : T → List E → Type 0) (by : E → �
   pub list : List E
   pub turn : ℕ
   pub count : ℕ
-  pub seat : ℕ → ℕ
+  pub token_of : ℕ → ℕ
   pub root : ℕ
   pub words : s.words ≡ length list % 2 ^ 64 ∷ turn ∷ count % 2 ^ 64 ∷ []
   pub numbers : AreNumbered by count list
-  pub views : (id : ℕ) (v : View T E) → get_elem? s.views id ≡ some v → Fits by start list count seat root id v
+  pub views : (id : ℕ) (v : View T E) → get_elem? s.views id ≡ some v → Fits by start list count token_of root id v
   pub state : IsState meaning s list turn

@@ -11,7 +11,6 @@
 #![tactic(auto)]
 
 mod fails;
-mod lending;
 mod lock;
 mod plays;
 mod raw;
@@ -23,6 +22,6 @@ mod view;
 
 pub use fails::LockFail;
 pub use lock::TurnLock;
-pub use rule::{Law, Token};
+pub use rule::Token;
 pub use turn::Turn;
 pub use view::{Own, Says, Standing, View};

@@ -1,8 +1,9 @@
 // Three words and a slot, and one method for each kind of atomic step on them.
-ghost use Rattle.std.specs.Prelude.{◌≡◌, ◌∷◌, true, false, [], Some, None, IfOk, MatchBool, if◌then◌else◌};
+ghost use Rattle.std.specs.Prelude.{◌≡◌, ◌∷◌, true, false, [], Some, None, IfOk, if◌then◌else◌};
+ghost use Rattle.std.specs.Bool.{OnTrue, OnFalse};
 ghost use mathlib.Core.List.{IsPrefix};
 ghost use Rattle.vl_turn.specs.Views.{IsRoot, root, entered, gave, opened, closing, looked, copied, joined, counted, disowned, dealt};
-ghost use Rattle.vl_turn.specs.Steps.{HoldsMeant, IsTaken, MayEnter};
+ghost use Rattle.vl_turn.specs.Steps.{HoldsValue, IsTaken, MayEnter};
 ghost use Rattle.vl_turn.specs.Tokens.{IsTokenOf, HasTurn, IsEmpty, IsWhole};
 
 use crate::plays::{Both, Close, Copied, Dealt, Enter, Give, Load, Number, Open, Take};
@@ -53,7 +54,8 @@ impl<T: Standing> RawLock<T> {
     pub(crate) fn take(&self, token: &mut Token<T>) -> bool
         requires { IsTokenOf (raw_name self.now) (raw_start self.now) token.old }
         ensures here { token.new.table_id ≡ token.old.table_id }
-        ensures taken { MatchBool result (IsTaken T.stands token.old.me token.new.me) (token.new.me ≡ token.old.me) }
+        ensures taken { OnTrue result (IsTaken T.stands token.old.me token.new.me) }
+        ensures held { OnFalse result (token.new.me ≡ token.old.me) }
     {
         self.table.shared.swap::<Take>(token, TURN, 1) == 0
     }
@@ -103,7 +105,7 @@ impl<T: Standing> RawLock<T> {
         requires here { token.old.table_id ≡ raw_name self.now }
         requires from { token.old.me.0.start ≡ Some (raw_start self.now) }
         requires turn { (token.old.me.0.holds ≡ true) × (token.old.me.0.closed ≡ false) }
-        requires value { HoldsMeant T.stands (raw_start self.now) token.old.me }
+        requires value { HoldsValue T.stands (raw_start self.now) token.old.me }
         ensures here { token.new.table_id ≡ token.old.table_id }
         ensures gave { token.new.me ≡ (gave token.old.me.0, []) }
     {
@@ -133,8 +135,9 @@ impl<T: Standing> RawLock<T> {
     /// A new token, which has seen the same.
     pub(crate) fn split(&self, token: &mut Token<T>) -> Token<T>
         requires { token.old.table_id ≡ raw_name self.now }
-        ensures same { (token.new.table_id ≡ token.old.table_id) × (token.new.me ≡ token.old.me) }
-        ensures new { (result.table_id ≡ token.old.table_id) × (result.me ≡ (copied token.old.me.0, [])) }
+        ensures here { (token.new.table_id ≡ token.old.table_id) × (result.table_id ≡ token.old.table_id) }
+        ensures same { token.new.me ≡ token.old.me }
+        ensures new { result.me ≡ (copied token.old.me.0, []) }
     {
         self.table.shared.split_seat::<Copied>(token)
     }
@@ -142,8 +145,9 @@ impl<T: Standing> RawLock<T> {
     /// The same, and the new token gets the sessions.
     pub(crate) fn split_sessions(&self, token: &mut Token<T>) -> Token<T>
         requires { token.old.table_id ≡ raw_name self.now }
-        ensures left { (token.new.table_id ≡ token.old.table_id) × (token.new.me ≡ (disowned token.old.me.0, token.old.me.1)) }
-        ensures new { (result.table_id ≡ token.old.table_id) × (result.me ≡ (dealt token.old.me.0, [])) }
+        ensures here { (token.new.table_id ≡ token.old.table_id) × (result.table_id ≡ token.old.table_id) }
+        ensures left { token.new.me ≡ (disowned token.old.me.0, token.old.me.1) }
+        ensures new { result.me ≡ (dealt token.old.me.0, []) }
     {
         self.table.shared.split_seat::<Dealt>(token)
     }

@@ -7,7 +7,7 @@ use atomic_table::{Seat, TableRule};
 use std::snapshot::Snapshot;
 
 /// The rule. It reads the value with which the lock was made.
-pub struct Law;
+pub(crate) struct Law;
 
 impl<T: Standing> TableRule<Option<T>, View<T, T::Entry>, Snapshot<T>> for Law {
     ghost holds = { λ key. Kept (T.stands key.value) T.by key.value };
