@@ -6,7 +6,8 @@ module _ {E : Type 0} where
   -- the entries of one session, in their order
   abbrev pub entries_by : (E → ℕ) → ℕ → List E → List E
   entries_by by number [] = []
-  entries_by by number (e ∷ es) = if by e == number then e ∷ entries_by by number es else entries_by by number es
+  entries_by by number (e ∷ es) =
+      if by e == number then e ∷ entries_by by number es else entries_by by number es
 
   -- each entry is of one of the first `count` sessions
   abbrev pub AreNumbered : (E → ℕ) → ℕ → List E → Type 0

@@ -11,7 +11,7 @@ use Rattle.vl_turn.specs.Views.{holding, entered, gave, opened, closing, looked,
 abbrev pub TokenState : Type 0 → Type 0 → Type 0
 TokenState T E = Me (Option T) (View T E)
 
--- there is an entry, it is of the one session that the token has, and 1 is added; or there is none, and 0 is
+-- there is an entry, of the one session that the token has, and 1 is added; or none, and 0 is
 abbrev pub MayEnter : {T E : Type 0} → (E → ℕ) → View T E → Option E → ℕ → Type 0
 MayEnter by v None added = added ≡ 0
 MayEnter {T} {E} by v (Some e) added =
@@ -22,7 +22,8 @@ module _ {T E : Type 0} where
   abbrev pub HoldsValue : (T → T → List E → Type 0) → T → TokenState T E → Type 0
   HoldsValue stands start m = (value : T) × (m.1 ≡ (0, Some value) ∷ []) × stands start value m.0.seen
 
-  -- the turn was free: the token has it now, and the slot; it has seen the whole list, for which the value stands
+  -- the turn was free: the token has it now, with the slot, and has seen the whole list, for which
+  -- the value stands
   pub record IsTaken (stands : T → T → List E → Type 0) (m m' : TokenState T E) : Type 0 where
     pub value : T
     pub list : List E

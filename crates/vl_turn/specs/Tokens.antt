@@ -49,7 +49,8 @@ pub record IsWhole {T E : Type 0} (by : E → ℕ) (list : List E) (v : View T E
   pub apart : AreApart v.owns
   pub numbers : IfSome v.made (λ n. AreNumbered by n list)
 
--- the lock was closed: the value stands for the whole list, which begins with all that the token had seen
+-- the lock was closed: the value stands for the whole list, which begins with all that the token
+-- had seen
 pub record Ends {T E : Type 0} (stands : T → T → List E → Type 0) (by : E → ℕ) (start : T) (v : View T E) (value : T) : Type 0 where
   pub list : List E
   pub later : IsPrefix v.seen list

@@ -24,7 +24,7 @@ pub struct TurnLock<T: Standing> {
 impl<T: Standing> TurnLock<T> {
     ghost use Rattle.vl_turn.specs.Locks.{lock_name, lock_start};
 
-    /// A lock round the value, which stands for no entry yet, with the token that numbers sessions.
+    /// A lock round a value that stands for no entry yet. The token is the one that numbers sessions.
     pub fn new(alloc: Global, value: T) -> Result<(TurnLock<T>, Token<T>), LockFail<T>>
         requires { T.stands value value [] }
         ensures start { IfOk result (λ r. lock_start r.0 ≡ value) }
@@ -41,7 +41,7 @@ impl<T: Standing> TurnLock<T> {
         }
     }
 
-    /// A lock for a value like this one, which is still to be filled in. Its token has the turn until then.
+    /// A lock for this value, which `fill` puts in. Until then its token has the turn.
     pub fn empty(alloc: Global, value: &T) -> Result<(TurnLock<T>, Token<T>), AllocError>
         ensures start { IfOk result (λ r. lock_start r.0 ≡ value.now) }
         ensures token { IfOk result (λ r. IsEmpty (lock_name r.0) value.now r.1) }
@@ -84,11 +84,13 @@ impl<T: Standing> TurnLock<T> {
         Turn { value, token }
     }
 
-    /// Gives the turn back. The value stands for one entry more exactly where `enters`.
+    /// Gives the turn back, with the value. It stands for one entry more exactly where `enters`.
     pub fn give<'a, W: Says<T::Entry>, R: Wait>(&'a self, rt: &R, turn: Turn<'a, T>, enters: bool)
         requires token { HasTurn (lock_name self.now) (lock_start self.now) turn.token.now }
         requires entry { MayEnter T.by turn.token.now.me.0 W.entry (if enters then 1 else 0) }
         requires stands { T.stands (lock_start self.now) turn.value (with_entry turn.token.now.me.0.seen W.entry) }
+
+        // Of the token that the turn had, once it is given back.
         ensures token { IsTokenOf (lock_name self.now) (lock_start self.now) turn.exit.1.0.now }
         ensures entered { turn.exit.1.0.now.me.0 ≡ gave (entered turn.entry.token.now.me.0 W.entry) }
     {
@@ -99,7 +101,8 @@ impl<T: Standing> TurnLock<T> {
         self.raw.wake();
     }
 
-    /// A token of a new session: it has seen what `from` has, and has the next number and no entries yet.
+    /// A token of a new session, which has the next number and no entries yet. It has seen what
+    /// `from` has. Only the token with which the lock was made numbers sessions.
     pub fn seat(&self, from: &mut Token<T>) -> Result<Token<T>, AllocError>
         requires here { from.old.table_id ≡ lock_name self.now }
         requires start { from.old.me.0.start ≡ Some (lock_start self.now) }

@@ -1,4 +1,5 @@
-// What the steps tell, for the proofs alone: one type for each kind of step. `specs/Steps.antt` and `specs/Views.antt` say it.
+// What the steps tell: one type for each kind of step, which `atomic_table` asks for. No value of
+// them is made. `specs/Steps.antt` and `specs/Views.antt` have what they say.
 ghost use Rattle.vl_turn.specs.Steps.{Takes, Enters, Gives, Loads, Numbers, Opens, Closes};
 ghost use Rattle.vl_turn.specs.Views.{copied, joined, spent, disowned, dealt};
 

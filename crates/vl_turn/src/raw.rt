@@ -1,4 +1,6 @@
-// Three words and a slot, and one method for each kind of atomic step on them.
+// Three words and a slot, and one method for each kind of atomic step on them. Tokens are the seats
+// of `atomic_table`, and what a token knows is its view. A step on a word owes that it keeps the rule
+// whatever the other threads did before it, and only such a step changes what a token knows.
 ghost use Rattle.std.specs.Prelude.{◌≡◌, ◌∷◌, true, false, [], Some, None, IfOk, if◌then◌else◌};
 ghost use Rattle.std.specs.Bool.{OnTrue, OnFalse};
 ghost use mathlib.Core.List.{IsPrefix};
@@ -14,11 +16,11 @@ use std::alloc::{AllocError, Global};
 use std::snapshot::Snapshot;
 use std::sync::Wait;
 
-// The number of entries.
+// The word that counts the entries.
 const ENTRIES: usize = 0;
-// 1 while a token has the turn, and else 0.
+// The word that is 1 while a token has the turn, and else 0.
 const TURN: usize = 1;
-// The number of sessions.
+// The word that counts the sessions.
 const SESSIONS: usize = 2;
 // The slot, in which the value is while nobody has the turn.
 const VALUE: usize = 0;
@@ -39,7 +41,7 @@ fn amount(enters: bool) -> u64
 impl<T: Standing> RawLock<T> {
     ghost use Rattle.vl_turn.specs.Locks.{raw_name, raw_start};
 
-    /// Nothing is in the slot, and the token has the turn.
+    /// Makes words and a slot with nothing in it. The token has the turn.
     pub(crate) fn empty(alloc: Global, value: &T) -> Result<(RawLock<T>, Token<T>), AllocError>
         ensures start { IfOk result (λ r. raw_start r.0 ≡ value.now) }
         ensures token { IfOk result (λ r. IsEmpty (raw_name r.0) value.now r.1) }
@@ -50,7 +52,7 @@ impl<T: Standing> RawLock<T> {
         Ok((RawLock { table }, token))
     }
 
-    /// Takes the turn, if nobody has it.
+    /// Take: writes 1 into the word of the turn. If it was 0, the token has the turn, and the slot.
     pub(crate) fn take(&self, token: &mut Token<T>) -> bool
         requires { IsTokenOf (raw_name self.now) (raw_start self.now) token.old }
         ensures here { token.new.table_id ≡ token.old.table_id }
@@ -60,7 +62,7 @@ impl<T: Standing> RawLock<T> {
         self.table.shared.swap::<Take>(token, TURN, 1) == 0
     }
 
-    /// Moves the value out of the slot.
+    /// Move: takes the value out of the slot that the token holds.
     pub(crate) fn move_out(&self, token: &mut Token<T>) -> T
         requires here { token.old.table_id ≡ raw_name self.now }
         requires filled { (value : T) × (token.old.me.1 ≡ (0, Some value) ∷ []) }
@@ -74,7 +76,7 @@ impl<T: Standing> RawLock<T> {
         }
     }
 
-    /// Moves a value back into the slot.
+    /// Move: puts a value back into it.
     pub(crate) fn move_back(&self, token: &mut Token<T>, value: T)
         requires here { token.old.table_id ≡ raw_name self.now }
         requires empty { token.old.me.1 ≡ (0, None) ∷ [] }
@@ -87,7 +89,7 @@ impl<T: Standing> RawLock<T> {
         }
     }
 
-    /// Enters what this turn says: one entry, or none.
+    /// Enter: adds 1 to the count of entries for the entry that `W` says, or 0 for none.
     pub(crate) fn enter<W: Says<T::Entry>>(&self, token: &mut Token<T>, enters: bool)
         requires here { token.old.table_id ≡ raw_name self.now }
         requires turn { token.old.me.0.holds ≡ true }
@@ -100,7 +102,7 @@ impl<T: Standing> RawLock<T> {
             .fetch_add::<Enter<W>>(token, ENTRIES, amount(enters));
     }
 
-    /// Gives the turn up, with a value in the slot that stands for all that was seen.
+    /// Give: writes 0 into the word of the turn, and the slot goes home.
     pub(crate) fn give(&self, token: &mut Token<T>)
         requires here { token.old.table_id ≡ raw_name self.now }
         requires from { token.old.me.0.start ≡ Some (raw_start self.now) }
@@ -112,7 +114,7 @@ impl<T: Standing> RawLock<T> {
         self.table.shared.store::<Give>(token, TURN, 0);
     }
 
-    /// Tells that what was joined begins what was seen.
+    /// Load: reads the count of entries, and knows then that what was joined begins what was seen.
     pub(crate) fn load(&self, token: &mut Token<T>)
         requires { token.old.table_id ≡ raw_name self.now }
         ensures here { token.new.table_id ≡ token.old.table_id }
@@ -122,7 +124,7 @@ impl<T: Standing> RawLock<T> {
         self.table.shared.load::<Load>(token, ENTRIES);
     }
 
-    /// Numbers a session, which the token has for now.
+    /// Number: adds 1 to the count of sessions. The token has the new session for now.
     pub(crate) fn number(&self, token: &mut Token<T>)
         requires here { token.old.table_id ≡ raw_name self.now }
         requires root { IsRoot token.old.me.0 }
@@ -132,27 +134,29 @@ impl<T: Standing> RawLock<T> {
         self.table.shared.fetch_add::<Number>(token, SESSIONS, 1);
     }
 
-    /// A new token, which has seen the same.
+    /// Split: a new token, which has seen the same and has no session.
     pub(crate) fn split(&self, token: &mut Token<T>) -> Token<T>
         requires { token.old.table_id ≡ raw_name self.now }
-        ensures here { (token.new.table_id ≡ token.old.table_id) × (result.table_id ≡ token.old.table_id) }
+        ensures here { token.new.table_id ≡ token.old.table_id }
+        ensures there { result.table_id ≡ token.old.table_id }
         ensures same { token.new.me ≡ token.old.me }
         ensures new { result.me ≡ (copied token.old.me.0, []) }
     {
         self.table.shared.split_seat::<Copied>(token)
     }
 
-    /// The same, and the new token gets the sessions.
+    /// Split: a new token, which has seen the same and gets the sessions.
     pub(crate) fn split_sessions(&self, token: &mut Token<T>) -> Token<T>
         requires { token.old.table_id ≡ raw_name self.now }
-        ensures here { (token.new.table_id ≡ token.old.table_id) × (result.table_id ≡ token.old.table_id) }
+        ensures here { token.new.table_id ≡ token.old.table_id }
+        ensures there { result.table_id ≡ token.old.table_id }
         ensures left { token.new.me ≡ (disowned token.old.me.0, token.old.me.1) }
         ensures new { result.me ≡ (dealt token.old.me.0, []) }
     {
         self.table.shared.split_seat::<Dealt>(token)
     }
 
-    /// Makes two tokens one, which has seen what either had, and has the sessions of both.
+    /// Join: one token of two, with the longer of what they had seen, and the sessions of both.
     pub(crate) fn join(&self, stay: &mut Token<T>, gone: Token<T>)
         requires stay { IsTokenOf (raw_name self.now) (raw_start self.now) stay.old }
         requires gone { IsTokenOf (raw_name self.now) (raw_start self.now) gone }
@@ -162,17 +166,17 @@ impl<T: Standing> RawLock<T> {
         self.table.shared.join_seat::<Both>(stay, gone);
     }
 
-    /// Sleeps while a token has the turn. It may also return for no reason.
+    /// Park: sleeps while the word of the turn is 1. It may also return for no reason.
     pub(crate) fn park<R: Wait>(&self, rt: &R) {
         self.table.shared.park(rt, TURN, 1);
     }
 
-    /// Wakes a thread that sleeps until the turn is free, if there is one.
+    /// Wake: ends the sleep of one thread, if one sleeps.
     pub(crate) fn wake(&self) {
         self.table.shared.wake_one(TURN);
     }
 
-    /// Takes the slot with nothing in it, before the lock is filled.
+    /// Open: the token has the turn, and takes the slot with nothing in it.
     pub(crate) fn open(&self, token: &mut Token<T>)
         requires { IsEmpty (raw_name self.now) (raw_start self.now) token.old }
         ensures here { token.new.table_id ≡ token.old.table_id }
@@ -181,7 +185,7 @@ impl<T: Standing> RawLock<T> {
         self.table.shared.store::<Open>(token, TURN, 1);
     }
 
-    /// Puts the slot back with nothing in it, and keeps the turn for good.
+    /// Close: the slot goes home with nothing in it, and the token keeps the turn.
     pub(crate) fn close(&self, token: &mut Token<T>)
         requires { HasTurn (raw_name self.now) (raw_start self.now) token.old }
         ensures here { token.new.table_id ≡ token.old.table_id }
@@ -190,7 +194,7 @@ impl<T: Standing> RawLock<T> {
         self.table.shared.store::<Close>(token, TURN, 1);
     }
 
-    /// Frees the words and the slot, in which nothing is.
+    /// Frees the words and the slot, with nothing in it.
     pub(crate) fn free(self, token: Token<T>)
         requires { IsEmpty (raw_name self) (raw_start self) token }
         ensures { IsWhole T.by token.me.0.seen token.me.0 }

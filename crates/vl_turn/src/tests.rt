@@ -78,11 +78,13 @@ fn threads_add_under_the_lock(rt: HostRuntime) -> Result<(), Fail> {
     let (one, two) = join(
         &rt,
         move || -> Token<Counter>
-            requires { IsTokenOf (lock_name shared.now) (lock_start shared.now) one × (length one.me.0.owns ≡ 1) }
+            requires { IsTokenOf (lock_name shared.now) (lock_start shared.now) one
+                × (length one.me.0.owns ≡ 1) }
             ensures { IsTokenOf (lock_name shared.entry.now) (lock_start shared.entry.now) result }
         { add_all(handle, shared, one, 20000) },
         move || -> Token<Counter>
-            requires { IsTokenOf (lock_name shared.now) (lock_start shared.now) two × (length two.me.0.owns ≡ 1) }
+            requires { IsTokenOf (lock_name shared.now) (lock_start shared.now) two
+                × (length two.me.0.owns ≡ 1) }
             ensures { IsTokenOf (lock_name shared.entry.now) (lock_start shared.entry.now) result }
         { add_all(handle, shared, two, 20000) },
     );
@@ -104,13 +106,15 @@ fn sessions_meet_by_a_note(rt: HostRuntime) -> Result<(), Fail> {
     let (found, more) = join(
         &rt,
         move || -> u64
-            requires { IsTokenOf (lock_name shared.now) (lock_start shared.now) two × IsTokenOf (lock_name shared.now) (lock_start shared.now) note }
+            requires { IsTokenOf (lock_name shared.now) (lock_start shared.now) two
+                × IsTokenOf (lock_name shared.now) (lock_start shared.now) note }
         {
             shared.meet(&mut two, note);
             look(handle, shared, &mut two)
         },
         move || -> u64
-            requires { IsTokenOf (lock_name shared.now) (lock_start shared.now) one × (length one.me.0.owns ≡ 1) }
+            requires { IsTokenOf (lock_name shared.now) (lock_start shared.now) one
+                × (length one.me.0.owns ≡ 1) }
         {
             add(handle, shared, &mut one);
             look(handle, shared, &mut one)

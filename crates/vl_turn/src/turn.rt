@@ -4,7 +4,8 @@ ghost use Rattle.std.specs.Borrow.{sem};
 use crate::rule::Token;
 use crate::view::Standing;
 
-/// A turn under the lock, with the value. It is to be given back: where it isn't, nobody has a turn any more.
+/// A turn under the lock, with the value. It is to be given back: where it isn't, nobody has a turn
+/// any more.
 pub struct Turn<'a, T: Standing> {
     pub value: T,
     pub token: &'a mut Token<T>,

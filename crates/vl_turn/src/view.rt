@@ -37,7 +37,7 @@ pub struct View<T, E> {
     pub start: Option<T>,
     /// A beginning of the list.
     pub seen: LinkedList<E>,
-    /// What was joined last, where it is the shorter one: it begins `seen`, which only a load tells.
+    /// Of what was joined last the shorter part. It begins `seen`, which only a load tells.
     pub told: LinkedList<E>,
     /// The own entries of each session that the token has.
     pub owns: LinkedList<Own<E>>,
@@ -45,6 +45,7 @@ pub struct View<T, E> {
     pub holds: bool,
     /// How many sessions were numbered. Only the token with which the lock was made knows it.
     pub made: Option<u64>,
-    /// Whether the slot is home with nothing in it, while the token has the turn.
+    /// Whether the slot is home with nothing in it, while the token has the turn: the lock wasn't
+    /// filled yet, or it was closed.
     pub closed: bool,
 }
