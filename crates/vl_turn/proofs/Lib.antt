@@ -1,0 +1,7 @@
+pub mod Prefixes
+pub mod Sessions
+pub mod Places
+pub mod Keeping
+pub mod Turns
+pub mod Sharing
+pub mod Ends

@@ -1,0 +1,58 @@
+-- A token of the lock with a name, which was made with the value `start`.
+use Rattle.std.specs.Prelude.{◌≡◌, ℕ, true, false, List, [], ◌∷◌, Option, Some, None, IfSome}
+use mathlib.Core.List.{IsPrefix}
+use Rattle.atomic_table.specs.Seated.{TableId}
+use Rattle.atomic_table.specs.declared.shared.Seat.{Seat}
+use Rattle.vl_turn.specs.declared.view.Own.{Own}
+use Rattle.vl_turn.specs.declared.view.View.{View}
+use Rattle.vl_turn.specs.Entries.{entries_by, AreNumbered, AreApart}
+use Rattle.vl_turn.specs.Views.{holding}
+
+-- it doesn't have the turn
+pub record IsTokenOf {T E : Type 0} (name : TableId) (start : T) (token : Seat (Option T) (View T E)) : Type 0 where
+  pub here : token.table_id ≡ name
+  pub from : token.me.0.start ≡ Some start
+  pub idle : token.me.0.holds ≡ false
+  pub unclosed : token.me.0.closed ≡ false
+  pub slots : token.me.1 ≡ []
+
+-- it has the turn, and the value was taken out
+pub record HasTurn {T E : Type 0} (name : TableId) (start : T) (token : Seat (Option T) (View T E)) : Type 0 where
+  pub here : token.table_id ≡ name
+  pub from : token.me.0.start ≡ Some start
+  pub holds : token.me.0.holds ≡ true
+  pub unclosed : token.me.0.closed ≡ false
+  pub slots : token.me.1 ≡ (0, None) ∷ []
+
+-- it has the turn, and no value is in the lock: it was not filled yet, or it was closed
+pub record IsEmpty {T E : Type 0} (name : TableId) (start : T) (token : Seat (Option T) (View T E)) : Type 0 where
+  pub here : token.table_id ≡ name
+  pub from : token.me.0.start ≡ Some start
+  pub holds : token.me.0.holds ≡ true
+  pub closed : token.me.0.closed ≡ true
+  pub slots : token.me.1 ≡ []
+
+-- a turn began: all of the list is now seen, and the value stands for it
+pub record Begins {T E : Type 0} (stands : T → T → List E → Type 0) (start : T) (v w : View T E) (value : T) : Type 0 where
+  pub later : IsPrefix v.seen w.seen
+  pub is : w ≡ holding v w.seen
+  pub meaning : stands start value w.seen
+
+-- of each of these sessions these are all its entries in the list, in order
+abbrev pub Owned : {E : Type 0} → (E → ℕ) → List E → List (Own E) → Type 0
+Owned by list [] = Unit {0}
+Owned by list (o ∷ os) = (o.entries ≡ entries_by by o.number list) × Owned by list os
+
+-- the list is whole: nothing will be entered any more
+pub record IsWhole {T E : Type 0} (by : E → ℕ) (list : List E) (v : View T E) : Type 0 where
+  pub owns : Owned by list v.owns
+  pub apart : AreApart v.owns
+  pub numbers : IfSome v.made (λ n. AreNumbered by n list)
+
+-- the lock was closed: the value stands for the whole list, which begins with all that the token
+-- had seen
+pub record Ends {T E : Type 0} (stands : T → T → List E → Type 0) (by : E → ℕ) (start : T) (v : View T E) (value : T) : Type 0 where
+  pub list : List E
+  pub later : IsPrefix v.seen list
+  pub meaning : stands start value list
+  pub whole : IsWhole by list v
