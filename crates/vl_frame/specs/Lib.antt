@@ -4,3 +4,4 @@ pub mod HeaderLaws
 pub mod Laws
 pub mod Numbers
 pub mod Parts
+pub mod Runs
