@@ -1,0 +1,6 @@
+pub mod Current
+pub mod EditLaws
+pub mod Edits
+pub mod Levels
+pub mod Manifest
+pub mod States
