@@ -3,4 +3,7 @@ pub mod EditLaws
 pub mod Edits
 pub mod Levels
 pub mod Manifest
+pub mod ManifestLaws
+pub mod StateLaws
 pub mod States
+pub mod Worked
