@@ -2,7 +2,8 @@
 use Rattle.std.specs.Prelude.{◌≡◌, ◌+◌, ◌<◌, ◌≤◌, ℕ, List, ◌∷◌, ◌++◌, drop, length, Result, Ok, Err}
 use Rattle.vl_frame.specs.Frame.{IsSpelled}
 use Rattle.vl_frame.specs.Header.{HasFormat, IsHeader, header_bytes}
-use Rattle.vl_frame.specs.Runs.{BeginsAs, NoFrame, ReadsAs, StandsAt, frame, placed, run}
+use Rattle.vl_frame.specs.Begins.{BeginsAs, placed}
+use Rattle.vl_frame.specs.Runs.{ReadsAs, StandsAt, StandsNone, item_frame, run_bytes}
 use Rattle.vl_frame.specs.declared.kinds.FileKind.TheVariants as files
 use Rattle.vl_frame.specs.declared.kinds.FrameKind.TheVariants as kinds
 use Rattle.vl_manifest.specs.declared.edit.Edit.{Edit}
@@ -19,7 +20,7 @@ manifest_header number = header_bytes files.Manifest MANIFEST_FORMAT number
 
 -- the manifest with this number that has these frames and nothing else
 abbrev pub manifest_bytes : ℕ → List (List Edit) → List ℕ
-manifest_bytes number frames = manifest_header number ++ run edits_grammar number 16 frames
+manifest_bytes number frames = manifest_header number ++ run_bytes edits_grammar number 16 frames
 
 -- ---- as it is read
 
@@ -38,14 +39,14 @@ pub record ReadsManifest (number : ℕ) (bytes : List ℕ) (frames : List (List 
 -- what these frames make, the first of which stands behind the header
 abbrev pub state_of : ℕ → List Edit → List (List Edit) → Result ManifestState ℕ
 state_of number first others =
-    manifest_state (record { place = 16; said = first })
-    (placed edits_grammar number (16 + length (frame edits_grammar number 16 first)) others)
+    manifest_state (record { place = 16; item = first })
+    (placed edits_grammar number (16 + length (item_frame edits_grammar number 16 first)) others)
 
 -- The first place at which a manifest is damaged: 0 where its header isn't there, 16 where no frame is,
 -- else that of the first frame that can't be applied, whatever stands behind it.
 pub data IsDamaged (number : ℕ) (bytes : List ℕ) (place : ℕ) : Type 0 where
   no_header : (HasHeader number bytes → ⊥) → place ≡ 0 → IsDamaged number bytes place
-  no_frame : HasHeader number bytes → NoFrame edits_grammar number 16 (drop 16 bytes) → place ≡ 16
+  no_frame : HasHeader number bytes → StandsNone edits_grammar number 16 (drop 16 bytes) → place ≡ 16
       → IsDamaged number bytes place
   not_applied : HasHeader number bytes → (first : List Edit) (others : List (List Edit))
       → BeginsAs edits_grammar number 16 (drop 16 bytes) (first ∷ others)

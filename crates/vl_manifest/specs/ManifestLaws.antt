@@ -6,7 +6,9 @@ use Rattle.std.proofs.lemmas.List.{append-nil, drop_at}
 use Rattle.vl_frame.specs.Header.{header_bytes}
 use Rattle.vl_frame.specs.HeaderLaws.{header_has_format, length-header_bytes, one_format}
 use Rattle.vl_frame.specs.Laws.{length-frame_bytes}
-use Rattle.vl_frame.specs.Runs.{BeginsAs, HasFrame, NoFrame, Placed, ReadsAs, frame, one_begins, one_reading, placed, reads_alone, reads_begins, reads_past, run}
+use Rattle.vl_frame.specs.Begins.{one_begins, placed, reads_past}
+use Rattle.vl_frame.specs.RunLaws.{one_reading, reads_whole}
+use Rattle.vl_frame.specs.Runs.{HasFrame, ReadsAs, item_frame, run_bytes}
 use Rattle.vl_frame.specs.declared.kinds.FileKind.TheVariants as files
 use Rattle.vl_frame.specs.declared.kinds.FrameKind.TheVariants as kinds
 use Rattle.vl_manifest.specs.declared.edit.Edit.{Edit}
@@ -44,7 +46,7 @@ behind_more number at s [] more place e = absurd (ok_err s place e)
 behind_more number at s (c ∷ cs) more place e = by (λ t is. behind_more number next t cs more place is) (next_state c s) e
   where
     next : ℕ
-    next = at + length (frame edits_grammar number at c)
+    next = at + length (item_frame edits_grammar number at c)
 
     by : ((t : ManifestState) → state_behind t (placed edits_grammar number next cs) ≡ Err place
         → state_behind t (placed edits_grammar number next (cs ++ more)) ≡ Err place)
@@ -58,7 +60,7 @@ state_more : (number : ℕ) (first : List Edit) (others more : List (List Edit))
 state_more number first others more place e = by (first_state first) e
   where
     next : ℕ
-    next = 16 + length (frame edits_grammar number 16 first)
+    next = 16 + length (item_frame edits_grammar number 16 first)
 
     by : (o : Option ManifestState) → state_then 16 (λ t. state_behind t (placed edits_grammar number next others)) o ≡ Err place
         → state_then 16 (λ t. state_behind t (placed edits_grammar number next (others ++ more))) o ≡ Err place
@@ -96,9 +98,9 @@ one_damage number bytes p q (not_applied header first others begins e) (no_frame
 one_damage number bytes p q (not_applied header first others begins e) (not_applied header' first' others' begins' e') =
     ⊎_elim
     (λ (longer : (more : List (List Edit)) × (first' ∷ others' ≡ (first ∷ others) ++ more)).
-        err_same p q (sym (begun_by number first first' others others' longer.0 p longer.1 e) ∙ e'))
+    err_same p q (sym (begun_by number first first' others others' longer.0 p longer.1 e) ∙ e'))
     (λ (shorter : (more : List (List Edit)) × (first ∷ others ≡ (first' ∷ others') ++ more)).
-        err_same p q (sym e ∙ begun_by number first' first others' others shorter.0 q shorter.1 e'))
+    err_same p q (sym e ∙ begun_by number first' first others' others shorter.0 q shorter.1 e'))
     (one_begins edits_grammar number 16 (drop 16 bytes) (first ∷ others) (first' ∷ others') begins begins')
 
 -- The bytes of a manifest say one thing.
@@ -115,8 +117,8 @@ one_saying number bytes (Err place) (Err other) p q =
 -- What a manifest says is in range.
 pub says_in_range : (number : ℕ) (bytes : List ℕ) (s : ManifestState) → SaysState number bytes s → IsInRange s
 says_in_range number bytes s says =
-    state_in_range (record { place = 16; said = says.first })
-    (placed edits_grammar number (16 + length (frame edits_grammar number 16 says.first)) says.others) s says.made
+    state_in_range (record { place = 16; item = says.first })
+    (placed edits_grammar number (16 + length (item_frame edits_grammar number 16 says.first)) says.others) s says.made
 
 -- ---- readable and newer ones
 
@@ -160,15 +162,15 @@ header_reads number bytes tail frames fits is reads =
 
 -- A manifest that is made of frames reads as these.
 pub manifest_reads : (number : ℕ) (frames : List (List Edit)) → number < 2 ^ 32
-    → AllByRecursion (HasFrame edits_grammar number) frames → ReadsManifest number (manifest_bytes number frames) frames
+    → AllByRecursion (HasFrame edits_grammar) frames → ReadsManifest number (manifest_bytes number frames) frames
 manifest_reads number frames fits have =
-    header_reads number (manifest_bytes number frames) (run edits_grammar number 16 frames) frames fits refl
-    (reads_alone edits_grammar number 16 frames have)
+    header_reads number (manifest_bytes number frames) (run_bytes edits_grammar number 16 frames) frames fits refl
+    (reads_whole edits_grammar number 16 frames have)
 
 -- a whole state has a frame
-pub whole_has_frame : (number : ℕ) (s : ManifestState) → IsInRange s → HasFrame edits_grammar number (whole_edits s)
+pub whole_has_frame : (number : ℕ) (s : ManifestState) → IsInRange s → HasFrame edits_grammar (whole_edits s)
 whole_has_frame number s r =
-    subst (λ (es : List Edit). HasFrame edits_grammar number es) (sym edits) (record {
+    subst (λ (es : List Edit). HasFrame edits_grammar es) (sym edits) (record {
       lawful = record {
         few = omega arith;
         each = (

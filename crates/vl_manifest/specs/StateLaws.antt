@@ -3,7 +3,7 @@ use Rattle.std.specs.Prelude.{◌≡◌, ◌+◌, ◌≤◌, ℕ, max, Bool, tru
 use Rattle.std.proofs.Common.{sym, ap, subst, ◌∙◌, arith}
 use Rattle.std.proofs.lemmas.Bool.{leb-true, le-leb, and_from, and_parts}
 use Rattle.vl_model.specs.Limits.{max_commit_number, max_file_number}
-use Rattle.vl_frame.specs.Runs.{Placed}
+use Rattle.vl_frame.specs.Begins.{Placed}
 use Rattle.vl_manifest.specs.declared.draft.Draft.{Draft}
 use Rattle.vl_manifest.specs.declared.edit.Edit.{Edit}
 use Rattle.vl_manifest.specs.declared.edit.Edit.TheVariants.{Add, Drop, Head, Next}
@@ -208,14 +208,14 @@ stepped place rest (Some t) s is = (t, refl, is)
 behind_in : (fs : List (Placed (List Edit))) (s t : ManifestState) → IsInRange s → state_behind s fs ≡ Ok t → IsInRange t
 behind_in [] s t inside is = subst IsInRange (ok_same s t is) inside
 behind_in (f ∷ fs) s t inside is =
-    let r = stepped f.place (λ u. state_behind u fs) (next_state f.said s) t is in
+    let r = stepped f.place (λ u. state_behind u fs) (next_state f.item s) t is in
     behind_in fs r.0 t
-    (finish_in (all_applied f.said (as_draft s)) r.0 (λ d e. all_in f.said (as_draft s) d (as_draft_in s inside) e) r.1) r.2
+    (finish_in (all_applied f.item (as_draft s)) r.0 (λ d e. all_in f.item (as_draft s) d (as_draft_in s inside) e) r.1) r.2
 
 -- A state that frames make is in range.
 pub state_in_range : (f : Placed (List Edit)) (fs : List (Placed (List Edit))) (s : ManifestState)
     → manifest_state f fs ≡ Ok s → IsInRange s
 state_in_range f fs s is =
-    let r = stepped f.place (λ u. state_behind u fs) (first_state f.said) s is in
+    let r = stepped f.place (λ u. state_behind u fs) (first_state f.item) s is in
     behind_in fs r.0 s
-    (finish_in (all_applied f.said first_draft) r.0 (λ d e. all_in f.said first_draft d first_in e) r.1) r.2
+    (finish_in (all_applied f.item first_draft) r.0 (λ d e. all_in f.item first_draft d first_in e) r.1) r.2

@@ -1,7 +1,7 @@
 -- What edits make of a manifest's state, frame by frame.
 use Rattle.std.specs.Prelude.{ℕ, ◌+◌, max, Bool, ◌&&◌, nat_le, if◌then◌else◌, List, [], ◌∷◌, ◌++◌, Option, None, Some, Result, Ok, Err}
 use Rattle.vl_model.specs.Limits.{max_commit_number, max_file_number}
-use Rattle.vl_frame.specs.Runs.{Placed}
+use Rattle.vl_frame.specs.Begins.{Placed}
 use Rattle.vl_manifest.specs.declared.draft.Draft.{Draft}
 use Rattle.vl_manifest.specs.declared.edit.Edit.{Edit}
 use Rattle.vl_manifest.specs.declared.edit.Edit.TheVariants.{Add, Drop, Head, Next}
@@ -86,12 +86,12 @@ state_then place rest (Some s) = rest s
 -- the state behind the later frames, or the place of the first of them that can't be applied
 abbrev pub state_behind : ManifestState → List (Placed (List Edit)) → Result ManifestState ℕ
 state_behind s [] = Ok s
-state_behind s (f ∷ fs) = state_then f.place (λ t. state_behind t fs) (next_state f.said s)
+state_behind s (f ∷ fs) = state_then f.place (λ t. state_behind t fs) (next_state f.item s)
 
 -- The state that a manifest's frames make, of which there is at least one; or the place of the first
 -- frame that can't be applied.
 abbrev pub manifest_state : Placed (List Edit) → List (Placed (List Edit)) → Result ManifestState ℕ
-manifest_state f fs = state_then f.place (λ s. state_behind s fs) (first_state f.said)
+manifest_state f fs = state_then f.place (λ s. state_behind s fs) (first_state f.item)
 
 -- ---- states to begin with
 

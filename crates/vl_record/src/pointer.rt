@@ -23,7 +23,7 @@ pub fn pointer_bytes(pointer: Pointer) -> [u8; POINTER_BYTES]
 /// The pointer at the front of these bytes. Bytes may follow it.
 pub fn read_pointer(bytes: &[u8]) -> Option<Pointer>
     ensures found { IfSome result (spelling.IsPointerSpelled bytes.now) }
-    ensures none { IfNone result (length bytes.now < POINTER_BYTES) }
+    ensures none { IfNone result (length bytes.now < 16) }
 {
     let (segment, rest) = take_u32(bytes)?;
     let (place, rest) = take_u64(rest)?;

@@ -1,5 +1,5 @@
 -- A commit's body: its head, and the run of its records.
-use Rattle.std.proofs.Common.{◌≡◌, ℕ, ◌<◌, ◌≤◌, ◌^◌, List, ◌++◌, length, sym, ap, ◌∙◌, arith}
+use Rattle.std.proofs.Common.{◌≡◌, ℕ, ◌<◌, ◌≤◌, ◌^◌, List, ◌++◌, length, sym, ap, subst, ◌∙◌, arith}
 use Rattle.std.specs.Prelude.{IsTrue}
 use Rattle.std.specs.FinMap.{is_sorted}
 use Rattle.byteorder.specs.Endian.{big_bytes}
@@ -27,7 +27,8 @@ unfolding commit_body
 agrees body number count rest c number_fits count_fits e short lawful spelled =
     let both : big_bytes 8 number ++ (big_bytes 4 count ++ rest) ≡ big_bytes 8 c.number ++ (big_bytes 4 (length c.writes) ++ records_bytes c.writes) = sym e ∙ spelled in
     let a = one_number 8 number c.number _ _ number_fits (omega (arith, lawful.last)) both in
-    let b = one_number 4 count (length c.writes) _ _ count_fits (few_records c (rw (← spelled) short)) a.1 in
+    let few = few_records c (subst (λ (bytes : List ℕ). length bytes < 2 ^ 32) spelled short) in
+    let b = one_number 4 count (length c.writes) _ _ count_fits few a.1 in
     record { number = a.0; count = b.0; run = record { counted = sym b.0; lawful = lawful.lawful; spelled = b.1 } }
 
 -- a head and a run behind it

@@ -17,7 +17,8 @@ use Rattle.vl_model.specs.Keys.{value_bytes}
 use Rattle.vl_model.specs.declared.change.Change.{Change}
 use Rattle.vl_record.specs.Laws.{length-record_bytes, one_record}
 use Rattle.vl_frame.specs.Numbers.{one_number}
-use Rattle.vl_record.specs.Record.{IsSpelled as IsRecordSpelled, record_bytes, record_length}
+use Rattle.vl_model.specs.Frames.{record_length}
+use Rattle.vl_record.specs.Record.{IsSpelled as IsRecordSpelled, record_bytes}
 use Rattle.vl_seglog.specs.Log.{AreRecords, Commit, HasFrame, IsCommit, ReadsAs, ReadsLog, StandsAt, commit_body, commit_frame, commit_length, frames_bytes, log_bytes, log_header, records_bytes}
 
 -- ---- lengths

@@ -3,3 +3,4 @@ pub mod Log
 pub mod PointerLaws
 pub mod Pointers
 pub mod Reading
+pub mod Staging

@@ -1,7 +1,8 @@
 -- Where the records of a commit stand in its log.
 use Rattle.std.specs.Prelude.{◌≡◌, ℕ, ◌+◌, List, [], ◌∷◌, ◌++◌, drop, length, slice_get, Some}
 use Rattle.vl_model.specs.declared.change.Change.{Change}
-use Rattle.vl_record.specs.Record.{IsSpelled, record_length}
+use Rattle.vl_model.specs.Frames.{record_length}
+use Rattle.vl_record.specs.Record.{IsSpelled}
 use Rattle.vl_model.specs.declared.pointer.Pointer.{Pointer}
 use Rattle.vl_seglog.specs.Log.{records_bytes}
 

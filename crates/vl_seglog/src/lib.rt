@@ -19,7 +19,7 @@ pub use commit::Commit;
 pub use content::read_log;
 pub use read::read_commit;
 pub use staged::Staged;
-pub use write::{LOG_HEADER_BYTES, log_header, write_commit};
+pub use write::{LOG_FORMAT, LOG_HEADER_BYTES, commit_length, log_header, write_commit};
 
 #[cfg(test)]
 mod tests;

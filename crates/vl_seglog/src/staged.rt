@@ -1,6 +1,5 @@
 ghost use Rattle.std.specs.Prelude.{◌≡◌, ◌+◌, ◌<◌, ◌^◌, length, IfOk, OnOk};
-ghost use Rattle.vl_frame.specs.Frame.{frame_length};
-ghost use Rattle.vl_record.specs.Record.{record_length};
+ghost use Rattle.vl_model.specs.Frames.{record_length};
 ghost use Rattle.vl_seglog.specs.Log as log;
 ghost use Rattle.vl_seglog.specs.Pointers.{ArePointers};
 
@@ -37,8 +36,8 @@ pub fn staged_commit(
     ensures frame { IfOk result (λ s. s.frame.items ≡
         log.commit_frame file at (record { number = number; writes = writes.now })) }
     ensures pointers { IfOk result (λ s. ArePointers file at writes.now s.pointers.items) }
-    ensures short { OnOk result (frame_length
-        (length (log.commit_body (record { number = number; writes = writes.now }))) < 2 ^ 32) }
+    ensures body { OnOk result (length (log.commit_body (record { number = number; writes = writes.now })) < 2 ^ 32) }
+    ensures short { IfOk result (λ s. length s.frame.items < 2 ^ 32) }
     ensures fits { IfOk result (λ s. at + length s.frame.items < 2 ^ 64) }
 {
     let mut frame = Vec::new(alloc);
