@@ -27,7 +27,7 @@ module _ {Item : Type 0} (G : Grammar Item) (number : ℕ) where
   unfolding frame_of
   one_item at bytes a b rest other p q =
       let frames = one_frame G.file number at bytes (G.kind a) (G.kind b) (G.body a) (G.body b) (frame_of at bytes a rest p) (frame_of at bytes b other q) in
-      (G.one a b p.lawful q.lawful frames.0 frames.1, frames.2)
+      (G.one a b p.lawful q.lawful p.short frames.0 frames.1, frames.2)
 
   -- Bytes hold one list of items.
   pub one_reading : (at : ℕ) (bytes : List ℕ) (items others : List Item) → ReadsAs G number at bytes items → ReadsAs G number at bytes others → items ≡ others

@@ -10,8 +10,8 @@ use Rattle.vl_model.specs.declared.pointer.Pointer.{Pointer}
 use Rattle.vl_frame.specs.Frame.{frame_length}
 use Rattle.vl_frame.specs.Laws.{length-frame_bytes}
 use Rattle.vl_frame.specs.declared.kinds.FrameKind.TheVariants as kinds
-use Rattle.vl_seglog.specs.Laws.{commit_frame-length, records_length}
-use Rattle.vl_seglog.specs.Log.{Commit, commit_body, commit_frame, records_bytes}
+use Rattle.vl_seglog.specs.CommitLaws.{commit_frame-length, records_length}
+use Rattle.vl_seglog.specs.Commit.{Commit, commit_body, commit_frame, records_bytes}
 use Rattle.vl_seglog.specs.Pointers.{ArePointers}
 use Rattle.vl_seglog.specs.PointerLaws.{are_pointers, pointers_from}
 

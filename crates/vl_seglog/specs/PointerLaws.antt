@@ -9,7 +9,7 @@ use Rattle.vl_record.specs.Laws.{length-record_bytes}
 use Rattle.vl_model.specs.Frames.{record_length}
 use Rattle.vl_record.specs.Record.{IsSpelled, record_bytes}
 use Rattle.vl_model.specs.declared.pointer.Pointer.{Pointer}
-use Rattle.vl_seglog.specs.Log.{AreRecords, Commit, IsCommit, commit_body, commit_frame, head_bytes, records_bytes}
+use Rattle.vl_seglog.specs.Commit.{AreRecords, Commit, IsCommit, commit_body, commit_frame, head_bytes, records_bytes}
 use Rattle.vl_seglog.specs.Pointers.{ArePointers, LeadToAll}
 
 -- ---- the pointers as they are found from the left
