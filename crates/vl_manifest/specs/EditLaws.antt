@@ -79,5 +79,5 @@ edits_grammar = record {
   body = edits_body;
   lawful = AreEdits;
   in_file = λ es. refl;
-  one = λ es fs i j k e. one_body es fs i j e;
+  one = λ es fs i j short k e. one_body es fs i j e;
 }

@@ -6,6 +6,7 @@ mod draft;
 mod edit;
 mod fails;
 mod format;
+mod frames;
 mod levels;
 mod making;
 mod manifest_log;

@@ -6,11 +6,12 @@ ghost use Rattle.vl_manifest.specs.Reading.{AnswersSo, GoesOnSo};
 
 use crate::fails::StateFail;
 use crate::format::MANIFEST_FORMAT;
+use crate::frames::behind_header;
 use crate::manifest_log::ManifestLog;
 use crate::reading::read_edits;
 use crate::state::ManifestState;
 use std::alloc::{AllocError, Global};
-use vl_frame::{FileKind, HEADER_BYTES, read_header};
+use vl_frame::{FileKind, read_header};
 
 // Where a manifest's first frame stands, in bytes.
 const FIRST_FRAME: u64 = 16;
@@ -24,7 +25,7 @@ impl ManifestLog {
         if !has_header(bytes, number) {
             return Ok(false);
         }
-        Ok(read_edits(alloc, &bytes[HEADER_BYTES..], number, FIRST_FRAME)?.is_some())
+        Ok(read_edits(alloc, behind_header(bytes), number, FIRST_FRAME)?.is_some())
     }
 
     /// The state that the frames of the manifest with this number make, or the place of the first damage.
@@ -34,7 +35,7 @@ impl ManifestLog {
         if !has_header(bytes, number) {
             return Err(StateFail::Damaged { place: 0 });
         }
-        let frames = &bytes[HEADER_BYTES..];
+        let frames = behind_header(bytes);
         let Some((edits, rest)) = read_edits(alloc, frames, number, FIRST_FRAME)? else {
             return Err(StateFail::Damaged { place: FIRST_FRAME });
         };
@@ -62,17 +63,17 @@ fn read_on(
     requires { length rest.now ≤ length frames.now }
     ensures { GoesOnSo number (FIRST_FRAME + (length frames.now - length rest.now)) rest.now state result }
 {
-    let mut state = state;
-    let mut rest = rest;
-    loop {
-        let place = FIRST_FRAME + (frames.len() - rest.len()) as u64;
-        let Some((edits, after)) = read_edits(alloc, rest, number, place)? else {
-            return Ok(state);
+    let mut latest = state;
+    let mut left = rest;
+    'frames: loop {
+        let place = FIRST_FRAME + (frames.len() - left.len()) as u64;
+        let Some((edits, after)) = read_edits(alloc, left, number, place)? else {
+            return Ok(latest);
         };
-        let Some(next) = state.next(&edits) else {
+        let Some(next) = latest.next(&edits) else {
             return Err(StateFail::Damaged { place });
         };
-        state = next;
-        rest = after;
+        latest = next;
+        left = after;
     }
 }
