@@ -1,3 +1,4 @@
+pub mod Begins
 pub mod Frame
 pub mod Header
 pub mod HeaderLaws

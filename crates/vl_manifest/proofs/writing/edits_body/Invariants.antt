@@ -1,0 +1,7 @@
+use Rattle.std.proofs.Common.{◌≡◌, ◌++◌, drop}
+use Rattle.vl_manifest.specs.Edits as spelling
+use Rattle.vl_manifest.proofs.writing.edits_body.Given as goal
+
+-- the edits that are still to be written stand behind what was written
+abbrev pub invariant-loop-edit : goal.invariant-loop-edit
+invariant-loop-edit l = l.body.items ++ spelling.edits_bytes (drop l.edit-index l.edits) ≡ spelling.edits_body l.edits

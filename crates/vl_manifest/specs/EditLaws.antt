@@ -1,0 +1,83 @@
+-- What the spelling of edits says: a body spells one list of edits at most.
+use Rattle.std.specs.Prelude.{◌≡◌, ◌<◌, ◌^◌, ℕ, List, [], ◌∷◌, ◌++◌, length, refl}
+use Rattle.std.specs.List.{AllByRecursion}
+use Rattle.std.proofs.Common.{sym, ap, ◌∙◌, append_assoc, arith}
+use Rattle.byteorder.specs.Endian.{big_bytes}
+use Rattle.vl_frame.specs.Numbers.{one_number}
+use Rattle.vl_frame.specs.Runs.{Grammar}
+use Rattle.vl_frame.specs.declared.kinds.FileKind.TheVariants as files
+use Rattle.vl_frame.specs.declared.kinds.FrameKind.TheVariants as kinds
+use Rattle.vl_manifest.specs.declared.edit.Edit.{Edit}
+use Rattle.vl_manifest.specs.declared.edit.Edit.TheVariants.{Add, Drop, Head, Next}
+use Rattle.vl_manifest.specs.Edits.{edit_bytes, IsEdit, edits_bytes, edits_body, AreEdits}
+
+first_byte : (a b : ℕ) (x y : List ℕ) → a ∷ x ≡ b ∷ y → a ≡ b
+first_byte a b x y e = cc
+
+rest_bytes : (a b : ℕ) (x y : List ℕ) → a ∷ x ≡ b ∷ y → x ≡ y
+rest_bytes a b x y e = cc
+
+-- two numbers at the front of the same bytes
+two_numbers : (m n a b c d : ℕ) (x y : List ℕ) → a < 256 ^ m → c < 256 ^ m → b < 256 ^ n → d < 256 ^ n
+    → (big_bytes m a ++ big_bytes n b) ++ x ≡ (big_bytes m c ++ big_bytes n d) ++ y → (a ≡ c) × (b ≡ d) × (x ≡ y)
+two_numbers m n a b c d x y a_fits c_fits b_fits d_fits e =
+    let both = sym (append_assoc (big_bytes m a) (big_bytes n b) x) ∙ e ∙ append_assoc (big_bytes m c) (big_bytes n d) y in
+    let one = one_number m a c (big_bytes n b ++ x) (big_bytes n d ++ y) a_fits c_fits both in
+    let two = one_number n b d x y b_fits d_fits one.1 in
+    (one.0, two.0, two.1)
+
+-- At the front of the same bytes one edit is spelled at most, and one rest stands behind it.
+pub one_edit : (e f : Edit) (x y : List ℕ) → IsEdit e → IsEdit f → edit_bytes e ++ x ≡ edit_bytes f ++ y → (e ≡ f) × (x ≡ y)
+one_edit (Add l p t) (Add m q u) x y i j e =
+    let rest = rest_bytes 1 1 _ _ e in
+    let numbers = two_numbers 4 4 p t q u x y i.1 j.1 i.2 j.2 (rest_bytes l m _ _ rest) in
+    let level : l ≡ m = first_byte l m _ _ rest in
+    ((λ k. Add (level k) (numbers.0 k) (numbers.1 k)), numbers.2)
+one_edit (Add l p t) (Drop u) x y i j e = let no : 1 ≡ 2 = first_byte 1 2 _ _ e in absurd (omega (arith, no))
+one_edit (Add l p t) (Head s n) x y i j e = let no : 1 ≡ 3 = first_byte 1 3 _ _ e in absurd (omega (arith, no))
+one_edit (Add l p t) (Next g u) x y i j e = let no : 1 ≡ 4 = first_byte 1 4 _ _ e in absurd (omega (arith, no))
+one_edit (Drop t) (Add m q u) x y i j e = let no : 2 ≡ 1 = first_byte 2 1 _ _ e in absurd (omega (arith, no))
+one_edit (Drop t) (Drop u) x y i j e =
+    let one = one_number 4 t u x y i j (rest_bytes 2 2 _ _ e) in (ap Drop one.0, one.1)
+one_edit (Drop t) (Head s n) x y i j e = let no : 2 ≡ 3 = first_byte 2 3 _ _ e in absurd (omega (arith, no))
+one_edit (Drop t) (Next g u) x y i j e = let no : 2 ≡ 4 = first_byte 2 4 _ _ e in absurd (omega (arith, no))
+one_edit (Head s n) (Add m q u) x y i j e = let no : 3 ≡ 1 = first_byte 3 1 _ _ e in absurd (omega (arith, no))
+one_edit (Head s n) (Drop u) x y i j e = let no : 3 ≡ 2 = first_byte 3 2 _ _ e in absurd (omega (arith, no))
+one_edit (Head s n) (Head r o) x y i j e =
+    let numbers = two_numbers 4 8 s n r o x y i.0 j.0 i.1 j.1 (rest_bytes 3 3 _ _ e) in
+    ((λ k. Head (numbers.0 k) (numbers.1 k)), numbers.2)
+one_edit (Head s n) (Next g u) x y i j e = let no : 3 ≡ 4 = first_byte 3 4 _ _ e in absurd (omega (arith, no))
+one_edit (Next g t) (Add m q u) x y i j e = let no : 4 ≡ 1 = first_byte 4 1 _ _ e in absurd (omega (arith, no))
+one_edit (Next g t) (Drop u) x y i j e = let no : 4 ≡ 2 = first_byte 4 2 _ _ e in absurd (omega (arith, no))
+one_edit (Next g t) (Head s n) x y i j e = let no : 4 ≡ 3 = first_byte 4 3 _ _ e in absurd (omega (arith, no))
+one_edit (Next g t) (Next h u) x y i j e =
+    let numbers = two_numbers 4 4 g t h u x y i.0 j.0 i.1 j.1 (rest_bytes 4 4 _ _ e) in
+    ((λ k. Next (numbers.0 k) (numbers.1 k)), numbers.2)
+
+-- as many edits with the same bytes are the same
+pub same_edits : (es fs : List Edit) → AllByRecursion IsEdit es → AllByRecursion IsEdit fs
+    → length es ≡ length fs → edits_bytes es ≡ edits_bytes fs → es ≡ fs
+same_edits [] [] i j n e = refl
+same_edits [] (f ∷ fs) i j n e = absurd (omega arith)
+same_edits (d ∷ es) [] i j n e = absurd (omega arith)
+same_edits (d ∷ es) (f ∷ fs) i j n e =
+    let one = one_edit d f (edits_bytes es) (edits_bytes fs) i.0 j.0 e in
+    let rest = same_edits es fs i.1 j.1 (omega arith) one.1 in
+    λ k. one.0 k ∷ rest k
+
+-- A body spells one list of edits at most.
+pub one_body : (es fs : List Edit) → AreEdits es → AreEdits fs → edits_body es ≡ edits_body fs → es ≡ fs
+one_body es fs i j e =
+    let count = one_number 4 (length es) (length fs) (edits_bytes es) (edits_bytes fs) i.few j.few e in
+    same_edits es fs i.each j.each count.0 count.1
+
+-- what the frames of manifests say
+abbrev pub edits_grammar : Grammar (List Edit)
+edits_grammar = record {
+  file = files.Manifest;
+  kind = λ es. kinds.Edits;
+  body = edits_body;
+  lawful = AreEdits;
+  in_file = λ es. refl;
+  one = λ es fs i j short k e. one_body es fs i j e;
+}

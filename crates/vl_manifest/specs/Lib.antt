@@ -1,0 +1,11 @@
+pub mod Current
+pub mod EditLaws
+pub mod Edits
+pub mod Levels
+pub mod Making
+pub mod Manifest
+pub mod ManifestLaws
+pub mod Reading
+pub mod StateLaws
+pub mod States
+pub mod Worked

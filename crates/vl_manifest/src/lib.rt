@@ -1,0 +1,27 @@
+//! Manifests: which tables and logs a store has, as frames of edits, each of which is one switch. docs/FORMATS.md has
+//! their bytes.
+#![tactic(auto)]
+
+mod draft;
+mod edit;
+mod fails;
+mod format;
+mod frames;
+mod levels;
+mod making;
+mod manifest_log;
+mod newer;
+mod reading;
+mod saying;
+mod state;
+mod writing;
+
+pub use edit::Edit;
+pub use fails::{IoFail, StateFail};
+pub use format::MANIFEST_FORMAT;
+pub use levels::Levels;
+pub use manifest_log::ManifestLog;
+pub use newer::newer_format;
+pub use reading::read_edits;
+pub use state::ManifestState;
+pub use writing::write_edits;
