@@ -11,8 +11,9 @@ use Rattle.std.proofs.lemmas.List.Elements.{All-nil, All-push}
 use Rattle.std.proofs.lemmas.Map.Entries.{sum_by-set_value, sum_by-insert_entry}
 use Rattle.vl_disk.specs.declared.name.Name.{Name}
 use Rattle.vl_disk.specs.Name.{name_cmp, name_cmp_total, IsNumbered}
-use Rattle.vl_disk.specs.NameMap.{same_or_other, tied_other, get_removed}
-use Rattle.vl_disk.specs.DiskState.{File, DiskState, empty_disk, new_file, with_file, created, without}
+use Rattle.vl_disk.specs.NameMap.{same_or_other, tied_other, get_inserted, get_inserted_other, get_removed, get_removed_other}
+use Rattle.vl_disk.specs.DiskState.{File, DiskState, empty_disk, new_file, settled, with_file, created, without}
+use Rattle.vl_disk.specs.MadeFile.{made}
 use Rattle.vl_disk.specs.Changes.{SameElsewhere, created_there, created_elsewhere, changed_there, changed_elsewhere, without_removed, without_elsewhere}
 use Rattle.vl_disk.specs.Crash.{last_file}
 use Rattle.vl_disk.specs.Spare.{Spare, SameSpare, SameSpareElsewhere, UsesChange, UsesAppend, UsesHold}
@@ -20,7 +21,7 @@ use Rattle.vl_mem.specs.declared.entry.Entry.{Entry}
 use Rattle.vl_mem.specs.declared.entry.Presence.{Presence}
 use Rattle.vl_mem.specs.declared.entry.Presence.TheVariants.{Absent, Standing, Removed}
 use Rattle.vl_mem.specs.declared.event.Event.{Event}
-use Rattle.vl_mem.specs.declared.event.Event.TheVariants.{Create, Remove}
+use Rattle.vl_mem.specs.declared.event.Event.TheVariants.{Found, Create, Remove}
 use Rattle.vl_mem.specs.Event.{IsSound, after_event, replayed-push, state_after}
 use Rattle.vl_mem.specs.Entry.{Entries, Fits, HasFiles, Matches, Becomes, KeepsFile, entry_of, file_of, if_standing, if_removed, plain, slots, spare_of, standing_in, removed_in, appends, removes, IsBlank}
 use Rattle.vl_mem.specs.Kept.{IsKept, slots_of}
@@ -78,63 +79,62 @@ module _ (old new : Entry) where
 
 -- ---- maps
 
+-- a name has another entry, or its first one
+module _ (name : Name) (entries next : Entries) (new : Entry) (updates : tree.UpdatesBy name_cmp (name_cmp name) entries next (Some new)) where
+  elsewhere : (other : Name) → other ≢ name → entry_of next other ≡ entry_of entries other
+  elsewhere other apart = updates.2 other (tied_other name other (λ e. apart (sym e)))
+
+  fits_all : ((q : Name) (entry : Entry) → entry_of entries q ≡ Some entry → Fits entry) → Fits new → (q : Name) (entry : Entry) → entry_of next q ≡ Some entry → Fits entry
+  fits_all all fits q entry is = ⊎_elim
+      (λ (same : q ≡ name). subst Fits (some_same new entry (sym updates.1 ∙ ap (entry_of next) (sym same) ∙ is)) fits)
+      (λ (other : q ≢ name). all q entry (sym (elsewhere q other) ∙ is))
+      (same_or_other q name)
+
+  files_all : (before disk : DiskState) → HasFiles entries before → SameElsewhere name before disk → Matches (Some new) (get disk.standing name) (get disk.removed name) → HasFiles next disk
+  files_all before disk has apart matches q = ⊎_elim
+      (λ (same : q ≡ name). subst (λ (n : Name). Matches (entry_of next n) (get disk.standing n) (get disk.removed n)) (sym same)
+      (subst (λ e. Matches e (get disk.standing name) (get disk.removed name)) (sym updates.1) matches))
+      (λ (other : q ≢ name). subst (λ e. Matches e (get disk.standing q) (get disk.removed q)) (sym (elsewhere q other))
+      (subst (λ f. Matches (entry_of entries q) f (get disk.removed q)) (sym (apart.standing q other))
+      (subst (λ f. Matches (entry_of entries q) (get before.standing q) f) (sym (apart.removed q other)) (has q))))
+      (same_or_other q name)
+
+  -- the files under the name are these afterwards
+  left_matches : (disk : DiskState) (standing removed : Option File) → get disk.standing name ≡ standing → get disk.removed name ≡ removed → Matches (Some new) standing removed
+      → Matches (Some new) (get disk.standing name) (get disk.removed name)
+  left_matches disk standing removed stands is matches = subst (Matches (Some new) (get disk.standing name)) (sym is) (subst (λ f. Matches (Some new) f removed) (sym stands) matches)
+
+same_files : (name : Name) (disk : DiskState) → SameElsewhere name disk disk
+same_files name disk = record { standing = λ q other. refl; removed = λ q other. refl }
+
+-- an entry is changed
 module _ (name : Name) (entries next : Entries) (old new : Entry) (found : entry_of entries name ≡ Some old) (wrote : WritesThrough name_cmp (name_cmp name) entries new next) where
   updates : tree.UpdatesBy name_cmp (name_cmp name) entries next (Some new)
   updates = wrote.3 (subst IsSome (sym found) refl)
 
-  pub there : entry_of next name ≡ Some new
-  there = updates.1
-
-  pub elsewhere : (other : Name) → other ≢ name → entry_of next other ≡ entry_of entries other
-  elsewhere other apart = updates.2 other (tied_other name other (λ e. apart (sym e)))
-
   sum : slots_of next + slots old ≡ slots_of entries + slots new
   sum = ap (λ es. sum_by slots (values_of es) + slots old) wrote.0 ∙ sum_by-set_value slots (tree.is_at (name_cmp name)) entries.entries old new found
 
-  -- where there is room for an event
-  pub has_slot : (events : List Event) (capacity : ℕ) → IsKept entries events capacity → slots new + 1 ≤ slots old → length events < capacity
-  has_slot events capacity kept fewer = omega (arith, kept.room, sum, fewer)
-
   module _ (events later : List Event) (capacity wide : ℕ) (kept : IsKept entries events capacity) (wider : capacity ≤ wide) (fits : Fits old → Fits new) where
-    fits_all : (q : Name) (entry : Entry) → entry_of next q ≡ Some entry → Fits entry
-    fits_all q entry is = ⊎_elim
-        (λ (same : q ≡ name). subst Fits (some_same new entry (sym there ∙ ap (entry_of next) (sym same) ∙ is)) (fits (kept.fits name old found)))
-        (λ (other : q ≢ name). kept.fits q entry (sym (elsewhere q other) ∙ is))
-        (same_or_other q name)
-
-    files_all : (disk : DiskState) → SameElsewhere name (state_after events) disk → Matches (Some new) (get disk.standing name) (get disk.removed name) → HasFiles next disk
-    files_all disk apart matches q = ⊎_elim
-        (λ (same : q ≡ name). subst (λ (n : Name). Matches (entry_of next n) (get disk.standing n) (get disk.removed n)) (sym same)
-        (subst (λ e. Matches e (get disk.standing name) (get disk.removed name)) (sym there) matches))
-        (λ (other : q ≢ name). subst (λ e. Matches e (get disk.standing q) (get disk.removed q)) (sym (elsewhere q other))
-        (subst (λ f. Matches (entry_of entries q) f (get disk.removed q)) (sym (apart.standing q other))
-        (subst (λ f. Matches (entry_of entries q) (get (state_after events).standing q) f) (sym (apart.removed q other)) (kept.files q))))
-        (same_or_other q name)
-
-    -- a call that left an event
-    pub kept_by : (event : Event) → later ≡ events ++ event ∷ [] → IsSound event → slots new + 1 ≤ slots old → SameElsewhere name (state_after events) (after_event event (state_after events))
-        → Matches (Some new) (get (after_event event (state_after events)).standing name) (get (after_event event (state_after events)).removed name) → IsKept next later wide
-    kept_by event pushed sound fewer apart matches = record {
-      files = subst (HasFiles next) (sym (ap state_after pushed ∙ replayed-push events event empty_disk)) (files_all (after_event event (state_after events)) apart matches);
-      sound = subst (All IsSound) (sym pushed) (All-push IsSound events event kept.sound sound);
-      fits = fits_all;
-      room = omega (arith, kept.room, wider, sum, fewer, ap length pushed, length-append events (event ∷ []));
-    }
-
     abbrev disk : DiskState
     disk = state_after events
+
+    -- a call that left an event
+    pub kept_by : (event : Event) → later ≡ events ++ event ∷ [] → IsSound event → slots new + 1 ≤ slots old → SameElsewhere name disk (after_event event disk)
+        → Matches (Some new) (get (after_event event disk).standing name) (get (after_event event disk).removed name) → IsKept next later wide
+    kept_by event pushed sound fewer apart matches = record {
+      files = subst (HasFiles next) (sym (ap state_after pushed ∙ replayed-push events event empty_disk)) (files_all name entries next new updates disk (after_event event disk) kept.files apart matches);
+      sound = subst (All IsSound) (sym pushed) (All-push IsSound events event kept.sound sound);
+      fits = fits_all name entries next new updates kept.fits (fits (kept.fits name old found));
+      room = omega (arith, kept.room, wider, sum, fewer, ap length pushed, length-append events (event ∷ []));
+    }
 
     kept_matches : Matches (Some old) (get disk.standing name) (get disk.removed name)
     kept_matches = subst (λ e. Matches e (get disk.standing name) (get disk.removed name)) found (kept.files name)
 
-    -- the files under the name are these afterwards
-    pub left_matches : (next : DiskState) (standing removed : Option File) → get next.standing name ≡ standing → get next.removed name ≡ removed → Matches (Some new) standing removed
-        → Matches (Some new) (get next.standing name) (get next.removed name)
-    left_matches next standing removed stands is matches = subst (Matches (Some new) (get next.standing name)) (sym is) (subst (λ f. Matches (Some new) f removed) (sym stands) matches)
-
     pub kept_created : later ≡ events ++ Create name ∷ [] → IsNumbered name → Becomes old new Standing new_file → IsKept next later wide
     kept_created pushed numbered becomes = kept_by (Create name) pushed numbered becomes.slots (created_elsewhere name disk)
-        (left_matches (created name disk) (Some new_file) None (created_there name disk) (get_removed disk.removed name) (matches_created old new becomes))
+        (left_matches name entries next new updates (created name disk) (Some new_file) None (created_there name disk) (get_removed disk.removed name) (matches_created old new becomes))
 
     pub kept_changed : (event : Event) (change : File → File) → after_event event disk ≡ with_file name change disk → ((file : File) → plain (change (plain file)) ≡ plain (change file))
         → later ≡ events ++ event ∷ [] → IsSound event → Becomes old new old.presence (plain (change (file_of old))) → IsSome (get disk.standing name) → IsKept next later wide
@@ -142,21 +142,21 @@ module _ (name : Name) (entries next : Entries) (old new : Entry) (found : entry
         let after = with_file name change disk in
         kept_by event pushed sound becomes.slots (subst (SameElsewhere name disk) (sym does) (changed_elsewhere name disk change))
         (subst (λ (s : DiskState). Matches (Some new) (get s.standing name) (get s.removed name)) (sym does)
-        (left_matches after (option_map change (get disk.standing name)) (get disk.removed name) (changed_there name disk change) refl
+        (left_matches name entries next new updates after (option_map change (get disk.standing name)) (get disk.removed name) (changed_there name disk change) refl
         (matches_changed old new change (get disk.removed name) (get disk.standing name) alike becomes stands kept_matches)))
 
     pub kept_removed : later ≡ events ++ Remove name ∷ [] → Becomes old new Removed (file_of old) → IsSome (get disk.standing name) → IsKept next later wide
     kept_removed pushed becomes stands = kept_by (Remove name) pushed tt becomes.slots (without_elsewhere name disk)
-        (left_matches (without name disk) None (last_file (get disk.standing name) (get disk.removed name)) (get_removed disk.standing name) (without_removed name disk)
+        (left_matches name entries next new updates (without name disk) None (last_file (get disk.standing name) (get disk.removed name)) (get_removed disk.standing name) (without_removed name disk)
         (matches_removed old new (get disk.removed name) (get disk.standing name) becomes stands kept_matches))
 
     -- and one that left none
     pub kept_still : later ≡ events → slots_of next + length events ≤ wide → KeepsFile old new → IsKept next later wide
     kept_still same within keeps = record {
-      files = subst (λ es. HasFiles next (state_after es)) (sym same) (files_all (state_after events) (record { standing = λ q other. refl; removed = λ q other. refl })
+      files = subst (λ es. HasFiles next (state_after es)) (sym same) (files_all name entries next new updates disk disk kept.files (same_files name disk)
           (matches_same old new (get disk.standing name) (get disk.removed name) keeps kept_matches));
       sound = subst (All IsSound) (sym same) kept.sound;
-      fits = fits_all;
+      fits = fits_all name entries next new updates kept.fits (fits (kept.fits name old found));
       room = omega (arith, within, ap length same);
     }
 
@@ -173,10 +173,10 @@ module _ (name : Name) (entries next : Entries) (old new : Entry) (found : entry
   after n = spare_of (entry_of next n)
 
   pub spare_elsewhere : SameSpareElsewhere name before after
-  spare_elsewhere other apart = ap spare_of (elsewhere other apart)
+  spare_elsewhere other apart = ap spare_of (elsewhere name entries next new updates other apart)
 
   pub spare_there : after name ≡ spare_of (Some new)
-  spare_there = ap spare_of there
+  spare_there = ap spare_of updates.1
 
   -- of a part of the room that is as it was
   same_part : {X : Type 0} (part : Spare → X) → part (spare_of (Some new)) ≡ part (spare_of (Some old)) → part (after name) ≡ part (before name)
@@ -219,44 +219,46 @@ removes_most Removed = omega arith
 slots_most : (entry : Entry) → slots entry ≤ 7
 slots_most entry = omega (arith, if_most entry.change 3, appends_most entry.buffer, unless_most entry.wholly_synced, removes_most entry.presence)
 
--- where there is room for seven events of each name
-pub all_fit : (entries : Entries) (events wide count : ℕ) → count ≡ length entries.entries → events + 7 * count ≤ wide → slots_of entries + events ≤ wide
-all_fit entries events wide count is room =
-    let most : slots_of entries ≤ length (values_of entries.entries) * 7 = sum_by-le slots 7 (values_of entries.entries) (λ k d within. slots_most (get_or (values_of entries.entries) k d)) in
-    omega (arith, room, is, most, length-map entries.entries (λ (e : Name × Entry). e.1))
+pub most : (entries : Entries) → slots_of entries ≤ 7 * length entries.entries
+most entries =
+    let each : slots_of entries ≤ length (values_of entries.entries) * 7 = sum_by-le slots 7 (values_of entries.entries) (λ k d within. slots_most (get_or (values_of entries.entries) k d)) in
+    omega (arith, each, length-map entries.entries (λ (e : Name × Entry). e.1))
 
--- more room for events
-pub kept_wider : (entries : Entries) (events later : List Event) (capacity wide : ℕ) → later ≡ events → capacity ≤ wide → IsKept entries events capacity → IsKept entries later wide
-kept_wider entries events later capacity wide same wider kept = subst (λ es. IsKept entries es wide) (sym same)
-    (record { files = kept.files; sound = kept.sound; fits = kept.fits; room = omega (arith, kept.room, wider) })
+-- a name gets its first entry, or another one
+module _ (name : Name) (entry : Entry) (entries next : Entries) (updates : tree.Updates name_cmp entries next name (Some entry)) (inserted : next.entries ≡ tree.insert_entry name_cmp entries.entries name entry) (ordered : tree.IsOrdered name_cmp entries) where
+  sum_inserted : slots_of next + unwrap_or (option_map slots (entry_of entries name)) 0 ≡ slots_of entries + slots entry
+  sum_inserted = ap (λ es. sum_by slots (values_of es) + unwrap_or (option_map slots (entry_of entries name)) 0) inserted
+      ∙ sum_by-insert_entry slots name_cmp_total entries.entries name entry ordered
 
--- a name gets an entry of which nothing is known
-module _ (name : Name) (entry : Entry) (entries next : Entries) (blank : IsBlank entry) (none : entry_of entries name ≡ None) (updates : tree.Updates name_cmp entries next name (Some entry)) where
-  known_elsewhere : (q : Name) → q ≢ name → entry_of next q ≡ entry_of entries q
-  known_elsewhere q other = updates.2 q (tied_other name q (λ e. other (sym e)))
-
-  at_each : {X : Type 0} (of : Option Entry → X) → of (Some entry) ≡ of None → (q : Name) → of (entry_of next q) ≡ of (entry_of entries q)
-  at_each of same q = ⊎_elim
-      (λ (here : q ≡ name). ap (λ n. of (entry_of next n)) here ∙ ap of updates.1 ∙ same ∙ sym (ap of none) ∙ sym (ap (λ n. of (entry_of entries n)) here))
-      (λ (other : q ≢ name). ap of (known_elsewhere q other))
-      (same_or_other q name)
-
-  pub known_spare : SameSpare (λ q. spare_of (entry_of entries q)) (λ q. spare_of (entry_of next q))
-  known_spare = at_each spare_of blank.spare
-
-  pub known_kept : (events : List Event) (capacity : ℕ) → next.entries ≡ tree.insert_entry name_cmp entries.entries name entry → tree.IsOrdered name_cmp entries → IsKept entries events capacity → IsKept next events capacity
-  known_kept events capacity inserted ordered kept = record {
-    files = λ q. let disk = state_after events in record {
-      standing = at_each standing_in (ap (λ p. if_standing p (file_of entry)) blank.presence) q ∙ (kept.files q).standing;
-      removed = at_each removed_in (ap (λ p. if_removed p (file_of entry)) blank.presence) q ∙ (kept.files q).removed;
-    };
+  -- one of which nothing is known
+  pub known_kept : (events : List Event) (capacity : ℕ) → IsBlank entry → entry_of entries name ≡ None → IsKept entries events capacity → IsKept next events capacity
+  known_kept events capacity blank none kept = let disk = state_after events in record {
+    files = files_all name entries next entry updates disk disk kept.files (same_files name disk) (record {
+      standing = ap (λ p. if_standing p (file_of entry)) blank.presence ∙ sym (ap standing_in none) ∙ (kept.files name).standing;
+      removed = ap (λ p. if_removed p (file_of entry)) blank.presence ∙ sym (ap removed_in none) ∙ (kept.files name).removed;
+    });
     sound = kept.sound;
-    fits = λ q e is. ⊎_elim
-        (λ (here : q ≡ name). subst Fits (some_same entry e (sym updates.1 ∙ ap (entry_of next) (sym here) ∙ is)) blank.fits)
-        (λ (other : q ≢ name). kept.fits q e (sym (known_elsewhere q other) ∙ is))
-        (same_or_other q name);
-    room = omega (arith, kept.room, ap (λ es. sum_by slots (values_of es)) inserted, sum_by-insert_entry slots name_cmp_total entries.entries name entry ordered, ap (λ o. unwrap_or (option_map slots o) 0) none, blank.slots);
+    fits = fits_all name entries next entry updates kept.fits blank.fits;
+    room = omega (arith, kept.room, sum_inserted, blank.slots);
   }
+
+  -- one of a file that stood when the disk was started
+  pub found_kept : (events later : List Event) (bytes : Vec ℕ Global) (capacity wide count : ℕ) → entry.presence ≡ Standing → file_of entry ≡ settled bytes.items → Fits entry → slots entry ≡ 1 → IsNumbered name
+      → later ≡ events ++ Found name bytes ∷ [] → count ≡ length entries.entries → length events + 7 * (count + 1) ≤ wide → IsKept entries events capacity → IsKept next later wide
+  found_kept events later bytes capacity wide count standing file fits few numbered pushed counts room kept =
+      let disk = state_after events in
+      let after = made name bytes.items disk in
+      record {
+        files = subst (HasFiles next) (sym (ap state_after pushed ∙ replayed-push events (Found name bytes) empty_disk)) (files_all name entries next entry updates disk after kept.files
+            (record { standing = get_inserted_other disk.standing name (settled bytes.items); removed = get_removed_other disk.removed name })
+            (left_matches name entries next entry updates after (Some (settled bytes.items)) None (get_inserted disk.standing name (settled bytes.items)) (get_removed disk.removed name) (record {
+              standing = ap (λ p. if_standing p (file_of entry)) standing ∙ ap Some file;
+              removed = ap (λ p. if_removed p (file_of entry)) standing;
+            })));
+        sound = subst (All IsSound) (sym pushed) (All-push IsSound events (Found name bytes) kept.sound numbered);
+        fits = fits_all name entries next entry updates kept.fits fits;
+        room = omega (arith, room, counts, most entries, sum_inserted, few, ap length pushed, length-append events (Found name bytes ∷ []));
+      }
 
 -- the same entries
 pub kept_same : (entries next : Entries) (events : List Event) (capacity : ℕ) → next.entries ≡ entries.entries → IsKept entries events capacity → IsKept next events capacity
@@ -274,7 +276,7 @@ kept_same entries next events capacity same kept = record {
 pub known : {T E : Type 0} (result : Result T E) (name : Name) (entry : Entry) (entries next : Entries) (events : List Event) (capacity : ℕ) → IsBlank entry → entry_of entries name ≡ None
     → OnOk result (tree.Updates name_cmp entries next name (Some entry)) → OnOk result (next.entries ≡ tree.insert_entry name_cmp entries.entries name entry) → OnErr result (next.entries ≡ entries.entries)
     → tree.IsOrdered name_cmp entries → IsKept entries events capacity → IsKept next events capacity
-known (Ok x) name entry entries next events capacity blank none adds inserted unchanged ordered kept = known_kept name entry entries next blank none adds events capacity inserted ordered kept
+known (Ok x) name entry entries next events capacity blank none adds inserted unchanged ordered kept = known_kept name entry entries next adds inserted ordered events capacity blank none kept
 known (Err e) name entry entries next events capacity blank none adds inserted unchanged ordered kept = kept_same entries next events capacity unchanged kept
 
 -- a disk on which nothing stands yet

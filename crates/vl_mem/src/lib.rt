@@ -3,6 +3,7 @@
 
 mod entry;
 mod event;
+mod found;
 mod held;
 mod mem_disk;
 mod mem_reader;

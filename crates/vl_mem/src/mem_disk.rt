@@ -6,7 +6,8 @@ ghost use Rattle.std.proofs.Props.{props};
 ghost use Rattle.vl_mem.specs.Event.{sound_prop};
 
 use crate::entry::Entry;
-use crate::event::{Event, make_room, note};
+use crate::event::{Event, make_room};
+use crate::found::found;
 use crate::held::MemHeld;
 use crate::mem_reader::MemReader;
 use crate::names::names_of;
@@ -16,6 +17,8 @@ use std::collections::BTreeMap;
 use vl_disk::{
     Disk, Failed, FaultPlan, HeldFile, HoldFail, ListFail, Name, NoMemory, Reader, Watched,
 };
+
+mod steps;
 
 /// A disk in memory. It tells its bytes.
 #[derive(Drop)]
@@ -31,17 +34,15 @@ pub struct MemDisk {
 }
 
 impl MemDisk {
+    ghost use Rattle.std.specs.Prelude.{◌≡◌, Some, IfOk, All};
     ghost use Rattle.std.specs.FinMap.{get};
+    ghost use Rattle.std.specs.Option.{ForSome, option_copied, option_map};
     ghost use Rattle.vl_disk.specs.DiskState.{empty_disk};
     ghost use Rattle.vl_disk.specs.FaultPlan.{new_plan};
-    ghost use Rattle.std.specs.Prelude.{◌≡◌, ◌≤◌, Some, false, IsTrue, IsSome, IsOk, OnOk, IfOk, length, vec_capacity};
-    ghost use Rattle.std.specs.Option.{ForSome, option_copied, option_map};
-    ghost use Rattle.vl_disk.specs.DiskState.{created, appended, synced, cut_to, without, file_at};
-    ghost use Rattle.vl_disk.specs.Disk.{Stands};
     ghost use Rattle.vl_disk.specs.Name.{IsNumbered};
-    ghost use Rattle.vl_disk.specs.Spare.{CanAppend, SameSpare, UsesChange, UsesAppend, UsesHold};
-    ghost use Rattle.vl_mem.specs.Entry.{entry_of};
-    ghost use Rattle.vl_mem.specs.MemDisk.{told_by, moment_of, room_of, changes_of, reads_of, Goes, Stays};
+    ghost use Rattle.vl_disk.specs.Started.{Started};
+    ghost use Rattle.vl_mem.specs.Kept.{image_of};
+    ghost use Rattle.vl_mem.specs.MemDisk.{told_by, moment_of, changes_of, reads_of};
 
     /// An empty disk. Of its changing calls exactly those fail that `faults` lists, by their numbers from 1, and of its
     /// other calls that can fail those that `read_faults` lists.
@@ -60,101 +61,25 @@ impl MemDisk {
         }
     }
 
-    // The entry of a file that stands.
-    fn entry(&self, name: Name) -> &Entry
-        requires { ForSome (told_by self.now) (Stands name) }
-        ensures { entry_of self.now.entries name ≡ Some result.now }
+    /// A disk that was just started: these files stand on it, whole and durable. Of files of one name the last counts.
+    pub fn started(alloc: Global, files: Vec<(Name, Vec<u8>)>, faults: Vec<u64>, read_faults: Vec<u64>) -> Result<Self, NoMemory>
+        requires { All (λ file. IsNumbered file.0) files.items }
+        ensures started { IfOk result (λ disk. ForSome (told_by disk) (Started (image_of files.items))) }
+        ensures changes { IfOk result (λ disk. changes_of disk ≡ new_plan faults.items) }
+        ensures reads { IfOk result (λ disk. reads_of disk ≡ new_plan read_faults.items) }
     {
-        self.entries.get(&name).unwrap()
-    }
-
-    // An empty file is made.
-    fn make(&mut self, name: Name)
-        requires numbered { IsNumbered name }
-        requires room { IsTrue (room_of self.old name).change }
-        ensures goes { Goes self.old self.new (created name) }
-        ensures spare { UsesChange name (room_of self.old) (room_of self.new) }
-    {
-        let entry = self.entries.get_mut(&name).unwrap();
-        entry.create();
-        note(&mut self.events, Event::Create(name));
-    }
-
-    // A piece is handed over, and the file takes so many bytes of it.
-    fn hand(&mut self, name: Name, piece: &[u8], taken: usize)
-        requires stands { ForSome (told_by self.old) (Stands name) }
-        requires room { CanAppend (length piece.now) (room_of self.old name) }
-        requires part { taken ≤ length piece.now }
-        ensures goes { Goes self.old self.new (appended name piece.now taken) }
-        ensures spare { UsesAppend name (room_of self.old) (room_of self.new) }
-    {
-        let entry = self.entries.get_mut(&name).unwrap();
-        let kept = entry.append(piece, taken);
-        note(&mut self.events, Event::Append(name, kept, taken));
-    }
-
-    // A file that isn't wholly synced is made durable.
-    fn settle(&mut self, name: Name)
-        requires stands { ForSome (told_by self.old) (Stands name) }
-        requires torn { ForSome (told_by self.old) (λ disk. (file_at disk name).wholly_synced ≡ false) }
-        ensures goes { Goes self.old self.new (synced name) }
-        ensures spare { SameSpare (room_of self.old) (room_of self.new) }
-    {
-        let entry = self.entries.get_mut(&name).unwrap();
-        entry.sync();
-        note(&mut self.events, Event::Sync(name));
-    }
-
-    // A file was to be cut to a length, and so many bytes of it are left.
-    fn shorten(&mut self, name: Name, len: usize, left: usize)
-        requires stands { ForSome (told_by self.old) (Stands name) }
-        requires room { IsTrue (room_of self.old name).change }
-        requires short { len ≤ left }
-        ensures goes { Goes self.old self.new (cut_to name len left) }
-        ensures spare { UsesChange name (room_of self.old) (room_of self.new) }
-    {
-        let entry = self.entries.get_mut(&name).unwrap();
-        entry.cut(len, left);
-        note(&mut self.events, Event::Cut(name, len, left));
-    }
-
-    // A file is removed.
-    fn take_away(&mut self, name: Name)
-        requires { ForSome (told_by self.old) (Stands name) }
-        ensures goes { Goes self.old self.new (without name) }
-        ensures spare { SameSpare (room_of self.old) (room_of self.new) }
-    {
-        let entry = self.entries.get_mut(&name).unwrap();
-        entry.remove();
-        note(&mut self.events, Event::Remove(name));
-    }
-
-    // A name that has no entry gets one.
-    fn know(&mut self, name: Name) -> Result<(), NoMemory>
-        ensures known { OnOk result (IsSome (entry_of self.new.entries name)) }
-        ensures stays { Stays self.old self.new }
-        ensures spare { SameSpare (room_of self.old) (room_of self.new) }
-        ensures room { vec_capacity self.new.events ≡ vec_capacity self.old.events }
-    {
-        if !self.entries.contains_key(&name)
-            && self.entries.insert(name, Entry::blank(self.alloc)).is_err()
-        {
-            return Err(NoMemory);
+        let mut entries = BTreeMap::new(alloc);
+        let mut events = Vec::new(alloc);
+        for (name, bytes) in files {
+            found(alloc, &mut entries, &mut events, name, bytes)?;
         }
-        Ok(())
-    }
-
-    // A copy of a file, in the room that was made for it, or that is made where there is none.
-    fn share(&mut self, name: Name) -> Result<Vec<u8>, NoMemory>
-        requires { ForSome (told_by self.old) (Stands name) }
-        ensures copied { IfOk result (λ copy. ForSome (told_by self.old) (λ disk. copy.items ≡ (file_at disk name).bytes)) }
-        ensures has_room { IsTrue (room_of self.old name).hold → IsOk result }
-        ensures stays { Stays self.old self.new }
-        ensures spare { UsesHold name (room_of self.old) (room_of self.new) }
-    {
-        let entry = self.entries.get_mut(&name).unwrap();
-        entry.make_hold_room()?;
-        Ok(entry.share(self.alloc))
+        Ok(MemDisk {
+            alloc,
+            changes: FaultPlan::new(faults),
+            reads: FaultPlan::new(read_faults),
+            entries,
+            events,
+        })
     }
 
     /// The bytes of a file, if it stands.
@@ -172,6 +97,8 @@ impl MemDisk {
 
 impl Watched for MemDisk {
     ghost use Rattle.std.specs.Prelude.{true};
+    ghost use Rattle.vl_disk.specs.Started.{Started};
+    ghost use Rattle.vl_mem.specs.Kept.{image_of};
     ghost use Rattle.vl_mem.specs.MemDisk.{told_by, moment_of, was_since, changes_of, faults_of, room_of};
 
     ghost told = { told_by };

@@ -1,7 +1,7 @@
 use Rattle.std.proofs.Common.{sym, ap, ◌∙◌, length, arith, vec_capacity}
 use Rattle.std.proofs.lemmas.Result.{on_err_weaker}
 use Rattle.std.specs.Option.{option_copied_mut}
-use Rattle.vl_mem.proofs.Steps.{kept_still, all_fit, same_spare}
+use Rattle.vl_mem.proofs.Steps.{kept_still, most, same_spare}
 use Rattle.vl_mem.proofs.mem_disk.MemDiskDisk.ready.Goals as goal
 
 pub invariant_of-self-2 : goal.invariant_of-self-2
@@ -10,9 +10,8 @@ invariant_of-self-2 c = record {
       (sym c.get_mut.ensures.value ∙ ap option_copied_mut c.unwrap-entry.ensures) (c.get_mut.follows.holds c.make_room-2.new.self)
       c.know.new.self.events.items c.make_room.new.events.items (vec_capacity c.know.new.self.events) (vec_capacity c.make_room.new.events) c.know.new.self.kept c.make_room.ensures.capacity
       c.make_room-2.ensures.keeps.fits c.make_room.ensures.items
-      (all_fit (c.get_mut.follows.lender c.make_room-2.new.self) (length c.know.new.self.events.items) (vec_capacity c.make_room.new.events) c.len.result
-      (c.len.ensures.len ∙ sym (c.get_mut.follows.holds c.make_room-2.new.self).2) (omega (arith, c.in_ok-make_room.ensures.room, ap length c.make_room.ensures.items)))
-      c.make_room-2.ensures.keeps;
+      (omega (arith, most (c.get_mut.follows.lender c.make_room-2.new.self), c.len.ensures.len, (c.get_mut.follows.holds c.make_room-2.new.self).2, c.in_ok-make_room.ensures.room, ap length c.make_room.ensures.items))
+    c.make_room-2.ensures.keeps;
 }
 
 pub returns-clause-refused : goal.returns-clause-refused
