@@ -7,10 +7,9 @@ use Rattle.std.specs.Ordering.{eq_by_cmp, is_eq, is_lt}
 use Rattle.std.specs.List.{AllByRecursion}
 use Rattle.std.specs.declared.cmp.Ordering.{Ordering}
 use Rattle.std.specs.declared.cmp.Ordering.TheVariants.{Less, Equal, Greater}
-use Rattle.std.specs.FinMap.{get, entries, find, get-entries, entries_sorted}
+use Rattle.std.specs.FinMap.{entries, find, get-entries, entries_sorted}
 use Rattle.std.specs.FinMap.Entries.{is_sorted, below_all}
 use Rattle.vl_model.specs.Keys.{Stored, Writes, key_cmp}
-use Rattle.vl_model.specs.Entries.{is_at}
 use Rattle.vl_model.specs.Frames.{record_length}
 use Rattle.vl_model.specs.History.{History, value_at, value_left, last_number, with_commit}
 use Rattle.vl_model.specs.HistoryLaws.{value_at-with_commit, value_at-before}
@@ -20,7 +19,7 @@ use Rattle.vl_model.specs.declared.change.Change.{Change}
 use Rattle.vl_model.specs.declared.change.Change.TheVariants.{Set, Delete}
 use Rattle.vl_model.specs.declared.entry.Entry.{Entry}
 use Rattle.vl_model.specs.declared.pointer.Pointer.{Pointer}
-use Rattle.vl_layout.specs.Logs.{LogRecord, committed_records, record_entry, logged_body, pointer_to}
+use Rattle.vl_layout.specs.Logs.{committed_records, record_entry, logged_body, pointer_to}
 use Rattle.vl_layout.specs.Shows.{Shows, Meaning, Means, AreUpTo, times}
 use Rattle.vl_layout.specs.ShowsLaws.{all_both, times-append}
 

@@ -1,8 +1,13 @@
+pub mod CommitShows
 pub mod Garbage
+pub mod LayoutShows
 pub mod Levels
 pub mod Logs
+pub mod MergeShows
 pub mod Merging
+pub mod OrderShows
 pub mod Relocation
+pub mod RelocationShows
 pub mod Rows
 pub mod Ruling
 pub mod Rulings
@@ -11,6 +16,3 @@ pub mod ShowsLaws
 pub mod Sources
 pub mod Start
 pub mod Tables
-pub mod CommitShows
-pub mod RelocationShows
-pub mod MergeShows

@@ -1,20 +1,20 @@
 -- What a merge leaves of the sources shows what they showed, from its floor on, also where it is put in their place later
 -- than it was planned.
-use Rattle.std.proofs.Common.{◌≡◌, ◌⊎◌, inl, inr, ⊎_elim, ℕ, ◌+◌, ◌≤◌, ◌<◌, Bool, true, false, cond, not, ◌&&◌, ◌||◌, List, [], ◌∷◌, ◌++◌, map, refl, ap, sym, ◌∙◌, subst, arith}
+use Rattle.std.proofs.Common.{◌≡◌, ◌⊎◌, inl, inr, ⊎_elim, ℕ, ◌≤◌, ◌<◌, Bool, true, false, not, ◌&&◌, ◌||◌, List, [], ◌∷◌, refl, ap, sym, ◌∙◌, subst, arith}
 use Rattle.std.proofs.lemmas.Bool.{and_parts, and_from, cases_Bool, cases_lt}
 use Rattle.std.proofs.lemmas.Bool.Decides.{nat_tests}
-use Rattle.std.specs.Prelude.{Option, Some, None, nat_le, nat_lt, ◌==◌, if◌then◌else◌}
-use Rattle.std.specs.List.{AllByRecursion, list_any, filter}
+use Rattle.std.specs.Prelude.{Option, Some, None, nat_le, nat_lt, ◌==◌}
+use Rattle.std.specs.List.{AllByRecursion, list_any}
 use Rattle.std.specs.Ordering.{eq_by_cmp, is_eq}
-use Rattle.vl_model.specs.Keys.{Stored, key_cmp}
+use Rattle.vl_model.specs.Keys.{key_cmp}
 use Rattle.vl_model.specs.History.{History}
 use Rattle.vl_model.specs.Entries.{is_at, is_gone}
-use Rattle.vl_model.specs.Winners.{Logs, counts, only_if, newest_of, winner, resolved, resolved_at}
+use Rattle.vl_model.specs.Winners.{Logs, counts, winner, resolved, resolved_at}
 use Rattle.vl_model.specs.WinnerLaws.{same_key, key_tied}
 use Rattle.vl_model.specs.declared.entry.Entry.{Entry}
 use Rattle.vl_model.specs.declared.entry.Body.{Body}
 use Rattle.vl_model.specs.declared.entry.Body.TheVariants.{Inline, Gone, Far, Logged}
-use Rattle.vl_layout.specs.Merging.{is_shadowed, is_outdated, is_below, is_needless, is_dropped}
+use Rattle.vl_layout.specs.Merging.{Sourced, if_so, inputs_of as sourced_inputs, outside_of as sourced_outside, is_shadowed, is_outdated, is_below, is_needless, is_dropped}
 use Rattle.vl_layout.specs.RelocationShows.{Has, Reaches, winner_has, winner_reaches}
 use Rattle.vl_layout.specs.Shows.{Shows, Meaning, Means, times}
 use Rattle.vl_layout.specs.ShowsLaws.{shows_as, is_at-itself}
@@ -28,10 +28,6 @@ pub record Marked : Type 0 where
 abbrev pub all_of : List Marked → List Entry
 all_of [] = []
 all_of (m ∷ ms) = m.entry ∷ all_of ms
-
-abbrev pub if_so : Bool → Entry → List Entry → List Entry
-if_so true e es = e ∷ es
-if_so false e es = es
 
 -- what is left
 abbrev pub kept_of : List Marked → List Entry
@@ -376,3 +372,64 @@ shows_installed logs ms floor h from to above justified shows =
     (λ key number low high. installed_leads logs shows.meaning ms floor shows.resolves justified key number (let least = above key in omega arith))
     (λ meaning all. of_kept (Means logs meaning) ms all)
     (λ key version. times-kept key version ms)
+
+-- ---- the marks of a plan over the sources that it was made of
+
+abbrev pub plain : List Sourced → List Entry
+plain [] = []
+plain (s ∷ ss) = s.1 ∷ plain ss
+
+abbrev pub marks_from : List Entry → List Entry → ℕ → List Entry → List Sourced → List Marked
+marks_from inputs outside floor newer [] = []
+marks_from inputs outside floor newer (s ∷ ss) =
+    record { input = s.0; kept = not (s.0 && is_dropped inputs outside floor newer s.1); entry = s.1 } ∷ marks_from inputs outside floor (s.1 ∷ newer) ss
+
+-- what a merge of these sources keeps of its inputs, and all that is outside them
+abbrev pub marks : List Sourced → ℕ → List Marked
+marks ss floor = marks_from (sourced_inputs ss) (sourced_outside ss) floor [] ss
+
+module _ (inputs outside : List Entry) (floor : ℕ) where
+  all_of-marks : (newer : List Entry) (ss : List Sourced) → all_of (marks_from inputs outside floor newer ss) ≡ plain ss
+  all_of-marks newer [] = refl
+  all_of-marks newer (s ∷ ss) = ap (λ es. s.1 ∷ es) (all_of-marks (s.1 ∷ newer) ss)
+
+  inputs_of-marks : (newer : List Entry) (ss : List Sourced) → inputs_of (marks_from inputs outside floor newer ss) ≡ sourced_inputs ss
+  inputs_of-marks newer [] = refl
+  inputs_of-marks newer (s ∷ ss) = ap (if_so s.0 s.1) (inputs_of-marks (s.1 ∷ newer) ss)
+
+  outside_of-marks : (newer : List Entry) (ss : List Sourced) → outside_of (marks_from inputs outside floor newer ss) ≡ sourced_outside ss
+  outside_of-marks newer [] = refl
+  outside_of-marks newer (s ∷ ss) = ap (if_so (not s.0) s.1) (outside_of-marks (s.1 ∷ newer) ss)
+
+  drops_both : (i d : Bool) → not (i && d) ≡ false → (i ≡ true) × (d ≡ true)
+  drops_both true true is = (refl, refl)
+  drops_both true false is = absurd (true_false is)
+  drops_both false d is = absurd (true_false is)
+
+  keeps_input : (i s o n : Bool) → not (i && (s || (o || n))) ≡ true → i ≡ true → o ≡ false
+  keeps_input true true o n is input = absurd (true_false (sym is))
+  keeps_input true false true n is input = absurd (true_false (sym is))
+  keeps_input true false false n is input = refl
+  keeps_input false s o n is input = absurd (true_false (sym input))
+
+  marks_justified : (newer : List Entry) (ss : List Sourced) → AreJustified inputs outside floor newer (marks_from inputs outside floor newer ss)
+  marks_justified newer [] = tt
+  marks_justified newer (s ∷ ss) = (
+    record {
+      drops = drops_both s.0 (is_dropped inputs outside floor newer s.1);
+      keeps = keeps_input s.0 (is_shadowed newer s.1) (is_outdated inputs floor s.1) (is_needless outside floor s.1);
+    },
+    marks_justified (s.1 ∷ newer) ss,
+  )
+
+-- A merge that is put in place of its inputs at once leaves what shows the same.
+pub shows_merged : (logs : Logs) (ss : List Sourced) (floor : ℕ) (h : History) (from : List ℕ → ℕ) (to : ℕ) → ((key : List ℕ) → floor ≤ from key)
+    → Shows logs (plain ss) h from to → Shows logs (kept_of (marks ss floor)) h from to
+shows_merged logs ss floor h from to above shows =
+    let ms = marks ss floor in
+    let inputs = sourced_inputs ss in
+    let outside = sourced_outside ss in
+    let justified : AreJustified (inputs_of ms) (outside_of ms) floor [] ms =
+    subst (λ (es : List Entry). AreJustified es (outside_of ms) floor [] ms) (sym (inputs_of-marks inputs outside floor [] ss))
+    (subst (λ (es : List Entry). AreJustified inputs es floor [] ms) (sym (outside_of-marks inputs outside floor [] ss)) (marks_justified inputs outside floor [] ss)) in
+    shows_installed logs ms floor h from to above justified (subst (λ (es : List Entry). Shows logs es h from to) (sym (all_of-marks inputs outside floor [] ss)) shows)

@@ -1,5 +1,5 @@
 -- What a merge keeps of its inputs.
-use Rattle.std.specs.Prelude.{ℕ, Bool, true, false, ◌&&◌, ◌||◌, not, nat_le, nat_lt, if◌then◌else◌, List, [], ◌∷◌}
+use Rattle.std.specs.Prelude.{ℕ, Bool, true, false, ◌&&◌, ◌||◌, not, nat_le, nat_lt, List, [], ◌∷◌}
 use Rattle.std.specs.List.{list_any}
 use Rattle.std.specs.Ordering.{eq_by_cmp}
 use Rattle.vl_model.specs.Keys.{key_cmp}
@@ -13,15 +13,17 @@ use Rattle.vl_layout.specs.declared.job.Job.{Job}
 abbrev pub Sourced : Type 0
 Sourced = Bool × Entry
 
+abbrev pub if_so : Bool → Entry → List Entry → List Entry
+if_so true e es = e ∷ es
+if_so false e es = es
+
 abbrev pub inputs_of : List Sourced → List Entry
 inputs_of [] = []
-inputs_of ((true, e) ∷ ss) = e ∷ inputs_of ss
-inputs_of ((false, e) ∷ ss) = inputs_of ss
+inputs_of (s ∷ ss) = if_so s.0 s.1 (inputs_of ss)
 
 abbrev pub outside_of : List Sourced → List Entry
 outside_of [] = []
-outside_of ((true, e) ∷ ss) = outside_of ss
-outside_of ((false, e) ∷ ss) = e ∷ outside_of ss
+outside_of (s ∷ ss) = if_so (not s.0) s.1 (outside_of ss)
 
 -- a newer source, input or not, has its key and version
 abbrev pub is_shadowed : List Entry → Entry → Bool
@@ -42,10 +44,6 @@ is_needless outside floor e = is_gone e.body && (nat_le e.version floor && not (
 -- one of the three rules drops it from the inputs
 abbrev pub is_dropped : List Entry → List Entry → ℕ → List Entry → Entry → Bool
 is_dropped inputs outside floor newer e = is_shadowed newer e || (is_outdated inputs floor e || is_needless outside floor e)
-
-abbrev pub if_so : Bool → Entry → List Entry → List Entry
-if_so true e es = e ∷ es
-if_so false e es = es
 
 -- what is kept of inputs, in the order of the sources; those before these are `newer`
 abbrev pub kept_from : List Entry → List Entry → ℕ → List Entry → List Sourced → List Entry

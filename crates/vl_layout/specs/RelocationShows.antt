@@ -1,8 +1,8 @@
 -- Moved records in front of the sources show what they showed where they stood.
-use Rattle.std.proofs.Common.{◌≡◌, ℕ, ◌+◌, ◌≤◌, Bool, true, false, cond, ◌&&◌, ◌||◌, List, [], ◌∷◌, ◌++◌, refl, ap, sym, ◌∙◌, subst, arith}
-use Rattle.std.proofs.lemmas.Bool.{and_parts, and_from}
+use Rattle.std.proofs.Common.{◌≡◌, ℕ, ◌+◌, ◌≤◌, Bool, true, false, cond, ◌&&◌, ◌||◌, List, [], ◌∷◌, refl, ap, sym, ◌∙◌, subst, arith}
+use Rattle.std.proofs.lemmas.Bool.{and_parts}
 use Rattle.std.proofs.lemmas.Bool.Decides.{nat_tests}
-use Rattle.std.specs.Prelude.{Option, Some, None, nat_le, ◌==◌}
+use Rattle.std.specs.Prelude.{Option, Some, None, nat_le}
 use Rattle.std.specs.List.{AllByRecursion, list_any}
 use Rattle.std.specs.Ordering.{eq_by_cmp}
 use Rattle.vl_model.specs.Keys.{Stored, key_cmp}
@@ -11,7 +11,7 @@ use Rattle.vl_model.specs.Entries.{is_at}
 use Rattle.vl_model.specs.Winners.{Logs, counts, only_if, newest_of, winner, resolved, resolved_at}
 use Rattle.vl_model.specs.WinnerLaws.{same_key}
 use Rattle.vl_model.specs.declared.entry.Entry.{Entry}
-use Rattle.vl_layout.specs.Shows.{Shows, Meaning, Means, times}
+use Rattle.vl_layout.specs.Shows.{Shows, Means, times}
 
 module _ (key : List ℕ) (number : ℕ) where
   -- a winner, of a version of at least this one, and of which something holds that holds of all entries
@@ -71,15 +71,19 @@ not_none : (value : Stored) → Some value ≡ None → ⊥
 not_none value is = cc
 
 module _ (logs : Logs) (h : History) (from : List ℕ → ℕ) (to : ℕ) where
-  -- Where the sources have an entry of its key and version, one more that leads to the same value shows the same in front.
+  -- Where the sources have an entry of its key and version, one more that leads to the same value shows the same in front, and
+  -- each version means what it meant.
   pub shows_moved : (e : Entry) (es : List Entry) (value : Stored) (shows : Shows logs es h from to) → list_any (is_at e.key e.version) es ≡ true → resolved logs e.key e.body ≡ Some (Some value)
-      → shows.meaning e.key e.version ≡ Some value → Shows logs (e ∷ es) h from to
-  shows_moved e es value shows there leads means = record {
-    values = λ key number low high. front key number (counts key number e) refl ∙ shows.values key number low high;
-    meaning = shows.meaning;
-    resolves = (leads ∙ ap Some (sym means), shows.resolves);
-    gone_once = λ key version none. once key version none (is_at key version e) refl;
-  }
+      → shows.meaning e.key e.version ≡ Some value → (shown : Shows logs (e ∷ es) h from to) × (shown.meaning ≡ shows.meaning)
+  shows_moved e es value shows there leads means = (
+    record {
+      values = λ key number low high. front key number (counts key number e) refl ∙ shows.values key number low high;
+      meaning = shows.meaning;
+      resolves = (leads ∙ ap Some (sym means), shows.resolves);
+      gone_once = λ key version none. once key version none (is_at key version e) refl;
+    },
+    refl,
+  )
     where
       by_version : (key : List ℕ) (number : ℕ) → counts key number e ≡ true → (w : Option Entry) → Reaches key number (Means logs shows.meaning) e.version w → resolved_at logs (newest_of (Some e) w) ≡ resolved_at logs w
       by_version key number counted None reached = absurd reached

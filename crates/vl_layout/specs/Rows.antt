@@ -1,6 +1,6 @@
 -- Worked rows of maintenance, which hold by computing: each is what a script prints.
-use Rattle.std.proofs.Common.{◌≡◌, ℕ, ◌+◌, List, [], ◌∷◌, map, length, refl}
-use Rattle.std.specs.Prelude.{Option, Some, None, replicate, true, false}
+use Rattle.std.proofs.Common.{◌≡◌, ℕ, List, [], ◌∷◌, map, length, refl}
+use Rattle.std.specs.Prelude.{Option, Some, None, replicate}
 use Rattle.std.specs.FinMap.{empty}
 use Rattle.vl_model.specs.Keys.{Stored}
 use Rattle.vl_model.specs.History.{History}
@@ -9,16 +9,15 @@ use Rattle.vl_model.specs.Winners.{winner}
 use Rattle.vl_model.specs.declared.change.Change.{Change}
 use Rattle.vl_model.specs.declared.change.Change.TheVariants.{Set, Delete}
 use Rattle.vl_model.specs.declared.entry.Entry.{Entry}
-use Rattle.vl_model.specs.declared.entry.Body.TheVariants.{Inline, Gone, Far, Logged}
-use Rattle.vl_model.specs.declared.log_frame.LogFrame.{LogFrame}
-use Rattle.vl_model.specs.declared.log_frame.LogFrame.TheVariants.{Committed, Relocated}
+use Rattle.vl_model.specs.declared.entry.Body.TheVariants.{Inline, Far}
+use Rattle.vl_model.specs.declared.log_frame.LogFrame.TheVariants.{Committed}
 use Rattle.vl_layout.specs.Logs.{LogRecord, records}
 use Rattle.vl_layout.specs.Merging.{kept, outputs}
 use Rattle.vl_layout.specs.Relocation.{Pass, Candidate}
-use Rattle.vl_layout.specs.Sources.{sources, tables, needed}
+use Rattle.vl_layout.specs.Sources.{sources, tables}
 use Rattle.vl_layout.specs.Start.{fresh_layout}
-use Rattle.vl_layout.specs.Ruling.{Ruling, StepAnswer, Stepped, Idle, logged}
-use Rattle.vl_layout.specs.Rulings.Begin.{BeginAnswer, Begun, begin_ruling}
+use Rattle.vl_layout.specs.Ruling.{Ruling, Stepped, logged}
+use Rattle.vl_layout.specs.Rulings.Begin.{begin_ruling}
 use Rattle.vl_layout.specs.Rulings.Drain.{drain_ruling}
 use Rattle.vl_layout.specs.Rulings.Flush.{flush_ruling}
 use Rattle.vl_layout.specs.Rulings.Install.{InstallAnswer, Installed, Raced, install_ruling}
@@ -35,7 +34,6 @@ use Rattle.vl_layout.specs.declared.file_name.FileName.TheVariants.{Log, Table a
 use Rattle.vl_layout.specs.declared.job.Job.{Job}
 use Rattle.vl_layout.specs.declared.job.Target.TheVariants.{InPlace}
 use Rattle.vl_layout.specs.declared.layout.Layout.{Layout}
-use Rattle.vl_layout.specs.declared.segment.Segment.{Segment}
 use Rattle.vl_layout.specs.declared.segment.SegmentStat.{SegmentStat}
 use Rattle.vl_layout.specs.declared.table.Table.{Table}
 

@@ -1,17 +1,15 @@
 -- What keeps sources showing a history: entries in place of others, and entries put in order.
 use Rattle.std.proofs.Common.{◌≡◌, ℕ, ◌+◌, ◌≤◌, Bool, true, false, cond, ◌&&◌, List, [], ◌∷◌, ◌++◌, refl, ap, sym, ◌∙◌, subst, arith}
 use Rattle.std.proofs.lemmas.Bool.Decides.{nat_tests}
-use Rattle.std.proofs.lemmas.Bool.{and_parts}
 use Rattle.std.specs.Prelude.{Option, Some, None, nat_le, ◌==◌}
 use Rattle.std.specs.Ordering.{eq_by_cmp}
 use Rattle.std.specs.List.{AllZip, AllByRecursion}
-use Rattle.std.specs.declared.cmp.Ordering.{Ordering}
 use Rattle.std.specs.declared.cmp.Ordering.TheVariants.{Less, Equal, Greater}
 use Rattle.vl_model.specs.Keys.{Stored, key_cmp}
 use Rattle.vl_model.specs.History.{History}
-use Rattle.vl_model.specs.Entries.{is_at, entry_cmp, by_order, put, in_order}
+use Rattle.vl_model.specs.Entries.{is_at}
 use Rattle.vl_model.specs.Winners.{Logs, counts, only_if, newest_of, winner, resolved, resolved_at}
-use Rattle.vl_model.specs.WinnerLaws.{winner-append, winner-middle, winner-in_order, same_key, key_tied}
+use Rattle.vl_model.specs.WinnerLaws.{key_tied}
 use Rattle.vl_model.specs.declared.entry.Entry.{Entry}
 use Rattle.vl_layout.specs.Shows.{Shows, Meaning, Means, StandsFor, times}
 
@@ -121,55 +119,6 @@ module _ (logs logs' : Logs) where
   pub itself : (es : List Entry) → AllByRecursion (λ (e : Entry). resolved logs' e.key e.body ≡ resolved logs e.key e.body) es → AllZip (StandsFor logs logs') es es
   itself [] same = tt
   itself (e ∷ es) same = (record { key = refl; version = refl; leads = same.0 }, itself es same.1)
-
--- ---- in order
-
-all-put : (P : Entry → Type 0) (e : Entry) (es : List Entry) → P e → AllByRecursion P es → AllByRecursion P (put e es)
-all-put P e [] here all = (here, tt)
-all-put P e (f ∷ fs) here all = elim (entry_cmp e f) as (λ r. AllByRecursion P (by_order r (e ∷ f ∷ fs) (e ∷ fs) (f ∷ put e fs))) [
-  | Less ↦ (here, all)
-  | Equal ↦ (here, all.1)
-  | Greater ↦ (all.0, all-put P e fs here all.1)
-]
-
-times-put : (key : List ℕ) (version : ℕ) (e : Entry) (es : List Entry) → times key version (put e es) ≤ times key version (e ∷ es)
-times-put key version e [] = omega arith
-times-put key version e (f ∷ fs) =
-    let later = times-put key version e fs in
-    elim (entry_cmp e f) as (λ r. times key version (by_order r (e ∷ f ∷ fs) (e ∷ fs) (f ∷ put e fs)) ≤ times key version (e ∷ f ∷ fs)) [
-      | Less ↦ omega arith
-      | Equal ↦ omega arith
-      | Greater ↦ omega (arith, later)
-    ]
-
--- entries in front of others in order, taken in among these
-all-taken_in : (P : Entry → Type 0) (es fs : List Entry) → AllByRecursion P (es ++ in_order fs) → AllByRecursion P (in_order (es ++ fs))
-all-taken_in P [] fs all = all
-all-taken_in P (e ∷ es) fs all = all-put P e (in_order (es ++ fs)) all.0 (all-taken_in P es fs all.1)
-
-times-taken_in : (key : List ℕ) (version : ℕ) (es fs : List Entry) → times key version (in_order (es ++ fs)) ≤ times key version (es ++ in_order fs)
-times-taken_in key version [] fs = omega arith
-times-taken_in key version (e ∷ es) fs = let here = times-put key version e (in_order (es ++ fs)) in let later = times-taken_in key version es fs in omega arith
-
-winner-taken_in : (key : List ℕ) (number : ℕ) (es fs : List Entry) → winner (in_order (es ++ fs)) key number ≡ winner (es ++ in_order fs) key number
-winner-taken_in key number es fs =
-    winner-in_order key number (es ++ fs)
-    ∙ winner-append key number es fs
-    ∙ ap (newest_of (winner es key number)) (sym (winner-in_order key number fs))
-    ∙ sym (winner-append key number es (in_order fs))
-
--- Entries in front of a memtable, taken in by it, show the same.
-pub shows_taken_in : (logs : Logs) (new old back : List Entry) (h : History) (from : List ℕ → ℕ) (to : ℕ) → Shows logs ((new ++ in_order old) ++ back) h from to → Shows logs (in_order (new ++ old) ++ back) h from to
-shows_taken_in logs new old back h from to shows =
-    shows_as logs logs ((new ++ in_order old) ++ back) (in_order (new ++ old) ++ back) h from to shows
-    (λ key number low high. ap (resolved_at logs) (winner-middle key number [] (in_order (new ++ old)) (new ++ in_order old) back (winner-taken_in key number new old)))
-    (λ meaning all. let both = all_parts (Means logs meaning) (new ++ in_order old) back all in
-    all_both (Means logs meaning) (in_order (new ++ old)) back (all-taken_in (Means logs meaning) new old both.0) both.1)
-    (λ key version.
-    let a = times-append key version (in_order (new ++ old)) back in
-    let b = times-append key version (new ++ in_order old) back in
-    let less = times-taken_in key version new old in
-    omega arith)
 
 -- ---- two entries of one key and version
 

@@ -1,5 +1,5 @@
 -- What there is of each segment, and how much of it is live.
-use Rattle.std.specs.Prelude.{ℕ, ◌-◌, ◌^◌, min, List, [], ◌∷◌, ◌++◌, map, reverse}
+use Rattle.std.specs.Prelude.{◌-◌, ◌^◌, min, List, [], ◌∷◌, ◌++◌, map}
 use Rattle.std.specs.Ordering.{nat_cmp}
 use Rattle.vl_model.specs.Entries.{by_order}
 use Rattle.vl_model.specs.History.{History}
