@@ -10,6 +10,7 @@ pub mod Relocation
 pub mod RelocationShows
 pub mod Rows
 pub mod Ruling
+pub mod RulingShows
 pub mod Rulings
 pub mod Shows
 pub mod ShowsLaws
