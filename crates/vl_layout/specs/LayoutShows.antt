@@ -1,24 +1,19 @@
 -- The rulings that change sources keep what these show: a rotation, a commit, a flush and a relocation.
-use Rattle.std.proofs.Common.{◌≡◌, ℕ, ◌+◌, ◌≤◌, Bool, true, false, cond, ◌&&◌, ◌||◌, List, [], ◌∷◌, ◌++◌, map, refl, ap, sym, ◌∙◌, subst, append_assoc}
-use Rattle.std.proofs.lemmas.Bool.{and_parts}
-use Rattle.std.proofs.lemmas.Bool.Decides.{nat_tests}
-use Rattle.std.specs.Prelude.{Option, Some, None, ◌==◌, if◌then◌else◌}
-use Rattle.std.specs.Option.{option_map}
+use Rattle.std.proofs.Common.{◌≡◌, ℕ, ◌+◌, ◌≤◌, Bool, true, false, ◌||◌, List, [], ◌∷◌, ◌++◌, map, refl, ap, sym, ◌∙◌, subst, append_assoc}
+use Rattle.std.specs.Prelude.{Option, Some}
 use Rattle.std.specs.List.{AllZip, AllByRecursion, flat_map, list_any}
-use Rattle.std.specs.FinMap.{entries}
-use Rattle.vl_model.specs.Keys.{Stored, Writes, key_cmp}
+use Rattle.vl_model.specs.Keys.{Stored, Writes}
 use Rattle.vl_model.specs.Entries.{is_at, in_order}
 use Rattle.vl_model.specs.Frames.{moved_length, frame_length}
 use Rattle.vl_model.specs.History.{History, last_number, with_commit}
 use Rattle.vl_model.specs.Placement.{placement, placed}
-use Rattle.vl_model.specs.Winners.{Logs, exact, leads_to, is_far_to, wins_exactly, resolved}
+use Rattle.vl_model.specs.Winners.{Logs, resolved}
 use Rattle.vl_model.specs.declared.entry.Entry.{Entry}
 use Rattle.vl_model.specs.declared.change.Change.TheVariants.{Set}
-use Rattle.vl_model.specs.declared.entry.Body.{Body}
 use Rattle.vl_model.specs.declared.log_frame.LogFrame.{LogFrame}
-use Rattle.vl_model.specs.declared.log_frame.LogFrame.TheVariants.{Committed, Relocated}
+use Rattle.vl_model.specs.declared.log_frame.LogFrame.TheVariants.{Relocated}
 use Rattle.vl_model.specs.declared.log_frame.Moved.{Moved}
-use Rattle.vl_layout.specs.CommitShows.{committed_entries, shows_committed}
+use Rattle.vl_layout.specs.CommitShows.{shows_committed}
 use Rattle.vl_layout.specs.Levels.{in_front}
 use Rattle.vl_layout.specs.Logs.{record_entry, relocated_records, frame_entries, logged_entries, memtable}
 use Rattle.vl_layout.specs.OrderShows.{shows_taken_in}

@@ -1,5 +1,6 @@
 pub mod CommitShows
 pub mod Garbage
+pub mod GarbageLaws
 pub mod LayoutShows
 pub mod Levels
 pub mod Logs

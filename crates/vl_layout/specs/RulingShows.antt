@@ -1,11 +1,11 @@
 -- Whatever a commit, a rotation, a flush or a relocation answers, its layout shows the history that it leaves.
-use Rattle.std.proofs.Common.{◌≡◌, ℕ, ◌+◌, ◌≤◌, Bool, true, false, cond, ◌&&◌, ◌||◌, List, [], ◌∷◌, ◌++◌, map, length, refl, ap, sym, ◌∙◌, subst, arith, length-append}
+use Rattle.std.proofs.Common.{◌≡◌, ℕ, ◌+◌, ◌≤◌, Bool, true, false, cond, ◌||◌, List, [], ◌∷◌, map, length, refl, ap, sym, ◌∙◌, subst, arith, length-append}
 use Rattle.std.proofs.lemmas.Bool.{and_parts}
 use Rattle.std.proofs.lemmas.Bool.Decides.{nat_tests}
 use Rattle.std.specs.Prelude.{Option, Some, None, nat_le, ◌==◌, if◌then◌else◌}
 use Rattle.std.specs.Option.{option_map}
 use Rattle.std.specs.List.{AllByRecursion, filter, list_any}
-use Rattle.std.specs.FinMap.{entries, len}
+use Rattle.std.specs.FinMap.{len}
 use Rattle.std.specs.Ordering.{eq_by_cmp}
 use Rattle.vl_model.specs.Conflicts.{Named, first_conflict}
 use Rattle.vl_model.specs.Keys.{Stored, Writes, key_cmp}
@@ -26,8 +26,8 @@ use Rattle.vl_model.specs.declared.counter.Counter.TheVariants as counter
 use Rattle.vl_layout.specs.LayoutShows.{ArePlaced, AreShown, sources-rotated, commit_shows, flush_shows, relocate_shows}
 use Rattle.vl_layout.specs.Logs.{memtable}
 use Rattle.vl_layout.specs.Relocation.{Pass, Candidate, is_moved, moved_of}
-use Rattle.vl_layout.specs.Ruling.{Ruling, leaving, StepAnswer, Stepped, Exhausted as NoNumber, Idle, ended, has_no_number, has_no_version}
-use Rattle.vl_layout.specs.Rulings.Commit.{Transaction, CommitAnswer, Nothing, Halted, Exhausted, Full, commit_ended, committed, commit_checked, commit_running, commit_unless, commit_ruling, commit_frame}
+use Rattle.vl_layout.specs.Ruling.{Ruling, leaving, StepAnswer, Stepped, Exhausted as NoNumber, has_no_number, has_no_version}
+use Rattle.vl_layout.specs.Rulings.Commit.{Transaction, CommitAnswer, Nothing, Exhausted, Full, commit_ended, committed, commit_checked, commit_running, commit_unless, commit_ruling, commit_frame}
 use Rattle.vl_layout.specs.Rulings.Flush.{flushed, flush_of, flush_unless, flush_ruling}
 use Rattle.vl_layout.specs.Rulings.Relocate.{MoveAnswer, Moves, Exhausted as NoVersion, Full as NoRoom, relocated, relocate_of, relocate_unless, relocate_ruling}
 use Rattle.vl_layout.specs.Rulings.Rotate.{rotated, rotate_of, rotate_unless, rotate_ruling}
