@@ -3,6 +3,8 @@ pub mod Garbage
 pub mod GarbageLaws
 pub mod LayoutShows
 pub mod Levels
+pub mod LockHistory
+pub mod LockHistoryLaws
 pub mod Logs
 pub mod MergeShows
 pub mod Merging

@@ -6,7 +6,7 @@ use Rattle.vl_model.specs.History.{History}
 use Rattle.vl_model.specs.declared.counter.Counter.{Counter}
 use Rattle.vl_model.specs.declared.log_frame.LogFrame.{LogFrame}
 use Rattle.vl_model.specs.Frames.{frame_length}
-use Rattle.vl_layout.specs.Sources.{head, needed, tables, log_of, table_of}
+use Rattle.vl_layout.specs.Sources.{head, needed, tables, log_of, table_of, rising}
 use Rattle.vl_layout.specs.Garbage.{live_bytes}
 use Rattle.vl_layout.specs.declared.file_name.FileName.{FileName}
 use Rattle.vl_layout.specs.declared.file_name.Retired.{Retired}
@@ -72,7 +72,7 @@ retired_at number file = record { file = file; version_number = number }
 abbrev pub switched : List Table → Layout → Layout
 switched dropped l = record l {
   flushed = filter (λ (s : Segment). not (is_idle l s)) l.flushed;
-  retired = l.retired ++ map (retired_at l.version_number) (map table_of dropped ++ map log_of (reverse (filter (is_idle l) l.flushed)));
+  retired = l.retired ++ map (retired_at l.version_number) (map table_of dropped ++ map log_of (rising (filter (is_idle l) l.flushed)));
 }
 
 -- ---- numbers

@@ -6,6 +6,7 @@ mod job;
 mod laws;
 mod layout;
 mod live;
+mod lock_history;
 mod segment;
 mod table;
 
@@ -18,5 +19,6 @@ pub use laws::{
 };
 pub use layout::Layout;
 pub use live::{Live, Pin};
+pub use lock_history::{LockEntry, LockStep};
 pub use segment::{Segment, SegmentStat};
 pub use table::{Point, Table};
