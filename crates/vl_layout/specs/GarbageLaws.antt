@@ -28,10 +28,12 @@ module _ (segment : ℕ) where
   more true m n = omega arith
   more false m n = refl
 
-  point-cons : (p : Point) (ps : List Point) → pointed_bytes segment (p ∷ ps) ≡ (if p.segment == segment then p.bytes else 0) + pointed_bytes segment ps
+  point-cons : (p : Point) (ps : List Point)
+      → pointed_bytes segment (p ∷ ps) ≡ (if p.segment == segment then p.bytes else 0) + pointed_bytes segment ps
   point-cons p ps = sum_by-cons (λ (q : Point). if q.segment == segment then q.bytes else 0) p ps
 
-  pointed_more : (to bytes : ℕ) (ps : List Point) → pointed_bytes segment (pointed to bytes ps) ≡ (if to == segment then bytes else 0) + pointed_bytes segment ps
+  pointed_more : (to bytes : ℕ) (ps : List Point)
+      → pointed_bytes segment (pointed to bytes ps) ≡ (if to == segment then bytes else 0) + pointed_bytes segment ps
   pointed_more to bytes [] = point-cons (record { segment = to; bytes = bytes }) []
   pointed_more to bytes (p ∷ ps) =
       elim (nat_cmp to p.segment) as (λ r. nat_cmp to p.segment ≡ r
@@ -52,14 +54,16 @@ module _ (segment : ℕ) where
             omega (arith, front, back, later)
       ] refl
 
-  with_point-sum : (body : Body) (ps : List Point) → pointed_bytes segment (with_point body ps) ≡ far_length segment body + pointed_bytes segment ps
+  with_point-sum : (body : Body) (ps : List Point)
+      → pointed_bytes segment (with_point body ps) ≡ far_length segment body + pointed_bytes segment ps
   with_point-sum (Inline value) ps = omega arith
   with_point-sum Gone ps = omega arith
   with_point-sum (Far pointer) ps = pointed_more pointer.segment pointer.length ps
   with_point-sum (Logged value pointer) ps = omega arith
 
   -- what a footer says of a segment is the sum over the entries
-  pub points_are_sums : (es : List Entry) → pointed_bytes segment (points_of es) ≡ far_bytes segment es
+  pub points_are_sums : (es : List Entry)
+      → pointed_bytes segment (points_of es) ≡ far_bytes segment es
   points_are_sums [] = refl
   points_are_sums (e ∷ es) =
       with_point-sum e.body (points_of es)
@@ -146,7 +150,8 @@ module _ (x y : SegmentStat) where
       (and_from (discard y * x.bytes == discard x * y.bytes) (nat_lt x.segment y.segment) same less))
       h
 
-better_chain : (w y z : SegmentStat) → 0 < w.bytes → 0 < y.bytes → 0 < z.bytes → IsBetter w y → IsBetter y z → IsBetter w z
+better_chain : (w y z : SegmentStat) → 0 < w.bytes → 0 < y.bytes → 0 < z.bytes → IsBetter w y
+    → IsBetter y z → IsBetter w z
 better_chain w y z some_w some_y some_z first second = ⊎_elim
     (λ (more : discard y * w.bytes < discard w * y.bytes). ⊎_elim
     (λ (again : discard z * y.bytes < discard y * z.bytes). inl (share_lt_le (discard w) w.bytes (discard y) y.bytes (discard z) z.bytes some_y some_z more (omega (arith, again))))
@@ -196,7 +201,10 @@ not_none x (Some y) is = by_test (is_better x y) is
     by_test false is = cc
 
 -- where this one is better than the best of the others, none of the others is better than this one
-none_better : (x z : SegmentStat) (ys : List SegmentStat) → 0 < x.bytes → 0 < z.bytes → is_better x z ≡ true → AllByRecursion (λ y. 0 < y.bytes) ys → AllByRecursion (λ y. is_better y z ≡ false) ys → AllByRecursion (λ y. is_better y x ≡ false) ys
+none_better : (x z : SegmentStat) (ys : List SegmentStat) → 0 < x.bytes → 0 < z.bytes
+    → is_better x z ≡ true → AllByRecursion (λ y. 0 < y.bytes) ys
+    → AllByRecursion (λ y. is_better y z ≡ false) ys
+    → AllByRecursion (λ y. is_better y x ≡ false) ys
 none_better x z [] some_x some_z better some all = tt
 none_better x z (y ∷ ys) some_x some_z better some all = (by_test (is_better y x) refl, none_better x z ys some_x some_z better some.1 all.1)
   where
@@ -204,13 +212,16 @@ none_better x z (y ∷ ys) some_x some_z better some all = (by_test (is_better y
     by_test false is = is
     by_test true is = absurd (true_false (sym (means_better y z (better_chain y x z some.0 some_x some_z (better_means y x is) (better_means x z better))) ∙ all.0))
 
-best_more : (x : SegmentStat) (ys : List SegmentStat) (o : Option SegmentStat) → 0 < x.bytes → AllByRecursion (λ y. 0 < y.bytes) ys → IfBest o ys → (z : SegmentStat) → better_of x o ≡ Some z → IsBest z (x ∷ ys)
+best_more : (x : SegmentStat) (ys : List SegmentStat) (o : Option SegmentStat) → 0 < x.bytes
+    → AllByRecursion (λ y. 0 < y.bytes) ys → IfBest o ys → (z : SegmentStat)
+    → better_of x o ≡ Some z → IsBest z (x ∷ ys)
 best_more x ys None some_x some none z is =
     let same : x ≡ z = one_some x z is in
     subst (λ (y : SegmentStat). IsBest y (x ∷ ys)) same ((not_itself x, subst (AllByRecursion (λ y. is_better y x ≡ false)) (sym none) tt), some_x)
 best_more x ys (Some y) some_x some best z is_z = by_test (is_better x y) refl is_z
   where
-    by_test : (b : Bool) → is_better x y ≡ b → (if b then Some x else Some y) ≡ Some z → IsBest z (x ∷ ys)
+    by_test : (b : Bool) → is_better x y ≡ b → (if b then Some x else Some y) ≡ Some z
+        → IsBest z (x ∷ ys)
     by_test true better is =
         subst (λ (u : SegmentStat). IsBest u (x ∷ ys)) (one_some x z is) ((not_itself x, none_better x y ys some_x best.1 better some best.0), some_x)
     by_test false worse is = subst (λ (u : SegmentStat). IsBest u (x ∷ ys)) (one_some y z is) ((worse, best.0), best.1)
@@ -222,10 +233,13 @@ best_is (x ∷ xs) some = by_answer (best_is xs some.1) (better_of x (best_of xs
     nothing : better_of x (best_of xs) ≡ None → x ∷ xs ≡ []
     nothing is = absurd (not_none x (best_of xs) is)
 
-    by_answer : IfBest (best_of xs) xs → (o : Option SegmentStat) → better_of x (best_of xs) ≡ o → IfBest o (x ∷ xs)
+    by_answer : IfBest (best_of xs) xs → (o : Option SegmentStat) → better_of x (best_of xs) ≡ o
+        → IfBest o (x ∷ xs)
     by_answer others None is = nothing is
     by_answer others (Some z) is = best_more x xs (best_of xs) some.0 some.1 others z is
 
 -- Of segments in which there is something no other has a greater share of garbage than the best, or the same and a lesser number.
-pub best_is_greatest : (xs : List SegmentStat) (x : SegmentStat) → AllByRecursion (λ y. 0 < y.bytes) xs → best_of xs ≡ Some x → AllByRecursion (λ y. is_better y x ≡ false) xs
+pub best_is_greatest : (xs : List SegmentStat) (x : SegmentStat)
+    → AllByRecursion (λ y. 0 < y.bytes) xs → best_of xs ≡ Some x
+    → AllByRecursion (λ y. is_better y x ≡ false) xs
 best_is_greatest xs x some is = (subst (λ o. IfBest o xs) is (best_is xs some)).0

@@ -43,7 +43,8 @@ place_behind place [] = place
 place_behind place (f ∷ fs) = place_behind (place + frame_length f) fs
 
 -- a frame behind the others has its entries in front of theirs
-pub logged_entries-more : (segment place : ℕ) (fs : List LogFrame) (f : LogFrame) → logged_entries segment place (fs ++ f ∷ []) ≡ frame_entries segment (place_behind place fs) f ++ logged_entries segment place fs
+pub logged_entries-more : (segment place : ℕ) (fs : List LogFrame) (f : LogFrame)
+    → logged_entries segment place (fs ++ f ∷ []) ≡ frame_entries segment (place_behind place fs) f ++ logged_entries segment place fs
 logged_entries-more segment place [] f = nothing_behind (frame_entries segment place f)
   where
     nothing_behind : (es : List Entry) → es ≡ es ++ []
@@ -59,7 +60,8 @@ added l f = frame_entries l.active.number (place_behind 16 l.active.frames) f
 
 module _ (logs : Logs) (l : Layout) (f : LogFrame) (h : History) (from : List ℕ → ℕ) (to : ℕ) where
   -- what is shown with these entries in front of the sources is shown with the frame
-  pub shows_logged : Shows logs (added l f ++ sources l) h from to → Shows logs (sources (logged f l)) h from to
+  pub shows_logged : Shows logs (added l f ++ sources l) h from to
+      → Shows logs (sources (logged f l)) h from to
   shows_logged shows =
       let old = logged_entries l.active.number 16 l.active.frames in
       subst (λ es. Shows logs (in_order es ++ behind_active l) h from to) (sym (logged_entries-more l.active.number 16 l.active.frames f))
@@ -68,8 +70,10 @@ module _ (logs : Logs) (l : Layout) (f : LogFrame) (h : History) (from : List �
 
 -- ---- a commit
 
-pub commit_shows : (logs : Logs) (l : Layout) (ticket : ℕ) (h : History) (writes : Writes) (from : List ℕ → ℕ) → AreUpTo (last_number h) (sources l) → ((key : List ℕ) → from key ≤ last_number h)
-    → Shows logs (sources l) h from (last_number h) → Shows logs (sources (logged (commit_frame h writes) (ended ticket l))) (with_commit h writes) from (last_number h + 1)
+pub commit_shows : (logs : Logs) (l : Layout) (ticket : ℕ) (h : History) (writes : Writes) (from : List ℕ → ℕ)
+    → AreUpTo (last_number h) (sources l) → ((key : List ℕ) → from key ≤ last_number h)
+    → Shows logs (sources l) h from (last_number h)
+    → Shows logs (sources (logged (commit_frame h writes) (ended ticket l))) (with_commit h writes) from (last_number h + 1)
 commit_shows logs l ticket h writes from up begins shows =
     shows_logged logs (ended ticket l) (commit_frame h writes) (with_commit h writes) from (last_number h + 1)
     (shows_committed logs (sources l) h from writes l.active.number (place_behind 16 l.active.frames + 17) up begins shows)
@@ -81,25 +85,29 @@ abbrev pub ArePlaced : Logs → List Entry → Type 0
 ArePlaced logs es = AllByRecursion (λ (e : Entry). resolved logs e.key (placement e.body) ≡ resolved logs e.key e.body) es
 
 module _ (logs : Logs) where
-  zip_both : (es es' fs fs' : List Entry) → AllZip (StandsFor logs logs) es es' → AllZip (StandsFor logs logs) fs fs' → AllZip (StandsFor logs logs) (es ++ fs) (es' ++ fs')
+  zip_both : (es es' fs fs' : List Entry) → AllZip (StandsFor logs logs) es es'
+      → AllZip (StandsFor logs logs) fs fs' → AllZip (StandsFor logs logs) (es ++ fs) (es' ++ fs')
   zip_both [] [] fs fs' s t = t
   zip_both [] (e' ∷ es') fs fs' s t = absurd s
   zip_both (e ∷ es) [] fs fs' s t = absurd s
   zip_both (e ∷ es) (e' ∷ es') fs fs' s t = (s.0, zip_both es es' fs fs' s.1 t)
 
-  same : (es : List Entry) → AllByRecursion (λ (e : Entry). resolved logs e.key e.body ≡ resolved logs e.key e.body) es
+  same : (es : List Entry)
+      → AllByRecursion (λ (e : Entry). resolved logs e.key e.body ≡ resolved logs e.key e.body) es
   same [] = tt
   same (e ∷ es) = (refl, same es)
 
   as_they_are : (es : List Entry) → AllZip (StandsFor logs logs) es es
   as_they_are es = itself logs logs es (same es)
 
-  as_placed : (es : List Entry) → ArePlaced logs es → AllZip (StandsFor logs logs) es (map placed es)
+  as_placed : (es : List Entry) → ArePlaced logs es
+      → AllZip (StandsFor logs logs) es (map placed es)
   as_placed [] found = tt
   as_placed (e ∷ es) found = (record { key = refl; version = refl; leads = found.0 }, as_placed es found.1)
 
 -- the memtable that waits longest is the last of the frozen ones
-frozen_parts : (ss : List Segment) (s : Segment) → oldest ss ≡ Some s → flat_map memtable ss ≡ flat_map memtable (but_oldest ss) ++ memtable s
+frozen_parts : (ss : List Segment) (s : Segment) → oldest ss ≡ Some s
+    → flat_map memtable ss ≡ flat_map memtable (but_oldest ss) ++ memtable s
 frozen_parts [] s is = absurd cc
 frozen_parts (t ∷ []) s is = nothing_behind (memtable t) ∙ ap memtable (the_one t s is)
   where
@@ -114,11 +122,13 @@ frozen_parts (t ∷ u ∷ us) s is =
     ∙ sym (append_assoc (memtable t) (flat_map memtable (but_oldest (u ∷ us))) (memtable s))
 
 -- the table in front of the others
-tables_parts : (t : Table) (level : List Table) (deeper : List (List Table)) → flat_map table_entries (flat_map (λ ts. ts) (in_front t (level ∷ deeper))) ≡ t.entries ++ flat_map table_entries (flat_map (λ ts. ts) (level ∷ deeper))
+tables_parts : (t : Table) (level : List Table) (deeper : List (List Table))
+    → flat_map table_entries (flat_map (λ ts. ts) (in_front t (level ∷ deeper))) ≡ t.entries ++ flat_map table_entries (flat_map (λ ts. ts) (level ∷ deeper))
 tables_parts t level deeper = refl
 
 module _ (logs : Logs) (l : Layout) (s : Segment) (h : History) (from : List ℕ → ℕ) (to : ℕ) where
-  flush_parts : oldest l.frozen ≡ Some s → (level : List Table) (deeper : List (List Table)) → l.levels ≡ level ∷ deeper
+  flush_parts : oldest l.frozen ≡ Some s → (level : List Table) (deeper : List (List Table))
+      → l.levels ≡ level ∷ deeper
       → sources l ≡ memtable l.active ++ (flat_map memtable (but_oldest l.frozen) ++ (memtable s ++ flat_map table_entries (tables l)))
   flush_parts waits level deeper are =
       ap (λ es. memtable l.active ++ (es ++ flat_map table_entries (tables l))) (frozen_parts l.frozen s waits)
@@ -130,7 +140,8 @@ module _ (logs : Logs) (l : Layout) (s : Segment) (h : History) (from : List ℕ
       ap (λ (levels : List (List Table)). memtable l.active ++ (flat_map memtable (but_oldest l.frozen) ++ flat_map table_entries (flat_map (λ ts. ts) (in_front (flushed_table l s) levels)))) are
       ∙ sym (ap (λ (levels : List (List Table)). memtable l.active ++ (flat_map memtable (but_oldest l.frozen) ++ (map placed (memtable s) ++ flat_map table_entries (flat_map (λ ts. ts) levels)))) are)
 
-  pub flush_shows : oldest l.frozen ≡ Some s → (level : List Table) (deeper : List (List Table)) → l.levels ≡ level ∷ deeper → ArePlaced logs (memtable s)
+  pub flush_shows : oldest l.frozen ≡ Some s → (level : List Table) (deeper : List (List Table))
+      → l.levels ≡ level ∷ deeper → ArePlaced logs (memtable s)
       → Shows logs (sources l) h from to → Shows logs (sources (flushed l s)) h from to
   flush_shows waits level deeper are found shows =
       let back = flat_map table_entries (tables l) in
@@ -149,7 +160,8 @@ abbrev pub AreShown : List Entry → (List ℕ → ℕ → Option Stored) → Li
 AreShown es meaning moved = AllByRecursion (λ (m : Moved). (list_any (is_at m.key m.version) es ≡ true) × (meaning m.key m.version ≡ Some m.value)) moved
 
 module _ (logs : Logs) (h : History) (from : List ℕ → ℕ) (to : ℕ) (es : List Entry) (shows : Shows logs es h from to) where
-  any_behind : (p : Entry → Bool) (new old : List Entry) → list_any p old ≡ true → list_any p (new ++ old) ≡ true
+  any_behind : (p : Entry → Bool) (new old : List Entry) → list_any p old ≡ true
+      → list_any p (new ++ old) ≡ true
   any_behind p [] old there = there
   any_behind p (e ∷ new) old there = elim (p e) as (λ b. (b || list_any p (new ++ old)) ≡ true) [ true ↦ refl | false ↦ any_behind p new old there ]
 
@@ -157,7 +169,8 @@ module _ (logs : Logs) (h : History) (from : List ℕ → ℕ) (to : ℕ) (es : 
   abbrev IsMoved : List Entry → Type 0
   IsMoved new = (shown : Shows logs (new ++ es) h from to) × (shown.meaning ≡ shows.meaning)
 
-  moved_front : (segment place : ℕ) (ms : List Moved) → AreShown es shows.meaning ms → IsMoved (map (record_entry segment) (relocated_records place ms))
+  moved_front : (segment place : ℕ) (ms : List Moved) → AreShown es shows.meaning ms
+      → IsMoved (map (record_entry segment) (relocated_records place ms))
   moved_front segment place [] all = (shows, refl)
   moved_front segment place (m ∷ ms) all =
       let later = moved_front segment (place + moved_length m) ms all.1 in
@@ -167,7 +180,8 @@ module _ (logs : Logs) (h : History) (from : List ℕ → ℕ) (to : ℕ) (es : 
       (both.0, both.1 ∙ later.1)
 
 -- Moved records in the active memtable show what the sources showed.
-pub relocate_shows : (logs : Logs) (l : Layout) (moved : List Moved) (h : History) (from : List ℕ → ℕ) (to : ℕ) (shows : Shows logs (sources l) h from to) → AreShown (sources l) shows.meaning moved
+pub relocate_shows : (logs : Logs) (l : Layout) (moved : List Moved) (h : History) (from : List ℕ → ℕ) (to : ℕ) (shows : Shows logs (sources l) h from to)
+    → AreShown (sources l) shows.meaning moved
     → Shows logs (sources (relocated l moved)) h from to
 relocate_shows logs l moved h from to shows all =
     shows_logged logs l (Relocated moved) h from to

@@ -42,13 +42,15 @@ use Rattle.vl_layout.specs.declared.table.Table.{Table}
 abbrev pub ShowsRuled : {A : Type 0} → Logs → (List ℕ → ℕ) → Ruling A → Type 0
 ShowsRuled logs from r = Shows logs (sources r.layout) r.history from (last_number r.history)
 
-either : {A : Type 0} (logs : Logs) (from : List ℕ → ℕ) (b : Bool) (x y : Ruling A) → ShowsRuled logs from x → ShowsRuled logs from y → ShowsRuled logs from (if b then x else y)
+either : {A : Type 0} (logs : Logs) (from : List ℕ → ℕ) (b : Bool) (x y : Ruling A)
+    → ShowsRuled logs from x → ShowsRuled logs from y → ShowsRuled logs from (if b then x else y)
 either logs from true x y one other = one
 either logs from false x y one other = other
 
 -- ---- a commit
 
-last_number-more : (h : History) (writes : Writes) → last_number (with_commit h writes) ≡ last_number h + 1
+last_number-more : (h : History) (writes : Writes)
+    → last_number (with_commit h writes) ≡ last_number h + 1
 last_number-more h writes = let both = length-append h.commits (writes ∷ []) in omega arith
 
 module _ (logs : Logs) (from : List ℕ → ℕ) (l : Layout) (h : History) (t : Transaction) (up : AreUpTo (last_number h) (sources l)) (begins : (key : List ℕ) → from key ≤ last_number h) (shows : Shows logs (sources l) h from (last_number h)) where
@@ -68,7 +70,8 @@ module _ (logs : Logs) (from : List ℕ → ℕ) (l : Layout) (h : History) (t :
       either logs from (len t.writes == 0) (commit_ended Nothing l h t) rest shows
       (either logs from (nat_le max_commit_number (last_number h)) (leaving (Exhausted counter.Commit) h l) (commit_checked l h t conflict) shows (checked_shows conflict))
 
-  unless_shows : (halted : Option FileName) → ShowsRuled logs from (commit_unless halted l h t (first_conflict h t.number t.reads))
+  unless_shows : (halted : Option FileName)
+      → ShowsRuled logs from (commit_unless halted l h t (first_conflict h t.number t.reads))
   unless_shows (Some name) = shows
   unless_shows None = running_shows (first_conflict h t.number t.reads)
 
@@ -78,7 +81,8 @@ module _ (logs : Logs) (from : List ℕ → ℕ) (l : Layout) (h : History) (t :
 -- ---- a rotation
 
 module _ (logs : Logs) (from : List ℕ → ℕ) (l : Layout) (h : History) (shows : Shows logs (sources l) h from (last_number h)) where
-  stepped_shows : (next : Layout) (calls : ℕ) → sources next ≡ sources l → (answer : StepAnswer) → ShowsRuled logs from (record { answer = answer; history = h; layout = next; calls = calls; gone = [] })
+  stepped_shows : (next : Layout) (calls : ℕ) → sources next ≡ sources l → (answer : StepAnswer)
+      → ShowsRuled logs from (record { answer = answer; history = h; layout = next; calls = calls; gone = [] })
   stepped_shows next calls same answer = subst (λ es. Shows logs es h from (last_number h)) (sym same) shows
 
   rotate_of-shows : (frames : List LogFrame) → ShowsRuled logs from (rotate_of frames l h)
@@ -100,7 +104,8 @@ module _ (logs : Logs) (from : List ℕ → ℕ) (l : Layout) (h : History) (sho
 
 module _ (logs : Logs) (from : List ℕ → ℕ) (l : Layout) (h : History) (shows : Shows logs (sources l) h from (last_number h)) (level : List Table) (deeper : List (List Table)) (are : l.levels ≡ level ∷ deeper)
     (found : (s : Segment) → oldest l.frozen ≡ Some s → ArePlaced logs (memtable s)) where
-  flush_of-shows : (o : Option Segment) → oldest l.frozen ≡ o → ShowsRuled logs from (flush_of l h o)
+  flush_of-shows : (o : Option Segment) → oldest l.frozen ≡ o
+      → ShowsRuled logs from (flush_of l h o)
   flush_of-shows None waits = shows
   flush_of-shows (Some s) waits =
       let made : Ruling StepAnswer = record { answer = Stepped l.next_table; history = h; layout = flushed l s; calls = 5; gone = [] } in
@@ -125,11 +130,15 @@ module _ (logs : Logs) (meaning : Meaning) (segment : ℕ) (c : Candidate) (ther
   abbrev IsShown : List Entry → Type 0
   IsShown es = (list_any (is_at c.moved.key c.moved.version) es ≡ true) × (meaning c.moved.key c.moved.version ≡ Some c.moved.value)
 
-  led_to : (e : Entry) (p : Pointer) (o : Option Stored) → logs p e.key ≡ o → option_map Some o ≡ Some (meaning e.key e.version) → (value : Stored) × (logs p e.key ≡ Some value) × (meaning e.key e.version ≡ Some value)
+  led_to : (e : Entry) (p : Pointer) (o : Option Stored) → logs p e.key ≡ o
+      → option_map Some o ≡ Some (meaning e.key e.version)
+      → (value : Stored) × (logs p e.key ≡ Some value) × (meaning e.key e.version ≡ Some value)
   led_to e p None is means = absurd cc
   led_to e p (Some value) is means = (value, is, (let same : Some (Some value) ≡ Some (meaning e.key e.version) = means in cc))
 
-  won_here : (e : Entry) (body : Body) → e.body ≡ body → is_at c.moved.key c.moved.version e ≡ true → is_far_to segment c.place body ≡ true → Means logs meaning e → meaning c.moved.key c.moved.version ≡ Some c.moved.value
+  won_here : (e : Entry) (body : Body) → e.body ≡ body → is_at c.moved.key c.moved.version e ≡ true
+      → is_far_to segment c.place body ≡ true → Means logs meaning e
+      → meaning c.moved.key c.moved.version ≡ Some c.moved.value
   won_here e (Inline value) is at far means = absurd cc
   won_here e Gone is at far means = absurd cc
   won_here e (Logged value p) is at far means = absurd cc
@@ -145,11 +154,14 @@ module _ (logs : Logs) (meaning : Meaning) (segment : ℕ) (c : Candidate) (ther
       let value_is : led.0 ≡ c.moved.value = there p led.0 segments places (ap (logs p) keys ∙ led.1) in
       ap (λ k. meaning k c.moved.version) keys ∙ ap (meaning e.key) (sym versions) ∙ led.2 ∙ ap Some value_is
 
-  won_is_shown : (es : List Entry) → wins_exactly es segment c.moved.key c.moved.version c.place ≡ true → AllByRecursion (Means logs meaning) es → IsShown es
+  won_is_shown : (es : List Entry)
+      → wins_exactly es segment c.moved.key c.moved.version c.place ≡ true
+      → AllByRecursion (Means logs meaning) es → IsShown es
   won_is_shown [] wins all = absurd cc
   won_is_shown (e ∷ es) wins all = by_test (is_at c.moved.key c.moved.version e) refl (λ later. won_is_shown es later all.1)
     where
-      by_test : (b : Bool) → is_at c.moved.key c.moved.version e ≡ b → (wins_exactly es segment c.moved.key c.moved.version c.place ≡ true → (list_any (is_at c.moved.key c.moved.version) es ≡ true) × (meaning c.moved.key c.moved.version ≡ Some c.moved.value))
+      by_test : (b : Bool) → is_at c.moved.key c.moved.version e ≡ b
+          → (wins_exactly es segment c.moved.key c.moved.version c.place ≡ true → (list_any (is_at c.moved.key c.moved.version) es ≡ true) × (meaning c.moved.key c.moved.version ≡ Some c.moved.value))
           → (list_any (is_at c.moved.key c.moved.version) (e ∷ es) ≡ true) × (meaning c.moved.key c.moved.version ≡ Some c.moved.value)
       by_test true at later = (
         ap (λ b. b || list_any (is_at c.moved.key c.moved.version) es) at,
@@ -160,11 +172,13 @@ module _ (logs : Logs) (meaning : Meaning) (segment : ℕ) (c : Candidate) (ther
           (ap (λ b. b || list_any (is_at c.moved.key c.moved.version) es) at ∙ rest.0, rest.1)
 
 module _ (logs : Logs) (es : List Entry) (meaning : Meaning) (segment last : ℕ) (all : AllByRecursion (Means logs meaning) es) where
-  batch_is_shown : (batch : List Candidate) → AllByRecursion (IsThere logs segment) batch → AreShown es meaning (moved_of es segment last batch)
+  batch_is_shown : (batch : List Candidate) → AllByRecursion (IsThere logs segment) batch
+      → AreShown es meaning (moved_of es segment last batch)
   batch_is_shown [] there = tt
   batch_is_shown (c ∷ cs) there = by_test (is_moved es segment last c) refl (batch_is_shown cs there.1)
     where
-      by_test : (b : Bool) → is_moved es segment last c ≡ b → AreShown es meaning (moved_of es segment last cs)
+      by_test : (b : Bool) → is_moved es segment last c ≡ b
+          → AreShown es meaning (moved_of es segment last cs)
           → AreShown es meaning (map (λ (x : Candidate). x.moved) (cond b (c ∷ filter (is_moved es segment last) cs) (filter (is_moved es segment last) cs)))
       by_test false is later = later
       by_test true is later =
@@ -172,7 +186,8 @@ module _ (logs : Logs) (es : List Entry) (meaning : Meaning) (segment last : ℕ
           (won_is_shown logs meaning segment c there.0 es wins all, later)
 
 module _ (logs : Logs) (from : List ℕ → ℕ) (l : Layout) (h : History) (shows : Shows logs (sources l) h from (last_number h)) where
-  relocate_of-shows : (moved : List Moved) → AreShown (sources l) shows.meaning moved → ShowsRuled logs from (relocate_of l h moved)
+  relocate_of-shows : (moved : List Moved) → AreShown (sources l) shows.meaning moved
+      → ShowsRuled logs from (relocate_of l h moved)
   relocate_of-shows [] all = shows
   relocate_of-shows (m ∷ ms) all =
       let made : Ruling MoveAnswer = record { answer = Moves (length (m ∷ ms)); history = h; layout = relocated l (m ∷ ms); calls = 2; gone = [] } in
@@ -181,12 +196,16 @@ module _ (logs : Logs) (from : List ℕ → ℕ) (l : Layout) (h : History) (sho
       either logs from (has_no_version l) (leaving (NoVersion counter.Version) h l) (if room then made else full) shows
       (either logs from room made full (relocate_shows logs l (m ∷ ms) h from (last_number h) shows all) shows)
 
-  relocate_unless-shows : (pass : Pass) (batch : List Candidate) → AllByRecursion (IsThere logs pass.segment) batch → (halted : Option FileName) → ShowsRuled logs from (relocate_unless halted l h pass batch)
+  relocate_unless-shows : (pass : Pass) (batch : List Candidate)
+      → AllByRecursion (IsThere logs pass.segment) batch → (halted : Option FileName)
+      → ShowsRuled logs from (relocate_unless halted l h pass batch)
   relocate_unless-shows pass batch there (Some name) = shows
   relocate_unless-shows pass batch there None =
       relocate_of-shows (moved_of (sources l) pass.segment (last_number h) batch)
       (batch_is_shown logs (sources l) shows.meaning pass.segment (last_number h) shows.resolves batch there)
 
   -- of a batch whose records stand in the logs
-  pub relocate_ruling-shows : (pass : Pass) (batch : List Candidate) → AllByRecursion (IsThere logs pass.segment) batch → ShowsRuled logs from (relocate_ruling l h pass batch)
+  pub relocate_ruling-shows : (pass : Pass) (batch : List Candidate)
+      → AllByRecursion (IsThere logs pass.segment) batch
+      → ShowsRuled logs from (relocate_ruling l h pass batch)
   relocate_ruling-shows pass batch there = relocate_unless-shows pass batch there l.halted

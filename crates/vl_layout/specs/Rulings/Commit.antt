@@ -64,7 +64,8 @@ commit_running l h t conflict =
     else (if nat_le max_commit_number (last_number h) then leaving (Exhausted CommitNumber) h l
     else commit_checked l h t conflict)
 
-abbrev pub commit_unless : Option FileName → Layout → History → Transaction → Option Named → Ruling CommitAnswer
+abbrev pub commit_unless : Option FileName → Layout → History → Transaction → Option Named
+    → Ruling CommitAnswer
 commit_unless (Some name) l h t conflict = commit_ended (Halted name) l h t
 commit_unless None l h t conflict = commit_running l h t conflict
 
