@@ -144,7 +144,8 @@ module _ (segment number : ℕ) where
 
 -- ---- winners of older entries
 
--- entries of versions of at most a number have the same winner from there on, and it is such an entry
+-- entries of versions of at most a number have the same winner from there on, and it is such an
+-- entry
 abbrev IsAtMost : ℕ → Option Entry → Type 0
 IsAtMost last None = Unit {0}
 IsAtMost last (Some e) = e.version ≤ last

@@ -1,4 +1,5 @@
--- A footer's points are the sums over the table's entries, and no segment has a greater share of garbage than the best.
+-- A footer's points are the sums over the table's entries, and no segment has a greater share of
+-- garbage than the best.
 use Rattle.std.proofs.Common.{◌≡◌, ◌⊎◌, inl, inr, ⊎_elim, ℕ, ◌+◌, ◌*◌, ◌≤◌, ◌<◌, Bool, true, false, cond, ◌&&◌, ◌||◌, List, [], ◌∷◌, refl, ap, sym, ◌∙◌, subst, arith}
 use Rattle.std.proofs.lemmas.Bool.{and_parts, and_from, cases_lt}
 use Rattle.std.proofs.lemmas.Bool.Decides.{nat_tests}
@@ -72,7 +73,8 @@ module _ (segment : ℕ) where
 
 -- ---- shares
 
--- a share is the quotient of two numbers, of which the second isn't 0; quotients are compared by products
+-- a share is the quotient of two numbers, of which the second isn't 0; quotients are compared by
+-- products
 module _ (dw bw dy by dz bz : ℕ) (positive : 0 < by) where
   across : (dz * bw) * by ≡ (dz * by) * bw
   across = mul_right_comm dz bw by
@@ -238,7 +240,8 @@ best_is (x ∷ xs) some = by_answer (best_is xs some.1) (better_of x (best_of xs
     by_answer others None is = nothing is
     by_answer others (Some z) is = best_more x xs (best_of xs) some.0 some.1 others z is
 
--- Of segments in which there is something no other has a greater share of garbage than the best, or the same and a lesser number.
+-- Of segments in which there is something no other has a greater share of garbage than the best, or
+-- the same and a lesser number.
 pub best_is_greatest : (xs : List SegmentStat) (x : SegmentStat)
     → AllByRecursion (λ y. 0 < y.bytes) xs → best_of xs ≡ Some x
     → AllByRecursion (λ y. is_better y x ≡ false) xs

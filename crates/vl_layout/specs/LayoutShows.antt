@@ -1,4 +1,5 @@
--- The rulings that change sources keep what these show: a rotation, a commit, a flush and a relocation.
+-- The rulings that change sources keep what these show: a rotation, a commit, a flush and a
+-- relocation.
 use Rattle.std.proofs.Common.{◌≡◌, ℕ, ◌+◌, ◌≤◌, Bool, true, false, ◌||◌, List, [], ◌∷◌, ◌++◌, map, refl, ap, sym, ◌∙◌, subst, append_assoc}
 use Rattle.std.specs.Prelude.{Option, Some}
 use Rattle.std.specs.List.{AllZip, AllByRecursion, flat_map, list_any}

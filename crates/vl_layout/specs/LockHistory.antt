@@ -1,10 +1,10 @@
--- The steps that sessions made under the commit lock, one after the other, and the history and layout that they come to.
-use Rattle.std.specs.Prelude.{◌≡◌, ◌≢◌, ℕ, ◌+◌, ◌==◌, Bool, true, false, ◌&&◌, not, if◌then◌else◌, List, [], ◌∷◌, ◌++◌, Option, Some, None, IsTrue}
+-- The steps that sessions made under the commit lock, one after the other, and the history and
+-- layout that they come to.
+use Rattle.std.specs.Prelude.{◌≡◌, ◌≢◌, ℕ, ◌+◌, ◌==◌, Bool, true, false, ◌&&◌, not, List, [], ◌∷◌, IsTrue}
 use Rattle.std.specs.List.{filter, list_any}
 use Rattle.std.specs.FinMap.{from_sorted, is_sorted}
 use Rattle.vl_model.specs.Keys.{Pairs, Writes, key_cmp}
 use Rattle.vl_model.specs.History.{History}
-use Rattle.vl_model.specs.declared.change.Change.{Change}
 use Rattle.vl_layout.specs.declared.layout.Layout.{Layout}
 use Rattle.vl_layout.specs.declared.lock_history.LockEntry.{LockEntry}
 use Rattle.vl_layout.specs.declared.lock_history.LockStep.{LockStep}
@@ -26,7 +26,8 @@ abbrev pub closed : ℕ → ℕ → List OpenTicket → List OpenTicket
 closed session ticket ts = filter (λ t. not (is_of session ticket t)) ts
 
 abbrev pub tickets_after : LockStep → List OpenTicket → List OpenTicket
-tickets_after (Begun session ticket number) ts = record { session = session; ticket = ticket; number = number } ∷ ts
+tickets_after (Begun session ticket number) ts =
+    record { session = session; ticket = ticket; number = number } ∷ ts
 tickets_after (Put session ticket number writes) ts = closed session ticket ts
 tickets_after (Ended session ticket) ts = closed session ticket ts
 tickets_after (Changed session) ts = ts
@@ -72,9 +73,9 @@ has_ticket ticket ts = list_any (λ (t : OpenTicket). t.ticket == ticket) ts
 abbrev pub IsOpen : ℕ → ℕ → List OpenTicket → Type 0
 IsOpen session ticket ts = list_any (is_of session ticket) ts ≡ true
 
--- A step is lawful behind the commit with this number and with these tickets open: what begins has a ticket that isn't open
--- and reads at that number; what commits or ends has an open one that its session began, and a commit has the next number and
--- some writes.
+-- A step is lawful behind the commit with this number and with these tickets open: what begins has
+-- a ticket that isn't open and reads at that number; what commits or ends has an open one that its
+-- session began, and a commit has the next number and some writes.
 abbrev pub IsLegalStep : ℕ → List OpenTicket → LockStep → Type 0
 IsLegalStep last ts (Begun session ticket number) = (has_ticket ticket ts ≡ false) × (number ≡ last)
 IsLegalStep last ts (Put session ticket number writes) =
@@ -84,7 +85,8 @@ IsLegalStep last ts (Changed session) = Unit {0}
 
 abbrev pub IsLegalFrom : ℕ → List OpenTicket → List LockEntry → Type 0
 IsLegalFrom last ts [] = Unit {0}
-IsLegalFrom last ts (e ∷ es) = IsLegalStep last ts e.step × IsLegalFrom (number_after e.step last) (tickets_after e.step ts) es
+IsLegalFrom last ts (e ∷ es) =
+    IsLegalStep last ts e.step × IsLegalFrom (number_after e.step last) (tickets_after e.step ts) es
 
 -- steps behind the commit with this number, before which nothing was open
 abbrev pub IsLegal : ℕ → List LockEntry → Type 0

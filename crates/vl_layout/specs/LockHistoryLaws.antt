@@ -1,11 +1,11 @@
 -- Laws of steps under the commit lock: one step more, a first part, and a session's own tickets.
-use Rattle.std.proofs.Common.{◌≡◌, ℕ, ◌+◌, Bool, true, false, cond, not, ◌&&◌, List, [], ◌∷◌, ◌++◌, refl, ap, sym, ◌∙◌, arith}
+use Rattle.std.proofs.Common.{◌≡◌, ℕ, Bool, true, false, cond, not, ◌&&◌, List, [], ◌∷◌, ◌++◌, refl, ap, sym, ◌∙◌, arith}
 use Rattle.std.proofs.lemmas.Bool.Decides.{nat_tests}
 use Rattle.std.specs.Prelude.{◌==◌}
 use Rattle.std.specs.List.{filter}
 use Rattle.std.specs.FinMap.{from_sorted}
 use Rattle.vl_model.specs.Keys.{Pairs, Writes}
-use Rattle.vl_model.specs.History.{History, with_commit}
+use Rattle.vl_model.specs.History.{with_commit}
 use Rattle.vl_model.specs.declared.change.Change.{Change}
 use Rattle.vl_layout.specs.LockHistory.{OpenTicket, is_of, closed, tickets_after, open_tickets, put_by, commits_of, history_of, last_layout, number_after, IsLegalStep, IsLegalFrom, session_of, entries_by, tickets_by}
 use Rattle.vl_layout.specs.declared.layout.Layout.{Layout}

@@ -1,5 +1,5 @@
--- What a merge leaves of the sources shows what they showed, from its floor on, also where it is put in their place later
--- than it was planned.
+-- What a merge leaves of the sources shows what they showed, from its floor on, also where it is
+-- put in their place later than it was planned.
 use Rattle.std.proofs.Common.{◌≡◌, ◌⊎◌, inl, inr, ⊎_elim, ℕ, ◌≤◌, ◌<◌, Bool, true, false, not, ◌&&◌, ◌||◌, List, [], ◌∷◌, refl, ap, sym, ◌∙◌, subst, arith}
 use Rattle.std.proofs.lemmas.Bool.{and_parts, and_from, cases_Bool, cases_lt}
 use Rattle.std.proofs.lemmas.Bool.Decides.{nat_tests}
@@ -43,7 +43,8 @@ outside_of [] = []
 outside_of (m ∷ ms) = if_so (not m.input) m.entry (outside_of ms)
 
 module _ (inputs outside : List Entry) (floor : ℕ) where
-  -- what is dropped stands in an input, and one of the three rules drops it now; what is kept of an input isn't outdated
+  -- what is dropped stands in an input, and one of the three rules drops it now; what is kept of an
+  -- input isn't outdated
   pub record IsJustified (newer : List Entry) (m : Marked) : Type 0 where
     pub drops : m.kept ≡ false
         → (m.input ≡ true) × (is_dropped inputs outside floor newer m.entry ≡ true)
@@ -147,7 +148,8 @@ module _ (inputs outside : List Entry) (floor : ℕ) where
   abbrev pub Reason : Entry → Type 0
   Reason e = IsIn inputs e × ((is_outdated inputs floor e ≡ true) ⊎ (is_needless outside floor e ≡ true))
 
-  -- where no entry of a key and version is kept, the first of them was dropped by the second or the third rule
+  -- where no entry of a key and version is kept, the first of them was dropped by the second or the
+  -- third rule
   first_dropped : (key : List ℕ) (version : ℕ) (newer : List Entry) (ms : List Marked)
       → AreJustified inputs outside floor newer ms → AllByRecursion (IsIn inputs) (inputs_of ms)
       → list_any (is_at key version) newer ≡ false → list_any (is_at key version) (all_of ms) ≡ true
@@ -405,7 +407,8 @@ module _ (logs : Logs) (meaning : Meaning) (ms : List Marked) (floor : ℕ) (res
   pub installed_leads : resolved_at logs (winner (kept_of ms) key number) ≡ resolved_at logs (winner (all_of ms) key number)
   installed_leads = by_winner_of_all (winner (all_of ms) key number) refl
 
--- What is left of the sources by the marks of an earlier plan shows what they show, from the plan's floor on.
+-- What is left of the sources by the marks of an earlier plan shows what they show, from the plan's
+-- floor on.
 pub shows_installed : (logs : Logs) (ms : List Marked) (floor : ℕ) (h : History) (from : List ℕ → ℕ) (to : ℕ)
     → ((key : List ℕ) → floor ≤ from key) → AreJustified (inputs_of ms) (outside_of ms) floor [] ms
     → Shows logs (all_of ms) h from to → Shows logs (kept_of ms) h from to

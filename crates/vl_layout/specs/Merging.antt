@@ -31,19 +31,23 @@ is_shadowed newer e = list_any (is_at e.key e.version) newer
 
 -- the inputs have its key at a greater version that is at most the floor
 abbrev pub is_outdated : List Entry → ℕ → Entry → Bool
-is_outdated inputs floor e = list_any (λ (f : Entry). counts e.key floor f && nat_lt e.version f.version) inputs
+is_outdated inputs floor e =
+    list_any (λ (f : Entry). counts e.key floor f && nat_lt e.version f.version) inputs
 
 -- it is of this key, and of a lower version
 abbrev pub is_below : Entry → Entry → Bool
 is_below e f = eq_by_cmp key_cmp e.key f.key && nat_lt f.version e.version
 
--- a deletion of a version of at most the floor, where nothing outside the inputs has its key at a lower version
+-- a deletion of a version of at most the floor, where nothing outside the inputs has its key at a
+-- lower version
 abbrev pub is_needless : List Entry → ℕ → Entry → Bool
-is_needless outside floor e = is_gone e.body && (nat_le e.version floor && not (list_any (is_below e) outside))
+is_needless outside floor e =
+    is_gone e.body && (nat_le e.version floor && not (list_any (is_below e) outside))
 
 -- one of the three rules drops it from the inputs
 abbrev pub is_dropped : List Entry → List Entry → ℕ → List Entry → Entry → Bool
-is_dropped inputs outside floor newer e = is_shadowed newer e || (is_outdated inputs floor e || is_needless outside floor e)
+is_dropped inputs outside floor newer e =
+    is_shadowed newer e || (is_outdated inputs floor e || is_needless outside floor e)
 
 -- what is kept of inputs, in the order of the sources; those before these are `newer`
 abbrev pub kept_from : List Entry → List Entry → ℕ → List Entry → List Sourced → List Entry
@@ -66,7 +70,8 @@ outputs job = cut_into_tables (merged_entries job)
 
 -- the third rule alone drops it
 abbrev pub drops_by_need : List Entry → List Entry → ℕ → List Entry → Entry → Bool
-drops_by_need inputs outside floor newer e = not (is_shadowed newer e) && (not (is_outdated inputs floor e) && is_needless outside floor e)
+drops_by_need inputs outside floor newer e =
+    not (is_shadowed newer e) && (not (is_outdated inputs floor e) && is_needless outside floor e)
 
 abbrev pub needless_from : List Entry → List Entry → ℕ → List Entry → List Sourced → List Entry
 needless_from inputs outside floor newer [] = []

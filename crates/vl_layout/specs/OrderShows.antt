@@ -1,4 +1,5 @@
--- What is shown hangs on each key's entries alone, and not on their order but for entries of one key and version.
+-- What is shown hangs on each key's entries alone, and not on their order but for entries of one
+-- key and version.
 use Rattle.std.proofs.Common.{◌≡◌, ℕ, ◌+◌, ◌≤◌, Bool, true, false, cond, ◌&&◌, List, [], ◌∷◌, ◌++◌, refl, ap, sym, ◌∙◌, subst, arith, zero-add}
 use Rattle.std.specs.Prelude.{◌==◌}
 use Rattle.std.specs.List.{AllByRecursion, filter}
@@ -138,7 +139,8 @@ times-of_key key version (e ∷ es) =
       | false ↦ λ is. times-of_key key version es ∙ sym (zero-add (times key version es)) ∙ ap (λ b. cond (b && (e.version == version)) 1 0 + times key version es) (sym is)
     ] refl
 
--- Where each key has the same entries in the same order, the same is shown: entries of other keys may stand between them or not.
+-- Where each key has the same entries in the same order, the same is shown: entries of other keys
+-- may stand between them or not.
 pub shows_by_key : (logs : Logs) (es fs : List Entry) (h : History) (from : List ℕ → ℕ) (to : ℕ)
     → ((key : List ℕ) → of_key key fs ≡ of_key key es) → Shows logs es h from to
     → Shows logs fs h from to

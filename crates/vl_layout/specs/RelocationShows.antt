@@ -14,7 +14,8 @@ use Rattle.vl_model.specs.declared.entry.Entry.{Entry}
 use Rattle.vl_layout.specs.Shows.{Shows, Means, times}
 
 module _ (key : List ℕ) (number : ℕ) where
-  -- a winner, of a version of at least this one, and of which something holds that holds of all entries
+  -- a winner, of a version of at least this one, and of which something holds that holds of all
+  -- entries
   abbrev pub Reaches : (Entry → Type 0) → ℕ → Option Entry → Type 0
   Reaches P version None = ⊥
   Reaches P version (Some g) = (version ≤ g.version) × (counts key number g ≡ true) × P g
@@ -82,8 +83,8 @@ not_none : (value : Stored) → Some value ≡ None → ⊥
 not_none value is = cc
 
 module _ (logs : Logs) (h : History) (from : List ℕ → ℕ) (to : ℕ) where
-  -- Where the sources have an entry of its key and version, one more that leads to the same value shows the same in front, and
-  -- each version means what it meant.
+  -- Where the sources have an entry of its key and version, one more that leads to the same value
+  -- shows the same in front, and each version means what it meant.
   pub shows_moved : (e : Entry) (es : List Entry) (value : Stored) (shows : Shows logs es h from to)
       → list_any (is_at e.key e.version) es ≡ true → resolved logs e.key e.body ≡ Some (Some value)
       → shows.meaning e.key e.version ≡ Some value

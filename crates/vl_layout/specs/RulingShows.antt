@@ -1,4 +1,5 @@
--- Whatever a commit, a rotation, a flush or a relocation answers, its layout shows the history that it leaves.
+-- Whatever a commit, a rotation, a flush or a relocation answers, its layout shows the history that
+-- it leaves.
 use Rattle.std.proofs.Common.{◌≡◌, ℕ, ◌+◌, ◌≤◌, Bool, true, false, cond, ◌||◌, List, [], ◌∷◌, map, length, refl, ap, sym, ◌∙◌, subst, arith, length-append}
 use Rattle.std.proofs.lemmas.Bool.{and_parts}
 use Rattle.std.proofs.lemmas.Bool.Decides.{nat_tests}

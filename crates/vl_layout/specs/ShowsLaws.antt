@@ -32,8 +32,8 @@ times-append key version (e ∷ es) fs = let later = times-append key version es
 
 -- ---- another form of what is shown
 
--- Where the winners lead to the same, each body to what its version is, and no key and version stands more often, the same is
--- shown.
+-- Where the winners lead to the same, each body to what its version is, and no key and version
+-- stands more often, the same is shown.
 pub shows_as : (logs logs' : Logs) (es fs : List Entry) (h : History) (from : List ℕ → ℕ) (to : ℕ)
     → Shows logs es h from to
     → ((key : List ℕ) (number : ℕ) → from key ≤ number → number ≤ to → resolved_at logs' (winner fs key number) ≡ resolved_at logs (winner es key number))
@@ -119,8 +119,8 @@ module _ (logs logs' : Logs) where
       ap (λ (n : ℕ). cond (is_at key version f) 1 0 + n) (alike_times key version es fs s.1)
       ∙ ap (λ (b : Bool). cond b 1 0 + times key version es) (ap (λ k. eq_by_cmp key_cmp key k && (f.version == version)) s.0.key ∙ ap (λ v. eq_by_cmp key_cmp key e.key && (v == version)) s.0.version)
 
-  -- Where each entry stands for the one in whose place it is, as after a flush, or where a log goes that no entry leads into,
-  -- the same is shown.
+  -- Where each entry stands for the one in whose place it is, as after a flush, or where a log goes
+  -- that no entry leads into, the same is shown.
   pub shows_replaced : (es fs : List Entry) (h : History) (from : List ℕ → ℕ) (to : ℕ)
       → AllZip (StandsFor logs logs') es fs → Shows logs es h from to → Shows logs' fs h from to
   shows_replaced es fs h from to s shows =

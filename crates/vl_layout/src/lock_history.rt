@@ -7,7 +7,8 @@ use vl_model::{Change, Key};
 pub enum LockStep {
     /// It began a transaction or a view, with this ticket, that reads at this number.
     Begun(u64, u32, u64),
-    /// Its transaction with this ticket became the commit with this number and these writes, in key order.
+    /// Its transaction with this ticket became the commit with this number and these writes, in key
+    /// order.
     Put(u64, u32, u64, LinkedList<(Key, Change)>),
     /// Its transaction or view with this ticket ended without a commit.
     Ended(u64, u32),
@@ -15,7 +16,8 @@ pub enum LockStep {
     Changed(u64),
 }
 
-/// A step under the commit lock, and the layout behind it. Each variant of a step begins with the session's number.
+/// A step under the commit lock, and the layout behind it. Each variant of a step begins with the
+/// session's number.
 #[derive(Drop)]
 pub struct LockEntry {
     pub step: LockStep,

@@ -12,7 +12,8 @@ pub struct Segment {
     pub frames: LinkedList<LogFrame>,
 }
 
-/// What is told of a segment: its bytes behind the header, and how many of them are of records that tables lead to.
+/// What is told of a segment: its bytes behind the header, and how many of them are of records that
+/// tables lead to.
 #[derive(Clone, Copy, Debug, PartialEq, Eq)]
 pub struct SegmentStat {
     pub segment: u32,

@@ -136,7 +136,8 @@ filter-rises test (n ∷ ns) rising =
       | false ↦ later
     ]
 
--- a key is overwritten by the last commit that names it, where that is above the number and a read covers the key
+-- a key is overwritten by the last commit that names it, where that is above the number and a read
+-- covers the key
 pub find-overwritten : (h : History) (number : ℕ) (reads : List Read) (q : List ℕ)
     → find key_cmp q (overwritten h number reads) ≡ passing (is_overwritten number reads) q (last_naming (h.first + 1) h.commits q)
 find-overwritten h number reads q =

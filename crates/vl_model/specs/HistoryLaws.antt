@@ -1,5 +1,5 @@
--- Laws of histories, for the proofs of every crate above: what stands at a key, as the contents have it, before any commit
--- and after one more.
+-- Laws of histories, for the proofs of every crate above: what stands at a key, as the contents
+-- have it, before any commit and after one more.
 use Rattle.std.proofs.Common.{◌≡◌, ◌+◌, ◌-◌, ◌≤◌, ℕ, List, [], ◌∷◌, ◌++◌, length, take, refl, ap, sym, ◌∙◌, cond, Bool, true, false, arith}
 use Rattle.std.proofs.Common.{length-append}
 use Rattle.std.proofs.lemmas.List.{take-append-le}

@@ -1,5 +1,5 @@
-//! What a store is about, whatever it is made of: keys, values, limits, pointers, histories of commits, and what a reader
-//! noted.
+//! What a store is about, whatever it is made of: keys, values, limits, pointers, histories of
+//! commits, and what a reader noted.
 #![tactic(auto)]
 
 mod bytes;

@@ -1,4 +1,5 @@
--- A transaction commits: its writes become the next commit where nothing that it read was overwritten.
+-- A transaction commits: its writes become the next commit where nothing that it read was
+-- overwritten.
 use Rattle.std.specs.Prelude.{ℕ, ◌+◌, ◌==◌, nat_le, if◌then◌else◌, List, [], Option, Some, None}
 use Rattle.std.specs.FinMap.{entries, len}
 use Rattle.vl_model.specs.Limits.{max_commit_number}

@@ -21,7 +21,8 @@ use Rattle.vl_layout.specs.declared.layout.Layout.{Layout}
 pub data InstallAnswer : Type 0 where
   Installed : InstallAnswer
   Halted : FileName → InstallAnswer
-  -- the least key of which a deletion was dropped and a record moved meanwhile, and the version number of its last move
+  -- the least key of which a deletion was dropped and a record moved meanwhile, and the version
+  -- number of its last move
   Raced : List ℕ → ℕ → InstallAnswer
   Exhausted : Counter → InstallAnswer
 
@@ -39,7 +40,8 @@ abbrev pub moved_among : List Named → List Entry → List Named
 moved_among moved [] = []
 moved_among moved (e ∷ es) = noted e.key (find key_cmp e.key moved) (moved_among moved es)
 
--- the least key of which the merge drops a deletion that the first two rules leave, and that was moved since it began
+-- the least key of which the merge drops a deletion that the first two rules leave, and that was
+-- moved since it began
 abbrev pub race : Job → List Named → Option Named
 race job moved = first_of (moved_among moved (needless job))
 

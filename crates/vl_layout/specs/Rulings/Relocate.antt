@@ -47,7 +47,8 @@ relocate_of l h (m ∷ ms) =
 abbrev pub relocate_unless : Option FileName → Layout → History → Pass → List Candidate
     → Ruling MoveAnswer
 relocate_unless (Some name) l h pass batch = leaving (Halted name) h l
-relocate_unless None l h pass batch = relocate_of l h (moved_of (sources l) pass.segment (last_number h) batch)
+relocate_unless None l h pass batch =
+    relocate_of l h (moved_of (sources l) pass.segment (last_number h) batch)
 
 -- of a batch that this pass gave
 abbrev pub relocate_ruling : Layout → History → Pass → List Candidate → Ruling MoveAnswer

@@ -1,7 +1,5 @@
 -- What there is of each segment, and how much of it is live.
-use Rattle.std.specs.Prelude.{◌-◌, ◌^◌, min, List, [], ◌∷◌, ◌++◌, map}
-use Rattle.std.specs.Ordering.{nat_cmp}
-use Rattle.vl_model.specs.Entries.{by_order}
+use Rattle.std.specs.Prelude.{◌-◌, ◌^◌, min, List, ◌∷◌, ◌++◌, map}
 use Rattle.vl_model.specs.History.{History}
 use Rattle.vl_layout.specs.Garbage.{stat_of}
 use Rattle.vl_layout.specs.Sources.{tables, rising}
