@@ -66,7 +66,7 @@ last_change-append (first ∷ later) writes q =
     newer-newer a b None = refl
     newer-newer a b (Some c) = refl
 
-take_all : (commits : List Writes) (n : ℕ) → length commits ≤ n → take n commits ≡ commits
+pub take_all : (commits : List Writes) (n : ℕ) → length commits ≤ n → take n commits ≡ commits
 take_all commits n le = grind (arith, common_steps)
 
 pub value_at-with_commit : (h : History) (writes : Writes) (q : List ℕ)

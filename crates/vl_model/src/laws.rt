@@ -1,12 +1,12 @@
 // Laws of the definitions: each is the contract of a function that does nothing.
-ghost use Rattle.std.specs.Prelude.{◌≡◌, ◌≤◌, ◌+◌, ◌++◌, ℕ, List, IsTrue};
+ghost use Rattle.std.specs.Prelude.{◌≡◌, ◌≤◌, ◌+◌, ◌++◌, ℕ, List, None, IsTrue};
 ghost use Rattle.std.specs.List.{filter};
 ghost use Rattle.std.specs.FinMap.{get, find, is_sorted};
 ghost use Rattle.std.specs.Ordering.{eq_by_cmp};
-ghost use Rattle.vl_model.specs.Conflicts.{overwritten, is_overwritten, passing};
+ghost use Rattle.vl_model.specs.Conflicts.{overwritten, is_overwritten, passing, first_conflict};
 ghost use Rattle.vl_model.specs.Entries.{in_order};
 ghost use Rattle.vl_model.specs.Keys.{Writes, key_cmp};
-ghost use Rattle.vl_model.specs.Reads.{Read};
+ghost use Rattle.vl_model.specs.Reads.{Read, IsExplained};
 ghost use Rattle.vl_model.specs.Winners.{winner, newest_of};
 ghost use Rattle.vl_model.specs.declared.entry.Entry.{Entry};
 ghost use Rattle.vl_model.specs.Limits.{max_key_bytes, max_value_bytes, max_inline_bytes, max_transaction_keys, max_transaction_bytes, max_live, min_room, max_room, max_level, max_batch_records, max_batch_bytes, max_commit_number, max_file_number, max_version_number, max_sessions};
@@ -47,6 +47,13 @@ pub fn overwritten_keys_are_read_and_named_later()
         find key_cmp key (overwritten h n reads) ≡ passing (is_overwritten n reads) key (last_naming (h.first + 1) h.commits key) }
     ensures rising { (h : History) (n : ℕ) (reads : List Read)
         → IsTrue (is_sorted key_cmp (overwritten h n reads)) }
+{}
+
+/// Without a conflict what a transaction read is explained at the last number as well as at its
+/// own: it may as well have read there.
+pub fn reads_without_conflict_stay_explained()
+    ensures { (h : History) (n : ℕ) (reads : List Read) → first_conflict h n reads ≡ None
+        → IsExplained h n reads → IsExplained h (last_number h) reads }
 {}
 
 /// Of sources end to end the winner is the newest of the parts' winners; a part may be replaced by
