@@ -1,4 +1,5 @@
--- The levels of tables: which is due, what is merged, and where the tables that a merge makes are put.
+-- The levels of tables: which is due, what is merged, and where the tables that a merge makes are
+-- put.
 use Rattle.std.specs.Prelude.{ℕ, ◌+◌, ◌-◌, ◌*◌, ◌^◌, ◌==◌, Bool, true, false, ◌&&◌, not, nat_le, nat_lt, if◌then◌else◌, List, [], ◌∷◌, ◌++◌, length, map, Option, Some, None}
 use Rattle.std.specs.List.{filter, flat_map, sum_by, list_any}
 use Rattle.std.specs.Ordering.{is_lt}
@@ -16,7 +17,8 @@ level_at n (level ∷ deeper) = if n == 0 then level else level_at (n - 1) deepe
 -- a level changed, the others as they are
 abbrev pub at_level : ℕ → (List Table → List Table) → List (List Table) → List (List Table)
 at_level n change [] = []
-at_level n change (level ∷ deeper) = if n == 0 then change level ∷ deeper else level ∷ at_level (n - 1) change deeper
+at_level n change (level ∷ deeper) =
+    if n == 0 then change level ∷ deeper else level ∷ at_level (n - 1) change deeper
 
 abbrev pub in_front : Table → List (List Table) → List (List Table)
 in_front t levels = at_level 0 (λ level. t ∷ level) levels
@@ -80,7 +82,8 @@ abbrev pub one_of : Option Table → List Table
 one_of None = []
 one_of (Some t) = t ∷ []
 
--- what a level that is due gives: level 0 all its tables, a deeper one the table with the least number
+-- what a level that is due gives: level 0 all its tables, a deeper one the table with the least
+-- number
 abbrev pub given : ℕ → List Table → List Table
 given level ts = if level == 0 then ts else one_of (least_table ts)
 
@@ -120,4 +123,5 @@ without numbers ts = filter (λ t. not (is_one numbers t)) ts
 -- the levels with tables in the place of the inputs
 abbrev pub replaced : Target → List ℕ → List Table → List (List Table) → List (List Table)
 replaced (Level n) inputs new levels = at_level n (in_key_order new) (map (without inputs) levels)
-replaced InPlace inputs new levels = map (flat_map (λ t. if is_one inputs t then new else t ∷ [])) levels
+replaced InPlace inputs new levels =
+    map (flat_map (λ t. if is_one inputs t then new else t ∷ [])) levels

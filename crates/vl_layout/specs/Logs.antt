@@ -1,4 +1,5 @@
--- What the frames of a log come to: its records with their places, the entries of its memtable, its length.
+-- What the frames of a log come to: its records with their places, the entries of its memtable, its
+-- length.
 use Rattle.std.specs.Prelude.{ℕ, ◌+◌, List, [], ◌∷◌, ◌++◌, map}
 use Rattle.std.specs.List.{sum_by}
 use Rattle.vl_model.specs.Entries.{in_order}
@@ -14,7 +15,8 @@ use Rattle.vl_model.specs.declared.log_frame.Moved.{Moved}
 use Rattle.vl_model.specs.declared.pointer.Pointer.{Pointer}
 use Rattle.vl_layout.specs.declared.segment.Segment.{Segment}
 
--- a record of a log: the version that it has, what it does to its key, and where its first byte lies
+-- a record of a log: the version that it has, what it does to its key, and where its first byte
+-- lies
 pub record LogRecord : Type 0 where
   pub key : List ℕ
   pub version : ℕ
@@ -35,8 +37,8 @@ relocated_records place (moved ∷ others) =
     record { key = moved.key; version = moved.version; change = Set moved.value; place = place + 8 }
     ∷ relocated_records (place + moved_length moved) others
 
--- the records of the frame at a place, whose body begins 5 bytes behind it: a commit has its number and a count before them, a
--- relocation a count
+-- the records of the frame at a place, whose body begins 5 bytes behind it: a commit has its number
+-- and a count before them, a relocation a count
 abbrev pub frame_records : ℕ → LogFrame → List LogRecord
 frame_records place (Committed number writes) = committed_records (place + 17) number writes
 frame_records place (Relocated moved) = relocated_records (place + 9) moved
@@ -51,7 +53,8 @@ abbrev pub records : Segment → List LogRecord
 records s = records_from 16 s.frames
 
 abbrev pub pointer_to : ℕ → LogRecord → Pointer
-pointer_to segment r = record { segment = segment; place = r.place; length = record_length r.key r.change }
+pointer_to segment r =
+    record { segment = segment; place = r.place; length = record_length r.key r.change }
 
 abbrev pub logged_body : Change → Pointer → Body
 logged_body (Set value) pointer = Logged value pointer
@@ -59,7 +62,8 @@ logged_body Delete pointer = Gone
 
 -- the entry that a memtable has of a record
 abbrev pub record_entry : ℕ → LogRecord → Entry
-record_entry segment r = record { key = r.key; version = r.version; body = logged_body r.change (pointer_to segment r) }
+record_entry segment r =
+    record { key = r.key; version = r.version; body = logged_body r.change (pointer_to segment r) }
 
 -- the entries of the frame at a place
 abbrev pub frame_entries : ℕ → ℕ → LogFrame → List Entry
@@ -68,7 +72,8 @@ frame_entries segment place f = map (record_entry segment) (frame_records place 
 -- the entries of frames of which the first stands here, those of the last frame first
 abbrev pub logged_entries : ℕ → ℕ → List LogFrame → List Entry
 logged_entries segment place [] = []
-logged_entries segment place (f ∷ fs) = logged_entries segment (place + frame_length f) fs ++ frame_entries segment place f
+logged_entries segment place (f ∷ fs) =
+    logged_entries segment (place + frame_length f) fs ++ frame_entries segment place f
 
 -- the entries of a log in order; of a key and version that stand twice the last record counts
 abbrev pub memtable : Segment → List Entry

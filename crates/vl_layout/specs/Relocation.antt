@@ -14,23 +14,27 @@ pub record Candidate : Type 0 where
   pub moved : Moved
   pub place : ℕ
 
--- A pass: its segment, all entries of the sources that it began with, and the records of the segment that it hasn't come to.
+-- A pass: its segment, all entries of the sources that it began with, and the records of the
+-- segment that it hasn't come to.
 pub record Pass : Type 0 where
   pub segment : ℕ
   pub base : List Entry
   pub left : List LogRecord
 
 abbrev pub valued : LogRecord → Change → List Candidate
-valued r (Set value) = record { moved = record { key = r.key; version = r.version; value = value }; place = r.place } ∷ []
+valued r (Set value) =
+    record { moved = record { key = r.key; version = r.version; value = value }; place = r.place } ∷ []
 valued r Delete = []
 
 -- the record as one that may be moved, where it wins exactly from inside the segment
 abbrev pub found_in : List Entry → ℕ → LogRecord → List Candidate
-found_in base segment r = if wins_exactly base segment r.key r.version r.place then valued r r.change else []
+found_in base segment r =
+    if wins_exactly base segment r.key r.version r.place then valued r r.change else []
 
 -- so many records with so many bytes of values may take one of this length more
 abbrev pub has_room : ℕ → ℕ → ℕ → Bool
-has_room count bytes more = (count == 0) || (nat_lt count max_batch_records && nat_le (bytes + more) max_batch_bytes)
+has_room count bytes more =
+    (count == 0) || (nat_lt count max_batch_records && nat_le (bytes + more) max_batch_bytes)
 
 -- what stands before the first record that doesn't fit, and what is left from it on
 abbrev pub Taken : Type 0
@@ -60,7 +64,8 @@ taken_from base segment count bytes (r ∷ rs) =
     let more = value_lengths found in
     taken_if (has_room count bytes more) found (taken_from base segment count bytes rs) (taken_from base segment (count + 1) (bytes + more) rs) ([], r ∷ rs)
 
--- the next batch of a pass, which is the longest that the limits allow, and the pass behind it; none where none is left
+-- the next batch of a pass, which is the longest that the limits allow, and the pass behind it;
+-- none where none is left
 abbrev pub next_batch : Pass → Option (List Candidate) × Pass
 next_batch pass =
     let taken = taken_from pass.base pass.segment 0 0 pass.left in
@@ -68,8 +73,10 @@ next_batch pass =
 
 -- what still wins exactly from inside the segment, and is of a commit that was made
 abbrev pub is_moved : List Entry → ℕ → ℕ → Candidate → Bool
-is_moved sources segment last c = wins_exactly sources segment c.moved.key c.moved.version c.place && nat_le c.moved.version last
+is_moved sources segment last c =
+    wins_exactly sources segment c.moved.key c.moved.version c.place && nat_le c.moved.version last
 
 -- the records of a batch that are moved
 abbrev pub moved_of : List Entry → ℕ → ℕ → List Candidate → List Moved
-moved_of sources segment last batch = map (λ (c : Candidate). c.moved) (filter (is_moved sources segment last) batch)
+moved_of sources segment last batch =
+    map (λ (c : Candidate). c.moved) (filter (is_moved sources segment last) batch)

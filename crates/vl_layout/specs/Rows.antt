@@ -1,6 +1,6 @@
 -- Worked rows of maintenance, which hold by computing: each is what a script prints.
-use Rattle.std.proofs.Common.{◌≡◌, ℕ, ◌+◌, List, [], ◌∷◌, map, length, refl}
-use Rattle.std.specs.Prelude.{Option, Some, None, replicate, true, false}
+use Rattle.std.proofs.Common.{◌≡◌, ℕ, List, [], ◌∷◌, map, length, refl}
+use Rattle.std.specs.Prelude.{Option, Some, None, replicate}
 use Rattle.std.specs.FinMap.{empty}
 use Rattle.vl_model.specs.Keys.{Stored}
 use Rattle.vl_model.specs.History.{History}
@@ -9,16 +9,15 @@ use Rattle.vl_model.specs.Winners.{winner}
 use Rattle.vl_model.specs.declared.change.Change.{Change}
 use Rattle.vl_model.specs.declared.change.Change.TheVariants.{Set, Delete}
 use Rattle.vl_model.specs.declared.entry.Entry.{Entry}
-use Rattle.vl_model.specs.declared.entry.Body.TheVariants.{Inline, Gone, Far, Logged}
-use Rattle.vl_model.specs.declared.log_frame.LogFrame.{LogFrame}
-use Rattle.vl_model.specs.declared.log_frame.LogFrame.TheVariants.{Committed, Relocated}
+use Rattle.vl_model.specs.declared.entry.Body.TheVariants.{Inline, Far}
+use Rattle.vl_model.specs.declared.log_frame.LogFrame.TheVariants.{Committed}
 use Rattle.vl_layout.specs.Logs.{LogRecord, records}
 use Rattle.vl_layout.specs.Merging.{kept, outputs}
 use Rattle.vl_layout.specs.Relocation.{Pass, Candidate}
-use Rattle.vl_layout.specs.Sources.{sources, tables, needed}
+use Rattle.vl_layout.specs.Sources.{sources, tables}
 use Rattle.vl_layout.specs.Start.{fresh_layout}
-use Rattle.vl_layout.specs.Ruling.{Ruling, StepAnswer, Stepped, Idle, logged}
-use Rattle.vl_layout.specs.Rulings.Begin.{BeginAnswer, Begun, begin_ruling}
+use Rattle.vl_layout.specs.Ruling.{Ruling, Stepped, logged}
+use Rattle.vl_layout.specs.Rulings.Begin.{begin_ruling}
 use Rattle.vl_layout.specs.Rulings.Drain.{drain_ruling}
 use Rattle.vl_layout.specs.Rulings.Flush.{flush_ruling}
 use Rattle.vl_layout.specs.Rulings.Install.{InstallAnswer, Installed, Raced, install_ruling}
@@ -35,7 +34,6 @@ use Rattle.vl_layout.specs.declared.file_name.FileName.TheVariants.{Log, Table a
 use Rattle.vl_layout.specs.declared.job.Job.{Job}
 use Rattle.vl_layout.specs.declared.job.Target.TheVariants.{InPlace}
 use Rattle.vl_layout.specs.declared.layout.Layout.{Layout}
-use Rattle.vl_layout.specs.declared.segment.Segment.{Segment}
 use Rattle.vl_layout.specs.declared.segment.SegmentStat.{SegmentStat}
 use Rattle.vl_layout.specs.declared.table.Table.{Table}
 
@@ -91,7 +89,8 @@ two_values_shown = refl
 two_values_table : map (λ (t : Table). t.length) (tables (flushed (rotated two_values))) ≡ 241 ∷ []
 two_values_table = refl
 
-two_values_told : (stats_ruling (flushed (rotated two_values)) (at 1)).answer ≡ stat 1 170 73 ∷ stat 2 0 0 ∷ []
+two_values_told : (stats_ruling (flushed (rotated two_values)) (at 1)).answer ≡
+    stat 1 170 73 ∷ stat 2 0 0 ∷ []
 two_values_told = refl
 
 -- a frame of one short write
@@ -147,25 +146,30 @@ newer_wins : winner (sources (moving (picked both_versions 2).layout 2 older_pas
     Some (record { key = 0x61 ∷ []; version = 2; body = Far (record { segment = 2; place = 33; length = 73 }) })
 newer_wins = refl
 
-older_told : (stats_ruling (moving (picked both_versions 2).layout 2 older_pass (found older_pass)).layout (at 2)).answer ≡ stat 1 98 73 ∷ stat 2 98 73 ∷ stat 3 98 0 ∷ []
+older_told : (stats_ruling (moving (picked both_versions 2).layout 2 older_pass (found older_pass)).layout (at 2)).answer ≡
+    stat 1 98 73 ∷ stat 2 98 73 ∷ stat 3 98 0 ∷ []
 older_told = refl
 
 -- ---- shares of garbage
 
-invalid_requests : map (λ percent. (pick_ruling first_version (at 1) percent).answer) (0 ∷ 100 ∷ 50 ∷ []) ≡ InvalidRequest ∷ InvalidRequest ∷ NoRewrite ∷ []
+invalid_requests : map (λ percent. (pick_ruling first_version (at 1) percent).answer) (0 ∷ 100 ∷ 50 ∷ []) ≡
+    InvalidRequest ∷ InvalidRequest ∷ NoRewrite ∷ []
 invalid_requests = refl
 
 -- of 98 bytes 25 are garbage: more than 25 per cent, and less than 26
-garbage_share : map (λ percent. (pick_ruling first_version (at 1) percent).answer) (25 ∷ 26 ∷ []) ≡ (picked first_version 1).answer ∷ NoRewrite ∷ []
+garbage_share : map (λ percent. (pick_ruling first_version (at 1) percent).answer) (25 ∷ 26 ∷ []) ≡
+    (picked first_version 1).answer ∷ NoRewrite ∷ []
 garbage_share = refl
 
-one_pass : map (λ percent. (pick_ruling (picked first_version 1).layout (at 1) percent).answer) (1 ∷ 0 ∷ []) ≡ Rejected 1 ∷ InvalidRequest ∷ []
+one_pass : map (λ percent. (pick_ruling (picked first_version 1).layout (at 1) percent).answer) (1 ∷ 0 ∷ []) ≡
+    Rejected 1 ∷ InvalidRequest ∷ []
 one_pass = refl
 
 -- ---- a deletion that a merge drops, or must keep
 
 abbrev four_with : Layout → Layout
-four_with l = written 4 (0x63 ∷ []) (Set (1 ∷ [])) (written 3 (0x62 ∷ []) (Set (1 ∷ [])) (written 2 (0x61 ∷ []) Delete l))
+four_with l =
+    written 4 (0x63 ∷ []) (Set (1 ∷ [])) (written 3 (0x62 ∷ []) (Set (1 ∷ [])) (written 2 (0x61 ∷ []) Delete l))
 
 abbrev four : Layout
 four = four_with first_version
@@ -181,15 +185,18 @@ abbrev planned : Layout → Ruling (Option Job)
 planned l = plan_ruling l (at 4)
 
 abbrev installing : Layout → Option Job → Ruling InstallAnswer
-installing l None = install_ruling l (at 4) (record { inputs = []; target = InPlace; base = []; floor = 0 }) []
+installing l None =
+    install_ruling l (at 4) (record { inputs = []; target = InPlace; base = []; floor = 0 }) []
 installing l (Some job) = install_ruling l (at 4) job (outputs job)
 
 -- the deletion hides a value that nothing reads any more: both go
-both_dropped : map (λ (e : Entry). e.key) (kept_of (planned four).answer) ≡ (0x63 ∷ []) ∷ (0x62 ∷ []) ∷ []
+both_dropped : map (λ (e : Entry). e.key) (kept_of (planned four).answer) ≡
+    (0x63 ∷ []) ∷ (0x62 ∷ []) ∷ []
 both_dropped = refl
 
 -- a view reads the value: all four entries stay
-deletion_stays : map {B = List ℕ × ℕ} (λ (e : Entry). (e.key, e.version)) (kept_of (planned four_with_view).answer) ≡ (0x63 ∷ [], 4) ∷ (0x62 ∷ [], 3) ∷ (0x61 ∷ [], 2) ∷ (0x61 ∷ [], 1) ∷ []
+deletion_stays : map {B = List ℕ × ℕ} (λ (e : Entry). (e.key, e.version)) (kept_of (planned four_with_view).answer) ≡
+    (0x63 ∷ [], 4) ∷ (0x62 ∷ [], 3) ∷ (0x61 ∷ [], 2) ∷ (0x61 ∷ [], 1) ∷ []
 deletion_stays = refl
 
 -- and a version that was moved in front of the inputs keeps the deletion too
@@ -214,7 +221,8 @@ raced = refl
 abbrev after_race : Layout
 after_race = (installing four_moved.layout first_job).layout
 
-deletion_kept : map (λ (e : Entry). e.key) (kept_of (planned after_race).answer) ≡ (0x63 ∷ []) ∷ (0x62 ∷ []) ∷ (0x61 ∷ []) ∷ []
+deletion_kept : map (λ (e : Entry). e.key) (kept_of (planned after_race).answer) ≡
+    (0x63 ∷ []) ∷ (0x62 ∷ []) ∷ (0x61 ∷ []) ∷ []
 deletion_kept = refl
 
 abbrev after_install : Ruling InstallAnswer
@@ -244,7 +252,8 @@ abbrev shadowed_pass : Pass
 shadowed_pass = pass_of (picked first_version 1).answer
 
 abbrev shadowed : Layout
-shadowed = (end_pass_ruling (moving (picked first_version 1).layout 1 shadowed_pass (found shadowed_pass)).layout (at 1)).layout
+shadowed =
+    (end_pass_ruling (moving (picked first_version 1).layout 1 shadowed_pass (found shadowed_pass)).layout (at 1)).layout
 
 not_retired : (sweep_ruling shadowed (at 1)).answer ≡ Removed 0
 not_retired = refl
@@ -267,7 +276,8 @@ abbrev pinned : Layout
 pinned = (begin_ruling shadowed (at 1)).layout
 
 abbrev pinned_drained : Layout
-pinned_drained = (installing (drain_ruling pinned (at 1) 1).layout (drain_ruling pinned (at 1) 1).answer).layout
+pinned_drained =
+    (installing (drain_ruling pinned (at 1) 1).layout (drain_ruling pinned (at 1) 1).answer).layout
 
 pinned_stay : ((sweep_ruling pinned_drained (at 1)).answer ≡ Removed 0) × ((sweep_ruling (release_ruling pinned_drained (at 1) 0).layout (at 1)).answer ≡ Removed 2)
 pinned_stay = (refl, refl)

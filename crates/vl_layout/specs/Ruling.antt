@@ -1,12 +1,12 @@
 -- What a call of an engine answers and what it leaves, and the changes that several calls share.
-use Rattle.std.specs.Prelude.{ℕ, ◌+◌, ◌==◌, Bool, not, ◌&&◌, nat_lt, if◌then◌else◌, List, [], ◌∷◌, ◌++◌, map, reverse, Option, Some, None}
+use Rattle.std.specs.Prelude.{ℕ, ◌+◌, ◌==◌, Bool, not, ◌&&◌, nat_lt, List, [], ◌∷◌, ◌++◌, map, Some, None}
 use Rattle.std.specs.List.{filter}
 use Rattle.vl_model.specs.Limits.{max_file_number, max_version_number}
 use Rattle.vl_model.specs.History.{History}
 use Rattle.vl_model.specs.declared.counter.Counter.{Counter}
 use Rattle.vl_model.specs.declared.log_frame.LogFrame.{LogFrame}
 use Rattle.vl_model.specs.Frames.{frame_length}
-use Rattle.vl_layout.specs.Sources.{head, needed, tables, log_of, table_of}
+use Rattle.vl_layout.specs.Sources.{head, needed, tables, log_of, table_of, rising}
 use Rattle.vl_layout.specs.Garbage.{live_bytes}
 use Rattle.vl_layout.specs.declared.file_name.FileName.{FileName}
 use Rattle.vl_layout.specs.declared.file_name.Retired.{Retired}
@@ -48,7 +48,8 @@ ended ticket l = record l { live = filter (λ (x : Live). not (x.ticket == ticke
 
 -- with one more frame in the active log
 abbrev pub logged : LogFrame → Layout → Layout
-logged f l = record l { active = record { number = l.active.number; length = l.active.length + frame_length f; frames = l.active.frames ++ f ∷ [] } }
+logged f l =
+    record l { active = record { number = l.active.number; length = l.active.length + frame_length f; frames = l.active.frames ++ f ∷ [] } }
 
 -- a pin of the version of this moment
 abbrev pub pin_of : Layout → Pin
@@ -67,12 +68,14 @@ is_idle l s = nat_lt s.number (head l) && (live_bytes (tables l) s.number == 0)
 abbrev pub retired_at : ℕ → FileName → Retired
 retired_at number file = record { file = file; version_number = number }
 
--- Retires at the version number that a switch has made the tables that it dropped, and each segment that is below head and has
--- nothing live, the least first.
+-- Retires at the version number that a switch has made the tables that it dropped, and each segment
+-- that is below head and has nothing live, the least first.
 abbrev pub switched : List Table → Layout → Layout
 switched dropped l = record l {
   flushed = filter (λ (s : Segment). not (is_idle l s)) l.flushed;
-  retired = l.retired ++ map (retired_at l.version_number) (map table_of dropped ++ map log_of (reverse (filter (is_idle l) l.flushed)));
+  retired = l.retired
+     
+      ++ map (retired_at l.version_number) (map table_of dropped ++ map log_of (rising (filter (is_idle l) l.flushed)));
 }
 
 -- ---- numbers

@@ -1,5 +1,5 @@
--- What each call of an engine answers and leaves: a function of the layout, the history and what is handed in, in one module
--- for each call. A refusal stands in the order in which it is tested.
+-- What each call of an engine answers and leaves: a function of the layout, the history and what is
+-- handed in, in one module for each call. A refusal stands in the order in which it is tested.
 pub mod Abandon
 pub mod Begin
 pub mod Commit

@@ -20,15 +20,18 @@ abbrev pub times : List ℕ → ℕ → List Entry → ℕ
 times key version [] = 0
 times key version (e ∷ es) = (if is_at key version e then 1 else 0) + times key version es
 
--- The sources, end to end, show of each key what the history gives it, from a number on that may be the key's own.
+-- The sources, end to end, show of each key what the history gives it, from a number on that may be
+-- the key's own.
 pub record Shows (logs : Logs) (entries : List Entry) (h : History) (from : List ℕ → ℕ) (to : ℕ) : Type 0 where
   -- the winner leads to the value that stands there; no winner counts as none
-  pub values : (key : List ℕ) (number : ℕ) → from key ≤ number → number ≤ to → resolved_at logs (winner entries key number) ≡ Some (value_at h number key)
+  pub values : (key : List ℕ) (number : ℕ) → from key ≤ number → number ≤ to
+      → resolved_at logs (winner entries key number) ≡ Some (value_at h number key)
   -- each body resolves, and those of one key and version do to the same
   pub meaning : Meaning
   pub resolves : AllByRecursion (Means logs meaning) entries
   -- a deletion is alone at its key and version
-  pub gone_once : (key : List ℕ) (version : ℕ) → meaning key version ≡ None → times key version entries ≤ 1
+  pub gone_once : (key : List ℕ) (version : ℕ) → meaning key version ≡ None
+      → times key version entries ≤ 1
 
 -- no version is above a number
 abbrev pub AreUpTo : ℕ → List Entry → Type 0

@@ -1,39 +1,41 @@
 -- What keeps sources showing a history: entries in place of others, and entries put in order.
 use Rattle.std.proofs.Common.{◌≡◌, ℕ, ◌+◌, ◌≤◌, Bool, true, false, cond, ◌&&◌, List, [], ◌∷◌, ◌++◌, refl, ap, sym, ◌∙◌, subst, arith}
 use Rattle.std.proofs.lemmas.Bool.Decides.{nat_tests}
-use Rattle.std.proofs.lemmas.Bool.{and_parts}
 use Rattle.std.specs.Prelude.{Option, Some, None, nat_le, ◌==◌}
 use Rattle.std.specs.Ordering.{eq_by_cmp}
 use Rattle.std.specs.List.{AllZip, AllByRecursion}
-use Rattle.std.specs.declared.cmp.Ordering.{Ordering}
 use Rattle.std.specs.declared.cmp.Ordering.TheVariants.{Less, Equal, Greater}
 use Rattle.vl_model.specs.Keys.{Stored, key_cmp}
 use Rattle.vl_model.specs.History.{History}
-use Rattle.vl_model.specs.Entries.{is_at, entry_cmp, by_order, put, in_order}
+use Rattle.vl_model.specs.Entries.{is_at}
 use Rattle.vl_model.specs.Winners.{Logs, counts, only_if, newest_of, winner, resolved, resolved_at}
-use Rattle.vl_model.specs.WinnerLaws.{winner-append, winner-middle, winner-in_order, same_key, key_tied}
+use Rattle.vl_model.specs.WinnerLaws.{key_tied}
 use Rattle.vl_model.specs.declared.entry.Entry.{Entry}
 use Rattle.vl_layout.specs.Shows.{Shows, Meaning, Means, StandsFor, times}
 
 -- ---- lists end to end
 
-pub all_parts : (P : Entry → Type 0) (es fs : List Entry) → AllByRecursion P (es ++ fs) → AllByRecursion P es × AllByRecursion P fs
+pub all_parts : (P : Entry → Type 0) (es fs : List Entry) → AllByRecursion P (es ++ fs)
+    → AllByRecursion P es × AllByRecursion P fs
 all_parts P [] fs all = (tt, all)
 all_parts P (e ∷ es) fs all = let both = all_parts P es fs all.1 in ((all.0, both.0), both.1)
 
-pub all_both : (P : Entry → Type 0) (es fs : List Entry) → AllByRecursion P es → AllByRecursion P fs → AllByRecursion P (es ++ fs)
+pub all_both : (P : Entry → Type 0) (es fs : List Entry) → AllByRecursion P es → AllByRecursion P fs
+    → AllByRecursion P (es ++ fs)
 all_both P [] fs some others = others
 all_both P (e ∷ es) fs some others = (some.0, all_both P es fs some.1 others)
 
-pub times-append : (key : List ℕ) (version : ℕ) (es fs : List Entry) → times key version (es ++ fs) ≡ times key version es + times key version fs
+pub times-append : (key : List ℕ) (version : ℕ) (es fs : List Entry)
+    → times key version (es ++ fs) ≡ times key version es + times key version fs
 times-append key version [] fs = omega arith
 times-append key version (e ∷ es) fs = let later = times-append key version es fs in omega arith
 
 -- ---- another form of what is shown
 
--- Where the winners lead to the same, each body to what its version is, and no key and version stands more often, the same is
--- shown.
-pub shows_as : (logs logs' : Logs) (es fs : List Entry) (h : History) (from : List ℕ → ℕ) (to : ℕ) → Shows logs es h from to
+-- Where the winners lead to the same, each body to what its version is, and no key and version
+-- stands more often, the same is shown.
+pub shows_as : (logs logs' : Logs) (es fs : List Entry) (h : History) (from : List ℕ → ℕ) (to : ℕ)
+    → Shows logs es h from to
     → ((key : List ℕ) (number : ℕ) → from key ≤ number → number ≤ to → resolved_at logs' (winner fs key number) ≡ resolved_at logs (winner es key number))
     → ((meaning : Meaning) → AllByRecursion (Means logs meaning) es → AllByRecursion (Means logs' meaning) fs)
     → ((key : List ℕ) (version : ℕ) → times key version fs ≤ times key version es)
@@ -55,19 +57,23 @@ AreAlike logs logs' (Some e) None = ⊥
 AreAlike logs logs' (Some e) (Some f) = StandsFor logs logs' e f
 
 module _ (logs logs' : Logs) where
-  alike_only_if : (b c : Bool) (e f : Entry) → c ≡ b → StandsFor logs logs' e f → AreAlike logs logs' (only_if b e) (only_if c f)
+  alike_only_if : (b c : Bool) (e f : Entry) → c ≡ b → StandsFor logs logs' e f
+      → AreAlike logs logs' (only_if b e) (only_if c f)
   alike_only_if true true e f is s = s
   alike_only_if true false e f is s = absurd cc
   alike_only_if false true e f is s = absurd cc
   alike_only_if false false e f is s = tt
 
-  alike_either : (b c : Bool) (e f e' f' : Entry) → c ≡ b → StandsFor logs logs' e e' → StandsFor logs logs' f f' → AreAlike logs logs' (cond b (Some e) (Some f)) (cond c (Some e') (Some f'))
+  alike_either : (b c : Bool) (e f e' f' : Entry) → c ≡ b → StandsFor logs logs' e e'
+      → StandsFor logs logs' f f'
+      → AreAlike logs logs' (cond b (Some e) (Some f)) (cond c (Some e') (Some f'))
   alike_either true true e f e' f' is s t = s
   alike_either true false e f e' f' is s t = absurd cc
   alike_either false true e f e' f' is s t = absurd cc
   alike_either false false e f e' f' is s t = t
 
-  alike_newest : (a b a' b' : Option Entry) → AreAlike logs logs' a a' → AreAlike logs logs' b b' → AreAlike logs logs' (newest_of a b) (newest_of a' b')
+  alike_newest : (a b a' b' : Option Entry) → AreAlike logs logs' a a' → AreAlike logs logs' b b'
+      → AreAlike logs logs' (newest_of a b) (newest_of a' b')
   alike_newest None b None b' s t = t
   alike_newest None b (Some e') b' s t = absurd s
   alike_newest (Some e) b None b' s t = absurd s
@@ -77,7 +83,9 @@ module _ (logs logs' : Logs) where
   alike_newest (Some e) (Some f) (Some e') (Some f') s t =
       alike_either (nat_le f.version e.version) (nat_le f'.version e'.version) e f e' f' (ap (λ n. nat_le n e'.version) t.version ∙ ap (nat_le f.version) s.version) s t
 
-  alike_winner : (key : List ℕ) (number : ℕ) (es fs : List Entry) → AllZip (StandsFor logs logs') es fs → AreAlike logs logs' (winner es key number) (winner fs key number)
+  alike_winner : (key : List ℕ) (number : ℕ) (es fs : List Entry)
+      → AllZip (StandsFor logs logs') es fs
+      → AreAlike logs logs' (winner es key number) (winner fs key number)
   alike_winner key number [] [] s = tt
   alike_winner key number [] (f ∷ fs) s = absurd s
   alike_winner key number (e ∷ es) [] s = absurd s
@@ -87,20 +95,23 @@ module _ (logs logs' : Logs) where
       (ap (λ k. eq_by_cmp key_cmp key k && nat_le f.version number) s.0.key ∙ ap (λ v. eq_by_cmp key_cmp key e.key && nat_le v number) s.0.version) s.0)
       (alike_winner key number es fs s.1)
 
-  alike_leads : (a b : Option Entry) → AreAlike logs logs' a b → resolved_at logs' b ≡ resolved_at logs a
+  alike_leads : (a b : Option Entry) → AreAlike logs logs' a b
+      → resolved_at logs' b ≡ resolved_at logs a
   alike_leads None None s = refl
   alike_leads None (Some f) s = absurd s
   alike_leads (Some e) None s = absurd s
   alike_leads (Some e) (Some f) s = s.leads
 
-  alike_means : (es fs : List Entry) → AllZip (StandsFor logs logs') es fs → (meaning : Meaning) → AllByRecursion (Means logs meaning) es → AllByRecursion (Means logs' meaning) fs
+  alike_means : (es fs : List Entry) → AllZip (StandsFor logs logs') es fs → (meaning : Meaning)
+      → AllByRecursion (Means logs meaning) es → AllByRecursion (Means logs' meaning) fs
   alike_means [] [] s meaning all = tt
   alike_means [] (f ∷ fs) s meaning all = absurd s
   alike_means (e ∷ es) [] s meaning all = absurd s
   alike_means (e ∷ es) (f ∷ fs) s meaning all =
       (s.0.leads ∙ all.0 ∙ ap Some (ap (λ k. meaning k e.version) (sym s.0.key) ∙ ap (meaning f.key) (sym s.0.version)), alike_means es fs s.1 meaning all.1)
 
-  alike_times : (key : List ℕ) (version : ℕ) (es fs : List Entry) → AllZip (StandsFor logs logs') es fs → times key version fs ≡ times key version es
+  alike_times : (key : List ℕ) (version : ℕ) (es fs : List Entry)
+      → AllZip (StandsFor logs logs') es fs → times key version fs ≡ times key version es
   alike_times key version [] [] s = refl
   alike_times key version [] (f ∷ fs) s = absurd s
   alike_times key version (e ∷ es) [] s = absurd s
@@ -108,9 +119,10 @@ module _ (logs logs' : Logs) where
       ap (λ (n : ℕ). cond (is_at key version f) 1 0 + n) (alike_times key version es fs s.1)
       ∙ ap (λ (b : Bool). cond b 1 0 + times key version es) (ap (λ k. eq_by_cmp key_cmp key k && (f.version == version)) s.0.key ∙ ap (λ v. eq_by_cmp key_cmp key e.key && (v == version)) s.0.version)
 
-  -- Where each entry stands for the one in whose place it is, as after a flush, or where a log goes that no entry leads into,
-  -- the same is shown.
-  pub shows_replaced : (es fs : List Entry) (h : History) (from : List ℕ → ℕ) (to : ℕ) → AllZip (StandsFor logs logs') es fs → Shows logs es h from to → Shows logs' fs h from to
+  -- Where each entry stands for the one in whose place it is, as after a flush, or where a log goes
+  -- that no entry leads into, the same is shown.
+  pub shows_replaced : (es fs : List Entry) (h : History) (from : List ℕ → ℕ) (to : ℕ)
+      → AllZip (StandsFor logs logs') es fs → Shows logs es h from to → Shows logs' fs h from to
   shows_replaced es fs h from to s shows =
       shows_as logs logs' es fs h from to shows
       (λ key number low high. alike_leads (winner es key number) (winner fs key number) (alike_winner key number es fs s))
@@ -118,58 +130,11 @@ module _ (logs logs' : Logs) where
       (λ key version. let same = alike_times key version es fs s in omega arith)
 
   -- so it is too where the same entries lead to the same in other logs
-  pub itself : (es : List Entry) → AllByRecursion (λ (e : Entry). resolved logs' e.key e.body ≡ resolved logs e.key e.body) es → AllZip (StandsFor logs logs') es es
+  pub itself : (es : List Entry)
+      → AllByRecursion (λ (e : Entry). resolved logs' e.key e.body ≡ resolved logs e.key e.body) es
+      → AllZip (StandsFor logs logs') es es
   itself [] same = tt
   itself (e ∷ es) same = (record { key = refl; version = refl; leads = same.0 }, itself es same.1)
-
--- ---- in order
-
-all-put : (P : Entry → Type 0) (e : Entry) (es : List Entry) → P e → AllByRecursion P es → AllByRecursion P (put e es)
-all-put P e [] here all = (here, tt)
-all-put P e (f ∷ fs) here all = elim (entry_cmp e f) as (λ r. AllByRecursion P (by_order r (e ∷ f ∷ fs) (e ∷ fs) (f ∷ put e fs))) [
-  | Less ↦ (here, all)
-  | Equal ↦ (here, all.1)
-  | Greater ↦ (all.0, all-put P e fs here all.1)
-]
-
-times-put : (key : List ℕ) (version : ℕ) (e : Entry) (es : List Entry) → times key version (put e es) ≤ times key version (e ∷ es)
-times-put key version e [] = omega arith
-times-put key version e (f ∷ fs) =
-    let later = times-put key version e fs in
-    elim (entry_cmp e f) as (λ r. times key version (by_order r (e ∷ f ∷ fs) (e ∷ fs) (f ∷ put e fs)) ≤ times key version (e ∷ f ∷ fs)) [
-      | Less ↦ omega arith
-      | Equal ↦ omega arith
-      | Greater ↦ omega (arith, later)
-    ]
-
--- entries in front of others in order, taken in among these
-all-taken_in : (P : Entry → Type 0) (es fs : List Entry) → AllByRecursion P (es ++ in_order fs) → AllByRecursion P (in_order (es ++ fs))
-all-taken_in P [] fs all = all
-all-taken_in P (e ∷ es) fs all = all-put P e (in_order (es ++ fs)) all.0 (all-taken_in P es fs all.1)
-
-times-taken_in : (key : List ℕ) (version : ℕ) (es fs : List Entry) → times key version (in_order (es ++ fs)) ≤ times key version (es ++ in_order fs)
-times-taken_in key version [] fs = omega arith
-times-taken_in key version (e ∷ es) fs = let here = times-put key version e (in_order (es ++ fs)) in let later = times-taken_in key version es fs in omega arith
-
-winner-taken_in : (key : List ℕ) (number : ℕ) (es fs : List Entry) → winner (in_order (es ++ fs)) key number ≡ winner (es ++ in_order fs) key number
-winner-taken_in key number es fs =
-    winner-in_order key number (es ++ fs)
-    ∙ winner-append key number es fs
-    ∙ ap (newest_of (winner es key number)) (sym (winner-in_order key number fs))
-    ∙ sym (winner-append key number es (in_order fs))
-
--- Entries in front of a memtable, taken in by it, show the same.
-pub shows_taken_in : (logs : Logs) (new old back : List Entry) (h : History) (from : List ℕ → ℕ) (to : ℕ) → Shows logs ((new ++ in_order old) ++ back) h from to → Shows logs (in_order (new ++ old) ++ back) h from to
-shows_taken_in logs new old back h from to shows =
-    shows_as logs logs ((new ++ in_order old) ++ back) (in_order (new ++ old) ++ back) h from to shows
-    (λ key number low high. ap (resolved_at logs) (winner-middle key number [] (in_order (new ++ old)) (new ++ in_order old) back (winner-taken_in key number new old)))
-    (λ meaning all. let both = all_parts (Means logs meaning) (new ++ in_order old) back all in
-    all_both (Means logs meaning) (in_order (new ++ old)) back (all-taken_in (Means logs meaning) new old both.0) both.1)
-    (λ key version.
-    let a = times-append key version (in_order (new ++ old)) back in
-    let b = times-append key version (new ++ in_order old) back in
-    let less = times-taken_in key version new old in
-    omega arith)
 
 -- ---- two entries of one key and version
 
@@ -179,7 +144,8 @@ is_at-itself e =
     ap (λ r. elim r as (λ o. Bool) [ Less ↦ false | Equal ↦ true | Greater ↦ false ] && (e.version == e.version)) (key_tied e.key) ∙ same
 
 -- they lead to one value, and neither is a deletion
-pub alike_at_one_version : (logs : Logs) (xs ys zs : List Entry) (e f : Entry) (h : History) (from : List ℕ → ℕ) (to : ℕ) → Shows logs (xs ++ e ∷ ys ++ f ∷ zs) h from to → f.key ≡ e.key → f.version ≡ e.version
+pub alike_at_one_version : (logs : Logs) (xs ys zs : List Entry) (e f : Entry) (h : History) (from : List ℕ → ℕ) (to : ℕ)
+    → Shows logs (xs ++ e ∷ ys ++ f ∷ zs) h from to → f.key ≡ e.key → f.version ≡ e.version
     → (value : Stored) × (resolved logs e.key e.body ≡ Some (Some value)) × (resolved logs f.key f.body ≡ Some (Some value))
 alike_at_one_version logs xs ys zs e f h from to shows keys versions = by_meaning (shows.meaning e.key e.version) refl
   where
@@ -198,7 +164,8 @@ alike_at_one_version logs xs ys zs e f h from to shows keys versions = by_meanin
         let other : times e.key e.version (f ∷ zs) ≡ 1 + times e.key e.version zs = ap (λ (t : Bool). cond t 1 0 + times e.key e.version zs) there in
         omega arith
 
-    by_meaning : (m : Option Stored) → shows.meaning e.key e.version ≡ m → (value : Stored) × (resolved logs e.key e.body ≡ Some (Some value)) × (resolved logs f.key f.body ≡ Some (Some value))
+    by_meaning : (m : Option Stored) → shows.meaning e.key e.version ≡ m
+        → (value : Stored) × (resolved logs e.key e.body ≡ Some (Some value)) × (resolved logs f.key f.body ≡ Some (Some value))
     by_meaning None is = absurd (let few = shows.gone_once e.key e.version is in omega (arith, few, twice))
     by_meaning (Some value) is =
         (value, front.0 ∙ ap Some is, back.0 ∙ ap Some (ap (λ k. shows.meaning k f.version) keys ∙ ap (shows.meaning e.key) versions ∙ is))

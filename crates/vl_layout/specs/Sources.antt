@@ -1,6 +1,8 @@
 -- What a layout has: its sources, its head, its floor, and what its version needs.
-use Rattle.std.specs.Prelude.{ℕ, Bool, true, nat_le, min, ◌==◌, if◌then◌else◌, List, [], ◌∷◌, ◌++◌, map, Option, Some, None}
-use Rattle.std.specs.List.{flat_map, list_any}
+use Rattle.std.specs.Prelude.{ℕ, min, List, [], ◌∷◌, ◌++◌, map, Option, Some, None}
+use Rattle.std.specs.List.{flat_map}
+use Rattle.std.specs.Ordering.{nat_cmp}
+use Rattle.vl_model.specs.Entries.{by_order}
 use Rattle.vl_model.specs.History.{History, last_number}
 use Rattle.vl_model.specs.declared.entry.Entry.{Entry}
 use Rattle.vl_layout.specs.Logs.{memtable}
@@ -63,6 +65,18 @@ table_of t = TableFile t.number
 abbrev pub pointed_logs : Table → List FileName
 pointed_logs t = map (λ (p : Point). LogFile p.segment) t.points
 
--- the files that the version needs: its tables, the logs into which they lead, and the logs of its memtables
+-- the files that the version needs: its tables, the logs into which they lead, and the logs of its
+-- memtables
 abbrev pub needed : Layout → List FileName
-needed l = map table_of (tables l) ++ flat_map pointed_logs (tables l) ++ map log_of (l.active ∷ l.frozen)
+needed l =
+    map table_of (tables l) ++ flat_map pointed_logs (tables l) ++ map log_of (l.active ∷ l.frozen)
+
+-- a segment at its place among rising numbers
+abbrev pub put_segment : Segment → List Segment → List Segment
+put_segment s [] = s ∷ []
+put_segment s (t ∷ ts) =
+    by_order (nat_cmp s.number t.number) (s ∷ t ∷ ts) (s ∷ ts) (t ∷ put_segment s ts)
+
+abbrev pub rising : List Segment → List Segment
+rising [] = []
+rising (s ∷ ss) = put_segment s (rising ss)

@@ -8,7 +8,7 @@ use Rattle.vl_layout.specs.declared.table.Table.{Table}
 -- what an opening found or made
 pub record Found : Type 0 where
   pub active : Segment
-  -- the logs with frames from head on, and the other ones that stay, the newest first
+  -- the logs with frames from head on, the newest first, and the other ones that stay
   pub frozen : List Segment
   pub others : List Segment
   pub levels : List (List Table)

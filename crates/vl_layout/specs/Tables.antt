@@ -39,7 +39,8 @@ begun_length e = 4 + entry_length e
 abbrev pub blocks_from : List Entry → ℕ → List Entry → List (List Entry)
 blocks_from open_block bytes [] = open_block ∷ []
 blocks_from open_block bytes (e ∷ es) =
-    if nat_le (bytes + entry_length e) max_block_bytes then blocks_from (open_block ++ e ∷ []) (bytes + entry_length e) es
+    if nat_le (bytes + entry_length e) max_block_bytes
+    then blocks_from (open_block ++ e ∷ []) (bytes + entry_length e) es
     else open_block ∷ blocks_from (e ∷ []) (begun_length e) es
 
 -- entries in blocks: each goes into the open block where that has room
@@ -89,13 +90,16 @@ abbrev pub points_of : List Entry → List Point
 points_of [] = []
 points_of (e ∷ es) = with_point e.body (points_of es)
 
--- the index frame's place and length, the count of entries, the greatest version, the first and the last key, the points
+-- the index frame's place and length, the count of entries, the greatest version, the first and the
+-- last key, the points
 abbrev pub footer_frame_length : List Entry → ℕ
-footer_frame_length es = around (8 + 4 + 8 + 8 + 2 + length (first_key es) + 2 + length (last_key es) + 4 + 12 * length (points_of es))
+footer_frame_length es =
+    around (8 + 4 + 8 + 8 + 2 + length (first_key es) + 2 + length (last_key es) + 4 + 12 * length (points_of es))
 
 -- the length of the file with these blocks, and with these entries in them
 abbrev pub file_length : List Entry → List (List Entry) → ℕ
-file_length es bs = 16 + sum_by block_frame_length bs + index_frame_length bs + footer_frame_length es + 8
+file_length es bs =
+    16 + sum_by block_frame_length bs + index_frame_length bs + footer_frame_length es + 8
 
 abbrev pub table_length : List Entry → ℕ
 table_length es = file_length es (blocks es)
@@ -113,17 +117,19 @@ new_table number es = record {
 
 -- ---- what a merge makes
 
--- The open table has these entries, which end with this key; its closed blocks' frames have so many bytes, and the body of
--- its open block so many.
+-- The open table has these entries, which end with this key; its closed blocks' frames have so many
+-- bytes, and the body of its open block so many.
 abbrev pub tables_from : List Entry → List ℕ → ℕ → ℕ → List Entry → List (List Entry)
 tables_from table key closed open_bytes [] = table ∷ []
 tables_from table key closed open_bytes (e ∷ es) =
-    if not (eq_by_cmp key_cmp key e.key) && nat_le full_table_bytes (closed + around open_bytes) then table ∷ tables_from (e ∷ []) e.key 0 (begun_length e) es
-    else (if nat_le (open_bytes + entry_length e) max_block_bytes then tables_from (table ++ e ∷ []) e.key closed (open_bytes + entry_length e) es
+    if not (eq_by_cmp key_cmp key e.key) && nat_le full_table_bytes (closed + around open_bytes)
+    then table ∷ tables_from (e ∷ []) e.key 0 (begun_length e) es
+    else (if nat_le (open_bytes + entry_length e) max_block_bytes
+    then tables_from (table ++ e ∷ []) e.key closed (open_bytes + entry_length e) es
     else tables_from (table ++ e ∷ []) e.key (closed + around open_bytes) (begun_length e) es)
 
--- Entries cut into tables: one is closed before the first entry of a new key where its block frames, the open one counted,
--- have reached the measure of a full table.
+-- Entries cut into tables: one is closed before the first entry of a new key where its block
+-- frames, the open one counted, have reached the measure of a full table.
 abbrev pub cut_into_tables : List Entry → List (List Entry)
 cut_into_tables [] = []
 cut_into_tables (e ∷ es) = tables_from (e ∷ []) e.key 0 (begun_length e) es

@@ -11,8 +11,8 @@ pub enum Target {
     InPlace,
 }
 
-/// A merge: its input tables in source order, all entries of the sources that it began with, the newest source first, each
-/// with whether an input has it, and the floor of that moment.
+/// A merge: its input tables in source order, all entries of the sources that it began with, the
+/// newest source first, each with whether an input has it, and the floor of that moment.
 #[derive(Drop)]
 pub struct Job {
     pub inputs: LinkedList<u32>,
@@ -21,7 +21,8 @@ pub struct Job {
     pub floor: u64,
 }
 
-/// A job that is open, and each key that was relocated since it began, the latest first, with the version number that this made.
+/// A job that is open, and each key that was relocated since it began, the latest first, with the
+/// version number that this made.
 #[derive(Drop)]
 pub struct OpenJob {
     pub job: Job,

@@ -8,9 +8,11 @@ pub struct Layout {
     pub active: Segment,
     /// The sealed logs whose memtables aren't flushed, the newest first.
     pub frozen: LinkedList<Segment>,
-    /// The other logs that aren't retired, the newest first.
+    /// The other logs that aren't retired: those that were flushed, and those that an opening found
+    /// without frames.
     pub flushed: LinkedList<Segment>,
-    /// The tables, level by level: those of level 0 the newest first, those of a deeper level in key order.
+    /// The tables, level by level: those of level 0 the newest first, those of a deeper level in
+    /// key order.
     pub levels: LinkedList<LinkedList<Table>>,
     /// Commits up to this number are in tables.
     pub covered: u64,

@@ -8,8 +8,8 @@ pub struct Point {
     pub bytes: u64,
 }
 
-/// A table file: its number, its length in bytes, its entries in order, and what its footer says of them: the segments that
-/// they lead into, rising, and the least and the greatest key.
+/// A table file: its number, its length in bytes, its entries in order, and what its footer says of
+/// them: the segments that they lead into, rising, and the least and the greatest key.
 #[derive(Drop)]
 pub struct Table {
     pub number: u32,

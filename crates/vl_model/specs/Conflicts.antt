@@ -11,7 +11,8 @@ use Rattle.vl_model.specs.declared.change.Change.{Change}
 abbrev pub Named : Type 0
 Named = List ℕ × ℕ
 
--- keys that earlier commits name, in rising order, after the commit with this number and these writes
+-- keys that earlier commits name, in rising order, after the commit with this number and these
+-- writes
 abbrev pub named_too : ℕ → List (List ℕ × Change) → List Named → List Named
 named_too number [] named = named
 named_too number (write ∷ others) named = put key_cmp write.0 number (named_too number others named)
@@ -29,7 +30,8 @@ last_named h = named_from (h.first + 1) (map entries h.commits) []
 abbrev pub is_overwritten : ℕ → List Read → Named → Bool
 is_overwritten number reads named = nat_lt number named.1 && is_read reads named.0
 
--- the keys read or scanned over that a commit above the number names, each with the last that does, in rising order
+-- the keys read or scanned over that a commit above the number names, each with the last that does,
+-- in rising order
 abbrev pub overwritten : History → ℕ → List Read → List Named
 overwritten h number reads = filter (is_overwritten number reads) (last_named h)
 

@@ -27,7 +27,8 @@ by_order Less a b c = a
 by_order Equal a b c = b
 by_order Greater a b c = c
 
--- an entry at its place among entries in order, where it takes the place of one of its key and version
+-- an entry at its place among entries in order, where it takes the place of one of its key and
+-- version
 abbrev pub put : Entry → List Entry → List Entry
 put e [] = e ∷ []
 put e (f ∷ fs) = by_order (entry_cmp e f) (e ∷ f ∷ fs) (e ∷ fs) (f ∷ put e fs)

@@ -16,7 +16,8 @@ record_length key change = 7 + length key + length (value_bytes change)
 abbrev pub moved_length : Moved → ℕ
 moved_length moved = 8 + record_length moved.key (Set moved.value)
 
--- kind, length and check take 13 bytes; behind them a commit has its number and a count, a relocation a count
+-- kind, length and check take 13 bytes; behind them a commit has its number and a count, a
+-- relocation a count
 abbrev pub frame_length : LogFrame → ℕ
 frame_length (Committed number writes) = 25 + sum_by (λ write. record_length write.0 write.1) writes
 frame_length (Relocated records) = 17 + sum_by moved_length records

@@ -40,10 +40,12 @@ abbrev pub newer : {A : Type 0} → Option A → Option A → Option A
 newer old None = old
 newer old (Some x) = Some x
 
--- the number of the last of these commits that names the key, where the first of them has this number
+-- the number of the last of these commits that names the key, where the first of them has this
+-- number
 abbrev pub last_naming : ℕ → List Writes → List ℕ → Option ℕ
 last_naming number [] key = None
-last_naming number (writes ∷ later) key = newer (option_map (λ change. number) (get writes key)) (last_naming (number + 1) later key)
+last_naming number (writes ∷ later) key =
+    newer (option_map (λ change. number) (get writes key)) (last_naming (number + 1) later key)
 
 -- what the last of these commits that names the key does to it
 abbrev pub last_change : List Writes → List ℕ → Option Change
@@ -56,8 +58,9 @@ value_left old None = old
 value_left old (Some (Set value)) = Some value
 value_left old (Some Delete) = None
 
--- What a key has at a number from the first to the last: the value that the last commit up to it that names the key
--- sets, none where that commit deletes it, and the base's where there is no such commit
+-- What a key has at a number from the first to the last: the value that the last commit up to it
+-- that names the key sets, none where that commit deletes it, and the base's where there is no such
+-- commit
 abbrev pub value_at : History → ℕ → List ℕ → Option Stored
 value_at h n key = value_left (get h.base key) (last_change (commits_up_to h n) key)
 

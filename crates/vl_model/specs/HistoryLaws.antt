@@ -1,5 +1,5 @@
--- Laws of histories, for the proofs of every crate above: what stands at a key, as the contents have it, before any commit
--- and after one more.
+-- Laws of histories, for the proofs of every crate above: what stands at a key, as the contents
+-- have it, before any commit and after one more.
 use Rattle.std.proofs.Common.{◌≡◌, ◌+◌, ◌-◌, ◌≤◌, ℕ, List, [], ◌∷◌, ◌++◌, length, take, refl, ap, sym, ◌∙◌, cond, Bool, true, false, arith}
 use Rattle.std.proofs.Common.{length-append}
 use Rattle.std.proofs.lemmas.List.{take-append-le}
@@ -14,28 +14,34 @@ use Rattle.vl_model.specs.declared.change.Change.{Change}
 use Rattle.vl_model.specs.declared.change.Change.TheVariants.{Set, Delete}
 
 -- one change reaches its own key and no other
-get-changed : (pairs : Pairs) (key : List ℕ) (change : Change) (q : List ℕ) → get (changed pairs key change) q ≡ cond (eq_by_cmp key_cmp q key) (value_left (get pairs q) (Some change)) (get pairs q)
+get-changed : (pairs : Pairs) (key : List ℕ) (change : Change) (q : List ℕ)
+    → get (changed pairs key change) q ≡ cond (eq_by_cmp key_cmp q key) (value_left (get pairs q) (Some change)) (get pairs q)
 get-changed pairs key (Set value) q = get-insert nat_list_cmp_total pairs key value q
 get-changed pairs key Delete q = get-remove nat_list_cmp_total pairs key q
 
-value_left-cond : (b : Bool) (old mid : Option Stored) (change : Change) (later : Option Change) → mid ≡ value_left old later → cond b (value_left mid (Some change)) mid ≡ value_left old (cond b (Some change) later)
+value_left-cond : (b : Bool) (old mid : Option Stored) (change : Change) (later : Option Change)
+    → mid ≡ value_left old later
+    → cond b (value_left mid (Some change)) mid ≡ value_left old (cond b (Some change) later)
 value_left-cond true old mid (Set value) later e = refl
 value_left-cond true old mid Delete later e = refl
 value_left-cond false old mid change later e = e
 
-get-changed_by : (pairs : Pairs) (writes : List (List ℕ × Change)) (q : List ℕ) → get (changed_by pairs writes) q ≡ value_left (get pairs q) (find key_cmp q writes)
+get-changed_by : (pairs : Pairs) (writes : List (List ℕ × Change)) (q : List ℕ)
+    → get (changed_by pairs writes) q ≡ value_left (get pairs q) (find key_cmp q writes)
 get-changed_by pairs [] q = refl
 get-changed_by pairs (write ∷ others) q =
     get-changed (changed_by pairs others) write.0 write.1 q
     ∙ value_left-cond (eq_by_cmp key_cmp q write.0) (get pairs q) (get (changed_by pairs others) q) write.1 (find key_cmp q others) (get-changed_by pairs others q)
 
 -- what came first counts only where nothing came later
-value_left-newer : (old : Option Stored) (first later : Option Change) → value_left (value_left old first) later ≡ value_left old (newer first later)
+value_left-newer : (old : Option Stored) (first later : Option Change)
+    → value_left (value_left old first) later ≡ value_left old (newer first later)
 value_left-newer old first None = refl
 value_left-newer old first (Some (Set value)) = refl
 value_left-newer old first (Some Delete) = refl
 
-get-pairs_after : (pairs : Pairs) (commits : List Writes) (q : List ℕ) → get (pairs_after pairs commits) q ≡ value_left (get pairs q) (last_change commits q)
+get-pairs_after : (pairs : Pairs) (commits : List Writes) (q : List ℕ)
+    → get (pairs_after pairs commits) q ≡ value_left (get pairs q) (last_change commits q)
 get-pairs_after pairs [] q = refl
 get-pairs_after pairs (writes ∷ later) q =
     get-pairs_after (changed_by pairs (entries writes)) later q
@@ -46,7 +52,8 @@ pub get-contents_at : (h : History) (n : ℕ) (q : List ℕ) → get (contents_a
 get-contents_at h n q = get-pairs_after h.base (commits_up_to h n) q
 
 -- a commit behind the others is the last that may name the key
-last_change-append : (commits : List Writes) (writes : Writes) (q : List ℕ) → last_change (commits ++ (writes ∷ [])) q ≡ newer (last_change commits q) (get writes q)
+last_change-append : (commits : List Writes) (writes : Writes) (q : List ℕ)
+    → last_change (commits ++ (writes ∷ [])) q ≡ newer (last_change commits q) (get writes q)
 last_change-append [] writes q = newer-none (get writes q)
   where
     newer-none : (x : Option Change) → newer x None ≡ newer None x
@@ -59,28 +66,32 @@ last_change-append (first ∷ later) writes q =
     newer-newer a b None = refl
     newer-newer a b (Some c) = refl
 
-take_all : (commits : List Writes) (n : ℕ) → length commits ≤ n → take n commits ≡ commits
+pub take_all : (commits : List Writes) (n : ℕ) → length commits ≤ n → take n commits ≡ commits
 take_all commits n le = grind (arith, common_steps)
 
-pub value_at-with_commit : (h : History) (writes : Writes) (q : List ℕ) → value_at (with_commit h writes) (last_number h + 1) q ≡ value_left (value_at h (last_number h) q) (get writes q)
+pub value_at-with_commit : (h : History) (writes : Writes) (q : List ℕ)
+    → value_at (with_commit h writes) (last_number h + 1) q ≡ value_left (value_at h (last_number h) q) (get writes q)
 value_at-with_commit h writes q =
     ap (λ cs. value_left (get h.base q) (last_change cs q)) (take_all (h.commits ++ (writes ∷ [])) (h.first + length h.commits + 1 - h.first) (omega (arith, length-append h.commits (writes ∷ []))))
     ∙ ap (value_left (get h.base q)) (last_change-append h.commits writes q)
     ∙ sym (value_left-newer (get h.base q) (last_change h.commits q) (get writes q))
     ∙ ap (λ cs. value_left (value_left (get h.base q) (last_change cs q)) (get writes q)) (sym (take_all h.commits (h.first + length h.commits - h.first) (omega arith)))
 
-pub value_at-first : (h : History) (n : ℕ) (q : List ℕ) → n ≤ h.first → value_at h n q ≡ get h.base q
+pub value_at-first : (h : History) (n : ℕ) (q : List ℕ) → n ≤ h.first
+    → value_at h n q ≡ get h.base q
 value_at-first h n q le = let none : n - h.first ≡ 0 = omega arith in ap (λ m. value_left (get h.base q) (last_change (take m h.commits) q)) none
 
 -- what stood at a number stays, whatever is committed after it
-pub value_at-extends : (least most : History) → Extends least most → (n : ℕ) (q : List ℕ) → n ≤ last_number least → value_at most n q ≡ value_at least n q
+pub value_at-extends : (least most : History) → Extends least most → (n : ℕ) (q : List ℕ)
+    → n ≤ last_number least → value_at most n q ≡ value_at least n q
 value_at-extends least most e n q le =
     ap (λ (b : ℕ). value_left (get most.base q) (last_change (take (n - b) most.commits) q)) e.first
     ∙ ap (λ (base : Pairs). value_left (get base q) (last_change (take (n - least.first) most.commits) q)) e.base
     ∙ ap (λ (cs : List Writes). value_left (get least.base q) (last_change (take (n - least.first) cs) q)) e.commits
     ∙ ap (λ (cs : List Writes). value_left (get least.base q) (last_change cs q)) (take-append-le (n - least.first) least.commits e.later (omega arith))
 
-pub last_number-extends : (least most : History) → Extends least most → last_number least ≤ last_number most
+pub last_number-extends : (least most : History) → Extends least most
+    → last_number least ≤ last_number most
 last_number-extends least most e =
     let first = e.first in
     let count = ap length e.commits in
@@ -90,5 +101,6 @@ last_number-extends least most e =
 pub with_commit-extends : (h : History) (writes : Writes) → Extends h (with_commit h writes)
 with_commit-extends h writes = record { first = refl; base = refl; later = writes ∷ []; commits = refl }
 
-pub value_at-before : (h : History) (writes : Writes) (n : ℕ) (q : List ℕ) → n ≤ last_number h → value_at (with_commit h writes) n q ≡ value_at h n q
+pub value_at-before : (h : History) (writes : Writes) (n : ℕ) (q : List ℕ) → n ≤ last_number h
+    → value_at (with_commit h writes) n q ≡ value_at h n q
 value_at-before h writes n q le = value_at-extends h (with_commit h writes) (with_commit-extends h writes) n q le

@@ -1,4 +1,5 @@
--- The limits of a store, each as a number. The constants of the code are equal to them, which is a law of this crate.
+-- The limits of a store, each as a number. The constants of the code are equal to them, which is a
+-- law of this crate.
 use Rattle.std.specs.Prelude.{ℕ, ◌-◌, ◌^◌}
 
 -- a key has at least one byte, and at most so many
@@ -36,7 +37,8 @@ max_room = 1073741824
 abbrev pub max_level : ℕ
 max_level = 6
 
--- what one relocation may move: so many records, and so many bytes of their values, but always one record
+-- what one relocation may move: so many records, and so many bytes of their values, but always one
+-- record
 abbrev pub max_batch_records : ℕ
 max_batch_records = 64
 

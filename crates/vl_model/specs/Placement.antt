@@ -5,9 +5,11 @@ use Rattle.vl_model.specs.declared.entry.Entry.{Entry}
 use Rattle.vl_model.specs.declared.entry.Body.{Body}
 use Rattle.vl_model.specs.declared.entry.Body.TheVariants.{Inline, Gone, Far, Logged}
 
--- a short value beside its key, a longer one where its record lies; the bodies of tables are so already
+-- a short value beside its key, a longer one where its record lies; the bodies of tables are so
+-- already
 abbrev pub placement : Body → Body
-placement (Logged value pointer) = if nat_le (length value) max_inline_bytes then Inline value else Far pointer
+placement (Logged value pointer) =
+    if nat_le (length value) max_inline_bytes then Inline value else Far pointer
 placement (Inline value) = Inline value
 placement Gone = Gone
 placement (Far pointer) = Far pointer

@@ -1,4 +1,5 @@
--- What a transaction notes of its reads, which keys that covers, and what it means that a history explains them.
+-- What a transaction notes of its reads, which keys that covers, and what it means that a history
+-- explains them.
 use Rattle.std.specs.Prelude.{◌≡◌, ℕ, Bool, true, false, ◌&&◌, not, nat_le, if◌then◌else◌, List, [], ◌∷◌, length, take, reverse, Option, Some, None}
 use Rattle.std.specs.FinMap.{entries, put}
 use Rattle.std.specs.Ordering.{is_lt, eq_by_cmp}
@@ -11,8 +12,8 @@ use Rattle.vl_model.specs.declared.span.Span.{Span}
 use Rattle.vl_model.specs.declared.way.Way.{Way}
 use Rattle.vl_model.specs.declared.way.Way.TheVariants.{Up, Down}
 
--- a scan: its bounds, of which an empty upper one is no end; how many rows it may give and in which direction;
--- the transaction's own writes at that moment; and the rows that it gave
+-- a scan: its bounds, of which an empty upper one is no end; how many rows it may give and in which
+-- direction; the transaction's own writes at that moment; and the rows that it gave
 pub record Scan : Type 0 where
   pub low : List ℕ
   pub high : List ℕ
@@ -48,7 +49,8 @@ abbrev pub in_direction : Way → List Row → List Row
 in_direction Up rows = rows
 in_direction Down rows = reverse rows
 
--- of rising rows under own writes those in the interval, in the direction, as many as the limit allows
+-- of rising rows under own writes those in the interval, in the direction, as many as the limit
+-- allows
 abbrev pub scanned : Scan → List (List ℕ × Change) → List Row → List Row
 scanned scan own rows =
     take scan.limit (in_direction scan.way (filter (λ row. is_within scan.low scan.high row.0) (rows_written own rows)))
@@ -69,16 +71,18 @@ last_key [] = None
 last_key (row ∷ []) = Some row.0
 last_key (row ∷ next ∷ rows) = last_key (next ∷ rows)
 
--- from the bound at which the scan starts to its last key, that key included; where there is no last key, all
+-- from the bound at which the scan starts to its last key, that key included; where there is no
+-- last key, all
 abbrev pub covered_to : Scan → Way → Option (List ℕ) → Span
 covered_to scan way None = record { lo = bound scan.low; hi = bound scan.high; closed = false }
 covered_to scan Up (Some last) = record { lo = bound scan.low; hi = Some last; closed = true }
 covered_to scan Down (Some last) = record { lo = Some last; hi = bound scan.high; closed = false }
 
--- The interval that a scan covers: one that gave as many rows as its limit covers as far as it came, one that gave fewer the
--- whole of its interval.
+-- The interval that a scan covers: one that gave as many rows as its limit covers as far as it
+-- came, one that gave fewer the whole of its interval.
 abbrev pub covered : Scan → Span
-covered scan = covered_to scan scan.way (if nat_le scan.limit (length scan.rows) then last_key scan.rows else None)
+covered scan =
+    covered_to scan scan.way (if nat_le scan.limit (length scan.rows) then last_key scan.rows else None)
 
 abbrev pub is_from : Option (List ℕ) → List ℕ → Bool
 is_from None key = true

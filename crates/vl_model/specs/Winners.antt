@@ -1,5 +1,5 @@
--- Which entry counts, and the value that its body leads to. Sources are one list of entries, end to end, the newest source
--- first.
+-- Which entry counts, and the value that its body leads to. Sources are one list of entries, end to
+-- end, the newest source first.
 use Rattle.std.specs.Prelude.{ℕ, Bool, true, false, ◌&&◌, ◌==◌, nat_le, if◌then◌else◌, List, [], ◌∷◌, Option, Some, None}
 use Rattle.std.specs.Option.{option_map}
 use Rattle.std.specs.Ordering.{eq_by_cmp}
@@ -24,8 +24,8 @@ newest_of None other = other
 newest_of (Some e) None = Some e
 newest_of (Some e) (Some f) = if nat_le f.version e.version then Some e else Some f
 
--- of the entries of a key with a version of at most a number the one of the greatest version, and of these the one in the
--- first source
+-- of the entries of a key with a version of at most a number the one of the greatest version, and
+-- of these the one in the first source
 abbrev pub winner : List Entry → List ℕ → ℕ → Option Entry
 winner [] key number = None
 winner (e ∷ es) key number = newest_of (only_if (counts key number e) e) (winner es key number)
@@ -45,16 +45,18 @@ abbrev pub leads_to : ℕ → ℕ → Option Entry → Bool
 leads_to segment place None = false
 leads_to segment place (Some e) = is_far_to segment place e.body
 
--- A record of a segment, by its key, version and place, wins exactly: the first source that has an entry of its key and
--- version points to it.
+-- A record of a segment, by its key, version and place, wins exactly: the first source that has an
+-- entry of its key and version points to it.
 abbrev pub wins_exactly : List Entry → ℕ → List ℕ → ℕ → ℕ → Bool
 wins_exactly sources segment key version place = leads_to segment place (exact sources key version)
 
--- what stands at a pointer, where that is a record of this key with a value and has the pointer's length
+-- what stands at a pointer, where that is a record of this key with a value and has the pointer's
+-- length
 abbrev pub Logs : Type 0
 Logs = Pointer → List ℕ → Option Stored
 
--- Some (Some v) where a body leads to the value v, Some None where it is a deletion's, None where it doesn't resolve
+-- Some (Some v) where a body leads to the value v, Some None where it is a deletion's, None where
+-- it doesn't resolve
 abbrev pub resolved : Logs → List ℕ → Body → Option (Option Stored)
 resolved logs key (Inline value) = Some (Some value)
 resolved logs key Gone = Some None

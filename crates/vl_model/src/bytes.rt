@@ -4,13 +4,15 @@ use std::alloc::{AllocError, Global};
 use std::marker::Model;
 use std::sync::ArcSlice;
 
-/// A string of bytes that doesn't change, and that several may share. Clauses see the list of its bytes.
+/// A string of bytes that doesn't change, and that several may share. Clauses see the list of its
+/// bytes.
 #[derive(Drop)]
 pub struct Bytes {
     items: ArcSlice<u8>,
 }
 
-/// A key: 1 to [`MAX_KEY_BYTES`](crate::MAX_KEY_BYTES) bytes, in the order of their numbers from the left.
+/// A key: 1 to [`MAX_KEY_BYTES`](crate::MAX_KEY_BYTES) bytes, in the order of their numbers from
+/// the left.
 pub type Key = Bytes;
 
 /// A value: at most [`MAX_VALUE_BYTES`](crate::MAX_VALUE_BYTES) bytes.

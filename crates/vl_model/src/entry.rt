@@ -30,7 +30,8 @@ impl Body {
     }
 }
 
-/// What one version of a key is, as a memtable or a table has it. The version is the number of its commit.
+/// What one version of a key is, as a memtable or a table has it. The version is the number of its
+/// commit.
 #[derive(Drop)]
 pub struct Entry {
     pub key: Key,

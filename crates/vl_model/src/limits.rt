@@ -4,7 +4,8 @@ pub const MAX_KEY_BYTES: usize = 4096;
 /// The longest value, in bytes. A value may be empty.
 pub const MAX_VALUE_BYTES: usize = 1_048_576;
 
-/// The longest value that stands beside its key in a table, in bytes. A longer one stands in a log alone.
+/// The longest value that stands beside its key in a table, in bytes. A longer one stands in a log
+/// alone.
 pub const MAX_INLINE_BYTES: usize = 64;
 
 /// How many different keys one transaction may write.
@@ -28,7 +29,8 @@ pub const MAX_LEVEL: u8 = 6;
 /// How many records one relocation may move.
 pub const MAX_BATCH_RECORDS: usize = 64;
 
-/// How many bytes the values that one relocation moves may have together, where it moves more than one.
+/// How many bytes the values that one relocation moves may have together, where it moves more than
+/// one.
 pub const MAX_BATCH_BYTES: usize = 1_048_576;
 
 /// The greatest number that a commit may have. The first has 1.

@@ -15,17 +15,20 @@ pub data BeginAnswer : Type 0 where
 abbrev pub has_ticket : List Live → ℕ → Bool
 has_ticket live ticket = list_any (λ (x : Live). x.ticket == ticket) live
 
--- the first ticket from this one on that nothing live has; among one more than there are live there is one
+-- the first ticket from this one on that nothing live has; among one more than there are live there
+-- is one
 abbrev pub free_from : List Live → List Live → ℕ → ℕ
 free_from live [] ticket = ticket
-free_from live (x ∷ xs) ticket = if has_ticket live ticket then free_from live xs (ticket + 1) else ticket
+free_from live (x ∷ xs) ticket =
+    if has_ticket live ticket then free_from live xs (ticket + 1) else ticket
 
 -- the least ticket that nothing live has
 abbrev pub free_ticket : List Live → ℕ
 free_ticket live = free_from live live 0
 
 abbrev pub begun : Layout → ℕ → ℕ → Layout
-begun l ticket number = record l { live = record { ticket = ticket; number = number; pin = pin_of l } ∷ l.live }
+begun l ticket number =
+    record l { live = record { ticket = ticket; number = number; pin = pin_of l } ∷ l.live }
 
 abbrev pub begin_ruling : Layout → History → Ruling BeginAnswer
 begin_ruling l h =

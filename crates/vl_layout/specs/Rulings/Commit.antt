@@ -1,4 +1,5 @@
--- A transaction commits: its writes become the next commit where nothing that it read was overwritten.
+-- A transaction commits: its writes become the next commit where nothing that it read was
+-- overwritten.
 use Rattle.std.specs.Prelude.{ℕ, ◌+◌, ◌==◌, nat_le, if◌then◌else◌, List, [], Option, Some, None}
 use Rattle.std.specs.FinMap.{entries, len}
 use Rattle.vl_model.specs.Limits.{max_commit_number}
@@ -64,7 +65,8 @@ commit_running l h t conflict =
     else (if nat_le max_commit_number (last_number h) then leaving (Exhausted CommitNumber) h l
     else commit_checked l h t conflict)
 
-abbrev pub commit_unless : Option FileName → Layout → History → Transaction → Option Named → Ruling CommitAnswer
+abbrev pub commit_unless : Option FileName → Layout → History → Transaction → Option Named
+    → Ruling CommitAnswer
 commit_unless (Some name) l h t conflict = commit_ended (Halted name) l h t
 commit_unless None l h t conflict = commit_running l h t conflict
 

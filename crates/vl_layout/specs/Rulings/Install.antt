@@ -21,7 +21,8 @@ use Rattle.vl_layout.specs.declared.layout.Layout.{Layout}
 pub data InstallAnswer : Type 0 where
   Installed : InstallAnswer
   Halted : FileName → InstallAnswer
-  -- the least key of which a deletion was dropped and a record moved meanwhile, and the version number of its last move
+  -- the least key of which a deletion was dropped and a record moved meanwhile, and the version
+  -- number of its last move
   Raced : List ℕ → ℕ → InstallAnswer
   Exhausted : Counter → InstallAnswer
 
@@ -39,7 +40,8 @@ abbrev pub moved_among : List Named → List Entry → List Named
 moved_among moved [] = []
 moved_among moved (e ∷ es) = noted e.key (find key_cmp e.key moved) (moved_among moved es)
 
--- the least key of which the merge drops a deletion that the first two rules leave, and that was moved since it began
+-- the least key of which the merge drops a deletion that the first two rules leave, and that was
+-- moved since it began
 abbrev pub race : Job → List Named → Option Named
 race job moved = first_of (moved_among moved (needless job))
 
@@ -55,14 +57,16 @@ installed l job output = switched (filter (is_one job.inputs) (tables l)) (recor
 abbrev pub install_lost : Layout → Layout
 install_lost l = freed l
 
-abbrev pub install_checked : Layout → History → Job → List (List Entry) → Option Named → Ruling InstallAnswer
+abbrev pub install_checked : Layout → History → Job → List (List Entry) → Option Named
+    → Ruling InstallAnswer
 install_checked l h job output (Some named) = leaving (Raced named.0 named.1) h (freed l)
 install_checked l h job output None =
     if has_no_number l.next_table (length output) then leaving (Exhausted counter.Table) h (freed l)
     else (if has_no_version l then leaving (Exhausted counter.Version) h (freed l)
     else record { answer = Installed; history = h; layout = installed l job output; calls = 2 + 3 * length output; gone = [] })
 
-abbrev pub install_unless : Option FileName → Layout → History → Job → List (List Entry) → Ruling InstallAnswer
+abbrev pub install_unless : Option FileName → Layout → History → Job → List (List Entry)
+    → Ruling InstallAnswer
 install_unless (Some name) l h job output = leaving (Halted name) h (freed l)
 install_unless None l h job output = install_checked l h job output (race job (moved_since l.job))
 

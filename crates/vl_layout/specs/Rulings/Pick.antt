@@ -24,7 +24,8 @@ records_in number [] = []
 records_in number (s ∷ ss) = if s.number == number then records s else records_in number ss
 
 abbrev pub pass_over : Layout → ℕ → Pass
-pass_over l segment = record { segment = segment; base = sources l; left = records_in segment l.flushed }
+pass_over l segment =
+    record { segment = segment; base = sources l; left = records_in segment l.flushed }
 
 abbrev pub with_pass : ℕ → Layout → Layout
 with_pass segment l = record l { pass = Some (record { segment = segment; pin = pin_of l }) }

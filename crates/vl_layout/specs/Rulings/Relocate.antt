@@ -44,9 +44,11 @@ relocate_of l h (m ∷ ms) =
     then record { answer = Moves (length (m ∷ ms)); history = h; layout = relocated l (m ∷ ms); calls = 2; gone = [] }
     else leaving (Full l.active.length (frame_length (Relocated (m ∷ ms)))) h l)
 
-abbrev pub relocate_unless : Option FileName → Layout → History → Pass → List Candidate → Ruling MoveAnswer
+abbrev pub relocate_unless : Option FileName → Layout → History → Pass → List Candidate
+    → Ruling MoveAnswer
 relocate_unless (Some name) l h pass batch = leaving (Halted name) h l
-relocate_unless None l h pass batch = relocate_of l h (moved_of (sources l) pass.segment (last_number h) batch)
+relocate_unless None l h pass batch =
+    relocate_of l h (moved_of (sources l) pass.segment (last_number h) batch)
 
 -- of a batch that this pass gave
 abbrev pub relocate_ruling : Layout → History → Pass → List Candidate → Ruling MoveAnswer

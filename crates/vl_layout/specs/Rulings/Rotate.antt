@@ -1,5 +1,5 @@
 -- The active log is sealed and its memtable frozen, and a new log is begun.
-use Rattle.std.specs.Prelude.{ℕ, ◌+◌, if◌then◌else◌, List, [], ◌∷◌, Option, Some, None}
+use Rattle.std.specs.Prelude.{◌+◌, if◌then◌else◌, List, [], ◌∷◌, Option, Some, None}
 use Rattle.vl_model.specs.History.{History}
 use Rattle.vl_model.specs.declared.counter.Counter.TheVariants as counter
 use Rattle.vl_model.specs.declared.log_frame.LogFrame.{LogFrame}

@@ -1,23 +1,12 @@
 -- What there is of each segment, and how much of it is live.
-use Rattle.std.specs.Prelude.{ℕ, ◌-◌, ◌^◌, min, List, [], ◌∷◌, ◌++◌, map, reverse}
-use Rattle.std.specs.Ordering.{nat_cmp}
-use Rattle.vl_model.specs.Entries.{by_order}
+use Rattle.std.specs.Prelude.{◌-◌, ◌^◌, min, List, ◌∷◌, ◌++◌, map}
 use Rattle.vl_model.specs.History.{History}
 use Rattle.vl_layout.specs.Garbage.{stat_of}
-use Rattle.vl_layout.specs.Sources.{tables}
+use Rattle.vl_layout.specs.Sources.{tables, rising}
 use Rattle.vl_layout.specs.Ruling.{Ruling, leaving}
 use Rattle.vl_layout.specs.declared.layout.Layout.{Layout}
 use Rattle.vl_layout.specs.declared.segment.Segment.{Segment}
 use Rattle.vl_layout.specs.declared.segment.SegmentStat.{SegmentStat}
-
--- a segment at its place among rising numbers
-abbrev pub put_segment : Segment → List Segment → List Segment
-put_segment s [] = s ∷ []
-put_segment s (t ∷ ts) = by_order (nat_cmp s.number t.number) (s ∷ t ∷ ts) (s ∷ ts) (t ∷ put_segment s ts)
-
-abbrev pub rising : List Segment → List Segment
-rising [] = []
-rising (s ∷ ss) = put_segment s (rising ss)
 
 -- the segments that aren't retired, by rising numbers
 abbrev pub segments : Layout → List Segment

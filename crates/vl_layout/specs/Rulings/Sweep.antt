@@ -50,7 +50,8 @@ is_same (Manifest a) (Manifest b) = a == b
 
 -- without the retired files that have gone
 abbrev pub without_files : List FileName → Layout → Layout
-without_files gone l = record l { retired = filter (λ (r : Retired). not (list_any (is_same r.file) gone)) l.retired }
+without_files gone l =
+    record l { retired = filter (λ (r : Retired). not (list_any (is_same r.file) gone)) l.retired }
 
 -- what is left where a removal fails after these files have gone, but for the halt
 abbrev pub sweep_lost : Layout → List FileName → Layout

@@ -1,0 +1,8 @@
+use Rattle.vl_layout.specs.OrderShows.{shows_by_key, shows_in_order}
+use Rattle.vl_layout.proofs.laws.shown_key_by_key.Goals as goal
+
+pub returns-clause-own : goal.returns-clause-own
+returns-clause-own c logs es fs h from to same shows = shows_by_key logs es fs h from to same shows
+
+pub returns-clause-order : goal.returns-clause-order
+returns-clause-order c logs front es back h from to shows = shows_in_order logs front es back h from to shows

@@ -1,0 +1,112 @@
+// Laws of the definitions: each is the contract of a function that does nothing.
+ghost use Rattle.std.specs.Prelude.{◌≡◌, ◌≤◌, ◌<◌, ◌++◌, ◌∷◌, [], ℕ, List, Some, None, false};
+ghost use Rattle.std.specs.List.{AllZip, AllByRecursion};
+ghost use Rattle.vl_model.specs.Entries.{in_order};
+ghost use Rattle.vl_model.specs.History.{History, last_number};
+ghost use Rattle.vl_model.specs.Keys.{Stored};
+ghost use Rattle.vl_model.specs.Winners.{Logs, resolved};
+ghost use Rattle.vl_model.specs.declared.entry.Entry.{Entry};
+ghost use Rattle.vl_layout.specs.Garbage.{far_bytes, pointed_bytes, best_of, is_better as is_better_than};
+ghost use Rattle.vl_layout.specs.LayoutShows.{ArePlaced};
+ghost use Rattle.vl_layout.specs.Logs.{memtable};
+ghost use Rattle.vl_layout.specs.MergeShows.{Marked, AreJustified, all_of, kept_of, inputs_of, outside_of, marks, plain};
+ghost use Rattle.vl_layout.specs.Merging.{Sourced};
+ghost use Rattle.vl_layout.specs.OrderShows.{of_key};
+ghost use Rattle.vl_layout.specs.Relocation.{Pass, Candidate};
+ghost use Rattle.vl_layout.specs.RulingShows.{ShowsRuled, IsThere};
+ghost use Rattle.vl_layout.specs.Rulings.Commit.{Transaction, commit_ruling};
+ghost use Rattle.vl_layout.specs.Rulings.Flush.{flush_ruling};
+ghost use Rattle.vl_layout.specs.Rulings.Relocate.{relocate_ruling};
+ghost use Rattle.vl_layout.specs.Rulings.Rotate.{rotate_ruling};
+ghost use Rattle.vl_layout.specs.Shows.{Shows, StandsFor, AreUpTo};
+ghost use Rattle.vl_layout.specs.Sources.{sources, oldest};
+ghost use Rattle.vl_layout.specs.Tables.{points_of};
+ghost use Rattle.vl_layout.specs.declared.layout.Layout.{Layout};
+ghost use Rattle.vl_layout.specs.declared.segment.Segment.{Segment};
+ghost use Rattle.vl_layout.specs.declared.segment.SegmentStat.{SegmentStat};
+ghost use Rattle.vl_layout.specs.declared.table.Table.{Table};
+
+/// Where each entry stands for the one in whose place it is, the same is shown: as after a flush,
+/// or in other logs.
+pub fn shown_by_what_stands_for_it()
+    ensures { (logs others : Logs) (es fs : List Entry) (h : History) (from : List ℕ → ℕ) (to : ℕ)
+        → AllZip (StandsFor logs others) es fs
+        → Shows logs es h from to → Shows others fs h from to }
+{}
+
+/// What is shown hangs on each key's own entries, and not on their order but for those of one
+/// version.
+pub fn shown_key_by_key()
+    ensures own { (logs : Logs) (es fs : List Entry) (h : History) (from : List ℕ → ℕ) (to : ℕ)
+        → ((key : List ℕ) → of_key key fs ≡ of_key key es)
+        → Shows logs es h from to → Shows logs fs h from to }
+    ensures order { (logs : Logs) (front es back : List Entry) (h : History) (from : List ℕ → ℕ) (to : ℕ)
+        → Shows logs (front ++ es ++ back) h from to
+        → Shows logs (front ++ in_order es ++ back) h from to }
+{}
+
+/// Two entries of one key and version lead to one value, and neither is a deletion.
+pub fn one_version_leads_to_one_value()
+    ensures { (logs : Logs) (xs ys zs : List Entry) (e f : Entry) (h : History) (from : List ℕ → ℕ) (to : ℕ)
+        → Shows logs (xs ++ e ∷ ys ++ f ∷ zs) h from to
+        → f.key ≡ e.key → f.version ≡ e.version
+        → (value : Stored) × (resolved logs e.key e.body ≡ Some (Some value)) × (resolved logs f.key f.body ≡ Some (Some value)) }
+{}
+
+/// Whatever a commit answers, the layout that it leaves shows the history that it leaves.
+pub fn shown_after_a_commit()
+    ensures { (logs : Logs) (from : List ℕ → ℕ) (l : Layout) (h : History) (t : Transaction)
+        → AreUpTo (last_number h) (sources l)
+        → ((key : List ℕ) → from key ≤ last_number h)
+        → Shows logs (sources l) h from (last_number h)
+        → ShowsRuled logs from (commit_ruling l h t) }
+{}
+
+/// So it is after a rotation.
+pub fn shown_after_a_rotation()
+    ensures { (logs : Logs) (from : List ℕ → ℕ) (l : Layout) (h : History)
+        → Shows logs (sources l) h from (last_number h) → ShowsRuled logs from (rotate_ruling l h) }
+{}
+
+/// So it is after a flush, where the values that it places far are found in the logs.
+pub fn shown_after_a_flush()
+    ensures { (logs : Logs) (from : List ℕ → ℕ) (l : Layout) (h : History) (level : List Table) (deeper : List (List Table))
+        → l.levels ≡ level ∷ deeper
+        → ((s : Segment) → oldest l.frozen ≡ Some s → ArePlaced logs (memtable s))
+        → Shows logs (sources l) h from (last_number h) → ShowsRuled logs from (flush_ruling l h) }
+{}
+
+/// So it is after a relocation of a batch whose records stand in the logs.
+pub fn shown_after_a_relocation()
+    ensures { (logs : Logs) (from : List ℕ → ℕ) (l : Layout) (h : History) (pass : Pass) (batch : List Candidate)
+        → AllByRecursion (IsThere logs pass.segment) batch
+        → Shows logs (sources l) h from (last_number h)
+        → ShowsRuled logs from (relocate_ruling l h pass batch) }
+{}
+
+/// What a merge leaves of the sources shows the same from its floor on: at once, and also later,
+/// where a rule drops now whatever it drops, and nothing that it keeps of its inputs is outdated.
+pub fn shown_after_a_merge()
+    ensures at_once { (logs : Logs) (ss : List Sourced) (floor : ℕ) (h : History) (from : List ℕ → ℕ) (to : ℕ)
+        → ((key : List ℕ) → floor ≤ from key)
+        → Shows logs (plain ss) h from to → Shows logs (kept_of (marks ss floor)) h from to }
+    ensures later { (logs : Logs) (ms : List Marked) (floor : ℕ) (h : History) (from : List ℕ → ℕ) (to : ℕ)
+        → ((key : List ℕ) → floor ≤ from key)
+        → AreJustified (inputs_of ms) (outside_of ms) floor [] ms → Shows logs (all_of ms) h from to
+        → Shows logs (kept_of ms) h from to }
+{}
+
+/// What a table's footer says of a segment is the sum of the lengths of all records there that its
+/// entries lead to.
+pub fn points_are_sums()
+    ensures { (segment : ℕ) (es : List Entry)
+        → pointed_bytes segment (points_of es) ≡ far_bytes segment es }
+{}
+
+/// Of segments in which there is something none has a greater share of garbage than the best, or
+/// the same and a lesser number.
+pub fn best_has_the_greatest_share()
+    ensures { (xs : List SegmentStat) (x : SegmentStat)
+        → AllByRecursion (λ (y : SegmentStat). 0 < y.bytes) xs → best_of xs ≡ Some x
+        → AllByRecursion (λ (y : SegmentStat). is_better_than y x ≡ false) xs }
+{}
