@@ -1,15 +1,13 @@
 -- What a lock leaves when it ends, and what a turn begins with.
-use Rattle.std.proofs.Common.{◌≡◌, ℕ, true, Option, Some, None, IfSome, List, [], ◌∷◌, sym, refl, ap, ◌∙◌, subst}
+use Rattle.std.proofs.Common.{◌≡◌, ℕ, true, Option, Some, None, IfSome, List, [], ◌∷◌, sym, ap, ◌∙◌, subst}
 use mathlib.Core.Option.{some, some-injective}
 use lib.ListN.{get_elem?}
 use Rattle.atomic_table.specs.Table.{rest}
 use Rattle.vl_turn.specs.declared.view.Own.{Own}
 use Rattle.vl_turn.specs.declared.view.View.{View}
 use Rattle.vl_turn.specs.Entries.{AreNumbered}
-use Rattle.vl_turn.specs.Views.{holding}
 use Rattle.vl_turn.specs.Rule.{OwnsFit, Table, out_slot}
-use Rattle.vl_turn.specs.Steps.{TokenState, IsTaken}
-use Rattle.vl_turn.specs.Tokens.{Begins, Owned, IsWhole}
+use Rattle.vl_turn.specs.Tokens.{Owned, IsWhole}
 use Rattle.vl_turn.proofs.Keeping.{Rule, has_it}
 
 -- the slot that a token took last stands in front

@@ -1,12 +1,12 @@
 -- What the rule says of a token that has the turn, and how a changed view keeps the rule.
-use Rattle.std.proofs.Common.{◌≡◌, ◌≢◌, ◌⊎◌, ℕ, ◌%◌, ◌^◌, Bool, true, false, List, [], ◌∷◌, ◌++◌, length, set, Option, Some, None, IfSome, sym, refl, ap, ◌∙◌, subst, ⊎_elim, inl, inr}
+use Rattle.std.proofs.Common.{◌≡◌, ℕ, ◌%◌, ◌^◌, true, false, List, [], ◌∷◌, ◌++◌, length, set, Option, sym, refl, ap, ◌∙◌, ⊎_elim, inl, inr}
 use Rattle.std.proofs.lemmas.Bool.{false≢true}
 use mathlib.Core.Logic.{dite}
 use mathlib.Core.Option.{some, some-injective}
 use mathlib.Core.Option as maybe
 use native.Mathlib.Decide.{ℕ_discrete}
 use lib.ListN.{get_elem?}
-use Rattle.atomic_table.proofs.Lists.{at_set, at_longer, set_else}
+use Rattle.atomic_table.proofs.Lists.{at_longer, set_else}
 use Rattle.vl_turn.specs.declared.view.View.{View}
 use Rattle.vl_turn.specs.Rule.{Fits, Table, IsFree, IsHeld, out_slot, IsState, Kept}
 use Rattle.vl_turn.proofs.Places.{at_changed, each_after_change, each_with_new}

@@ -1,18 +1,17 @@
 -- The steps among tokens keep the rule: load, number, split, join.
-use Rattle.std.proofs.Common.{◌≡◌, ◌≢◌, ℕ, ◌+◌, ◌%◌, ◌^◌, ◌<◌, ◌==◌, eq-eqb, Bool, true, false, if◌then◌else◌, List, [], ◌∷◌, ◌++◌, length, get_or, set, Option, Some, None, IfSome, sym, refl, ap, ◌∙◌, subst, arith}
+use Rattle.std.proofs.Common.{◌≡◌, ◌≢◌, ℕ, ◌+◌, ◌%◌, ◌^◌, ◌<◌, eq-eqb, false, if◌then◌else◌, List, [], ◌∷◌, ◌++◌, length, get_or, set, Option, Some, None, IfSome, sym, refl, ap, ◌∙◌, subst, arith}
 use Rattle.std.proofs.lemmas.Bool.{false≢true}
 use Rattle.std.proofs.Math.Nat.{mod-add-mod}
 use mathlib.Core.Option.{some}
 use lib.ListN.{get_elem?}
 use Rattle.atomic_table.specs.Table.{keeps, Allows, Splits, Joins}
-use Rattle.atomic_table.proofs.Lists.{set_again, set_else}
-use Rattle.vl_turn.specs.declared.view.Own.{Own}
+use Rattle.atomic_table.proofs.Lists.{set_else}
 use Rattle.vl_turn.specs.declared.view.View.{View}
 use Rattle.vl_turn.specs.Entries.{entries_by, AreNumbered, AreApart}
 use Rattle.vl_turn.specs.Views.{next_of, spent, looked, copied, joined, numbered, disowned, dealt}
-use Rattle.vl_turn.specs.Rule.{OwnsFit, Fits, Table, Kept}
+use Rattle.vl_turn.specs.Rule.{OwnsFit, Fits, Table}
 use Rattle.vl_turn.specs.Steps.{TokenState, Loads, Numbers}
-use Rattle.vl_turn.proofs.Prefixes.{begins_itself, longer_begins}
+use Rattle.vl_turn.proofs.Prefixes.{longer_begins}
 use Rattle.vl_turn.proofs.Sessions.{of_next, numbered_more, next_differs, token_more, fit_more, token_moved, fit_stays, fit_moves, fit_both, apart_both}
 use Rattle.vl_turn.proofs.Places.{each_after_change, each_with_new}
 use Rattle.vl_turn.proofs.Keeping.{Rule, changed, state_still, state_with_new, kept_still}

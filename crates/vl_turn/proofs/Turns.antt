@@ -1,21 +1,20 @@
 -- The steps of a turn keep the rule: take, enter, give; and those of an empty lock.
-use Rattle.std.proofs.Common.{◌≡◌, ◌≢◌, ◌⊎◌, ℕ, zero, suc, ◌+◌, ◌%◌, ◌^◌, ◌<◌, Bool, true, false, List, [], ◌∷◌, ◌++◌, length, get_or, set, Option, Some, None, IfSome, sym, refl, ap, ◌∙◌, subst, ⊎_elim, inl, inr, arith, length-append}
+use Rattle.std.proofs.Common.{◌≡◌, ℕ, zero, suc, ◌+◌, ◌%◌, ◌^◌, ◌<◌, Bool, true, false, List, [], ◌∷◌, ◌++◌, length, get_or, set, Option, Some, None, IfSome, sym, refl, ap, ◌∙◌, subst, ⊎_elim, inl, inr, arith, length-append}
 use Rattle.std.proofs.lemmas.Bool.{false≢true}
 use Rattle.std.proofs.Math.Nat.{mod-add-mod}
 use mathlib.Core.List.{IsPrefix}
 use mathlib.Core.Option.{none, some, some-injective, some-ne-none}
 use lib.ListN.{get_elem?}
 use Rattle.atomic_table.specs.Table.{Act, Valid, stepped, carried_after, takes, gives, keeps, rest, put_back, opening, Allows}
-use Rattle.vl_turn.specs.declared.view.Own.{Own}
 use Rattle.vl_turn.specs.declared.view.View.{View}
 use Rattle.vl_turn.specs.Entries.{AreApart, own_grown}
 use Rattle.vl_turn.specs.Views.{root, holding, entered, gave, opened, closing}
-use Rattle.vl_turn.specs.Rule.{OwnsFit, Fits, Table, IsFree, IsHeld, out_slot, Kept}
+use Rattle.vl_turn.specs.Rule.{OwnsFit, Fits, Table, IsFree, IsHeld, out_slot}
 use Rattle.vl_turn.specs.Steps.{TokenState, MayEnter, Takes, Enters, Gives, Opens, Closes}
 use Rattle.vl_turn.proofs.Prefixes.{begins_itself, begins_more, begins_grown}
 use Rattle.vl_turn.proofs.Sessions.{of_this, numbered_grown, fit_grown}
 use Rattle.vl_turn.proofs.Places.{at_changed, each_after_change, place_of_one}
-use Rattle.vl_turn.proofs.Keeping.{Rule, changed, has_it, held_still, state_still, kept_still}
+use Rattle.vl_turn.proofs.Keeping.{Rule, has_it, held_still, state_still, kept_still}
 
 of_start : {T : Type 0} (P : T → Type 0) (start : T) (known : Option T) → IfSome known (λ x. x ≡ start) → P start → IfSome known P
 of_start P start None same p = tt

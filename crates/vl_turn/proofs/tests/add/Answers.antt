@@ -1,10 +1,7 @@
-use Rattle.std.proofs.Common.{◌≡◌, ℕ, ◌+◌, ◌%◌, ◌^◌, List, [], ◌∷◌, ◌++◌, Some, length, rules, sym, refl, ap, ◌∙◌, arith, length-append}
+use Rattle.std.proofs.Common.{◌≡◌, ℕ, ◌+◌, ◌%◌, ◌^◌, List, [], ◌∷◌, ◌++◌, length, rules, refl, ap, ◌∙◌, arith, length-append}
 use Rattle.std.proofs.Math.Nat.{mod-add-mod}
 use Rattle.vl_turn.specs.declared.view.Own.{Own}
-use Rattle.vl_turn.specs.declared.view.View.{View}
 use Rattle.vl_turn.specs.declared.tests.Addition.{Addition}
-use Rattle.vl_turn.specs.declared.tests.Counter.{Counter}
-use Rattle.vl_turn.specs.Steps.{MayEnter}
 use Rattle.vl_turn.proofs.tests.add.Invariants.{addition_of}
 use Rattle.vl_turn.proofs.tests.add.Goals as goal
 

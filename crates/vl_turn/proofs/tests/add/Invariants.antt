@@ -1,4 +1,4 @@
-use Rattle.std.proofs.Common.{ℕ, List, [], ◌∷◌, Some}
+use Rattle.std.proofs.Common.{List, [], ◌∷◌, Some}
 use Rattle.vl_turn.specs.declared.view.Own.{Own}
 use Rattle.vl_turn.specs.declared.tests.Addition.{Addition}
 use Rattle.vl_turn.proofs.tests.add.Given as goal

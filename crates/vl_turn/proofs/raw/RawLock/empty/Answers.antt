@@ -1,4 +1,4 @@
-use Rattle.std.proofs.Common.{rules, refl}
+use Rattle.std.proofs.Common.{refl}
 use Rattle.vl_turn.proofs.Turns.{empty_kept}
 use Rattle.vl_turn.proofs.raw.RawLock.empty.Goals as goal
 

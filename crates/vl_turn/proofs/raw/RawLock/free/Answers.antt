@@ -1,4 +1,4 @@
-use Rattle.std.proofs.Common.{◌≡◌, rules, None, ◌∙◌, sym}
+use Rattle.std.proofs.Common.{◌≡◌, None, ◌∙◌, sym}
 use Rattle.vl_turn.proofs.Ends.{emptied}
 use Rattle.vl_turn.proofs.raw.RawLock.free.Goals as goal
 
