@@ -1,5 +1,5 @@
 -- Bytes that begin with a kind, a body and a check are read from the left.
-use Rattle.std.proofs.Common.{◌≡◌, ℕ, ◌+◌, ◌<◌, ◌^◌, ◌≤◌, List, ◌∷◌, ◌++◌, length, drop, sym, ap, ◌∙◌, append_assoc, arith}
+use Rattle.std.proofs.Common.{◌≡◌, ℕ, ◌<◌, ◌^◌, ◌≤◌, List, ◌∷◌, ◌++◌, length, drop, sym, ap, ◌∙◌, append_assoc, arith}
 use Rattle.std.proofs.lemmas.List.{drop_at, length-append}
 use Rattle.byteorder.specs.Endian.{big_bytes}
 use Rattle.vl_frame.specs.declared.kinds.FileKind.{FileKind}

@@ -39,9 +39,10 @@ place_bytes file number at = file_code file ∷ big_bytes 4 number ++ big_bytes 
 abbrev pub head_bytes : FrameKind → ℕ → List ℕ
 head_bytes kind n = frame_code kind ∷ big_bytes 4 n
 
--- the check of a frame that stands at a place of a file: the first 8 bytes of a digest of all that it is and where it is
+-- the check of a frame that stands at a place of a file: the first 8 bytes of a digest of where it is and all that it is
 unfoldable pub check_of : ℕ → ℕ → FrameKind → List ℕ → List ℕ
-check_of number at kind body = take 8 (sha256 (place_bytes (file_of kind) number at ++ head_bytes kind (length body) ++ body))
+check_of number at kind body =
+    take 8 (sha256 (place_bytes (file_of kind) number at ++ head_bytes kind (length body) ++ body))
 
 -- a kind, a body and a check, one behind the other
 abbrev pub spelling : FrameKind → List ℕ → List ℕ → List ℕ
@@ -55,8 +56,10 @@ frame_bytes number at kind body = spelling kind body (check_of number at kind bo
 abbrev pub frame_length : ℕ → ℕ
 frame_length n = n + 13
 
--- A frame of this kind and body stands at the front of the bytes, which are those of a file from a place on. The file has this kind and number.
-pub record IsSpelled (file : FileKind) (number at : ℕ) (bytes : List ℕ) (kind : FrameKind) (body : List ℕ) : Type 0 where
+-- A frame of this kind and body stands at the front of the bytes, which are those of a file from a place on.
+-- The file has this kind and number.
+pub record IsSpelled (file : FileKind) (number at : ℕ) (bytes : List ℕ) (kind : FrameKind) (body : List ℕ)
+    : Type 0 where
   pub in_file : file_of kind ≡ file
   pub short : length body < 2 ^ 32
   pub rest : List ℕ

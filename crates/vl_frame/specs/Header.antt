@@ -10,7 +10,8 @@ letters Log = codes "VLOG"
 letters Table = codes "VTAB"
 letters Manifest = codes "VMAN"
 
--- the header of the file of this kind with this number, in this format: the letters, and the format, the number and zero in four bytes each
+-- The header of the file of this kind with this number, in this format: the letters, and the format, the
+-- number and zero in four bytes each.
 abbrev pub header_bytes : FileKind → ℕ → ℕ → List ℕ
 header_bytes kind format number = letters kind ++ big_bytes 4 format ++ big_bytes 4 number ++ big_bytes 4 0
 
@@ -21,7 +22,8 @@ pub record IsHeader (kind : FileKind) (format number : ℕ) (bytes : List ℕ) :
   pub rest : List ℕ
   pub spelled : bytes ≡ header_bytes kind format number ++ rest
 
--- The bytes have a header's length and begin with the letters of a kind of file and with a format, as files of every format do.
+-- The bytes have a header's length and begin with the letters of a kind of file and with a format, as files of
+-- every format do.
 pub record HasFormat (kind : FileKind) (bytes : List ℕ) (format : ℕ) : Type 0 where
   pub fits : format < 2 ^ 32
   pub rest : List ℕ

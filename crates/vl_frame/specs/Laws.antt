@@ -1,6 +1,6 @@
 -- What the definition of a frame says: how long a frame is, and that of one place and file one frame at most stands at the front of some bytes.
-use Rattle.std.proofs.Common.{◌≡◌, ℕ, ◌+◌, ◌<◌, ◌^◌, cond, nat_eq, List, ◌++◌, length, take, drop, get_or, refl, sym, ap, subst, ◌∙◌, append_assoc, arith}
-use Rattle.std.proofs.lemmas.List.{append_cancel_left, take_at, drop_at, length-append, length-take-le}
+use Rattle.std.proofs.Common.{◌≡◌, ℕ, cond, nat_eq, List, ◌++◌, length, drop, get_or, refl, sym, ap, ◌∙◌, append_assoc, arith}
+use Rattle.std.proofs.lemmas.List.{append_cancel_left, length-append, length-take-le}
 use Rattle.byteorder.specs.Endian.{big_bytes}
 use Rattle.sha2.specs.Sha256.{sha256}
 use Rattle.sha2.proofs.Facts256.{length-sha256}

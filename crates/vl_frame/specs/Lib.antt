@@ -4,3 +4,5 @@ pub mod HeaderLaws
 pub mod Laws
 pub mod Numbers
 pub mod Parts
+pub mod RunLaws
+pub mod Runs

@@ -1,5 +1,6 @@
 -- The accepted commits, oldest first, over a base: what each key has after each of them.
-use Rattle.std.specs.Prelude.{◌+◌, ◌-◌, ℕ, List, [], ◌∷◌, length, take, Option, Some, None, ◌++◌}
+use Rattle.std.specs.Prelude.{◌≡◌, ◌+◌, ◌-◌, ℕ, List, [], ◌∷◌, length, take, Option, Some, None, ◌++◌}
+use Rattle.std.specs.Option.{option_map}
 use Rattle.std.specs.FinMap.{get, insert, remove, entries, empty}
 use Rattle.vl_model.specs.Keys.{Stored, Pairs, Writes}
 use Rattle.vl_model.specs.declared.change.Change.{Change}
@@ -23,6 +24,13 @@ last_number h = h.first + length h.commits
 abbrev pub with_commit : History → Writes → History
 with_commit h writes = record { first = h.first; base = h.base; commits = h.commits ++ (writes ∷ []) }
 
+-- a later history: the same base, and behind the same commits some more
+pub record Extends (least most : History) : Type 0 where
+  pub first : most.first ≡ least.first
+  pub base : most.base ≡ least.base
+  pub later : List Writes
+  pub commits : most.commits ≡ least.commits ++ later
+
 -- the commits numbered at most n
 abbrev pub commits_up_to : History → ℕ → List Writes
 commits_up_to h n = take (n - h.first) h.commits
@@ -31,6 +39,11 @@ commits_up_to h n = take (n - h.first) h.commits
 abbrev pub newer : {A : Type 0} → Option A → Option A → Option A
 newer old None = old
 newer old (Some x) = Some x
+
+-- the number of the last of these commits that names the key, where the first of them has this number
+abbrev pub last_naming : ℕ → List Writes → List ℕ → Option ℕ
+last_naming number [] key = None
+last_naming number (writes ∷ later) key = newer (option_map (λ change. number) (get writes key)) (last_naming (number + 1) later key)
 
 -- what the last of these commits that names the key does to it
 abbrev pub last_change : List Writes → List ℕ → Option Change

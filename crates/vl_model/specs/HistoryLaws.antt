@@ -2,13 +2,14 @@
 -- and after one more.
 use Rattle.std.proofs.Common.{◌≡◌, ◌+◌, ◌-◌, ◌≤◌, ℕ, List, [], ◌∷◌, ◌++◌, length, take, refl, ap, sym, ◌∙◌, cond, Bool, true, false, arith}
 use Rattle.std.proofs.Common.{length-append}
+use Rattle.std.proofs.lemmas.List.{take-append-le}
 use Rattle.std.proofs.lemmas.Grind.{common_steps}
 use Rattle.std.specs.Prelude.{Option, Some, None}
 use Rattle.std.specs.FinMap.{get, entries, find, get-insert, get-remove, get-entries}
 use Rattle.std.specs.Cmp.Lexicographic.{nat_list_cmp_total}
 use Rattle.std.specs.Ordering.{eq_by_cmp}
 use Rattle.vl_model.specs.Keys.{Stored, Pairs, Writes, key_cmp}
-use Rattle.vl_model.specs.History.{History, newer, last_change, value_left, value_at, changed, changed_by, pairs_after, contents_at, commits_up_to, last_number, with_commit}
+use Rattle.vl_model.specs.History.{History, Extends, newer, last_change, value_left, value_at, changed, changed_by, pairs_after, contents_at, commits_up_to, last_number, with_commit}
 use Rattle.vl_model.specs.declared.change.Change.{Change}
 use Rattle.vl_model.specs.declared.change.Change.TheVariants.{Set, Delete}
 
@@ -70,3 +71,24 @@ value_at-with_commit h writes q =
 
 pub value_at-first : (h : History) (n : ℕ) (q : List ℕ) → n ≤ h.first → value_at h n q ≡ get h.base q
 value_at-first h n q le = let none : n - h.first ≡ 0 = omega arith in ap (λ m. value_left (get h.base q) (last_change (take m h.commits) q)) none
+
+-- what stood at a number stays, whatever is committed after it
+pub value_at-extends : (least most : History) → Extends least most → (n : ℕ) (q : List ℕ) → n ≤ last_number least → value_at most n q ≡ value_at least n q
+value_at-extends least most e n q le =
+    ap (λ (b : ℕ). value_left (get most.base q) (last_change (take (n - b) most.commits) q)) e.first
+    ∙ ap (λ (base : Pairs). value_left (get base q) (last_change (take (n - least.first) most.commits) q)) e.base
+    ∙ ap (λ (cs : List Writes). value_left (get least.base q) (last_change (take (n - least.first) cs) q)) e.commits
+    ∙ ap (λ (cs : List Writes). value_left (get least.base q) (last_change cs q)) (take-append-le (n - least.first) least.commits e.later (omega arith))
+
+pub last_number-extends : (least most : History) → Extends least most → last_number least ≤ last_number most
+last_number-extends least most e =
+    let first = e.first in
+    let count = ap length e.commits in
+    let both = length-append least.commits e.later in
+    omega arith
+
+pub with_commit-extends : (h : History) (writes : Writes) → Extends h (with_commit h writes)
+with_commit-extends h writes = record { first = refl; base = refl; later = writes ∷ []; commits = refl }
+
+pub value_at-before : (h : History) (writes : Writes) (n : ℕ) (q : List ℕ) → n ≤ last_number h → value_at (with_commit h writes) n q ≡ value_at h n q
+value_at-before h writes n q le = value_at-extends h (with_commit h writes) (with_commit-extends h writes) n q le

@@ -12,6 +12,10 @@ use Rattle.vl_model.specs.declared.change.Change.TheVariants.{Set, Delete}
 abbrev pub Stored : Type 0
 Stored = List ℕ
 
+-- a key with its value
+abbrev pub Row : Type 0
+Row = List ℕ × Stored
+
 -- keys in the order of their bytes from the left; a key that begins another is below it
 abbrev pub key_cmp : List ℕ → List ℕ → Ordering
 key_cmp = slice_cmp nat_cmp

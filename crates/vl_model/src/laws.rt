@@ -1,10 +1,17 @@
 // Laws of the definitions: each is the contract of a function that does nothing.
-ghost use Rattle.std.specs.Prelude.{◌≡◌, ◌≤◌, ◌+◌, ℕ, List};
-ghost use Rattle.std.specs.FinMap.{get};
-ghost use Rattle.vl_model.specs.Keys.{Writes};
+ghost use Rattle.std.specs.Prelude.{◌≡◌, ◌≤◌, ◌+◌, ◌++◌, ℕ, List, IsTrue};
+ghost use Rattle.std.specs.List.{filter};
+ghost use Rattle.std.specs.FinMap.{get, find, is_sorted};
+ghost use Rattle.std.specs.Ordering.{eq_by_cmp};
+ghost use Rattle.vl_model.specs.Conflicts.{overwritten, is_overwritten, passing};
+ghost use Rattle.vl_model.specs.Entries.{in_order};
+ghost use Rattle.vl_model.specs.Keys.{Writes, key_cmp};
+ghost use Rattle.vl_model.specs.Reads.{Read};
+ghost use Rattle.vl_model.specs.Winners.{winner, newest_of};
+ghost use Rattle.vl_model.specs.declared.entry.Entry.{Entry};
 ghost use Rattle.vl_model.specs.Limits.{max_key_bytes, max_value_bytes, max_inline_bytes, max_transaction_keys, max_transaction_bytes, max_live, min_room, max_room, max_level, max_batch_records, max_batch_bytes, max_commit_number, max_file_number, max_version_number, max_sessions};
 ghost use Rattle.vl_model.specs.declared.limits.TheConstants.{MAX_KEY_BYTES, MAX_VALUE_BYTES, MAX_INLINE_BYTES, MAX_TRANSACTION_KEYS, MAX_TRANSACTION_BYTES, MAX_LIVE, MIN_ROOM, MAX_ROOM, MAX_LEVEL, MAX_BATCH_RECORDS, MAX_BATCH_BYTES, MAX_COMMIT_NUMBER, MAX_FILE_NUMBER, MAX_VERSION_NUMBER, MAX_SESSIONS};
-ghost use Rattle.vl_model.specs.History.{History, value_at, contents_at, last_number, with_commit, value_left};
+ghost use Rattle.vl_model.specs.History.{History, Extends, last_naming, value_at, contents_at, last_number, with_commit, value_left};
 
 /// The contents at a number have, at each key, the value that stands there at that number.
 pub fn contents_agree_with_values()
@@ -21,6 +28,33 @@ pub fn value_after_one_more_commit()
     ensures before { (h : History) (writes : Writes) (n : ℕ) (key : List ℕ) → n ≤ last_number h → value_at (with_commit h writes) n key ≡ value_at h n key }
     ensures at { (h : History) (writes : Writes) (key : List ℕ) →
         value_at (with_commit h writes) (last_number h + 1) key ≡ value_left (value_at h (last_number h) key) (get writes key) }
+{}
+
+/// Whatever is committed later, what stood at a number stays.
+pub fn values_stay()
+    ensures values { (least most : History) → Extends least most → (n : ℕ) (key : List ℕ) → n ≤ last_number least → value_at most n key ≡ value_at least n key }
+    ensures number { (least most : History) → Extends least most → last_number least ≤ last_number most }
+{}
+
+/// A key is overwritten exactly by the last commit that names it, where that is above the number and a read covers the key; and
+/// the overwritten keys rise, so that the first is the least.
+pub fn overwritten_keys_are_read_and_named_later()
+    ensures found { (h : History) (n : ℕ) (reads : List Read) (key : List ℕ) →
+        find key_cmp key (overwritten h n reads) ≡ passing (is_overwritten n reads) key (last_naming (h.first + 1) h.commits key) }
+    ensures rising { (h : History) (n : ℕ) (reads : List Read) → IsTrue (is_sorted key_cmp (overwritten h n reads)) }
+{}
+
+/// Of sources end to end the winner is the newest of the parts' winners; a part may be replaced by one that has the same.
+pub fn winners_of_parts()
+    ensures parts { (es fs : List Entry) (key : List ℕ) (n : ℕ) → winner (es ++ fs) key n ≡ newest_of (winner es key n) (winner fs key n) }
+    ensures replaced { (front old new back : List Entry) (key : List ℕ) (n : ℕ) → winner old key n ≡ winner new key n
+        → winner (front ++ old ++ back) key n ≡ winner (front ++ new ++ back) key n }
+{}
+
+/// A key's winner hangs on the entries of that key alone, and not on their order but for entries of one key and version.
+pub fn winners_of_a_key()
+    ensures own { (es : List Entry) (key : List ℕ) (n : ℕ) → winner (filter (λ (e : Entry). eq_by_cmp key_cmp key e.key) es) key n ≡ winner es key n }
+    ensures order { (es : List Entry) (key : List ℕ) (n : ℕ) → winner (in_order es) key n ≡ winner es key n }
 {}
 
 /// The constants are the limits that the definitions have.

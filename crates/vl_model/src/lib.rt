@@ -5,18 +5,25 @@
 mod bytes;
 mod change;
 mod counter;
+mod cursor;
+mod entry;
 mod laws;
 mod lengths;
 mod limits;
+mod log_frame;
 mod pointer;
+mod span;
 mod way;
 
 pub use bytes::{Bytes, Key, Value};
 pub use change::Change;
 pub use counter::Counter;
+pub use cursor::Cursor;
+pub use entry::{Body, Entry};
 pub use laws::{
-    constants_are_the_limits, contents_agree_with_values, value_after_one_more_commit,
-    value_without_commits,
+    constants_are_the_limits, contents_agree_with_values,
+    overwritten_keys_are_read_and_named_later, value_after_one_more_commit, value_without_commits,
+    values_stay, winners_of_a_key, winners_of_parts,
 };
 pub use lengths::{is_key_len, is_value_len};
 pub use limits::{
@@ -24,7 +31,9 @@ pub use limits::{
     MAX_KEY_BYTES, MAX_LEVEL, MAX_LIVE, MAX_ROOM, MAX_SESSIONS, MAX_TRANSACTION_BYTES,
     MAX_TRANSACTION_KEYS, MAX_VALUE_BYTES, MAX_VERSION_NUMBER, MIN_ROOM,
 };
+pub use log_frame::{LogFrame, Moved};
 pub use pointer::Pointer;
+pub use span::Span;
 pub use way::Way;
 
 #[cfg(test)]
@@ -38,9 +47,9 @@ mod tests {
         assert_eq!(rt; bytes.as_slice(), b"key".as_slice());
         assert_eq!(rt; bytes.len(), 3);
         assert!(rt; !bytes.is_empty());
-        let items = bytes.into_vec();
-        assert_eq!(rt; items.as_slice(), b"key".as_slice());
-        assert!(rt; Bytes::new(Vec::new(rt.alloc())).is_empty());
+        let shared = bytes.share()?;
+        assert_eq!(rt; shared.as_slice(), b"key".as_slice());
+        assert!(rt; Bytes::new(Vec::new(rt.alloc()))?.is_empty());
         Ok(())
     }
 }

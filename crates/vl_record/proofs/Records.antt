@@ -1,10 +1,10 @@
 -- A record that is read from the left.
-use Rattle.std.proofs.Common.{◌≡◌, ◌+◌, ◌<◌, ◌^◌, ℕ, List, ◌∷◌, ◌++◌, true, length, ap, sym, ◌∙◌, append_assoc}
+use Rattle.std.proofs.Common.{◌≡◌, ◌<◌, ◌^◌, ℕ, List, ◌∷◌, ◌++◌, true, length, ap, sym, ◌∙◌, append_assoc}
 use Rattle.byteorder.specs.Endian.{big_bytes}
 use Rattle.vl_model.specs.Keys.{is_key_length, is_value_length, value_bytes}
 use Rattle.vl_model.specs.declared.change.Change.{Change}
 use Rattle.vl_record.specs.Laws.{one_apart, spelled_apart}
-use Rattle.vl_record.specs.Record.{IsApart, IsRecord, IsSpelled, flag_of, head_bytes, record_bytes}
+use Rattle.vl_record.specs.Record.{IsApart, IsSpelled, flag_of, head_bytes, record_bytes}
 
 -- a flag, two lengths, a key and a value, one behind the other
 pub is_apart : (bytes key value r1 r2 r3 r4 r5 : List ℕ) (flag k v : ℕ) → bytes ≡ flag ∷ r1 → r1 ≡ big_bytes 2 k ++ r2 → k < 2 ^ 16 → r2 ≡ big_bytes 4 v ++ r3 → v < 2 ^ 32 → r3 ≡ key ++ r4 → length key ≡ k → r4 ≡ value ++ r5 → length value ≡ v

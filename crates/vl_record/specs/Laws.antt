@@ -1,14 +1,15 @@
 -- What the definitions of records and pointers say: how long they are, and that one of each at most stands at the front of some bytes.
-use Rattle.std.proofs.Common.{◌≡◌, ◌<◌, ◌^◌, ℕ, List, [], ◌∷◌, ◌++◌, true, length, drop, get_or, refl, ap, sym, ◌∙◌, arith, append_assoc, length-append}
+use Rattle.std.proofs.Common.{◌≡◌, ◌<◌, ℕ, List, [], ◌∷◌, ◌++◌, true, length, drop, get_or, refl, ap, sym, ◌∙◌, arith, append_assoc, length-append}
 use Rattle.std.proofs.lemmas.Bool.Decides.{nat_tests}
 use Rattle.byteorder.specs.Endian.{big_bytes}
 use Rattle.vl_frame.specs.Numbers.{one_number, same_front}
+use Rattle.vl_model.specs.Frames.{record_length}
 use Rattle.vl_model.specs.Keys.{is_key_length, is_value_length, value_bytes}
 use Rattle.vl_model.specs.declared.change.Change.{Change}
 use Rattle.vl_model.specs.declared.change.Change.TheVariants.{Set, Delete}
 use Rattle.vl_model.specs.declared.pointer.Pointer.{Pointer}
 use Rattle.vl_record.specs.Pointer.{IsPointerSpelled, pointer_bytes}
-use Rattle.vl_record.specs.Record.{HasWidths, IsApart, IsRecord, IsSpelled, flag_of, record_bytes, record_length}
+use Rattle.vl_record.specs.Record.{HasWidths, IsApart, IsRecord, IsSpelled, flag_of, record_bytes}
 
 -- ---- records
 

@@ -1,6 +1,6 @@
--- How a record is spelled: a flag (0 a value, 1 a deletion) in one byte, the key's length in 2, the value's length in 4 (0 for a deletion), each with its
--- highest byte first; then the key and the value.
-use Rattle.std.specs.Prelude.{◌≡◌, ◌+◌, ◌<◌, ◌^◌, ℕ, List, ◌∷◌, ◌++◌, length, true, Option, Some, None}
+-- How a record is spelled: a flag (0 a value, 1 a deletion) in one byte, the key's length in 2, the value's
+-- length in 4 (0 for a deletion), each with its highest byte first; then the key and the value.
+use Rattle.std.specs.Prelude.{◌≡◌, ◌<◌, ◌^◌, ℕ, List, ◌∷◌, ◌++◌, length, true, Option, Some, None}
 use Rattle.byteorder.specs.Endian.{big_bytes}
 use Rattle.vl_model.specs.Keys.{is_key_length, is_value_length, value_bytes}
 use Rattle.vl_model.specs.declared.change.Change.{Change}
@@ -31,11 +31,8 @@ head_bytes flag key_length value_length = flag ∷ big_bytes 2 key_length ++ big
 
 -- the one spelling
 unfoldable pub record_bytes : List ℕ → Change → List ℕ
-record_bytes key change = head_bytes (flag_of change) (length key) (length (value_bytes change)) ++ key ++ value_bytes change
-
--- how many bytes it has
-abbrev pub record_length : List ℕ → Change → ℕ
-record_length key change = 7 + length key + length (value_bytes change)
+record_bytes key change =
+    head_bytes (flag_of change) (length key) (length (value_bytes change)) ++ key ++ value_bytes change
 
 -- a lawful record stands at the front of the bytes; any bytes may follow it
 pub record IsSpelled (bytes key : List ℕ) (change : Change) : Type 0 where

@@ -140,10 +140,10 @@ fn parse_bytes(alloc: Global, word: &[u8]) -> Result<Option<Bytes>, AllocError>
         return Ok(None);
     }
     if word == b"-".as_slice() {
-        return Ok(Some(Bytes::new(Vec::new(alloc))));
+        return Ok(Some(Bytes::new(Vec::new(alloc))?));
     }
     match hex::decode(alloc, word) {
-        Ok(bytes) => Ok(Some(Bytes::new(bytes))),
+        Ok(bytes) => Ok(Some(Bytes::new(bytes)?)),
         Err(FromHexError::OutOfMemory) => Err(AllocError),
         Err(_) => Ok(None),
     }

@@ -7,8 +7,8 @@ use Rattle.vl_model.specs.Keys.{key_cmp}
 use Rattle.vl_model.specs.declared.change.Change.{Change}
 use Rattle.vl_model.specs.Limits.{max_commit_number}
 use Rattle.vl_frame.specs.Numbers.{one_number}
-use Rattle.vl_seglog.specs.Laws.{few_records}
-use Rattle.vl_seglog.specs.Log.{Commit, IsCommit, commit_body, head_bytes, records_bytes}
+use Rattle.vl_seglog.specs.CommitLaws.{few_records}
+use Rattle.vl_seglog.specs.Commit.{Commit, IsCommit, commit_body, head_bytes, records_bytes}
 use Rattle.vl_seglog.specs.Reading.{IsRun}
 
 -- a commit that the body spells has the head's number, and the run behind the head

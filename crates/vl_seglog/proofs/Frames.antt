@@ -6,14 +6,15 @@ use Rattle.vl_frame.specs.Laws.{one_frame}
 use Rattle.vl_frame.specs.declared.kinds.FileKind.TheVariants as files
 use Rattle.vl_frame.specs.declared.kinds.FrameKind.{FrameKind}
 use Rattle.vl_frame.specs.declared.kinds.FrameKind.TheVariants as kinds
-use Rattle.vl_seglog.specs.Laws.{frame_of}
+use Rattle.vl_frame.specs.RunLaws.{frame_of}
+use Rattle.vl_seglog.specs.CommitLaws.{commits_spelled}
 use Rattle.vl_seglog.specs.Log.{Commit, IsCommit, StandsAt, commit_body}
 
 -- the frame that was found is the commit's
 pub found_of : (file at : ℕ) (bytes : List ℕ) (kind : FrameKind) (body : List ℕ) (c : Commit) (rest : List ℕ) → IsSpelled files.Log file at bytes kind body → StandsAt file at bytes c rest
     → (kind ≡ kinds.Commit) × (body ≡ commit_body c)
 found_of file at bytes kind body c rest f s =
-    let one = one_frame files.Log file at bytes kind kinds.Commit body (commit_body c) f (frame_of file at bytes c rest s) in
+    let one = one_frame files.Log file at bytes kind kinds.Commit body (commit_body c) f (frame_of commits_spelled file at bytes c rest s) in
     (one.0, one.1)
 
 pub stands : (file at : ℕ) (bytes : List ℕ) (kind : FrameKind) (body : List ℕ) (n : ℕ) (c : Commit) → IsSpelled files.Log file at bytes kind body → bytes ≡ frame_bytes file at kind body ++ drop n bytes → kind ≡ kinds.Commit

@@ -1,6 +1,5 @@
 pub mod Bodies
 pub mod Frames
-pub mod Logs
 pub mod Options
 pub mod Order
 pub mod Placing

@@ -4,13 +4,14 @@ use Rattle.std.proofs.Math.Seq.{drop-cons}
 use Rattle.std.proofs.lemmas.List.{append-nil, drop_all}
 use Rattle.vl_model.specs.declared.change.Change.{Change}
 use Rattle.vl_record.specs.Laws.{length-record_bytes}
-use Rattle.vl_record.specs.Record.{record_bytes, record_length}
+use Rattle.vl_model.specs.Frames.{record_length}
+use Rattle.vl_record.specs.Record.{record_bytes}
 use Rattle.vl_model.specs.declared.pointer.Pointer.{Pointer}
 use Rattle.vl_frame.specs.Frame.{frame_length}
 use Rattle.vl_frame.specs.Laws.{length-frame_bytes}
 use Rattle.vl_frame.specs.declared.kinds.FrameKind.TheVariants as kinds
-use Rattle.vl_seglog.specs.Laws.{commit_frame-length, records_length}
-use Rattle.vl_seglog.specs.Log.{Commit, commit_body, commit_frame, records_bytes}
+use Rattle.vl_seglog.specs.CommitLaws.{commit_frame-length, records_length}
+use Rattle.vl_seglog.specs.Commit.{Commit, commit_body, commit_frame, records_bytes}
 use Rattle.vl_seglog.specs.Pointers.{ArePointers}
 use Rattle.vl_seglog.specs.PointerLaws.{are_pointers, pointers_from}
 

@@ -2,9 +2,10 @@
 use Rattle.std.proofs.Common.{◌≡◌, ℕ, ◌+◌, ◌-◌, ◌<◌, ◌≤◌, List, [], ◌∷◌, ◌++◌, length, take, drop, refl, sym, ap, ◌∙◌, append_assoc, length-append, arith}
 use Rattle.std.proofs.lemmas.List.{append-nil, drop_at, take_all, length-drop}
 use Rattle.vl_model.specs.declared.change.Change.{Change}
-use Rattle.vl_record.specs.Record.{IsRecord, IsSpelled, record_bytes, record_length}
+use Rattle.vl_model.specs.Frames.{record_length}
+use Rattle.vl_record.specs.Record.{IsRecord, IsSpelled, record_bytes}
 use Rattle.vl_record.specs.Laws.{length-record_bytes, one_record}
-use Rattle.vl_seglog.specs.Log.{AreRecords, records_bytes}
+use Rattle.vl_seglog.specs.Commit.{AreRecords, records_bytes}
 use Rattle.vl_seglog.specs.Reading.{IsRun}
 
 -- ---- the record at the front

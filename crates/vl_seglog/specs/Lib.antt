@@ -1,3 +1,5 @@
+pub mod Commit
+pub mod CommitLaws
 pub mod Laws
 pub mod Log
 pub mod PointerLaws

@@ -6,9 +6,10 @@ use Rattle.vl_frame.specs.Frame.{check_of, frame_bytes, head_bytes as frame_head
 use Rattle.vl_frame.specs.declared.kinds.FrameKind.TheVariants as kinds
 use Rattle.vl_model.specs.declared.change.Change.{Change}
 use Rattle.vl_record.specs.Laws.{length-record_bytes}
-use Rattle.vl_record.specs.Record.{IsSpelled, record_bytes, record_length}
+use Rattle.vl_model.specs.Frames.{record_length}
+use Rattle.vl_record.specs.Record.{IsSpelled, record_bytes}
 use Rattle.vl_model.specs.declared.pointer.Pointer.{Pointer}
-use Rattle.vl_seglog.specs.Log.{AreRecords, Commit, IsCommit, commit_body, commit_frame, head_bytes, records_bytes}
+use Rattle.vl_seglog.specs.Commit.{AreRecords, Commit, IsCommit, commit_body, commit_frame, head_bytes, records_bytes}
 use Rattle.vl_seglog.specs.Pointers.{ArePointers, LeadToAll}
 
 -- ---- the pointers as they are found from the left

@@ -2,7 +2,7 @@
 use Rattle.std.specs.Prelude.{◌≡◌, ℕ, List, length}
 use Rattle.vl_model.specs.declared.change.Change.{Change}
 use Rattle.vl_seglog.specs.declared.commit.Commit.{Commit as ReadCommit}
-use Rattle.vl_seglog.specs.Log.{Commit, AreRecords, records_bytes}
+use Rattle.vl_seglog.specs.Commit.{Commit, AreRecords, records_bytes}
 
 -- a commit that was read, without where it lies in memory
 abbrev pub commit_of : ReadCommit → Commit

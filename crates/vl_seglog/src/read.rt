@@ -43,8 +43,10 @@ pub fn read_commit(
 // The commit that the body of a frame spells.
 fn read_body(alloc: Global, body: &[u8]) -> Result<Option<Commit>, AllocError>
     requires { length body.now < 2 ^ 32 }
-    ensures found { IfOk result (λ read. IfSome read (λ c. log.IsCommit (commit_of c) × (body.now ≡ log.commit_body (commit_of c)))) }
-    ensures none { IfOk result (λ read. IfNone read ((c : log.Commit) → log.IsCommit c → body.now ≡ log.commit_body c → ⊥)) }
+    ensures found { IfOk result (λ read. IfSome read
+        (λ c. log.IsCommit (commit_of c) × (body.now ≡ log.commit_body (commit_of c)))) }
+    ensures none { IfOk result (λ read. IfNone read
+        ((c : log.Commit) → log.IsCommit c → body.now ≡ log.commit_body c → ⊥)) }
 {
     let Some((number, count, rest)) = take_head(body) else {
         return Ok(None);

@@ -1,5 +1,5 @@
 ghost use Rattle.std.specs.Prelude.{◌≡◌, ◌+◌, ◌<◌, ◌^◌, length, IfOk, OnOk};
-ghost use Rattle.vl_record.specs.Record.{record_length};
+ghost use Rattle.vl_model.specs.Frames.{record_length};
 ghost use Rattle.vl_seglog.specs.Log as log;
 ghost use Rattle.vl_seglog.specs.Pointers.{ArePointers};
 

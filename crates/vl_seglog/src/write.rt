@@ -52,7 +52,7 @@ pub fn write_commit(
 }
 
 // The body of a commit's frame.
-#[tactic(auto, unfolding(crate::specs::Log::commit_body))]
+#[tactic(auto, unfolding(crate::specs::Commit::commit_body))]
 fn commit_body(alloc: Global, number: u64, writes: &[(Key, Change)]) -> Result<Vec<u8>, AllocError>
     ensures { IfOk result (λ body. body.items ≡ log.commit_body (record { number = number; writes = writes.now })) }
 {

@@ -1,6 +1,7 @@
 ghost use Rattle.std.specs.Prelude.{◌≡◌, ℕ, List, IfNone, IfSome};
 ghost use Rattle.std.specs.Option.{option_copied};
-ghost use Rattle.vl_record.specs.Record.{change_of, record_length, IsSpelled};
+ghost use Rattle.vl_model.specs.Frames.{record_length};
+ghost use Rattle.vl_record.specs.Record.{change_of, IsSpelled};
 ghost use Rattle.vl_model.specs.declared.change.Change.{Change};
 
 use crate::record::head::RECORD_HEAD_BYTES;

@@ -1,6 +1,7 @@
 ghost use Rattle.std.specs.Prelude.{◌≡◌, ◌+◌, ◌<◌, ◌^◌, ◌≤◌, ◌++◌, length, vec_capacity, vec_len, IsOk, OnErr, OnOk};
 ghost use Rattle.std.specs.Option.{option_copied};
-ghost use Rattle.vl_record.specs.Record.{HasWidths, change_of, head_bytes, record_bytes, record_length};
+ghost use Rattle.vl_model.specs.Frames.{record_length};
+ghost use Rattle.vl_record.specs.Record.{HasWidths, change_of, head_bytes, record_bytes};
 
 use crate::record::head::{DELETION_FLAG, RECORD_HEAD_BYTES, VALUE_FLAG, head};
 use std::alloc::AllocError;

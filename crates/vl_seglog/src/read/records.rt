@@ -16,7 +16,8 @@ pub fn read_records(
     bytes: &[u8],
 ) -> Result<Option<Vec<(Key, Change)>>, AllocError>
     ensures found { IfOk result (λ read. IfSome read (λ v. IsRun bytes.now count v.items)) }
-    ensures none { IfOk result (λ read. IfNone read ((writes : List (List ℕ × Change)) → IsRun bytes.now count writes → ⊥)) }
+    ensures none { IfOk result (λ read. IfNone read
+        ((writes : List (List ℕ × Change)) → IsRun bytes.now count writes → ⊥)) }
 {
     let mut writes = Vec::new(alloc);
     let mut rest = bytes;
@@ -40,7 +41,8 @@ pub fn read_records(
 fn take_change(alloc: Global, bytes: &[u8]) -> Result<Option<(Key, Change, &[u8])>, AllocError>
     ensures found { IfOk result (λ read. IfSome read (λ r.
         IsRecord r.0 r.1 × (bytes.now ≡ record_bytes r.0 r.1 ++ r.2.now))) }
-    ensures none { IfOk result (λ read. IfNone read ((key : List ℕ) (change : Change) → IsSpelled bytes.now key change → ⊥)) }
+    ensures none { IfOk result (λ read. IfNone read
+        ((key : List ℕ) (change : Change) → IsSpelled bytes.now key change → ⊥)) }
 {
     let Some(record) = read_record(bytes) else {
         return Ok(None);

@@ -2,7 +2,7 @@ use Rattle.std.proofs.Common.{◌≡◌, ℕ, List, true, false, sym, ap, ◌∙
 use Rattle.std.specs.FinMap.{is_sorted}
 use Rattle.vl_model.specs.Keys.{key_cmp}
 use Rattle.vl_model.specs.declared.change.Change.{Change}
-use Rattle.vl_seglog.specs.Laws.{one_records}
+use Rattle.vl_seglog.specs.CommitLaws.{one_records}
 use Rattle.vl_seglog.specs.Reading.{IsRun}
 use Rattle.vl_seglog.proofs.Bodies.{agrees, is_body, no_head}
 use Rattle.vl_seglog.proofs.Options.{at_none}

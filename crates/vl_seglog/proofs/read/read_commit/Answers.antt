@@ -1,13 +1,14 @@
 use Rattle.std.proofs.lemmas.Bool.{true≢false}
 use Rattle.vl_frame.specs.declared.kinds.FrameKind.TheVariants as kinds
-use Rattle.vl_seglog.specs.Laws.{frame_of}
-use Rattle.vl_seglog.specs.Log.{commit_body}
+use Rattle.vl_frame.specs.RunLaws.{frame_of}
+use Rattle.vl_seglog.specs.CommitLaws.{commits_spelled}
+use Rattle.vl_seglog.specs.Commit.{commit_body}
 use Rattle.vl_seglog.proofs.Frames.{found_of}
 use Rattle.vl_seglog.proofs.read.read_commit.Goals as goal
 
 pub returns-in_default-clause-none : goal.returns-in_default-clause-none
 returns-in_default-clause-none c = λ commit rest s.
-    c.in_default.ensures.none kinds.Commit (commit_body commit) (frame_of c.args.file c.args.at c.args.bytes.now commit rest s)
+    c.in_default.ensures.none kinds.Commit (commit_body commit) (frame_of commits_spelled c.args.file c.args.at c.args.bytes.now commit rest s)
 
 pub returns-then-ne-clause-none : goal.returns-then-ne-clause-none
 returns-then-ne-clause-none c = λ commit rest s.
