@@ -2,5 +2,7 @@
 #![tactic(auto)]
 
 mod command_line;
+mod process;
 
 pub use command_line::{Ended, refuse_without_words, run};
+pub use process::serve;

@@ -12,7 +12,14 @@ use Rattle.vl_script.specs.declared.line.Line.{Line}
 use Rattle.vl_script.specs.declared.line.Line.TheVariants.{Begin, View, Get, Set, Delete, Commit, Drop}
 use Rattle.vl_script.specs.declared.answer.Answer.{Answer}
 use Rattle.vl_script.specs.declared.answer.Answer.TheVariants.{Done, Number, Found, NoValue, Taken, Unknown, ReadOnly, Invalid, TooBig, TooMany, Nothing, Full, Exhausted}
-use Rattle.vl_script.specs.declared.limits.TheConstants.{MAX_LINE_BYTES, MAX_IDENT_BYTES}
+
+-- the longest line, in bytes without its end
+abbrev pub longest_line : ℕ
+longest_line = 4300000
+
+-- the longest name, in bytes
+abbrev pub longest_ident : ℕ
+longest_ident = 16
 
 -- a line ends with byte 10 or with the input; behind the last byte 10 there is none
 abbrev pub lines_of : List ℕ → List (List ℕ)
@@ -29,7 +36,7 @@ is_ident_byte b = (nat_le 97 b && nat_le b 122) || (nat_le 48 b && nat_le b 57)
 
 abbrev pub ident_of : List ℕ → Option (List ℕ)
 ident_of word =
-    if nat_le 1 (length word) && nat_le (length word) MAX_IDENT_BYTES && list_all is_ident_byte word then Some word else None
+    if nat_le 1 (length word) && nat_le (length word) longest_ident && list_all is_ident_byte word then Some word else None
 
 abbrev pub decoded : Result (List ℕ) FromHexError → Option (List ℕ)
 decoded (Ok bytes) = Some bytes
@@ -74,7 +81,7 @@ line_of_words (command ∷ words) =
 
 -- the line that these bytes are, without the line's end
 abbrev pub line_of : List ℕ → Option Line
-line_of text = if nat_le (length text) MAX_LINE_BYTES then line_of_words (words_of text) else None
+line_of text = if nat_le (length text) longest_line then line_of_words (words_of text) else None
 
 -- pairs of lower case digits, or - for no bytes
 abbrev pub bytes_text : List ℕ → List ℕ

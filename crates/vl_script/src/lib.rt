@@ -6,8 +6,6 @@ mod limits;
 mod line;
 mod parse;
 mod print;
-#[cfg(test)]
-mod tests;
 
 pub use answer::Answer;
 pub use limits::{MAX_IDENT_BYTES, MAX_LINE_BYTES};

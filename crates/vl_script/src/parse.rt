@@ -1,7 +1,7 @@
 ghost use Rattle.std.specs.Prelude.{◌≡◌, ◌∷◌, [], ◌&&◌, length, nat_le, IfOk};
 ghost use Rattle.std.specs.List.{list_all};
 ghost use Rattle.std.specs.Option.{option_map_or};
-ghost use Rattle.vl_script.specs.Script.{is_ident_byte, ident_of, bytes_of, ident_alone, ident_and_key, set_of, words_of, line_of};
+ghost use Rattle.vl_script.specs.Script.{longest_ident, is_ident_byte, ident_of, bytes_of, ident_alone, ident_and_key, set_of, words_of, line_of};
 
 use crate::{Ident, Line, MAX_IDENT_BYTES, MAX_LINE_BYTES};
 use hex::FromHexError;
@@ -124,7 +124,7 @@ fn parse_ident(alloc: Global, word: &[u8]) -> Result<Option<Ident>, AllocError>
 }
 
 fn is_ident(word: &[u8]) -> bool
-    ensures { result ≡ (nat_le 1 (length word.now) && nat_le (length word.now) MAX_IDENT_BYTES && list_all is_ident_byte word.now) }
+    ensures { result ≡ (nat_le 1 (length word.now) && nat_le (length word.now) longest_ident && list_all is_ident_byte word.now) }
 {
     !word.is_empty()
         && word.len() <= MAX_IDENT_BYTES

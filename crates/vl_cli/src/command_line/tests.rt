@@ -405,3 +405,18 @@ fn faults_of_the_disk_end_a_run(rt: HostRuntime) -> Result<(), Fail> {
     }
     Ok(())
 }
+
+#[test]
+fn what_is_no_line_ends_a_run(rt: HostRuntime) -> Result<(), Fail> {
+    // Each between two bars.
+    let texts =
+        " |begin|begin |begin  a| begin a|begin a |begin a b|begin A|begin a_b|begin 123456789abcdefgh|Begin a\
+        |begi a|get a|get - -|get a 6|get a 6g|get a |get a 61 62|set a 61|set a 61 01 02|set a 61 01\r|del a\
+        |del a |del a 61 62|del a 6|delete a 61|drop|drop a b|drop A";
+    for text in texts.split('|') {
+        let (status, printed) = outcome(rt.alloc(), &plain(text, "", 1))?;
+        assert!(rt; printed.as_slice() == b"bad line 1\n".as_slice(), "{text}");
+        assert_eq!(rt; status, 1, "{text}");
+    }
+    Ok(())
+}
