@@ -1,18 +1,16 @@
 -- A store that is opened: what the disk holds, and what a crash leaves meanwhile.
-use Rattle.std.proofs.Common.{◌≡◌, ◌≢◌, ⊎_elim, ℕ, ◌+◌, ◌-◌, ◌^◌, min, List, [], ◌∷◌, length, Option, None, Some, IsSome, Contains, refl, sym, ◌∙◌, subst, arith}
-use Rattle.std.specs.Option.{option_map}
+use Rattle.std.proofs.Common.{◌≡◌, ◌≢◌, ⊎_elim, ℕ, List, [], ◌∷◌, length, Option, None, Some, IsSome, Contains, refl, sym, ◌∙◌, subst, arith}
 use Rattle.std.specs.FinMap.{get}
 use Rattle.vl_disk.specs.declared.name.Name.{Name}
 use Rattle.vl_disk.specs.NameMap.{get_inserted_other}
 use Rattle.vl_disk.specs.DiskState.{DiskState, settled}
-use Rattle.vl_disk.specs.Crash.{SameFiles}
-use Rattle.vl_disk.specs.Disk.{Stands, IsFree, Lists}
+use Rattle.vl_disk.specs.Disk.{Stands, IsFree, Lists, Turns}
 use Rattle.vl_disk.specs.MadeFile.{made, WhileMaking}
 use Rattle.vl_seglog.specs.Log.{log_header}
 use Rattle.vl_journal.specs.declared.names.TheConstants.{NUMBER, MANIFEST, LOG}
 use Rattle.vl_journal.specs.Files.{HasFiles, IsEmpty, Holds, first_manifest}
-use Rattle.vl_journal.specs.Images.{Leaves, IsNone}
-use Rattle.vl_journal.specs.StoreFiles.{apart, same_has, Makes, making, with_manifest, with_log}
+use Rattle.vl_journal.specs.Images.{Leaves, ShowsNone}
+use Rattle.vl_journal.specs.StoreFiles.{apart, HasPart, making, with_manifest, with_log}
 use Rattle.vl_journal.specs.StoreImages.{leaves_no_log, leaves_part}
 
 some_of : {X : Type 0} (o : Option X) (x : X) → o ≡ Some x → IsSome o
@@ -37,7 +35,7 @@ one_stands (n ∷ names) disk lists some = (n, (lists.all n).0 (0, omega arith, 
 
 -- the log's name is free still
 pub log_free : (names : List Name) (bytes : List ℕ) (told0 told1 : Option DiskState) → ((disk : DiskState) → told0 ≡ Some disk → Lists names disk) → length names ≡ 0
-    → told1 ≡ option_map (made MANIFEST bytes) told0 → (disk : DiskState) → told1 ≡ Some disk → IsFree LOG disk
+    → Turns (made MANIFEST bytes) told0 told1 → (disk : DiskState) → told1 ≡ Some disk → IsFree LOG disk
 log_free names bytes None told1 lists none makes disk is = cc
 log_free names bytes (Some old) told1 lists none makes disk is =
     let same : made MANIFEST bytes old ≡ disk = cc in
@@ -46,14 +44,14 @@ log_free names bytes (Some old) told1 lists none makes disk is =
 -- ---- what a crash leaves
 
 module _ (state : DiskState) (is_empty : IsEmpty state) where
-  pub leaves_nothing : (now : DiskState) → SameFiles now state → Leaves IsNone now
-  leaves_nothing now same = leaves_no_log None now (same_has None None state is_empty now same)
+  pub leaves_nothing : (now : DiskState) → now ≡ state → Leaves ShowsNone now
+  leaves_nothing now same = subst (Leaves ShowsNone) (sym same) (leaves_no_log None state is_empty)
 
   module _ (bytes : List ℕ) where
-    pub leaves_manifest : (now : DiskState) → WhileMaking MANIFEST bytes state now → Leaves IsNone now
+    pub leaves_manifest : (now : DiskState) → WhileMaking MANIFEST bytes state now → Leaves ShowsNone now
     leaves_manifest now meanwhile = ⊎_elim
-        (λ (same : SameFiles now state). leaves_nothing now same)
-        (λ (makes : Makes MANIFEST bytes state now). leaves_no_log (Some makes.file) now (with_manifest state now makes.file is_empty makes.standing makes.removed))
+        (λ (same : now ≡ state). leaves_nothing now same)
+        (λ (makes : HasPart MANIFEST bytes state now). leaves_no_log (Some makes.file) now (with_manifest state now makes.file is_empty makes.standing makes.removed))
         (making MANIFEST bytes state now meanwhile)
 
   abbrev between : DiskState
@@ -62,25 +60,21 @@ module _ (state : DiskState) (is_empty : IsEmpty state) where
   has_manifest_alone : HasFiles (Some (settled first_manifest)) None between
   has_manifest_alone = with_manifest state between (settled first_manifest) is_empty refl refl
 
-  pub leaves_log : (now : DiskState) → WhileMaking LOG (log_header NUMBER) between now → Leaves IsNone now
+  pub leaves_log : (now : DiskState) → WhileMaking LOG (log_header NUMBER) between now → Leaves ShowsNone now
   leaves_log now meanwhile = ⊎_elim
-      (λ (same : SameFiles now between). leaves_no_log (Some (settled first_manifest)) now (same_has (Some (settled first_manifest)) None between has_manifest_alone now same))
-      (λ (makes : Makes LOG (log_header NUMBER) between now). leaves_part makes.file now makes.part (with_log between now (settled first_manifest) makes.file has_manifest_alone makes.standing makes.removed))
+      (λ (same : now ≡ between). subst (Leaves ShowsNone) (sym same) (leaves_no_log (Some (settled first_manifest)) between has_manifest_alone))
+      (λ (makes : HasPart LOG (log_header NUMBER) between now). leaves_part makes.file now makes.part (with_log between now (settled first_manifest) makes.file has_manifest_alone makes.standing makes.removed))
       (making LOG (log_header NUMBER) between now meanwhile)
 
-  six : (n : ℕ) → min (min (n + 3) (2 ^ 64 - 1) + 3) (2 ^ 64 - 1) ≡ min (n + 6) (2 ^ 64 - 1)
-  six n = omega arith
-
-  pub manifest_made : (told0 told1 : Option DiskState) → told0 ≡ Some state → told1 ≡ option_map (made MANIFEST first_manifest) told0 → told1 ≡ Some between
+  pub manifest_made : (told0 told1 : Option DiskState) → told0 ≡ Some state → Turns (made MANIFEST first_manifest) told0 told1 → told1 ≡ Some between
   manifest_made told0 told1 is makes = cc
 
-  pub opened : (told1 told2 : Option DiskState) → told1 ≡ Some between → told2 ≡ option_map (made LOG (log_header NUMBER)) told1
-      → (now : DiskState) × (told2 ≡ Some now) × Holds [] now × (now.calls ≡ min (state.calls + 6) (2 ^ 64 - 1))
+  pub opened : (told1 told2 : Option DiskState) → told1 ≡ Some between → Turns (made LOG (log_header NUMBER)) told1 told2
+      → (now : DiskState) × (told2 ≡ Some now) × Holds [] now
   opened told1 told2 is makes =
       let now = made LOG (log_header NUMBER) between in
       let after : told2 ≡ Some now = cc in (
         now,
         after,
         record { have_frames = tt; files_are = with_log between now (settled first_manifest) (settled (log_header NUMBER)) has_manifest_alone refl refl },
-        six state.calls,
       )

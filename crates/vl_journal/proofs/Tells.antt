@@ -1,29 +1,28 @@
 -- A disk that tells its bytes still tells them after calls that may have failed.
-use Rattle.std.proofs.Common.{◌≡◌, ℕ, ◌≤◌, List, length, Option, None, Some, Result, Ok, Err, OnOk, OnErr}
+use Rattle.std.proofs.Common.{◌≡◌, ℕ, ◌≤◌, List, length, Option, None, Some, Result, Ok, Err, OnOk, OnErr, ◌∙◌}
 use Rattle.vl_disk.specs.declared.failed.Failed.{Failed}
 use Rattle.vl_disk.specs.declared.name.Name.{Name}
-use Rattle.vl_disk.specs.DiskState.{DiskState, counted, appended, synced}
+use Rattle.vl_disk.specs.DiskState.{DiskState, appended, synced}
 use Rattle.vl_disk.specs.Disk.{Turns}
 use Rattle.vl_disk.specs.MadeFile.{TellsPart}
 
-either : {T E Q : Type 0} (A B : Type 0) (r : Result T E) → OnOk r A → OnErr r B → (A → Q) → (B → Q) → Q
-either A B (Ok x) a b f g = f a
-either A B (Err e) a b f g = g b
-
-turned : (change : DiskState → DiskState) (old new : Option DiskState) (state : DiskState) → old ≡ Some state → Turns change old new → new ≡ Some (counted (change state))
+pub turned : (change : DiskState → DiskState) (old new : Option DiskState) (state : DiskState) → old ≡ Some state → Turns change old new → new ≡ Some (change state)
 turned change old new state is turns = cc
 
 pub tells_part_of : (name : Name) (piece : List ℕ) (old new : Option DiskState) (state : DiskState) → old ≡ Some state
     → (taken : ℕ) × (taken ≤ length piece) × Turns (appended name piece taken) old new → (now : DiskState) × (new ≡ Some now)
-tells_part_of name piece old new state is (taken, le, turns) = (counted (appended name piece taken state), turned (appended name piece taken) old new state is turns)
+tells_part_of name piece old new state is (taken, le, turns) = (appended name piece taken state, turned (appended name piece taken) old new state is turns)
 
-pub tells_all_of : (name : Name) (piece : List ℕ) (told0 told1 told2 : Option DiskState) (state : DiskState) → told0 ≡ Some state → Turns (appended name piece (length piece)) told0 told1
-    → (result : Result (Unit {0}) Failed) → OnOk result (Turns (synced name) told1 told2) → OnErr result (Turns (λ disk. disk) told1 told2) → (now : DiskState) × (told2 ≡ Some now)
-tells_all_of name piece told0 told1 told2 state is appends result ok err =
-    let between = turned (appended name piece (length piece)) told0 told1 state is appends in
-    either (Turns (synced name) told1 told2) (Turns (λ disk. disk) told1 told2) result ok err
-    (λ t. (counted (synced name (counted (appended name piece (length piece) state))), turned (synced name) told1 told2 (counted (appended name piece (length piece) state)) between t))
-    (λ t. (counted (counted (appended name piece (length piece) state)), turned (λ disk. disk) told1 told2 (counted (appended name piece (length piece) state)) between t))
+pub tells_all_of : (name other : Name) (piece : List ℕ) (told0 told1 told2 : Option DiskState) (state : DiskState) → told0 ≡ Some state → Turns (appended name piece (length piece)) told0 told1
+    → (result : Result (Unit {0}) Failed) → OnOk result (Turns (synced other) told1 told2) → OnErr result (told2 ≡ told1) → (now : DiskState) × (told2 ≡ Some now)
+tells_all_of name other piece told0 told1 told2 state is appends result ok err = of result ok err
+  where
+    between : told1 ≡ Some (appended name piece (length piece) state)
+    between = turned (appended name piece (length piece)) told0 told1 state is appends
+
+    of : (result : Result (Unit {0}) Failed) → OnOk result (Turns (synced other) told1 told2) → OnErr result (told2 ≡ told1) → (now : DiskState) × (told2 ≡ Some now)
+    of (Ok x) turns err = (synced other (appended name piece (length piece) state), turned (synced other) told1 told2 (appended name piece (length piece) state) between turns)
+    of (Err e) ok same = (appended name piece (length piece) state, same ∙ between)
 
 pub tells_some : (name : Name) (bytes : List ℕ) (old new : Option DiskState) (state : DiskState) → old ≡ Some state → TellsPart name bytes old new → (now : DiskState) × (new ≡ Some now)
 tells_some name bytes None new state is tells = absurd (cc)

@@ -1,5 +1,5 @@
 -- The files of a store, and what they hold.
-use Rattle.std.specs.Prelude.{◌≡◌, ℕ, List, [], ◌∷◌, ◌++◌, Option, None, Some}
+use Rattle.std.specs.Prelude.{◌≡◌, ℕ, List, [], ◌∷◌, ◌++◌, length, Option, None, Some}
 use Rattle.std.specs.List.{AllByRecursion}
 use Rattle.std.specs.FinMap.{get, empty}
 use Rattle.byteorder.specs.Endian.{big_bytes}
@@ -8,7 +8,8 @@ use Rattle.vl_disk.specs.DiskState.{File, Files, DiskState, placed, settled}
 use Rattle.vl_disk.specs.Disk.{Stands}
 use Rattle.vl_frame.specs.Frame.{frame_bytes}
 use Rattle.vl_frame.specs.declared.kinds.FrameKind.TheVariants.{Edits}
-use Rattle.vl_seglog.specs.Log.{Commit, HasFrame, log_bytes}
+use Rattle.vl_seglog.specs.Log.{Commit, HasFrame, commit_frame, log_bytes}
+use Rattle.vl_seglog.specs.declared.active.ActiveLog.{ActiveLog}
 use Rattle.vl_journal.specs.declared.names.TheConstants.{NUMBER, MANIFEST, LOG}
 
 -- the first 16 bytes of the manifest: VMAN, the format 1, its number, and zero
@@ -49,3 +50,9 @@ StandsNothing disk = (name : Name) → get disk.standing name ≡ None
 pub record Holds (commits : List Commit) (disk : DiskState) : Type 0 where
   pub have_frames : AllByRecursion HasFrame commits
   pub files_are : HasFiles (Some (settled first_manifest)) (Some (settled (log_bytes NUMBER commits))) disk
+
+-- the frame is that of the commit behind these, in the store's log
+pub record IsNextFrame (log : ActiveLog) (frame : List ℕ) (commits : List Commit) (c : Commit) : Type 0 where
+  pub number : log.number ≡ NUMBER
+  pub has_frame : HasFrame c
+  pub spelled : frame ≡ commit_frame NUMBER (length (log_bytes NUMBER commits)) c

@@ -27,12 +27,14 @@ SpellsCommit (Log file) bytes at frame = (c : Commit) × (rest : List ℕ) × St
 SpellsCommit (Table number) bytes at frame = ⊥
 SpellsCommit (Manifest number) bytes at frame = ⊥
 
--- whatever a crash leaves of this disk, if no torn bytes spell a frame by chance, shows commits of which P holds
-abbrev pub Leaves : (List Commit → Type 0) → DiskState → Type 0
-Leaves P disk = (image : Image) → MayLeave disk image → NoChanceMatch SpellsCommit disk image → (commits : List Commit) × P commits × ImageShows image commits
+-- P holds of whatever a crash leaves of this disk, if no torn bytes spell a frame by chance
+abbrev pub Leaves : (Image → Type 0) → DiskState → Type 0
+Leaves P disk = (image : Image) → MayLeave disk image → NoChanceMatch SpellsCommit disk image → P image
 
-abbrev pub IsNone : List Commit → Type 0
-IsNone commits = commits ≡ []
+-- the image shows no commit
+abbrev pub ShowsNone : Image → Type 0
+ShowsNone image = ImageShows image []
 
-abbrev pub IsOneOf : List Commit → List Commit → List Commit → Type 0
-IsOneOf before after commits = (commits ≡ before) ⊎ (commits ≡ after)
+-- the image shows these commits, or those
+abbrev pub ShowsEither : List Commit → List Commit → Image → Type 0
+ShowsEither before after image = ImageShows image before ⊎ ImageShows image after

@@ -1,6 +1,5 @@
 pub mod Fails
 pub mod Files
 pub mod Images
-pub mod Steps
 pub mod StoreFiles
 pub mod StoreImages

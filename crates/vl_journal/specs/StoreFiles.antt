@@ -7,7 +7,6 @@ use Rattle.vl_disk.specs.Name.{name_cmp, name_cmp_total, name_cmp_exact, name_nu
 use Rattle.vl_disk.specs.NameMap.{get_inserted, get_inserted_other, inserted_twice}
 use Rattle.vl_disk.specs.DiskState.{File, Files, DiskState, new_file, lengthened, settled, placed, with_file, created}
 use Rattle.vl_disk.specs.Changes.{created_there, changed_files}
-use Rattle.vl_disk.specs.Crash.{SameFiles}
 use Rattle.vl_disk.specs.MadeFile.{WhileMaking, not_there, empty as is_empty, in_part, durable}
 use Rattle.vl_journal.specs.declared.names.TheConstants.{MANIFEST, LOG}
 use Rattle.vl_journal.specs.Files.{files, HasFiles}
@@ -85,9 +84,6 @@ module _ (manifest log : Option File) where
     pub removed_none : (q : Name) → get disk.removed q ≡ None
     removed_none q = ap (λ (fs : Files). get fs q) has.removed ∙ get-empty name_cmp q
 
-    pub same_has : (now : DiskState) → SameFiles now disk → HasFiles manifest log now
-    same_has now same = record { standing = same.standing ∙ has.standing; removed = same.removed ∙ has.removed }
-
 -- ---- files that are made
 
 -- a file that is being made of these bytes: empty, with some first bytes, or durable
@@ -96,22 +92,22 @@ pub data IsPart (bytes : List ℕ) : File → Type 0 where
   part_some : (taken : ℕ) → IsPart bytes (lengthened bytes taken new_file)
   part_all : IsPart bytes (settled bytes)
 
-pub record Makes (name : Name) (bytes : List ℕ) (disk now : DiskState) : Type 0 where
+pub record HasPart (name : Name) (bytes : List ℕ) (disk now : DiskState) : Type 0 where
   pub file : File
   pub part : IsPart bytes file
   pub standing : now.standing ≡ insert disk.standing name file
   pub removed : now.removed ≡ remove disk.removed name
 
-pub making : (name : Name) (bytes : List ℕ) (disk now : DiskState) → WhileMaking name bytes disk now → SameFiles now disk ⊎ Makes name bytes disk now
+pub making : (name : Name) (bytes : List ℕ) (disk now : DiskState) → WhileMaking name bytes disk now → (now ≡ disk) ⊎ HasPart name bytes disk now
 making name bytes disk now (not_there same) = inl same
-making name bytes disk now (is_empty same) = inr (record { file = new_file; part = part_empty; standing = same.standing; removed = same.removed })
+making name bytes disk now (is_empty same) = inr (record { file = new_file; part = part_empty; standing = ap (λ (d : DiskState). d.standing) same; removed = ap (λ (d : DiskState). d.removed) same })
 making name bytes disk now (in_part taken le same) = inr (record {
   file = lengthened bytes taken new_file;
   part = part_some taken;
-  standing = same.standing ∙ changed_files name (created name disk) (lengthened bytes taken) new_file (created_there name disk) ∙ inserted_twice disk.standing name new_file (lengthened bytes taken new_file);
-  removed = same.removed;
+  standing = ap (λ (d : DiskState). d.standing) same ∙ changed_files name (created name disk) (lengthened bytes taken) new_file (created_there name disk) ∙ inserted_twice disk.standing name new_file (lengthened bytes taken new_file);
+  removed = ap (λ (d : DiskState). d.removed) same;
 })
-making name bytes disk now (durable same) = inr (record { file = settled bytes; part = part_all; standing = same.standing; removed = same.removed })
+making name bytes disk now (durable same) = inr (record { file = settled bytes; part = part_all; standing = ap (λ (d : DiskState). d.standing) same; removed = ap (λ (d : DiskState). d.removed) same })
 
 pub with_manifest : (disk now : DiskState) (file : File) → HasFiles None None disk → now.standing ≡ insert disk.standing MANIFEST file → now.removed ≡ remove disk.removed MANIFEST → HasFiles (Some file) None now
 with_manifest disk now file has standing removed = record {
@@ -126,11 +122,11 @@ with_log disk now manifest file has standing removed = record {
 }
 
 -- the log was changed
-pub log_changed : (disk now : DiskState) (manifest file : File) (change : File → File) → HasFiles (Some manifest) (Some file) disk → SameFiles now (with_file LOG change disk) → HasFiles (Some manifest) (Some (change file)) now
+pub log_changed : (disk now : DiskState) (manifest file : File) (change : File → File) → HasFiles (Some manifest) (Some file) disk → now ≡ with_file LOG change disk → HasFiles (Some manifest) (Some (change file)) now
 log_changed disk now manifest file change has same = record {
   standing =
-      same.standing ∙ changed_files LOG disk change file (has_log (Some manifest) (Some file) disk has)
+      ap (λ (d : DiskState). d.standing) same ∙ changed_files LOG disk change file (has_log (Some manifest) (Some file) disk has)
       ∙ ap (λ (fs : Files). insert fs LOG (change file)) has.standing
       ∙ inserted_twice (placed MANIFEST (Some manifest) empty) LOG file (change file);
-  removed = same.removed ∙ has.removed;
+  removed = ap (λ (d : DiskState). d.removed) same ∙ has.removed;
 }

@@ -13,7 +13,7 @@ use Rattle.vl_seglog.specs.Log.{Commit, HasFrame, StandsAt, ReadsLog, log_bytes,
 use Rattle.vl_seglog.specs.Laws.{frame_is_some, header_length, one_front, reads_whole, reads_torn, nothing_in_header}
 use Rattle.vl_journal.specs.declared.names.TheConstants.{NUMBER, MANIFEST, LOG}
 use Rattle.vl_journal.specs.Files.{HasFiles, Holds, first_manifest}
-use Rattle.vl_journal.specs.Images.{LogShows, ImageShows, SpellsCommit, Leaves, IsNone, IsOneOf}
+use Rattle.vl_journal.specs.Images.{LogShows, ImageShows, SpellsCommit, Leaves, ShowsNone, ShowsEither}
 use Rattle.vl_journal.specs.StoreFiles.{IsPart, part_empty, part_some, part_all, has_log, has_manifest, has_no_other, removed_none}
 
 some_none : {X : Type 0} (x : X) → Some x ≡ None → ⊥
@@ -56,34 +56,28 @@ module _ (manifest log : Option File) (disk : DiskState) (has : HasFiles manifes
 not_there : (left : Option (List ℕ)) (P : Type 0) → left ≡ None → IsSome left → P
 not_there left P none some = absurd (false_true (subst IsSome none some))
 
-pub leaves_no_log : (manifest : Option File) (disk : DiskState) → HasFiles manifest None disk → Leaves IsNone disk
+pub leaves_no_log : (manifest : Option File) (disk : DiskState) → HasFiles manifest None disk → Leaves ShowsNone disk
 leaves_no_log manifest disk has image may chance =
-    let none : get image LOG ≡ None = nothing_left (get image LOG) (left_log manifest None disk has image may) in (
-      [],
-      refl,
-      record {
-        log = subst (λ (o : Option (List ℕ)). LogShows o []) (sym none) refl;
-        manifest = not_there (get image LOG) _ none;
-        alone = left_nothing_else manifest None disk has image may;
-      },
-    )
+    let none : get image LOG ≡ None = nothing_left (get image LOG) (left_log manifest None disk has image may) in
+    record {
+      log = subst (λ (o : Option (List ℕ)). LogShows o []) (sym none) refl;
+      manifest = not_there (get image LOG) _ none;
+      alone = left_nothing_else manifest None disk has image may;
+    }
 
 -- ---- a log that is all durable
 
 begins_with_header : (commits : List Commit) → take 16 (log_bytes NUMBER commits) ≡ log_header NUMBER
 begins_with_header commits = refl
 
-pub leaves_all : (commits : List Commit) (disk : DiskState) → Holds commits disk → Leaves (λ found. found ≡ commits) disk
+pub leaves_all : (commits : List Commit) (disk : DiskState) → Holds commits disk → Leaves (λ image. ImageShows image commits) disk
 leaves_all commits disk holds image may chance =
-    let left : get image LOG ≡ Some (log_bytes NUMBER commits) = all_left (log_bytes NUMBER commits) (get image LOG) (left_log _ _ disk holds.files_are image may) in (
-      commits,
-      refl,
-      record {
-        log = subst (λ (o : Option (List ℕ)). LogShows o commits) (sym left) (reads_whole NUMBER commits holds.have_frames, λ some. begins_with_header commits);
-        manifest = λ some. all_left first_manifest (get image MANIFEST) (left_manifest _ _ disk holds.files_are image may);
-        alone = left_nothing_else _ _ disk holds.files_are image may;
-      },
-    )
+    let left : get image LOG ≡ Some (log_bytes NUMBER commits) = all_left (log_bytes NUMBER commits) (get image LOG) (left_log _ _ disk holds.files_are image may) in
+    record {
+      log = subst (λ (o : Option (List ℕ)). LogShows o commits) (sym left) (reads_whole NUMBER commits holds.have_frames, λ some. begins_with_header commits);
+      manifest = λ some. all_left first_manifest (get image MANIFEST) (left_manifest _ _ disk holds.files_are image may);
+      alone = left_nothing_else _ _ disk holds.files_are image may;
+    }
 
 -- ---- a log that is being made
 
@@ -112,16 +106,12 @@ module _ (file : File) (disk : DiskState) (has : HasFiles (Some (settled first_m
   from_16 : torn_from file ≡ 16
   from_16 = omega (arith, begun)
 
-  pub leaves_unsynced_log : Leaves IsNone disk
-  leaves_unsynced_log image may chance = (
-    [],
-    refl,
-    record {
-      log = shows (get image LOG) refl;
-      manifest = λ some. all_left first_manifest (get image MANIFEST) (left_manifest _ _ disk has image may);
-      alone = left_nothing_else _ _ disk has image may;
-    },
-  )
+  pub leaves_unsynced_log : Leaves ShowsNone disk
+  leaves_unsynced_log image may chance = record {
+    log = shows (get image LOG) refl;
+    manifest = λ some. all_left first_manifest (get image MANIFEST) (left_manifest _ _ disk has image may);
+    alone = left_nothing_else _ _ disk has image may;
+  }
     where
       last : last_file (get disk.standing LOG) (get disk.removed LOG) ≡ Some file
       last = ap (λ (o : Option File). last_file o (get disk.removed LOG)) (has_log _ _ disk has)
@@ -137,7 +127,7 @@ module _ (file : File) (disk : DiskState) (has : HasFiles (Some (settled first_m
       shows None is = refl
       shows (Some bytes) is = (nothing_in_header NUMBER bytes (no_frame bytes is), λ some. absurd (some refl))
 
-pub leaves_part : (file : File) (disk : DiskState) → IsPart (log_header NUMBER) file → HasFiles (Some (settled first_manifest)) (Some file) disk → Leaves IsNone disk
+pub leaves_part : (file : File) (disk : DiskState) → IsPart (log_header NUMBER) file → HasFiles (Some (settled first_manifest)) (Some file) disk → Leaves ShowsNone disk
 leaves_part file disk part_empty has = leaves_unsynced_log new_file disk has refl refl (λ frame some due. no_item (StandsIn 16 frame) due)
 leaves_part file disk (part_some taken) has =
     leaves_unsynced_log (lengthened (log_header NUMBER) taken new_file) disk has refl refl
@@ -222,12 +212,12 @@ module _ (commits : List Commit) (have : AllByRecursion HasFrame commits) (c : C
       alone = left_nothing_else _ _ disk has image may;
     }
 
-  pub leaves_torn : Leaves (IsOneOf commits (commits ++ c ∷ [])) disk
+  pub leaves_torn : Leaves (ShowsEither commits (commits ++ c ∷ [])) disk
   leaves_torn image may chance = there (get image LOG) refl
     where
-      there : (left : Option (List ℕ)) → get image LOG ≡ left → (found : List Commit) × IsOneOf commits (commits ++ c ∷ []) found × ImageShows image found
+      there : (left : Option (List ℕ)) → get image LOG ≡ left → ShowsEither commits (commits ++ c ∷ []) image
       there None is = absurd (true_false (subst (λ (o : Option (List ℕ)). MayLeaveOne (Some file) None o) is (left_log _ _ disk has image may)))
       there (Some bytes) is = ⊎_elim
-          (λ (before : ReadsLog NUMBER (old ++ drop (length old) bytes) commits). (commits, inl refl, shows image may chance bytes is commits before))
-          (λ (after : ReadsLog NUMBER (old ++ drop (length old) bytes) (commits ++ c ∷ [])). (commits ++ c ∷ [], inr refl, shows image may chance bytes is (commits ++ c ∷ []) after))
+          (λ (before : ReadsLog NUMBER (old ++ drop (length old) bytes) commits). inl (shows image may chance bytes is commits before))
+          (λ (after : ReadsLog NUMBER (old ++ drop (length old) bytes) (commits ++ c ∷ [])). inr (shows image may chance bytes is (commits ++ c ∷ []) after))
           (reads image may chance bytes is)

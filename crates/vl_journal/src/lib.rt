@@ -15,7 +15,4 @@ mod writing;
 pub use fails::OpenFail;
 pub use names::{LOG, MANIFEST, NUMBER};
 pub use opening::open_store;
-pub use writing::write_staged;
-
-#[cfg(test)]
-mod tests;
+pub use writing::append_durably;

@@ -1,10 +1,11 @@
-ghost use Rattle.std.specs.Prelude.{◌≡◌, ◌+◌, ◌-◌, ◌^◌, [], min, Some, Err, OnOk};
+ghost use Rattle.std.specs.Prelude.{◌≡◌, [], Some, Err, OnOk};
 ghost use Rattle.std.specs.Option.{ForSome};
 ghost use Rattle.vl_disk.specs.DiskState.{DiskState};
-ghost use Rattle.vl_disk.specs.Disk.{Stands, IsUnheld, HasCause};
+ghost use Rattle.vl_disk.specs.Disk.{Stands};
+ghost use Rattle.vl_disk.specs.Faults.{HasCause, after_calls};
 ghost use Rattle.vl_disk.specs.Moments.{HoldsThroughout};
 ghost use Rattle.vl_journal.specs.Files.{IsEmpty, Holds, StandsSome, StandsNothing};
-ghost use Rattle.vl_journal.specs.Images.{Leaves, IsNone};
+ghost use Rattle.vl_journal.specs.Images.{Leaves, ShowsNone};
 
 use crate::OpenFail;
 use crate::manifest::first_manifest;
@@ -17,22 +18,24 @@ use vl_seglog::log_header;
 pub fn open_store<D: Disk>(alloc: Global, disk: &mut D) -> Result<(), OpenFail>
     // The manifest and the log are made by six changing calls.
     ensures opened { (state : DiskState) → D.told disk.old ≡ Some state → IsEmpty state
-        → OnOk result ((now : DiskState) × (D.told disk.new ≡ Some now) × Holds [] now × (now.calls ≡ min (state.calls + 6) (2 ^ 64 - 1))) }
+        → OnOk result ((now : DiskState) × (D.told disk.new ≡ Some now) × Holds [] now) }
+    ensures calls { OnOk result (D.calls disk.new ≡ after_calls 6 (D.calls disk.old)) }
     ensures stands { OnOk result (ForSome (D.told disk.new) (Stands LOG)) }
-    ensures unheld { OnOk result (ForSome (D.told disk.new) (IsUnheld LOG)) }
 
     // It isn't opened where anything stands, and is refused as no store only there. Then, and where memory ran out, nothing
     // was changed.
     ensures free { OnOk result (ForSome (D.told disk.old) StandsNothing) }
     ensures not_a_store { result ≡ Err OpenFail.NotAStore → ForSome (D.told disk.old) StandsSome }
-    ensures occupied { (state : DiskState) → D.told disk.old ≡ Some state → StandsSome state → D.told disk.new ≡ D.told disk.old }
+    ensures occupied { (state : DiskState) → D.told disk.old ≡ Some state → StandsSome state
+        → D.told disk.new ≡ D.told disk.old }
     ensures refused { result ≡ Err OpenFail.NotAStore → D.told disk.new ≡ D.told disk.old }
     ensures no_memory { result ≡ Err OpenFail.NoMemory → D.told disk.new ≡ D.told disk.old }
 
     // What a crash leaves meanwhile shows no commit, if no torn bytes spell a frame by chance.
     ensures through { (state : DiskState) → D.told disk.old ≡ Some state → IsEmpty state
-        → HoldsThroughout D.moment D.states_since disk.old disk.new (Leaves IsNone) }
-    ensures tells { (state : DiskState) → D.told disk.old ≡ Some state → (now : DiskState) × (D.told disk.new ≡ Some now) }
+        → HoldsThroughout D.Watched disk.old disk.new (Leaves ShowsNone) }
+    ensures tells { (state : DiskState) → D.told disk.old ≡ Some state
+        → (now : DiskState) × (D.told disk.new ≡ Some now) }
     ensures cause { HasCause (D.faults disk.old) (D.faults disk.new) (result ≡ Err OpenFail.Disk) }
 {
     if !disk.list(alloc)?.is_empty() {

@@ -1,137 +1,191 @@
--- A run that opens its store first.
-use Rattle.std.proofs.Common.{◌≡◌, ◌⊎◌, inl, ⊎_elim, ℕ, suc, ◌≤◌, List, [], ◌∷◌, ◌++◌, length, take, Option, Some, refl, sym, ◌∙◌, ap, subst}
+-- A run that opens its store first, or can't.
+use Rattle.std.proofs.Common.{◌≡◌, ◌≢◌, ◌⊎◌, inl, ℕ, zero, suc, ◌≤◌, List, [], ◌∷◌, take, Option, Some, refl, sym, ◌∙◌, ap, subst, arith}
 use Rattle.vl_model.specs.History.{History}
-use Rattle.vl_disk.specs.Faults.{Rose}
+use Rattle.vl_disk.specs.declared.watched.Watched.{Ghosts}
+use Rattle.vl_disk.specs.Faults.{Rose, HasCause}
 use Rattle.vl_disk.specs.DiskState.{DiskState}
-use Rattle.vl_disk.specs.Crash.{SameFiles}
-use Rattle.vl_disk.specs.Moments.{HoldsThroughout, holds_weaker, holds_then}
-use Rattle.vl_seglog.specs.Log.{Commit}
-use Rattle.vl_journal.specs.Files.{IsEmpty}
-use Rattle.vl_journal.specs.Images.{Leaves, IsNone}
+use Rattle.vl_disk.specs.Crash.{Image}
+use Rattle.vl_disk.specs.Moments.{HoldsThroughout}
+use Rattle.vl_io.specs.declared.sink.Sink as sink
+use Rattle.vl_io.specs.Sink.{Takes}
 use Rattle.vl_journal.specs.declared.fails.OpenFail.{OpenFail as Why}
 use Rattle.vl_journal.specs.declared.fails.OpenFail.TheVariants as why
 use Rattle.vl_script.specs.Script.{lines_of}
-use Rattle.vl_replay.specs.Sequential.{empty_store}
-use Rattle.vl_replay.specs.Replay.{Exchange, exchanges_from, history_after, no_memory_line, disk_fault_line, not_a_store_line, KeepsUp}
-use Rattle.vl_replay.specs.Durable.{HoldsState, logged, AreFirstOf, AreBetween, EndsBetweenLines, CutsAnswer, GoesAlong, DiskEndsFrom, DiskEndsFromEmpty}
-use Rattle.vl_replay.specs.Opening.{refusal_line, refusal_of}
-use Rattle.vl_replay.specs.Steps.{Causes, EndsBefore, EndsRun, Finishes}
+use Rattle.vl_replay.specs.Sequential.{State}
+use Rattle.vl_replay.specs.Exchanges.{Exchange, KeepsUp, history_after}
+use Rattle.vl_replay.specs.Between.{Extends}
+use Rattle.vl_replay.specs.Endings.{Culprit, TheDisk, TheSink, TheSource, Counts, Causes, CutsAnswer, IsBetweenLines, culprit_of, last_line}
+use Rattle.vl_replay.specs.Runs.{Script, exchanges, next_number, Stops, Course, Outside, CausesOf, EndsRun}
+use Rattle.vl_replay.specs.Durable.{LeavesItsHistory, StaysShown, Tells, HoldsState, GoesFrom, GoesAlong, DiskEnds, DiskEndsFrom}
+use Rattle.vl_replay.specs.Opening.{refusal_of}
+use Rattle.vl_replay.specs.Steps.{EndsBefore, Finishes, FinishesBy}
 use Rattle.vl_replay.specs.declared.ending.Ending.{Ending}
-use Rattle.vl_replay.specs.declared.ending.Ending.TheVariants.{Complete, BadLine, BadWords, DiskFault, NotAStore, NoMemory, ReadFault, WriteFault, AnswerCut}
-use Rattle.vl_replay.proofs.Replays.{ends_weaker, finished, no_memory_ends, disk_fault_ends, not_a_store_ends, rose_earlier}
-use Rattle.vl_replay.proofs.Texts.{last_line_cuts_nothing, fault_with_memory}
-use Rattle.vl_replay.proofs.DiskSteps.{exchanges_extend, leaves_weaker, ends_later}
+use Rattle.vl_replay.specs.declared.ending.Ending.TheVariants.{NotAStore, NoMemory, DiskFault, WriteFault}
+use Rattle.vl_replay.proofs.Betweens.{extends_itself}
+use Rattle.vl_replay.proofs.Ends.{ends_weaker, causes_weaker, finished, or_cut, finish_counts, counts_none}
+use Rattle.vl_replay.proofs.DiskSteps.{IsWatched, exchanges_extend, exchange_extends, goes_wider, goes_then, at_end, ends_later, rose_earlier}
 
--- a fault that was counted since the store was opened was counted since the begin
-causes_earlier : (f t fd fd' td : ℕ) (occupied : Type 0) → fd ≤ fd' → (ending : Ending) → Causes f t fd' td ⊥ ending → Causes f t fd td occupied ending
-causes_earlier f t fd fd' td occupied le Complete cause = absurd cause
-causes_earlier f t fd fd' td occupied le BadLine cause = absurd cause
-causes_earlier f t fd fd' td occupied le BadWords cause = absurd cause
-causes_earlier f t fd fd' td occupied le DiskFault cause = rose_earlier fd fd' td le cause
-causes_earlier f t fd fd' td occupied le NotAStore cause = absurd cause
-causes_earlier f t fd fd' td occupied le NoMemory cause = absurd cause
-causes_earlier f t fd fd' td occupied le ReadFault cause = cause
-causes_earlier f t fd fd' td occupied le WriteFault cause = absurd cause
-causes_earlier f t fd fd' td occupied le AnswerCut cause = absurd cause
+-- ---- the store wasn't opened
 
-none_up_to : (most : History) (commits : List Commit) → IsNone commits → AreFirstOf most commits
-none_up_to most commits none = (logged most, ap (λ cs. cs ++ logged most) (sym none))
+-- a refusal stops a run before anything is read
+refusal_stops : (by_source by_disk by_files : Type 0) (script : Script) (left : Option (List ℕ)) (how : Why) → (how ≡ why.NotAStore → by_files) → (how ≡ why.Disk → by_disk) → left ≡ Some script.bytes
+    → Stops (Causes by_source by_disk by_files) script left 0 (culprit_of (refusal_of how))
+refusal_stops by_source by_disk by_files script left why.NotAStore occupied fault unread = (occupied refl, refl, unread)
+refusal_stops by_source by_disk by_files script left why.NoMemory occupied fault unread = tt
+refusal_stops by_source by_disk by_files script left why.Disk occupied fault unread = fault refl
 
-none_within : (most : History) (commits : List Commit) → IsNone commits → AreBetween empty_store.history most commits
-none_within most commits none = ([], none, none_up_to most commits none)
+-- and its line is the same whatever line comes next
+same_line : (n : ℕ) (how : Why) → last_line n (refusal_of how) ≡ last_line 0 (refusal_of how)
+same_line n why.NotAStore = refl
+same_line n why.NoMemory = refl
+same_line n why.Disk = refl
 
--- a last line that says that the store wasn't opened
-not_whole : (ending result : Ending) (P Q : Type 0) → (EndsBetweenLines ending → ⊥) → ((result ≡ ending) × P) ⊎ ((result ≡ WriteFault) × Q) → EndsBetweenLines result → ⊥
-not_whole ending result P Q none how whole = ⊎_elim
-    (λ (same : (result ≡ ending) × P). none (subst EndsBetweenLines same.0 whole))
-    (λ (cut : (result ≡ WriteFault) × Q). subst EndsBetweenLines cut.0 whole)
-    how
+pub refused : {K : Type 0} (k : sink.Ghosts K) (old new : K) (by_source by_disk by_files : Type 0) (script : Script) (left : Option (List ℕ)) (how : Why) (result : Ending) → (how ≡ why.NotAStore → by_files) → (how ≡ why.Disk → by_disk)
+    → left ≡ Some script.bytes → FinishesBy k old new (refusal_of how) result → EndsBefore (Causes by_source by_disk by_files) script left result (k.held old) (k.held new)
+refused k old new by_source by_disk by_files script left how result occupied fault unread (line, own, finishes) =
+    finished k old new (Causes by_source by_disk by_files) script left (refusal_of how) result line (same_line (next_number script 0) how ∙ own)
+    (refusal_stops by_source by_disk by_files script left how occupied fault unread) finishes
 
-not_a_store_apart : why.NotAStore ≡ why.Disk → ⊥
-not_a_store_apart e = cc
+-- of a refusal and of a line that couldn't be put it holds that nothing was answered and no answer cut
+abbrev pub AnswersNothing : Ending → Type 0
+AnswersNothing ending = (IsBetweenLines (culprit_of ending) → ⊥) × (CutsAnswer ending → ⊥)
 
-no_memory_apart : why.NoMemory ≡ why.Disk → ⊥
-no_memory_apart e = cc
+nothing_refused : (how : Why) → AnswersNothing (refusal_of how)
+nothing_refused why.NotAStore = (λ never. never, λ e. cc)
+nothing_refused why.NoMemory = (λ never. never, λ e. cc)
+nothing_refused why.Disk = (λ never. never, λ e. cc)
 
-module _ {D : Type 0} (told : D → Option DiskState) (moment : D → ℕ) (since : D → ℕ → DiskState → Type 0) (faults : D → ℕ)
-    (only_now : (disk : D) (state other : DiskState) → told disk ≡ Some state → since disk (moment disk) other → SameFiles other state)
-    (counts_now : (disk : D) (state : DiskState) (t : ℕ) → told disk ≡ Some state → t ≤ moment disk → since disk t state) where
-  -- the store wasn't opened
-  pub unopened : (old new : D) (ending result : Ending) (P Q : Type 0) (most : History) → (EndsBetweenLines ending → ⊥) → (CutsAnswer ending → ⊥) → ((result ≡ ending) × P) ⊎ ((result ≡ WriteFault) × Q)
-      → ((state : DiskState) → told old ≡ Some state → IsEmpty state → HoldsThroughout moment since old new (Leaves IsNone))
-      → ((state : DiskState) → told old ≡ Some state → (now : DiskState) × (told new ≡ Some now))
-      → ((Rose (faults old) (faults new) → ⊥) → told new ≡ told old)
-      → (result ≡ NoMemory → told new ≡ told old)
-      → DiskEndsFromEmpty told moment since faults old new result [] most
-  unopened old new ending result P Q most none none_cut how through tells kept kept_out state is empty =
-      let through' = through state is empty in
-      let now = tells state is in
+nothing_cut : AnswersNothing WriteFault
+nothing_cut = (λ never. never, λ e. cc)
+
+pub refused_nothing : {K : Type 0} (k : sink.Ghosts K) (old new : K) (how : Why) (result : Ending) → FinishesBy k old new (refusal_of how) result → AnswersNothing result
+refused_nothing k old new how result (line, own, finishes) = or_cut k old new line (refusal_of how) result AnswersNothing finishes (nothing_refused how) nothing_cut
+
+-- where the run ended by want of memory, that was why
+pub out_of_memory : {K : Type 0} (k : sink.Ghosts K) (old new : K) (how : Why) (result : Ending) → FinishesBy k old new (refusal_of how) result → result ≡ NoMemory → how ≡ why.Disk → ⊥
+out_of_memory k old new how result (line, own, finishes) = or_cut k old new line (refusal_of how) result (λ (e : Ending). e ≡ NoMemory → how ≡ why.Disk → ⊥) finishes (of how) (λ e _. cc)
+  where
+    of : (how : Why) → refusal_of how ≡ NoMemory → how ≡ why.Disk → ⊥
+    of why.NotAStore e is = cc
+    of why.NoMemory e is = cc
+    of why.Disk e is = cc
+
+module _ {D : Type 0} (g : Ghosts D) (watched : IsWatched g) (holds : State → DiskState → Type 0) (shows : Image → History → ℕ → Type 0)
+    (stays : StaysShown shows) (exactly : LeavesItsHistory holds shows) (P : Type 0) (by_files : Type 0) (script : Script) (first end : Outside D) where
+  abbrev pub SoFar : Course → Type 0
+  SoFar run = P → DiskEnds g holds shows (g.told end.disk ≡ g.told first.disk) first.disk end.disk run
+
+  -- nothing was opened
+  pub ends_refused : (ending : Ending) → AnswersNothing ending → EndsBefore (CausesOf g first end by_files) script end.left ending first.held end.held → KeepsUp script.bytes end.asked 0
+      → (P → GoesFrom g shows first.disk end.disk script.start.history script.start.history) → (P → Tells g end.disk (λ _. Unit {0}))
+      → ((Rose (g.faults first.disk) (g.faults end.disk) → ⊥) → g.told end.disk ≡ g.told first.disk) → (ending ≡ NoMemory → g.told end.disk ≡ g.told first.disk)
+      → EndsRun g by_files SoFar script first end ending
+  ends_refused ending (none, none_cut) before kept_up goes tells kept kept_out =
+      let h = script.start.history in
+      let most = history_after h (take 1 (exchanges script)) in
       record {
-        through = holds_weaker moment since (Leaves IsNone) (Leaves (AreBetween empty_store.history most)) old new through' (leaves_weaker IsNone (AreBetween empty_store.history most) (none_within most));
-        along = tt;
-        now = (now.0, now.1, leaves_weaker IsNone (AreBetween empty_store.history most) (none_within most) now.0 (through'.each now.0 (counts_now new now.0 (moment old) now.1 through'.later)));
-        settled = λ sound. (state, kept sound ∙ is, inl (kept sound));
-        no_memory = λ out. (state, kept_out out ∙ is, inl (kept_out out));
-        whole = λ whole. absurd (not_whole ending result P Q none how whole);
-        cut = λ cuts. absurd (last_line_cuts_nothing ending result P Q none_cut how cuts);
+        answered = 0;
+        printed = before.printed;
+        taken = before.taken;
+        ends = before.ends;
+        kept_up = kept_up;
+        disk = λ p.
+            let through = goes_wider g watched holds shows stays exactly first.disk end.disk h h h most (extends_itself h) (exchanges_extend (lines_of script.bytes) script.start 1) (goes p) in
+            record {
+              through = through;
+              along = tt;
+              now = at_end g watched holds shows stays exactly first.disk end.disk h most through (tells p);
+              settled = λ sound. inl (kept sound);
+              no_memory = λ out. inl (kept_out out);
+              whole = λ between. absurd (none between);
+              cut = λ cuts. absurd (none_cut cuts);
+            };
       }
 
-  pub ends_unopened : (cause : Ending → Type 0) (old new : D) (ending result : Ending) (P Q : Type 0) (input : List ℕ) (left asked held held' : Option (List ℕ)) → (EndsBetweenLines ending → ⊥) → (CutsAnswer ending → ⊥) → ((result ≡ ending) × P) ⊎ ((result ≡ WriteFault) × Q)
-      → EndsBefore cause empty_store 0 input left result held held' → KeepsUp input asked 0
-      → ((state : DiskState) → told old ≡ Some state → IsEmpty state → HoldsThroughout moment since old new (Leaves IsNone))
-      → ((state : DiskState) → told old ≡ Some state → (now : DiskState) × (told new ≡ Some now))
-      → ((Rose (faults old) (faults new) → ⊥) → told new ≡ told old)
-      → (result ≡ NoMemory → told new ≡ told old)
-      → EndsRun cause (DiskEndsFromEmpty told moment since faults old new) empty_store 0 input left asked result held held'
-  ends_unopened cause old new ending result P Q input left asked held held' none none_cut how (printed, printed_is, run) kept_up through tells kept kept_out =
-      (printed, 0, printed_is, run, kept_up, unopened old new ending result P Q (history_after empty_store.history (take 1 (exchanges_from empty_store (lines_of input)))) none none_cut how through tells kept kept_out)
+  -- ---- the store was opened before the first line
 
-  -- the store wasn't opened, and the last line says why
-  pub ends_refused : (how : Why) (cause : Ending → Type 0) (old new : D) (result : Ending) (P Q : Type 0) (input : List ℕ) (left asked held held' : Option (List ℕ)) → (how ≡ why.NotAStore → cause NotAStore) → (how ≡ why.Disk → cause DiskFault) → left ≡ Some input
-      → Finishes held (refusal_line how) (refusal_of how) result held' → ((result ≡ refusal_of how) × P) ⊎ ((result ≡ WriteFault) × Q) → KeepsUp input asked 0
-      → ((state : DiskState) → told old ≡ Some state → IsEmpty state → HoldsThroughout moment since old new (Leaves IsNone))
-      → ((state : DiskState) → told old ≡ Some state → (now : DiskState) × (told new ≡ Some now))
-      → ((Rose (faults old) (faults new) → ⊥) → told new ≡ told old)
-      → ((how ≡ why.Disk → ⊥) → told new ≡ told old)
-      → EndsRun cause (DiskEndsFromEmpty told moment since faults old new) empty_store 0 input left asked result held held'
-  ends_refused why.NotAStore cause old new result P Q input left asked held held' occupied fault told_is finishes counts kept_up through tells kept unfailed =
-      let ends = not_a_store_ends cause empty_store 0 input left (occupied refl) told_is in
-      ends_unopened cause old new NotAStore result P Q input left asked held held' (λ never. never) (λ never. never) counts
-      (finished cause (exchanges_from empty_store (lines_of input)) (length (lines_of input)) 0 input left NotAStore result not_a_store_line held held' ends.0 ends.1 finishes) kept_up through tells kept (λ out. unfailed not_a_store_apart)
-  ends_refused why.NoMemory cause old new result P Q input left asked held held' occupied fault told_is finishes counts kept_up through tells kept unfailed =
-      let ends = no_memory_ends cause empty_store 0 input left in
-      ends_unopened cause old new NoMemory result P Q input left asked held held' (λ never. never) (λ never. never) counts
-      (finished cause (exchanges_from empty_store (lines_of input)) (length (lines_of input)) 0 input left NoMemory result no_memory_line held held' ends.0 ends.1 finishes) kept_up through tells kept (λ out. unfailed no_memory_apart)
-  ends_refused why.Disk cause old new result P Q input left asked held held' occupied fault told_is finishes counts kept_up through tells kept unfailed =
-      let ends = disk_fault_ends cause empty_store 0 input left (fault refl) in
-      ends_unopened cause old new DiskFault result P Q input left asked held held' (λ never. never) (λ never. never) counts
-      (finished cause (exchanges_from empty_store (lines_of input)) (length (lines_of input)) 0 input left DiskFault result disk_fault_line held held' ends.0 ends.1 finishes) kept_up through tells kept (λ out. absurd (fault_with_memory result P Q counts (ap Some out)))
+  along_opened : (mid new : D) (h most : History) (all : List Exchange) (m : ℕ) → Extends h (history_after h (take 1 all)) → GoesFrom g shows first.disk mid h h
+      → GoesAlong g holds shows new most mid h (take m all) → GoesAlong g holds shows new most first.disk h (take m all)
+  along_opened mid new h most [] zero extends goes along = tt
+  along_opened mid new h most [] (suc m) extends goes along = tt
+  along_opened mid new h most (e ∷ all) zero extends goes along = tt
+  along_opened mid new h most (e ∷ all) (suc m) extends goes (passed, step, there, on, later) =
+      (passed, goes_then g watched holds shows stays exactly first.disk mid passed h h e.after.history (extends_itself h) extends goes step, there, on, later)
 
-  -- the store was opened before the first line
-  along_opened : (first mid new : D) (begun : ℕ) (most : History) (answered : List Exchange) → HoldsThroughout moment since first mid (Leaves IsNone) → GoesAlong told moment since new begun most mid empty_store.history answered → GoesAlong told moment since new begun most first empty_store.history answered
-  along_opened first mid new begun most [] through along = tt
-  along_opened first mid new begun most (e ∷ later) through (behind, step, there, on, rest) =
-      let P = AreBetween empty_store.history e.after.history in
-      (behind, holds_then moment since (Leaves P) first mid behind (holds_weaker moment since (Leaves IsNone) (Leaves P) first mid through (leaves_weaker IsNone P (none_within e.after.history))) step, there, on, rest)
+  pub ends_opened : (mid : Outside D) (ending : Ending) → mid.source_faults ≡ first.source_faults → mid.held ≡ first.held → g.faults first.disk ≤ g.faults mid.disk
+      → (P → HoldsState g holds script.start mid.disk) → (P → GoesFrom g shows first.disk mid.disk script.start.history script.start.history)
+      → EndsRun g ⊥ (DiskEndsFrom g holds shows mid.disk end.disk script.start) script mid end ending
+      → EndsRun g by_files SoFar script first end ending
+  ends_opened mid ending same_faults same_held earlier opened goes run =
+      let h = script.start.history in
+      let all = exchanges script in
+      let m = run.answered in
+      let extends = exchanges_extend (lines_of script.bytes) script.start in
+      record {
+        answered = m;
+        printed = run.printed;
+        taken = subst (λ (held : Option (List ℕ)). Takes held end.held run.printed) same_held run.taken;
+        ends = ends_weaker (CausesOf g mid end ⊥) (CausesOf g first end by_files)
+            (causes_weaker (Rose mid.source_faults end.source_faults) (Rose (g.faults mid.disk) (g.faults end.disk)) ⊥ (Rose first.source_faults end.source_faults) (Rose (g.faults first.disk) (g.faults end.disk)) by_files
+            (λ rose. subst (λ (n : ℕ). Rose n end.source_faults) same_faults rose) (λ rose. rose_earlier (g.faults first.disk) (g.faults mid.disk) (g.faults end.disk) earlier rose) (λ never. absurd never))
+            script end.left m ending run.printed run.ends;
+        kept_up = run.kept_up;
+        disk = λ p.
+            ends_later g watched holds shows stays exactly (g.told end.disk ≡ g.told first.disk) first.disk mid.disk end.disk ending h h (history_after h (take (suc m) all)) (take m all) (take m all)
+            (extends_itself h) (extends (suc m)) earlier (goes p) (λ _ along. along_opened mid.disk end.disk h (history_after h (take (suc m) all)) all m (extends 1) (goes p) along) refl
+            (run.disk (opened p));
+      }
 
-  -- the store was opened, and a run went on over it
-  pub ends_opened : (f t : ℕ) (occupied : Type 0) (first mid new : D) (input : List ℕ) (left asked : Option (List ℕ)) (ending : Ending) (held held' : Option (List ℕ)) → faults first ≤ faults mid
-      → ((state : DiskState) → told first ≡ Some state → IsEmpty state → (now : DiskState) × (told mid ≡ Some now) × HoldsState state.calls empty_store now)
-      → ((state : DiskState) → told first ≡ Some state → IsEmpty state → HoldsThroughout moment since first mid (Leaves IsNone))
-      → EndsRun (Causes f t (faults mid) (faults new) ⊥) (DiskEndsFrom told moment since faults mid new empty_store) empty_store 0 input left asked ending held held'
-      → EndsRun (Causes f t (faults first) (faults new) occupied) (DiskEndsFromEmpty told moment since faults first new) empty_store 0 input left asked ending held held'
-  ends_opened f t occupied first mid new input left asked ending held held' earlier opened through (printed, m, printed_is, run, kept_up, so) =
-      let all = exchanges_from empty_store (lines_of input) in
-      let most = history_after empty_store.history (take (suc m) all) in (
-        printed,
-        m,
-        printed_is,
-        ends_weaker (Causes f t (faults mid) (faults new) ⊥) (Causes f t (faults first) (faults new) occupied) (causes_earlier f t (faults first) (faults mid) (faults new) occupied earlier) all (length (lines_of input)) 0 input left m ending printed run,
-        kept_up,
-        λ state is empty.
-            let now = opened state is empty in
-            ends_later told moment since faults only_now counts_now (told new ≡ told first) first mid new state.calls ending empty_store.history most (take m all) (take m all) (exchanges_extend (lines_of input) empty_store (suc m)) earlier
-            (holds_weaker moment since (Leaves IsNone) (Leaves (AreFirstOf empty_store.history)) first mid (through state is empty) (leaves_weaker IsNone (AreFirstOf empty_store.history) (none_up_to empty_store.history)))
-            (λ _ along. along_opened first mid new state.calls most (take m all) (through state is empty) along) refl
-            (so state.calls now.0 now.1 now.2),
-      )
+-- ---- what a refused opening counts, and puts
+
+pub some_why : {a b : Why} → Some a ≡ Some b → a ≡ b
+some_why e = cc
+
+some_culprit : (a b : Culprit) → Some a ≡ Some b → a ≡ b
+some_culprit a b e = cc
+
+module _ {K : Type 0} (k : sink.Ghosts K) (old new : K) (how : Why) (result : Ending) (finishes : FinishesBy k old new (refusal_of how) result) where
+  of_result : (P : Ending → Type 0) → P (refusal_of how) → P WriteFault → P result
+  of_result P whole cut = or_cut k old new finishes.0 (refusal_of how) result P finishes.2 whole cut
+
+  -- it was refused as no store
+  pub refused_as : result ≡ NotAStore → how ≡ why.NotAStore
+  refused_as = of_result (λ (e : Ending). e ≡ NotAStore → how ≡ why.NotAStore) (of how) (λ e. cc)
+    where
+      of : (how : Why) → refusal_of how ≡ NotAStore → how ≡ why.NotAStore
+      of why.NotAStore e = refl
+      of why.NoMemory e = cc
+      of why.Disk e = cc
+
+  pub counts_sink : Counts TheSink (Some result) (k.faults old) (k.faults new)
+  counts_sink = finish_counts k old new finishes.0 (refusal_of how) result (of how) finishes.2
+    where
+      of : (how : Why) → culprit_of (refusal_of how) ≢ TheSink
+      of why.NotAStore e = cc
+      of why.NoMemory e = cc
+      of why.Disk e = cc
+
+  pub counts_source : (n : ℕ) → Counts TheSource (Some result) n n
+  counts_source n = counts_none TheSource result n (of_result (λ (e : Ending). culprit_of e ≢ TheSource) (of how) (λ e. cc))
+    where
+      of : (how : Why) → culprit_of (refusal_of how) ≢ TheSource
+      of why.NotAStore e = cc
+      of why.NoMemory e = cc
+      of why.Disk e = cc
+
+  pub counts_disk : (before now : ℕ) (failed : Type 0) → (failed → how ≡ why.Disk) → (how ≡ why.Disk → failed) → HasCause before now failed → Counts TheDisk (Some result) before now
+  counts_disk before now failed was is cause = record {
+    later = cause.later;
+    rose = λ by. cause.rose (is (of_result (λ (e : Ending). culprit_of e ≡ TheDisk → how ≡ why.Disk) (by_disk how) (λ e. cc) (some_culprit (culprit_of result) TheDisk by)));
+    steady = λ other whole. cause.steady (λ f. of_result (λ (e : Ending). how ≡ why.Disk → Some (culprit_of e) ≢ Some TheDisk → Some e ≢ Some WriteFault → ⊥) (not_other how) (λ d o w. w refl) (was f) other whole);
+  }
+    where
+      by_disk : (how : Why) → culprit_of (refusal_of how) ≡ TheDisk → how ≡ why.Disk
+      by_disk why.NotAStore e = cc
+      by_disk why.NoMemory e = cc
+      by_disk why.Disk e = refl
+
+      not_other : (how : Why) → how ≡ why.Disk → Some (culprit_of (refusal_of how)) ≢ Some TheDisk → Some (refusal_of how) ≢ Some WriteFault → ⊥
+      not_other why.NotAStore d o w = cc
+      not_other why.NoMemory d o w = cc
+      not_other why.Disk d o w = o refl

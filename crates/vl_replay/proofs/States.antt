@@ -1,12 +1,9 @@
 -- What a replayer keeps, and the states that it stands for.
 use Rattle.std.proofs.Common.{min, ◌^◌, ◌≡◌, ℕ, zero, suc, ◌+◌, ◌-◌, ◌≤◌, ◌<◌, Bool, true, false, cond, ◌&&◌, not, List, [], ◌∷◌, ◌++◌, length, take, refl, ap, sym, ◌∙◌, subst, arith, inl, inr, length-append, Bor, ◌==◌}
-use Rattle.vl_model.specs.declared.limits.TheConstants.{MAX_COMMIT_NUMBER}
-use Rattle.vl_replay.specs.declared.replayer.limits.TheConstants.{MAX_LOG_BYTES}
-use Rattle.vl_model.specs.declared.counter.Counter.TheVariants.{Commit as CommitNumber}
 use Rattle.std.specs.Option.{option_copied}
 use Rattle.std.specs.Prelude.{Option, Some, None, is_some, nat_le, Result, Ok, Err, IfOk, OnOk}
 use Rattle.std.proofs.lemmas.Result.{IfOk-weaker}
-use Rattle.vl_replay.specs.declared.replayer.halt.Halt.{Halt}
+use Rattle.vl_replay.specs.declared.fails.Halt.{Halt}
 use Rattle.std.specs.List.{AllByRecursion}
 use Rattle.std.specs.Ordering.{eq_by_cmp}
 use Rattle.std.specs.Str.{bytes_eq}
@@ -24,18 +21,18 @@ use Rattle.vl_model.specs.declared.change.Change.TheVariants.{Set as Put, Delete
 use Rattle.vl_model.specs.HistoryLaws.{value_at-with_commit}
 use Rattle.vl_replay.specs.Memtable.{newest}
 use Rattle.vl_replay.specs.Sequential as sequential
-use Rattle.vl_replay.specs.Sequential.{State, Outcome, OpenTransaction, OpenView, with_thing, without_thing, opened, read, read_in_transaction, is_lawful_write, written, committed, dropped, frame_length, found, fits_transaction}
-use Rattle.vl_replay.specs.Represents.{IsReadable, Shows, StandsFor, IsOpen, Represents, Gives, thing_named, write_answer, writes_after}
+use Rattle.vl_replay.specs.Sequential.{State, Outcome, OpenTransaction, OpenView, with_handle, without_handle, opened, read, read_in_transaction, is_lawful_write, written, committed, dropped, frame_length, found, fits_transaction}
+use Rattle.vl_replay.specs.Represents.{IsReadable, Shows, StandsFor, IsOpen, Represents, Gives, handle_named, write_answer, writes_after}
 use Rattle.vl_replay.specs.declared.replayer.entry.Entry.{Entry}
-use Rattle.vl_replay.specs.declared.replayer.open.Open.{Open}
-use Rattle.vl_replay.specs.declared.replayer.open.Thing.{Thing}
-use Rattle.vl_replay.specs.declared.replayer.open.Thing.TheVariants.{Transaction, View}
+use Rattle.vl_replay.specs.declared.replayer.handle.Open.{Open}
+use Rattle.vl_replay.specs.declared.replayer.handle.Handle.{Handle}
+use Rattle.vl_replay.specs.declared.replayer.handle.Handle.TheVariants.{Transaction, View}
 use Rattle.vl_replay.specs.declared.replayer.memtable.Memtable.{Memtable}
 use Rattle.vl_replay.specs.declared.replayer.store.Store.{Store}
 use Rattle.vl_script.specs.declared.answer.Answer.{Answer}
 use Rattle.vl_script.specs.declared.answer.Answer.TheVariants.{Done, Number, Taken, Unknown, Invalid, TooBig, TooMany, Nothing, Full, Exhausted}
 
--- ---- one thing in use
+-- ---- one handle in use
 
 module _ {X : Type 0} where
   abbrev pub one : List ℕ → X → FinMap key_cmp X
@@ -68,39 +65,39 @@ module _ {X : Type 0} where
 
 -- ---- what a name stands for
 
--- a thing that is kept under a name, and what it stands for
-pub record IsInUse (h : History) (things : FinMap key_cmp sequential.Thing) (name : List ℕ) (kept : Thing) : Type 0 where
-  pub thing : sequential.Thing
-  pub stands : StandsFor h kept thing
-  pub alone : things ≡ one name thing
-  pub found_is : get things name ≡ Some thing
+-- a handle that is kept under a name, and what it stands for
+pub record IsInUse (h : History) (handles : FinMap key_cmp sequential.Handle) (name : List ℕ) (kept : Handle) : Type 0 where
+  pub handle : sequential.Handle
+  pub stands : StandsFor h kept handle
+  pub alone : handles ≡ one name handle
+  pub found_is : get handles name ≡ Some handle
 
-pub held_in_use : (h : History) (things : FinMap key_cmp sequential.Thing) (held : Open) (name : List ℕ) → IsOpen h (Some held) things → bytes_eq name held.name ≡ true → IsInUse h things name held.thing
-held_in_use h things held name in_use same =
+pub held_in_use : (h : History) (handles : FinMap key_cmp sequential.Handle) (held : Open) (name : List ℕ) → IsOpen h (Some held) handles → bytes_eq name held.name ≡ true → IsInUse h handles name held.handle
+held_in_use h handles held name in_use same =
     let same_name : held.name ≡ name = sym ((bytes_eq-Decides name held.name).0 same) in
-    let alone : things ≡ one name in_use.0 = in_use.2 ∙ ap (λ n. one n in_use.0) same_name in
-    record { thing = in_use.0; stands = in_use.1; alone = alone; found_is = ap (λ t. get t name) alone ∙ get-one_own name in_use.0 }
+    let alone : handles ≡ one name in_use.0 = in_use.2 ∙ ap (λ n. one n in_use.0) same_name in
+    record { handle = in_use.0; stands = in_use.1; alone = alone; found_is = ap (λ t. get t name) alone ∙ get-one_own name in_use.0 }
 
-pub other_in_use : (h : History) (things : FinMap key_cmp sequential.Thing) (held : Open) (name : List ℕ) → IsOpen h (Some held) things → bytes_eq name held.name ≡ false → get things name ≡ None
-other_in_use h things held name in_use other =
+pub other_in_use : (h : History) (handles : FinMap key_cmp sequential.Handle) (held : Open) (name : List ℕ) → IsOpen h (Some held) handles → bytes_eq name held.name ≡ false → get handles name ≡ None
+other_in_use h handles held name in_use other =
     ap (λ t. get t name) in_use.2 ∙ get-one held.name in_use.0 name ∙ cond-false _ _ _ (is_eq-slice_cmp name held.name ∙ other)
 
-pub none_in_use : (h : History) (things : FinMap key_cmp sequential.Thing) (name : List ℕ) → IsOpen h None things → get things name ≡ None
-none_in_use h things name none = ap (λ t. get t name) none ∙ get-empty key_cmp name
+pub none_in_use : (h : History) (handles : FinMap key_cmp sequential.Handle) (name : List ℕ) → IsOpen h None handles → get handles name ≡ None
+none_in_use h handles name none = ap (λ t. get t name) none ∙ get-empty key_cmp name
 
-pub unnamed : (h : History) (things : FinMap key_cmp sequential.Thing) (held : Option Open) (name : List ℕ) → IsOpen h held things → thing_named held name ≡ None → get things name ≡ None
-unnamed h things None name is none = none_in_use h things name is
-unnamed h things (Some held) name is none =
-    elim (bytes_eq name held.name) as (λ b. bytes_eq name held.name ≡ b → cond b (Some held.thing) None ≡ None → get things name ≡ None) [
+pub unnamed : (h : History) (handles : FinMap key_cmp sequential.Handle) (held : Option Open) (name : List ℕ) → IsOpen h held handles → handle_named held name ≡ None → get handles name ≡ None
+unnamed h handles None name is none = none_in_use h handles name is
+unnamed h handles (Some held) name is none =
+    elim (bytes_eq name held.name) as (λ b. bytes_eq name held.name ≡ b → cond b (Some held.handle) None ≡ None → get handles name ≡ None) [
       | true ↦ λ _ e. cc
-      | false ↦ λ other _. other_in_use h things held name is other
+      | false ↦ λ other _. other_in_use h handles held name is other
     ] refl none
 
-pub named : (h : History) (things : FinMap key_cmp sequential.Thing) (held : Option Open) (name : List ℕ) (kept : Thing) → IsOpen h held things → thing_named held name ≡ Some kept → IsInUse h things name kept
-named h things None name kept is found = cc
-named h things (Some held) name kept is found =
-    elim (bytes_eq name held.name) as (λ b. bytes_eq name held.name ≡ b → cond b (Some held.thing) None ≡ Some kept → IsInUse h things name kept) [
-      | true ↦ λ same e. let kept_is : held.thing ≡ kept = cc in subst (IsInUse h things name) kept_is (held_in_use h things held name is same)
+pub named : (h : History) (handles : FinMap key_cmp sequential.Handle) (held : Option Open) (name : List ℕ) (kept : Handle) → IsOpen h held handles → handle_named held name ≡ Some kept → IsInUse h handles name kept
+named h handles None name kept is found = cc
+named h handles (Some held) name kept is found =
+    elim (bytes_eq name held.name) as (λ b. bytes_eq name held.name ≡ b → cond b (Some held.handle) None ≡ Some kept → IsInUse h handles name kept) [
+      | true ↦ λ same e. let kept_is : held.handle ≡ kept = cc in subst (IsInUse h handles name) kept_is (held_in_use h handles held name is same)
       | false ↦ λ _ e. cc
     ] refl found
 
@@ -109,16 +106,16 @@ named h things (Some held) name kept is found =
 pub gives_as : {answer : Answer} {r : Store} {o : Outcome} (p : Outcome) → p ≡ o → Gives answer r o → Gives answer r p
 gives_as {answer} {r} p e g = subst (Gives answer r) (sym e) g
 
--- an open thing is opened over nothing
-pub opened_taken : (s : State) (name : List ℕ) (opens thing : sequential.Thing) → get s.things name ≡ Some thing → opened s name opens ≡ (Taken name, s)
-opened_taken s name opens thing found = cond-true _ _ _ (ap is_some found)
+-- an open handle is opened over nothing
+pub opened_taken : (s : State) (name : List ℕ) (opens handle : sequential.Handle) → get s.handles name ≡ Some handle → opened s name opens ≡ (Taken name, s)
+opened_taken s name opens handle found = cond-true _ _ _ (ap is_some found)
 
-pub opened_full : (s : State) (name : List ℕ) (opens : sequential.Thing) → get s.things name ≡ None → len s.things ≡ 1 → opened s name opens ≡ (TooMany, s)
+pub opened_full : (s : State) (name : List ℕ) (opens : sequential.Handle) → get s.handles name ≡ None → len s.handles ≡ 1 → opened s name opens ≡ (TooMany, s)
 opened_full s name opens missing full = cond-false _ _ _ (ap is_some missing) ∙ cond-true _ _ _ (ap (nat_le 1) full)
 
-pub opened_new : (s : State) (name : List ℕ) (opens : sequential.Thing) → s.things ≡ empty → opened s name opens ≡ (Number (last_number s.history), with_thing s name opens)
+pub opened_new : (s : State) (name : List ℕ) (opens : sequential.Handle) → s.handles ≡ empty → opened s name opens ≡ (Number (last_number s.history), with_handle s name opens)
 opened_new s name opens none =
-    cond-false _ _ _ (ap is_some (ap (λ t. get t name) none ∙ get-empty key_cmp name)) ∙ cond-false _ _ _ (ap (λ t. nat_le 1 (len t)) none ∙ ap (nat_le 1) (len-empty key_cmp sequential.Thing))
+    cond-false _ _ _ (ap is_some (ap (λ t. get t name) none ∙ get-empty key_cmp name)) ∙ cond-false _ _ _ (ap (λ t. nat_le 1 (len t)) none ∙ ap (nat_le 1) (len-empty key_cmp sequential.Handle))
 
 some_of : {X : Type 0} (o : Option X) → is_some o ≡ true → (x : X) × (o ≡ Some x)
 some_of None e = cc
@@ -132,131 +129,131 @@ is_some-copied : {X : Type 0} (o : Option (Bor X)) → is_some (option_copied o)
 is_some-copied None = refl
 is_some-copied (Some x) = refl
 
-pub gives_taken : (r : Store) (s : State) (name : List ℕ) (opens : sequential.Thing) (o : Option (Bor Thing)) → Represents r s → option_copied o ≡ thing_named r.in_use name → is_some o ≡ true → Gives (Taken name) r (opened s name opens)
+pub gives_taken : (r : Store) (s : State) (name : List ℕ) (opens : sequential.Handle) (o : Option (Bor Handle)) → Represents r s → option_copied o ≡ handle_named r.in_use name → is_some o ≡ true → Gives (Taken name) r (opened s name opens)
 gives_taken r s name opens o rep is some =
-    let kept = some_of (thing_named r.in_use name) (ap is_some (sym is) ∙ is_some-copied o ∙ some) in
-    let holds = named s.history s.things r.in_use name kept.0 rep.in_use kept.1 in
-    gives_as _ (opened_taken s name opens holds.thing holds.found_is) (record { answer_is = refl; stands = rep })
+    let kept = some_of (handle_named r.in_use name) (ap is_some (sym is) ∙ is_some-copied o ∙ some) in
+    let holds = named s.history s.handles r.in_use name kept.0 rep.in_use kept.1 in
+    gives_as _ (opened_taken s name opens holds.handle holds.found_is) (record { answer_is = refl; stands = rep })
 
-pub gives_full : (r : Store) (s : State) (name : List ℕ) (opens : sequential.Thing) (o : Option (Bor Thing)) → Represents r s → option_copied o ≡ thing_named r.in_use name → is_some o ≡ false → is_some r.in_use ≡ true → Gives TooMany r (opened s name opens)
+pub gives_full : (r : Store) (s : State) (name : List ℕ) (opens : sequential.Handle) (o : Option (Bor Handle)) → Represents r s → option_copied o ≡ handle_named r.in_use name → is_some o ≡ false → is_some r.in_use ≡ true → Gives TooMany r (opened s name opens)
 gives_full r s name opens o rep is none some =
-    let missing = unnamed s.history s.things r.in_use name rep.in_use (sym is ∙ none_of (option_copied o) (is_some-copied o ∙ none)) in
+    let missing = unnamed s.history s.handles r.in_use name rep.in_use (sym is ∙ none_of (option_copied o) (is_some-copied o ∙ none)) in
     let held = some_of r.in_use some in
-    let in_use = subst (λ o. IsOpen s.history o s.things) held.1 rep.in_use in
+    let in_use = subst (λ o. IsOpen s.history o s.handles) held.1 rep.in_use in
     gives_as _ (opened_full s name opens missing (ap len in_use.2 ∙ len-one held.0.name in_use.0)) (record { answer_is = refl; stands = rep })
 
-pub gives_open : (r : Store) (s : State) (name : List ℕ) (opens : sequential.Thing) (thing : Thing) → Represents r s → StandsFor s.history thing opens → is_some r.in_use ≡ false →
-    Gives (Number r.last) (record { alloc = r.alloc; last = r.last; log_length = r.log_length; memtable = r.memtable; in_use = Some (record { name = name; thing = thing }) }) (opened s name opens)
-gives_open r s name opens thing rep stands none =
-    let nothing : s.things ≡ empty = subst (λ o. IsOpen s.history o s.things) (none_of r.in_use none) rep.in_use in
+pub gives_open : (r : Store) (s : State) (name : List ℕ) (opens : sequential.Handle) (handle : Handle) → Represents r s → StandsFor s.history handle opens → is_some r.in_use ≡ false →
+    Gives (Number r.last) (record { alloc = r.alloc; last = r.last; log = r.log; memtable = r.memtable; in_use = Some (record { name = name; handle = handle }) }) (opened s name opens)
+gives_open r s name opens handle rep stands none =
+    let nothing : s.handles ≡ empty = subst (λ o. IsOpen s.history o s.handles) (none_of r.in_use none) rep.in_use in
     gives_as _ (opened_new s name opens nothing) (record {
       answer_is = ap Number rep.last;
-      stands = record { last = rep.last; log_length = rep.log_length; shows = rep.shows; in_use = (opens, stands, ap (λ t. insert t name opens) nothing) };
+      stands = record { last = rep.last; log = rep.log; shows = rep.shows; in_use = (opens, stands, ap (λ t. insert t name opens) nothing) };
     })
 
--- a thing under a name that is in use takes the place of the one before
-pub IsOpen-insert : (h : History) (things : FinMap key_cmp sequential.Thing) (held : Open) (name : List ℕ) (kept : Thing) (thing : sequential.Thing) → IsOpen h (Some held) things → bytes_eq name held.name ≡ true → StandsFor h kept thing →
-    IsOpen h (Some (record { name = held.name; thing = kept })) (insert things name thing)
-IsOpen-insert h things held name kept thing in_use same stands =
+-- a handle under a name that is in use takes the place of the one before
+pub IsOpen-insert : (h : History) (handles : FinMap key_cmp sequential.Handle) (held : Open) (name : List ℕ) (kept : Handle) (handle : sequential.Handle) → IsOpen h (Some held) handles → bytes_eq name held.name ≡ true → StandsFor h kept handle →
+    IsOpen h (Some (record { name = held.name; handle = kept })) (insert handles name handle)
+IsOpen-insert h handles held name kept handle in_use same stands =
     let same_name : name ≡ held.name = (bytes_eq-Decides name held.name).0 same in
-    (thing, stands, ap (λ t. insert t name thing) in_use.2 ∙ ap (λ n. insert (one held.name in_use.0) n thing) same_name ∙ insert-one held.name in_use.0 thing)
+    (handle, stands, ap (λ t. insert t name handle) in_use.2 ∙ ap (λ n. insert (one held.name in_use.0) n handle) same_name ∙ insert-one held.name in_use.0 handle)
 
-IsOpen-note : (h : History) (things : FinMap key_cmp sequential.Thing) (held : Option Open) (name : List ℕ) (kept : Thing) (thing : sequential.Thing) → IsOpen h held things → thing_named held name ≡ Some kept → StandsFor h kept thing → IsOpen h held (insert things name thing)
-IsOpen-note h things None name kept thing is named_is stands = cc
-IsOpen-note h things (Some held) name kept thing is named_is stands =
-    elim (bytes_eq name held.name) as (λ b. bytes_eq name held.name ≡ b → cond b (Some held.thing) None ≡ Some kept → IsOpen h (Some held) (insert things name thing)) [
-      | true ↦ λ same e. let kept_is : kept ≡ held.thing = cc in IsOpen-insert h things held name held.thing thing is same (subst (λ k. StandsFor h k thing) kept_is stands)
+IsOpen-note : (h : History) (handles : FinMap key_cmp sequential.Handle) (held : Option Open) (name : List ℕ) (kept : Handle) (handle : sequential.Handle) → IsOpen h held handles → handle_named held name ≡ Some kept → StandsFor h kept handle → IsOpen h held (insert handles name handle)
+IsOpen-note h handles None name kept handle is named_is stands = cc
+IsOpen-note h handles (Some held) name kept handle is named_is stands =
+    elim (bytes_eq name held.name) as (λ b. bytes_eq name held.name ≡ b → cond b (Some held.handle) None ≡ Some kept → IsOpen h (Some held) (insert handles name handle)) [
+      | true ↦ λ same e. let kept_is : kept ≡ held.handle = cc in IsOpen-insert h handles held name held.handle handle is same (subst (λ k. StandsFor h k handle) kept_is stands)
       | false ↦ λ _ e. cc
     ] refl named_is
 
--- the thing that a name is in use for goes
-pub remove_in_use : (h : History) (things : FinMap key_cmp sequential.Thing) (name : List ℕ) (kept : Thing) → IsInUse h things name kept → remove things name ≡ empty
-remove_in_use h things name kept holds = ap (λ t. remove t name) holds.alone ∙ remove-one name holds.thing
+-- the handle that a name is in use for goes
+pub remove_in_use : (h : History) (handles : FinMap key_cmp sequential.Handle) (name : List ℕ) (kept : Handle) → IsInUse h handles name kept → remove handles name ≡ empty
+remove_in_use h handles name kept holds = ap (λ t. remove t name) holds.alone ∙ remove-one name holds.handle
 
 -- ---- reads
 
-pub read_invalid : (s : State) (name key : List ℕ) (kept : Thing) → IsInUse s.history s.things name kept → is_key_length (length key) ≡ false → read s name key (get s.things name) ≡ (Invalid, s)
+pub read_invalid : (s : State) (name key : List ℕ) (kept : Handle) → IsInUse s.history s.handles name kept → is_key_length (length key) ≡ false → read s name key (get s.handles name) ≡ (Invalid, s)
 read_invalid s name key (Transaction number writes) holds unlawful = ap (read s name key) (holds.found_is ∙ ap Some holds.stands.1.1) ∙ cond-false _ _ _ unlawful
 read_invalid s name key (View number) holds unlawful = ap (read s name key) (holds.found_is ∙ ap Some holds.stands.1) ∙ cond-false _ _ _ unlawful
 
 pub gives_if_ok : (result : Result Answer Halt) (answer : Answer) (r : Store) (o : Outcome) → IfOk result (λ a. a ≡ answer) → Gives answer r o → IfOk result (λ a. Gives a r o)
 gives_if_ok result answer r o is gives = IfOk-weaker result (λ a. a ≡ answer) (λ a. Gives a r o) (λ a e. subst (λ x. Gives x r o) (sym e) gives) is
 
-pub read_view : (r : Store) (s : State) (name key : List ℕ) (number : ℕ) → Represents r s → IsInUse s.history s.things name (View number) → is_key_length (length key) ≡ true →
-    Gives (found (value_left None (newest r.memtable.entries.items key number))) r (read s name key (get s.things name))
+pub read_view : (r : Store) (s : State) (name key : List ℕ) (number : ℕ) → Represents r s → IsInUse s.history s.handles name (View number) → is_key_length (length key) ≡ true →
+    Gives (found (value_left None (newest r.memtable.entries.items key number))) r (read s name key (get s.handles name))
 read_view r s name key number rep holds lawful =
     gives_as _ (ap (read s name key) (holds.found_is ∙ ap Some holds.stands.1) ∙ cond-true _ _ _ lawful) (record {
       answer_is = ap found (rep.shows.values number key holds.stands.0);
       stands = rep;
     })
 
-pub read_own : (r : Store) (s : State) (name key : List ℕ) (number : ℕ) (writes : Writes) (change : Change) → Represents r s → IsInUse s.history s.things name (Transaction number writes) → is_key_length (length key) ≡ true → get writes key ≡ Some change →
-    Gives (found (value_left None (Some change))) r (read s name key (get s.things name))
+pub read_own : (r : Store) (s : State) (name key : List ℕ) (number : ℕ) (writes : Writes) (change : Change) → Represents r s → IsInUse s.history s.handles name (Transaction number writes) → is_key_length (length key) ≡ true → get writes key ≡ Some change →
+    Gives (found (value_left None (Some change))) r (read s name key (get s.handles name))
 read_own r s name key number writes change rep holds lawful own =
     gives_as _ (
     ap (read s name key) (holds.found_is ∙ ap Some holds.stands.1.1) ∙ cond-true _ _ _ lawful ∙ ap (read_in_transaction s name key number holds.stands.1.0 writes) own)
     (record { answer_is = refl; stands = rep })
 
-pub read_noted : (r : Store) (s : State) (name key : List ℕ) (number : ℕ) (writes : Writes) → Represents r s → thing_named r.in_use name ≡ Some (Transaction number writes) → is_key_length (length key) ≡ true → get writes key ≡ None →
-    Gives (found (value_left None (newest r.memtable.entries.items key number))) r (read s name key (get s.things name))
+pub read_noted : (r : Store) (s : State) (name key : List ℕ) (number : ℕ) (writes : Writes) → Represents r s → handle_named r.in_use name ≡ Some (Transaction number writes) → is_key_length (length key) ≡ true → get writes key ≡ None →
+    Gives (found (value_left None (newest r.memtable.entries.items key number))) r (read s name key (get s.handles name))
 read_noted r s name key number writes rep named_is lawful missing =
-    let holds = named s.history s.things r.in_use name (Transaction number writes) rep.in_use named_is in
+    let holds = named s.history s.handles r.in_use name (Transaction number writes) rep.in_use named_is in
     let reads = holds.stands.1.0 in
-    let noted : sequential.Thing = OpenTransaction number (reads ++ (KeyRead key (value_at s.history number key) ∷ [])) writes in
+    let noted : sequential.Handle = OpenTransaction number (reads ++ (KeyRead key (value_at s.history number key) ∷ [])) writes in
     gives_as _ (
     ap (read s name key) (holds.found_is ∙ ap Some holds.stands.1.1) ∙ cond-true _ _ _ lawful ∙ ap (read_in_transaction s name key number reads writes) missing)
     (record {
       answer_is = ap found (rep.shows.values number key holds.stands.0);
       stands = record {
         last = rep.last;
-        log_length = rep.log_length;
+        log = rep.log;
         shows = rep.shows;
-        in_use = IsOpen-note s.history s.things r.in_use name (Transaction number writes) noted rep.in_use named_is (holds.stands.0, (reads ++ (KeyRead key (value_at s.history number key) ∷ []), refl));
+        in_use = IsOpen-note s.history s.handles r.in_use name (Transaction number writes) noted rep.in_use named_is (holds.stands.0, (reads ++ (KeyRead key (value_at s.history number key) ∷ []), refl));
       };
     })
 
 -- ---- writes
 
-kept_open : (h : History) (things : FinMap key_cmp sequential.Thing) (held : Open) (kept : Thing) → IsOpen h (Some held) things → held.thing ≡ kept → IsOpen h (Some (record { name = held.name; thing = kept })) things
-kept_open h things held kept is e = (is.0, subst (λ k. StandsFor h k is.0) e is.1, is.2)
+kept_open : (h : History) (handles : FinMap key_cmp sequential.Handle) (held : Open) (kept : Handle) → IsOpen h (Some held) handles → held.handle ≡ kept → IsOpen h (Some (record { name = held.name; handle = kept })) handles
+kept_open h handles held kept is e = (is.0, subst (λ k. StandsFor h k is.0) e is.1, is.2)
 
--- the replayer with another thing under the name that is in use
-abbrev pub with_kept : Store → Open → Thing → Store
-with_kept r held kept = record { alloc = r.alloc; last = r.last; log_length = r.log_length; memtable = r.memtable; in_use = Some (record { name = held.name; thing = kept }) }
+-- the replayer with another handle under the name that is in use
+abbrev pub with_kept : Store → Open → Handle → Store
+with_kept r held kept = record { alloc = r.alloc; last = r.last; log = r.log; memtable = r.memtable; in_use = Some (record { name = held.name; handle = kept }) }
 
-pub stands_kept : (r : Store) (s : State) (held : Open) (kept : Thing) → Represents r s → r.in_use ≡ Some held → held.thing ≡ kept → Represents (with_kept r held kept) s
+pub stands_kept : (r : Store) (s : State) (held : Open) (kept : Handle) → Represents r s → r.in_use ≡ Some held → held.handle ≡ kept → Represents (with_kept r held kept) s
 stands_kept r s held kept rep is e =
-    record { last = rep.last; log_length = rep.log_length; shows = rep.shows; in_use = kept_open s.history s.things held kept (subst (λ o. IsOpen s.history o s.things) is rep.in_use) e }
+    record { last = rep.last; log = rep.log; shows = rep.shows; in_use = kept_open s.history s.handles held kept (subst (λ o. IsOpen s.history o s.handles) is rep.in_use) e }
 
-gives_write_answer : (r : Store) (s : State) (held : Open) (name key : List ℕ) (change : Change) (number : ℕ) (writes : Writes) → Represents r s → r.in_use ≡ Some held → bytes_eq name held.name ≡ true → held.thing ≡ Transaction number writes →
-    Gives (write_answer writes key change) (with_kept r held (Transaction number (writes_after writes key change))) (written s name key change (get s.things name))
+gives_write_answer : (r : Store) (s : State) (held : Open) (name key : List ℕ) (change : Change) (number : ℕ) (writes : Writes) → Represents r s → r.in_use ≡ Some held → bytes_eq name held.name ≡ true → held.handle ≡ Transaction number writes →
+    Gives (write_answer writes key change) (with_kept r held (Transaction number (writes_after writes key change))) (written s name key change (get s.handles name))
 gives_write_answer r s held name key change number writes rep is same kept_is =
-    let in_use = subst (λ o. IsOpen s.history o s.things) is rep.in_use in
-    let holds = subst (IsInUse s.history s.things name) kept_is (held_in_use s.history s.things held name in_use same) in
+    let in_use = subst (λ o. IsOpen s.history o s.handles) is rep.in_use in
+    let holds = subst (IsInUse s.history s.handles name) kept_is (held_in_use s.history s.handles held name in_use same) in
     let reads = holds.stands.1.0 in
     let more = insert writes key change in
-    let after : sequential.Thing = OpenTransaction number reads more in
+    let after : sequential.Handle = OpenTransaction number reads more in
     let unchanged = stands_kept r s held (Transaction number writes) rep is kept_is in
     gives_as _ (ap (written s name key change) (holds.found_is ∙ ap Some holds.stands.1.1))
     (elim (not (is_lawful_write key change)) as (λ b.
     Gives (cond b Invalid (cond (fits_transaction more) Done TooBig)) (with_kept r held (Transaction number (cond b writes (cond (fits_transaction more) more writes))))
-    (cond b (Invalid, s) (cond (fits_transaction more) (Done, with_thing s name after) (TooBig, s)))) [
+    (cond b (Invalid, s) (cond (fits_transaction more) (Done, with_handle s name after) (TooBig, s)))) [
       | true ↦ record { answer_is = refl; stands = unchanged }
       | false ↦ elim (fits_transaction more) as (λ b.
-          Gives (cond b Done TooBig) (with_kept r held (Transaction number (cond b more writes))) (cond b (Done, with_thing s name after) (TooBig, s))) [
+          Gives (cond b Done TooBig) (with_kept r held (Transaction number (cond b more writes))) (cond b (Done, with_handle s name after) (TooBig, s))) [
             | true ↦ record {
               answer_is = refl;
-              stands = record { last = rep.last; log_length = rep.log_length; shows = rep.shows; in_use = IsOpen-insert s.history s.things held name (Transaction number more) after in_use same (holds.stands.0, (reads, refl)) };
+              stands = record { last = rep.last; log = rep.log; shows = rep.shows; in_use = IsOpen-insert s.history s.handles held name (Transaction number more) after in_use same (holds.stands.0, (reads, refl)) };
             }
             | false ↦ record { answer_is = refl; stands = unchanged }
           ]
     ])
 
-pub gives_write : (result : Result Answer Halt) (r : Store) (s : State) (held : Open) (name key : List ℕ) (change : Change) (number : ℕ) (writes new : Writes) → Represents r s → r.in_use ≡ Some held → bytes_eq name held.name ≡ true → held.thing ≡ Transaction number writes →
-    IfOk result (λ a. a ≡ write_answer writes key change) → OnOk result (new ≡ writes_after writes key change) → IfOk result (λ a. Gives a (with_kept r held (Transaction number new)) (written s name key change (get s.things name)))
+pub gives_write : (result : Result Answer Halt) (r : Store) (s : State) (held : Open) (name key : List ℕ) (change : Change) (number : ℕ) (writes new : Writes) → Represents r s → r.in_use ≡ Some held → bytes_eq name held.name ≡ true → held.handle ≡ Transaction number writes →
+    IfOk result (λ a. a ≡ write_answer writes key change) → OnOk result (new ≡ writes_after writes key change) → IfOk result (λ a. Gives a (with_kept r held (Transaction number new)) (written s name key change (get s.handles name)))
 gives_write (Ok a) r s held name key change number writes new rep is same kept_is answer_is new_is =
-    subst (λ x. Gives x (with_kept r held (Transaction number new)) (written s name key change (get s.things name))) (sym answer_is)
-    (subst (λ w. Gives (write_answer writes key change) (with_kept r held (Transaction number w)) (written s name key change (get s.things name))) (sym new_is)
+    subst (λ x. Gives x (with_kept r held (Transaction number new)) (written s name key change (get s.handles name))) (sym answer_is)
+    (subst (λ w. Gives (write_answer writes key change) (with_kept r held (Transaction number w)) (written s name key change (get s.handles name))) (sym new_is)
     (gives_write_answer r s held name key change number writes rep is same kept_is))
 gives_write (Err e) r s held name key change number writes new rep is same kept_is answer_is new_is = tt
 
@@ -264,20 +261,20 @@ gives_write (Err e) r s held name key change number writes new rep is same kept_
 
 -- the replayer with nothing in use
 abbrev pub with_none : Store → Store
-with_none r = record { alloc = r.alloc; last = r.last; log_length = r.log_length; memtable = r.memtable; in_use = None }
+with_none r = record { alloc = r.alloc; last = r.last; log = r.log; memtable = r.memtable; in_use = None }
 
-pub stands_without : (r : Store) (s : State) (name : List ℕ) (kept : Thing) → Represents r s → IsInUse s.history s.things name kept → Represents (with_none r) (without_thing s name)
-stands_without r s name kept rep holds = record { last = rep.last; log_length = rep.log_length; shows = rep.shows; in_use = remove_in_use s.history s.things name kept holds }
+pub stands_without : (r : Store) (s : State) (name : List ℕ) (kept : Handle) → Represents r s → IsInUse s.history s.handles name kept → Represents (with_none r) (without_handle s name)
+stands_without r s name kept rep holds = record { last = rep.last; log = rep.log; shows = rep.shows; in_use = remove_in_use s.history s.handles name kept holds }
 
-pub gives_dropped : (r : Store) (s : State) (name : List ℕ) (o : Option (Bor Thing)) → Represents r s → option_copied o ≡ thing_named r.in_use name → is_some o ≡ true → Gives Done (with_none r) (dropped s name (get s.things name))
+pub gives_dropped : (r : Store) (s : State) (name : List ℕ) (o : Option (Bor Handle)) → Represents r s → option_copied o ≡ handle_named r.in_use name → is_some o ≡ true → Gives Done (with_none r) (dropped s name (get s.handles name))
 gives_dropped r s name o rep is some =
-    let kept = some_of (thing_named r.in_use name) (ap is_some (sym is) ∙ is_some-copied o ∙ some) in
-    let holds = named s.history s.things r.in_use name kept.0 rep.in_use kept.1 in
+    let kept = some_of (handle_named r.in_use name) (ap is_some (sym is) ∙ is_some-copied o ∙ some) in
+    let holds = named s.history s.handles r.in_use name kept.0 rep.in_use kept.1 in
     gives_as _ (ap (dropped s name) holds.found_is) (record { answer_is = refl; stands = stands_without r s name kept.0 rep holds })
 
-pub gives_unknown_dropped : (r : Store) (s : State) (name : List ℕ) (o : Option (Bor Thing)) → Represents r s → option_copied o ≡ thing_named r.in_use name → is_some o ≡ false → Gives (Unknown name) r (dropped s name (get s.things name))
+pub gives_unknown_dropped : (r : Store) (s : State) (name : List ℕ) (o : Option (Bor Handle)) → Represents r s → option_copied o ≡ handle_named r.in_use name → is_some o ≡ false → Gives (Unknown name) r (dropped s name (get s.handles name))
 gives_unknown_dropped r s name o rep is none =
-    let missing = unnamed s.history s.things r.in_use name rep.in_use (sym is ∙ none_of (option_copied o) (is_some-copied o ∙ none)) in
+    let missing = unnamed s.history s.handles r.in_use name rep.in_use (sym is ∙ none_of (option_copied o) (is_some-copied o ∙ none)) in
     gives_as _ (ap (dropped s name) missing) (record { answer_is = refl; stands = rep })
 
 -- ---- commits
@@ -348,72 +345,3 @@ shows_none entries none = subst (λ es. Shows es no_history) (sym none) (record 
   values = λ n key readable. sym (ap (λ commits. value_left (get (empty {X = List ℕ} {R = key_cmp}) key) (last_change commits key)) (take_none (n - 0)) ∙ get-empty key_cmp key);
   versions = tt;
 })
-
--- ---- commits, answered
-
-pub held_is : (held : Open) (name : List ℕ) (kept : Thing) → thing_named (Some held) name ≡ Some kept → held.thing ≡ kept
-held_is held name kept is =
-    elim (bytes_eq name held.name) as (λ b. cond b (Some held.thing) None ≡ Some kept → held.thing ≡ kept) [
-      | true ↦ λ e. cc
-      | false ↦ λ e. cc
-    ] is
-
-pub same_writes : (m n : ℕ) (writes others : Writes) (kept : Thing) → kept ≡ Transaction m writes → kept ≡ Transaction n others → writes ≡ others
-same_writes m n writes others kept one_is other_is = cc
-
--- the replayer after a commit
-abbrev pub committed_replayer : Store → ℕ → ℕ → Memtable → Store
-committed_replayer r last log_length memtable = record { alloc = r.alloc; last = last; log_length = log_length; memtable = memtable; in_use = None }
-
-pub gives_nothing : (r : Store) (s : State) (name : List ℕ) (number : ℕ) (writes : Writes) → Represents r s → IsInUse s.history s.things name (Transaction number writes) → (len writes == 0) ≡ true →
-    Gives Nothing (committed_replayer r r.last r.log_length r.memtable) (committed s name (get s.things name))
-gives_nothing r s name number writes rep holds none =
-    gives_as _ (ap (committed s name) (holds.found_is ∙ ap Some holds.stands.1.1) ∙ cond-true _ _ _ none) (record {
-      answer_is = refl;
-      stands = stands_without r s name (Transaction number writes) rep holds;
-    })
-
-pub gives_exhausted : (r : Store) (s : State) (name : List ℕ) (number : ℕ) (writes : Writes) → Represents r s → IsInUse s.history s.things name (Transaction number writes) → (len writes == 0) ≡ false → MAX_COMMIT_NUMBER ≤ r.last →
-    Gives (Exhausted CommitNumber) r (committed s name (get s.things name))
-gives_exhausted r s name number writes rep holds some past =
-    gives_as _ (
-    ap (committed s name) (holds.found_is ∙ ap Some holds.stands.1.1) ∙ cond-false _ _ _ some ∙ cond-true _ _ _ (ap (nat_le MAX_COMMIT_NUMBER) (sym rep.last) ∙ le-leb _ _ past))
-    (record { answer_is = refl; stands = rep })
-
--- the log's length with one more commit, as the code adds it up
-abbrev pub longer : Store → Writes → ℕ
-longer r writes = min (r.log_length + frame_length writes) (2 ^ 64 - 1)
-
--- adding up to the last value of a number doesn't change whether the log has room
-longer_is : (length frame : ℕ) → min (length + frame) (2 ^ 64 - 1) ≤ MAX_LOG_BYTES → min (length + frame) (2 ^ 64 - 1) ≡ length + frame
-longer_is length frame le = omega arith
-
-longer_past : (length frame : ℕ) → MAX_LOG_BYTES < min (length + frame) (2 ^ 64 - 1) → MAX_LOG_BYTES < length + frame
-longer_past length frame lt = omega arith
-
-pub gives_log_full : (r : Store) (s : State) (name : List ℕ) (number : ℕ) (writes : Writes) → Represents r s → IsInUse s.history s.things name (Transaction number writes) → (len writes == 0) ≡ false → r.last < MAX_COMMIT_NUMBER → MAX_LOG_BYTES < longer r writes →
-    Gives Full r (committed s name (get s.things name))
-gives_log_full r s name number writes rep holds some room full =
-    let past : MAX_LOG_BYTES < s.log_length + frame_length writes = subst (λ n. MAX_LOG_BYTES < n + frame_length writes) rep.log_length (longer_past r.log_length (frame_length writes) full) in
-    gives_as _ (
-    ap (committed s name) (holds.found_is ∙ ap Some holds.stands.1.1) ∙ cond-false _ _ _ some ∙ cond-false _ _ _ (ap (nat_le MAX_COMMIT_NUMBER) (sym rep.last) ∙ lt-leb _ _ room)
-    ∙ cond-false _ _ _ (lt-leb _ _ past))
-    (record { answer_is = refl; stands = rep })
-
-pub gives_commit : (r : Store) (s : State) (name : List ℕ) (number : ℕ) (writes : Writes) (memtable : Memtable) → Represents r s → IsInUse s.history s.things name (Transaction number writes) → (len writes == 0) ≡ false → r.last < MAX_COMMIT_NUMBER → longer r writes ≤ MAX_LOG_BYTES →
-    Takes r.memtable.entries.items memtable.entries.items writes (r.last + 1) → Gives (Number (r.last + 1)) (committed_replayer r (r.last + 1) (longer r writes) memtable) (committed s name (get s.things name))
-gives_commit r s name number writes memtable rep holds some room fits takes =
-    let next : r.last + 1 ≡ last_number s.history + 1 = ap (λ n. n + 1) rep.last in
-    let length_is : longer r writes ≡ s.log_length + frame_length writes = longer_is r.log_length (frame_length writes) fits ∙ ap (λ n. n + frame_length writes) rep.log_length in
-    gives_as _ (
-    ap (committed s name) (holds.found_is ∙ ap Some holds.stands.1.1) ∙ cond-false _ _ _ some ∙ cond-false _ _ _ (ap (nat_le MAX_COMMIT_NUMBER) (sym rep.last) ∙ lt-leb _ _ room)
-    ∙ cond-true _ _ _ (le-leb _ _ (subst (λ n. n ≤ MAX_LOG_BYTES) length_is fits)))
-    (record {
-      answer_is = ap Number next;
-      stands = record {
-        last = next ∙ omega (arith, length-append s.history.commits (writes ∷ []));
-        log_length = length_is;
-        shows = shows_commit r.memtable.entries.items memtable.entries.items s.history writes (r.last + 1) next rep.shows takes;
-        in_use = remove_in_use s.history s.things name (Transaction number writes) holds;
-      };
-    })

@@ -1,173 +1,132 @@
--- What taking a text for a line does to the disk.
-use Rattle.std.proofs.Common.{◌≡◌, ◌⊎◌, inl, inr, ⊎_elim, ℕ, ◌≤◌, List, Option, None, Some, Result, Ok, Err, refl, sym, ◌∙◌, ap, subst, arith}
+-- What taking a text for a line does to the disk, and how a run ends there.
+use Rattle.std.proofs.Common.{◌≡◌, ◌≢◌, inl, inr, ⊎_elim, ℕ, List, [], Option, None, Some, Result, Ok, Err, OnOk, refl, sym, ◌∙◌, ap, subst}
 use Rattle.std.specs.Prelude.{IsOk, IsErr, IsErrAnd}
 use Rattle.std.specs.Option.{option_map}
 use Rattle.vl_model.specs.History.{History}
+use Rattle.vl_disk.specs.declared.watched.Watched.{Ghosts}
 use Rattle.vl_disk.specs.Faults.{Rose}
-use Rattle.vl_disk.specs.DiskState.{DiskState}
-use Rattle.vl_disk.specs.Crash.{SameFiles}
-use Rattle.vl_disk.specs.Disk.{HasCause}
-use Rattle.vl_disk.specs.Moments.{HoldsThroughout}
-use Rattle.vl_journal.specs.Images.{Leaves}
+use Rattle.vl_io.specs.declared.sink.Sink as sink
 use Rattle.vl_script.specs.declared.answer.Answer.{Answer}
+use Rattle.vl_script.specs.declared.answer.Answer.TheVariants.{Number}
 use Rattle.vl_script.specs.declared.line.Line.{Line}
 use Rattle.vl_script.specs.Script.{line_of}
-use Rattle.vl_script.specs.declared.answer.Answer.TheVariants.{Number}
 use Rattle.vl_replay.specs.Sequential.{State, answer_to, state_after}
-use Rattle.vl_replay.specs.Replay.{Exchange, exchange_at, exchanged}
-use Rattle.vl_replay.specs.Durable.{HoldsHistory, HoldsState, AreBetween, CarriesOut, CarriesOutText, history_behind, CutsAnswer}
-use Rattle.vl_replay.specs.Steps.{IsAnswered, EndsAtBadLine, DiskCounts}
-use Rattle.vl_replay.specs.declared.replayer.halt.Halt.{Halt}
-use Rattle.vl_replay.specs.declared.replayer.halt.Halt.TheVariants.{NoMemory as NoRoom, Disk}
+use Rattle.vl_replay.specs.Exchanges.{Exchange, exchange_at, exchanged, state_behind}
+use Rattle.vl_replay.specs.Endings.{CutsAnswer, IsBetweenLines, culprit_of}
+use Rattle.vl_replay.specs.Durable.{HoldsState, HoldsHistory, CarriesOut, DiskEnds}
+use Rattle.vl_replay.specs.Stored.{IsStored, Shown}
+use Rattle.vl_replay.specs.Steps.{Finishes}
+use Rattle.vl_replay.specs.declared.fails.Halt.{Halt}
+use Rattle.vl_replay.specs.declared.fails.Halt.TheVariants.{NoMemory as NoRoom, Disk}
 use Rattle.vl_replay.specs.declared.ending.Ending.{Ending}
-use Rattle.vl_replay.specs.declared.ending.Ending.TheVariants.{Complete, BadLine, BadWords, DiskFault, NotAStore, NoMemory, ReadFault, WriteFault, AnswerCut}
-use Rattle.vl_replay.proofs.DiskSteps.{text_extends, exchange_leaves, rests}
-use Rattle.vl_replay.proofs.Logged.{history_stays}
+use Rattle.vl_replay.specs.declared.ending.Ending.TheVariants.{NoMemory, DiskFault, WriteFault, AnswerCut}
+use Rattle.vl_replay.proofs.Ends.{or_cut}
+use Rattle.vl_replay.proofs.DiskSteps.{IsWatched, text_extends, rests_until, it_holds, ends_within, ends_unchanged}
+use Rattle.vl_replay.proofs.Logged.{shown_stays, stored_exactly}
+use Rattle.vl_replay.proofs.Outcomes.{history_stays}
 
--- a line of the language
-exchange_of : (s : State) (text : List ℕ) (line : Line) → line_of text ≡ Some line → exchange_at s text ≡ Some (exchanged s line)
-exchange_of s text line spelled = ap (option_map (exchanged s)) spelled
+-- ---- results
 
-pub line_behind : (s : State) (text : List ℕ) (line : Line) → line_of text ≡ Some line → history_behind s.history (exchange_at s text) ≡ (state_after s line).history
-line_behind s text line spelled = ap (history_behind s.history) (exchange_of s text line spelled)
+on_ok_at_err : {T : Type 0} (result : Result T Halt) (P : Type 0) → IsErr result → OnOk result P
+on_ok_at_err (Ok answer) P err = cc
+on_ok_at_err (Err halt) P err = tt
 
--- it is no bad line
-none_of_line : (e : Exchange) → Some e ≡ None → ⊥
-none_of_line e is = cc
+on_ok_if : {T U : Type 0} (result : Result T Halt) (other : Result U Halt) (P : Type 0) → (IsOk result → IsOk other) → OnOk other P → OnOk result P
+on_ok_if (Ok x) (Ok y) P ok p = p
+on_ok_if (Ok x) (Err e) P ok p = let never = ok refl in cc
+on_ok_if (Err e) other P ok p = tt
 
-module _ {D : Type 0} (told : D → Option DiskState) (moment : D → ℕ) (since : D → ℕ → DiskState → Type 0) (faults : D → ℕ) where
-  pub takes_less : (old new : D) (begun : ℕ) (s : State) (text : List ℕ) (done done' out out' : Type 0) → (done' → done) → (out' → (now : DiskState) × (told new ≡ Some now) × HoldsHistory begun s.history now)
-      → CarriesOutText told moment since faults old new begun s text done out → CarriesOutText told moment since faults old new begun s text done' out'
-  takes_less old new begun s text done done' out out' less kept takes =
-      record { answered = λ d. takes.answered (less d); bad = λ d. takes.bad (less d); no_memory = kept; settled = takes.settled; tells = takes.tells; through = takes.through }
-
-  -- the text is no line of the language, or wasn't looked at
-  pub takes_nothing_of : (only_now : (disk : D) (state other : DiskState) → told disk ≡ Some state → since disk (moment disk) other → SameFiles other state)
-      → (counts_now : (disk : D) (state : DiskState) (t : ℕ) → told disk ≡ Some state → t ≤ moment disk → since disk t state)
-      → (disk : D) (begun : ℕ) (s : State) (state : DiskState) (text : List ℕ) (done out : Type 0) → (done → exchange_at s text ≡ None) → told disk ≡ Some state → HoldsState begun s state → CarriesOutText told moment since faults disk disk begun s text done out
-  takes_nothing_of only_now counts_now disk begun s state text done out none is holds = record {
-    answered = λ d e some. absurd (no_some e (sym (none d) ∙ some));
-    bad = λ d _. (state, is, holds.history);
-    no_memory = λ _. (state, is, holds.history);
-    settled = λ sound. (state, is, inl holds.history);
-    tells = (state, is);
-    through = rests told moment since only_now counts_now (history_behind s.history (exchange_at s text)) s (text_extends s text) disk begun state is holds;
-  }
-    where
-      no_some : (e : Exchange) → None ≡ Some e → ⊥
-      no_some e bad = cc
-
-  settled_by : (old new : D) (begun : ℕ) (s after : State) (state : DiskState) (result : Result Answer Halt) → told old ≡ Some state → HoldsState begun s state → CarriesOut told moment since old new begun s after result → HasCause (faults old) (faults new) (result ≡ Err Disk)
-      → (Rose (faults old) (faults new) → ⊥) → (now : DiskState) × (told new ≡ Some now) × (HoldsHistory begun s.history now ⊎ HoldsHistory begun after.history now)
-  settled_by old new begun s after state (Ok answer) is holds carries cause sound = let now = carries.answered in (now.0, now.1, inr now.2.history)
-  settled_by old new begun s after state (Err NoRoom) is holds carries cause sound = (state, carries.no_memory refl ∙ is, inl holds.history)
-  settled_by old new begun s after state (Err Disk) is holds carries cause sound = absurd (sound (cause.rose refl))
-
-  answered_by : (old new : D) (begun : ℕ) (s after : State) (result : Result Answer Halt) → IsOk result → CarriesOut told moment since old new begun s after result → (now : DiskState) × (told new ≡ Some now) × HoldsState begun after now
-  answered_by old new begun s after (Ok answer) ok carries = carries.answered
-  answered_by old new begun s after (Err halt) ok carries = cc
-
-  -- memory ran out in the line
-  pub kept_by : (old new : D) (begun : ℕ) (s after : State) (state : DiskState) (result : Result Answer Halt) → result ≡ Err NoRoom → told old ≡ Some state → HoldsState begun s state → CarriesOut told moment since old new begun s after result
-      → (now : DiskState) × (told new ≡ Some now) × HoldsHistory begun s.history now
-  kept_by old new begun s after state result out is holds carries = (state, carries.no_memory out ∙ is, holds.history)
-
-  -- the answer to a line that makes no commit found no memory
-  pub kept_without_number : (old new : D) (begun : ℕ) (s : State) (line : Line) (result : Result Answer Halt) (answer : Answer) → result ≡ Ok answer → answer ≡ answer_to s line → ((n : ℕ) → answer ≡ Number n → ⊥)
-      → CarriesOut told moment since old new begun s (state_after s line) result → (now : DiskState) × (told new ≡ Some now) × HoldsHistory begun s.history now
-  kept_without_number old new begun s line result answer ok is none carries =
-      let now = answered_by old new begun s (state_after s line) result (subst IsOk (sym ok) refl) carries in
-      (now.0, now.1, subst (λ (h : History). HoldsHistory begun h now.0) (history_stays s line (λ n numbered. none n (is ∙ numbered))) now.2.history)
-
-  -- the line was carried out
-  pub takes_line : (old new : D) (begun : ℕ) (s : State) (state : DiskState) (text : List ℕ) (line : Line) (result : Result Answer Halt) (done out : Type 0) → (done → IsOk result) → (out → (now : DiskState) × (told new ≡ Some now) × HoldsHistory begun s.history now) → line_of text ≡ Some line → told old ≡ Some state → HoldsState begun s state
-      → CarriesOut told moment since old new begun s (state_after s line) result → HasCause (faults old) (faults new) (result ≡ Err Disk) → CarriesOutText told moment since faults old new begun s text done out
-  takes_line old new begun s state text line result done out ok kept spelled is holds carries cause =
-      let behind : (state_after s line).history ≡ history_behind s.history (exchange_at s text) = sym (line_behind s text line spelled) in
-      let exchange = exchange_of s text line spelled in
-      record {
-        answered = λ d e some.
-            let now = answered_by old new begun s (state_after s line) result (ok d) carries in
-            (now.0, now.1, subst (λ (after : State). HoldsState begun after now.0) (sym (exchange_leaves s line e (sym exchange ∙ some))) now.2);
-        bad = λ d none. absurd (none_of_line (exchanged s line) (sym exchange ∙ none));
-        no_memory = kept;
-        settled = λ sound.
-            subst (λ (h : History). (now : DiskState) × (told new ≡ Some now) × (HoldsHistory begun s.history now ⊎ HoldsHistory begun h now)) behind
-            (settled_by old new begun s (state_after s line) state result is holds carries cause sound);
-        tells = carries.tells;
-        through = subst (λ (h : History). HoldsThroughout moment since old new (Leaves (AreBetween s.history h))) behind carries.through;
-      }
-
--- a last line that says that the run ended without an answer
-pub not_answered : (ending result : Ending) (P Q : Type 0) → (IsAnswered (Some ending) → ⊥) → ((result ≡ ending) × P) ⊎ ((result ≡ WriteFault) × Q) → IsAnswered (Some result) → ⊥
-not_answered ending result P Q none how answered = ⊎_elim
-    (λ (same : (result ≡ ending) × P). none (subst (λ (e : Ending). IsAnswered (Some e)) same.0 answered))
-    (λ (cut : (result ≡ WriteFault) × Q). subst (λ (e : Ending). IsAnswered (Some e)) cut.0 answered)
-    how
+pub of_ok : {T : Type 0} (result : Result T Halt) (P : Type 0) → IsOk result → OnOk result P → P
+of_ok (Ok x) P ok p = p
+of_ok (Err e) P ok p = cc
 
 pub ok_not_err : {T E : Type 0} (r : Result T E) → IsOk r → IsErr r → ⊥
 ok_not_err (Ok x) ok err = cc
 ok_not_err (Err e) ok err = cc
 
--- a last line was put, or couldn't be
-pub ends_at_bad_line : (ending result : Ending) (P Q : Type 0) → EndsAtBadLine ending → ((result ≡ ending) × P) ⊎ ((result ≡ WriteFault) × Q) → EndsAtBadLine result
-ends_at_bad_line ending result P Q may how = ⊎_elim
-    (λ (same : (result ≡ ending) × P). subst EndsAtBadLine (sym same.0) may)
-    (λ (cut : (result ≡ WriteFault) × Q). subst EndsAtBadLine (sym cut.0) tt)
-    how
-
--- a disk that counted nothing
-pub counts_nothing : (ending : Ending) (before now : ℕ) → EndsAtBadLine ending → now ≡ before → DiskCounts (Some ending) before now
-counts_nothing Complete before now may same = same
-counts_nothing BadLine before now may same = same
-counts_nothing BadWords before now may same = same
-counts_nothing DiskFault before now may same = absurd may
-counts_nothing NotAStore before now may same = same
-counts_nothing NoMemory before now may same = same
-counts_nothing ReadFault before now may same = same
-counts_nothing WriteFault before now may same = omega (arith, same)
-counts_nothing AnswerCut before now may same = same
-
-pub ok_not_disk : {T : Type 0} (r : Result T Halt) (x : T) → r ≡ Ok x → r ≡ Err Disk → ⊥
-ok_not_disk r x ok err = cc
-
--- none of these endings is within an answer
-pub bad_line_cuts_nothing : (ending : Ending) → EndsAtBadLine ending → CutsAnswer ending → ⊥
-bad_line_cuts_nothing Complete may cuts = cuts
-bad_line_cuts_nothing BadLine may cuts = cuts
-bad_line_cuts_nothing BadWords may cuts = cuts
-bad_line_cuts_nothing DiskFault may cuts = cuts
-bad_line_cuts_nothing NotAStore may cuts = cuts
-bad_line_cuts_nothing NoMemory may cuts = cuts
-bad_line_cuts_nothing ReadFault may cuts = cuts
-bad_line_cuts_nothing WriteFault may cuts = cuts
-bad_line_cuts_nothing AnswerCut may cuts = may
-
-pub last_line_cuts_nothing : (ending result : Ending) (P Q : Type 0) → (CutsAnswer ending → ⊥) → ((result ≡ ending) × P) ⊎ ((result ≡ WriteFault) × Q) → CutsAnswer result → ⊥
-last_line_cuts_nothing ending result P Q none how cuts = ⊎_elim
-    (λ (same : (result ≡ ending) × P). none (subst CutsAnswer same.0 cuts))
-    (λ (cut : (result ≡ WriteFault) × Q). subst CutsAnswer cut.0 cuts)
-    how
-
--- ---- where memory didn't run out
-
-pub goes_on_with_memory : None ≡ Some NoMemory → ⊥
-goes_on_with_memory e = cc
-
-pub cut_with_memory : Some AnswerCut ≡ Some NoMemory → ⊥
-cut_with_memory e = cc
-
-pub fault_with_memory : (result : Ending) (P Q : Type 0) → ((result ≡ DiskFault) × P) ⊎ ((result ≡ WriteFault) × Q) → Some result ≡ Some NoMemory → ⊥
-fault_with_memory result P Q how out = ⊎_elim
-    (λ (same : (result ≡ DiskFault) × P). apart DiskFault (λ e. cc) (ap Some (sym same.0) ∙ out))
-    (λ (cut : (result ≡ WriteFault) × Q). apart WriteFault (λ e. cc) (ap Some (sym cut.0) ∙ out))
-    how
-  where
-    apart : (ending : Ending) → (ending ≡ NoMemory → ⊥) → Some ending ≡ Some NoMemory → ⊥
-    apart ending other e = other cc
-
-pub ok_not_out : {T : Type 0} {x : T} → Ok x ≡ Err NoRoom → ⊥
-ok_not_out e = cc
+pub ok_not_out : {T : Type 0} (x : T) → Ok x ≡ Err NoRoom → ⊥
+ok_not_out x e = cc
 
 pub same_halt : {T : Type 0} (r : Result T Halt) (h e : Halt) → r ≡ Err e → IsErrAnd r (λ y. y ≡ h) → h ≡ e
 same_halt {T = T} r h e is same = sym (subst (λ (x : Result T Halt). IsErrAnd x (λ y. y ≡ h)) is same)
+
+-- ---- the state behind a text
+
+exchange_of : (s : State) (text : List ℕ) (line : Line) → line_of text ≡ Some line → exchange_at s text ≡ Some (exchanged s line)
+exchange_of s text line spelled = ap (option_map (exchanged s)) spelled
+
+line_behind : (s : State) (text : List ℕ) (line : Line) → line_of text ≡ Some line → state_behind s (exchange_at s text) ≡ state_after s line
+line_behind s text line spelled = ap (state_behind s) (exchange_of s text line spelled)
+
+pub bad_behind : (s : State) (text : List ℕ) → exchange_at s text ≡ None → state_behind s (exchange_at s text) ≡ s
+bad_behind s text bad = ap (state_behind s) bad
+
+module _ {D : Type 0} (g : Ghosts D) (watched : IsWatched g) (s : State) (text : List ℕ) where
+  abbrev behind : State
+  behind = state_behind s (exchange_at s text)
+
+  -- memory ran out before the text was looked at
+  pub carries_nothing : {T : Type 0} (disk : D) (result : Result T Halt) → IsErr result → HoldsState g IsStored s disk → CarriesOut g IsStored Shown disk disk s behind result
+  carries_nothing disk result err held = record {
+    answered = on_ok_at_err result _ err;
+    no_memory = λ _. it_holds g watched IsStored Shown shown_stays stored_exactly s disk held;
+    tells = (held.there.0, held.there.1, tt);
+    through = rests_until g watched IsStored Shown shown_stays stored_exactly s behind.history (text_extends s text) disk held;
+  }
+
+  -- it is a bad line
+  pub carries_bad : {T : Type 0} (disk : D) (x : T) → exchange_at s text ≡ None → HoldsState g IsStored s disk → CarriesOut g IsStored Shown disk disk s behind (Ok x)
+  carries_bad disk x bad held = record {
+    answered = subst (λ (t : State). HoldsState g IsStored t disk) (sym (bad_behind s text bad)) held;
+    no_memory = λ out. absurd (ok_not_out x out);
+    tells = (held.there.0, held.there.1, tt);
+    through = rests_until g watched IsStored Shown shown_stays stored_exactly s behind.history (text_extends s text) disk held;
+  }
+
+  module _ (old new : D) where
+    -- the line was carried out, or failed
+    pub carries_line : {T U : Type 0} (line : Line) (carried : Result U Halt) (result : Result T Halt) → line_of text ≡ Some line → CarriesOut g IsStored Shown old new s (state_after s line) carried
+        → (IsOk result → IsOk carried) → (result ≡ Err NoRoom → HoldsHistory g IsStored s.history new) → CarriesOut g IsStored Shown old new s behind result
+    carries_line line carried result spelled carries ok out =
+        subst (λ (t : State). CarriesOut g IsStored Shown old new s t result) (sym (line_behind s text line spelled)) (record {
+          answered = on_ok_if result carried _ ok carries.answered;
+          no_memory = out;
+          tells = carries.tells;
+          through = carries.through;
+        })
+
+    -- the answer to a line that makes no commit found no memory
+    pub kept_without_number : (line : Line) (answer : Answer) → answer ≡ answer_to s line → ((n : ℕ) → answer ≡ Number n → ⊥) → HoldsState g IsStored (state_after s line) new → HoldsHistory g IsStored s.history new
+    kept_without_number line answer is none held = (state_after s line, history_stays s line (λ n numbered. none n (is ∙ numbered)), held)
+
+    -- ---- how a run ends there
+
+    -- the sink failed within the answer
+    pub ends_cut : {T : Type 0} (result : Result T Halt) → IsOk result → CarriesOut g IsStored Shown old new s behind result → DiskEnds g IsStored Shown ⊥ old new (record { ending = AnswerCut; first = s.history; answered = []; most = behind.history })
+    ends_cut result ok carries =
+        let held = it_holds g watched IsStored Shown shown_stays stored_exactly behind new (of_ok result _ ok carries.answered) in
+        ends_within g watched IsStored Shown shown_stays stored_exactly old new AnswerCut s.history behind.history carries.through carries.tells (λ sound. inr held) (λ out. cc) (λ whole. absurd whole) (λ cuts. held)
+
+    -- it is a bad line, whatever could be put
+    pub ends_bad : {T : Type 0} (result : Result T Halt) (ending : Ending) → IsOk result → exchange_at s text ≡ None → CarriesOut g IsStored Shown old new s behind result
+        → DiskEnds g IsStored Shown ⊥ old new (record { ending = ending; first = s.history; answered = []; most = behind.history })
+    ends_bad result ending ok bad carries =
+        let held = of_ok result _ ok carries.answered in
+        ends_unchanged g watched IsStored Shown shown_stays stored_exactly old new ending s.history behind.history carries.through carries.tells
+        (behind, ap (λ (t : State). t.history) (bad_behind s text bad), held) (λ cuts. it_holds g watched IsStored Shown shown_stays stored_exactly behind new held)
+
+    -- memory ran out
+    pub ends_out : {T K : Type 0} (k : sink.Ghosts K) (sink_old sink_new : K) (line : List ℕ) (result : Result T Halt) (ending : Ending) → result ≡ Err NoRoom → Finishes k sink_old sink_new line NoMemory ending
+        → CarriesOut g IsStored Shown old new s behind result → DiskEnds g IsStored Shown ⊥ old new (record { ending = ending; first = s.history; answered = []; most = behind.history })
+    ends_out k sink_old sink_new line result ending out finishes carries =
+        ends_unchanged g watched IsStored Shown shown_stays stored_exactly old new ending s.history behind.history carries.through carries.tells (carries.no_memory out)
+        (λ cuts. absurd (or_cut k sink_old sink_new line NoMemory ending (λ (e : Ending). CutsAnswer e → ⊥) finishes (λ e. cc) (λ e. cc) cuts))
+
+    -- the disk failed
+    pub ends_fault : {T K : Type 0} (k : sink.Ghosts K) (sink_old sink_new : K) (line : List ℕ) (result : Result T Halt) (ending : Ending) → Rose (g.faults old) (g.faults new) → Finishes k sink_old sink_new line DiskFault ending
+        → CarriesOut g IsStored Shown old new s behind result → DiskEnds g IsStored Shown ⊥ old new (record { ending = ending; first = s.history; answered = []; most = behind.history })
+    ends_fault k sink_old sink_new line result ending rose finishes carries =
+        ends_within g watched IsStored Shown shown_stays stored_exactly old new ending s.history behind.history carries.through carries.tells (λ sound. absurd (sound rose))
+        (λ out. absurd (or_cut k sink_old sink_new line DiskFault ending (λ (e : Ending). e ≡ NoMemory → ⊥) finishes (λ e. cc) (λ e. cc) out))
+        (λ whole. absurd (or_cut k sink_old sink_new line DiskFault ending (λ (e : Ending). IsBetweenLines (culprit_of e) → ⊥) finishes (λ never. never) (λ never. never) whole))
+        (λ cuts. absurd (or_cut k sink_old sink_new line DiskFault ending (λ (e : Ending). CutsAnswer e → ⊥) finishes (λ e. cc) (λ e. cc) cuts))

@@ -1,141 +1,158 @@
--- A run under way: what was printed so far, before what a run over the rest prints, is a run over the whole input.
-use Rattle.std.proofs.Common.{append_assoc, ◌≡◌, ◌+◌, ◌≤◌, ℕ, suc, List, [], ◌∷◌, ◌++◌, take, sym, ◌∙◌, ap, subst, arith}
+-- A run under way: what was printed so far, before what a run over the rest prints, is a run over the whole.
+use Rattle.std.proofs.Common.{append_assoc, ◌≡◌, ◌+◌, ◌≤◌, ℕ, suc, List, [], ◌∷◌, ◌++◌, take, refl, sym, ◌∙◌, ap, subst, arith}
 use Rattle.std.specs.Prelude.{Option, Some, None}
 use Rattle.vl_model.specs.History.{History}
+use Rattle.vl_disk.specs.declared.watched.Watched.{Ghosts}
+use Rattle.vl_disk.specs.Faults.{Rose}
 use Rattle.vl_disk.specs.DiskState.{DiskState}
-use Rattle.vl_disk.specs.Crash.{SameFiles}
-use Rattle.vl_disk.specs.Moments.{HoldsThroughout, holds_weaker, holds_then}
-use Rattle.vl_journal.specs.Images.{Leaves}
+use Rattle.vl_disk.specs.Crash.{Image}
 use Rattle.vl_io.specs.Sink.{Takes}
 use Rattle.vl_script.specs.Script.{text_of, lines_of}
-use Rattle.vl_replay.specs.Sequential.{State, empty_store}
+use Rattle.vl_replay.specs.Sequential.{State}
 use Rattle.vl_replay.specs.Represents.{Represents}
-use Rattle.vl_replay.specs.Replay.{Exchange, KeepsUp, line_number, Replays, exchanges_from, history_after}
-use Rattle.vl_replay.specs.Durable.{HoldsState, AreFirstOf, AreBetween, GoesAlong, DiskEndsFrom}
-use Rattle.vl_replay.specs.Steps.{Causes, EndsRun, GoesOn}
+use Rattle.vl_replay.specs.Exchanges.{Exchange, KeepsUp, history_after}
+use Rattle.vl_replay.specs.Between.{Extends}
+use Rattle.vl_replay.specs.Endings.{Causes, line_number}
+use Rattle.vl_replay.specs.Runs.{Script, script_of, exchanges, course, Outside, CausesOf, EndsSo, EndsRun}
+use Rattle.vl_replay.specs.Durable.{LeavesItsHistory, StaysShown, HoldsState, GoesFrom, GoesAlong, DiskEnds, DiskEndsFrom}
+use Rattle.vl_replay.specs.Steps.{GoesOn}
 use Rattle.vl_replay.specs.declared.replayer.store.Store.{Store}
 use Rattle.vl_replay.specs.declared.ending.Ending.{Ending}
-use Rattle.vl_replay.proofs.Lines.{lines_of-ended}
 use Rattle.vl_replay.specs.Laws.{keeps_up_at_first}
-use Rattle.vl_replay.proofs.Replays.{takes_both, takes_nothing, goes_on, keeps_up_behind, exchanges_from-answered}
-use Rattle.vl_replay.proofs.DiskSteps.{Extends, exchange_extends, exchanges_extend, extends_itself, extends_then, between_up_to, between_from, rests, ends_later, goes_later, leaves_weaker, within_up_to}
+use Rattle.vl_replay.proofs.Betweens.{extends_itself, extends_then}
+use Rattle.vl_replay.proofs.Ends.{takes_both, takes_nothing, goes_on, longer, keeps_up_behind, ends_weaker, causes_weaker}
+use Rattle.vl_replay.proofs.DiskSteps.{IsWatched, exchange_extends, exchanges_extend, rests, it_holds, goes_wider, goes_then, ends_later, rose_earlier}
 
--- so far the disk holds the state, a crash since the begin left no more than its commits, and what goes along the lines of
--- the rest goes along those of the whole
-pub record Carried {D : Type 0} (told : D → Option DiskState) (moment : D → ℕ) (since : D → ℕ → DiskState → Type 0) (first disk : D) (state : State) (before : ℕ) (bytes input : List ℕ) (begun : ℕ) : Type 0 where
-  pub there : DiskState
-  pub told_is : told disk ≡ Some there
-  pub holds : HoldsState begun state there
-  pub through : HoldsThroughout moment since first disk (Leaves (AreFirstOf state.history))
-  pub along : (new : D) (most : History) (m : ℕ) → Extends state.history most → HoldsThroughout moment since disk new (Leaves (AreBetween state.history most))
-      → GoesAlong told moment since new begun most disk state.history (take m (exchanges_from state (lines_of bytes)))
-      → GoesAlong told moment since new begun most first empty_store.history (take (m + before) (exchanges_from empty_store (lines_of input)))
+-- So far the disk holds the state before the rest, a crash since the begin left no more than its commits, and what goes along
+-- the lines of the rest goes along those of the whole.
+pub record Carried {D : Type 0} (g : Ghosts D) (holds : State → DiskState → Type 0) (shows : Image → History → ℕ → Type 0) (first disk : D) (whole rest : Script) : Type 0 where
+  pub held : HoldsState g holds rest.start disk
+  pub goes : GoesFrom g shows first disk whole.start.history rest.start.history
+  pub along : (new : D) (most : History) (m : ℕ) → Extends rest.start.history most → GoesFrom g shows disk new rest.start.history most
+      → GoesAlong g holds shows new most disk rest.start.history (take m (exchanges rest))
+      → GoesAlong g holds shows new most first whole.start.history (take (m + rest.before) (exchanges whole))
 
-pub record UnderWay {D : Type 0} (told : D → Option DiskState) (moment : D → ℕ) (since : D → ℕ → DiskState → Type 0) (begin disk : D) (f fd : ℕ) (input : List ℕ) (replayer : Store) (answered : ℕ) (buffer : List ℕ) (left asked first held : Option (List ℕ)) : Type 0 where
+-- By what a run over the rest would print, a run over the whole, which is at its script's begin.
+pub record UnderWay {D : Type 0} (g : Ghosts D) (holds : State → DiskState → Type 0) (shows : Image → History → ℕ → Type 0) (whole : Script) (begin now : Outside D) (store : Store) (answered : ℕ) (buffer : List ℕ) : Type 0 where
   pub state : State
   pub before : ℕ
   pub had : List ℕ
   pub so_far : List ℕ
-  pub stands : Represents replayer state
+  pub extends : Extends whole.start.history state.history
+  pub stands : Represents store state
   pub count : answered ≡ line_number before
-  pub left_is : left ≡ Some had
-  pub kept_up : KeepsUp (buffer ++ had) asked 0
-  pub takes : Takes first held so_far
-  pub later : (t td : ℕ) (left' : Option (List ℕ)) (m : ℕ) (ending : Ending) (printed : List ℕ) → Replays (Causes f t fd td ⊥) state before (buffer ++ had) left' m ending printed → Replays (Causes f t fd td ⊥) empty_store 0 input left' (m + before) ending (so_far ++ printed)
-  pub later_kept_up : (asked' : Option (List ℕ)) (m : ℕ) → KeepsUp (buffer ++ had) asked' m → KeepsUp input asked' (m + before)
-  pub later_history : (m : ℕ) → history_after state.history (take m (exchanges_from state (lines_of (buffer ++ had)))) ≡ history_after empty_store.history (take (m + before) (exchanges_from empty_store (lines_of input)))
-  pub carried : (begun : ℕ) (old : DiskState) → told begin ≡ Some old → HoldsState begun empty_store old → Carried told moment since begin disk state before (buffer ++ had) input begun
+  pub left_is : now.left ≡ Some had
+  pub kept_up : KeepsUp (buffer ++ had) now.asked 0
+  pub taken : Takes begin.held now.held so_far
+  pub later : (t td : ℕ) (left : Option (List ℕ)) (m : ℕ) (ending : Ending) (printed : List ℕ)
+      → EndsSo (Causes (Rose begin.source_faults t) (Rose (g.faults begin.disk) td) ⊥) (script_of state before (buffer ++ had)) left m ending printed
+      → EndsSo (Causes (Rose begin.source_faults t) (Rose (g.faults begin.disk) td) ⊥) whole left (m + before) ending (so_far ++ printed)
+  pub later_kept_up : (asked : Option (List ℕ)) (m : ℕ) → KeepsUp (buffer ++ had) asked m → KeepsUp whole.bytes asked (m + before)
+  pub later_history : (m : ℕ) → history_after state.history (take m (exchanges (script_of state before (buffer ++ had)))) ≡ history_after whole.start.history (take (m + before) (exchanges whole))
+  pub carried : HoldsState g holds whole.start begin.disk → Carried g holds shows begin.disk now.disk whole (script_of state before (buffer ++ had))
 
-module _ {D : Type 0} (told : D → Option DiskState) (moment : D → ℕ) (since : D → ℕ → DiskState → Type 0) (faults : D → ℕ)
-    (only_now : (disk : D) (state other : DiskState) → told disk ≡ Some state → since disk (moment disk) other → SameFiles other state)
-    (counts_now : (disk : D) (state : DiskState) (t : ℕ) → told disk ≡ Some state → t ≤ moment disk → since disk t state) where
-  pub begun : (begin : D) (f fd : ℕ) (input : List ℕ) (replayer : Store) (left asked held : Option (List ℕ)) → Represents replayer empty_store → left ≡ Some input
-      → ((rest : List ℕ) → left ≡ Some rest → (given : List ℕ) × (asked ≡ Some (given ++ rest))) → UnderWay told moment since begin begin f fd input replayer 0 [] left asked held held
-  begun begin f fd input replayer left asked held stands is since_asked =
+module _ {D : Type 0} (g : Ghosts D) (watched : IsWatched g) (holds : State → DiskState → Type 0) (shows : Image → History → ℕ → Type 0)
+    (stays : StaysShown shows) (exactly : LeavesItsHistory holds shows) (start : State) (input : List ℕ) (begin : Outside D) where
+  abbrev whole : Script
+  whole = script_of start 0 input
+
+  pub begun : (store : Store) → Represents store start → begin.left ≡ Some input
+      → ((rest : List ℕ) → begin.left ≡ Some rest → (given : List ℕ) × (begin.asked ≡ Some (given ++ rest))) → UnderWay g holds shows whole begin begin store 0 []
+  begun store stands is since_asked =
       let none : (m : ℕ) → m ≡ m + 0 = λ m. omega arith in
       record {
-        state = empty_store;
+        state = start;
         before = 0;
         had = input;
         so_far = [];
+        extends = extends_itself start.history;
         stands = stands;
         count = omega arith;
         left_is = is;
-        kept_up = keeps_up_at_first input asked (since_asked input is);
-        takes = takes_nothing held;
-        later = λ t td left' m ending printed run. subst (λ (n : ℕ). Replays (Causes f t fd td ⊥) empty_store 0 input left' n ending printed) (none m) run;
-        later_kept_up = λ asked' m kept_up. subst (KeepsUp input asked') (none m) kept_up;
-        later_history = λ m. ap (λ (n : ℕ). history_after empty_store.history (take n (exchanges_from empty_store (lines_of input)))) (none m);
-        carried = λ n old told_is holds. record {
-          there = old;
-          told_is = told_is;
-          holds = holds;
-          through = holds_weaker moment since (Leaves (AreBetween empty_store.history empty_store.history)) (Leaves (AreFirstOf empty_store.history)) begin begin
-              (rests told moment since only_now counts_now empty_store.history empty_store (extends_itself empty_store.history) begin n old told_is holds)
-              (leaves_weaker (AreBetween empty_store.history empty_store.history) (AreFirstOf empty_store.history) (within_up_to empty_store.history empty_store.history));
-          along = λ new most m extends through along. subst (λ (k : ℕ). GoesAlong told moment since new n most begin empty_store.history (take k (exchanges_from empty_store (lines_of input)))) (none m) along;
+        kept_up = keeps_up_at_first input begin.asked (since_asked input is);
+        taken = takes_nothing begin.held;
+        later = λ t td left m ending printed run. subst (λ (n : ℕ). EndsSo (Causes (Rose begin.source_faults t) (Rose (g.faults begin.disk) td) ⊥) whole left n ending printed) (none m) run;
+        later_kept_up = λ asked m kept_up. subst (KeepsUp input asked) (none m) kept_up;
+        later_history = λ m. ap (λ (n : ℕ). history_after start.history (take n (exchanges whole))) (none m);
+        carried = λ held. record {
+          held = held;
+          goes = rests g watched holds shows stays exactly start begin.disk held;
+          along = λ new most m extends goes along. subst (λ (k : ℕ). GoesAlong g holds shows new most begin.disk start.history (take k (exchanges whole))) (none m) along;
         };
       }
 
-  module _ (begin disk disk' : D) (f t fd td : ℕ) (input : List ℕ) (replayer replayer' : Store) (answered answered' : ℕ) (buffer buffer' : List ℕ) (left left' asked asked' first held held' : Option (List ℕ)) where
-    pub further : (u : UnderWay told moment since begin disk f fd input replayer answered buffer left asked first held) → GoesOn told moment since faults disk disk' (Causes f t fd td ⊥) u.state u.before (buffer ++ u.had) replayer' buffer' left' asked' None held held' → answered' ≡ line_number (u.before + 1) →
-        UnderWay told moment since begin disk' f fd input replayer' answered' buffer' left' asked' first held'
-    further u (e, line, rest, is_left, parts, unended, is, stands, takes, kept_up, moves) count =
-        let next : (m : ℕ) → suc m + u.before ≡ m + (u.before + 1) = λ m. omega arith in
-        let lines : lines_of (buffer ++ u.had) ≡ line ∷ lines_of (buffer' ++ rest) = ap lines_of parts ∙ lines_of-ended line (buffer' ++ rest) unended in
-        let all : exchanges_from u.state (lines_of (buffer ++ u.had)) ≡ e ∷ exchanges_from e.after (lines_of (buffer' ++ rest)) = ap (exchanges_from u.state) lines ∙ exchanges_from-answered u.state line (lines_of (buffer' ++ rest)) e is in
+  module _ (now next : Outside D) (store store' : Store) (answered answered' : ℕ) (buffer buffer' : List ℕ) (u : UnderWay g holds shows whole begin now store answered buffer) where
+    abbrev rest : Script
+    rest = script_of u.state u.before (buffer ++ u.had)
+
+    pub further : GoesOn g holds shows rest now next store' buffer' → answered' ≡ line_number (u.before + 1) → UnderWay g holds shows whole begin next store' answered' buffer'
+    further s count =
+        let e = s.exchange in
+        let others = script_of e.after (u.before + 1) (buffer' ++ s.rest) in
+        let on : (m : ℕ) → suc m + u.before ≡ m + (u.before + 1) = λ m. omega arith in
+        let all : exchanges rest ≡ e ∷ exchanges others = longer rest others s.text e s.bytes_are s.unended s.exchange_is refl refl in
+        let step : Extends u.state.history e.after.history = exchange_extends u.state s.text e s.exchange_is in
         record {
           state = e.after;
           before = u.before + 1;
-          had = rest;
+          had = s.rest;
           so_far = u.so_far ++ text_of e.answer;
-          stands = stands;
+          extends = extends_then start.history u.state.history e.after.history u.extends step;
+          stands = s.stands;
           count = count;
-          left_is = is_left;
-          kept_up = kept_up;
-          takes = takes_both first held held' u.so_far (text_of e.answer) u.takes takes;
-          later = λ t' td' left'' m ending printed run.
-              subst (λ (n : ℕ). Replays (Causes f t' fd td' ⊥) empty_store 0 input left'' n ending ((u.so_far ++ text_of e.answer) ++ printed)) (next m)
-              (subst (λ (p : List ℕ). Replays (Causes f t' fd td' ⊥) empty_store 0 input left'' (suc m + u.before) ending p) (sym (append_assoc u.so_far (text_of e.answer) printed))
-              (u.later t' td' left'' (suc m) ending (text_of e.answer ++ printed) (goes_on (Causes f t' fd td' ⊥) u.state u.before (buffer ++ u.had) line (buffer' ++ rest) left'' e m ending printed parts unended is (λ never. never) run)));
-          later_kept_up = λ asked'' m kept. subst (KeepsUp input asked'') (next m) (u.later_kept_up asked'' (suc m) (keeps_up_behind (buffer ++ u.had) line (buffer' ++ rest) asked'' m parts unended kept));
+          left_is = s.left_is;
+          kept_up = s.kept_up;
+          taken = takes_both begin.held now.held next.held u.so_far (text_of e.answer) u.taken s.taken;
+          later = λ t td left m ending printed run.
+              let cause = Causes (Rose begin.source_faults t) (Rose (g.faults begin.disk) td) ⊥ in
+              subst (λ (n : ℕ). EndsSo cause whole left n ending ((u.so_far ++ text_of e.answer) ++ printed)) (on m)
+              (subst (λ (p : List ℕ). EndsSo cause whole left (suc m + u.before) ending p) (sym (append_assoc u.so_far (text_of e.answer) printed))
+              (u.later t td left (suc m) ending (text_of e.answer ++ printed)
+              (goes_on rest others s.text e s.bytes_are s.unended s.exchange_is refl refl cause (λ never. never) left m ending printed run)));
+          later_kept_up = λ asked m kept. subst (KeepsUp input asked) (on m) (u.later_kept_up asked (suc m) (keeps_up_behind (buffer ++ u.had) s.text (buffer' ++ s.rest) asked m s.bytes_are s.unended kept));
           later_history = λ m.
-              sym (ap (λ es. history_after u.state.history (take (suc m) es)) all)
+              sym (ap (λ (es : List Exchange). history_after u.state.history (take (suc m) es)) all)
               ∙ u.later_history (suc m)
-              ∙ ap (λ (n : ℕ). history_after empty_store.history (take n (exchanges_from empty_store (lines_of input)))) (next m);
-          carried = λ n old told_is holds.
-              let c = u.carried n old told_is holds in
-              let m = moves n c.there c.told_is c.holds in
+              ∙ ap (λ (n : ℕ). history_after start.history (take n (exchanges whole))) (on m);
+          carried = λ held.
+              let c = u.carried held in
+              let moves = s.moves c.held in
               record {
-                there = m.0;
-                told_is = m.1;
-                holds = m.2;
-                through = goes_later told moment since only_now counts_now begin disk disk' u.state.history e.after.history (exchange_extends u.state line e is) c.through m.3;
-                along = λ new most k extends through along.
-                    let P = AreBetween u.state.history most in
-                    let so_far = holds_weaker moment since (Leaves (AreBetween u.state.history e.after.history)) (Leaves P) disk disk' m.3 (leaves_weaker (AreBetween u.state.history e.after.history) P (between_up_to u.state.history e.after.history most extends)) in
-                    let from_here = holds_weaker moment since (Leaves (AreBetween e.after.history most)) (Leaves P) disk' new through (leaves_weaker (AreBetween e.after.history most) P (between_from u.state.history e.after.history most (exchange_extends u.state line e is))) in
-                    subst (λ (j : ℕ). GoesAlong told moment since new n most begin empty_store.history (take j (exchanges_from empty_store (lines_of input)))) (next k)
-                    (c.along new most (suc k) (extends_then u.state.history e.after.history most (exchange_extends u.state line e is) extends) (holds_then moment since (Leaves P) disk disk' new so_far from_here)
-                    (subst (λ (es : List Exchange). GoesAlong told moment since new n most disk u.state.history (take (suc k) es)) (sym all) (disk', m.3, (m.0, m.1, m.2.history), through, along)));
+                held = moves.held;
+                goes = goes_then g watched holds shows stays exactly begin.disk now.disk next.disk start.history u.state.history e.after.history u.extends step c.goes moves.through;
+                along = λ new most k extends goes along.
+                    subst (λ (j : ℕ). GoesAlong g holds shows new most begin.disk start.history (take j (exchanges whole))) (on k)
+                    (c.along new most (suc k) (extends_then u.state.history e.after.history most step extends)
+                    (goes_then g watched holds shows stays exactly now.disk next.disk new u.state.history e.after.history most step extends moves.through goes)
+                    (subst (λ (es : List Exchange). GoesAlong g holds shows new most now.disk u.state.history (take (suc k) es)) (sym all)
+                    (next.disk, moves.through, it_holds g watched holds shows stays exactly e.after next.disk moves.held, goes, along)));
               };
         }
 
-    pub over : (ending : Ending) (u : UnderWay told moment since begin disk f fd input replayer answered buffer left asked first held) → faults begin ≤ faults disk → GoesOn told moment since faults disk disk' (Causes f t fd td ⊥) u.state u.before (buffer ++ u.had) replayer' buffer' left' asked' (Some ending) held held' →
-        EndsRun (Causes f t fd td ⊥) (DiskEndsFrom told moment since faults begin disk' empty_store) empty_store 0 input left' asked' ending first held'
-    over ending u earlier (printed, m, takes, run, kept_up, so) =
-        let all = exchanges_from u.state (lines_of (buffer ++ u.had)) in
-        let whole = exchanges_from empty_store (lines_of input) in
-        let most = history_after u.state.history (take (suc m) all) in
-        let next : suc m + u.before ≡ suc (m + u.before) = omega arith in (
-          u.so_far ++ printed,
-          m + u.before,
-          takes_both first held held' u.so_far printed u.takes takes,
-          u.later t td left' m ending printed run,
-          u.later_kept_up asked' m kept_up,
-          subst (λ (h : History). DiskEndsFrom told moment since faults begin disk' empty_store ending (take (m + u.before) whole) h) (u.later_history (suc m) ∙ ap (λ (n : ℕ). history_after empty_store.history (take n whole)) next) (λ n old told_is holds.
-              let c = u.carried n old told_is holds in
+    pub over : (ending : Ending) → begin.source_faults ≤ now.source_faults → g.faults begin.disk ≤ g.faults now.disk
+        → EndsRun g ⊥ (DiskEndsFrom g holds shows now.disk next.disk u.state) rest now next ending
+        → EndsRun g ⊥ (DiskEndsFrom g holds shows begin.disk next.disk start) whole begin next ending
+    over ending earlier earlier_disk run =
+        let m = run.answered in
+        let most = history_after u.state.history (take (suc m) (exchanges rest)) in
+        let on : suc m + u.before ≡ suc (m + u.before) = omega arith in
+        let most_is : most ≡ history_after start.history (take (suc (m + u.before)) (exchanges whole)) =
+        u.later_history (suc m) ∙ ap (λ (n : ℕ). history_after start.history (take n (exchanges whole))) on in
+        record {
+          answered = m + u.before;
+          printed = u.so_far ++ run.printed;
+          taken = takes_both begin.held now.held next.held u.so_far run.printed u.taken run.taken;
+          ends = u.later next.source_faults (g.faults next.disk) next.left m ending run.printed
+              (ends_weaker (CausesOf g now next ⊥) (CausesOf g begin next ⊥)
+              (causes_weaker (Rose now.source_faults next.source_faults) (Rose (g.faults now.disk) (g.faults next.disk)) ⊥ (Rose begin.source_faults next.source_faults) (Rose (g.faults begin.disk) (g.faults next.disk)) ⊥
+              (λ rose. rose_earlier begin.source_faults now.source_faults next.source_faults earlier rose)
+              (λ rose. rose_earlier (g.faults begin.disk) (g.faults now.disk) (g.faults next.disk) earlier_disk rose) (λ never. never))
+              rest next.left m ending run.printed run.ends);
+          kept_up = u.later_kept_up next.asked m run.kept_up;
+          disk = λ held.
+              let c = u.carried held in
               let extends = exchanges_extend (lines_of (buffer ++ u.had)) u.state (suc m) in
-              ends_later told moment since faults only_now counts_now ⊥ begin disk disk' n ending u.state.history most (take m all) (take (m + u.before) whole) extends earlier c.through
-              (c.along disk' most m extends) (u.later_history m) (so n c.there c.told_is c.holds)),
-        )
+              subst (λ (h : History). DiskEnds g holds shows ⊥ begin.disk next.disk (record { ending = ending; first = start.history; answered = take (m + u.before) (exchanges whole); most = h })) most_is
+              (ends_later g watched holds shows stays exactly ⊥ begin.disk now.disk next.disk ending start.history u.state.history most (take m (exchanges rest)) (take (m + u.before) (exchanges whole))
+              u.extends extends earlier_disk c.goes (c.along next.disk most m extends) (u.later_history m) (run.disk c.held));
+        }

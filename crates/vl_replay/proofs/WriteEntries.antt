@@ -16,13 +16,13 @@ use Rattle.std.proofs.lemmas.Bool.{cond-true, cond-false, cases_lt, and_parts, l
 use Rattle.std.proofs.lemmas.Option.{slice_get_past}
 use Rattle.std.proofs.lemmas.List.Sums.{sum_by-cons}
 use Rattle.std.proofs.lemmas.Map.Text.{is_eq-slice_cmp}
-use Rattle.vl_model.specs.Keys.{Writes, key_cmp, is_value_length}
+use Rattle.vl_model.specs.Keys.{Writes, key_cmp, value_bytes}
 use Rattle.vl_model.specs.declared.change.Change.{Change}
 use Rattle.vl_model.specs.declared.change.Change.TheVariants.{Set as Put, Delete}
-use Rattle.vl_record.specs.Record.{IsRecord, value_bytes}
+use Rattle.vl_record.specs.Record.{IsRecord}
 use Rattle.vl_seglog.specs.Log.{AreRecords}
-use Rattle.vl_replay.specs.Sequential.{change_bytes, is_lawful_write, write_bytes, frame_length, fits_transaction}
-use Rattle.vl_model.specs.declared.limits.TheConstants.{MAX_TRANSACTION_BYTES, MAX_TRANSACTION_KEYS}
+use Rattle.vl_replay.specs.Sequential.{is_lawful_write, write_bytes, frame_length, fits_transaction}
+use Rattle.vl_model.specs.Limits.{max_transaction_bytes, max_transaction_keys}
 use Rattle.vl_replay.specs.Writes.{writes_of, is_above, entry_bytes, AreWrites}
 use Rattle.vl_replay.proofs.Places.{IsParted, first_failing, put_before, replace_first, slice_get-item, slice_get-prefix_len, slice_get_at, set-prefix_len, insert-prefix_len}
 
@@ -59,15 +59,11 @@ insert-writes_of list key change sorted =
 
 -- ---- records
 
-value_length : (change : Change) → length (value_bytes change) ≡ change_bytes change
-value_length (Put value) = refl
-value_length Delete = refl
-
 -- a write within its limits can be spelled as a record
 pub lawful_record : (key : List ℕ) (change : Change) → IsTrue (is_lawful_write key change) → IsRecord key change
 lawful_record key change lawful =
     let parts = and_parts _ _ lawful in
-    record { key_length = parts.0; value_length = ap is_value_length (value_length change) ∙ parts.1 }
+    record { key_length = parts.0; value_length = parts.1 }
 
 put-records_at : (key : List ℕ) (change : Change) (x : List ℕ × Change) (list later : List (List ℕ × Change)) (r : Ordering) → IsRecord key change → AreRecords (x ∷ list) → AreRecords later →
     AreRecords (by_order r ((key, change) ∷ x ∷ list) ((x.0, change) ∷ list) (x ∷ later))
@@ -183,12 +179,12 @@ put-placed key change (x ∷ list) =
 -- ---- the bytes after a write
 
 abbrev pub weight : List ℕ × Change → ℕ
-weight write = length write.0 + change_bytes write.1
+weight write = length write.0 + length (value_bytes write.1)
 
 -- what a write does to the bytes, where the key had this change
 abbrev pub BytesAfter : ℕ → ℕ → List ℕ → Change → Option Change → Type 0
-BytesAfter old new key change None = new ≡ old + length key + change_bytes change
-BytesAfter old new key change (Some replaced) = new + change_bytes replaced ≡ old + change_bytes change
+BytesAfter old new key change None = new ≡ old + length key + length (value_bytes change)
+BytesAfter old new key change (Some replaced) = new + length (value_bytes replaced) ≡ old + length (value_bytes change)
 
 one_further : (old new more : ℕ) (key : List ℕ) (change : Change) (o : Option Change) → BytesAfter old new key change o → BytesAfter (more + old) (more + new) key change o
 one_further old new more key change None is = omega arith
@@ -226,16 +222,16 @@ write_bytes-insert list key change sorted =
     subst (λ old. BytesAfter old (write_bytes (map.insert (writes_of list) key change)) key change (get (writes_of list) key)) (sym (entry_bytes-bytes_of list)) new_is
 
 -- a replaced change is counted
-replaced_le : (key : List ℕ) (list : List (List ℕ × Change)) (change : Change) → find key_cmp key list ≡ Some change → change_bytes change ≤ bytes_of list
+replaced_le : (key : List ℕ) (list : List (List ℕ × Change)) (change : Change) → find key_cmp key list ≡ Some change → length (value_bytes change) ≤ bytes_of list
 replaced_le key [] change found = cc
 replaced_le key (x ∷ list) change found =
-    elim (eq_by_cmp key_cmp key x.0) as (λ b. cond b (Some x.1) (find key_cmp key list) ≡ Some change → change_bytes change ≤ weight x + bytes_of list) [
-      | true ↦ λ is. let same : x.1 ≡ change = cc in omega (arith, ap change_bytes same)
+    elim (eq_by_cmp key_cmp key x.0) as (λ b. cond b (Some x.1) (find key_cmp key list) ≡ Some change → length (value_bytes change) ≤ weight x + bytes_of list) [
+      | true ↦ λ is. let same : x.1 ≡ change = cc in omega (arith, ap (λ (c : Change). length (value_bytes c)) same)
       | false ↦ λ is. omega (arith, replaced_le key list change is)
     ] found
 
-pub change_bytes-le : (list : List (List ℕ × Change)) (key : List ℕ) (change : Change) → IsTrue (is_sorted key_cmp list) → get (writes_of list) key ≡ Some change → change_bytes change ≤ entry_bytes list
-change_bytes-le list key change sorted found =
+pub value_bytes-le : (list : List (List ℕ × Change)) (key : List ℕ) (change : Change) → IsTrue (is_sorted key_cmp list) → get (writes_of list) key ≡ Some change → length (value_bytes change) ≤ entry_bytes list
+value_bytes-le list key change sorted found =
     omega (arith, entry_bytes-bytes_of list, replaced_le key list change (sym (get-writes_of list key sorted) ∙ found))
 
 -- ---- `put`
@@ -274,10 +270,10 @@ bytes_after list bytes writes key change o are view found =
     let of_found = subst (BytesAfter (entry_bytes list) (write_bytes (map.insert writes key change)) key change) found of_writes in
     subst (λ n. BytesAfter n (write_bytes (map.insert writes key change)) key change o) (sym are.counted) of_found
 
-pub replaced-le : (list : List (List ℕ × Change)) (bytes : ℕ) (writes : Writes) (key : List ℕ) (change : Change) → AreWrites list bytes → writes_of list ≡ writes → get writes key ≡ Some change → change_bytes change ≤ bytes
+pub replaced-le : (list : List (List ℕ × Change)) (bytes : ℕ) (writes : Writes) (key : List ℕ) (change : Change) → AreWrites list bytes → writes_of list ≡ writes → get writes key ≡ Some change → length (value_bytes change) ≤ bytes
 replaced-le list bytes writes key change are view found =
     let counted = are.counted in
-    omega (arith, counted, change_bytes-le list key change are.sorted (ap (λ w. get w key) view ∙ found))
+    omega (arith, counted, value_bytes-le list key change are.sorted (ap (λ w. get w key) view ∙ found))
 
 pub AreWrites-put : (list new_list : List (List ℕ × Change)) (bytes new_bytes : ℕ) (writes : Writes) (key : List ℕ) (change : Change) → AreWrites list bytes → writes_of list ≡ writes → new_list ≡ put key_cmp key change list →
     IsRecord key change → new_bytes ≡ write_bytes (map.insert writes key change) → IsTrue (fits_transaction (map.insert writes key change)) → AreWrites new_list new_bytes
@@ -285,9 +281,9 @@ AreWrites-put list new_list bytes new_bytes writes key change are view is lawful
     let new_sorted : IsTrue (is_sorted key_cmp new_list) = ap (is_sorted key_cmp) is ∙ put_sorted list key change are.sorted in
     let entries_is : entries (map.insert writes key change) ≡ new_list =
     ap (λ w. entries (map.insert w key change)) (sym view) ∙ ap entries (insert-writes_of list key change are.sorted) ∙ entries-writes_of (put key_cmp key change list) (put_sorted list key change are.sorted) ∙ sym is in
-    let within : write_bytes (map.insert writes key change) ≤ MAX_TRANSACTION_BYTES = leb-true _ _ (and_parts _ _ fits).1 in
-    let keys : len (map.insert writes key change) ≤ MAX_TRANSACTION_KEYS = leb-true _ _ (and_parts _ _ fits).0 in
-    record { sorted = new_sorted; records = subst AreRecords (sym is) (put-records list key change lawful are.records); counted = counted ∙ ap entry_bytes entries_is; bounded = omega (arith, within, counted); few = subst (λ n. n ≤ MAX_TRANSACTION_KEYS) (len-entries (map.insert writes key change) ∙ ap length entries_is) keys }
+    let within : write_bytes (map.insert writes key change) ≤ max_transaction_bytes = leb-true _ _ (and_parts _ _ fits).1 in
+    let keys : len (map.insert writes key change) ≤ max_transaction_keys = leb-true _ _ (and_parts _ _ fits).0 in
+    record { sorted = new_sorted; records = subst AreRecords (sym is) (put-records list key change lawful are.records); counted = counted ∙ ap entry_bytes entries_is; bounded = omega (arith, within, counted); few = subst (λ n. n ≤ max_transaction_keys) (len-entries (map.insert writes key change) ∙ ap length entries_is) keys }
 
 pub writes_of-put : (list new_list : List (List ℕ × Change)) (bytes : ℕ) (writes : Writes) (key : List ℕ) (change : Change) → AreWrites list bytes → writes_of list ≡ writes → new_list ≡ put key_cmp key change list → writes_of new_list ≡ map.insert writes key change
 writes_of-put list new_list bytes writes key change are view is =

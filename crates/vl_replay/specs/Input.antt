@@ -4,9 +4,6 @@ use Rattle.std.specs.List.{AllByRecursion}
 use Rattle.vl_script.specs.Script.{lines_of}
 use Rattle.vl_replay.specs.declared.input.lines.Next.{Next}
 use Rattle.vl_replay.specs.declared.input.lines.Next.TheVariants.{Line, LastLine, TooLong, End}
-use Rattle.vl_disk.specs.Faults.{Rose}
-use Rattle.vl_replay.specs.declared.input.fail.InputFail.{InputFail}
-use Rattle.vl_replay.specs.declared.input.fail.InputFail.TheVariants.{NoMemory, Fault}
 use Rattle.vl_script.specs.declared.limits.TheConstants.{MAX_LINE_BYTES}
 
 -- no byte of these ends a line
@@ -36,8 +33,3 @@ ReadsLine End had line buffer left = (left ≡ Some []) × (had ≡ [])
 -- the source failed before a line had ended in what it gave
 abbrev pub FailsWithin : List ℕ → Option (List ℕ) → Type 0
 FailsWithin had left = (given : List ℕ) × (rest : List ℕ) × (left ≡ Some rest) × (had ≡ given ++ rest) × HasNoLineEnd given
-
--- what a source counted where no line could be read
-abbrev pub CountsFault : InputFail → ℕ → ℕ → Type 0
-CountsFault NoMemory before now = now ≡ before
-CountsFault Fault before now = Rose before now

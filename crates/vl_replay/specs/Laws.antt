@@ -13,18 +13,17 @@ use Rattle.vl_model.specs.History.{History, last_number, with_commit, value_at, 
 use Rattle.vl_model.specs.Reads.{Read, KeyRead, RangeRead, IsExplained, IsExplainedRead}
 use Rattle.vl_model.specs.declared.change.Change.{Change}
 use Rattle.vl_model.specs.declared.change.Change.TheVariants.{Set as Put, Delete}
-use Rattle.vl_replay.specs.Sequential.{Thing, OpenTransaction, OpenView, State, Outcome, empty_store, with_thing, without_thing, opened, found, read, read_in_transaction, is_lawful_write, written, committed, dropped, after_commit, frame_length, fits_transaction, state_after}
+use Rattle.vl_replay.specs.Sequential.{Handle, OpenTransaction, OpenView, State, Outcome, with_handle, without_handle, opened, found, read, read_in_transaction, is_lawful_write, written, committed, dropped, after_commit, frame_length, fits_transaction, state_after}
 use Rattle.vl_script.specs.Script.{line_of}
-use Rattle.vl_replay.specs.Replay.{exchanged, exchanges_from, and_later, IsExplainedExchange, AreExplained, ended_lines, KeepsUp}
+use Rattle.vl_replay.specs.Exchanges.{exchanged, exchanges_from, and_later, IsExplainedExchange, AreExplained, ended_lines, KeepsUp}
 use Rattle.vl_script.specs.declared.line.Line.{Line}
 use Rattle.vl_script.specs.declared.line.Line.TheVariants.{Begin, View, Get, Set, Delete as DeleteLine, Commit, Drop}
 use Rattle.vl_script.specs.declared.answer.Answer.{Answer}
 use Rattle.vl_script.specs.declared.answer.Answer.TheVariants.{Number, Done, Invalid, TooBig, Full, Exhausted}
 use Rattle.vl_model.specs.declared.counter.Counter.TheVariants.{Commit as CommitNumber}
-use Rattle.vl_model.specs.declared.limits.TheConstants.{MAX_COMMIT_NUMBER}
-use Rattle.vl_replay.specs.declared.replayer.limits.TheConstants.{MAX_LOG_BYTES}
+use Rattle.vl_model.specs.Limits.{max_commit_number, max_room}
 
--- ---- what is read is explained: while one thing is open at a time, it was opened at the last commit, so that nothing
+-- ---- what is read is explained: while one of them is open at a time, it was opened at the last commit, so that nothing
 -- that it has read was changed since
 
 -- one of two outcomes, by a test
@@ -33,35 +32,32 @@ pick P true x y f g = f refl
 pick P false x y f g = g refl
 
 -- what was opened at the last commit, and what it has read since
-abbrev pub IsCurrent : History → Thing → Type 0
+abbrev pub IsCurrent : History → Handle → Type 0
 IsCurrent h (OpenTransaction number reads writes) = IsExplained h number reads × (number ≡ last_number h)
 IsCurrent h (OpenView number) = number ≡ last_number h
 
 pub record IsSound (s : State) : Type 0 where
-  pub one : len s.things ≤ 1
-  pub current : (name : List ℕ) (thing : Thing) → get s.things name ≡ Some thing → IsCurrent s.history thing
+  pub one : len s.handles ≤ 1
+  pub current : (name : List ℕ) (handle : Handle) → get s.handles name ≡ Some handle → IsCurrent s.history handle
 
-none_in_empty : (name : List ℕ) → get (empty {K = List ℕ} {X = Thing} {R = key_cmp}) name ≡ None
+pub none_in_empty : (name : List ℕ) → get (empty {K = List ℕ} {X = Handle} {R = key_cmp}) name ≡ None
 none_in_empty name = get-empty key_cmp name
 
-nothing_there : (thing : Thing) → Some thing ≡ None → ⊥
-nothing_there thing e = cc
+pub nothing_there : (handle : Handle) → Some handle ≡ None → ⊥
+nothing_there handle e = cc
 
-empty_sound : IsSound empty_store
-empty_sound = record { one = rw (len-empty key_cmp Thing) zero-le; current = λ name thing is. absurd (nothing_there thing (sym is ∙ none_in_empty name)) }
-
-inserted : (b : Bool) (x y : Thing) (o : Option Thing) → cond b (Some x) o ≡ Some y → (x ≡ y) ⊎ (o ≡ Some y)
+inserted : (b : Bool) (x y : Handle) (o : Option Handle) → cond b (Some x) o ≡ Some y → (x ≡ y) ⊎ (o ≡ Some y)
 inserted true x y o e = inl (cc)
 inserted false x y o e = inr e
 
-removed : (b : Bool) (y : Thing) (o : Option Thing) → cond b None o ≡ Some y → o ≡ Some y
+removed : (b : Bool) (y : Handle) (o : Option Handle) → cond b None o ≡ Some y → o ≡ Some y
 removed true y o e = absurd (cc)
 removed false y o e = e
 
-with_thing-sound : (s : State) (name : List ℕ) (thing : Thing) → IsSound s → IsCurrent s.history thing → len (insert s.things name thing) ≤ 1 → IsSound (with_thing s name thing)
-with_thing-sound s name thing sound now one = record {
+with_handle-sound : (s : State) (name : List ℕ) (handle : Handle) → IsSound s → IsCurrent s.history handle → len (insert s.handles name handle) ≤ 1 → IsSound (with_handle s name handle)
+with_handle-sound s name handle sound now one = record {
   one = one;
-  current = λ other x is. elim (inserted (eq_by_cmp key_cmp other name) thing x (get s.things other) (sym (get-insert nat_list_cmp_total s.things name thing other) ∙ is)) [
+  current = λ other x is. elim (inserted (eq_by_cmp key_cmp other name) handle x (get s.handles other) (sym (get-insert nat_list_cmp_total s.handles name handle other) ∙ is)) [
     | inl same ↦ subst (IsCurrent s.history) same now
     | inr there ↦ sound.current other x there
   ];
@@ -71,51 +67,51 @@ fewer : (b : Bool) (n : ℕ) → n ≤ 1 → cond b (n - 1) n ≤ 1
 fewer true n le = omega arith
 fewer false n le = le
 
-without_thing-sound : (s : State) (name : List ℕ) → IsSound s → IsSound (without_thing s name)
-without_thing-sound s name sound = record {
-  one = rw (len-remove nat_list_cmp_total s.things name) (fewer (contains_key s.things name) (len s.things) sound.one);
-  current = λ other x is. sound.current other x (removed (eq_by_cmp key_cmp other name) x (get s.things other) (sym (get-remove nat_list_cmp_total s.things name other) ∙ is));
+without_handle-sound : (s : State) (name : List ℕ) → IsSound s → IsSound (without_handle s name)
+without_handle-sound s name sound = record {
+  one = rw (len-remove nat_list_cmp_total s.handles name) (fewer (contains_key s.handles name) (len s.handles) sound.one);
+  current = λ other x is. sound.current other x (removed (eq_by_cmp key_cmp other name) x (get s.handles other) (sym (get-remove nat_list_cmp_total s.handles name other) ∙ is));
 }
 
--- putting a thing in the place of another leaves as many
-same_len : (s : State) (name : List ℕ) (old new : Thing) → IsSound s → get s.things name ≡ Some old → len (insert s.things name new) ≤ 1
-same_len s name old new sound is = rw (len-insert nat_list_cmp_total s.things name new, is) sound.one
+-- putting a handle in the place of another leaves as many
+same_len : (s : State) (name : List ℕ) (old new : Handle) → IsSound s → get s.handles name ≡ Some old → len (insert s.handles name new) ≤ 1
+same_len s name old new sound is = rw (len-insert nat_list_cmp_total s.handles name new, is) sound.one
 
 -- nothing is open, so there is room for one
-opened-sound : (s : State) (name : List ℕ) (thing : Thing) → IsSound s → IsCurrent s.history thing → IsSound (opened s name thing).1
-opened-sound s name thing sound now =
-    pick (λ r. IsSound r.1) (contains_key s.things name) _ _ (λ taken. sound) (λ free.
-    pick (λ r. IsSound r.1) (nat_le 1 (len s.things)) _ _ (λ full. sound) (λ room.
-    with_thing-sound s name thing sound now (rw (len-insert nat_list_cmp_total s.things name thing, free) (let few : len s.things < 1 = grind (arith, nat_tests) in omega arith))))
+opened-sound : (s : State) (name : List ℕ) (handle : Handle) → IsSound s → IsCurrent s.history handle → IsSound (opened s name handle).1
+opened-sound s name handle sound now =
+    pick (λ r. IsSound r.1) (contains_key s.handles name) _ _ (λ taken. sound) (λ free.
+    pick (λ r. IsSound r.1) (nat_le 1 (len s.handles)) _ _ (λ full. sound) (λ room.
+    with_handle-sound s name handle sound now (rw (len-insert nat_list_cmp_total s.handles name handle, free) (let few : len s.handles < 1 = grind (arith, nat_tests) in omega arith))))
 
 explained-append : (h : History) (n : ℕ) (reads : List Read) (x : Read) → IsExplained h n reads → IsExplainedRead h n x → IsExplained h n (reads ++ (x ∷ []))
 explained-append h n [] x p q = (q, tt)
 explained-append h n (r ∷ reads) x p q = (p.0, explained-append h n reads x p.1 q)
 
-read_in_transaction-sound : (s : State) (name key : List ℕ) (number : ℕ) (reads : List Read) (writes : Writes) (change : Option Change) → IsSound s → get s.things name ≡ Some (OpenTransaction number reads writes) →
+read_in_transaction-sound : (s : State) (name key : List ℕ) (number : ℕ) (reads : List Read) (writes : Writes) (change : Option Change) → IsSound s → get s.handles name ≡ Some (OpenTransaction number reads writes) →
     IsSound (read_in_transaction s name key number reads writes change).1
 read_in_transaction-sound s name key number reads writes (Some change) sound is = sound
 read_in_transaction-sound s name key number reads writes None sound is =
     let now = sound.current name (OpenTransaction number reads writes) is in
-    let next : Thing = OpenTransaction number (reads ++ (KeyRead key (value_at s.history number key) ∷ [])) writes in
-    with_thing-sound s name next sound (explained-append s.history number reads (KeyRead key (value_at s.history number key)) now.0 refl, now.1) (same_len s name (OpenTransaction number reads writes) next sound is)
+    let next : Handle = OpenTransaction number (reads ++ (KeyRead key (value_at s.history number key) ∷ [])) writes in
+    with_handle-sound s name next sound (explained-append s.history number reads (KeyRead key (value_at s.history number key)) now.0 refl, now.1) (same_len s name (OpenTransaction number reads writes) next sound is)
 
-read-sound : (s : State) (name key : List ℕ) (o : Option Thing) → IsSound s → get s.things name ≡ o → IsSound (read s name key o).1
+read-sound : (s : State) (name key : List ℕ) (o : Option Handle) → IsSound s → get s.handles name ≡ o → IsSound (read s name key o).1
 read-sound s name key None sound is = sound
 read-sound s name key (Some (OpenView number)) sound is =
     pick (λ r. IsSound r.1) (is_key_length (length key)) _ _ (λ ok. sound) (λ bad. sound)
 read-sound s name key (Some (OpenTransaction number reads writes)) sound is =
     pick (λ r. IsSound r.1) (is_key_length (length key)) _ _ (λ ok. read_in_transaction-sound s name key number reads writes (get writes key) sound is) (λ bad. sound)
 
-written-sound : (s : State) (name key : List ℕ) (change : Change) (o : Option Thing) → IsSound s → get s.things name ≡ o → IsSound (written s name key change o).1
+written-sound : (s : State) (name key : List ℕ) (change : Change) (o : Option Handle) → IsSound s → get s.handles name ≡ o → IsSound (written s name key change o).1
 written-sound s name key change None sound is = sound
 written-sound s name key change (Some (OpenView number)) sound is = sound
 written-sound s name key change (Some (OpenTransaction number reads writes)) sound is =
     let now = sound.current name (OpenTransaction number reads writes) is in
     pick (λ r. IsSound r.1) (not (is_lawful_write key change)) _ _ (λ bad. sound) (λ ok.
     let new : Writes = insert writes key change in
-    let next : Thing = OpenTransaction number reads new in
-    pick (λ r. IsSound r.1) (fits_transaction new) (Done, with_thing s name next) (TooBig, s) (λ fits. with_thing-sound s name next sound now (same_len s name (OpenTransaction number reads writes) next sound is)) (λ big. sound))
+    let next : Handle = OpenTransaction number reads new in
+    pick (λ r. IsSound r.1) (fits_transaction new) (Done, with_handle s name next) (TooBig, s) (λ fits. with_handle-sound s name next sound now (same_len s name (OpenTransaction number reads writes) next sound is)) (λ big. sound))
 
 -- the outcome of a commit that is made
 abbrev accepted : State → List ℕ → Writes → Outcome
@@ -123,41 +119,41 @@ accepted s name writes = (Number (last_number s.history + 1), after_commit s nam
 
 -- whether the log has room for it
 abbrev has_room : State → Writes → Bool
-has_room s writes = nat_le (s.log_length + frame_length writes) MAX_LOG_BYTES
+has_room s writes = nat_le (s.log_length + frame_length writes) max_room
 
 -- nothing is left open behind a commit
-alone : (s : State) (name : List ℕ) (thing : Thing) → IsSound s → get s.things name ≡ Some thing → remove s.things name ≡ empty
-alone s name thing sound is =
-    empty_of_len (remove s.things name) (rw (len-remove nat_list_cmp_total s.things name, is) (let le = sound.one in omega arith))
+alone : (s : State) (name : List ℕ) (handle : Handle) → IsSound s → get s.handles name ≡ Some handle → remove s.handles name ≡ empty
+alone s name handle sound is =
+    empty_of_len (remove s.handles name) (rw (len-remove nat_list_cmp_total s.handles name, is) (let le = sound.one in omega arith))
 
-accepted-sound : (s : State) (name : List ℕ) (number : ℕ) (reads : List Read) (writes : Writes) → IsSound s → get s.things name ≡ Some (OpenTransaction number reads writes) → IsSound (after_commit s name writes)
+accepted-sound : (s : State) (name : List ℕ) (number : ℕ) (reads : List Read) (writes : Writes) → IsSound s → get s.handles name ≡ Some (OpenTransaction number reads writes) → IsSound (after_commit s name writes)
 accepted-sound s name number reads writes sound is =
     let none = alone s name (OpenTransaction number reads writes) sound is in
     record {
-      one = rw (none, len-empty key_cmp Thing) zero-le;
-      current = λ other x there. absurd (nothing_there x (sym there ∙ ap (λ (m : FinMap key_cmp Thing). get m other) none ∙ none_in_empty other));
+      one = rw (none, len-empty key_cmp Handle) zero-le;
+      current = λ other x there. absurd (nothing_there x (sym there ∙ ap (λ (m : FinMap key_cmp Handle). get m other) none ∙ none_in_empty other));
     }
 
-committed-sound : (s : State) (name : List ℕ) (o : Option Thing) → IsSound s → get s.things name ≡ o → IsSound (committed s name o).1
+committed-sound : (s : State) (name : List ℕ) (o : Option Handle) → IsSound s → get s.handles name ≡ o → IsSound (committed s name o).1
 committed-sound s name None sound is = sound
 committed-sound s name (Some (OpenView number)) sound is = sound
 committed-sound s name (Some (OpenTransaction number reads writes)) sound is =
-    pick (λ r. IsSound r.1) (len writes == 0) _ _ (λ nothing. without_thing-sound s name sound) (λ some.
-    pick (λ r. IsSound r.1) (nat_le MAX_COMMIT_NUMBER (last_number s.history)) (Exhausted CommitNumber, s) (cond (has_room s writes) (accepted s name writes) (Full, s)) (λ exhausted. sound) (λ left.
+    pick (λ r. IsSound r.1) (len writes == 0) _ _ (λ nothing. without_handle-sound s name sound) (λ some.
+    pick (λ r. IsSound r.1) (nat_le max_commit_number (last_number s.history)) (Exhausted CommitNumber, s) (cond (has_room s writes) (accepted s name writes) (Full, s)) (λ exhausted. sound) (λ left.
     pick (λ r. IsSound r.1) (has_room s writes) (accepted s name writes) (Full, s) (λ room. accepted-sound s name number reads writes sound is) (λ full. sound)))
 
-dropped-sound : (s : State) (name : List ℕ) (o : Option Thing) → IsSound s → IsSound (dropped s name o).1
+dropped-sound : (s : State) (name : List ℕ) (o : Option Handle) → IsSound s → IsSound (dropped s name o).1
 dropped-sound s name None sound = sound
-dropped-sound s name (Some thing) sound = without_thing-sound s name sound
+dropped-sound s name (Some handle) sound = without_handle-sound s name sound
 
 pub state_after-sound : (s : State) (line : Line) → IsSound s → IsSound (state_after s line)
 state_after-sound s (Begin name) sound = opened-sound s name (OpenTransaction (last_number s.history) [] empty) sound (tt, refl)
 state_after-sound s (View name) sound = opened-sound s name (OpenView (last_number s.history)) sound refl
-state_after-sound s (Get name key) sound = read-sound s name key (get s.things name) sound refl
-state_after-sound s (Set name key value) sound = written-sound s name key (Put value) (get s.things name) sound refl
-state_after-sound s (DeleteLine name key) sound = written-sound s name key Delete (get s.things name) sound refl
-state_after-sound s (Commit name) sound = committed-sound s name (get s.things name) sound refl
-state_after-sound s (Drop name) sound = dropped-sound s name (get s.things name) sound
+state_after-sound s (Get name key) sound = read-sound s name key (get s.handles name) sound refl
+state_after-sound s (Set name key value) sound = written-sound s name key (Put value) (get s.handles name) sound refl
+state_after-sound s (DeleteLine name key) sound = written-sound s name key Delete (get s.handles name) sound refl
+state_after-sound s (Commit name) sound = committed-sound s name (get s.handles name) sound refl
+state_after-sound s (Drop name) sound = dropped-sound s name (get s.handles name) sound
 
 -- a commit leaves what stood at the numbers before it
 earlier_commits : (h : History) (writes : Writes) (n : ℕ) → n ≤ last_number h → commits_up_to (with_commit h writes) n ≡ commits_up_to h n
@@ -179,20 +175,20 @@ answer_by : (s : State) (b : Bool) (x y : Answer) → answer_in (cond b (x, s) (
 answer_by s true x y = refl
 answer_by s false x y = refl
 
-view_read : (s : State) (name key : List ℕ) (number : ℕ) (o : Option Thing) → o ≡ Some (OpenView number) → (read s name key o).0 ≡ cond (is_key_length (length key)) (found (value_at s.history number key)) Invalid
-view_read s name key number o is = ap (λ (o : Option Thing). (read s name key o).0) is ∙ answer_by s (is_key_length (length key)) (found (value_at s.history number key)) Invalid
+view_read : (s : State) (name key : List ℕ) (number : ℕ) (o : Option Handle) → o ≡ Some (OpenView number) → (read s name key o).0 ≡ cond (is_key_length (length key)) (found (value_at s.history number key)) Invalid
+view_read s name key number o is = ap (λ (o : Option Handle). (read s name key o).0) is ∙ answer_by s (is_key_length (length key)) (found (value_at s.history number key)) Invalid
 
 numbered : (m n : ℕ) → Number m ≡ Number n → m ≡ n
 numbered m n e = cc
 
 -- the reads of a commit are explained at its number less one
-commit_explained : (s : State) (name : List ℕ) (number : ℕ) (reads : List Read) (writes : Writes) (n : ℕ) (o : Option Thing) → IsSound s → get s.things name ≡ Some (OpenTransaction number reads writes) → o ≡ Some (OpenTransaction number reads writes) →
+commit_explained : (s : State) (name : List ℕ) (number : ℕ) (reads : List Read) (writes : Writes) (n : ℕ) (o : Option Handle) → IsSound s → get s.handles name ≡ Some (OpenTransaction number reads writes) → o ≡ Some (OpenTransaction number reads writes) →
     (committed s name o).0 ≡ Number n → IsExplained (committed s name o).1.history (n - 1) reads × (number ≡ last_number s.history)
 commit_explained s name number reads writes n o sound is same =
     let now = sound.current name (OpenTransaction number reads writes) is in
-    subst (λ (o : Option Thing). (committed s name o).0 ≡ Number n → IsExplained (committed s name o).1.history (n - 1) reads × (number ≡ last_number s.history)) (sym same)
+    subst (λ (o : Option Handle). (committed s name o).0 ≡ Number n → IsExplained (committed s name o).1.history (n - 1) reads × (number ≡ last_number s.history)) (sym same)
     (pick (λ r. r.0 ≡ Number n → IsExplained r.1.history (n - 1) reads × (number ≡ last_number s.history)) (len writes == 0) _ _ (λ nothing e. absurd (cc)) (λ some.
-    pick (λ r. r.0 ≡ Number n → IsExplained r.1.history (n - 1) reads × (number ≡ last_number s.history)) (nat_le MAX_COMMIT_NUMBER (last_number s.history)) (Exhausted CommitNumber, s) (cond (has_room s writes) (accepted s name writes) (Full, s)) (λ exhausted e. absurd (cc)) (λ left.
+    pick (λ r. r.0 ≡ Number n → IsExplained r.1.history (n - 1) reads × (number ≡ last_number s.history)) (nat_le max_commit_number (last_number s.history)) (Exhausted CommitNumber, s) (cond (has_room s writes) (accepted s name writes) (Full, s)) (λ exhausted e. absurd (cc)) (λ left.
     pick (λ r. r.0 ≡ Number n → IsExplained r.1.history (n - 1) reads × (number ≡ last_number s.history)) (has_room s writes) (accepted s name writes) (Full, s) (λ room e.
     let at : n - 1 ≡ number = let m = numbered (last_number s.history + 1) n e in let c = now.1 in omega arith in
     (rw at (same_reads s.history writes number reads (let c = now.1 in omega arith) now.0), now.1)) (λ full e. absurd (cc)))))
@@ -200,22 +196,19 @@ commit_explained s name number reads writes n o sound is same =
 exchange_explained : (s : State) (line : Line) → IsSound s → IsExplainedExchange line (exchanged s line)
 exchange_explained s (Begin name) sound = tt
 exchange_explained s (View name) sound = tt
-exchange_explained s (Get name key) sound = λ number is. view_read s name key number (get s.things name) is
+exchange_explained s (Get name key) sound = λ number is. view_read s name key number (get s.handles name) is
 exchange_explained s (Set name key value) sound = tt
 exchange_explained s (DeleteLine name key) sound = tt
 exchange_explained s (Drop name) sound = tt
-exchange_explained s (Commit name) sound = λ number reads writes n is e. commit_explained s name number reads writes n (get s.things name) sound is is e
+exchange_explained s (Commit name) sound = λ number reads writes n is e. commit_explained s name number reads writes n (get s.handles name) sound is is e
 
 exchanges_behind : (s : State) (texts : List (List ℕ)) (o : Option Line) → IsSound s → ((s' : State) → IsSound s' → AreExplained (exchanges_from s' texts)) → AreExplained (and_later (λ e. exchanges_from e.after texts) (option_map (exchanged s) o))
 exchanges_behind s texts None sound ih = tt
 exchanges_behind s texts (Some line) sound ih = (exchange_explained s line sound, ih (state_after s line) (state_after-sound s line sound))
 
-exchanges_from-explained : (texts : List (List ℕ)) (s : State) → IsSound s → AreExplained (exchanges_from s texts)
+pub exchanges_from-explained : (texts : List (List ℕ)) (s : State) → IsSound s → AreExplained (exchanges_from s texts)
 exchanges_from-explained [] s sound = tt
 exchanges_from-explained (text ∷ texts) s sound = exchanges_behind s texts (line_of text) sound (exchanges_from-explained texts)
-
-pub all_explained : (texts : List (List ℕ)) → AreExplained (exchanges_from empty_store texts)
-all_explained texts = exchanges_from-explained texts empty_store empty_sound
 
 -- ---- no answer is owed at first
 

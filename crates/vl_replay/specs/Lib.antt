@@ -1,10 +1,15 @@
+pub mod Between
 pub mod Durable
+pub mod Endings
+pub mod Exchanges
 pub mod Input
 pub mod Laws
 pub mod Memtable
 pub mod Opening
-pub mod Replay
 pub mod Represents
+pub mod Runs
 pub mod Sequential
+pub mod Start
 pub mod Steps
+pub mod Stored
 pub mod Writes

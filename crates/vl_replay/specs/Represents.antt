@@ -1,22 +1,26 @@
 -- What a replayer keeps, and the state that it stands for.
-use Rattle.std.specs.Prelude.{◌≡◌, ℕ, ◌≤◌, List, Option, Some, None, not, if◌then◌else◌}
+use Rattle.std.specs.Prelude.{◌≡◌, ℕ, ◌+◌, ◌<◌, ◌≤◌, ◌==◌, false, List, Option, Some, None, not, if◌then◌else◌}
 use Rattle.std.specs.List.{AllByRecursion}
-use Rattle.std.specs.FinMap.{FinMap, insert, empty}
+use Rattle.std.specs.FinMap.{FinMap, get, insert, remove, empty, len}
 use Rattle.std.specs.Str.{bytes_eq}
 use Rattle.vl_model.specs.Keys.{Writes, key_cmp}
 use Rattle.vl_model.specs.declared.change.Change.{Change}
 use Rattle.vl_model.specs.History.{History, last_number, value_at, value_left}
 use Rattle.vl_model.specs.Reads.{Read}
 use Rattle.vl_replay.specs.Memtable.{newest}
-use Rattle.vl_replay.specs.Sequential.{State, Outcome, OpenTransaction, OpenView, is_lawful_write, fits_transaction}
+use Rattle.vl_replay.specs.Sequential.{State, Outcome, OpenTransaction, OpenView, without_handle, is_lawful_write, fits_transaction, committed, after_commit}
 use Rattle.vl_replay.specs.Sequential as sequential
 use Rattle.vl_replay.specs.declared.replayer.entry.Entry.{Entry}
-use Rattle.vl_replay.specs.declared.replayer.open.Open.{Open}
-use Rattle.vl_replay.specs.declared.replayer.open.Thing.{Thing}
-use Rattle.vl_replay.specs.declared.replayer.open.Thing.TheVariants.{Transaction, View}
+use Rattle.vl_replay.specs.declared.replayer.handle.Open.{Open}
+use Rattle.vl_replay.specs.declared.replayer.handle.Handle.{Handle}
+use Rattle.vl_replay.specs.declared.replayer.handle.Handle.TheVariants.{Transaction, View}
+use Rattle.vl_model.specs.Limits.{max_commit_number}
+use Rattle.vl_journal.specs.declared.names.TheConstants.{NUMBER}
+use Rattle.vl_replay.specs.declared.replayer.decision.Decision.{Decision}
+use Rattle.vl_replay.specs.declared.replayer.decision.Decision.TheVariants.{Refuse, Empty, Write}
 use Rattle.vl_replay.specs.declared.replayer.store.Store.{Store}
 use Rattle.vl_script.specs.declared.answer.Answer.{Answer}
-use Rattle.vl_script.specs.declared.answer.Answer.TheVariants.{Done, Invalid, TooBig}
+use Rattle.vl_script.specs.declared.answer.Answer.TheVariants.{Done, Invalid, TooBig, Nothing, Number}
 
 -- a number at which the history can be read
 abbrev pub IsReadable : History → ℕ → Type 0
@@ -27,21 +31,21 @@ pub record Shows (entries : List Entry) (h : History) : Type 0 where
   pub values : (number : ℕ) (key : List ℕ) → IsReadable h number → value_left None (newest entries key number) ≡ value_at h number key
   pub versions : AllByRecursion (λ entry. entry.version ≤ last_number h) entries
 
--- what is kept of a thing stands for it; the reads of a transaction aren't kept
-abbrev pub StandsFor : History → Thing → sequential.Thing → Type 0
-StandsFor h (Transaction number writes) thing = IsReadable h number × ((reads : List Read) × (thing ≡ OpenTransaction number reads writes))
-StandsFor h (View number) thing = IsReadable h number × (thing ≡ OpenView number)
+-- what is kept of a handle stands for it; the reads of a transaction aren't kept
+abbrev pub StandsFor : History → Handle → sequential.Handle → Type 0
+StandsFor h (Transaction number writes) handle = IsReadable h number × ((reads : List Read) × (handle ≡ OpenTransaction number reads writes))
+StandsFor h (View number) handle = IsReadable h number × (handle ≡ OpenView number)
 
--- what is kept open stands for the things
-abbrev pub IsOpen : History → Option Open → FinMap key_cmp sequential.Thing → Type 0
-IsOpen h None things = things ≡ empty
-IsOpen h (Some held) things = (thing : sequential.Thing) × StandsFor h held.thing thing × (things ≡ insert empty held.name thing)
+-- what is kept open stands for the handles
+abbrev pub IsOpen : History → Option Open → FinMap key_cmp sequential.Handle → Type 0
+IsOpen h None handles = handles ≡ empty
+IsOpen h (Some held) handles = (handle : sequential.Handle) × StandsFor h held.handle handle × (handles ≡ insert empty held.name handle)
 
 pub record Represents (r : Store) (s : State) : Type 0 where
   pub last : r.last ≡ last_number s.history
-  pub log_length : r.log_length ≡ s.log_length
+  pub log : r.log ≡ record { number = NUMBER; length = s.log_length }
   pub shows : Shows r.memtable.entries.items s.history
-  pub in_use : IsOpen s.history r.in_use s.things
+  pub in_use : IsOpen s.history r.in_use s.handles
 
 -- the answer of an outcome, from a replayer that stands for its state
 pub record Gives (answer : Answer) (after : Store) (outcome : Outcome) : Type 0 where
@@ -49,9 +53,26 @@ pub record Gives (answer : Answer) (after : Store) (outcome : Outcome) : Type 0 
   pub stands : Represents after outcome.1
 
 -- what a name in use stands for
-abbrev pub thing_named : Option Open → List ℕ → Option Thing
-thing_named None name = None
-thing_named (Some held) name = if bytes_eq name held.name then Some held.thing else None
+abbrev pub handle_named : Option Open → List ℕ → Option Handle
+handle_named None name = None
+handle_named (Some held) name = if bytes_eq name held.name then Some held.handle else None
+
+-- a transaction with these writes is open under this name
+abbrev pub HasOpen : Store → List ℕ → Writes → Type 0
+HasOpen r name writes = (number : ℕ) × (r.in_use ≡ Some (record { name = name; handle = Transaction number writes }))
+
+-- a transaction is open that has written something, and there is a number for its commit
+abbrev pub CanCommit : Store → Type 0
+CanCommit r = (name : List ℕ) × (writes : Writes) × HasOpen r name writes × ((len writes == 0) ≡ false) × (r.last < max_commit_number)
+
+-- what is decided of the commit under a name, by the outcome that it is to have
+abbrev pub Decides : Store → State → List ℕ → Decision → Type 0
+Decides r s name (Refuse answer) = committed s name (get s.handles name) ≡ (answer, s)
+Decides r s name Empty =
+    (committed s name (get s.handles name) ≡ (Nothing, without_handle s name)) × (remove s.handles name ≡ empty)
+Decides r s name Write =
+    (writes : Writes) × HasOpen r name writes
+    × (committed s name (get s.handles name) ≡ (Number (last_number s.history + 1), after_commit s name writes))
 
 -- the answer to a write in a transaction, and its writes after it
 abbrev pub write_answer : Writes → List ℕ → Change → Answer

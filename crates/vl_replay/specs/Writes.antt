@@ -3,12 +3,11 @@ use Rattle.std.specs.Prelude.{◌≡◌, ℕ, Bool, ◌+◌, ◌≤◌, IsTrue, 
 use Rattle.std.specs.Coded.{Coded, code_by, coded_ℕ, coded_list, coded_option}
 use Rattle.std.specs.FinMap.{from_sorted, is_sorted, code}
 use Rattle.std.specs.Ordering.{is_gt}
-use Rattle.vl_model.specs.Keys.{Stored, Writes, key_cmp}
+use Rattle.vl_model.specs.Keys.{Stored, Writes, key_cmp, value_bytes}
 use Rattle.vl_model.specs.declared.change.Change.{Change}
 use Rattle.vl_model.specs.declared.change.Change.TheVariants.{Set as Put, Delete}
-use Rattle.vl_model.specs.declared.limits.TheConstants.{MAX_TRANSACTION_BYTES, MAX_TRANSACTION_KEYS}
+use Rattle.vl_model.specs.Limits.{max_transaction_bytes, max_transaction_keys}
 use Rattle.vl_seglog.specs.Log.{AreRecords}
-use Rattle.vl_replay.specs.Sequential.{change_bytes}
 
 -- a change is stored as the value that it sets, if any
 abbrev pub value_set : Change → Option Stored
@@ -34,7 +33,7 @@ writes_of entries = from_sorted entries
 
 -- the bytes of the keys and of the values
 abbrev pub entry_bytes : List (List ℕ × Change) → ℕ
-entry_bytes entries = sum_by (λ write. length write.0 + change_bytes write.1) entries
+entry_bytes entries = sum_by (λ write. length write.0 + length (value_bytes write.1)) entries
 
 -- whether a key is above that of an entry
 abbrev pub is_above : List ℕ → List ℕ × Change → Bool
@@ -45,5 +44,5 @@ pub record AreWrites (entries : List (List ℕ × Change)) (bytes : ℕ) : Type 
   pub sorted : IsTrue (is_sorted key_cmp entries)
   pub records : AreRecords entries
   pub counted : bytes ≡ entry_bytes entries
-  pub bounded : bytes ≤ MAX_TRANSACTION_BYTES
-  pub few : length entries ≤ MAX_TRANSACTION_KEYS
+  pub bounded : bytes ≤ max_transaction_bytes
+  pub few : length entries ≤ max_transaction_keys

@@ -1,36 +1,36 @@
-ghost use Rattle.std.specs.Prelude.{◌≡◌, ◌≤◌, ℕ, Some, None, Err, IsOk, IfOk, MatchOption};
-ghost use Rattle.std.specs.Option.{ForSome, option_map};
-ghost use Rattle.vl_disk.specs.DiskState.{DiskState};
-ghost use Rattle.vl_disk.specs.Disk.{IsUnheld, HasCause};
-ghost use Rattle.vl_journal.specs.declared.names.TheConstants.{LOG};
-ghost use Rattle.vl_replay.specs.Durable.{HoldsState, CarriesOutText};
-ghost use Rattle.vl_replay.specs.declared.replayer.halt.Halt.TheVariants.{Disk as DiskHalt, NoMemory as NoRoom};
-ghost use Rattle.vl_replay.specs.declared.ending.Ending.TheVariants.{NoMemory};
+//! One line of a script: carried out, and answered.
+ghost use Rattle.std.specs.Prelude.{◌≡◌, ◌≢◌, Some, Err, IfOk};
+ghost use Rattle.std.specs.Option.{option_map};
+ghost use Rattle.vl_disk.specs.Faults.{Rose, HasCause};
 ghost use Rattle.vl_replay.specs.Sequential.{State};
 ghost use Rattle.vl_replay.specs.Represents.{Represents};
-ghost use Rattle.vl_replay.specs.Replay.{line_number};
-ghost use Rattle.vl_replay.specs.Steps.{Answers, Refuses, StepsOn, SinkCounts, DiskCounts, IsAnswered, EndsAtBadLine};
+ghost use Rattle.vl_replay.specs.Exchanges.{exchange_at, state_behind};
+ghost use Rattle.vl_replay.specs.Endings.{TheDisk, TheSink, TheSource, Counts, CutsAnswer, culprit_of, line_number};
+ghost use Rattle.vl_replay.specs.Runs.{Script};
+ghost use Rattle.vl_replay.specs.Durable.{HoldsState, CarriesOut};
+ghost use Rattle.vl_replay.specs.Stored.{IsStored, Shown};
+ghost use Rattle.vl_replay.specs.Steps.{Answers, IsNext, EndsAtBadLine, StepsOn, DiskSteps};
+ghost use Rattle.vl_replay.specs.declared.fails.Halt.TheVariants.{Disk as DiskHalt};
 
-use crate::Ending;
-use crate::last_line::{DISK_FAULT, NO_MEMORY, finish};
-use crate::replayer::{Halt, Replayer};
+use crate::ending::{DISK_FAULT, Ending, NO_MEMORY, finish};
+use crate::fails::Halt;
+use crate::replayer::Replayer;
 use std::alloc::Global;
 use vl_disk::Disk;
 use vl_io::Sink;
 use vl_script::{NUMBER_ROOM, parse_line, print_answer, print_bad_line};
 
-/// The text that answers a line; None where it is a bad line. The room for the answer to a commit is there before the
-/// commit, so that no commit stands whose answer found no memory.
-fn answer_text<D: Disk>(
+/// Carries out a text as a line, and gives the text of its answer; None where it is a bad line. The room for the answer to
+/// a commit is there before the commit, so that no commit stands whose answer found no memory.
+fn carry_out<D: Disk>(
     alloc: Global,
     replayer: &mut Replayer<D>,
     text: &[u8],
 ) -> Result<Option<Vec<u8>>, Halt>
-    requires { ForSome (D.told replayer.old.disk) (IsUnheld LOG) }
-    ensures answers { (s : State) → Represents replayer.old.store s → IfOk result (λ out. Answers s text.now replayer.new.store (option_map (λ text. text.items) out)) }
-    ensures takes { (begun : ℕ) (s : State) (state : DiskState) → Represents replayer.old.store s → D.told replayer.old.disk ≡ Some state → HoldsState begun s state
-        → CarriesOutText D.told D.moment D.states_since D.faults replayer.old.disk replayer.new.disk begun s text.now (IsOk result) (result ≡ Err NoRoom) }
-    ensures unheld { ForSome (D.told replayer.new.disk) (IsUnheld LOG) }
+    ensures answers { (s : State) → Represents replayer.old.store s
+        → IfOk result (λ out. Answers s text.now replayer.new.store (option_map (λ text. text.items) out)) }
+    ensures carries { (s : State) → Represents replayer.old.store s → HoldsState D.Watched IsStored s replayer.old.disk
+        → CarriesOut D.Watched IsStored Shown replayer.old.disk replayer.new.disk s (state_behind s (exchange_at s text.now)) result }
     ensures cause { HasCause (D.faults replayer.old.disk) (D.faults replayer.new.disk) (result ≡ Err DiskHalt) }
 {
     let Some(line) = parse_line(alloc, text)? else {
@@ -43,10 +43,13 @@ fn answer_text<D: Disk>(
 }
 
 /// Ends a run at a bad line, with so many lines answered before it.
-pub fn refuse<K: Sink>(alloc: Global, answered: u64, sink: &mut K) -> Ending
-    ensures printed { (before : ℕ) → answered ≡ line_number before → Refuses before result (K.held sink.old) (K.held sink.new) }
-    ensures faults { SinkCounts result (K.faults sink.old) (K.faults sink.new) }
-    ensures ending { EndsAtBadLine result }
+pub fn end_at_bad_line<K: Sink>(alloc: Global, answered: u64, sink: &mut K) -> Ending
+    ensures printed { EndsAtBadLine answered result (K.held sink.old) (K.held sink.new) }
+    ensures sink { Counts TheSink (Some result) (K.faults sink.old) (K.faults sink.new) }
+    ensures disk { culprit_of result ≢ TheDisk }
+    ensures read { culprit_of result ≢ TheSource }
+    ensures opened { result ≢ Ending.NotAStore }
+    ensures whole { CutsAnswer result → ⊥ }
 {
     let mut line = Vec::new(alloc);
     match print_bad_line(&mut line, answered.saturating_add(1)) {
@@ -63,23 +66,23 @@ pub fn answer<K: Sink, D: Disk>(
     answered: u64,
     sink: &mut K,
 ) -> Option<Ending>
-    requires { ForSome (D.told replayer.old.disk) (IsUnheld LOG) }
-    ensures printed { (fd before : ℕ) (s : State) → fd ≤ D.faults replayer.old.disk → Represents replayer.old.store s → answered ≡ line_number before
-        → StepsOn fd (D.faults replayer.new.disk) s before text.now replayer.new.store result (K.held sink.old) (K.held sink.new) }
-    ensures faults { MatchOption result (K.faults sink.new ≡ K.faults sink.old) (λ ending. SinkCounts ending (K.faults sink.old) (K.faults sink.new)) }
-
-    // Where the line was answered, or refused as a bad one, or memory ran out, the disk holds what it should.
-    ensures takes { (begun : ℕ) (s : State) (state : DiskState) → Represents replayer.old.store s → D.told replayer.old.disk ≡ Some state → HoldsState begun s state
-        → CarriesOutText D.told D.moment D.states_since D.faults replayer.old.disk replayer.new.disk begun s text.now (IsAnswered result) (result ≡ Some NoMemory) }
-    ensures unheld { ForSome (D.told replayer.new.disk) (IsUnheld LOG) }
-    ensures disk_faults { DiskCounts result (D.faults replayer.old.disk) (D.faults replayer.new.disk) }
+    ensures printed { (script : Script) → Represents replayer.old.store script.start → answered ≡ line_number script.before
+        → IsNext script text.now
+        → StepsOn (Rose (D.faults replayer.old.disk) (D.faults replayer.new.disk)) script text.now replayer.new.store
+        result (K.held sink.old) (K.held sink.new) }
+    ensures disk { (s : State) → Represents replayer.old.store s → HoldsState D.Watched IsStored s replayer.old.disk
+        → DiskSteps D.Watched IsStored Shown replayer.old.disk replayer.new.disk s (state_behind s (exchange_at s text.now)) result }
+    ensures sink { Counts TheSink result (K.faults sink.old) (K.faults sink.new) }
+    ensures disk_faults { Counts TheDisk result (D.faults replayer.old.disk) (D.faults replayer.new.disk) }
+    ensures read { option_map culprit_of result ≢ Some TheSource }
+    ensures opened { result ≢ Some Ending.NotAStore }
 {
-    match answer_text(alloc, replayer, text) {
+    match carry_out(alloc, replayer, text) {
         Ok(Some(answer)) => match sink.put(&answer) {
             Ok(()) => None,
             Err(_) => Some(Ending::AnswerCut),
         },
-        Ok(None) => Some(refuse(alloc, answered, sink)),
+        Ok(None) => Some(end_at_bad_line(alloc, answered, sink)),
         Err(Halt::NoMemory) => Some(finish(sink, NO_MEMORY, Ending::NoMemory)),
         Err(Halt::Disk) => Some(finish(sink, DISK_FAULT, Ending::DiskFault)),
     }

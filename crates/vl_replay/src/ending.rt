@@ -1,4 +1,14 @@
+//! How a run ends, and what it puts last.
 ghost use Rattle.std.specs.Prelude.{◌≡◌};
+ghost use Rattle.vl_replay.specs.Steps.{Finishes};
+
+use vl_io::Sink;
+
+/// How a run ended, and the disk.
+pub struct Ended<D> {
+    pub ending: Ending,
+    pub disk: D,
+}
 
 /// How a run ended.
 #[derive(Clone, Copy, Debug, PartialEq, Eq)]
@@ -24,7 +34,7 @@ pub enum Ending {
 }
 
 impl Ending {
-    ghost use Rattle.vl_replay.specs.Replay.{status_of};
+    ghost use Rattle.vl_replay.specs.Endings.{status_of};
 
     /// The process's status.
     pub fn status(self) -> u8
@@ -40,5 +50,26 @@ impl Ending {
             Ending::ReadFault => 6,
             Ending::WriteFault | Ending::AnswerCut => 7,
         }
+    }
+}
+
+/// The last line of a run whose words aren't plain.
+pub const USAGE: &[u8] = b"usage: vlstore replay DIR, trial STOP OUTCOME, bench SEED COUNT or drive CLIENTS TXNS SEED\n";
+
+pub const DISK_FAULT: &[u8] = b"disk fault\n";
+
+pub const NOT_A_STORE: &[u8] = b"not a store\n";
+
+pub const NO_MEMORY: &[u8] = b"no memory\n";
+
+pub const READ_FAULT: &[u8] = b"read fault\n";
+
+/// Puts a run's last line. Where it can't be put, the run ends by the sink's fault.
+pub fn finish<K: Sink>(sink: &mut K, line: &[u8], ending: Ending) -> Ending
+    ensures { Finishes K.Sink sink.old sink.new line.now ending result }
+{
+    match sink.put(line) {
+        Ok(()) => ending,
+        Err(_) => Ending::WriteFault,
     }
 }

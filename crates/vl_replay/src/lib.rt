@@ -2,19 +2,16 @@
 #![tactic(auto)]
 
 mod answering;
-mod ended;
 mod ending;
+mod fails;
 mod input;
-mod last_line;
 mod replayer;
 mod running;
 
-pub use ended::Ended;
-pub use ending::Ending;
-pub use last_line::{NO_MEMORY, finish};
+pub use ending::{Ended, Ending, NO_MEMORY, USAGE, finish};
+pub use fails::{Halt, OpenFail};
 pub use replayer::{
-    Halt, MAX_LOG_BYTES, MAX_OPEN, OpenFail, Replayer, drops_free_names, reads_are_noted,
-    writes_are_read_back,
+    MAX_OPEN, Replayer, drops_free_names, reads_are_noted, writes_are_read_back,
 };
 pub use running::replay;
 pub use vl_journal::OpenFail as Why;

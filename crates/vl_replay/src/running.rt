@@ -1,22 +1,26 @@
-ghost use Rattle.std.specs.Prelude.{◌≡◌, ◌≢◌, ◌⊎◌, ◌+◌, ◌<◌, ◌≤◌, ◌++◌, ℕ, List, Option, Some, None, MatchOption, length};
+//! Whole runs of a script.
+ghost use Rattle.std.specs.Prelude.{◌≡◌, ◌≢◌, ◌+◌, ◌<◌, ◌++◌, ℕ, List, Some, None, length};
 ghost use Rattle.std.specs.Option.{ForSome};
 ghost use Rattle.vl_disk.specs.DiskState.{DiskState};
-ghost use Rattle.vl_disk.specs.Disk.{IsUnheld};
-ghost use Rattle.vl_journal.specs.declared.names.TheConstants.{LOG};
 ghost use Rattle.vl_journal.specs.Files.{StandsSome};
-ghost use Rattle.vl_replay.specs.Durable.{HoldsState, CarriesOutText, DiskEndsFrom, DiskEndsFromEmpty};
-ghost use Rattle.vl_replay.specs.Sequential.{State, empty_store};
+ghost use Rattle.vl_replay.specs.Sequential.{State};
 ghost use Rattle.vl_replay.specs.Represents.{Represents};
-ghost use Rattle.vl_replay.specs.Replay.{KeepsUp, line_number};
-ghost use Rattle.vl_replay.specs.Opening.{refusal_line, refusal_of};
+ghost use Rattle.vl_replay.specs.Exchanges.{KeepsUp, exchange_at, state_behind};
+ghost use Rattle.vl_replay.specs.Endings.{TheDisk, TheSink, TheSource, Counts, culprit_of, line_number, not_a_store_line};
+ghost use Rattle.std.specs.Option.{option_map};
 ghost use Rattle.vl_disk.specs.Faults.{Rose};
-ghost use Rattle.vl_replay.specs.Steps.{Finishes, Causes, EndsRun, GoesOn, StepsOn, Counts, SinkCounts, DiskCounts, IsAnswered, IsRefusal};
+ghost use Rattle.vl_replay.specs.Runs.{Script, script_of, outside, EndsRun};
+ghost use Rattle.vl_replay.specs.Durable.{HoldsState, DiskEndsFrom};
+ghost use Rattle.vl_replay.specs.Stored.{IsStored, Shown};
+ghost use Rattle.vl_replay.specs.Start.{StartsAs, DiskEndsFromStart};
+ghost use Rattle.vl_replay.specs.Opening.{refusal_of};
+ghost use Rattle.vl_replay.specs.Steps.{IsNext, StepsOn, DiskSteps, Steps, FinishesBy, IsRefused};
 
-use crate::answering::{answer, refuse};
-use crate::input::{Buffer, InputFail, Next, read_line};
-use crate::last_line::{DISK_FAULT, NO_MEMORY, NOT_A_STORE, READ_FAULT, finish};
-use crate::replayer::{OpenFail, Replayer};
-use crate::{Ended, Ending};
+use crate::answering::{answer, end_at_bad_line};
+use crate::ending::{DISK_FAULT, Ended, Ending, NO_MEMORY, NOT_A_STORE, READ_FAULT, finish};
+use crate::fails::{InputFail, OpenFail};
+use crate::input::{Buffer, Next, read_line};
+use crate::replayer::Replayer;
 use std::alloc::Global;
 use vl_disk::Disk;
 use vl_io::{Sink, Source};
@@ -24,7 +28,7 @@ use vl_journal::OpenFail as Why;
 
 /// A run under way: what was read and not yet answered, the store, and how many lines were answered.
 #[derive(Drop)]
-struct Progress<D> {
+struct Progress<D: Disk> {
     alloc: Global,
     buffer: Buffer,
     line: Vec<u8>,
@@ -35,23 +39,26 @@ struct Progress<D> {
 impl<D: Disk> Progress<D> {
     /// Reads a line and answers it. None where the run goes on.
     fn step<S: Source, K: Sink>(&mut self, source: &mut S, sink: &mut K) -> Option<Ending>
-        requires { ForSome (D.told self.old.replayer.disk) (IsUnheld LOG) }
-        ensures printed { (f fd before : ℕ) (s : State) (had : List ℕ) → f ≤ S.faults source.old → fd ≤ D.faults self.old.replayer.disk → Represents self.old.replayer.store s
+        ensures runs { (s : State) (before : ℕ) (had : List ℕ) → Represents self.old.replayer.store s
             → self.old.answered ≡ line_number before → S.left source.old ≡ Some had
             → KeepsUp (self.old.buffer ++ had) (S.asked source.old) 0
-            → GoesOn D.told D.moment D.states_since D.faults self.old.replayer.disk self.new.replayer.disk (Causes f (S.faults source.new) fd (D.faults self.new.replayer.disk) ⊥) s before (self.old.buffer ++ had) self.new.replayer.store self.new.buffer (S.left source.new) (S.asked source.new) result (K.held sink.old) (K.held sink.new) }
-        ensures counted { (before : ℕ) → self.old.answered ≡ line_number before → result ≡ None → self.new.answered ≡ line_number (before + 1) }
-        ensures shorter { result ≡ None → length self.new.buffer + S.budget source.new < length self.old.buffer + S.budget source.old }
-        ensures faults { MatchOption result ((S.faults source.new ≡ S.faults source.old) × (K.faults sink.new ≡ K.faults sink.old))
-            (λ ending. Counts ending (S.faults source.old) (S.faults source.new) (K.faults sink.old) (K.faults sink.new)) }
-        ensures unheld { ForSome (D.told self.new.replayer.disk) (IsUnheld LOG) }
-        ensures disk_faults { DiskCounts result (D.faults self.old.replayer.disk) (D.faults self.new.replayer.disk) }
-        ensures possible { result ≢ Some Ending.NotAStore }
+            → Steps D.Watched IsStored Shown (script_of s before (self.old.buffer ++ had))
+            (outside S.Source K.Sink source.old sink.old self.old.replayer.disk)
+            (outside S.Source K.Sink source.new sink.new self.new.replayer.disk)
+            self.new.replayer.store self.new.buffer result }
+        ensures counted { (before : ℕ) → self.old.answered ≡ line_number before → result ≡ None
+            → self.new.answered ≡ line_number (before + 1) }
+        ensures shorter { result ≡ None
+            → length self.new.buffer + S.budget source.new < length self.old.buffer + S.budget source.old }
+        ensures source { Counts TheSource result (S.faults source.old) (S.faults source.new) }
+        ensures sink { Counts TheSink result (K.faults sink.old) (K.faults sink.new) }
+        ensures disk { Counts TheDisk result (D.faults self.old.replayer.disk) (D.faults self.new.replayer.disk) }
+        ensures opened { result ≢ Some Ending.NotAStore }
     {
         match read_line(&mut self.buffer, source, &mut self.line) {
             Ok(Next::Line) => self.answer(sink),
             Ok(Next::LastLine) => Some(self.answer(sink).unwrap_or(Ending::Complete)),
-            Ok(Next::TooLong) => Some(refuse(self.alloc, self.answered, sink)),
+            Ok(Next::TooLong) => Some(end_at_bad_line(self.alloc, self.answered, sink)),
             Ok(Next::End) => Some(Ending::Complete),
             Err(InputFail::NoMemory) => Some(finish(sink, NO_MEMORY, Ending::NoMemory)),
             Err(InputFail::Fault) => Some(finish(sink, READ_FAULT, Ending::ReadFault)),
@@ -60,16 +67,20 @@ impl<D: Disk> Progress<D> {
 
     /// Answers the line that was read.
     fn answer<K: Sink>(&mut self, sink: &mut K) -> Option<Ending>
-        requires { ForSome (D.told self.old.replayer.disk) (IsUnheld LOG) }
-        ensures printed { (fd before : ℕ) (s : State) → fd ≤ D.faults self.old.replayer.disk → Represents self.old.replayer.store s → self.old.answered ≡ line_number before
-            → StepsOn fd (D.faults self.new.replayer.disk) s before self.old.line.items self.new.replayer.store result (K.held sink.old) (K.held sink.new) }
-        ensures counted { (before : ℕ) → self.old.answered ≡ line_number before → result ≡ None → self.new.answered ≡ line_number (before + 1) }
+        ensures printed { (script : Script) → Represents self.old.replayer.store script.start
+            → self.old.answered ≡ line_number script.before → IsNext script self.old.line.items
+            → StepsOn (Rose (D.faults self.old.replayer.disk) (D.faults self.new.replayer.disk)) script self.old.line.items
+            self.new.replayer.store result (K.held sink.old) (K.held sink.new) }
+        ensures moves { (s : State) → Represents self.old.replayer.store s
+            → HoldsState D.Watched IsStored s self.old.replayer.disk
+            → DiskSteps D.Watched IsStored Shown self.old.replayer.disk self.new.replayer.disk s
+            (state_behind s (exchange_at s self.old.line.items)) result }
+        ensures counted { (before : ℕ) → self.old.answered ≡ line_number before → self.new.answered ≡ line_number (before + 1) }
         ensures same { self.new.buffer ≡ self.old.buffer }
-        ensures faults { MatchOption result (K.faults sink.new ≡ K.faults sink.old) (λ ending. SinkCounts ending (K.faults sink.old) (K.faults sink.new)) }
-        ensures takes { (begun : ℕ) (s : State) (state : DiskState) → Represents self.old.replayer.store s → D.told self.old.replayer.disk ≡ Some state → HoldsState begun s state
-            → CarriesOutText D.told D.moment D.states_since D.faults self.old.replayer.disk self.new.replayer.disk begun s self.old.line.items (IsAnswered result) (result ≡ Some Ending.NoMemory) }
-        ensures unheld { ForSome (D.told self.new.replayer.disk) (IsUnheld LOG) }
-        ensures disk_faults { DiskCounts result (D.faults self.old.replayer.disk) (D.faults self.new.replayer.disk) }
+        ensures sink { Counts TheSink result (K.faults sink.old) (K.faults sink.new) }
+        ensures disk { Counts TheDisk result (D.faults self.old.replayer.disk) (D.faults self.new.replayer.disk) }
+        ensures read { option_map culprit_of result ≢ Some TheSource }
+        ensures opened { result ≢ Some Ending.NotAStore }
     {
         let ended = answer(
             self.alloc,
@@ -90,19 +101,20 @@ pub fn replay<S: Source, K: Sink, D: Disk>(
     sink: &mut K,
     disk: D,
 ) -> Ended<D>
-    ensures printed { (input : List ℕ) → S.left source.old ≡ Some input
-        → EndsRun (Causes (S.faults source.old) (S.faults source.new) (D.faults disk) (D.faults result.disk) (ForSome (D.told disk) StandsSome))
-        (DiskEndsFromEmpty D.told D.moment D.states_since D.faults disk result.disk)
-        empty_store 0 input (S.left source.new) (S.asked source.new) result.ending (K.held sink.old) (K.held sink.new) }
-    ensures faults { Counts result.ending (S.faults source.old) (S.faults source.new) (K.faults sink.old) (K.faults sink.new) }
-    ensures disk_faults { DiskCounts (Some result.ending) (D.faults disk) (D.faults result.disk) }
+    ensures runs { (s : State) (input : List ℕ) → StartsAs D.Watched disk s → S.left source.old ≡ Some input
+        → EndsRun D.Watched (ForSome (D.told disk) StandsSome) (DiskEndsFromStart D.Watched disk result.disk)
+        (script_of s 0 input) (outside S.Source K.Sink source.old sink.old disk)
+        (outside S.Source K.Sink source.new sink.new result.disk) result.ending }
+    ensures source { Counts TheSource (Some result.ending) (S.faults source.old) (S.faults source.new) }
+    ensures sink { Counts TheSink (Some result.ending) (K.faults sink.old) (K.faults sink.new) }
+    ensures disk { Counts TheDisk (Some result.ending) (D.faults disk) (D.faults result.disk) }
 
     // The run ends as no store only where anything stands, and there always, unless a fault or want of memory comes
-    // first. Then nothing was changed or read.
-    ensures found { result.ending ≡ Ending.NotAStore → ForSome (D.told disk) StandsSome }
-    ensures refused { result.ending ≡ Ending.NotAStore → (D.told result.disk ≡ D.told disk) × (source.new ≡ source.old) }
+    // first. Then nothing was changed or read, and the last line is all that is printed.
+    ensures not_a_store { result.ending ≡ Ending.NotAStore → ForSome (D.told disk) StandsSome × (D.told result.disk ≡ D.told disk)
+        × (source.new ≡ source.old) × FinishesBy K.Sink sink.old sink.new Ending.NotAStore result.ending }
     ensures occupied { (state : DiskState) → D.told disk ≡ Some state → StandsSome state
-        → IsRefusal result.ending × (source.new ≡ source.old) × (D.told result.disk ≡ D.told disk) }
+        → IsRefused K.Sink sink.old sink.new result.ending × (source.new ≡ source.old) × (D.told result.disk ≡ D.told disk) }
 {
     match Replayer::new(alloc, disk) {
         Ok(replayer) => answer_lines(alloc, source, sink, replayer),
@@ -115,9 +127,7 @@ pub fn replay<S: Source, K: Sink, D: Disk>(
 
 /// Ends a run whose store wasn't opened.
 fn finish_unopened<K: Sink>(sink: &mut K, why: Why) -> Ending
-    ensures printed { Finishes (K.held sink.old) (refusal_line why) (refusal_of why) result (K.held sink.new) }
-    ensures faults { ((result ≡ refusal_of why) × (K.faults sink.new ≡ K.faults sink.old))
-        ⊎ ((result ≡ Ending.WriteFault) × Rose (K.faults sink.old) (K.faults sink.new)) }
+    ensures { FinishesBy K.Sink sink.old sink.new (refusal_of why) result }
 {
     match why {
         Why::NotAStore => finish(sink, NOT_A_STORE, Ending::NotAStore),
@@ -126,22 +136,21 @@ fn finish_unopened<K: Sink>(sink: &mut K, why: Why) -> Ending
     }
 }
 
-/// Answers the lines of a source over an open store without commits.
+/// Answers the lines of a source over an open store.
 fn answer_lines<S: Source, K: Sink, D: Disk>(
     alloc: Global,
     source: &mut S,
     sink: &mut K,
     replayer: Replayer<D>,
 ) -> Ended<D>
-    requires unheld { ForSome (D.told replayer.disk) (IsUnheld LOG) }
-    requires empty { Represents replayer.store empty_store }
-    ensures printed { (input : List ℕ) → S.left source.old ≡ Some input
-        → EndsRun (Causes (S.faults source.old) (S.faults source.new) (D.faults replayer.disk) (D.faults result.disk) ⊥)
-        (DiskEndsFrom D.told D.moment D.states_since D.faults replayer.disk result.disk empty_store)
-        empty_store 0 input (S.left source.new) (S.asked source.new) result.ending (K.held sink.old) (K.held sink.new) }
-    ensures faults { Counts result.ending (S.faults source.old) (S.faults source.new) (K.faults sink.old) (K.faults sink.new) }
-    ensures disk_faults { DiskCounts (Some result.ending) (D.faults replayer.disk) (D.faults result.disk) }
-    ensures possible { result.ending ≢ Ending.NotAStore }
+    ensures runs { (s : State) (input : List ℕ) → Represents replayer.store s → S.left source.old ≡ Some input
+        → EndsRun D.Watched ⊥ (DiskEndsFrom D.Watched IsStored Shown replayer.disk result.disk s)
+        (script_of s 0 input) (outside S.Source K.Sink source.old sink.old replayer.disk)
+        (outside S.Source K.Sink source.new sink.new result.disk) result.ending }
+    ensures source { Counts TheSource (Some result.ending) (S.faults source.old) (S.faults source.new) }
+    ensures sink { Counts TheSink (Some result.ending) (K.faults sink.old) (K.faults sink.new) }
+    ensures disk { Counts TheDisk (Some result.ending) (D.faults replayer.disk) (D.faults result.disk) }
+    ensures opened { result.ending ≢ Ending.NotAStore }
 {
     let Ok(buffer) = Buffer::new(alloc) else {
         return Ended {

@@ -1,6 +1,6 @@
-ghost use Rattle.std.specs.Prelude.{◌==◌, ◌≡◌, ◌≢◌, ◌+◌, ◌<◌, ◌≤◌, ℕ, List, [], ◌∷◌, ◌++◌, Option, Some, length, IsTrue, IfOk, OnOk, OnErr, MatchBool, IfSome};
+ghost use Rattle.std.specs.Prelude.{◌==◌, ◌≡◌, ◌≢◌, ◌+◌, ◌<◌, ◌≤◌, ℕ, List, [], ◌∷◌, ◌++◌, Option, Some, length, IfOk, IsErr, OnErr};
 ghost use Rattle.std.specs.List.{position};
-ghost use Rattle.vl_disk.specs.Faults.{Rose};
+ghost use Rattle.vl_disk.specs.Faults.{HasCause};
 ghost use Rattle.vl_replay.specs.Input.{TakesLineEnd, Refills};
 
 use std::alloc::{AllocError, Global};
@@ -73,8 +73,7 @@ impl Buffer {
         ensures kept { OnErr result (S.left source.new ≡ S.left source.old) }
         ensures asked { S.asked source.new ≡ S.left source.old }
         ensures budget { IfOk result (λ more. length self.new + S.budget source.new ≤ S.budget source.old) }
-        ensures steady { OnOk result (S.faults source.new ≡ S.faults source.old) }
-        ensures failed { OnErr result (Rose (S.faults source.old) (S.faults source.new)) }
+        ensures cause { HasCause (S.faults source.old) (S.faults source.new) (IsErr result) }
     {
         let given = source.next(&mut self.bytes)?;
         self.start = 0;

@@ -1,8 +1,10 @@
-ghost use Rattle.std.specs.Prelude.{◌≡◌, ◌≢◌, ◌+◌, ◌<◌, ◌≤◌, ◌++◌, ℕ, List, length, IfOk, MatchResult, Err, Option, Some};
-ghost use Rattle.vl_replay.specs.Input.{ReadsLine, FailsWithin, CountsFault};
-ghost use Rattle.vl_replay.specs.Replay.{KeepsUp};
+ghost use Rattle.std.specs.Prelude.{◌≡◌, ◌≢◌, ◌+◌, ◌<◌, ◌≤◌, ◌++◌, ℕ, List, length, IfOk, Err, Option, Some};
+ghost use Rattle.vl_disk.specs.Faults.{HasCause};
+ghost use Rattle.vl_replay.specs.Exchanges.{KeepsUp};
+ghost use Rattle.vl_replay.specs.Input.{ReadsLine, FailsWithin};
 
-use crate::input::{Buffer, InputFail};
+use crate::fails::InputFail;
+use crate::input::Buffer;
 use vl_io::Source;
 use vl_script::MAX_LINE_BYTES;
 
@@ -36,8 +38,7 @@ pub fn read_line<S: Source>(
     // only within a line.
     ensures keeps_up { (left : List ℕ) → S.left source.old ≡ Some left → KeepsUp (buffer.old ++ left) (S.asked source.old) 0
         → KeepsUp (buffer.old ++ left) (S.asked source.new) 0 }
-    ensures faults { MatchResult result (λ _. S.faults source.new ≡ S.faults source.old)
-        (λ e. CountsFault e (S.faults source.old) (S.faults source.new)) }
+    ensures cause { HasCause (S.faults source.old) (S.faults source.new) (result ≡ Err InputFail.Fault) }
 {
     line.clear();
     loop {

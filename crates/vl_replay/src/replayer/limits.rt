@@ -1,5 +1,2 @@
-/// How many transactions and views may be open together.
+/// How many transactions and views may be open together. The store has one place for them.
 pub const MAX_OPEN: usize = 1;
-
-/// The longest log, in bytes.
-pub const MAX_LOG_BYTES: u64 = 1_073_741_824;

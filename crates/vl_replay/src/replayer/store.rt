@@ -1,36 +1,35 @@
 //! A store's state, and how it answers a line over the disk that holds it.
-ghost use Rattle.std.specs.Prelude.{◌≡◌, ℕ, [], Some, Err, IfOk, IfErr, OnOk, OnErr, length};
-ghost use Rattle.std.specs.Option.{ForSome};
-ghost use Rattle.vl_disk.specs.DiskState.{DiskState};
-ghost use Rattle.vl_disk.specs.Disk.{IsUnheld, HasCause};
-ghost use Rattle.vl_journal.specs.declared.names.TheConstants.{LOG};
-ghost use Rattle.vl_replay.specs.Durable.{HoldsState, CarriesOut};
-ghost use Rattle.std.specs.Option.{option_copied};
+ghost use Rattle.std.specs.Prelude.{◌≡◌, ◌+◌, ℕ, List, [], None, Err, IfOk, IfErr, OnOk, OnErr};
+ghost use Rattle.std.specs.Option.{ForSome, option_copied};
 ghost use Rattle.std.specs.FinMap.{get, empty};
+ghost use Rattle.vl_disk.specs.declared.name.Name.TheVariants as names;
+ghost use Rattle.vl_disk.specs.Disk.{Stands};
+ghost use Rattle.vl_disk.specs.Faults.{HasCause};
 ghost use Rattle.vl_model.specs.History.{last_number, value_left};
-ghost use Rattle.vl_model.specs.Keys.{is_key_length};
-ghost use Rattle.vl_replay.specs.Sequential.{State, empty_store, answer_to, state_after, opened, read, is_lawful_write, written, committed, dropped, found};
+ghost use Rattle.vl_model.specs.Keys.{Writes};
+ghost use Rattle.vl_replay.specs.Sequential.{State, answer_to, state_after, opened, read, is_lawful_write, written, committed, after_commit, dropped, found};
 ghost use Rattle.vl_replay.specs.Sequential as sequential;
-ghost use Rattle.vl_replay.specs.Represents.{Represents, Gives, StandsFor, thing_named, write_answer, writes_after};
+ghost use Rattle.vl_replay.specs.Represents.{Represents, Gives, StandsFor, HasOpen, CanCommit, Decides, handle_named, write_answer, writes_after};
+ghost use Rattle.vl_replay.specs.Durable.{HoldsState, CarriesOut};
+ghost use Rattle.vl_replay.specs.Stored.{IsStored, Shown};
+ghost use Rattle.vl_replay.specs.Start.{empty_store};
+ghost use Rattle.vl_script.specs.declared.answer.Answer.TheVariants.{Number as NumberAnswer};
 
-#[cfg(test)]
-mod tests;
-
-use crate::replayer::writes::value_len;
-use crate::replayer::{Halt, MAX_LOG_BYTES, Memtable, Open, Thing, Writes};
+use crate::fails::Halt;
+use crate::replayer::{Decision, Handle, Memtable, Open, Writes};
 use std::alloc::Global;
 use vl_disk::Disk;
-use vl_journal::{NUMBER, write_staged};
-use vl_model::{Bytes, Change, Counter, Key, MAX_COMMIT_NUMBER, MAX_KEY_BYTES, MAX_VALUE_BYTES};
+use vl_journal::{NUMBER, append_durably};
+use vl_model::{Bytes, Change, Counter, Key, MAX_COMMIT_NUMBER, MAX_ROOM, is_key_len, is_value_len};
 use vl_script::{Answer, Ident, Line};
-use vl_seglog::{ActiveLog, LOG_HEADER_BYTES};
+use vl_seglog::ActiveLog;
 
 /// Commits in memory, of which each is written to a disk before it is answered, and what the script has open.
 #[derive(Drop)]
 pub struct Store {
     alloc: Global,
     last: u64,
-    log_length: u64,
+    pub log: ActiveLog,
     memtable: Memtable,
     in_use: Option<Open>,
 }
@@ -38,12 +37,13 @@ pub struct Store {
 impl Store {
     /// A store over no commits.
     pub fn new(alloc: Global) -> Self
-        ensures { Represents result empty_store }
+        ensures store { (calls : ℕ) → Represents result (empty_store calls) }
+        ensures log { result.log.number ≡ NUMBER }
     {
         Store {
             alloc,
             last: 0,
-            log_length: LOG_HEADER_BYTES as u64,
+            log: ActiveLog::new(NUMBER),
             memtable: Memtable::new(alloc),
             in_use: None,
         }
@@ -51,15 +51,14 @@ impl Store {
 
     /// Answers a line over the disk that holds the store.
     pub fn line<D: Disk>(&mut self, disk: &mut D, line: Line) -> Result<Answer, Halt>
-        requires { ForSome (D.told disk.old) (IsUnheld LOG) }
+        requires { ForSome (D.told disk.old) (Stands (names.Log self.old.log.number)) }
         ensures answer { (s : State) → Represents self.old s → IfOk result (λ answer. answer ≡ answer_to s line) }
         ensures after { (s : State) → Represents self.old s → OnOk result (Represents self.new (state_after s line)) }
         ensures unchanged { (s : State) → Represents self.old s → OnErr result (Represents self.new s) }
-
-        // Each accepted commit is one synced frame of the log, which is written before the answer.
-        ensures carries { (begun : ℕ) (s : State) (state : DiskState) → Represents self.old s → D.told disk.old ≡ Some state → HoldsState begun s state
-            → CarriesOut D.told D.moment D.states_since disk.old disk.new begun s (state_after s line) result }
-        ensures unheld { ForSome (D.told disk.new) (IsUnheld LOG) }
+        ensures carries { (s : State) → Represents self.old s → HoldsState D.Watched IsStored s disk.old
+            → CarriesOut D.Watched IsStored Shown disk.old disk.new s (state_after s line) result }
+        ensures stands { ForSome (D.told disk.new) (Stands (names.Log self.new.log.number)) }
+        ensures no_memory { result ≡ Err Halt.NoMemory → D.told disk.new ≡ D.told disk.old }
         ensures cause { HasCause (D.faults disk.old) (D.faults disk.new) (result ≡ Err Halt.Disk) }
     {
         match line {
@@ -74,24 +73,30 @@ impl Store {
     }
 
     fn begin(&mut self, name: Ident) -> Answer
-        ensures { (s : State) → Represents self.old s → Gives result self.new (opened s name (sequential.OpenTransaction (last_number s.history) [] empty)) }
+        ensures answer { (s : State) → Represents self.old s
+            → Gives result self.new (opened s name (sequential.OpenTransaction (last_number s.history) [] empty)) }
+        ensures log { self.new.log ≡ self.old.log }
     {
-        let thing = Thing::Transaction {
+        let handle = Handle::Transaction {
             number: self.last,
             writes: Writes::new(self.alloc),
         };
-        self.open(name, thing)
+        self.open(name, handle)
     }
 
     fn view(&mut self, name: Ident) -> Answer
-        ensures { (s : State) → Represents self.old s → Gives result self.new (opened s name (sequential.OpenView (last_number s.history))) }
+        ensures answer { (s : State) → Represents self.old s
+            → Gives result self.new (opened s name (sequential.OpenView (last_number s.history))) }
+        ensures log { self.new.log ≡ self.old.log }
     {
-        let thing = Thing::View { number: self.last };
-        self.open(name, thing)
+        let handle = Handle::View { number: self.last };
+        self.open(name, handle)
     }
 
-    fn open(&mut self, name: Ident, thing: Thing) -> Answer
-        ensures { (s : State) (opens : sequential.Thing) → Represents self.old s → StandsFor s.history thing opens → Gives result self.new (opened s name opens) }
+    fn open(&mut self, name: Ident, handle: Handle) -> Answer
+        ensures answer { (s : State) (opens : sequential.Handle) → Represents self.old s → StandsFor s.history handle opens
+            → Gives result self.new (opened s name opens) }
+        ensures log { self.new.log ≡ self.old.log }
     {
         if self.find(name.as_slice()).is_some() {
             return Answer::Taken { name };
@@ -99,23 +104,24 @@ impl Store {
         if self.in_use.is_some() {
             return Answer::TooMany;
         }
-        self.in_use = Some(Open { name, thing });
+        self.in_use = Some(Open { name, handle });
         Answer::Number { number: self.last }
     }
 
     fn get(&self, name: Ident, key: Key) -> Result<Answer, Halt>
-        ensures answer { (s : State) → Represents self.now s → IfOk result (λ answer. Gives answer self.now (read s name key (get s.things name))) }
+        ensures answer { (s : State) → Represents self.now s
+            → IfOk result (λ answer. Gives answer self.now (read s name key (get s.handles name))) }
         ensures halt { IfErr result (λ halt. halt ≡ Halt.NoMemory) }
     {
-        let Some(thing) = self.find(name.as_slice()) else {
+        let Some(handle) = self.find(name.as_slice()) else {
             return Ok(Answer::Unknown { name });
         };
-        if !is_lawful_key(&key) {
+        if !is_key_len(key.len()) {
             return Ok(Answer::Invalid);
         }
-        match thing {
-            Thing::View { number } => self.found(self.memtable.get(key.as_slice(), *number)),
-            Thing::Transaction { number, writes } => match writes.get(key.as_slice()) {
+        match handle {
+            Handle::View { number } => self.found(self.memtable.get(key.as_slice(), *number)),
+            Handle::Transaction { number, writes } => match writes.get(key.as_slice()) {
                 Some(change) => self.found(Some(change)),
                 None => self.found(self.memtable.get(key.as_slice(), *number)),
             },
@@ -123,71 +129,115 @@ impl Store {
     }
 
     fn write(&mut self, name: Ident, key: Key, change: Change) -> Result<Answer, Halt>
-        ensures answer { (s : State) → Represents self.old s → IfOk result (λ answer. Gives answer self.new (written s name key change (get s.things name))) }
+        ensures answer { (s : State) → Represents self.old s
+            → IfOk result (λ answer. Gives answer self.new (written s name key change (get s.handles name))) }
         ensures unchanged { (s : State) → Represents self.old s → OnErr result (Represents self.new s) }
         ensures halt { IfErr result (λ halt. halt ≡ Halt.NoMemory) }
+        ensures log { self.new.log ≡ self.old.log }
     {
         match &mut self.in_use {
-            Some(held) if held.is_named(name.as_slice()) => match &mut held.thing {
-                Thing::View { .. } => Ok(Answer::ReadOnly),
-                Thing::Transaction { writes, .. } => write(writes, key, change),
+            Some(held) if held.is_named(name.as_slice()) => match &mut held.handle {
+                Handle::View { .. } => Ok(Answer::ReadOnly),
+                Handle::Transaction { writes, .. } => write(writes, key, change),
             },
             _ => Ok(Answer::Unknown { name }),
         }
     }
 
     fn commit<D: Disk>(&mut self, disk: &mut D, name: Ident) -> Result<Answer, Halt>
-        requires { ForSome (D.told disk.old) (IsUnheld LOG) }
-        ensures answer { (s : State) → Represents self.old s → IfOk result (λ answer. Gives answer self.new (committed s name (get s.things name))) }
+        requires { ForSome (D.told disk.old) (Stands (names.Log self.old.log.number)) }
+        ensures answer { (s : State) → Represents self.old s
+            → IfOk result (λ answer. Gives answer self.new (committed s name (get s.handles name))) }
         ensures unchanged { (s : State) → Represents self.old s → OnErr result (Represents self.new s) }
-        ensures carries { (begun : ℕ) (s : State) (state : DiskState) → Represents self.old s → D.told disk.old ≡ Some state → HoldsState begun s state
-            → CarriesOut D.told D.moment D.states_since disk.old disk.new begun s (committed s name (get s.things name)).1 result }
-        ensures unheld { ForSome (D.told disk.new) (IsUnheld LOG) }
+        ensures carries { (s : State) → Represents self.old s → HoldsState D.Watched IsStored s disk.old
+            → CarriesOut D.Watched IsStored Shown disk.old disk.new s (committed s name (get s.handles name)).1 result }
+        ensures stands { ForSome (D.told disk.new) (Stands (names.Log self.new.log.number)) }
+        ensures no_memory { result ≡ Err Halt.NoMemory → D.told disk.new ≡ D.told disk.old }
         ensures cause { HasCause (D.faults disk.old) (D.faults disk.new) (result ≡ Err Halt.Disk) }
     {
-        let Some(thing) = self.find(name.as_slice()) else {
-            return Ok(Answer::Unknown { name });
+        match self.decide(name) {
+            Decision::Refuse(answer) => Ok(answer),
+            Decision::Empty => {
+                self.in_use = None;
+                Ok(Answer::Nothing)
+            }
+            Decision::Write => self.write_commit(disk),
+        }
+    }
+
+    // What becomes of a commit.
+    fn decide(&self, name: Ident) -> Decision
+        ensures decides { (s : State) → Represents self.now s → Decides self.now s name result }
+        ensures can { result ≡ Decision.Write → CanCommit self.now }
+    {
+        let Some(handle) = self.find(name.as_slice()) else {
+            return Decision::Refuse(Answer::Unknown { name });
         };
-        let Thing::Transaction { writes, .. } = thing else {
-            return Ok(Answer::ReadOnly);
+        let Handle::Transaction { writes, .. } = handle else {
+            return Decision::Refuse(Answer::ReadOnly);
         };
         if writes.is_empty() {
-            self.in_use = None;
-            return Ok(Answer::Nothing);
+            return Decision::Empty;
         }
         if self.last >= MAX_COMMIT_NUMBER {
-            return Ok(Answer::Exhausted {
+            return Decision::Refuse(Answer::Exhausted {
                 counter: Counter::Commit,
             });
         }
-        let log_length = self.log_length.saturating_add(writes.frame_length());
-        if log_length > MAX_LOG_BYTES {
-            return Ok(Answer::Full);
+        if self.log.length.saturating_add(writes.frame_length()) > MAX_ROOM {
+            return Decision::Refuse(Answer::Full);
         }
-        // All memory is taken before the first call that changes the disk.
-        let mut log = ActiveLog {
-            number: NUMBER,
-            length: self.log_length,
+        Decision::Write
+    }
+
+    // Writes the open transaction's commit. All memory is taken before the first call that changes the disk.
+    fn write_commit<D: Disk>(&mut self, disk: &mut D) -> Result<Answer, Halt>
+        requires stands { ForSome (D.told disk.old) (Stands (names.Log self.old.log.number)) }
+        requires can { CanCommit self.old }
+        ensures answer { (s : State) (name : List ℕ) (writes : Writes) → Represents self.old s → HasOpen self.old name writes
+            → IfOk result (λ answer. Gives answer self.new (NumberAnswer (last_number s.history + 1), after_commit s name writes)) }
+        ensures unchanged { (s : State) → Represents self.old s → OnErr result (Represents self.new s) }
+        ensures carries { (s : State) (name : List ℕ) (writes : Writes) → Represents self.old s → HasOpen self.old name writes
+            → HoldsState D.Watched IsStored s disk.old
+            → CarriesOut D.Watched IsStored Shown disk.old disk.new s (after_commit s name writes) result }
+        ensures stands { ForSome (D.told disk.new) (Stands (names.Log self.new.log.number)) }
+        ensures no_memory { result ≡ Err Halt.NoMemory → D.told disk.new ≡ D.told disk.old }
+        ensures cause { HasCause (D.faults disk.old) (D.faults disk.new) (result ≡ Err Halt.Disk) }
+    {
+        let Some(held) = &self.in_use else {
+            unreachable!();
         };
-        let staged = log.stage_commit(self.alloc, disk, self.last + 1, writes.as_slice())?;
+        let Handle::Transaction { writes, .. } = &held.handle else {
+            unreachable!();
+        };
+        let number = self.last + 1;
+        let staged = self
+            .log
+            .stage_commit(self.alloc, disk, number, writes.as_slice())?;
         let count = writes.len();
         self.memtable.reserve(count)?;
-        write_staged(&mut log, disk, &staged)?;
-        let Some(Open { name: _, thing }) = self.in_use.take() else {
+        // Where the disk fails, the store keeps the log as it was.
+        let mut log = ActiveLog {
+            number: self.log.number,
+            length: self.log.length,
+        };
+        append_durably(&mut log, disk, &staged)?;
+        self.log = log;
+        let Some(Open { name: _, handle }) = self.in_use.take() else {
             unreachable!();
         };
-        let Thing::Transaction { writes, .. } = thing else {
+        let Handle::Transaction { writes, .. } = handle else {
             unreachable!();
         };
-        self.last += 1;
-        self.log_length = log_length;
-        self.memtable.apply(self.last, writes);
-        Ok(Answer::Number { number: self.last })
+        self.last = number;
+        self.memtable.apply(number, writes);
+        Ok(Answer::Number { number })
     }
 
     // Ends a transaction or a view. What a transaction has written goes with it.
     fn end(&mut self, name: Ident) -> Answer
-        ensures { (s : State) → Represents self.old s → Gives result self.new (dropped s name (get s.things name)) }
+        ensures answer { (s : State) → Represents self.old s → Gives result self.new (dropped s name (get s.handles name)) }
+        ensures log { self.new.log ≡ self.old.log }
     {
         if self.find(name.as_slice()).is_some() {
             self.in_use = None;
@@ -198,11 +248,11 @@ impl Store {
     }
 
     // What a name in use stands for.
-    fn find(&self, name: &[u8]) -> Option<&Thing>
-        ensures { option_copied result ≡ thing_named self.now.in_use name.now }
+    fn find(&self, name: &[u8]) -> Option<&Handle>
+        ensures { option_copied result ≡ handle_named self.now.in_use name.now }
     {
         match &self.in_use {
-            Some(held) if held.is_named(name) => Some(&held.thing),
+            Some(held) if held.is_named(name) => Some(&held.handle),
             _ => None,
         }
     }
@@ -221,16 +271,10 @@ impl Store {
     }
 }
 
-fn is_lawful_key(key: &Key) -> bool
-    ensures { result ≡ is_key_length (length key.now) }
-{
-    !key.is_empty() && key.len() <= MAX_KEY_BYTES
-}
-
 fn is_within_limits(key: &Key, change: &Change) -> bool
     ensures { result ≡ is_lawful_write key.now change.now }
 {
-    is_lawful_key(key) && value_len(change) <= MAX_VALUE_BYTES
+    is_key_len(key.len()) && is_value_len(change.value_len())
 }
 
 // A write in a transaction.

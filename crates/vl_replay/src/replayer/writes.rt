@@ -2,16 +2,16 @@ ghost use Rattle.std.specs.Prelude.{◌≡◌, ◌≤◌, ◌<◌, ◌^◌, ◌=
 ghost use Rattle.std.specs.List.{prefix_len};
 ghost use Rattle.std.specs.Option.{option_copied};
 ghost use Rattle.std.specs.FinMap as map;
-ghost use Rattle.vl_model.specs.Keys.{key_cmp};
+ghost use Rattle.vl_model.specs.Keys.{key_cmp, value_bytes};
+ghost use Rattle.vl_model.specs.Limits.{max_key_bytes, max_value_bytes};
 ghost use Rattle.vl_seglog.specs.Log.{AreRecords};
-ghost use Rattle.vl_replay.specs.Sequential.{change_bytes, is_lawful_write, write_bytes, frame_length, fits_transaction};
+ghost use Rattle.vl_replay.specs.Sequential.{is_lawful_write, write_bytes, frame_length, fits_transaction};
 ghost use Rattle.vl_replay.specs.Writes.{is_above};
 
 use std::alloc::{AllocError, Global};
 use std::marker::Model;
-use vl_model::{
-    Change, Key, MAX_KEY_BYTES, MAX_TRANSACTION_BYTES, MAX_TRANSACTION_KEYS, MAX_VALUE_BYTES,
-};
+use vl_model::{Change, Key, MAX_TRANSACTION_BYTES, MAX_TRANSACTION_KEYS};
+use vl_seglog::commit_length;
 
 /// What a transaction has written: its keys in order, each with the last write of it.
 #[derive(Drop)]
@@ -66,8 +66,8 @@ impl Writes {
 
     /// Whether one transaction may have these writes and one more, which takes the place of an earlier one of its key.
     pub fn fits(&self, key: &[u8], change: &Change) -> bool
-        requires key { length key.now ≤ MAX_KEY_BYTES }
-        requires value { change_bytes change.now ≤ MAX_VALUE_BYTES }
+        requires key { length key.now ≤ max_key_bytes }
+        requires value { length (value_bytes change.now) ≤ max_value_bytes }
         ensures { result ≡ fits_transaction (map.insert self.now key.now change.now) }
     {
         let keys_fit = match self.get(key) {
@@ -94,7 +94,7 @@ impl Writes {
     pub fn frame_length(&self) -> u64
         ensures { result ≡ frame_length self.now }
     {
-        25 + 7 * self.entries.len() as u64 + self.bytes as u64
+        commit_length(self.entries.len(), self.bytes)
     }
 
     /// The keys in order, each with its change, as a commit of them may be spelled.
@@ -116,24 +116,14 @@ impl Writes {
 
     // How many bytes the keys and the values have, with one more write.
     fn bytes_with(&self, key: &[u8], change: &Change) -> usize
-        requires key { length key.now ≤ MAX_KEY_BYTES }
-        requires value { change_bytes change.now ≤ MAX_VALUE_BYTES }
+        requires key { length key.now ≤ max_key_bytes }
+        requires value { length (value_bytes change.now) ≤ max_value_bytes }
         ensures { result ≡ write_bytes (map.insert self.now key.now change.now) }
     {
         match self.get(key) {
-            Some(replaced) => self.bytes - value_len(replaced) + value_len(change),
-            None => self.bytes + key.len() + value_len(change),
+            Some(replaced) => self.bytes - replaced.value_len() + change.value_len(),
+            None => self.bytes + key.len() + change.value_len(),
         }
-    }
-}
-
-/// How many bytes a change has beside its key: a deletion has none.
-pub fn value_len(change: &Change) -> usize
-    ensures { result ≡ change_bytes change.now }
-{
-    match change {
-        Change::Set(value) => value.len(),
-        Change::Delete => 0,
     }
 }
 

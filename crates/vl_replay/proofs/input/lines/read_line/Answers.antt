@@ -1,5 +1,5 @@
 use Rattle.std.proofs.Common.{arith, sym, ap, ◌∙◌, ◌++◌, length, length-append}
-use Rattle.vl_replay.proofs.Replays.{keeps_up_within}
+use Rattle.vl_replay.proofs.Ends.{keeps_up_within}
 use Rattle.std.proofs.lemmas.Bool.{eqb-false}
 use Rattle.vl_replay.proofs.Lines.{read_to_end, read_all, more_given, unended-append, too_long, last_line_read}
 use Rattle.vl_replay.proofs.input.lines.read_line.Goals as goal
@@ -57,5 +57,5 @@ loop-line-preserved g c =
           let all = read_all _ _ _ _ _ _ was.2 c.loop-line.invariant.unended taken in
           keeps_up_within (c.args.buffer.now ++ had) c.take_line.new.line.items was.0 (g.S.Source.asked c.refill.new.source) all.0 all.1 (c.refill.ensures.asked ∙ was.1);
       spent = omega (arith, ap length taken.2, length-append c.loop-line.line.items c.loop-line.buffer, c.in_ok-refill.ensures.budget, c.loop-line.invariant.spent);
-      steady = c.in_ok-refill.ensures.steady ∙ c.loop-line.invariant.steady;
+      steady = c.in_ok-refill.ensures.cause.steady (λ e. cc) ∙ c.loop-line.invariant.steady;
     }

@@ -1,6 +1,6 @@
 use Rattle.std.proofs.Common.{◌≡◌, ◌+◌, ◌≤◌, ◌++◌, ℕ, List, length, Some}
 use Rattle.vl_replay.specs.Input.{HasNoLineEnd}
-use Rattle.vl_replay.specs.Replay.{KeepsUp}
+use Rattle.vl_replay.specs.Exchanges.{KeepsUp}
 use Rattle.vl_replay.proofs.input.lines.read_line.Given as goal
 
 -- the line so far, the buffer and what the source has left are what they had before; the line so far has no end;

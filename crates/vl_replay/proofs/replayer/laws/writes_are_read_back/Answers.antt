@@ -10,7 +10,7 @@ pub returns-clause-deletion : goal.returns-clause-deletion
 returns-clause-deletion c s name key number reads writes is done = reads_write s name key Delete number reads writes is done
 
 pub returns-clause-refused : goal.returns-clause-refused
-returns-clause-refused c s name key value refused = refused_write s name key (Put value) (get s.things name) refused
+returns-clause-refused c s name key value refused = refused_write s name key (Put value) (get s.handles name) refused
 
 pub returns-clause-refused_deletion : goal.returns-clause-refused_deletion
-returns-clause-refused_deletion c s name key refused = refused_write s name key Delete (get s.things name) refused
+returns-clause-refused_deletion c s name key refused = refused_write s name key Delete (get s.handles name) refused

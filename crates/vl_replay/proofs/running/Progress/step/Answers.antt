@@ -1,71 +1,77 @@
-use Rattle.std.proofs.Common.{◌∙◌, ◌++◌, ℕ, List, length, subst, sym, ap, Err, refl}
-use Rattle.vl_script.specs.Script.{lines_of}
-use Rattle.vl_replay.specs.Replay.{no_memory_line, read_fault_line, exchanges_from}
-use Rattle.vl_replay.specs.Steps.{Causes, GoesOn}
+use Rattle.std.proofs.Common.{◌∙◌, ◌++◌, ℕ, List, refl, subst, sym, ap, Err}
+use Rattle.vl_disk.specs.Faults.{Rose}
+use Rattle.vl_replay.specs.Endings.{Causes, no_memory_line, read_fault_line}
+use Rattle.vl_replay.specs.Runs.{script_of, outside}
+use Rattle.vl_replay.specs.Steps.{Steps}
+use Rattle.vl_replay.specs.Stored.{IsStored, Shown}
 use Rattle.vl_replay.specs.declared.ending.Ending.TheVariants.{NoMemory, ReadFault}
-use Rattle.vl_replay.proofs.Replays.{too_long_is_bad, finished, no_memory_ends, read_fault_ends, rose_earlier, not_by_reading}
-use Rattle.vl_replay.proofs.Stepping.{step_line, step_last, step_apart, step_end}
-use Rattle.vl_replay.proofs.Texts.{counts_nothing, bad_line_cuts_nothing, last_line_cuts_nothing}
+use Rattle.vl_replay.proofs.Ends.{too_long_is_bad, finished, finish_counts, no_cut, ended_lines-none}
+use Rattle.vl_replay.proofs.Logged.{shown_stays, stored_exactly}
+use Rattle.vl_replay.proofs.Stepping.{next_line, next_last, step_line, step_last, step_apart, step_end}
 use Rattle.vl_replay.proofs.running.Progress.step.Goals as goal
 
-pub returns-in-Ok-Line-clause-printed : goal.returns-in-Ok-Line-clause-printed
-returns-in-Ok-Line-clause-printed g c f fd before s had le earlier stands count told kept_up =
+pub returns-in-Ok-Line-clause-runs : goal.returns-in-Ok-Line-clause-runs
+returns-in-Ok-Line-clause-runs g c s before had stands count told kept_up =
     let reads = rw c.in-Ok-Line.field-0-is at (c.in-Ok-Line.ensures.line had told) in
-    let t = g.S.Source.faults c.read_line.new.source in
-    let td = g.D.Disk.faults c.answer.new.self.replayer.disk in
-    let left = g.S.Source.left c.read_line.new.source in
-    let asked = g.S.Source.asked c.read_line.new.source in
-    subst (λ (b : List ℕ). GoesOn g.D.Disk.told g.D.Disk.moment g.D.Disk.states_since g.D.Disk.faults c.args.self.now.replayer.disk c.answer.new.self.replayer.disk (Causes f t fd td ⊥) s before (c.args.self.now.buffer ++ had) c.answer.new.self.replayer.store b left asked c.answer.result (g.K.Sink.held c.args.sink.now) (g.K.Sink.held c.answer.new.sink))
-    (sym c.answer.ensures.same)
-    (step_line g.D.Disk.told g.D.Disk.moment g.D.Disk.states_since g.D.Disk.faults g.met.D.Disk.only_now g.met.D.Disk.counts_now f t fd td c.args.self.now.replayer.disk c.answer.new.self.replayer.disk s before (c.args.self.now.buffer ++ had) c.read_line.new.line.items c.read_line.new.buffer left asked c.answer.new.self.replayer.store c.answer.result (g.K.Sink.held c.args.sink.now) (g.K.Sink.held c.answer.new.sink)
-    reads (c.answer.ensures.printed fd before s earlier stands count) (λ begun state is holds. c.answer.ensures.takes begun s state stands is holds) (not_by_reading _ c.answer.result _ _ c.answer.ensures.faults) (c.read_line.ensures.keeps_up had told kept_up))
+    let script = script_of s before (c.args.self.now.buffer ++ had) in
+    let old = outside g.S.Source g.K.Sink c.args.source.now c.args.sink.now c.args.self.now.replayer.disk in
+    let new = outside g.S.Source g.K.Sink c.read_line.new.source c.answer.new.sink c.answer.new.self.replayer.disk in
+    subst (λ (b : List ℕ). Steps g.D.Watched IsStored Shown script old new c.answer.new.self.replayer.store b c.answer.result) (sym c.answer.ensures.same)
+    (step_line g.D.Watched (record { only_now = g.met.D.Disk.only_now; counts_now = g.met.D.Disk.counts_now }) IsStored Shown shown_stays stored_exactly script old new c.read_line.new.line.items c.answer.new.self.replayer.store c.read_line.new.buffer c.answer.result reads
+    (c.answer.ensures.printed script stands count (next_line script c.read_line.new.line.items c.read_line.new.buffer (g.S.Source.left c.read_line.new.source) reads)) (c.answer.ensures.moves s stands) (c.read_line.ensures.keeps_up had told kept_up))
 
-pub returns-in-Ok-LastLine-clause-printed : goal.returns-in-Ok-LastLine-clause-printed
-returns-in-Ok-LastLine-clause-printed g c f fd before s had le earlier stands count told kept_up =
+pub returns-in-Ok-LastLine-clause-runs : goal.returns-in-Ok-LastLine-clause-runs
+returns-in-Ok-LastLine-clause-runs g c s before had stands count told kept_up =
     let reads = rw c.in-Ok-LastLine.field-0-is at (c.in-Ok-LastLine.ensures.line had told) in
-    let t = g.S.Source.faults c.read_line.new.source in
-    let td = g.D.Disk.faults c.answer-in-Ok-LastLine.new.self.replayer.disk in
-    step_last g.D.Disk.told g.D.Disk.moment g.D.Disk.states_since g.D.Disk.faults g.met.D.Disk.only_now g.met.D.Disk.counts_now f t fd td c.args.self.now.replayer.disk c.answer-in-Ok-LastLine.new.self.replayer.disk s before (c.args.self.now.buffer ++ had) c.read_line.new.line.items c.read_line.new.buffer (g.S.Source.left c.read_line.new.source) (g.S.Source.asked c.read_line.new.source) c.answer-in-Ok-LastLine.new.self.replayer.store c.answer-in-Ok-LastLine.result c.unwrap_or.result (g.K.Sink.held c.args.sink.now) (g.K.Sink.held c.answer-in-Ok-LastLine.new.sink)
-    reads (c.answer-in-Ok-LastLine.ensures.printed fd before s earlier stands count) (λ begun state is holds. c.answer-in-Ok-LastLine.ensures.takes begun s state stands is holds) (not_by_reading _ c.answer-in-Ok-LastLine.result _ _ c.answer-in-Ok-LastLine.ensures.faults) c.unwrap_or.ensures (c.read_line.ensures.keeps_up had told kept_up)
+    let answered = c.answer-in-Ok-LastLine in
+    let script = script_of s before (c.args.self.now.buffer ++ had) in
+    let old = outside g.S.Source g.K.Sink c.args.source.now c.args.sink.now c.args.self.now.replayer.disk in
+    let new = outside g.S.Source g.K.Sink c.read_line.new.source answered.new.sink answered.new.self.replayer.disk in
+    step_last g.D.Watched (record { only_now = g.met.D.Disk.only_now; counts_now = g.met.D.Disk.counts_now }) IsStored Shown shown_stays stored_exactly script old new c.read_line.new.line.items answered.new.self.replayer.store c.read_line.new.buffer answered.result c.unwrap_or.result c.unwrap_or.ensures reads
+    (answered.ensures.printed script stands count (next_last script c.read_line.new.line.items c.read_line.new.buffer (g.S.Source.left c.read_line.new.source) reads)) (answered.ensures.moves s stands) (c.read_line.ensures.keeps_up had told kept_up)
 
-pub returns-in-Ok-TooLong-clause-printed : goal.returns-in-Ok-TooLong-clause-printed
-returns-in-Ok-TooLong-clause-printed g c f fd before s had le earlier stands count told kept_up =
-    let reads = rw c.in-Ok-TooLong.field-0-is at (c.in-Ok-TooLong.ensures.line had told) in
-    let bytes = c.args.self.now.buffer ++ had in
-    let t = g.S.Source.faults c.read_line.new.source in
-    let td = g.D.Disk.faults c.args.self.now.replayer.disk in
-    let ends = c.refuse.ensures.printed before count f t fd td s bytes reads.0 reads.1 (g.S.Source.left c.read_line.new.source) reads.2 (too_long_is_bad s reads.0 reads.3) in
-    step_apart g.D.Disk.told g.D.Disk.moment g.D.Disk.states_since g.D.Disk.faults g.met.D.Disk.only_now g.met.D.Disk.counts_now (Causes f t fd td ⊥) c.args.self.now.replayer.disk s before bytes (g.S.Source.left c.read_line.new.source) (g.S.Source.asked c.read_line.new.source) c.refuse.result (g.K.Sink.held c.args.sink.now) (g.K.Sink.held c.refuse.new.sink)
-    (bad_line_cuts_nothing c.refuse.result c.refuse.ensures.ending) ends (c.read_line.ensures.keeps_up had told kept_up)
+pub returns-in-Ok-TooLong-clause-runs : goal.returns-in-Ok-TooLong-clause-runs
+returns-in-Ok-TooLong-clause-runs g c s before had stands count told kept_up =
+    let (text, texts, lines, long) = rw c.in-Ok-TooLong.field-0-is at (c.in-Ok-TooLong.ensures.line had told) in
+    let script = script_of s before (c.args.self.now.buffer ++ had) in
+    let left = g.S.Source.left c.read_line.new.source in
+    let ended = c.end_at_bad_line in
+    step_apart g.D.Watched (record { only_now = g.met.D.Disk.only_now; counts_now = g.met.D.Disk.counts_now }) IsStored Shown shown_stays stored_exactly script
+    (outside g.S.Source g.K.Sink c.args.source.now c.args.sink.now c.args.self.now.replayer.disk) (outside g.S.Source g.K.Sink c.read_line.new.source ended.new.sink c.args.self.now.replayer.disk)
+    ⊥ (λ never. absurd never) ended.result ended.ensures.whole refl (ended.ensures.printed script text left count (texts, lines) (too_long_is_bad s text long)) (c.read_line.ensures.keeps_up had told kept_up)
 
-pub returns-in-Ok-TooLong-clause-disk_faults : goal.returns-in-Ok-TooLong-clause-disk_faults
-returns-in-Ok-TooLong-clause-disk_faults g c = counts_nothing c.refuse.result _ _ c.refuse.ensures.ending refl
-
-pub returns-in-Ok-End-clause-printed : goal.returns-in-Ok-End-clause-printed
-returns-in-Ok-End-clause-printed g c f fd before s had le earlier stands count told kept_up =
+pub returns-in-Ok-End-clause-runs : goal.returns-in-Ok-End-clause-runs
+returns-in-Ok-End-clause-runs g c s before had stands count told kept_up =
     let reads = rw c.in-Ok-End.field-0-is at (c.in-Ok-End.ensures.line had told) in
-    step_end g.D.Disk.told g.D.Disk.moment g.D.Disk.states_since g.D.Disk.faults g.met.D.Disk.only_now g.met.D.Disk.counts_now (Causes f (g.S.Source.faults c.read_line.new.source) fd (g.D.Disk.faults c.args.self.now.replayer.disk) ⊥) c.args.self.now.replayer.disk s before (c.args.self.now.buffer ++ had) (g.S.Source.left c.read_line.new.source) (g.S.Source.asked c.read_line.new.source) (g.K.Sink.held c.args.sink.now) reads.0 reads.1 (c.read_line.ensures.keeps_up had told kept_up)
+    step_end g.D.Watched (record { only_now = g.met.D.Disk.only_now; counts_now = g.met.D.Disk.counts_now }) IsStored Shown shown_stays stored_exactly (script_of s before (c.args.self.now.buffer ++ had))
+    (outside g.S.Source g.K.Sink c.args.source.now c.args.sink.now c.args.self.now.replayer.disk) (outside g.S.Source g.K.Sink c.read_line.new.source c.args.sink.now c.args.self.now.replayer.disk)
+    reads.1 reads.0 refl refl (c.read_line.ensures.keeps_up had told kept_up)
 
-pub returns-in-Err-NoMemory-clause-printed : goal.returns-in-Err-NoMemory-clause-printed
-returns-in-Err-NoMemory-clause-printed g c f fd before s had le earlier stands count told kept_up =
-    let bytes = c.args.self.now.buffer ++ had in
-    let left = g.S.Source.left c.read_line.new.source in
-    let cause = Causes f (g.S.Source.faults c.read_line.new.source) fd (g.D.Disk.faults c.args.self.now.replayer.disk) ⊥ in
-    let ends = no_memory_ends cause s before bytes left in
-    step_apart g.D.Disk.told g.D.Disk.moment g.D.Disk.states_since g.D.Disk.faults g.met.D.Disk.only_now g.met.D.Disk.counts_now cause c.args.self.now.replayer.disk s before bytes left (g.S.Source.asked c.read_line.new.source) c.finish.result (g.K.Sink.held c.args.sink.now) (g.K.Sink.held c.finish.new.sink)
-    (last_line_cuts_nothing NoMemory c.finish.result _ _ (λ never. never) c.finish.ensures.faults)
-    (finished cause (exchanges_from s (lines_of bytes)) (length (lines_of bytes)) before bytes left NoMemory c.finish.result no_memory_line (g.K.Sink.held c.args.sink.now) (g.K.Sink.held c.finish.new.sink) ends.0 ends.1 c.finish.ensures.printed)
+pub returns-in-Err-NoMemory-clause-runs : goal.returns-in-Err-NoMemory-clause-runs
+returns-in-Err-NoMemory-clause-runs g c s before had stands count told kept_up =
+    let script = script_of s before (c.args.self.now.buffer ++ had) in
+    step_apart g.D.Watched (record { only_now = g.met.D.Disk.only_now; counts_now = g.met.D.Disk.counts_now }) IsStored Shown shown_stays stored_exactly script
+    (outside g.S.Source g.K.Sink c.args.source.now c.args.sink.now c.args.self.now.replayer.disk) (outside g.S.Source g.K.Sink c.read_line.new.source c.finish.new.sink c.args.self.now.replayer.disk)
+    ⊥ (λ never. absurd never) c.finish.result (no_cut g.K.Sink _ _ _ NoMemory c.finish.result (λ e. cc) c.finish.ensures) refl
+    (finished g.K.Sink c.args.sink.now c.finish.new.sink (Causes ⊥ ⊥ ⊥) script (g.S.Source.left c.read_line.new.source) NoMemory c.finish.result no_memory_line refl tt c.finish.ensures)
     (c.read_line.ensures.keeps_up had told kept_up)
 
-pub returns-in-Err-Fault-clause-printed : goal.returns-in-Err-Fault-clause-printed
-returns-in-Err-Fault-clause-printed g c f fd before s had le earlier stands count told kept_up =
-    let bytes = c.args.self.now.buffer ++ had in
-    let left = g.S.Source.left c.read_line.new.source in
-    let cause = Causes f (g.S.Source.faults c.read_line.new.source) fd (g.D.Disk.faults c.args.self.now.replayer.disk) ⊥ in
+pub returns-in-Err-NoMemory-clause-sink : goal.returns-in-Err-NoMemory-clause-sink
+returns-in-Err-NoMemory-clause-sink g c = finish_counts g.K.Sink _ _ _ NoMemory c.finish.result (λ e. cc) c.finish.ensures
+
+pub returns-in-Err-Fault-clause-runs : goal.returns-in-Err-Fault-clause-runs
+returns-in-Err-Fault-clause-runs g c s before had stands count told kept_up =
+    let script = script_of s before (c.args.self.now.buffer ++ had) in
+    let ended = c.finish-in-Err-Fault in
     let fault = c.in-Err-Fault.is ∙ ap Err c.in-Err-Fault.field-0-is in
-    let within = c.read_line.ensures.within fault had told in
-    let ends = read_fault_ends cause s before bytes within.0 within.1 left (rose_earlier f (g.S.Source.faults c.args.source.now) (g.S.Source.faults c.read_line.new.source) le (rw c.in-Err-Fault.field-0-is at c.in-Err-Fault.ensures.faults)) within.2 within.3 within.4 in
-    step_apart g.D.Disk.told g.D.Disk.moment g.D.Disk.states_since g.D.Disk.faults g.met.D.Disk.only_now g.met.D.Disk.counts_now cause c.args.self.now.replayer.disk s before bytes left (g.S.Source.asked c.read_line.new.source) c.finish-in-Err-Fault.result (g.K.Sink.held c.args.sink.now) (g.K.Sink.held c.finish-in-Err-Fault.new.sink)
-    (last_line_cuts_nothing ReadFault c.finish-in-Err-Fault.result _ _ (λ never. never) c.finish-in-Err-Fault.ensures.faults)
-    (finished cause (exchanges_from s (lines_of bytes)) (length (lines_of bytes)) before bytes left ReadFault c.finish-in-Err-Fault.result read_fault_line (g.K.Sink.held c.args.sink.now) (g.K.Sink.held c.finish-in-Err-Fault.new.sink) ends.0 ends.1 c.finish-in-Err-Fault.ensures.printed)
+    let (given, rest, left_is, parts, unended) = c.read_line.ensures.within fault had told in
+    let rose = c.read_line.ensures.cause.rose fault in
+    step_apart g.D.Watched (record { only_now = g.met.D.Disk.only_now; counts_now = g.met.D.Disk.counts_now }) IsStored Shown shown_stays stored_exactly script
+    (outside g.S.Source g.K.Sink c.args.source.now c.args.sink.now c.args.self.now.replayer.disk) (outside g.S.Source g.K.Sink c.read_line.new.source ended.new.sink c.args.self.now.replayer.disk)
+    (Rose (g.S.Source.faults c.args.source.now) (g.S.Source.faults c.read_line.new.source)) (λ rose. rose) ended.result (no_cut g.K.Sink _ _ _ ReadFault ended.result (λ e. cc) ended.ensures) refl
+    (finished g.K.Sink c.args.sink.now ended.new.sink (Causes (Rose (g.S.Source.faults c.args.source.now) (g.S.Source.faults c.read_line.new.source)) ⊥ ⊥) script (g.S.Source.left c.read_line.new.source) ReadFault ended.result read_fault_line refl
+    (rose, (given, rest, parts, left_is, sym (ended_lines-none given unended))) ended.ensures)
     (c.read_line.ensures.keeps_up had told kept_up)
+
+pub returns-in-Err-Fault-clause-sink : goal.returns-in-Err-Fault-clause-sink
+returns-in-Err-Fault-clause-sink g c = finish_counts g.K.Sink _ _ _ ReadFault c.finish-in-Err-Fault.result (λ e. cc) c.finish-in-Err-Fault.ensures

@@ -1,17 +1,17 @@
 use Rattle.std.proofs.Common.{◌≡◌, ap, ◌∙◌, sym}
 use Rattle.std.specs.Option.{option_copied}
-use Rattle.vl_replay.specs.Represents.{thing_named}
+use Rattle.vl_replay.specs.Represents.{handle_named}
 use Rattle.vl_replay.proofs.States.{gives_dropped, gives_unknown_dropped}
 use Rattle.vl_replay.proofs.replayer.store.Store.end.Goals as goal
 
-pub returns-else-is_some : goal.returns-else-is_some
-returns-else-is_some c s rep =
+pub returns-else-is_some-clause-answer : goal.returns-else-is_some-clause-answer
+returns-else-is_some-clause-answer c s rep =
     let r = c.args.self.now in
-    let is : option_copied c.find.result ≡ thing_named r.in_use c.args.name = c.find.ensures ∙ ap (thing_named r.in_use) c.as_slice.ensures in
+    let is : option_copied c.find.result ≡ handle_named r.in_use c.args.name = c.find.ensures ∙ ap (handle_named r.in_use) c.as_slice.ensures in
     gives_unknown_dropped r s c.args.name c.find.result rep is (sym c.is_some.ensures ∙ c.if-is_some.false)
 
-pub returns-then-is_some : goal.returns-then-is_some
-returns-then-is_some c s rep =
+pub returns-then-is_some-clause-answer : goal.returns-then-is_some-clause-answer
+returns-then-is_some-clause-answer c s rep =
     let r = c.args.self.now in
-    let is : option_copied c.find.result ≡ thing_named r.in_use c.args.name = c.find.ensures ∙ ap (thing_named r.in_use) c.as_slice.ensures in
+    let is : option_copied c.find.result ≡ handle_named r.in_use c.args.name = c.find.ensures ∙ ap (handle_named r.in_use) c.as_slice.ensures in
     gives_dropped r s c.args.name c.find.result rep is (sym c.is_some.ensures ∙ c.if-is_some.true)

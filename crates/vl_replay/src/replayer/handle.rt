@@ -6,7 +6,7 @@ use vl_script::Ident;
 
 /// What a name in use stands for.
 #[derive(Drop)]
-pub enum Thing {
+pub enum Handle {
     /// A transaction, with the number of the last commit at its begin.
     Transaction { number: u64, writes: Writes },
     /// A view of the commits up to this number.
@@ -17,7 +17,7 @@ pub enum Thing {
 #[derive(Drop)]
 pub struct Open {
     pub name: Ident,
-    pub thing: Thing,
+    pub handle: Handle,
 }
 
 impl Open {

@@ -1,0 +1,130 @@
+-- How a run may end, in one table, and what follows from its columns.
+use Rattle.std.specs.Prelude.{◌≡◌, ◌≢◌, ◌⊎◌, ◌+◌, ◌-◌, ◌^◌, ◌≤◌, ℕ, min, List, [], ◌∷◌, ◌++◌, codes, Option, Some, None}
+use Rattle.std.specs.Option.{option_map}
+use Rattle.std.specs.Fmt.{decimal}
+use Rattle.vl_disk.specs.Faults.{Rose}
+use Rattle.vl_replay.specs.declared.ending.Ending.{Ending}
+use Rattle.vl_replay.specs.declared.ending.Ending.TheVariants.{Complete, BadLine, BadWords, DiskFault, NotAStore, NoMemory, ReadFault, WriteFault, AnswerCut}
+
+-- a count of lines stands still at its type's end
+abbrev pub line_number : ℕ → ℕ
+line_number n = min n (2 ^ 64 - 1)
+
+-- the last lines of runs that don't end with an answer
+
+abbrev pub bad_line : ℕ → List ℕ
+bad_line n = codes "bad line " ++ decimal (line_number n) ++ (10 ∷ [])
+
+abbrev pub usage_line : List ℕ
+usage_line = codes "usage: vlstore replay DIR, trial STOP OUTCOME, bench SEED COUNT or drive CLIENTS TXNS SEED" ++ (10 ∷ [])
+
+abbrev pub disk_fault_line : List ℕ
+disk_fault_line = codes "disk fault" ++ (10 ∷ [])
+
+abbrev pub not_a_store_line : List ℕ
+not_a_store_line = codes "not a store" ++ (10 ∷ [])
+
+abbrev pub no_memory_line : List ℕ
+no_memory_line = codes "no memory" ++ (10 ∷ [])
+
+abbrev pub read_fault_line : List ℕ
+read_fault_line = codes "read fault" ++ (10 ∷ [])
+
+-- what ended a run
+pub data Culprit : Type 0 where
+  -- nothing: the input was at its end
+  NoOne : Culprit
+  -- a line that is none of the language
+  TheLine : Culprit
+  -- words that aren't plain
+  TheWords : Culprit
+  TheDisk : Culprit
+  -- what stands on the disk and is no store
+  TheFiles : Culprit
+  -- want of memory
+  Memory : Culprit
+  TheSource : Culprit
+  TheSink : Culprit
+
+-- what a run puts last, behind whole answers
+pub data LastPiece : Type 0 where
+  NoPiece : LastPiece
+  -- the bad line, with the number of the next line
+  BadLinePiece : LastPiece
+  Line : List ℕ → LastPiece
+  -- some first bytes of the last line of another ending, none or all of them included
+  LineFront : LastPiece
+  -- some first bytes of the answer to the next line, none or all of them included
+  AnswerFront : LastPiece
+
+pub record End : Type 0 where
+  pub status : ℕ
+  pub culprit : Culprit
+  pub last : LastPiece
+
+-- the table
+abbrev pub end_of : Ending → End
+end_of Complete = record { status = 0; culprit = NoOne; last = NoPiece }
+end_of BadLine = record { status = 1; culprit = TheLine; last = BadLinePiece }
+end_of BadWords = record { status = 2; culprit = TheWords; last = Line usage_line }
+end_of DiskFault = record { status = 3; culprit = TheDisk; last = Line disk_fault_line }
+end_of NotAStore = record { status = 4; culprit = TheFiles; last = Line not_a_store_line }
+end_of NoMemory = record { status = 5; culprit = Memory; last = Line no_memory_line }
+end_of ReadFault = record { status = 6; culprit = TheSource; last = Line read_fault_line }
+end_of WriteFault = record { status = 7; culprit = TheSink; last = LineFront }
+end_of AnswerCut = record { status = 7; culprit = TheSink; last = AnswerFront }
+
+abbrev pub status_of : Ending → ℕ
+status_of ending = (end_of ending).status
+
+abbrev pub culprit_of : Ending → Culprit
+culprit_of ending = (end_of ending).culprit
+
+abbrev pub line_of_piece : ℕ → LastPiece → Option (List ℕ)
+line_of_piece n NoPiece = None
+line_of_piece n BadLinePiece = Some (bad_line n)
+line_of_piece n (Line line) = Some line
+line_of_piece n LineFront = None
+line_of_piece n AnswerFront = None
+
+-- the line of its own that a run which ended so puts last, before the n-th line of its script
+abbrev pub last_line : ℕ → Ending → Option (List ℕ)
+last_line n ending = line_of_piece n (end_of ending).last
+
+-- the run ended between two lines: at the input's end, at a bad line, or where no more could be read
+abbrev pub IsBetweenLines : Culprit → Type 0
+IsBetweenLines NoOne = Unit {0}
+IsBetweenLines TheLine = Unit {0}
+IsBetweenLines TheWords = ⊥
+IsBetweenLines TheDisk = ⊥
+IsBetweenLines TheFiles = ⊥
+IsBetweenLines Memory = ⊥
+IsBetweenLines TheSource = Unit {0}
+IsBetweenLines TheSink = ⊥
+
+-- the run ended while the answer to a line was put
+abbrev pub CutsAnswer : Ending → Type 0
+CutsAnswer ending = (end_of ending).last ≡ AnswerFront
+
+-- What was counted of the faults of one of the outside objects by a step, or by a run that ended so: a fault where it
+-- ended by that object, and none where it goes on or ended otherwise; but where a last line couldn't be put, that line
+-- may have been about such a fault.
+pub record Counts (who : Culprit) (ended : Option Ending) (before now : ℕ) : Type 0 where
+  pub later : before ≤ now
+  pub rose : option_map culprit_of ended ≡ Some who → Rose before now
+  pub steady : option_map culprit_of ended ≢ Some who → ended ≢ Some WriteFault → now ≡ before
+
+-- the last line of this ending was put whole, or couldn't be
+abbrev pub IsOrCut : Ending → Ending → Type 0
+IsOrCut ending result = (result ≡ ending) ⊎ (result ≡ WriteFault)
+
+-- what caused an end, where it is asked for: a fault of the source or of the disk, or files that are no store
+abbrev pub Causes : (by_source by_disk by_files : Type 0) → Culprit → Type 0
+Causes by_source by_disk by_files NoOne = ⊥
+Causes by_source by_disk by_files TheLine = ⊥
+Causes by_source by_disk by_files TheWords = ⊥
+Causes by_source by_disk by_files TheDisk = by_disk
+Causes by_source by_disk by_files TheFiles = by_files
+Causes by_source by_disk by_files Memory = ⊥
+Causes by_source by_disk by_files TheSource = by_source
+Causes by_source by_disk by_files TheSink = ⊥

@@ -1,0 +1,83 @@
+-- A script's lines with their answers, up to the first line that is none of the language.
+use Rattle.std.specs.Prelude.{◌≡◌, ◌+◌, ◌-◌, ◌≤◌, ℕ, ◌==◌, if◌then◌else◌, List, [], ◌∷◌, length, count_by, Option, Some, None}
+use Rattle.std.specs.List.{flat_map, AllByRecursion}
+use Rattle.std.specs.FinMap.{get}
+use Rattle.std.specs.Option.{option_map}
+use Rattle.vl_model.specs.History.{History, last_number, value_at}
+use Rattle.vl_model.specs.Reads.{Read, IsExplained}
+use Rattle.vl_model.specs.Keys.{Writes, is_key_length}
+use Rattle.vl_replay.specs.Sequential.{State, answer_to, state_after, OpenTransaction, OpenView, found}
+use Rattle.vl_script.specs.Script.{line_of, lines_of, text_of}
+use Rattle.vl_script.specs.declared.line.Line.{Line}
+use Rattle.vl_script.specs.declared.line.Line.TheVariants.{Begin, View, Get, Set, Delete, Commit, Drop}
+use Rattle.vl_script.specs.declared.answer.Answer.{Answer}
+use Rattle.vl_script.specs.declared.answer.Answer.TheVariants.{Number, Invalid}
+
+-- a line with its answer, and the states before and after it
+pub record Exchange : Type 0 where
+  pub before : State
+  pub line : Line
+  pub answer : Answer
+  pub after : State
+
+-- what the sequential store makes of a line
+abbrev pub exchanged : State → Line → Exchange
+exchanged s line = record { before = s; line = line; answer = answer_to s line; after = state_after s line }
+
+-- and of some text, where it is a line of the language
+abbrev pub exchange_at : State → List ℕ → Option Exchange
+exchange_at s text = option_map (exchanged s) (line_of text)
+
+-- the state behind a text, which leaves it as it is where it is no line
+abbrev pub state_behind : State → Option Exchange → State
+state_behind s None = s
+state_behind s (Some e) = e.after
+
+-- an exchange, where there is one, and those behind it
+abbrev pub and_later : (Exchange → List Exchange) → Option Exchange → List Exchange
+and_later later None = []
+and_later later (Some e) = e ∷ later e
+
+-- the exchanges from a state on, up to the first bad line
+abbrev pub exchanges_from : State → List (List ℕ) → List Exchange
+exchanges_from s [] = []
+exchanges_from s (text ∷ texts) = and_later (λ e. exchanges_from e.after texts) (exchange_at s text)
+
+-- the history that these exchanges leave of one
+abbrev pub history_after : History → List Exchange → History
+history_after h [] = h
+history_after h (e ∷ later) = history_after e.after.history later
+
+-- the text of their answers, each one whole
+abbrev pub answers_text : List Exchange → List ℕ
+answers_text exchanges = flat_map (λ e. text_of e.answer) exchanges
+
+-- how many lines end in these bytes
+abbrev pub ended_lines : List ℕ → ℕ
+ended_lines bytes = count_by (λ b. b == 10) bytes
+
+-- A line's answer is put whole before the next line is read: when the source was last asked for bytes, no more lines had
+-- ended in what it had given of these bytes than were answered. Those lines are the ones that ended in these bytes but not
+-- in what it then had left.
+abbrev pub KeepsUp : List ℕ → Option (List ℕ) → ℕ → Type 0
+KeepsUp bytes asked answered = (earlier : List ℕ) × (asked ≡ Some earlier) × (ended_lines bytes ≤ answered + ended_lines earlier)
+
+-- What is read is explained by the history at the reader's number: what a view reads, by that at the view's own
+-- number, where the key is within its limits; what the transaction of an accepted commit has read, by that at the
+-- commit's number less one, and no commit came between.
+abbrev pub IsExplainedExchange : Line → Exchange → Type 0
+IsExplainedExchange (Begin name) e = Unit {0}
+IsExplainedExchange (View name) e = Unit {0}
+IsExplainedExchange (Get name key) e =
+    (number : ℕ) → get e.before.handles name ≡ Some (OpenView number)
+    → e.answer ≡ (if is_key_length (length key) then found (value_at e.before.history number key) else Invalid)
+IsExplainedExchange (Set name key value) e = Unit {0}
+IsExplainedExchange (Delete name key) e = Unit {0}
+IsExplainedExchange (Commit name) e =
+    (number : ℕ) (reads : List Read) (writes : Writes) (n : ℕ) → get e.before.handles name ≡ Some (OpenTransaction number reads writes)
+    → e.answer ≡ Number n → IsExplained e.after.history (n - 1) reads × (number ≡ last_number e.before.history)
+IsExplainedExchange (Drop name) e = Unit {0}
+
+-- so it is in each of these exchanges
+abbrev pub AreExplained : List Exchange → Type 0
+AreExplained exchanges = AllByRecursion (λ e. IsExplainedExchange e.line e) exchanges
