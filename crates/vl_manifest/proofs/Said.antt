@@ -1,6 +1,6 @@
 -- What a manifest says, read frame by frame.
 use Rattle.std.proofs.Common.{◌≡◌, ℕ, ◌+◌, ◌-◌, ◌≤◌, ◌<◌, List, [], ◌∷◌, length, drop, refl, ap, subst, ◌∙◌, arith}
-use Rattle.std.specs.Prelude.{Option, None, Some, Result, Ok, Err}
+use Rattle.std.specs.Prelude.{None, Some, Result, Ok, Err}
 use Rattle.vl_frame.specs.Begins.{placed}
 use Rattle.vl_frame.specs.RunLaws.{shorter}
 use Rattle.vl_frame.specs.Runs.{StandsAt, StandsNone, item_frame}

@@ -13,7 +13,7 @@ use Rattle.vl_manifest.specs.declared.edit.Edit.{Edit}
 use Rattle.vl_manifest.specs.declared.fails.IoFail.{IoFail}
 use Rattle.vl_manifest.specs.declared.fails.IoFail.TheVariants.{Disk, NoMemory}
 use Rattle.vl_manifest.specs.declared.manifest_log.ManifestLog.{ManifestLog}
-use Rattle.vl_manifest.specs.Manifest.{manifest_bytes}
+use Rattle.vl_manifest.specs.Manifest.{ReadsManifest, manifest_bytes}
 
 -- the bytes of the manifest with this number whose first frame says these edits, and which has no other
 abbrev pub new_manifest : ℕ → List Edit → List ℕ
@@ -22,6 +22,8 @@ new_manifest number edits = manifest_bytes number (edits ∷ [])
 -- it was made and is durable
 pub record HasMade {D : Type 0} (g : Ghosts D) (number : ℕ) (edits : List Edit) (old new : D) (log : ManifestLog) : Type 0 where
   pub log_is : log ≡ record { number = number; length = length (new_manifest number edits) }
+  -- it reads as its one frame
+  pub reads : ReadsManifest number (new_manifest number edits) (edits ∷ [])
   pub file : Turns (made (names.Manifest number) (new_manifest number edits)) (g.told old) (g.told new)
   pub stands : ForSome (g.told new) (Stands (names.Manifest number))
   pub calls : g.calls new ≡ after_calls 3 (g.calls old)

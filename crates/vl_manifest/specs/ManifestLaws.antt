@@ -1,26 +1,25 @@
 -- What the definition of a manifest says: its bytes say one thing, and a manifest that is made says its state.
-use Rattle.std.specs.Prelude.{◌≡◌, ◌⊎◌, ◌+◌, ◌<◌, ◌≤◌, ◌^◌, ℕ, List, [], ◌∷◌, ◌++◌, drop, length, Option, None, Some, Result, Ok, Err, refl}
+use Rattle.std.specs.Prelude.{◌≡◌, ◌⊎◌, ◌+◌, ◌<◌, ◌^◌, ℕ, true, false, bytes_eq, List, [], ◌∷◌, ◌++◌, drop, length, take, Option, None, Some, Result, Ok, Err, refl}
 use Rattle.std.specs.List.{AllByRecursion}
-use Rattle.std.proofs.Common.{sym, ap, subst, ◌∙◌, append_assoc, ⊎_elim, arith}
-use Rattle.std.proofs.lemmas.List.{append-nil, drop_at}
+use Rattle.std.proofs.Common.{sym, ap, subst, ◌∙◌, inl, inr, ⊎_elim, arith}
+use Rattle.std.proofs.lemmas.Bool.{cases_Bool}
+use Rattle.std.proofs.lemmas.Bool.Decides.{not_from_Decides}
+use Rattle.std.proofs.lemmas.Slice.Eq.{bytes_eq-Decides}
+use Rattle.std.proofs.lemmas.List.{drop_at, take_at, take-append-drop}
 use Rattle.vl_frame.specs.Header.{header_bytes}
 use Rattle.vl_frame.specs.HeaderLaws.{header_has_format, length-header_bytes, one_format}
-use Rattle.vl_frame.specs.Laws.{length-frame_bytes}
 use Rattle.vl_frame.specs.Begins.{one_begins, placed, reads_past}
-use Rattle.vl_frame.specs.RunLaws.{one_reading, reads_whole}
-use Rattle.vl_frame.specs.Runs.{HasFrame, ReadsAs, item_frame, run_bytes}
+use Rattle.vl_frame.specs.RunLaws.{one_reading, reads_whole, there_or_not}
+use Rattle.vl_frame.specs.Runs.{HasFrame, ReadsAs, StandsAt, StandsNone, item_frame, run_bytes}
 use Rattle.vl_frame.specs.declared.kinds.FileKind.TheVariants as files
-use Rattle.vl_frame.specs.declared.kinds.FrameKind.TheVariants as kinds
 use Rattle.vl_manifest.specs.declared.edit.Edit.{Edit}
 use Rattle.vl_manifest.specs.declared.edit.Edit.TheVariants.{Head, Next}
 use Rattle.vl_manifest.specs.declared.format.TheConstants.{MANIFEST_FORMAT}
 use Rattle.vl_manifest.specs.declared.state.ManifestState.{ManifestState}
 use Rattle.vl_manifest.specs.EditLaws.{edits_grammar}
-use Rattle.vl_manifest.specs.Edits.{AreEdits, edits_body}
-use Rattle.vl_manifest.specs.Levels.{no_tables}
 use Rattle.vl_manifest.specs.Manifest.{HasHeader, IsDamaged, IsNewer, IsReadable, ManifestSays, ReadsManifest, SaysState, manifest_bytes, manifest_header, no_frame, no_header, not_applied, state_of}
 use Rattle.vl_manifest.specs.StateLaws.{IsInRange, state_in_range, whole_says}
-use Rattle.vl_manifest.specs.States.{adds_from, first_state, fresh_state, manifest_state, next_state, state_behind, state_then, whole_edits}
+use Rattle.vl_manifest.specs.States.{adds_from, first_state, next_state, state_behind, state_then, whole_edits}
 
 -- ---- one reading
 
@@ -168,8 +167,8 @@ manifest_reads number frames fits have =
     (reads_whole edits_grammar number 16 frames have)
 
 -- a whole state has a frame
-pub whole_has_frame : (number : ℕ) (s : ManifestState) → IsInRange s → HasFrame edits_grammar (whole_edits s)
-whole_has_frame number s r =
+pub whole_has_frame : (s : ManifestState) → IsInRange s → HasFrame edits_grammar (whole_edits s)
+whole_has_frame s r =
     subst (λ (es : List Edit). HasFrame edits_grammar es) (sym edits) (record {
       lawful = record {
         few = omega arith;
@@ -190,6 +189,61 @@ pub whole_manifest : (number : ℕ) (s : ManifestState) → number < 2 ^ 32 → 
 whole_manifest number s fits r = record {
   first = whole_edits s;
   others = [];
-  reads = manifest_reads number (whole_edits s ∷ []) fits (whole_has_frame number s r, tt);
+  reads = manifest_reads number (whole_edits s ∷ []) fits (whole_has_frame s r, tt);
   made = ap (state_then 16 (λ (t : ManifestState). state_behind t [])) (whole_says s r);
 }
+
+-- ---- a manifest that was being made
+
+-- A header that is read is spelled as it is written: there is one format.
+pub header_front : (number : ℕ) (bytes : List ℕ) → HasHeader number bytes → take 16 bytes ≡ manifest_header number
+header_front number bytes h =
+    let format : h.format ≡ MANIFEST_FORMAT = omega (arith, h.first, h.readable) in
+    ap (take 16) h.header.spelled ∙ take_at (header_bytes files.Manifest h.format number) h.header.rest 16 (length-header_bytes files.Manifest h.format number)
+    ∙ ap (λ (n : ℕ). header_bytes files.Manifest n number) format
+
+pub front_header : (number : ℕ) (bytes : List ℕ) → number < 2 ^ 32 → take 16 bytes ≡ manifest_header number → HasHeader number bytes
+front_header number bytes fits front = record {
+  format = MANIFEST_FORMAT;
+  first = omega arith;
+  readable = omega arith;
+  header = record {
+    format_fits = omega arith;
+    number_fits = fits;
+    rest = drop 16 bytes;
+    spelled = sym (take-append-drop 16 bytes) ∙ ap (λ (b : List ℕ). b ++ drop 16 bytes) front;
+  };
+}
+
+-- the header is there or not
+pub header_or_not : (number : ℕ) (bytes : List ℕ) → number < 2 ^ 32 → HasHeader number bytes ⊎ (HasHeader number bytes → ⊥)
+header_or_not number bytes fits =
+    let test = bytes_eq (take 16 bytes) (manifest_header number) in
+    let decides = bytes_eq-Decides (take 16 bytes) (manifest_header number) in
+    ⊎_elim (λ (yes : test ≡ true). inl (front_header number bytes fits (decides.0 yes)))
+    (λ (no : test ≡ false). inr (λ h. not_from_Decides test decides no (header_front number bytes h)))
+    (cases_Bool test)
+
+-- Bytes of a manifest that was being made of a whole state: each frame at 16 is a front of that state's,
+-- and behind it stands none. Then it can't be read, or says the state.
+pub made_or_not : (number : ℕ) (s : ManifestState) (bytes : List ℕ) → number < 2 ^ 32 → IsInRange s
+    → ((edits : List Edit) (rest : List ℕ) → StandsAt edits_grammar number 16 (drop 16 bytes) edits rest
+    → (take (length (item_frame edits_grammar number 16 edits)) (item_frame edits_grammar number 16 (whole_edits s)) ≡ item_frame edits_grammar number 16 edits)
+    × StandsNone edits_grammar number (16 + length (item_frame edits_grammar number 16 edits)) rest)
+    → (IsReadable number bytes → ⊥) ⊎ SaysState number bytes s
+made_or_not number s bytes fits r torn =
+    ⊎_elim
+    (λ (header : HasHeader number bytes). ⊎_elim
+    (λ (none : StandsNone edits_grammar number 16 (drop 16 bytes)). inl (λ readable. none readable.first readable.rest readable.stands))
+    (λ (one : ReadsAs edits_grammar number 16 (drop 16 bytes) (whole_edits s ∷ [])). inr (says header one))
+    (there_or_not edits_grammar number 16 (whole_edits s) (whole_has_frame s r) (drop 16 bytes) torn))
+    (λ (none : HasHeader number bytes → ⊥). inl (λ readable. none readable.header))
+    (header_or_not number bytes fits)
+  where
+    says : HasHeader number bytes → ReadsAs edits_grammar number 16 (drop 16 bytes) (whole_edits s ∷ []) → SaysState number bytes s
+    says header one = record {
+      first = whole_edits s;
+      others = [];
+      reads = record { header = header; reads = one };
+      made = ap (state_then 16 (λ (t : ManifestState). state_behind t [])) (whole_says s r);
+    }

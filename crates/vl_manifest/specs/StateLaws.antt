@@ -1,5 +1,5 @@
 -- What edits can make: states whose numbers are in range, each of which is said by one frame.
-use Rattle.std.specs.Prelude.{◌≡◌, ◌+◌, ◌≤◌, ℕ, max, Bool, true, false, ◌&&◌, nat_le, List, [], ◌∷◌, ◌++◌, Option, None, Some, Result, Ok, Err, IfSome, refl}
+use Rattle.std.specs.Prelude.{◌≡◌, ◌+◌, ◌≤◌, ℕ, Bool, true, false, nat_le, List, [], ◌∷◌, ◌++◌, Option, None, Some, Result, Ok, Err, IfSome, refl}
 use Rattle.std.proofs.Common.{sym, ap, subst, ◌∙◌, arith}
 use Rattle.std.proofs.lemmas.Bool.{leb-true, le-leb, and_from, and_parts}
 use Rattle.vl_model.specs.Limits.{max_commit_number, max_file_number}
@@ -9,7 +9,7 @@ use Rattle.vl_manifest.specs.declared.edit.Edit.{Edit}
 use Rattle.vl_manifest.specs.declared.edit.Edit.TheVariants.{Add, Drop, Head, Next}
 use Rattle.vl_manifest.specs.declared.state.ManifestState.{ManifestState}
 use Rattle.vl_manifest.specs.Levels.{no_tables}
-use Rattle.vl_manifest.specs.States.{all_applied, applied, adds_from, are_next, as_draft, finish, finished, first_draft, first_state, given_if, is_head, is_log_number, is_next_number, manifest_state, next_state, opened_state, state_behind, state_then, then_applied, whole_edits, with_both}
+use Rattle.vl_manifest.specs.States.{all_applied, applied, adds_from, are_next, as_draft, finish, first_draft, first_state, given_if, is_head, is_log_number, is_next_number, manifest_state, next_state, opened_state, state_behind, state_then, then_applied, whole_edits, with_both}
 
 -- two states that are the same but for the numbers that may still be given
 pub record SameState (a b : ManifestState) : Type 0 where
