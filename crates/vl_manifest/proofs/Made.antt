@@ -22,7 +22,8 @@ false_true e = cc
 true_false : true ≡ false → ⊥
 true_false e = cc
 
-pub same_length : (len : ℕ) (items bytes : List ℕ) → len ≡ length items → items ≡ bytes → len ≡ length bytes
+pub same_length : (len : ℕ) (items bytes : List ℕ) → len ≡ length items → items ≡ bytes
+    → len ≡ length bytes
 same_length len items bytes is same = is ∙ ap length same
 
 module _ {D : Type 0} (g : Ghosts D) (number : ℕ) (edits : List Edit) (old mid new : D)

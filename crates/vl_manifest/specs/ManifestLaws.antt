@@ -68,7 +68,8 @@ state_more number first others more place e = by (first_state first) e
 
 -- where frames begin with some that can't be applied, they can't be
 begun_by : (number : ℕ) (first other : List Edit) (others all more : List (List Edit)) (place : ℕ)
-    → other ∷ all ≡ (first ∷ others) ++ more → state_of number first others ≡ Err place → state_of number other all ≡ Err place
+    → other ∷ all ≡ (first ∷ others) ++ more → state_of number first others ≡ Err place
+    → state_of number other all ≡ Err place
 begun_by number first other others all more place split e =
     state_cong number other first all (others ++ more) split ∙ state_more number first others more place e
 
@@ -83,7 +84,8 @@ says_or_damaged number bytes s place says (not_applied header first others begin
     ok_err s place (sym says.made ∙ begun_by number first says.first others says.others past.0 place past.1 e)
 
 -- bytes are damaged at one place first
-one_damage : (number : ℕ) (bytes : List ℕ) (p q : ℕ) → IsDamaged number bytes p → IsDamaged number bytes q → p ≡ q
+one_damage : (number : ℕ) (bytes : List ℕ) (p q : ℕ) → IsDamaged number bytes p
+    → IsDamaged number bytes q → p ≡ q
 one_damage number bytes p q (no_header none at) (no_header none' at') = at ∙ sym at'
 one_damage number bytes p q (no_header none at) (no_frame header none' at') = absurd (none header)
 one_damage number bytes p q (no_header none at) (not_applied header first others begins e) = absurd (none header)
@@ -114,7 +116,8 @@ one_saying number bytes (Err place) (Err other) p q =
     let same = one_damage number bytes place other p q in ap (λ (n : ℕ). Err n) same
 
 -- What a manifest says is in range.
-pub says_in_range : (number : ℕ) (bytes : List ℕ) (s : ManifestState) → SaysState number bytes s → IsInRange s
+pub says_in_range : (number : ℕ) (bytes : List ℕ) (s : ManifestState) → SaysState number bytes s
+    → IsInRange s
 says_in_range number bytes s says =
     state_in_range (record { place = 16; item = says.first })
     (placed edits_grammar number (16 + length (item_frame edits_grammar number 16 says.first)) says.others) s says.made
@@ -122,7 +125,8 @@ says_in_range number bytes s says =
 -- ---- readable and newer ones
 
 -- A manifest that says a state can be read.
-pub says_readable : (number : ℕ) (bytes : List ℕ) (s : ManifestState) → SaysState number bytes s → IsReadable number bytes
+pub says_readable : (number : ℕ) (bytes : List ℕ) (s : ManifestState) → SaysState number bytes s
+    → IsReadable number bytes
 says_readable number bytes s says = record {
   header = says.reads.header;
   first = says.first;
@@ -131,11 +135,13 @@ says_readable number bytes s says = record {
 }
 
 -- Bytes have one newer format at most.
-pub one_newer : (number : ℕ) (bytes : List ℕ) (format other : ℕ) → IsNewer number bytes format → IsNewer number bytes other → format ≡ other
+pub one_newer : (number : ℕ) (bytes : List ℕ) (format other : ℕ) → IsNewer number bytes format
+    → IsNewer number bytes other → format ≡ other
 one_newer number bytes format other p q = (one_format bytes files.Manifest files.Manifest format other p.says q.says).1
 
 -- A manifest in a newer format can't be read.
-pub newer_or_readable : (number : ℕ) (bytes : List ℕ) (format : ℕ) → IsNewer number bytes format → HasHeader number bytes → ⊥
+pub newer_or_readable : (number : ℕ) (bytes : List ℕ) (format : ℕ) → IsNewer number bytes format
+    → HasHeader number bytes → ⊥
 newer_or_readable number bytes format newer h =
     let says = header_has_format files.Manifest h.format number bytes h.header in
     let same = (one_format bytes files.Manifest files.Manifest format h.format newer.says says).1 in
@@ -145,7 +151,8 @@ newer_or_readable number bytes format newer h =
 
 -- A manifest's header, and behind it bytes that hold these frames.
 pub header_reads : (number : ℕ) (bytes tail : List ℕ) (frames : List (List Edit)) → number < 2 ^ 32
-    → bytes ≡ manifest_header number ++ tail → ReadsAs edits_grammar number 16 tail frames → ReadsManifest number bytes frames
+    → bytes ≡ manifest_header number ++ tail → ReadsAs edits_grammar number 16 tail frames
+    → ReadsManifest number bytes frames
 header_reads number bytes tail frames fits is reads =
     let behind : drop 16 bytes ≡ tail =
     ap (drop 16) is ∙ drop_at (manifest_header number) tail 16 (length-header_bytes files.Manifest MANIFEST_FORMAT number) in
@@ -161,7 +168,8 @@ header_reads number bytes tail frames fits is reads =
 
 -- A manifest that is made of frames reads as these.
 pub manifest_reads : (number : ℕ) (frames : List (List Edit)) → number < 2 ^ 32
-    → AllByRecursion (HasFrame edits_grammar) frames → ReadsManifest number (manifest_bytes number frames) frames
+    → AllByRecursion (HasFrame edits_grammar) frames
+    → ReadsManifest number (manifest_bytes number frames) frames
 manifest_reads number frames fits have =
     header_reads number (manifest_bytes number frames) (run_bytes edits_grammar number 16 frames) frames fits refl
     (reads_whole edits_grammar number 16 frames have)
@@ -196,13 +204,15 @@ whole_manifest number s fits r = record {
 -- ---- a manifest that was being made
 
 -- A header that is read is spelled as it is written: there is one format.
-pub header_front : (number : ℕ) (bytes : List ℕ) → HasHeader number bytes → take 16 bytes ≡ manifest_header number
+pub header_front : (number : ℕ) (bytes : List ℕ) → HasHeader number bytes
+    → take 16 bytes ≡ manifest_header number
 header_front number bytes h =
     let format : h.format ≡ MANIFEST_FORMAT = omega (arith, h.first, h.readable) in
     ap (take 16) h.header.spelled ∙ take_at (header_bytes files.Manifest h.format number) h.header.rest 16 (length-header_bytes files.Manifest h.format number)
     ∙ ap (λ (n : ℕ). header_bytes files.Manifest n number) format
 
-pub front_header : (number : ℕ) (bytes : List ℕ) → number < 2 ^ 32 → take 16 bytes ≡ manifest_header number → HasHeader number bytes
+pub front_header : (number : ℕ) (bytes : List ℕ) → number < 2 ^ 32
+    → take 16 bytes ≡ manifest_header number → HasHeader number bytes
 front_header number bytes fits front = record {
   format = MANIFEST_FORMAT;
   first = omega arith;
@@ -216,7 +226,8 @@ front_header number bytes fits front = record {
 }
 
 -- the header is there or not
-pub header_or_not : (number : ℕ) (bytes : List ℕ) → number < 2 ^ 32 → HasHeader number bytes ⊎ (HasHeader number bytes → ⊥)
+pub header_or_not : (number : ℕ) (bytes : List ℕ) → number < 2 ^ 32
+    → HasHeader number bytes ⊎ (HasHeader number bytes → ⊥)
 header_or_not number bytes fits =
     let test = bytes_eq (take 16 bytes) (manifest_header number) in
     let decides = bytes_eq-Decides (take 16 bytes) (manifest_header number) in
