@@ -1,13 +1,12 @@
 -- A manifest is made behind the memory for it.
-use Rattle.std.proofs.Common.{◌≡◌, ℕ, List, length, refl, sym, ap, subst, ◌∙◌}
-use Rattle.std.specs.Prelude.{Bool, true, false, Result, Ok, Err, is_err, IsErr}
+use Rattle.std.proofs.Common.{◌≡◌, ℕ, List, [], ◌∷◌, length, refl, ap, subst, ◌∙◌}
+use Rattle.std.specs.Prelude.{true, false, Result, Ok, Err, is_err}
 use Rattle.std.specs.Option.{option_map}
 use Rattle.vl_disk.specs.declared.failed.Failed.{Failed}
 use Rattle.vl_disk.specs.declared.name.Name.TheVariants as names
 use Rattle.vl_disk.specs.declared.watched.Watched.{Ghosts}
 use Rattle.vl_disk.specs.Calls.{Looks}
 use Rattle.vl_disk.specs.Crash.{Unchanged}
-use Rattle.vl_disk.specs.DiskState.{DiskState}
 use Rattle.vl_disk.specs.Faults.{HasCause, after_calls}
 use Rattle.vl_disk.specs.MadeFile.{Makes, TellsPart, WhileMaking, made, not_there}
 use Rattle.vl_disk.specs.Moments.{Elapses, While, passes_then}
@@ -15,12 +14,17 @@ use Rattle.vl_disk.specs.Spare.{SameSpareElsewhere}
 use Rattle.vl_manifest.specs.declared.edit.Edit.{Edit}
 use Rattle.vl_manifest.specs.declared.fails.IoFail.TheVariants.{Disk}
 use Rattle.vl_manifest.specs.Making.{MakesManifest, new_manifest}
+use Rattle.vl_manifest.specs.Manifest.{ReadsManifest}
 
 false_true : false ≡ true → ⊥
 false_true e = cc
 
 true_false : true ≡ false → ⊥
 true_false e = cc
+
+pub same_length : (len : ℕ) (items bytes : List ℕ) → len ≡ length items → items ≡ bytes
+    → len ≡ length bytes
+same_length len items bytes is same = is ∙ ap length same
 
 module _ {D : Type 0} (g : Ghosts D) (number : ℕ) (edits : List Edit) (old mid new : D)
     (looks : Looks g old mid ⊥) (room : SameSpareElsewhere (names.Manifest number) (g.spare old) (g.spare mid)) where
@@ -36,11 +40,13 @@ module _ {D : Type 0} (g : Ghosts D) (number : ℕ) (edits : List Edit) (old mid
 
   -- it was made
   pub was_made : (result : Result Unit Failed) (len : ℕ) → is_err result ≡ false → len ≡ length (new_manifest number edits)
+      → ReadsManifest number (new_manifest number edits) (edits ∷ [])
       → Makes g (names.Manifest number) (new_manifest number edits) mid new result
       → MakesManifest g number edits old new (Ok (record { number = number; length = len }))
-  was_made (Ok u) len went e makes = record {
+  was_made (Ok u) len went e reads makes = record {
     answer = record {
       log_is = ap (λ (n : ℕ). record { number = number; length = n }) e;
+      reads = reads;
       file = makes.made ∙ ap (option_map (made (names.Manifest number) (new_manifest number edits))) looks.told;
       stands = makes.stands;
       calls = makes.calls ∙ ap (after_calls 3) looks.calls;
@@ -53,7 +59,7 @@ module _ {D : Type 0} (g : Ghosts D) (number : ℕ) (edits : List Edit) (old mid
     });
     spare = λ other apart. makes.spare other apart ∙ room other apart;
   }
-  was_made (Err fail) len went e makes = absurd (true_false went)
+  was_made (Err fail) len went e reads makes = absurd (true_false went)
 
   -- the disk failed
   pub was_broken : (result : Result Unit Failed) → is_err result ≡ true

@@ -12,7 +12,8 @@ edits_bytes-append [] fs = refl
 edits_bytes-append (e ∷ es) fs =
     ap (λ (l : List ℕ). edit_bytes e ++ l) (edits_bytes-append es fs) ∙ sym (append_assoc (edit_bytes e) (edits_bytes es) (edits_bytes fs))
 
-all-push : (es : List Edit) (e : Edit) → AllByRecursion IsEdit es → IsEdit e → AllByRecursion IsEdit (es ++ e ∷ [])
+all-push : (es : List Edit) (e : Edit) → AllByRecursion IsEdit es → IsEdit e
+    → AllByRecursion IsEdit (es ++ e ∷ [])
 all-push [] e all one = (one, tt)
 all-push (d ∷ es) e all one = (all.0, all-push es e all.1 one)
 
@@ -23,7 +24,8 @@ pub record SoFar (bytes : List ℕ) (count : ℕ) (taken : List Edit) (rest : Li
   pub spelled : bytes ≡ edits_bytes taken ++ rest
 
 pub take_one : (bytes : List ℕ) (count : ℕ) (taken : List Edit) (rest : List ℕ) (edit : Edit) (after : List ℕ)
-    → SoFar bytes count taken rest → IsEdit edit → rest ≡ edit_bytes edit ++ after → SoFar bytes (count + 1) (taken ++ edit ∷ []) after
+    → SoFar bytes count taken rest → IsEdit edit → rest ≡ edit_bytes edit ++ after
+    → SoFar bytes (count + 1) (taken ++ edit ∷ []) after
 take_one bytes count taken rest edit after so_far fits e = record {
   counted = length-append taken (edit ∷ []) ∙ ap (λ (n : ℕ). n + 1) so_far.counted;
   lawful = all-push taken edit so_far.lawful fits;
@@ -40,7 +42,8 @@ record Behind (taken all : List Edit) (rest : List ℕ) : Type 0 where
   lawful : AllByRecursion IsEdit later
   spelled : rest ≡ edits_bytes later
 
-behind : (taken all : List Edit) (rest : List ℕ) → AllByRecursion IsEdit taken → AllByRecursion IsEdit all
+behind : (taken all : List Edit) (rest : List ℕ) → AllByRecursion IsEdit taken
+    → AllByRecursion IsEdit all
     → length taken ≤ length all → edits_bytes taken ++ rest ≡ edits_bytes all → Behind taken all rest
 behind [] all rest p q le e = record { later = all; split = refl; lawful = q; spelled = e }
 behind (d ∷ taken) [] rest p q le e = absurd (omega arith)
@@ -67,19 +70,22 @@ none_later (d ∷ later) rest some e none = none d (edits_bytes later) e
 
 -- an edit is missing
 pub no_run_cut : (bytes : List ℕ) (count total : ℕ) (taken : List Edit) (rest : List ℕ)
-    → SoFar bytes count taken rest → count < total → ((edit : Edit) (after : List ℕ) → rest ≡ edit_bytes edit ++ after → ⊥)
+    → SoFar bytes count taken rest → count < total
+    → ((edit : Edit) (after : List ℕ) → rest ≡ edit_bytes edit ++ after → ⊥)
     → (all : List Edit) → IsRun bytes total all → ⊥
 no_run_cut bytes count total taken rest so_far lt none all run =
     let b = behind_so_far bytes count total taken all rest so_far (omega arith) run in
     none_later b.later rest (omega (arith, so_far.counted, run.counted, ap length b.split, length-append taken b.later)) b.spelled none
 
-none_left : (later : List Edit) (rest : List ℕ) → length later ≡ 0 → rest ≡ edits_bytes later → length rest ≡ 0
+none_left : (later : List Edit) (rest : List ℕ) → length later ≡ 0 → rest ≡ edits_bytes later
+    → length rest ≡ 0
 none_left [] rest none e = ap length e
 none_left (d ∷ later) rest none e = absurd (omega arith)
 
 -- bytes are left over
 pub no_run_over : (bytes : List ℕ) (count total : ℕ) (taken : List Edit) (rest : List ℕ)
-    → SoFar bytes count taken rest → count ≡ total → 0 < length rest → (all : List Edit) → IsRun bytes total all → ⊥
+    → SoFar bytes count taken rest → count ≡ total → 0 < length rest → (all : List Edit)
+    → IsRun bytes total all → ⊥
 no_run_over bytes count total taken rest so_far eq some all run =
     let b = behind_so_far bytes count total taken all rest so_far (omega arith) run in
     omega (arith, none_left b.later rest (omega (arith, so_far.counted, run.counted, ap length b.split, length-append taken b.later)) b.spelled)

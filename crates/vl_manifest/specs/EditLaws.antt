@@ -19,15 +19,18 @@ rest_bytes a b x y e = cc
 
 -- two numbers at the front of the same bytes
 two_numbers : (m n a b c d : ℕ) (x y : List ℕ) → a < 256 ^ m → c < 256 ^ m → b < 256 ^ n → d < 256 ^ n
-    → (big_bytes m a ++ big_bytes n b) ++ x ≡ (big_bytes m c ++ big_bytes n d) ++ y → (a ≡ c) × (b ≡ d) × (x ≡ y)
+    → (big_bytes m a ++ big_bytes n b) ++ x ≡ (big_bytes m c ++ big_bytes n d) ++ y
+    → (a ≡ c) × (b ≡ d) × (x ≡ y)
 two_numbers m n a b c d x y a_fits c_fits b_fits d_fits e =
-    let both = sym (append_assoc (big_bytes m a) (big_bytes n b) x) ∙ e ∙ append_assoc (big_bytes m c) (big_bytes n d) y in
+    let both =
+    sym (append_assoc (big_bytes m a) (big_bytes n b) x) ∙ e ∙ append_assoc (big_bytes m c) (big_bytes n d) y in
     let one = one_number m a c (big_bytes n b ++ x) (big_bytes n d ++ y) a_fits c_fits both in
     let two = one_number n b d x y b_fits d_fits one.1 in
     (one.0, two.0, two.1)
 
 -- At the front of the same bytes one edit is spelled at most, and one rest stands behind it.
-pub one_edit : (e f : Edit) (x y : List ℕ) → IsEdit e → IsEdit f → edit_bytes e ++ x ≡ edit_bytes f ++ y → (e ≡ f) × (x ≡ y)
+pub one_edit : (e f : Edit) (x y : List ℕ) → IsEdit e → IsEdit f
+    → edit_bytes e ++ x ≡ edit_bytes f ++ y → (e ≡ f) × (x ≡ y)
 one_edit (Add l p t) (Add m q u) x y i j e =
     let rest = rest_bytes 1 1 _ _ e in
     let numbers = two_numbers 4 4 p t q u x y i.1 j.1 i.2 j.2 (rest_bytes l m _ _ rest) in

@@ -1,4 +1,5 @@
 pub mod Current
+pub mod CurrentLaws
 pub mod EditLaws
 pub mod Edits
 pub mod Levels

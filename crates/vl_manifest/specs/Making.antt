@@ -13,15 +13,18 @@ use Rattle.vl_manifest.specs.declared.edit.Edit.{Edit}
 use Rattle.vl_manifest.specs.declared.fails.IoFail.{IoFail}
 use Rattle.vl_manifest.specs.declared.fails.IoFail.TheVariants.{Disk, NoMemory}
 use Rattle.vl_manifest.specs.declared.manifest_log.ManifestLog.{ManifestLog}
-use Rattle.vl_manifest.specs.Manifest.{manifest_bytes}
+use Rattle.vl_manifest.specs.Manifest.{ReadsManifest, manifest_bytes}
 
 -- the bytes of the manifest with this number whose first frame says these edits, and which has no other
 abbrev pub new_manifest : ℕ → List Edit → List ℕ
 new_manifest number edits = manifest_bytes number (edits ∷ [])
 
 -- it was made and is durable
-pub record HasMade {D : Type 0} (g : Ghosts D) (number : ℕ) (edits : List Edit) (old new : D) (log : ManifestLog) : Type 0 where
+pub record HasMade {D : Type 0} (g : Ghosts D) (number : ℕ) (edits : List Edit) (old new : D)
+    (log : ManifestLog) : Type 0 where
   pub log_is : log ≡ record { number = number; length = length (new_manifest number edits) }
+  -- it reads as its one frame
+  pub reads : ReadsManifest number (new_manifest number edits) (edits ∷ [])
   pub file : Turns (made (names.Manifest number) (new_manifest number edits)) (g.told old) (g.told new)
   pub stands : ForSome (g.told new) (Stands (names.Manifest number))
   pub calls : g.calls new ≡ after_calls 3 (g.calls old)
@@ -32,13 +35,15 @@ pub record HasChangedNothing {D : Type 0} (g : Ghosts D) (old new : D) : Type 0 
   pub calls : g.calls new ≡ g.calls old
 
 -- the disk failed at the manifest's file, of which a part may stand
-pub record HasMadePart {D : Type 0} (g : Ghosts D) (number : ℕ) (edits : List Edit) (old new : D) (name : Name) : Type 0 where
+pub record HasMadePart {D : Type 0} (g : Ghosts D) (number : ℕ) (edits : List Edit) (old new : D)
+    (name : Name) : Type 0 where
   pub name_is : name ≡ names.Manifest number
   pub part : TellsPart (names.Manifest number) (new_manifest number edits) (g.told old) (g.told new)
   pub stops : (n : ℕ) × (1 ≤ n) × (n ≤ 3) × (g.calls new ≡ after_calls n (g.calls old))
 
 -- what each answer says
-abbrev pub MakeAnswers : {D : Type 0} → Ghosts D → ℕ → List Edit → D → D → Result ManifestLog IoFail → Type 0
+abbrev pub MakeAnswers :
+    {D : Type 0} → Ghosts D → ℕ → List Edit → D → D → Result ManifestLog IoFail → Type 0
 MakeAnswers g number edits old new (Ok log) = HasMade g number edits old new log
 MakeAnswers g number edits old new (Err NoMemory) = HasChangedNothing g old new
 MakeAnswers g number edits old new (Err (Disk name)) = HasMadePart g number edits old new name

@@ -1,26 +1,25 @@
 -- What the definition of a manifest says: its bytes say one thing, and a manifest that is made says its state.
-use Rattle.std.specs.Prelude.{◌≡◌, ◌⊎◌, ◌+◌, ◌<◌, ◌≤◌, ◌^◌, ℕ, List, [], ◌∷◌, ◌++◌, drop, length, Option, None, Some, Result, Ok, Err, refl}
+use Rattle.std.specs.Prelude.{◌≡◌, ◌⊎◌, ◌+◌, ◌<◌, ◌^◌, ℕ, true, false, bytes_eq, List, [], ◌∷◌, ◌++◌, drop, length, take, Option, None, Some, Result, Ok, Err, refl}
 use Rattle.std.specs.List.{AllByRecursion}
-use Rattle.std.proofs.Common.{sym, ap, subst, ◌∙◌, append_assoc, ⊎_elim, arith}
-use Rattle.std.proofs.lemmas.List.{append-nil, drop_at}
+use Rattle.std.proofs.Common.{sym, ap, subst, ◌∙◌, inl, inr, ⊎_elim, arith}
+use Rattle.std.proofs.lemmas.Bool.{cases_Bool}
+use Rattle.std.proofs.lemmas.Bool.Decides.{not_from_Decides}
+use Rattle.std.proofs.lemmas.Slice.Eq.{bytes_eq-Decides}
+use Rattle.std.proofs.lemmas.List.{drop_at, take_at, take-append-drop}
 use Rattle.vl_frame.specs.Header.{header_bytes}
 use Rattle.vl_frame.specs.HeaderLaws.{header_has_format, length-header_bytes, one_format}
-use Rattle.vl_frame.specs.Laws.{length-frame_bytes}
 use Rattle.vl_frame.specs.Begins.{one_begins, placed, reads_past}
-use Rattle.vl_frame.specs.RunLaws.{one_reading, reads_whole}
-use Rattle.vl_frame.specs.Runs.{HasFrame, ReadsAs, item_frame, run_bytes}
+use Rattle.vl_frame.specs.RunLaws.{one_reading, reads_whole, there_or_not}
+use Rattle.vl_frame.specs.Runs.{HasFrame, ReadsAs, StandsAt, StandsNone, item_frame, run_bytes}
 use Rattle.vl_frame.specs.declared.kinds.FileKind.TheVariants as files
-use Rattle.vl_frame.specs.declared.kinds.FrameKind.TheVariants as kinds
 use Rattle.vl_manifest.specs.declared.edit.Edit.{Edit}
 use Rattle.vl_manifest.specs.declared.edit.Edit.TheVariants.{Head, Next}
 use Rattle.vl_manifest.specs.declared.format.TheConstants.{MANIFEST_FORMAT}
 use Rattle.vl_manifest.specs.declared.state.ManifestState.{ManifestState}
 use Rattle.vl_manifest.specs.EditLaws.{edits_grammar}
-use Rattle.vl_manifest.specs.Edits.{AreEdits, edits_body}
-use Rattle.vl_manifest.specs.Levels.{no_tables}
 use Rattle.vl_manifest.specs.Manifest.{HasHeader, IsDamaged, IsNewer, IsReadable, ManifestSays, ReadsManifest, SaysState, manifest_bytes, manifest_header, no_frame, no_header, not_applied, state_of}
 use Rattle.vl_manifest.specs.StateLaws.{IsInRange, state_in_range, whole_says}
-use Rattle.vl_manifest.specs.States.{adds_from, first_state, fresh_state, manifest_state, next_state, state_behind, state_then, whole_edits}
+use Rattle.vl_manifest.specs.States.{adds_from, first_state, next_state, state_behind, state_then, whole_edits}
 
 -- ---- one reading
 
@@ -69,7 +68,8 @@ state_more number first others more place e = by (first_state first) e
 
 -- where frames begin with some that can't be applied, they can't be
 begun_by : (number : ℕ) (first other : List Edit) (others all more : List (List Edit)) (place : ℕ)
-    → other ∷ all ≡ (first ∷ others) ++ more → state_of number first others ≡ Err place → state_of number other all ≡ Err place
+    → other ∷ all ≡ (first ∷ others) ++ more → state_of number first others ≡ Err place
+    → state_of number other all ≡ Err place
 begun_by number first other others all more place split e =
     state_cong number other first all (others ++ more) split ∙ state_more number first others more place e
 
@@ -84,7 +84,8 @@ says_or_damaged number bytes s place says (not_applied header first others begin
     ok_err s place (sym says.made ∙ begun_by number first says.first others says.others past.0 place past.1 e)
 
 -- bytes are damaged at one place first
-one_damage : (number : ℕ) (bytes : List ℕ) (p q : ℕ) → IsDamaged number bytes p → IsDamaged number bytes q → p ≡ q
+one_damage : (number : ℕ) (bytes : List ℕ) (p q : ℕ) → IsDamaged number bytes p
+    → IsDamaged number bytes q → p ≡ q
 one_damage number bytes p q (no_header none at) (no_header none' at') = at ∙ sym at'
 one_damage number bytes p q (no_header none at) (no_frame header none' at') = absurd (none header)
 one_damage number bytes p q (no_header none at) (not_applied header first others begins e) = absurd (none header)
@@ -115,7 +116,8 @@ one_saying number bytes (Err place) (Err other) p q =
     let same = one_damage number bytes place other p q in ap (λ (n : ℕ). Err n) same
 
 -- What a manifest says is in range.
-pub says_in_range : (number : ℕ) (bytes : List ℕ) (s : ManifestState) → SaysState number bytes s → IsInRange s
+pub says_in_range : (number : ℕ) (bytes : List ℕ) (s : ManifestState) → SaysState number bytes s
+    → IsInRange s
 says_in_range number bytes s says =
     state_in_range (record { place = 16; item = says.first })
     (placed edits_grammar number (16 + length (item_frame edits_grammar number 16 says.first)) says.others) s says.made
@@ -123,7 +125,8 @@ says_in_range number bytes s says =
 -- ---- readable and newer ones
 
 -- A manifest that says a state can be read.
-pub says_readable : (number : ℕ) (bytes : List ℕ) (s : ManifestState) → SaysState number bytes s → IsReadable number bytes
+pub says_readable : (number : ℕ) (bytes : List ℕ) (s : ManifestState) → SaysState number bytes s
+    → IsReadable number bytes
 says_readable number bytes s says = record {
   header = says.reads.header;
   first = says.first;
@@ -132,11 +135,13 @@ says_readable number bytes s says = record {
 }
 
 -- Bytes have one newer format at most.
-pub one_newer : (number : ℕ) (bytes : List ℕ) (format other : ℕ) → IsNewer number bytes format → IsNewer number bytes other → format ≡ other
+pub one_newer : (number : ℕ) (bytes : List ℕ) (format other : ℕ) → IsNewer number bytes format
+    → IsNewer number bytes other → format ≡ other
 one_newer number bytes format other p q = (one_format bytes files.Manifest files.Manifest format other p.says q.says).1
 
 -- A manifest in a newer format can't be read.
-pub newer_or_readable : (number : ℕ) (bytes : List ℕ) (format : ℕ) → IsNewer number bytes format → HasHeader number bytes → ⊥
+pub newer_or_readable : (number : ℕ) (bytes : List ℕ) (format : ℕ) → IsNewer number bytes format
+    → HasHeader number bytes → ⊥
 newer_or_readable number bytes format newer h =
     let says = header_has_format files.Manifest h.format number bytes h.header in
     let same = (one_format bytes files.Manifest files.Manifest format h.format newer.says says).1 in
@@ -146,7 +151,8 @@ newer_or_readable number bytes format newer h =
 
 -- A manifest's header, and behind it bytes that hold these frames.
 pub header_reads : (number : ℕ) (bytes tail : List ℕ) (frames : List (List Edit)) → number < 2 ^ 32
-    → bytes ≡ manifest_header number ++ tail → ReadsAs edits_grammar number 16 tail frames → ReadsManifest number bytes frames
+    → bytes ≡ manifest_header number ++ tail → ReadsAs edits_grammar number 16 tail frames
+    → ReadsManifest number bytes frames
 header_reads number bytes tail frames fits is reads =
     let behind : drop 16 bytes ≡ tail =
     ap (drop 16) is ∙ drop_at (manifest_header number) tail 16 (length-header_bytes files.Manifest MANIFEST_FORMAT number) in
@@ -162,14 +168,15 @@ header_reads number bytes tail frames fits is reads =
 
 -- A manifest that is made of frames reads as these.
 pub manifest_reads : (number : ℕ) (frames : List (List Edit)) → number < 2 ^ 32
-    → AllByRecursion (HasFrame edits_grammar) frames → ReadsManifest number (manifest_bytes number frames) frames
+    → AllByRecursion (HasFrame edits_grammar) frames
+    → ReadsManifest number (manifest_bytes number frames) frames
 manifest_reads number frames fits have =
     header_reads number (manifest_bytes number frames) (run_bytes edits_grammar number 16 frames) frames fits refl
     (reads_whole edits_grammar number 16 frames have)
 
 -- a whole state has a frame
-pub whole_has_frame : (number : ℕ) (s : ManifestState) → IsInRange s → HasFrame edits_grammar (whole_edits s)
-whole_has_frame number s r =
+pub whole_has_frame : (s : ManifestState) → IsInRange s → HasFrame edits_grammar (whole_edits s)
+whole_has_frame s r =
     subst (λ (es : List Edit). HasFrame edits_grammar es) (sym edits) (record {
       lawful = record {
         few = omega arith;
@@ -190,6 +197,64 @@ pub whole_manifest : (number : ℕ) (s : ManifestState) → number < 2 ^ 32 → 
 whole_manifest number s fits r = record {
   first = whole_edits s;
   others = [];
-  reads = manifest_reads number (whole_edits s ∷ []) fits (whole_has_frame number s r, tt);
+  reads = manifest_reads number (whole_edits s ∷ []) fits (whole_has_frame s r, tt);
   made = ap (state_then 16 (λ (t : ManifestState). state_behind t [])) (whole_says s r);
 }
+
+-- ---- a manifest that was being made
+
+-- A header that is read is spelled as it is written: there is one format.
+pub header_front : (number : ℕ) (bytes : List ℕ) → HasHeader number bytes
+    → take 16 bytes ≡ manifest_header number
+header_front number bytes h =
+    let format : h.format ≡ MANIFEST_FORMAT = omega (arith, h.first, h.readable) in
+    ap (take 16) h.header.spelled ∙ take_at (header_bytes files.Manifest h.format number) h.header.rest 16 (length-header_bytes files.Manifest h.format number)
+    ∙ ap (λ (n : ℕ). header_bytes files.Manifest n number) format
+
+pub front_header : (number : ℕ) (bytes : List ℕ) → number < 2 ^ 32
+    → take 16 bytes ≡ manifest_header number → HasHeader number bytes
+front_header number bytes fits front = record {
+  format = MANIFEST_FORMAT;
+  first = omega arith;
+  readable = omega arith;
+  header = record {
+    format_fits = omega arith;
+    number_fits = fits;
+    rest = drop 16 bytes;
+    spelled = sym (take-append-drop 16 bytes) ∙ ap (λ (b : List ℕ). b ++ drop 16 bytes) front;
+  };
+}
+
+-- the header is there or not
+pub header_or_not : (number : ℕ) (bytes : List ℕ) → number < 2 ^ 32
+    → HasHeader number bytes ⊎ (HasHeader number bytes → ⊥)
+header_or_not number bytes fits =
+    let test = bytes_eq (take 16 bytes) (manifest_header number) in
+    let decides = bytes_eq-Decides (take 16 bytes) (manifest_header number) in
+    ⊎_elim (λ (yes : test ≡ true). inl (front_header number bytes fits (decides.0 yes)))
+    (λ (no : test ≡ false). inr (λ h. not_from_Decides test decides no (header_front number bytes h)))
+    (cases_Bool test)
+
+-- Bytes of a manifest that was being made of a whole state: each frame at 16 is a front of that state's,
+-- and behind it stands none. Then it can't be read, or says the state.
+pub made_or_not : (number : ℕ) (s : ManifestState) (bytes : List ℕ) → number < 2 ^ 32 → IsInRange s
+    → ((edits : List Edit) (rest : List ℕ) → StandsAt edits_grammar number 16 (drop 16 bytes) edits rest
+    → (take (length (item_frame edits_grammar number 16 edits)) (item_frame edits_grammar number 16 (whole_edits s)) ≡ item_frame edits_grammar number 16 edits)
+    × StandsNone edits_grammar number (16 + length (item_frame edits_grammar number 16 edits)) rest)
+    → (IsReadable number bytes → ⊥) ⊎ SaysState number bytes s
+made_or_not number s bytes fits r torn =
+    ⊎_elim
+    (λ (header : HasHeader number bytes). ⊎_elim
+    (λ (none : StandsNone edits_grammar number 16 (drop 16 bytes)). inl (λ readable. none readable.first readable.rest readable.stands))
+    (λ (one : ReadsAs edits_grammar number 16 (drop 16 bytes) (whole_edits s ∷ [])). inr (says header one))
+    (there_or_not edits_grammar number 16 (whole_edits s) (whole_has_frame s r) (drop 16 bytes) torn))
+    (λ (none : HasHeader number bytes → ⊥). inl (λ readable. none readable.header))
+    (header_or_not number bytes fits)
+  where
+    says : HasHeader number bytes → ReadsAs edits_grammar number 16 (drop 16 bytes) (whole_edits s ∷ []) → SaysState number bytes s
+    says header one = record {
+      first = whole_edits s;
+      others = [];
+      reads = record { header = header; reads = one };
+      made = ap (state_then 16 (λ (t : ManifestState). state_behind t [])) (whole_says s r);
+    }

@@ -1,5 +1,5 @@
 -- What reading meets on its way.
-use Rattle.std.specs.Prelude.{◌≡◌, ◌⊎◌, ℕ, List, length, Result, Ok, Err}
+use Rattle.std.specs.Prelude.{◌≡◌, ℕ, List, length, Result, Ok, Err}
 use Rattle.std.specs.List.{AllByRecursion}
 use Rattle.vl_frame.specs.Begins.{BeginsAs, placed}
 use Rattle.vl_frame.specs.Runs.{ReadsAs}

@@ -1,5 +1,5 @@
 -- What edits can make: states whose numbers are in range, each of which is said by one frame.
-use Rattle.std.specs.Prelude.{◌≡◌, ◌+◌, ◌≤◌, ℕ, max, Bool, true, false, ◌&&◌, nat_le, List, [], ◌∷◌, ◌++◌, Option, None, Some, Result, Ok, Err, IfSome, refl}
+use Rattle.std.specs.Prelude.{◌≡◌, ◌+◌, ◌≤◌, ℕ, Bool, true, false, nat_le, List, [], ◌∷◌, ◌++◌, Option, None, Some, Result, Ok, Err, IfSome, refl}
 use Rattle.std.proofs.Common.{sym, ap, subst, ◌∙◌, arith}
 use Rattle.std.proofs.lemmas.Bool.{leb-true, le-leb, and_from, and_parts}
 use Rattle.vl_model.specs.Limits.{max_commit_number, max_file_number}
@@ -9,7 +9,7 @@ use Rattle.vl_manifest.specs.declared.edit.Edit.{Edit}
 use Rattle.vl_manifest.specs.declared.edit.Edit.TheVariants.{Add, Drop, Head, Next}
 use Rattle.vl_manifest.specs.declared.state.ManifestState.{ManifestState}
 use Rattle.vl_manifest.specs.Levels.{no_tables}
-use Rattle.vl_manifest.specs.States.{all_applied, applied, adds_from, are_next, as_draft, finish, finished, first_draft, first_state, given_if, is_head, is_log_number, is_next_number, manifest_state, next_state, opened_state, state_behind, state_then, then_applied, whole_edits, with_both}
+use Rattle.vl_manifest.specs.States.{all_applied, applied, adds_from, are_next, as_draft, finish, first_draft, first_state, given_if, is_head, is_log_number, is_next_number, manifest_state, next_state, opened_state, state_behind, state_then, then_applied, whole_edits, with_both}
 
 -- two states that are the same but for the numbers that may still be given
 pub record SameState (a b : ManifestState) : Type 0 where
@@ -43,7 +43,8 @@ pub record IsInRange (s : ManifestState) : Type 0 where
   pub table_last : s.next_table ≤ max_file_number + 1
 
 -- next numbers above those that stand are in range
-pub opened_in_range : (log table : ℕ) (s : ManifestState) → log ≤ max_file_number → table ≤ max_file_number
+pub opened_in_range : (log table : ℕ) (s : ManifestState) → log ≤ max_file_number
+    → table ≤ max_file_number
     → IsInRange s → IsInRange (opened_state log table s)
 opened_in_range log table s log_fits table_fits r = record {
   levels = r.levels;
@@ -58,7 +59,8 @@ opened_in_range log table s log_fits table_fits r = record {
 
 -- ---- the tests that edits are put to
 
-head_passes : (segment number : ℕ) → 1 ≤ segment → segment ≤ max_file_number → number ≤ max_commit_number
+head_passes : (segment number : ℕ) → 1 ≤ segment → segment ≤ max_file_number
+    → number ≤ max_commit_number
     → is_head segment number ≡ true
 head_passes segment number first last fits =
     and_from (is_log_number segment) (nat_le number max_commit_number)
@@ -195,7 +197,8 @@ both_in levels (Some p) (Some q) s l h n is =
       table_last = table.1;
     })
 
-finish_in : (o : Option Draft) (s : ManifestState) → ((d : Draft) → o ≡ Some d → DraftInRange d) → finish o ≡ Some s → IsInRange s
+finish_in : (o : Option Draft) (s : ManifestState) → ((d : Draft) → o ≡ Some d → DraftInRange d)
+    → finish o ≡ Some s → IsInRange s
 finish_in None s inside is = absurd (none_some s is)
 finish_in (Some d) s inside is =
     let i = inside d refl in both_in d.levels d.head d.next s i.levels i.head i.next is
@@ -205,7 +208,8 @@ stepped : (place : ℕ) (rest : ManifestState → Result ManifestState ℕ) (o :
 stepped place rest None s is = absurd (err_ok place s is)
 stepped place rest (Some t) s is = (t, refl, is)
 
-behind_in : (fs : List (Placed (List Edit))) (s t : ManifestState) → IsInRange s → state_behind s fs ≡ Ok t → IsInRange t
+behind_in : (fs : List (Placed (List Edit))) (s t : ManifestState) → IsInRange s
+    → state_behind s fs ≡ Ok t → IsInRange t
 behind_in [] s t inside is = subst IsInRange (ok_same s t is) inside
 behind_in (f ∷ fs) s t inside is =
     let r = stepped f.place (λ u. state_behind u fs) (next_state f.item s) t is in

@@ -79,7 +79,8 @@ next_state es s = finish (all_applied es (as_draft s))
 
 -- ---- all frames
 
-abbrev pub state_then : ℕ → (ManifestState → Result ManifestState ℕ) → Option ManifestState → Result ManifestState ℕ
+abbrev pub state_then : ℕ → (ManifestState → Result ManifestState ℕ) → Option ManifestState
+    → Result ManifestState ℕ
 state_then place rest None = Err place
 state_then place rest (Some s) = rest s
 

@@ -25,6 +25,9 @@ pub enum Edit {
 
 // The bytes that the kinds of edits begin with.
 pub(crate) const ADD: u8 = 1;
+
 pub(crate) const DROP: u8 = 2;
+
 pub(crate) const HEAD: u8 = 3;
+
 pub(crate) const NEXT: u8 = 4;

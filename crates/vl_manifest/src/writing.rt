@@ -24,6 +24,7 @@ pub fn write_edits(
 ) -> Result<(), AllocError>
     ensures written { OnOk result (out.new.items ≡ out.old.items ++ item_frame edits_grammar number at edits.now) }
     ensures short { OnOk result (frame_length (length (spelling.edits_body edits.now)) < 2 ^ 32) }
+    ensures lawful { OnOk result (spelling.AreEdits edits.now) }
     ensures err { OnErr result (out.new.items ≡ out.old.items) }
 {
     let body = edits_body(alloc, edits)?;
@@ -32,7 +33,8 @@ pub fn write_edits(
 
 // The body of a frame: the count of the edits in four bytes, and the edits.
 fn edits_body(alloc: Global, edits: &[Edit]) -> Result<Vec<u8>, AllocError>
-    ensures { IfOk result (λ body. body.items ≡ spelling.edits_body edits.now) }
+    ensures written { IfOk result (λ body. body.items ≡ spelling.edits_body edits.now) }
+    ensures lawful { OnOk result (spelling.AreEdits edits.now) }
 {
     if edits.len() > u32::MAX as usize {
         return Err(AllocError);
@@ -55,7 +57,8 @@ fn count_bytes(count: u32) -> [u8; 4]
 
 // Appends an edit.
 fn write_edit(out: &mut Vec<u8>, edit: &Edit) -> Result<(), AllocError>
-    ensures { OnOk result (out.new.items ≡ out.old.items ++ spelling.edit_bytes edit.now) }
+    ensures written { OnOk result (out.new.items ≡ out.old.items ++ spelling.edit_bytes edit.now) }
+    ensures fits { OnOk result (spelling.IsEdit edit.now) }
 {
     match *edit {
         Edit::Add {
@@ -70,7 +73,8 @@ fn write_edit(out: &mut Vec<u8>, edit: &Edit) -> Result<(), AllocError>
 }
 
 fn add_bytes(level: u8, position: u32, table: u32) -> [u8; 10]
-    ensures { result ≡ spelling.edit_bytes (kinds.Add level position table) }
+    ensures bytes { result ≡ spelling.edit_bytes (kinds.Add level position table) }
+    ensures fits { spelling.IsEdit (kinds.Add level position table) }
 {
     let mut bytes = [0; 10];
     bytes[0] = ADD;
@@ -81,7 +85,8 @@ fn add_bytes(level: u8, position: u32, table: u32) -> [u8; 10]
 }
 
 fn drop_bytes(table: u32) -> [u8; 5]
-    ensures { result ≡ spelling.edit_bytes (kinds.Drop table) }
+    ensures bytes { result ≡ spelling.edit_bytes (kinds.Drop table) }
+    ensures fits { spelling.IsEdit (kinds.Drop table) }
 {
     let mut bytes = [0; 5];
     bytes[0] = DROP;
@@ -90,7 +95,8 @@ fn drop_bytes(table: u32) -> [u8; 5]
 }
 
 fn head_bytes(segment: u32, number: u64) -> [u8; 13]
-    ensures { result ≡ spelling.edit_bytes (kinds.Head segment number) }
+    ensures bytes { result ≡ spelling.edit_bytes (kinds.Head segment number) }
+    ensures fits { spelling.IsEdit (kinds.Head segment number) }
 {
     let mut bytes = [0; 13];
     bytes[0] = HEAD;
@@ -100,7 +106,8 @@ fn head_bytes(segment: u32, number: u64) -> [u8; 13]
 }
 
 fn next_bytes(log: u32, table: u32) -> [u8; 9]
-    ensures { result ≡ spelling.edit_bytes (kinds.Next log table) }
+    ensures bytes { result ≡ spelling.edit_bytes (kinds.Next log table) }
+    ensures fits { spelling.IsEdit (kinds.Next log table) }
 {
     let mut bytes = [0; 9];
     bytes[0] = NEXT;

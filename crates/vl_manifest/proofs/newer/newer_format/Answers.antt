@@ -8,4 +8,4 @@ returns-in_err-format-clause-none c =
 pub returns-in_err-read_frame-clause-none : goal.returns-in_err-read_frame-clause-none
 returns-in_err-read_frame-clause-none c =
     rw c.from_residual-in_err-read_frame.ensures (λ format newer.
-        let frame = rw (← c.behind_header-frames.ensures) at newer.frame in c.in_err-read_frame.ensures.none Edits newer.body frame)
+    let frame = rw (← c.behind_header-frames.ensures) at newer.frame in c.in_err-read_frame.ensures.none Edits newer.body frame)

@@ -1,6 +1,6 @@
 use Rattle.std.proofs.Common.{arith}
 use Rattle.std.proofs.lemmas.Bool.Decides.{nat_tests}
-use Rattle.vl_manifest.proofs.Taking.{no_run_cut, no_run_over, run_done, take_one}
+use Rattle.vl_manifest.proofs.Taking.{no_run_cut, no_run_over, take_one}
 use Rattle.vl_manifest.proofs.reading.take_edits.Goals as goal
 
 pub returns-in-None-clause-none : goal.returns-in-None-clause-none

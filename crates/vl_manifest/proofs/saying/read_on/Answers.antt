@@ -1,8 +1,6 @@
 use Rattle.std.proofs.Common.{◌≡◌, List, ap, sym, ◌∙◌}
 use Rattle.std.specs.Prelude.{None, Some}
-use Rattle.vl_frame.specs.Runs.{StandsAt}
 use Rattle.vl_manifest.specs.declared.edit.Edit.{Edit}
-use Rattle.vl_manifest.specs.EditLaws.{edits_grammar}
 use Rattle.vl_manifest.specs.States.{next_state}
 use Rattle.vl_manifest.proofs.Said.{breaks, ends, further, one_more, place_of}
 use Rattle.vl_manifest.proofs.saying.read_on.Goals as goal
@@ -42,6 +40,6 @@ frames-preserved c =
     let on = further c.args.number frames left c.in-Some.edits.items c.in-Some.after.now c.frames.invariant.0 stands in (
       on.within,
       one_more c.args.number (place_of frames rest) rest c.args.state (place_of frames left) left c.frames.latest
-      c.in-Some.edits.items c.in-Some.after.now c.in-Some-next.next (place_of frames c.in-Some.after.now)
-      c.frames.invariant.1 stands some on.place,
+          c.in-Some.edits.items c.in-Some.after.now c.in-Some-next.next (place_of frames c.in-Some.after.now)
+          c.frames.invariant.1 stands some on.place,
     )

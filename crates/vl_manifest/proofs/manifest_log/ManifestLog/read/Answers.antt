@@ -1,6 +1,5 @@
 use Rattle.std.proofs.Common.{◌≡◌, ℕ, List, ap, subst, sym, ◌∙◌}
 use Rattle.std.specs.Prelude.{None, Some}
-use Rattle.vl_manifest.specs.declared.edit.Edit.{Edit}
 use Rattle.vl_manifest.specs.Reading.{GoesOnSo}
 use Rattle.vl_manifest.specs.States.{first_state}
 use Rattle.vl_manifest.proofs.Said.{first_breaks, place_of, says_all}
