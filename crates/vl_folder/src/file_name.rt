@@ -1,5 +1,6 @@
 // The names of a store's files in its folder: ten digits and an ending, as `0000000001.vlog`.
-ghost use Rattle.std.specs.Prelude.{IfSome};
+ghost use Rattle.std.specs.Prelude.{◌≡◌, length, ◌++◌, ◌∷◌, IfOk, IfSome, string_bytes};
+ghost use Rattle.vl_folder.specs.FileName.{file_name, ten_digits};
 ghost use Rattle.vl_disk.specs.Name.{IsNumbered};
 
 use std::alloc::{AllocError, Global};
@@ -10,7 +11,9 @@ use vl_disk::Name;
 const DIGITS: usize = 10;
 
 /// The path of a file in its folder.
-pub fn path_of(alloc: Global, folder: &str, name: Name) -> Result<String, AllocError> {
+pub fn path_of(alloc: Global, folder: &str, name: Name) -> Result<String, AllocError>
+    ensures { IfOk result (λ path. string_bytes path ≡ folder.now ++ 47 ∷ file_name name) }
+{
     match name {
         Name::Log(number) => format!(in alloc; "{folder}/{number:010}.vlog"),
         Name::Table(number) => format!(in alloc; "{folder}/{number:010}.vtab"),
@@ -20,7 +23,8 @@ pub fn path_of(alloc: Global, folder: &str, name: Name) -> Result<String, AllocE
 
 /// The file that has this name in a folder, if a file of a store has it.
 pub fn named(text: &[u8]) -> Option<Name>
-    ensures { IfSome result IsNumbered }
+    ensures numbered { IfSome result IsNumbered }
+    ensures spelled { IfSome result (λ name. text.now ≡ file_name name) }
 {
     let (digits, ending) = text.split_at_checked(DIGITS)?;
     let number = number_in(digits)?;
@@ -32,11 +36,14 @@ pub fn named(text: &[u8]) -> Option<Name>
     }
 }
 
-/// The number that these digits spell, if a file's name may have it.
+/// The number that ten digits spell, if a file's name may have it.
 fn number_in(digits: &[u8]) -> Option<u32>
-    ensures { IfSome result (λ number. IsNumbered (Name.Log number)) }
+    requires { length digits.now ≡ 10 }
+    ensures numbered { IfSome result (λ number. IsNumbered (Name.Log number)) }
+    ensures spelled { IfSome result (λ number. digits.now ≡ ten_digits number) }
 {
-    if !digits.iter().all(|digit| digit.is_ascii_digit()) {
+    // `parse` would take a sign for the first of them.
+    if digits[0] == b'+' {
         return None;
     }
     let number = str::from_utf8(digits).ok()?.parse::<u32>().ok()?;

@@ -1,4 +1,4 @@
-ghost use Rattle.std.specs.Prelude.{◌≡◌, IsErr, IfOk, None, Some, true, false};
+ghost use Rattle.std.specs.Prelude.{◌≡◌, ◌↔◌, IsErr, IfOk, None, Some, true, false};
 ghost use Rattle.vl_disk.specs.Faults.{HasCause, one_more};
 
 use crate::folder::Folder;
@@ -33,6 +33,7 @@ impl<R: Files<File = File>> FolderDisk<R> {
 
     /// The answer of a call that changes nothing.
     fn answer<T: Drop>(&mut self, answer: io::Result<T>) -> Result<T, Failed>
+        ensures failed { IsErr result ↔ IsErr answer }
         ensures cause { HasCause self.old.faults self.new.faults (IsErr result) }
         ensures calls { self.new.calls ≡ self.old.calls }
     {
@@ -47,6 +48,7 @@ impl<R: Files<File = File>> FolderDisk<R> {
 
     /// The answer of a call that changes something.
     fn answer_change(&mut self, answer: io::Result<()>) -> Result<(), Failed>
+        ensures failed { IsErr result ↔ IsErr answer }
         ensures cause { HasCause self.old.faults self.new.faults (IsErr result) }
         ensures calls { self.new.calls ≡ one_more self.old.calls }
     {

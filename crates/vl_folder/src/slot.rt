@@ -5,6 +5,7 @@ use std::alloc::{AllocError, Global};
 use std::fs::{File, OpenOptions};
 use std::io;
 use std::io::ErrorKind;
+use std::os::fd::AsRawFd;
 use std::os::unix::fs::FileExt;
 use std::rt::Files;
 use std::sync::Arc;
@@ -20,7 +21,7 @@ pub struct Slot {
     end: Option<u64>,
     // what a failed sync leaves can't be relied on: the system may have dropped what it didn't write
     lost: bool,
-    // it was shared, and is appended to no more
+    // it was shared, and not changed since
     shared: bool,
 }
 
@@ -52,7 +53,9 @@ impl Slot {
         opened(&self.handle)
     }
 
+    /// Keeps the file open.
     fn keep(&mut self, file: File) -> io::Result<()> {
+        let file = away_from_streams(file)?;
         match Arc::get_mut(&mut self.handle) {
             Some(place) => {
                 *place = Some(file);
@@ -60,6 +63,12 @@ impl Slot {
             }
             None => Err(io::Error::from(ErrorKind::AlreadyExists)),
         }
+    }
+
+    /// Notes where a file ends that was changed.
+    fn changed(&mut self, end: Option<u64>) {
+        self.end = end;
+        self.shared = false;
     }
 
     /// Makes the file, which must not stand.
@@ -100,10 +109,10 @@ impl Slot {
     pub fn append(&mut self, piece: &[u8]) -> io::Result<()> {
         let end = self.size()?;
         let written = self.file()?.write_all_at(piece, end);
-        self.end = match written {
+        self.changed(match written {
             Ok(()) => end.checked_add(piece.len() as u64),
             Err(_) => None,
-        };
+        });
         written
     }
 
@@ -112,10 +121,10 @@ impl Slot {
             return Err(io::Error::from(ErrorKind::InvalidInput));
         }
         let cut = self.file()?.set_len(len);
-        self.end = match cut {
+        self.changed(match cut {
             Ok(()) => Some(len),
             Err(_) => None,
-        };
+        });
         cut
     }
 
@@ -151,4 +160,16 @@ impl Slot {
             *place = None;
         }
     }
+}
+
+/// The greatest descriptor of a standard stream.
+const LAST_STREAM: i32 = 2;
+
+/// The file under a descriptor of its own. Where a standard stream was closed, a file that is opened takes the stream's
+/// place, and what is printed would land in it.
+fn away_from_streams(file: File) -> io::Result<File> {
+    if file.as_raw_fd() > LAST_STREAM {
+        return Ok(file);
+    }
+    file.try_clone()
 }

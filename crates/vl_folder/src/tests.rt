@@ -62,9 +62,10 @@ fn a_file_is_written_synced_held_read_and_removed(rt: HostRuntime) -> Result<(),
     disk.remove(LOG)?;
     assert_eq!(rt; disk.list(alloc)?.len(), 0);
     let mut reader = disk.reader(alloc)?;
-    reader.read(&held.clone()?, 3, &mut two)?;
+    let copy = held.clone()?;
+    assert_eq!(rt; copy.len(), 5);
+    reader.read(&copy, 3, &mut two)?;
     assert_eq!(rt; &two, b"df");
-    assert_eq!(rt; held.len(), 5);
     may_be_sent(&held);
     may_be_shared(&held);
     may_be_sent(&reader);
