@@ -120,7 +120,9 @@ impl<R: Files<File = File>> Folder<R> {
         ensures { IfOk result (λ names. All IsNumbered names.items) }
     {
         let mut names = Vec::new(alloc);
-        let mut folder = self.rt.open_dir(self.path.as_str())?;
+        // The slash makes the system follow a link to a folder.
+        let inside = format!(in alloc; "{}/", self.path.as_str())?;
+        let mut folder = self.rt.open_dir(inside.as_str())?;
         let mut buffer = [0u8; NAMES];
         for _ in 0..u64::MAX {
             let count = folder.read(&mut buffer)?;

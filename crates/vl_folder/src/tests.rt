@@ -82,8 +82,10 @@ fn another_disk_finds_what_one_left(rt: HostRuntime) -> Result<(), Fail> {
     first.ready(TABLE, 3)?;
     make_file(&mut first, TABLE, b"abc")?;
 
-    // As long as the first is there, the folder is its own.
-    let mut second = FolderDisk::new(&rt, alloc, path.clone()?);
+    // As long as the first is there, the folder is its own, under each of its names.
+    let link = format!(in alloc; "{path}-link")?;
+    symlink(&rt, &path, &link)?;
+    let mut second = FolderDisk::new(&rt, alloc, link.clone()?);
     assert_eq!(rt; second.list(alloc), Err(ListFail::Failed));
     drop(first);
     assert!(rt; has_only(&rt, &mut second, TABLE));
@@ -93,6 +95,7 @@ fn another_disk_finds_what_one_left(rt: HostRuntime) -> Result<(), Fail> {
     second.read(TABLE, 2, &mut two)?;
     assert_eq!(rt; &two, b"cd");
     assert_eq!(rt; second.read(TABLE, 3, &mut two), Err(Failed));
+    fs::remove_file(&rt, link)?;
     fs::remove_dir_all(&rt, path)?;
     Ok(())
 }
