@@ -1,0 +1,17 @@
+//! A folder of the file system as a disk: one file of the folder for each file of the store.
+#![tactic(auto)]
+
+mod file_name;
+mod folder;
+mod folder_disk;
+mod folder_reader;
+mod held;
+mod making;
+mod slot;
+
+pub use folder_disk::FolderDisk;
+pub use folder_reader::FolderReader;
+pub use held::FolderHeld;
+
+#[cfg(test)]
+mod tests;

@@ -1,0 +1,41 @@
+// A folder that is made where it is missing, durably.
+use std::fs::File;
+use std::io;
+use std::rt::Files;
+
+/// Makes a folder where it is missing, with its parents.
+pub fn make_folder<R: Files<File = File>>(rt: &R, path: &str) -> io::Result<()> {
+    if is_folder(rt, path) {
+        return Ok(());
+    }
+    for end in 1..path.len() {
+        if let Some((parent, rest)) = path.split_at_checked(end)
+            && rest.starts_with('/')
+        {
+            make_one(rt, parent)?;
+        }
+    }
+    make_one(rt, path)
+}
+
+fn is_folder(rt: &impl Files, path: &str) -> bool {
+    rt.metadata(path).is_ok_and(|found| found.is_dir())
+}
+
+/// Makes a folder where it is missing, and its name durable in the folder that it lies in.
+fn make_one<R: Files<File = File>>(rt: &R, path: &str) -> io::Result<()> {
+    if is_folder(rt, path) {
+        return Ok(());
+    }
+    rt.create_dir(path)?;
+    File::open(rt, parent_of(path))?.sync_all()
+}
+
+/// The folder that this one lies in.
+fn parent_of(path: &str) -> &str {
+    match path.rsplit_once('/') {
+        Some(("", _)) => "/",
+        Some((parent, _)) => parent,
+        None => ".",
+    }
+}
