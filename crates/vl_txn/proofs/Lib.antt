@@ -1,0 +1,4 @@
+pub mod Allowing
+pub mod Noting
+pub mod Places
+pub mod WriteEntries

@@ -1,0 +1,4 @@
+pub mod Fails
+pub mod Reads
+pub mod Refusals
+pub mod Writes
