@@ -1,5 +1,5 @@
 -- What a disk in memory keeps under each name.
-use Rattle.std.specs.Prelude.{◌≡◌, ℕ, ◌+◌, ◌≤◌, Bool, true, false, [], length, Option, None, Some, if◌then◌else◌, vec_capacity, Vec, IsTrue}
+use Rattle.std.specs.Prelude.{◌≡◌, ℕ, ◌+◌, ◌≤◌, Bool, true, false, [], length, Option, None, Some, if◌then◌else◌, vec_capacity, Vec}
 use Rattle.std.specs.Global.{Global}
 use Rattle.std.specs.Option.{ForSome, option_map}
 use Rattle.std.specs.BTreeMap as tree
