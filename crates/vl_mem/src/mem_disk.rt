@@ -89,7 +89,8 @@ impl MemDisk {
 
     /// The bytes of a file, if it stands.
     pub fn bytes(&self, name: Name) -> Option<&[u8]>
-        ensures { ForSome (told_by self.now) (λ disk. option_copied result ≡ option_map (λ file. file.bytes) (get disk.standing name)) }
+        ensures { ForSome (told_by self.now)
+            (λ disk. option_copied result ≡ option_map (λ file. file.bytes) (get disk.standing name)) }
     {
         let entry = self.entries.get(&name)?;
         if entry.stands() {
@@ -158,7 +159,8 @@ impl Disk for MemDisk {
 
     fn size(&mut self, name: Name) -> Result<u64, Failed>
         requires { ForSome (told_by self.old) (Stands name) }
-        ensures size { IfOk result (λ size. ForSome (told_by self.old) (λ disk. size ≡ length (file_at disk name).bytes)) }
+        ensures size { IfOk result (λ size. ForSome (told_by self.old)
+            (λ disk. size ≡ length (file_at disk name).bytes)) }
         ensures looks { Looks ⟦<MemDisk as Watched>⟧ self.old self.new (IsErr result) }
         ensures spare { SameSpare (room_of self.old) (room_of self.new) }
         ensures counts { CountsRead self.old self.new (IsErr result) }
