@@ -1,5 +1,5 @@
 -- A disk that was just started from what stood on it, and what it leaves.
-use Rattle.std.specs.Prelude.{◌≡◌, ◌≢◌, ℕ, true, false, List, [], Option, None, Some, IsTrue}
+use Rattle.std.specs.Prelude.{◌≡◌, ◌≢◌, ℕ, true, false, List, Option, None, Some}
 use Rattle.std.specs.Option.{option_map}
 use Rattle.std.specs.FinMap.{get, empty, insert, remove, get-empty, same_map}
 use Rattle.std.proofs.Common.{⊎_elim, refl, sym, ◌∙◌, ap, subst}

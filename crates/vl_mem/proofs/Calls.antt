@@ -1,5 +1,5 @@
 -- What the calls of a disk in memory do to what it tells.
-use Rattle.std.proofs.Common.{◌≡◌, ◌⊎◌, inl, inr, ⊎_elim, ℕ, ◌+◌, ◌-◌, ◌^◌, ◌≤◌, min, Bool, true, false, List, [], ◌∷◌, ◌++◌, length, take, Option, None, Some, Result, Ok, Err, refl, sym, ◌∙◌, ap, subst, arith, length-append, IsSome, IsTrue, unwrap_or}
+use Rattle.std.proofs.Common.{◌≡◌, ◌⊎◌, inl, inr, ⊎_elim, ℕ, ◌+◌, ◌-◌, ◌≤◌, Bool, true, false, List, [], ◌∷◌, ◌++◌, length, Option, None, Some, Ok, Err, refl, sym, ◌∙◌, ap, subst, arith, length-append, IsSome, IsTrue, unwrap_or}
 use Rattle.std.proofs.lemmas.List.{take_all, take-append-le}
 use Rattle.std.specs.Option.{option_map}
 use Rattle.std.specs.FinMap.{get}
@@ -10,7 +10,7 @@ use Rattle.vl_disk.specs.Calls.{Works, Creates, Appends, Syncs, Cuts, Removes}
 use Rattle.vl_disk.specs.Crash.{WhileCreating, WhileAppending, WhileSyncing, WhileCutting, WhileRemoving}
 use Rattle.vl_disk.specs.Disk.{Stands, IsInside, Turns}
 use Rattle.vl_disk.specs.FaultPlan.{Follows}
-use Rattle.vl_disk.specs.Faults.{HasCause, one_more}
+use Rattle.vl_disk.specs.Faults.{HasCause}
 use Rattle.vl_disk.specs.Lawful.{synced_again}
 use Rattle.vl_disk.specs.Moments.{Passes, While}
 use Rattle.vl_disk.specs.Spare.{SameSpare, UsesChange, UsesAppend}

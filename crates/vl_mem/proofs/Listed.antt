@@ -1,5 +1,5 @@
 -- The names that a disk in memory lists.
-use Rattle.std.proofs.Common.{◌≡◌, ◌≢◌, ◌⊎◌, inl, inr, ⊎_elim, ℕ, zero, suc, ◌+◌, Bool, true, false, cond, List, [], ◌∷◌, get_or, Option, None, Some, refl, sym, ◌∙◌, ap, subst, arith, IsSome, if◌then◌else◌, Contains, AllPairs, All}
+use Rattle.std.proofs.Common.{◌≡◌, ◌≢◌, ◌⊎◌, inl, inr, ⊎_elim, zero, suc, Bool, true, false, cond, List, [], ◌∷◌, get_or, Option, None, Some, refl, sym, ◌∙◌, ap, subst, arith, IsSome, if◌then◌else◌, Contains, AllPairs, All}
 use Rattle.std.proofs.lemmas.List.Elements.{All-contains_itself}
 use Rattle.std.specs.Option.{option_map}
 use Rattle.std.specs.BTreeMap as tree
@@ -8,13 +8,13 @@ use Rattle.std.specs.List.{AllByRecursion}
 use Rattle.std.specs.List.Sorted.{IsStrictlySortedBy}
 use Rattle.std.specs.Map.{keys_of, lookup}
 use Rattle.std.specs.declared.cmp.Ordering.{Ordering}
-use Rattle.std.specs.declared.cmp.Ordering.TheVariants.{Less, Equal}
+use Rattle.std.specs.declared.cmp.Ordering.TheVariants.{Less}
 use Rattle.std.specs.Ordering.{is_eq}
 use Rattle.vl_disk.specs.declared.name.Name.{Name}
 use Rattle.vl_disk.specs.Name.{IsNumbered, name_cmp}
 use Rattle.vl_disk.specs.NameMap.{same_or_other, tied_same, tied_other}
 use Rattle.vl_disk.specs.DiskState.{File, DiskState, IsLawful}
-use Rattle.vl_disk.specs.Disk.{Lists, Stands}
+use Rattle.vl_disk.specs.Disk.{Lists}
 use Rattle.vl_mem.specs.declared.entry.Entry.{Entry}
 use Rattle.vl_mem.specs.declared.entry.Presence.{Presence}
 use Rattle.vl_mem.specs.declared.entry.Presence.TheVariants.{Absent, Standing, Removed}

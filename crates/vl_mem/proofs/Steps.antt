@@ -1,5 +1,5 @@
 -- One entry is changed, and with it the file of its name.
-use Rattle.std.proofs.Common.{◌≡◌, ◌≢◌, ⊎_elim, ℕ, ◌+◌, ◌<◌, ◌≤◌, Bool, true, false, List, [], ◌∷◌, ◌++◌, length, sum_by, Option, None, Some, refl, sym, ◌∙◌, ap, subst, arith, length-append, All, IsSome, IsTrue, vec_capacity, Vec, Global, get_or, unwrap_or, if◌then◌else◌, ◌*◌, Result, Ok, Err, OnOk, OnErr}
+use Rattle.std.proofs.Common.{◌≡◌, ◌≢◌, ⊎_elim, ℕ, ◌+◌, ◌≤◌, Bool, true, false, List, [], ◌∷◌, ◌++◌, length, sum_by, Option, None, Some, refl, sym, ◌∙◌, ap, subst, arith, length-append, All, IsSome, vec_capacity, Vec, Global, get_or, unwrap_or, if◌then◌else◌, ◌*◌, Result, Ok, Err, OnOk, OnErr}
 use Rattle.std.specs.Option.{option_map}
 use Rattle.std.specs.Map.{lookup, values_of}
 use Rattle.std.specs.BTreeMap as tree
@@ -16,7 +16,7 @@ use Rattle.vl_disk.specs.DiskState.{File, DiskState, empty_disk, new_file, settl
 use Rattle.vl_disk.specs.MadeFile.{made}
 use Rattle.vl_disk.specs.Changes.{SameElsewhere, created_there, created_elsewhere, changed_there, changed_elsewhere, without_removed, without_elsewhere}
 use Rattle.vl_disk.specs.Crash.{last_file}
-use Rattle.vl_disk.specs.Spare.{Spare, SameSpare, SameSpareElsewhere, UsesChange, UsesAppend, UsesHold}
+use Rattle.vl_disk.specs.Spare.{Spare, SameSpare, SameSpareElsewhere, UsesAppend, UsesHold}
 use Rattle.vl_mem.specs.declared.entry.Entry.{Entry}
 use Rattle.vl_mem.specs.declared.entry.Presence.{Presence}
 use Rattle.vl_mem.specs.declared.entry.Presence.TheVariants.{Absent, Standing, Removed}
@@ -25,9 +25,6 @@ use Rattle.vl_mem.specs.declared.event.Event.TheVariants.{Found, Create, Remove}
 use Rattle.vl_mem.specs.Event.{IsSound, after_event, replayed-push, state_after}
 use Rattle.vl_mem.specs.Entry.{Entries, Fits, HasFiles, Matches, Becomes, KeepsFile, entry_of, file_of, if_standing, if_removed, plain, slots, spare_of, standing_in, removed_in, appends, removes, IsBlank}
 use Rattle.vl_mem.specs.Kept.{IsKept, slots_of}
-
-some_none : {X : Type 0} (x : X) → Some x ≡ None → ⊥
-some_none x e = cc
 
 none_some : {X : Type 0} (x : X) → None ≡ Some x → ⊥
 none_some x e = cc
@@ -181,9 +178,6 @@ module _ (name : Name) (entries next : Entries) (old new : Entry) (found : entry
   -- of a part of the room that is as it was
   same_part : {X : Type 0} (part : Spare → X) → part (spare_of (Some new)) ≡ part (spare_of (Some old)) → part (after name) ≡ part (before name)
   same_part part same = ap part spare_there ∙ same ∙ sym (ap (λ e. part (spare_of e)) found)
-
-  pub uses_change : new.buffer ≡ old.buffer → new.hold ≡ old.hold → UsesChange name before after
-  uses_change buffer hold = record { append = same_part (λ s. s.append) (ap (option_map vec_capacity) buffer); hold = same_part (λ s. s.hold) hold; elsewhere = spare_elsewhere }
 
   pub uses_append : new.change ≡ old.change → new.hold ≡ old.hold → UsesAppend name before after
   uses_append change hold = record { change = same_part (λ s. s.change) change; hold = same_part (λ s. s.hold) hold; elsewhere = spare_elsewhere }

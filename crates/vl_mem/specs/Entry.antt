@@ -1,5 +1,5 @@
 -- What a disk in memory keeps under each name.
-use Rattle.std.specs.Prelude.{◌≡◌, ℕ, ◌+◌, ◌≤◌, Bool, true, false, [], length, Option, None, Some, if◌then◌else◌, vec_capacity, Vec, IsTrue}
+use Rattle.std.specs.Prelude.{◌≡◌, ℕ, ◌+◌, ◌≤◌, Bool, true, false, [], length, Option, None, Some, if◌then◌else◌, vec_capacity, Vec}
 use Rattle.std.specs.Global.{Global}
 use Rattle.std.specs.Option.{ForSome, option_map}
 use Rattle.std.specs.BTreeMap as tree
@@ -19,7 +19,13 @@ plain file = record file { due = [] }
 
 -- so the file of an entry
 abbrev pub file_of : Entry → File
-file_of entry = record { bytes = entry.bytes.items; synced = entry.synced; wholly_synced = entry.wholly_synced; lasting = entry.lasting; due = [] }
+file_of entry = record {
+  bytes = entry.bytes.items;
+  synced = entry.synced;
+  wholly_synced = entry.wholly_synced;
+  lasting = entry.lasting;
+  due = [];
+}
 
 abbrev pub is_standing : Presence → Bool
 is_standing Absent = false
@@ -74,7 +80,8 @@ room_in (Some buffer) = vec_capacity buffer
 -- what is made of rooms is there
 pub record Fits (entry : Entry) : Type 0 where
   -- the room for the next piece is empty, and the file has as much behind its end
-  pub piece : ForSome entry.buffer (λ buffer. (buffer.items ≡ []) × (length entry.bytes.items + vec_capacity buffer ≤ vec_capacity entry.bytes))
+  pub piece : ForSome entry.buffer (λ buffer. (buffer.items ≡ [])
+      × (length entry.bytes.items + vec_capacity buffer ≤ vec_capacity entry.bytes))
   -- the room for a copy is empty, and has place for the file with that piece
   pub empty : entry.copy.items ≡ []
   pub copy : entry.hold ≡ true → length entry.bytes.items + room_in entry.buffer ≤ vec_capacity entry.copy
@@ -92,7 +99,8 @@ appends (Some buffer) = 2
 -- how many events may yet come of this name before the next `ready`: a create with a sync and a remove after it, an
 -- append with a sync, and a sync and a remove of what is there
 abbrev pub slots : Entry → ℕ
-slots entry = (if entry.change then 3 else 0) + appends entry.buffer + (if entry.wholly_synced then 0 else 1) + removes entry.presence
+slots entry =
+    (if entry.change then 3 else 0) + appends entry.buffer + (if entry.wholly_synced then 0 else 1) + removes entry.presence
 
 -- a call that leaves an event has this of the file, in the room that was made
 pub record Becomes (old new : Entry) (now : Presence) (left : File) : Type 0 where

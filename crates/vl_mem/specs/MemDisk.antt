@@ -2,7 +2,7 @@
 use Rattle.std.specs.Prelude.{◌≡◌, ℕ, ◌+◌, [], ◌∷◌, ◌++◌, length, Option, Some}
 use Rattle.vl_disk.specs.declared.name.Name.{Name}
 use Rattle.vl_disk.specs.DiskState.{DiskState}
-use Rattle.vl_disk.specs.FaultPlan.{Plan}
+use Rattle.vl_disk.specs.FaultPlan.{Follows, Plan}
 use Rattle.vl_disk.specs.Spare.{Spare}
 use Rattle.vl_mem.specs.declared.event.Event.{Event}
 use Rattle.vl_mem.specs.declared.mem_disk.MemDisk.{MemDisk}
@@ -39,6 +39,16 @@ reads_of disk = disk.reads
 -- the same of the reads of a reader
 abbrev pub reads_by : MemReader → Plan
 reads_by reader = reader.plan
+
+-- a changing call was asked for, and failed exactly if it was due
+pub record CountsChange (old new : MemDisk) (failed : Type 0) : Type 0 where
+  pub changes : Follows (changes_of old) (changes_of new) failed
+  pub reads : reads_of new ≡ reads_of old
+
+-- another call that can fail was
+pub record CountsRead (old new : MemDisk) (failed : Type 0) : Type 0 where
+  pub changes : changes_of new ≡ changes_of old
+  pub reads : Follows (reads_of old) (reads_of new) failed
 
 -- a call left one event, which did this to the disk
 pub record Goes (old new : MemDisk) (change : DiskState → DiskState) : Type 0 where

@@ -147,7 +147,8 @@ impl Entry {
         requires part { taken ≤ length piece.now }
         requires fits { Fits self.old }
         ensures piece { result.items ≡ piece.now }
-        ensures becomes { Becomes self.old self.new self.old.presence (plain (lengthened result.items taken (file_of self.old))) }
+        ensures becomes { Becomes self.old self.new self.old.presence
+            (plain (lengthened result.items taken (file_of self.old))) }
         ensures change { self.new.change ≡ self.old.change }
         ensures hold { self.new.hold ≡ self.old.hold }
     {

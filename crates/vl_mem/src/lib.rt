@@ -13,3 +13,6 @@ mod reading;
 pub use held::MemHeld;
 pub use mem_disk::MemDisk;
 pub use mem_reader::MemReader;
+
+#[cfg(test)]
+mod tests;

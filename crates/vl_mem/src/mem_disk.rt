@@ -62,7 +62,12 @@ impl MemDisk {
     }
 
     /// A disk that was just started: these files stand on it, whole and durable. Of files of one name the last counts.
-    pub fn started(alloc: Global, files: Vec<(Name, Vec<u8>)>, faults: Vec<u64>, read_faults: Vec<u64>) -> Result<Self, NoMemory>
+    pub fn started(
+        alloc: Global,
+        files: Vec<(Name, Vec<u8>)>,
+        faults: Vec<u64>,
+        read_faults: Vec<u64>,
+    ) -> Result<Self, NoMemory>
         requires { All (λ file. IsNumbered file.0) files.items }
         ensures started { IfOk result (λ disk. ForSome (told_by disk) (Started (image_of files.items))) }
         ensures changes { IfOk result (λ disk. changes_of disk ≡ new_plan faults.items) }
@@ -84,7 +89,8 @@ impl MemDisk {
 
     /// The bytes of a file, if it stands.
     pub fn bytes(&self, name: Name) -> Option<&[u8]>
-        ensures { ForSome (told_by self.now) (λ disk. option_copied result ≡ option_map (λ file. file.bytes) (get disk.standing name)) }
+        ensures { ForSome (told_by self.now)
+            (λ disk. option_copied result ≡ option_map (λ file. file.bytes) (get disk.standing name)) }
     {
         let entry = self.entries.get(&name)?;
         if entry.stands() {
@@ -127,10 +133,10 @@ impl Disk for MemDisk {
     ghost use Rattle.vl_disk.specs.DiskState.{bytes_at, file_at};
     ghost use Rattle.vl_disk.specs.Disk.{Stands, IsFree, IsInside, Lists};
     ghost use Rattle.vl_disk.specs.Calls.{Looks, Creates, Appends, Syncs, Cuts, Removes};
-    ghost use Rattle.vl_disk.specs.FaultPlan.{Follows, new_plan};
+    ghost use Rattle.vl_disk.specs.FaultPlan.{new_plan};
     ghost use Rattle.vl_disk.specs.Spare.{IsReady, CanAppend, SameSpare, SameSpareElsewhere, UsesHold};
     ghost use Rattle.vl_mem.specs.Event.{told_lawful, counts_present, only_present};
-    ghost use Rattle.vl_mem.specs.MemDisk.{told_by, room_of, changes_of, reads_of, reads_by};
+    ghost use Rattle.vl_mem.specs.MemDisk.{told_by, room_of, changes_of, reads_of, reads_by, CountsChange, CountsRead};
 
     ghost lawful = { λ m. told_lawful m.events.items m.kept.sound };
 
@@ -143,10 +149,7 @@ impl Disk for MemDisk {
         ensures numbered { IfOk result (λ names. All IsNumbered names.items) }
         ensures looks { Looks ⟦<MemDisk as Watched>⟧ self.old self.new (IsErrOf result ListFail.Failed) }
         ensures spare { SameSpare (room_of self.old) (room_of self.new) }
-
-        // It fails exactly if it is due.
-        ensures changes { changes_of self.new ≡ changes_of self.old }
-        ensures reads { Follows (reads_of self.old) (reads_of self.new) (IsErrOf result ListFail.Failed) }
+        ensures counts { CountsRead self.old self.new (IsErrOf result ListFail.Failed) }
     {
         if self.reads.fails() {
             return Err(ListFail::Failed);
@@ -156,13 +159,11 @@ impl Disk for MemDisk {
 
     fn size(&mut self, name: Name) -> Result<u64, Failed>
         requires { ForSome (told_by self.old) (Stands name) }
-        ensures size { IfOk result (λ size. ForSome (told_by self.old) (λ disk. size ≡ length (file_at disk name).bytes)) }
+        ensures size { IfOk result (λ size. ForSome (told_by self.old)
+            (λ disk. size ≡ length (file_at disk name).bytes)) }
         ensures looks { Looks ⟦<MemDisk as Watched>⟧ self.old self.new (IsErr result) }
         ensures spare { SameSpare (room_of self.old) (room_of self.new) }
-
-        // It fails exactly if it is due.
-        ensures changes { changes_of self.new ≡ changes_of self.old }
-        ensures reads { Follows (reads_of self.old) (reads_of self.new) (IsErr result) }
+        ensures counts { CountsRead self.old self.new (IsErr result) }
     {
         if self.reads.fails() {
             return Err(Failed);
@@ -178,9 +179,8 @@ impl Disk for MemDisk {
         ensures looks { Looks ⟦<MemDisk as Watched>⟧ self.old self.new (IsErr result) }
         ensures spare { SameSpare (room_of self.old) (room_of self.new) }
 
-        // It fails exactly if it is due, and then reads nothing.
-        ensures changes { changes_of self.new ≡ changes_of self.old }
-        ensures reads { Follows (reads_of self.old) (reads_of self.new) (IsErr result) }
+        // Where it fails, it reads nothing.
+        ensures counts { CountsRead self.old self.new (IsErr result) }
         ensures nothing { OnErr result (out.new ≡ out.old) }
     {
         if self.reads.fails() {
@@ -210,10 +210,7 @@ impl Disk for MemDisk {
         requires free { ForSome (told_by self.old) (IsFree name) }
         requires room { IsTrue (room_of self.old name).change }
         ensures disk { Creates ⟦<MemDisk as Watched>⟧ name self.old self.new result }
-
-        // It fails exactly if it is due.
-        ensures changes { Follows (changes_of self.old) (changes_of self.new) (IsErr result) }
-        ensures reads { reads_of self.new ≡ reads_of self.old }
+        ensures counts { CountsChange self.old self.new (IsErr result) }
     {
         if self.changes.fails() {
             return Err(Failed);
@@ -226,10 +223,7 @@ impl Disk for MemDisk {
         requires stands { ForSome (told_by self.old) (Stands name) }
         requires room { CanAppend (length piece.now) (room_of self.old name) }
         ensures disk { Appends ⟦<MemDisk as Watched>⟧ name piece.now self.old self.new result }
-
-        // It fails exactly if it is due.
-        ensures changes { Follows (changes_of self.old) (changes_of self.new) (IsErr result) }
-        ensures reads { reads_of self.new ≡ reads_of self.old }
+        ensures counts { CountsChange self.old self.new (IsErr result) }
     {
         if self.changes.fails() {
             self.hand(name, piece, 0);
@@ -242,10 +236,7 @@ impl Disk for MemDisk {
     fn sync(&mut self, name: Name) -> Result<(), Failed>
         requires { ForSome (told_by self.old) (Stands name) }
         ensures disk { Syncs ⟦<MemDisk as Watched>⟧ name self.old self.new result }
-
-        // It fails exactly if it is due.
-        ensures changes { Follows (changes_of self.old) (changes_of self.new) (IsErr result) }
-        ensures reads { reads_of self.new ≡ reads_of self.old }
+        ensures counts { CountsChange self.old self.new (IsErr result) }
     {
         if self.changes.fails() {
             return Err(Failed);
@@ -262,10 +253,7 @@ impl Disk for MemDisk {
         requires inside { ForSome (told_by self.old) (IsInside name len) }
         requires room { IsTrue (room_of self.old name).change }
         ensures disk { Cuts ⟦<MemDisk as Watched>⟧ name len self.old self.new result }
-
-        // It fails exactly if it is due.
-        ensures changes { Follows (changes_of self.old) (changes_of self.new) (IsErr result) }
-        ensures reads { reads_of self.new ≡ reads_of self.old }
+        ensures counts { CountsChange self.old self.new (IsErr result) }
     {
         if self.changes.fails() {
             let whole = self.entry(name).bytes.len();
@@ -279,10 +267,7 @@ impl Disk for MemDisk {
     fn remove(&mut self, name: Name) -> Result<(), Failed>
         requires { ForSome (told_by self.old) (Stands name) }
         ensures disk { Removes ⟦<MemDisk as Watched>⟧ name self.old self.new result }
-
-        // It fails exactly if it is due.
-        ensures changes { Follows (changes_of self.old) (changes_of self.new) (IsErr result) }
-        ensures reads { reads_of self.new ≡ reads_of self.old }
+        ensures counts { CountsChange self.old self.new (IsErr result) }
     {
         if self.changes.fails() {
             return Err(Failed);
@@ -298,10 +283,7 @@ impl Disk for MemDisk {
         ensures looks { Looks ⟦<MemDisk as Watched>⟧ self.old self.new (IsErrOf result HoldFail.Failed) }
         ensures memory { IsTrue (room_of self.old name).hold → IsErrOf result HoldFail.NoMemory → ⊥ }
         ensures spare { UsesHold name (room_of self.old) (room_of self.new) }
-
-        // It fails exactly if it is due.
-        ensures changes { changes_of self.new ≡ changes_of self.old }
-        ensures reads { Follows (reads_of self.old) (reads_of self.new) (IsErrOf result HoldFail.Failed) }
+        ensures counts { CountsRead self.old self.new (IsErrOf result HoldFail.Failed) }
     {
         if self.reads.fails() {
             return Err(HoldFail::Failed);

@@ -35,7 +35,8 @@ impl Reader for MemReader {
 
     fn read(&mut self, held: &MemHeld, place: u64, out: &mut [u8]) -> Result<(), Failed>
         requires { place + length out.old ≤ length (held_bytes held.now) }
-        ensures bytes { OnOk result (ForSome (⟦<MemHeld as HeldFile>⟧.bytes held.now) (λ bytes. out.new ≡ bytes_at place (length out.old) bytes)) }
+        ensures bytes { OnOk result (ForSome (⟦<MemHeld as HeldFile>⟧.bytes held.now)
+            (λ bytes. out.new ≡ bytes_at place (length out.old) bytes)) }
         ensures cause { HasCause (reads_by self.old).faults (reads_by self.new).faults (IsErr result) }
 
         // It fails exactly if it is due, and then reads nothing.

@@ -101,7 +101,8 @@ impl MemDisk {
     // A copy of a file, in the room that was made for it, or that is made where there is none.
     pub(super) fn share(&mut self, name: Name) -> Result<Vec<u8>, NoMemory>
         requires { ForSome (told_by self.old) (Stands name) }
-        ensures copied { IfOk result (λ copy. ForSome (told_by self.old) (λ disk. copy.items ≡ (file_at disk name).bytes)) }
+        ensures copied { IfOk result (λ copy. ForSome (told_by self.old)
+            (λ disk. copy.items ≡ (file_at disk name).bytes)) }
         ensures has_room { IsTrue (room_of self.old name).hold → IsOk result }
         ensures stays { Stays self.old self.new }
         ensures spare { UsesHold name (room_of self.old) (room_of self.new) }

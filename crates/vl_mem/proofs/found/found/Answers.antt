@@ -1,4 +1,4 @@
-use Rattle.std.proofs.Common.{◌≡◌, ℕ, List, [], ◌∷◌, ◌++◌, length, arith, sym, ap, ◌∙◌, vec_capacity}
+use Rattle.std.proofs.Common.{[], ◌∷◌, ◌++◌, length, arith, sym, ap, ◌∙◌, vec_capacity}
 use Rattle.vl_disk.specs.DiskState.{empty_disk, settled}
 use Rattle.vl_disk.specs.MadeFile.{made}
 use Rattle.vl_mem.specs.declared.event.Event.TheVariants.{Found}

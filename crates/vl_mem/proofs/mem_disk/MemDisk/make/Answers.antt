@@ -1,4 +1,4 @@
-use Rattle.std.proofs.Common.{refl, sym, ap, ◌∙◌, vec_capacity}
+use Rattle.std.proofs.Common.{sym, ap, ◌∙◌, vec_capacity}
 use Rattle.std.specs.Option.{option_copied_mut}
 use Rattle.vl_mem.proofs.Steps.{kept_created}
 use Rattle.vl_mem.proofs.mem_disk.MemDisk.make.Goals as goal

@@ -2,7 +2,6 @@ use Rattle.std.proofs.Common.{◌≡◌, ℕ, List, [], ◌∷◌, length, All, 
 use Rattle.std.proofs.lemmas.List.Elements.{All-tail}
 use Rattle.std.specs.Vec.Iter.{into_iter_items}
 use Rattle.vl_disk.specs.declared.name.Name.{Name}
-use Rattle.vl_disk.specs.DiskState.{DiskState, empty_disk}
 use Rattle.vl_disk.specs.Name.{IsNumbered}
 use Rattle.vl_disk.specs.Started.{Started}
 use Rattle.vl_mem.specs.Event.{state_after}

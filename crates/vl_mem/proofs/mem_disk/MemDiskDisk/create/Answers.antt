@@ -1,4 +1,4 @@
-use Rattle.std.proofs.Common.{refl, true, false}
+use Rattle.std.proofs.Common.{refl, false}
 use Rattle.vl_mem.proofs.Calls.{counted, creates}
 use Rattle.vl_mem.proofs.mem_disk.MemDiskDisk.create.Goals as goal
 

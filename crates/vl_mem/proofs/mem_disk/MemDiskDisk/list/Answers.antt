@@ -1,6 +1,5 @@
 use Rattle.std.proofs.Common.{List, All, refl, sym, subst}
 use Rattle.vl_disk.specs.declared.name.Name.{Name}
-use Rattle.vl_disk.specs.DiskState.{DiskState}
 use Rattle.vl_disk.specs.Disk.{Lists}
 use Rattle.vl_disk.specs.Name.{IsNumbered}
 use Rattle.vl_mem.specs.Event.{told_lawful}

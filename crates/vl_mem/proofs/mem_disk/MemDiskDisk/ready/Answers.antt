@@ -11,7 +11,7 @@ invariant_of-self-2 c = record {
       c.know.new.self.events.items c.make_room.new.events.items (vec_capacity c.know.new.self.events) (vec_capacity c.make_room.new.events) c.know.new.self.kept c.make_room.ensures.capacity
       c.make_room-2.ensures.keeps.fits c.make_room.ensures.items
       (omega (arith, most (c.get_mut.follows.lender c.make_room-2.new.self), c.len.ensures.len, (c.get_mut.follows.holds c.make_room-2.new.self).2, c.in_ok-make_room.ensures.room, ap length c.make_room.ensures.items))
-    c.make_room-2.ensures.keeps;
+      c.make_room-2.ensures.keeps;
 }
 
 pub returns-clause-refused : goal.returns-clause-refused

@@ -1,4 +1,4 @@
-use Rattle.std.proofs.Common.{refl, true, false}
+use Rattle.std.proofs.Common.{refl, false}
 use Rattle.vl_mem.proofs.Calls.{counted, removes}
 use Rattle.vl_mem.proofs.mem_disk.MemDiskDisk.remove.Goals as goal
 
