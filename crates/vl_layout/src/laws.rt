@@ -11,7 +11,7 @@ ghost use Rattle.vl_layout.specs.LayoutShows.{ArePlaced};
 ghost use Rattle.vl_layout.specs.Logs.{memtable};
 ghost use Rattle.vl_layout.specs.MergeShows.{Marked, AreJustified, all_of, kept_of, inputs_of, outside_of, marks, plain};
 ghost use Rattle.vl_layout.specs.Merging.{Sourced};
-ghost use Rattle.vl_layout.specs.OrderShows.{of_key};
+ghost use Rattle.vl_layout.specs.OrderShows.{of_key, Gathers};
 ghost use Rattle.vl_layout.specs.Relocation.{Pass, Candidate};
 ghost use Rattle.vl_layout.specs.RulingShows.{ShowsRuled, IsThere};
 ghost use Rattle.vl_layout.specs.Rulings.Commit.{Transaction, commit_ruling};
@@ -43,6 +43,8 @@ pub fn shown_key_by_key()
     ensures order { (logs : Logs) (front es back : List Entry) (h : History) (from : List ℕ → ℕ) (to : ℕ)
         → Shows logs (front ++ es ++ back) h from to
         → Shows logs (front ++ in_order es ++ back) h from to }
+    ensures gathered { (logs : Logs) (es some fs : List Entry) (h : History) (from : List ℕ → ℕ) (to : ℕ)
+        → ((key : List ℕ) → Gathers key es some fs) → Shows logs es h from to → Shows logs fs h from to }
 {}
 
 /// Two entries of one key and version lead to one value, and neither is a deletion.
