@@ -19,4 +19,5 @@ pub mod Shows
 pub mod ShowsLaws
 pub mod Sources
 pub mod Start
+pub mod TableLaws
 pub mod Tables

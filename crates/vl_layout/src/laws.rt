@@ -20,7 +20,8 @@ ghost use Rattle.vl_layout.specs.Rulings.Relocate.{relocate_ruling};
 ghost use Rattle.vl_layout.specs.Rulings.Rotate.{rotate_ruling};
 ghost use Rattle.vl_layout.specs.Shows.{Shows, StandsFor, AreUpTo};
 ghost use Rattle.vl_layout.specs.Sources.{sources, oldest};
-ghost use Rattle.vl_layout.specs.Tables.{points_of};
+ghost use Rattle.vl_layout.specs.TableLaws.{joined};
+ghost use Rattle.vl_layout.specs.Tables.{points_of, blocks, cut_into_tables};
 ghost use Rattle.vl_layout.specs.declared.layout.Layout.{Layout};
 ghost use Rattle.vl_layout.specs.declared.segment.Segment.{Segment};
 ghost use Rattle.vl_layout.specs.declared.segment.SegmentStat.{SegmentStat};
@@ -111,4 +112,10 @@ pub fn best_has_the_greatest_share()
     ensures { (xs : List SegmentStat) (x : SegmentStat)
         → AllByRecursion (λ (y : SegmentStat). 0 < y.bytes) xs → best_of xs ≡ Some x
         → AllByRecursion (λ (y : SegmentStat). is_better_than y x ≡ false) xs }
+{}
+
+/// Blocks hold all entries of their table, and tables all of their merge, in order.
+pub fn cutting_keeps_all_entries()
+    ensures blocks { (es : List Entry) → joined (blocks es) ≡ es }
+    ensures tables { (es : List Entry) → joined (cut_into_tables es) ≡ es }
 {}
