@@ -1,4 +1,5 @@
 pub mod CommitShows
+pub mod Decides
 pub mod Garbage
 pub mod GarbageLaws
 pub mod LayoutShows
