@@ -1,4 +1,5 @@
 pub mod CommitShows
+pub mod Decides
 pub mod Garbage
 pub mod GarbageLaws
 pub mod LayoutShows
@@ -19,4 +20,5 @@ pub mod Shows
 pub mod ShowsLaws
 pub mod Sources
 pub mod Start
+pub mod TableLaws
 pub mod Tables

@@ -153,3 +153,82 @@ shows_by_key logs es fs h from to same shows =
     let there = times-of_key key version es in
     let between = ap (λ (xs : List Entry). times key version xs) (same key) in
     omega arith)
+
+-- ---- gathered
+
+-- Some entries of a list are gathered and put in order: of this key they stand side by side in the one list, and in order in
+-- their place in the other.
+pub record Gathers (key : List ℕ) (es some fs : List Entry) : Type 0 where
+  pub front : List Entry
+  pub behind : List Entry
+  pub apart : of_key key es ≡ front ++ of_key key some ++ behind
+  pub together : of_key key fs ≡ front ++ of_key key (in_order some) ++ behind
+
+-- what is so of a key's entries is so of them in order
+own_in_order : (P : Entry → Type 0) (key : List ℕ) (es : List Entry)
+    → AllByRecursion P (of_key key es) → AllByRecursion P (of_key key (in_order es))
+own_in_order P key es all = to_key (in_order es) (all-in_order (λ (e : Entry). eq_by_cmp key_cmp key e.key ≡ true → P e) es (from_key es all))
+  where
+    from_key : (xs : List Entry) → AllByRecursion P (of_key key xs)
+        → AllByRecursion (λ (e : Entry). eq_by_cmp key_cmp key e.key ≡ true → P e) xs
+    from_key [] all = tt
+    from_key (x ∷ xs) all = (first (eq_by_cmp key_cmp key x.key) all, from_key xs (tail_of_key P key x xs all))
+      where
+        first : (b : Bool) → AllByRecursion P (cond b (x ∷ of_key key xs) (of_key key xs))
+            → b ≡ true → P x
+        first true all is = all.0
+        first false all is = absurd cc
+
+    to_key : (xs : List Entry)
+        → AllByRecursion (λ (e : Entry). eq_by_cmp key_cmp key e.key ≡ true → P e) xs
+        → AllByRecursion P (of_key key xs)
+    to_key [] all = tt
+    to_key (x ∷ xs) all = elim (eq_by_cmp key_cmp key x.key) as (λ b. eq_by_cmp key_cmp key x.key ≡ b → AllByRecursion P (cond b (x ∷ of_key key xs) (of_key key xs))) [
+      | true ↦ λ is. (all.0 is, to_key xs all.1)
+      | false ↦ λ is. to_key xs all.1
+    ] refl
+
+module _ (logs : Logs) (es some fs : List Entry) (gathers : (key : List ℕ) → Gathers key es some fs) where
+  gathered_winner : (key : List ℕ) (number : ℕ) → winner fs key number ≡ winner es key number
+  gathered_winner key number =
+      let g = gathers key in
+      sym (winner-of_key key number fs)
+      ∙ ap (λ (xs : List Entry). winner xs key number) g.together
+      ∙ winner-middle key number g.front (of_key key (in_order some)) (of_key key some) g.behind
+      (winner-of_key key number (in_order some) ∙ winner-in_order key number some ∙ sym (winner-of_key key number some))
+      ∙ ap (λ (xs : List Entry). winner xs key number) (sym g.apart)
+      ∙ winner-of_key key number es
+
+  gathered_own : (P : Entry → Type 0) (key : List ℕ) → AllByRecursion P es
+      → AllByRecursion P (of_key key fs)
+  gathered_own P key all =
+      let g = gathers key in
+      let outer = all_parts P (g.front ++ of_key key some) g.behind (subst (AllByRecursion P) g.apart (all_of_key P key es all)) in
+      let inner = all_parts P g.front (of_key key some) outer.0 in
+      subst (AllByRecursion P) (sym g.together)
+      (all_both P (g.front ++ of_key key (in_order some)) g.behind (all_both P g.front (of_key key (in_order some)) inner.0 (own_in_order P key some inner.1)) outer.1)
+
+  gathered_times : (key : List ℕ) (version : ℕ) → times key version fs ≤ times key version es
+  gathered_times key version =
+      let g = gathers key in
+      let own_fs = times-of_key key version fs in
+      let own_es = times-of_key key version es in
+      let now = ap (λ (xs : List Entry). times key version xs) g.together in
+      let before = ap (λ (xs : List Entry). times key version xs) g.apart in
+      let now_parts = times-append key version (g.front ++ of_key key (in_order some)) g.behind in
+      let now_front = times-append key version g.front (of_key key (in_order some)) in
+      let before_parts = times-append key version (g.front ++ of_key key some) g.behind in
+      let before_front = times-append key version g.front (of_key key some) in
+      let ordered = times-in_order key version some in
+      let own_ordered = times-of_key key version (in_order some) in
+      let own_some = times-of_key key version some in
+      omega arith
+
+  -- Entries gathered from several places show the same, where none of another place stands between those of one key.
+  pub shows_gathered : (h : History) (from : List ℕ → ℕ) (to : ℕ) → Shows logs es h from to
+      → Shows logs fs h from to
+  shows_gathered h from to shows =
+      shows_as logs logs es fs h from to shows
+      (λ key number low high. ap (resolved_at logs) (gathered_winner key number))
+      (λ meaning all. all_by_key (Means logs meaning) fs (λ key. gathered_own (Means logs meaning) key all))
+      gathered_times

@@ -74,7 +74,6 @@ abbrev pub switched : List Table → Layout → Layout
 switched dropped l = record l {
   flushed = filter (λ (s : Segment). not (is_idle l s)) l.flushed;
   retired = l.retired
-     
       ++ map (retired_at l.version_number) (map table_of dropped ++ map log_of (rising (filter (is_idle l) l.flushed)));
 }
 

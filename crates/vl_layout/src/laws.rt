@@ -11,7 +11,7 @@ ghost use Rattle.vl_layout.specs.LayoutShows.{ArePlaced};
 ghost use Rattle.vl_layout.specs.Logs.{memtable};
 ghost use Rattle.vl_layout.specs.MergeShows.{Marked, AreJustified, all_of, kept_of, inputs_of, outside_of, marks, plain};
 ghost use Rattle.vl_layout.specs.Merging.{Sourced};
-ghost use Rattle.vl_layout.specs.OrderShows.{of_key};
+ghost use Rattle.vl_layout.specs.OrderShows.{of_key, Gathers};
 ghost use Rattle.vl_layout.specs.Relocation.{Pass, Candidate};
 ghost use Rattle.vl_layout.specs.RulingShows.{ShowsRuled, IsThere};
 ghost use Rattle.vl_layout.specs.Rulings.Commit.{Transaction, commit_ruling};
@@ -20,7 +20,8 @@ ghost use Rattle.vl_layout.specs.Rulings.Relocate.{relocate_ruling};
 ghost use Rattle.vl_layout.specs.Rulings.Rotate.{rotate_ruling};
 ghost use Rattle.vl_layout.specs.Shows.{Shows, StandsFor, AreUpTo};
 ghost use Rattle.vl_layout.specs.Sources.{sources, oldest};
-ghost use Rattle.vl_layout.specs.Tables.{points_of};
+ghost use Rattle.vl_layout.specs.TableLaws.{joined};
+ghost use Rattle.vl_layout.specs.Tables.{points_of, blocks, cut_into_tables};
 ghost use Rattle.vl_layout.specs.declared.layout.Layout.{Layout};
 ghost use Rattle.vl_layout.specs.declared.segment.Segment.{Segment};
 ghost use Rattle.vl_layout.specs.declared.segment.SegmentStat.{SegmentStat};
@@ -43,6 +44,8 @@ pub fn shown_key_by_key()
     ensures order { (logs : Logs) (front es back : List Entry) (h : History) (from : List ℕ → ℕ) (to : ℕ)
         → Shows logs (front ++ es ++ back) h from to
         → Shows logs (front ++ in_order es ++ back) h from to }
+    ensures gathered { (logs : Logs) (es some fs : List Entry) (h : History) (from : List ℕ → ℕ) (to : ℕ)
+        → ((key : List ℕ) → Gathers key es some fs) → Shows logs es h from to → Shows logs fs h from to }
 {}
 
 /// Two entries of one key and version lead to one value, and neither is a deletion.
@@ -109,4 +112,10 @@ pub fn best_has_the_greatest_share()
     ensures { (xs : List SegmentStat) (x : SegmentStat)
         → AllByRecursion (λ (y : SegmentStat). 0 < y.bytes) xs → best_of xs ≡ Some x
         → AllByRecursion (λ (y : SegmentStat). is_better_than y x ≡ false) xs }
+{}
+
+/// Blocks hold all entries of their table, and tables all of their merge, in order.
+pub fn cutting_keeps_all_entries()
+    ensures blocks { (es : List Entry) → joined (blocks es) ≡ es }
+    ensures tables { (es : List Entry) → joined (cut_into_tables es) ≡ es }
 {}

@@ -1,0 +1,8 @@
+use Rattle.vl_layout.specs.TableLaws.{blocks-whole, cut-whole}
+use Rattle.vl_layout.proofs.laws.cutting_keeps_all_entries.Goals as goal
+
+pub returns-clause-blocks : goal.returns-clause-blocks
+returns-clause-blocks c es = blocks-whole es
+
+pub returns-clause-tables : goal.returns-clause-tables
+returns-clause-tables c es = cut-whole es
