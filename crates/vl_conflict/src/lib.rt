@@ -13,3 +13,24 @@ mod recent;
 
 pub use laws::{commits_are_remembered, floor_may_rise, nothing_is_remembered_at_first};
 pub use recent::Recent;
+
+#[cfg(test)]
+mod tests {
+    use super::*;
+    use std::test::Fail;
+    use vl_model::Key;
+
+    #[test]
+    fn a_later_commit_conflicts(rt: HostRuntime) -> Result<(), Fail> {
+        let key = Key::copy_of(rt.alloc(), b"key")?;
+        let mut recent = Recent::new(rt.alloc());
+        recent.reserve(1)?;
+        recent.note(key.share()?, 5);
+        let keys = [key];
+        assert!(rt; recent.check(4, &keys, &[])?.is_some());
+        assert!(rt; recent.check(5, &keys, &[])?.is_none());
+        recent.prune(5);
+        assert!(rt; recent.check(4, &keys, &[])?.is_none());
+        Ok(())
+    }
+}

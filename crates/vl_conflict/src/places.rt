@@ -75,6 +75,7 @@ fn first_of_key(entries: &[(Key, u64)], number: u64, key: &[u8]) -> usize
 }
 
 // Whether an entry is of the key and has a number above this one.
+#[tactic(auto, using(crate::proofs::Firsts::late_both))]
 fn is_late_at(entry: &(Key, u64), number: u64, key: &[u8]) -> bool
     ensures { result ≡ is_late_at number key.now entry.now }
 {
