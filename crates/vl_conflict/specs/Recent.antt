@@ -1,0 +1,86 @@
+-- What is kept of the commits above a floor, and which of it conflicts with reads.
+use Rattle.std.specs.Prelude.{◌≡◌, ℕ, ◌+◌, ◌-◌, Bool, true, not, ◌&&◌, ◌||◌, nat_lt, if◌then◌else◌, List, [], ◌∷◌, Option, Some, None}
+use Rattle.std.specs.FinMap.{find, put, is_sorted}
+use Rattle.std.specs.List.{filter, list_any}
+use Rattle.std.specs.Ordering.{eq_by_cmp, is_gt}
+use Rattle.vl_model.specs.Keys.{key_cmp}
+use Rattle.vl_model.specs.History.{History, last_naming}
+use Rattle.vl_model.specs.Reads.{Read, is_in_span, is_read, is_from, is_up_to}
+use Rattle.vl_model.specs.Conflicts.{Named, first_of}
+use Rattle.vl_model.specs.declared.change.Change.{Change}
+use Rattle.vl_model.specs.declared.span.Span.{Span}
+
+-- keys with the number of the last commit that names them, in rising order; and how many more may be noted without memory
+pub record Kept : Type 0 where
+  pub named : List Named
+  pub room : ℕ
+
+-- ---- reads
+
+-- whether a key is among those that were read, or lies in an interval that was
+abbrev pub is_noted : List (List ℕ) → List Span → List ℕ → Bool
+is_noted keys spans key = list_any (eq_by_cmp key_cmp key) keys || list_any (λ span. is_in_span span key) spans
+
+-- the keys and the intervals are those of the reads: they cover the same keys
+abbrev pub AreNotesOf : List Read → List (List ℕ) → List Span → Type 0
+AreNotesOf reads keys spans = (key : List ℕ) → is_noted keys spans key ≡ is_read reads key
+
+-- a key that was read, and that a commit above the number names
+abbrev pub is_late : ℕ → List (List ℕ) → List Span → Named → Bool
+is_late number keys spans named = nat_lt number named.1 && is_noted keys spans named.0
+
+-- the first of these
+abbrev pub first_late : ℕ → List (List ℕ) → List Span → List Named → Option Named
+first_late number keys spans named = first_of (filter (is_late number keys spans) named)
+
+-- ---- the history
+
+-- a number above the floor
+abbrev pub since : ℕ → Option ℕ → Option ℕ
+since floor None = None
+since floor (Some number) = if nat_lt floor number then Some number else None
+
+-- From the floor on, this is what the history says: of each key the last commit above the floor that names it.
+pub record Remembers (floor : ℕ) (h : History) (named : List Named) : Type 0 where
+  pub rising : is_sorted key_cmp named ≡ true
+  pub last : (key : List ℕ) → since floor (find key_cmp key named) ≡ since floor (last_naming (h.first + 1) h.commits key)
+
+-- the keys of a commit noted, one after the other
+abbrev pub noted_all : ℕ → List (List ℕ × Change) → List Named → List Named
+noted_all number [] named = named
+noted_all number (write ∷ later) named = noted_all number later (put key_cmp write.0 number named)
+
+-- what a number above the floor is noted for
+abbrev pub is_above_floor : ℕ → Named → Bool
+is_above_floor floor named = nat_lt floor named.1
+
+-- ---- places
+
+-- whether a key is above that of an entry
+abbrev pub is_above : List ℕ → Named → Bool
+is_above key named = is_gt (key_cmp key named.0)
+
+-- an entry's key is below an interval, and one isn't above its end
+abbrev pub is_before : Span → Named → Bool
+is_before span named = not (is_from span.lo named.0)
+
+abbrev pub is_before_end : Span → Named → Bool
+is_before_end span named = is_up_to span.hi span.closed named.0
+
+-- how many entries stand before the first that passes
+abbrev pub first_at : (Named → Bool) → List Named → ℕ
+first_at test [] = 0
+first_at test (named ∷ others) = if test named then 0 else 1 + first_at test others
+
+-- an entry of the key, or in the interval, with a number above this one
+abbrev pub is_late_at : ℕ → List ℕ → Named → Bool
+is_late_at number key named = nat_lt number named.1 && eq_by_cmp key_cmp named.0 key
+
+abbrev pub is_late_within : ℕ → Span → Named → Bool
+is_late_within number span named = nat_lt number named.1 && is_in_span span named.0
+
+abbrev pub is_late_at_any : ℕ → List (List ℕ) → Named → Bool
+is_late_at_any number keys named = list_any (λ key. is_late_at number key named) keys
+
+abbrev pub is_late_within_any : ℕ → List Span → Named → Bool
+is_late_within_any number spans named = list_any (λ span. is_late_within number span named) spans
