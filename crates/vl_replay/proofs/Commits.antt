@@ -89,8 +89,7 @@ module _ {D : Type 0} (g : Ghosts D) (watched : IsWatched g) where
   looked s old new failed looks held =
       let (state, is, here) = held.there in
       let P = Leaves (ShowsBetween Shown s.history s.history) in
-      let start = rests g watched IsStored Shown shown_stays stored_exactly s old held in
-      (
+      let start = rests g watched IsStored Shown shown_stays stored_exactly s old held in (
         record { calls = looks.calls ∙ held.calls; there = (state, looks.told ∙ is, here) },
         goes_by g P old old new state Unchanged is start looks.time (λ now same. subst P (sym same) (start.each state (watched.counts_now old state (g.moment old) is (omega arith)))),
       )

@@ -12,9 +12,9 @@ use Rattle.vl_script.specs.declared.line.Line.{Line}
 use Rattle.vl_script.specs.Script.{line_of}
 use Rattle.vl_replay.specs.Sequential.{State, state_after}
 use Rattle.vl_replay.specs.Exchanges.{Exchange, exchange_at, exchanged, state_behind, exchanges_from, and_later, history_after}
-use Rattle.vl_replay.specs.Between.{Extends, ShowsBetween}
+use Rattle.vl_replay.specs.Between.{Showing, Extends, ShowsBetween}
 use Rattle.vl_replay.specs.Endings.{CutsAnswer, IsBetweenLines, culprit_of}
-use Rattle.vl_replay.specs.Durable.{LeavesItsHistory, StaysShown, Tells, HoldsState, HoldsHistory, GoesFrom, GoesAlong, DiskEnds}
+use Rattle.vl_replay.specs.Durable.{Holding, LeavesItsHistory, StaysShown, Tells, HoldsState, HoldsHistory, GoesFrom, GoesAlong, DiskEnds}
 use Rattle.vl_replay.specs.declared.ending.Ending.{Ending}
 use Rattle.vl_replay.specs.declared.ending.Ending.TheVariants.{NoMemory, Complete}
 use Rattle.vl_replay.proofs.Betweens.{extends_itself, extends_then, between_wider, between_exactly}
@@ -77,7 +77,7 @@ leaves_weaker P Q weaker state leaves image may chance = weaker image (leaves im
 pub rose_earlier : (f a b : ℕ) → f ≤ a → Rose a b → Rose f b
 rose_earlier f a b le rose = omega arith
 
-module _ {D : Type 0} (g : Ghosts D) (watched : IsWatched g) (holds : State → DiskState → Type 0) (shows : Image → History → ℕ → Type 0)
+module _ {D : Type 0} (g : Ghosts D) (watched : IsWatched g) (holds : Holding) (shows : Showing)
     (stays : StaysShown shows) (exactly : LeavesItsHistory holds shows) where
   -- a wider pair of histories
   pub goes_wider : (old new : D) (least less more most : History) → Extends least less → Extends more most → GoesFrom g shows old new less more → GoesFrom g shows old new least most

@@ -13,7 +13,7 @@ use Rattle.vl_io.specs.declared.sink.Sink as sink
 use Rattle.vl_io.specs.Sink.{Takes, TakesPrefix}
 use Rattle.vl_script.specs.declared.line.Line.{Line as ScriptLine}
 use Rattle.vl_script.specs.declared.answer.Answer.{Answer}
-use Rattle.vl_script.specs.declared.limits.TheConstants.{MAX_LINE_BYTES}
+use Rattle.vl_script.specs.Script.{longest_line}
 use Rattle.vl_script.specs.Script.{text_of, lines_of, line_of}
 use Rattle.vl_replay.specs.Sequential.{State, answer_to, state_after}
 use Rattle.vl_replay.specs.Input.{HasNoLineEnd}
@@ -60,8 +60,8 @@ chosen_false true x y e = absurd (cc)
 chosen_false false x y e = refl
 
 -- a line that is too long is a bad one
-pub too_long_is_bad : (s : State) (text : List ℕ) → MAX_LINE_BYTES < length text → exchange_at s text ≡ None
-too_long_is_bad s text long = ap (option_map (exchanged s)) (chosen_false (nat_le (length text) MAX_LINE_BYTES) _ None (grind (arith, nat_tests)))
+pub too_long_is_bad : (s : State) (text : List ℕ) → longest_line < length text → exchange_at s text ≡ None
+too_long_is_bad s text long = ap (option_map (exchanged s)) (chosen_false (nat_le (length text) longest_line) _ None (grind (arith, nat_tests)))
 
 -- ---- what a sink takes
 

@@ -13,14 +13,14 @@ use Rattle.vl_journal.specs.declared.fails.OpenFail.TheVariants as why
 use Rattle.vl_script.specs.Script.{lines_of}
 use Rattle.vl_replay.specs.Sequential.{State}
 use Rattle.vl_replay.specs.Exchanges.{Exchange, KeepsUp, history_after}
-use Rattle.vl_replay.specs.Between.{Extends}
+use Rattle.vl_replay.specs.Between.{Showing, Extends}
 use Rattle.vl_replay.specs.Endings.{Culprit, TheDisk, TheSink, TheSource, Counts, Causes, CutsAnswer, IsBetweenLines, culprit_of, last_line}
 use Rattle.vl_replay.specs.Runs.{Script, exchanges, next_number, Stops, Course, Outside, CausesOf, EndsRun}
-use Rattle.vl_replay.specs.Durable.{LeavesItsHistory, StaysShown, Tells, HoldsState, GoesFrom, GoesAlong, DiskEnds, DiskEndsFrom}
+use Rattle.vl_replay.specs.Durable.{Holding, LeavesItsHistory, StaysShown, Tells, HoldsState, GoesFrom, GoesAlong, DiskEnds, DiskEndsFrom}
 use Rattle.vl_replay.specs.Opening.{refusal_of}
 use Rattle.vl_replay.specs.Steps.{EndsBefore, Finishes, FinishesBy}
 use Rattle.vl_replay.specs.declared.ending.Ending.{Ending}
-use Rattle.vl_replay.specs.declared.ending.Ending.TheVariants.{NotAStore, NoMemory, DiskFault, WriteFault}
+use Rattle.vl_replay.specs.declared.ending.Ending.TheVariants.{BadWords, NotAStore, NoMemory, WriteFault}
 use Rattle.vl_replay.proofs.Betweens.{extends_itself}
 use Rattle.vl_replay.proofs.Ends.{ends_weaker, causes_weaker, finished, or_cut, finish_counts, counts_none}
 use Rattle.vl_replay.proofs.DiskSteps.{IsWatched, exchanges_extend, exchange_extends, goes_wider, goes_then, at_end, ends_later, rose_earlier}
@@ -70,7 +70,7 @@ out_of_memory k old new how result (line, own, finishes) = or_cut k old new line
     of why.NoMemory e is = cc
     of why.Disk e is = cc
 
-module _ {D : Type 0} (g : Ghosts D) (watched : IsWatched g) (holds : State → DiskState → Type 0) (shows : Image → History → ℕ → Type 0)
+module _ {D : Type 0} (g : Ghosts D) (watched : IsWatched g) (holds : Holding) (shows : Showing)
     (stays : StaysShown shows) (exactly : LeavesItsHistory holds shows) (P : Type 0) (by_files : Type 0) (script : Script) (first end : Outside D) where
   abbrev pub SoFar : Course → Type 0
   SoFar run = P → DiskEnds g holds shows (g.told end.disk ≡ g.told first.disk) first.disk end.disk run
@@ -154,6 +154,15 @@ module _ {K : Type 0} (k : sink.Ghosts K) (old new : K) (how : Why) (result : En
     where
       of : (how : Why) → refusal_of how ≡ NotAStore → how ≡ why.NotAStore
       of why.NotAStore e = refl
+      of why.NoMemory e = cc
+      of why.Disk e = cc
+
+  -- and not for its words
+  pub not_for_words : result ≢ BadWords
+  not_for_words = of_result (λ (e : Ending). e ≢ BadWords) (of how) (λ e. cc)
+    where
+      of : (how : Why) → refusal_of how ≢ BadWords
+      of why.NotAStore e = cc
       of why.NoMemory e = cc
       of why.Disk e = cc
 

@@ -8,12 +8,13 @@ use Rattle.vl_disk.specs.DiskState.{DiskState}
 use Rattle.vl_disk.specs.Crash.{Image}
 use Rattle.vl_io.specs.Sink.{Takes}
 use Rattle.vl_script.specs.Script.{text_of, lines_of}
+use Rattle.vl_replay.specs.Between.{Showing}
 use Rattle.vl_replay.specs.Input.{ReadsLine}
 use Rattle.vl_replay.specs.Sequential.{State}
 use Rattle.vl_replay.specs.Exchanges.{Exchange, exchange_at, state_behind, exchanges_from, history_after, KeepsUp}
 use Rattle.vl_replay.specs.Endings.{Culprit, Causes, CutsAnswer}
 use Rattle.vl_replay.specs.Runs.{Script, script_of, exchanges, Outside, CausesOf, EndsSo, EndsRun}
-use Rattle.vl_replay.specs.Durable.{LeavesItsHistory, StaysShown, HoldsState, DiskEnds, DiskEndsFrom}
+use Rattle.vl_replay.specs.Durable.{Holding, LeavesItsHistory, StaysShown, HoldsState, DiskEnds, DiskEndsFrom}
 use Rattle.vl_replay.specs.Steps.{IsNext, EndsBefore, StepsOn, MovesOn, DiskSteps, GoesOn, Steps}
 use Rattle.vl_replay.specs.declared.input.lines.Next.TheVariants.{Line as WholeLine, LastLine}
 use Rattle.vl_replay.specs.declared.replayer.store.Store.{Store}
@@ -31,7 +32,7 @@ next_line script line buffer left (rest, told, parts, unended) = (lines_of (buff
 pub next_last : (script : Script) (line buffer : List ℕ) (left : Option (List ℕ)) → ReadsLine LastLine script.bytes line buffer left → IsNext script line
 next_last script line buffer left (told, same, unended, some) = ([], ap lines_of same ∙ lines_of-unended line unended some)
 
-module _ {D : Type 0} (g : Ghosts D) (watched : IsWatched g) (holds : State → DiskState → Type 0) (shows : Image → History → ℕ → Type 0)
+module _ {D : Type 0} (g : Ghosts D) (watched : IsWatched g) (holds : Holding) (shows : Showing)
     (stays : StaysShown shows) (exactly : LeavesItsHistory holds shows) (script : Script) (old new : Outside D) where
   -- a run that ended before it answered a line
   ended : (by_source by_disk : Type 0) → (by_source → Rose old.source_faults new.source_faults) → (by_disk → Rose (g.faults old.disk) (g.faults new.disk))

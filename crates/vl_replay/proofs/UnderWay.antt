@@ -11,10 +11,10 @@ use Rattle.vl_script.specs.Script.{text_of, lines_of}
 use Rattle.vl_replay.specs.Sequential.{State}
 use Rattle.vl_replay.specs.Represents.{Represents}
 use Rattle.vl_replay.specs.Exchanges.{Exchange, KeepsUp, history_after}
-use Rattle.vl_replay.specs.Between.{Extends}
+use Rattle.vl_replay.specs.Between.{Showing, Extends}
 use Rattle.vl_replay.specs.Endings.{Causes, line_number}
 use Rattle.vl_replay.specs.Runs.{Script, script_of, exchanges, course, Outside, CausesOf, EndsSo, EndsRun}
-use Rattle.vl_replay.specs.Durable.{LeavesItsHistory, StaysShown, HoldsState, GoesFrom, GoesAlong, DiskEnds, DiskEndsFrom}
+use Rattle.vl_replay.specs.Durable.{Holding, LeavesItsHistory, StaysShown, HoldsState, GoesFrom, GoesAlong, DiskEnds, DiskEndsFrom}
 use Rattle.vl_replay.specs.Steps.{GoesOn}
 use Rattle.vl_replay.specs.declared.replayer.store.Store.{Store}
 use Rattle.vl_replay.specs.declared.ending.Ending.{Ending}
@@ -25,7 +25,7 @@ use Rattle.vl_replay.proofs.DiskSteps.{IsWatched, exchange_extends, exchanges_ex
 
 -- So far the disk holds the state before the rest, a crash since the begin left no more than its commits, and what goes along
 -- the lines of the rest goes along those of the whole.
-pub record Carried {D : Type 0} (g : Ghosts D) (holds : State → DiskState → Type 0) (shows : Image → History → ℕ → Type 0) (first disk : D) (whole rest : Script) : Type 0 where
+pub record Carried {D : Type 0} (g : Ghosts D) (holds : Holding) (shows : Showing) (first disk : D) (whole rest : Script) : Type 0 where
   pub held : HoldsState g holds rest.start disk
   pub goes : GoesFrom g shows first disk whole.start.history rest.start.history
   pub along : (new : D) (most : History) (m : ℕ) → Extends rest.start.history most → GoesFrom g shows disk new rest.start.history most
@@ -33,7 +33,7 @@ pub record Carried {D : Type 0} (g : Ghosts D) (holds : State → DiskState → 
       → GoesAlong g holds shows new most first whole.start.history (take (m + rest.before) (exchanges whole))
 
 -- By what a run over the rest would print, a run over the whole, which is at its script's begin.
-pub record UnderWay {D : Type 0} (g : Ghosts D) (holds : State → DiskState → Type 0) (shows : Image → History → ℕ → Type 0) (whole : Script) (begin now : Outside D) (store : Store) (answered : ℕ) (buffer : List ℕ) : Type 0 where
+pub record UnderWay {D : Type 0} (g : Ghosts D) (holds : Holding) (shows : Showing) (whole : Script) (begin now : Outside D) (store : Store) (answered : ℕ) (buffer : List ℕ) : Type 0 where
   pub state : State
   pub before : ℕ
   pub had : List ℕ
@@ -51,7 +51,7 @@ pub record UnderWay {D : Type 0} (g : Ghosts D) (holds : State → DiskState →
   pub later_history : (m : ℕ) → history_after state.history (take m (exchanges (script_of state before (buffer ++ had)))) ≡ history_after whole.start.history (take (m + before) (exchanges whole))
   pub carried : HoldsState g holds whole.start begin.disk → Carried g holds shows begin.disk now.disk whole (script_of state before (buffer ++ had))
 
-module _ {D : Type 0} (g : Ghosts D) (watched : IsWatched g) (holds : State → DiskState → Type 0) (shows : Image → History → ℕ → Type 0)
+module _ {D : Type 0} (g : Ghosts D) (watched : IsWatched g) (holds : Holding) (shows : Showing)
     (stays : StaysShown shows) (exactly : LeavesItsHistory holds shows) (start : State) (input : List ℕ) (begin : Outside D) where
   abbrev whole : Script
   whole = script_of start 0 input

@@ -22,7 +22,8 @@ pub record Exchange : Type 0 where
 
 -- what the sequential store makes of a line
 abbrev pub exchanged : State → Line → Exchange
-exchanged s line = record { before = s; line = line; answer = answer_to s line; after = state_after s line }
+exchanged s line =
+    record { before = s; line = line; answer = answer_to s line; after = state_after s line }
 
 -- and of some text, where it is a line of the language
 abbrev pub exchange_at : State → List ℕ → Option Exchange
@@ -60,7 +61,9 @@ ended_lines bytes = count_by (λ b. b == 10) bytes
 -- ended in what it had given of these bytes than were answered. Those lines are the ones that ended in these bytes but not
 -- in what it then had left.
 abbrev pub KeepsUp : List ℕ → Option (List ℕ) → ℕ → Type 0
-KeepsUp bytes asked answered = (earlier : List ℕ) × (asked ≡ Some earlier) × (ended_lines bytes ≤ answered + ended_lines earlier)
+KeepsUp bytes asked answered =
+    (earlier : List ℕ) × (asked ≡ Some earlier)
+    × (ended_lines bytes ≤ answered + ended_lines earlier)
 
 -- What is read is explained by the history at the reader's number: what a view reads, by that at the view's own
 -- number, where the key is within its limits; what the transaction of an accepted commit has read, by that at the
@@ -74,8 +77,10 @@ IsExplainedExchange (Get name key) e =
 IsExplainedExchange (Set name key value) e = Unit {0}
 IsExplainedExchange (Delete name key) e = Unit {0}
 IsExplainedExchange (Commit name) e =
-    (number : ℕ) (reads : List Read) (writes : Writes) (n : ℕ) → get e.before.handles name ≡ Some (OpenTransaction number reads writes)
-    → e.answer ≡ Number n → IsExplained e.after.history (n - 1) reads × (number ≡ last_number e.before.history)
+    (number : ℕ) (reads : List Read) (writes : Writes) (n : ℕ)
+    → get e.before.handles name ≡ Some (OpenTransaction number reads writes)
+    → e.answer ≡ Number n
+    → IsExplained e.after.history (n - 1) reads × (number ≡ last_number e.before.history)
 IsExplainedExchange (Drop name) e = Unit {0}
 
 -- so it is in each of these exchanges

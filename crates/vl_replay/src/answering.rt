@@ -49,6 +49,7 @@ pub fn end_at_bad_line<K: Sink>(alloc: Global, answered: u64, sink: &mut K) -> E
     ensures disk { culprit_of result ≢ TheDisk }
     ensures read { culprit_of result ≢ TheSource }
     ensures opened { result ≢ Ending.NotAStore }
+    ensures words { result ≢ Ending.BadWords }
     ensures whole { CutsAnswer result → ⊥ }
 {
     let mut line = Vec::new(alloc);
@@ -76,6 +77,7 @@ pub fn answer<K: Sink, D: Disk>(
     ensures disk_faults { Counts TheDisk result (D.faults replayer.old.disk) (D.faults replayer.new.disk) }
     ensures read { option_map culprit_of result ≢ Some TheSource }
     ensures opened { result ≢ Some Ending.NotAStore }
+    ensures words { result ≢ Some Ending.BadWords }
 {
     match carry_out(alloc, replayer, text) {
         Ok(Some(answer)) => match sink.put(&answer) {

@@ -54,6 +54,7 @@ impl<D: Disk> Progress<D> {
         ensures sink { Counts TheSink result (K.faults sink.old) (K.faults sink.new) }
         ensures disk { Counts TheDisk result (D.faults self.old.replayer.disk) (D.faults self.new.replayer.disk) }
         ensures opened { result ≢ Some Ending.NotAStore }
+        ensures words { result ≢ Some Ending.BadWords }
     {
         match read_line(&mut self.buffer, source, &mut self.line) {
             Ok(Next::Line) => self.answer(sink),
@@ -81,6 +82,7 @@ impl<D: Disk> Progress<D> {
         ensures disk { Counts TheDisk result (D.faults self.old.replayer.disk) (D.faults self.new.replayer.disk) }
         ensures read { option_map culprit_of result ≢ Some TheSource }
         ensures opened { result ≢ Some Ending.NotAStore }
+        ensures words { result ≢ Some Ending.BadWords }
     {
         let ended = answer(
             self.alloc,
@@ -108,6 +110,7 @@ pub fn replay<S: Source, K: Sink, D: Disk>(
     ensures source { Counts TheSource (Some result.ending) (S.faults source.old) (S.faults source.new) }
     ensures sink { Counts TheSink (Some result.ending) (K.faults sink.old) (K.faults sink.new) }
     ensures disk { Counts TheDisk (Some result.ending) (D.faults disk) (D.faults result.disk) }
+    ensures words { result.ending ≢ Ending.BadWords }
 
     // The run ends as no store only where anything stands, and there always, unless a fault or want of memory comes
     // first. Then nothing was changed or read, and the last line is all that is printed.
@@ -151,6 +154,7 @@ fn answer_lines<S: Source, K: Sink, D: Disk>(
     ensures sink { Counts TheSink (Some result.ending) (K.faults sink.old) (K.faults sink.new) }
     ensures disk { Counts TheDisk (Some result.ending) (D.faults replayer.disk) (D.faults result.disk) }
     ensures opened { result.ending ≢ Ending.NotAStore }
+    ensures words { result.ending ≢ Ending.BadWords }
 {
     let Ok(buffer) = Buffer::new(alloc) else {
         return Ended {

@@ -20,7 +20,7 @@ use crate::replayer::{Decision, Handle, Memtable, Open, Writes};
 use std::alloc::Global;
 use vl_disk::Disk;
 use vl_journal::{NUMBER, append_durably};
-use vl_model::{Bytes, Change, Counter, Key, MAX_COMMIT_NUMBER, MAX_ROOM, is_key_len, is_value_len};
+use vl_model::{Change, Counter, Key, MAX_COMMIT_NUMBER, MAX_ROOM, is_key_len, is_value_len};
 use vl_script::{Answer, Ident, Line};
 use vl_seglog::ActiveLog;
 
@@ -264,7 +264,7 @@ impl Store {
     {
         match change {
             Some(Change::Set(value)) => Ok(Answer::Found {
-                value: Bytes::copy_of(self.alloc, value.as_slice())?,
+                value: value.share()?,
             }),
             Some(Change::Delete) | None => Ok(Answer::NoValue),
         }

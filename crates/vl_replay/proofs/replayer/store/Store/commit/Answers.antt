@@ -14,8 +14,8 @@ pub returns-in-Refuse-clause-carries : goal.returns-in-Refuse-clause-carries
 returns-in-Refuse-clause-carries g c s rep held =
     let disk = c.args.disk.now in
     let decided = rw c.in-Refuse.is at (c.decide.ensures.decides s rep) in
-    subst (λ (o : Outcome). CarriesOut g.D.Watched IsStored Shown disk disk s o.1 (Ok c.in-Refuse.field-0)) (sym decided)
-    (carries_kept g.D.Watched (record { only_now = g.met.D.Disk.only_now; counts_now = g.met.D.Disk.counts_now }) s s disk (Ok c.in-Refuse.field-0) (kept_nothing s) held)
+    subst (λ (o : Outcome). CarriesOut g.D.Watched IsStored Shown disk disk s o.1 (Ok c.in-Refuse.answer)) (sym decided)
+    (carries_kept g.D.Watched (record { only_now = g.met.D.Disk.only_now; counts_now = g.met.D.Disk.counts_now }) s s disk (Ok c.in-Refuse.answer) (kept_nothing s) held)
 
 pub returns-in-Empty-clause-carries : goal.returns-in-Empty-clause-carries
 returns-in-Empty-clause-carries g c s rep held =
