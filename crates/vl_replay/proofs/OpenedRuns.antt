@@ -1,29 +1,25 @@
 -- A run that opens its store first, or can't.
-use Rattle.std.proofs.Common.{◌≡◌, ◌≢◌, ◌⊎◌, inl, ℕ, zero, suc, ◌≤◌, List, [], ◌∷◌, take, Option, Some, refl, sym, ◌∙◌, ap, subst, arith}
+use Rattle.std.proofs.Common.{◌≡◌, ◌≢◌, inl, ℕ, zero, suc, ◌≤◌, List, [], ◌∷◌, take, Option, Some, refl, ◌∙◌, subst}
 use Rattle.vl_model.specs.History.{History}
 use Rattle.vl_disk.specs.declared.watched.Watched.{Ghosts}
 use Rattle.vl_disk.specs.Faults.{Rose, HasCause}
-use Rattle.vl_disk.specs.DiskState.{DiskState}
-use Rattle.vl_disk.specs.Crash.{Image}
-use Rattle.vl_disk.specs.Moments.{HoldsThroughout}
 use Rattle.vl_io.specs.declared.sink.Sink as sink
 use Rattle.vl_io.specs.Sink.{Takes}
 use Rattle.vl_journal.specs.declared.fails.OpenFail.{OpenFail as Why}
 use Rattle.vl_journal.specs.declared.fails.OpenFail.TheVariants as why
 use Rattle.vl_script.specs.Script.{lines_of}
-use Rattle.vl_replay.specs.Sequential.{State}
 use Rattle.vl_replay.specs.Exchanges.{Exchange, KeepsUp, history_after}
 use Rattle.vl_replay.specs.Between.{Showing, Extends}
 use Rattle.vl_replay.specs.Endings.{Culprit, TheDisk, TheSink, TheSource, Counts, Causes, CutsAnswer, IsBetweenLines, culprit_of, last_line}
 use Rattle.vl_replay.specs.Runs.{Script, exchanges, next_number, Stops, Course, Outside, CausesOf, EndsRun}
 use Rattle.vl_replay.specs.Durable.{Holding, LeavesItsHistory, StaysShown, Tells, HoldsState, GoesFrom, GoesAlong, DiskEnds, DiskEndsFrom}
 use Rattle.vl_replay.specs.Opening.{refusal_of}
-use Rattle.vl_replay.specs.Steps.{EndsBefore, Finishes, FinishesBy}
+use Rattle.vl_replay.specs.Steps.{EndsBefore, FinishesBy}
 use Rattle.vl_replay.specs.declared.ending.Ending.{Ending}
 use Rattle.vl_replay.specs.declared.ending.Ending.TheVariants.{BadWords, NotAStore, NoMemory, WriteFault}
 use Rattle.vl_replay.proofs.Betweens.{extends_itself}
 use Rattle.vl_replay.proofs.Ends.{ends_weaker, causes_weaker, finished, or_cut, finish_counts, counts_none}
-use Rattle.vl_replay.proofs.DiskSteps.{IsWatched, exchanges_extend, exchange_extends, goes_wider, goes_then, at_end, ends_later, rose_earlier}
+use Rattle.vl_replay.proofs.DiskSteps.{IsWatched, exchanges_extend, goes_wider, goes_then, at_end, ends_later, rose_earlier}
 
 -- ---- the store wasn't opened
 

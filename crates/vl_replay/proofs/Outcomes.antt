@@ -1,8 +1,8 @@
 -- What a line leaves of the commits: it keeps them, or adds one and is answered by its number.
-use Rattle.std.proofs.Common.{◌≡◌, ◌+◌, ◌⊎◌, ◌==◌, not, ℕ, Bool, true, false, cond, List, [], ◌∷◌, length, refl, inl, inr}
+use Rattle.std.proofs.Common.{◌≡◌, ◌+◌, ◌⊎◌, ◌==◌, not, ℕ, Bool, true, false, cond, List, [], length, refl, inl, inr}
 use Rattle.std.specs.FinMap.{get, insert, contains_key, len, empty}
 use Rattle.std.specs.Prelude.{Option, Some, None, nat_le}
-use Rattle.vl_model.specs.History.{History, last_number, value_at, with_commit}
+use Rattle.vl_model.specs.History.{last_number, value_at, with_commit}
 use Rattle.vl_model.specs.Keys.{Writes, is_key_length}
 use Rattle.vl_model.specs.Limits.{max_commit_number, max_room}
 use Rattle.vl_model.specs.Reads.{Read}

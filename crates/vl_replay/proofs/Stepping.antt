@@ -1,21 +1,19 @@
 -- One step of a run over a disk, by what was read and how it was answered.
-use Rattle.std.proofs.Common.{◌≡◌, ℕ, ◌≤◌, List, [], ◌∷◌, ◌++◌, length, take, Option, None, Some, refl, sym, ◌∙◌, ap, subst}
+use Rattle.std.proofs.Common.{◌≡◌, ℕ, List, [], ◌∷◌, ◌++◌, take, Option, None, Some, sym, ◌∙◌, ap, subst}
 use Rattle.std.specs.Prelude.{unwrap_or}
 use Rattle.vl_model.specs.History.{History}
 use Rattle.vl_disk.specs.declared.watched.Watched.{Ghosts}
 use Rattle.vl_disk.specs.Faults.{Rose}
-use Rattle.vl_disk.specs.DiskState.{DiskState}
-use Rattle.vl_disk.specs.Crash.{Image}
 use Rattle.vl_io.specs.Sink.{Takes}
 use Rattle.vl_script.specs.Script.{text_of, lines_of}
 use Rattle.vl_replay.specs.Between.{Showing}
 use Rattle.vl_replay.specs.Input.{ReadsLine}
 use Rattle.vl_replay.specs.Sequential.{State}
 use Rattle.vl_replay.specs.Exchanges.{Exchange, exchange_at, state_behind, exchanges_from, history_after, KeepsUp}
-use Rattle.vl_replay.specs.Endings.{Culprit, Causes, CutsAnswer}
-use Rattle.vl_replay.specs.Runs.{Script, script_of, exchanges, Outside, CausesOf, EndsSo, EndsRun}
+use Rattle.vl_replay.specs.Endings.{Causes, CutsAnswer}
+use Rattle.vl_replay.specs.Runs.{Script, exchanges, Outside, CausesOf, EndsRun}
 use Rattle.vl_replay.specs.Durable.{Holding, LeavesItsHistory, StaysShown, HoldsState, DiskEnds, DiskEndsFrom}
-use Rattle.vl_replay.specs.Steps.{IsNext, EndsBefore, StepsOn, MovesOn, DiskSteps, GoesOn, Steps}
+use Rattle.vl_replay.specs.Steps.{IsNext, EndsBefore, StepsOn, MovesOn, DiskSteps, Steps}
 use Rattle.vl_replay.specs.declared.input.lines.Next.TheVariants.{Line as WholeLine, LastLine}
 use Rattle.vl_replay.specs.declared.replayer.store.Store.{Store}
 use Rattle.vl_replay.specs.declared.ending.Ending.{Ending}

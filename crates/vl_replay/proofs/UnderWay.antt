@@ -1,11 +1,9 @@
 -- A run under way: what was printed so far, before what a run over the rest prints, is a run over the whole.
 use Rattle.std.proofs.Common.{append_assoc, ◌≡◌, ◌+◌, ◌≤◌, ℕ, suc, List, [], ◌∷◌, ◌++◌, take, refl, sym, ◌∙◌, ap, subst, arith}
-use Rattle.std.specs.Prelude.{Option, Some, None}
+use Rattle.std.specs.Prelude.{Option, Some}
 use Rattle.vl_model.specs.History.{History}
 use Rattle.vl_disk.specs.declared.watched.Watched.{Ghosts}
 use Rattle.vl_disk.specs.Faults.{Rose}
-use Rattle.vl_disk.specs.DiskState.{DiskState}
-use Rattle.vl_disk.specs.Crash.{Image}
 use Rattle.vl_io.specs.Sink.{Takes}
 use Rattle.vl_script.specs.Script.{text_of, lines_of}
 use Rattle.vl_replay.specs.Sequential.{State}
@@ -13,7 +11,7 @@ use Rattle.vl_replay.specs.Represents.{Represents}
 use Rattle.vl_replay.specs.Exchanges.{Exchange, KeepsUp, history_after}
 use Rattle.vl_replay.specs.Between.{Showing, Extends}
 use Rattle.vl_replay.specs.Endings.{Causes, line_number}
-use Rattle.vl_replay.specs.Runs.{Script, script_of, exchanges, course, Outside, CausesOf, EndsSo, EndsRun}
+use Rattle.vl_replay.specs.Runs.{Script, script_of, exchanges, Outside, CausesOf, EndsSo, EndsRun}
 use Rattle.vl_replay.specs.Durable.{Holding, LeavesItsHistory, StaysShown, HoldsState, GoesFrom, GoesAlong, DiskEnds, DiskEndsFrom}
 use Rattle.vl_replay.specs.Steps.{GoesOn}
 use Rattle.vl_replay.specs.declared.replayer.store.Store.{Store}
@@ -21,7 +19,7 @@ use Rattle.vl_replay.specs.declared.ending.Ending.{Ending}
 use Rattle.vl_replay.specs.Laws.{keeps_up_at_first}
 use Rattle.vl_replay.proofs.Betweens.{extends_itself, extends_then}
 use Rattle.vl_replay.proofs.Ends.{takes_both, takes_nothing, goes_on, longer, keeps_up_behind, ends_weaker, causes_weaker}
-use Rattle.vl_replay.proofs.DiskSteps.{IsWatched, exchange_extends, exchanges_extend, rests, it_holds, goes_wider, goes_then, ends_later, rose_earlier}
+use Rattle.vl_replay.proofs.DiskSteps.{IsWatched, exchange_extends, exchanges_extend, rests, it_holds, goes_then, ends_later, rose_earlier}
 
 -- So far the disk holds the state before the rest, a crash since the begin left no more than its commits, and what goes along
 -- the lines of the rest goes along those of the whole.

@@ -1,6 +1,6 @@
 -- What a disk holds while a script is answered, and what a crash leaves of it. `holds` says what a disk holds of a state,
 -- and `shows` what an image shows of a history at a number: both are parameters throughout.
-use Rattle.std.specs.Prelude.{◌≡◌, ◌≢◌, ◌⊎◌, ℕ, ◌≤◌, List, [], ◌∷◌, Option, Some, None, Err, Result, OnOk}
+use Rattle.std.specs.Prelude.{◌≡◌, ◌⊎◌, ℕ, ◌≤◌, List, [], ◌∷◌, Some, Err, Result, OnOk}
 use Rattle.vl_model.specs.History.{History, last_number}
 use Rattle.vl_disk.specs.declared.watched.Watched.{Ghosts}
 use Rattle.vl_disk.specs.Faults.{Rose}
@@ -15,7 +15,6 @@ use Rattle.vl_replay.specs.Endings.{CutsAnswer, IsBetweenLines, culprit_of}
 use Rattle.vl_replay.specs.Runs.{Course}
 use Rattle.vl_replay.specs.declared.fails.Halt.{Halt}
 use Rattle.vl_replay.specs.declared.fails.Halt.TheVariants.{NoMemory as NoRoom}
-use Rattle.vl_replay.specs.declared.ending.Ending.{Ending}
 use Rattle.vl_replay.specs.declared.ending.Ending.TheVariants.{NoMemory}
 
 -- what a disk holds of a state

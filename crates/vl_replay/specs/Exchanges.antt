@@ -7,7 +7,7 @@ use Rattle.vl_model.specs.History.{History, last_number, value_at}
 use Rattle.vl_model.specs.Reads.{Read, IsExplained}
 use Rattle.vl_model.specs.Keys.{Writes, is_key_length}
 use Rattle.vl_replay.specs.Sequential.{State, answer_to, state_after, OpenTransaction, OpenView, found}
-use Rattle.vl_script.specs.Script.{line_of, lines_of, text_of}
+use Rattle.vl_script.specs.Script.{line_of, text_of}
 use Rattle.vl_script.specs.declared.line.Line.{Line}
 use Rattle.vl_script.specs.declared.line.Line.TheVariants.{Begin, View, Get, Set, Delete, Commit, Drop}
 use Rattle.vl_script.specs.declared.answer.Answer.{Answer}

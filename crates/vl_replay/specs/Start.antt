@@ -1,7 +1,7 @@
 -- The state in which a run begins. For now a store is opened only over a disk on which nothing stands.
 use Rattle.std.specs.Prelude.{◌≡◌, ℕ, List}
 use Rattle.std.specs.FinMap.{empty, len-empty}
-use Rattle.std.proofs.Common.{refl, sym, ◌∙◌, subst, zero-le}
+use Rattle.std.proofs.Common.{sym, ◌∙◌, subst, zero-le}
 use Rattle.vl_model.specs.Keys.{key_cmp}
 use Rattle.vl_model.specs.History.{no_history}
 use Rattle.vl_disk.specs.declared.watched.Watched.{Ghosts}

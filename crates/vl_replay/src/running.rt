@@ -39,7 +39,8 @@ struct Progress<D: Disk> {
 impl<D: Disk> Progress<D> {
     /// Reads a line and answers it. None where the run goes on.
     fn step<S: Source, K: Sink>(&mut self, source: &mut S, sink: &mut K) -> Option<Ending>
-        ensures runs { (s : State) (before : ℕ) (had : List ℕ) → Represents self.old.replayer.store s
+        ensures runs { (s : State) (before : ℕ) (had : List ℕ)
+            → Represents self.old.replayer.store s
             → self.old.answered ≡ line_number before → S.left source.old ≡ Some had
             → KeepsUp (self.old.buffer ++ had) (S.asked source.old) 0
             → Steps D.Watched IsStored Shown (script_of s before (self.old.buffer ++ had))
@@ -76,7 +77,8 @@ impl<D: Disk> Progress<D> {
             → HoldsState D.Watched IsStored s self.old.replayer.disk
             → DiskSteps D.Watched IsStored Shown self.old.replayer.disk self.new.replayer.disk s
             (state_behind s (exchange_at s self.old.line.items)) result }
-        ensures counted { (before : ℕ) → self.old.answered ≡ line_number before → self.new.answered ≡ line_number (before + 1) }
+        ensures counted { (before : ℕ) → self.old.answered ≡ line_number before
+            → self.new.answered ≡ line_number (before + 1) }
         ensures same { self.new.buffer ≡ self.old.buffer }
         ensures sink { Counts TheSink result (K.faults sink.old) (K.faults sink.new) }
         ensures disk { Counts TheDisk result (D.faults self.old.replayer.disk) (D.faults self.new.replayer.disk) }
@@ -103,7 +105,8 @@ pub fn replay<S: Source, K: Sink, D: Disk>(
     sink: &mut K,
     disk: D,
 ) -> Ended<D>
-    ensures runs { (s : State) (input : List ℕ) → StartsAs D.Watched disk s → S.left source.old ≡ Some input
+    ensures runs { (s : State) (input : List ℕ) → StartsAs D.Watched disk s
+        → S.left source.old ≡ Some input
         → EndsRun D.Watched (ForSome (D.told disk) StandsSome) (DiskEndsFromStart D.Watched disk result.disk)
         (script_of s 0 input) (outside S.Source K.Sink source.old sink.old disk)
         (outside S.Source K.Sink source.new sink.new result.disk) result.ending }
@@ -114,10 +117,13 @@ pub fn replay<S: Source, K: Sink, D: Disk>(
 
     // The run ends as no store only where anything stands, and there always, unless a fault or want of memory comes
     // first. Then nothing was changed or read, and the last line is all that is printed.
-    ensures not_a_store { result.ending ≡ Ending.NotAStore → ForSome (D.told disk) StandsSome × (D.told result.disk ≡ D.told disk)
-        × (source.new ≡ source.old) × FinishesBy K.Sink sink.old sink.new Ending.NotAStore result.ending }
+    ensures not_a_store { result.ending ≡ Ending.NotAStore
+        → ForSome (D.told disk) StandsSome × (D.told result.disk ≡ D.told disk)
+        × (source.new ≡ source.old)
+        × FinishesBy K.Sink sink.old sink.new Ending.NotAStore result.ending }
     ensures occupied { (state : DiskState) → D.told disk ≡ Some state → StandsSome state
-        → IsRefused K.Sink sink.old sink.new result.ending × (source.new ≡ source.old) × (D.told result.disk ≡ D.told disk) }
+        → IsRefused K.Sink sink.old sink.new result.ending × (source.new ≡ source.old)
+        × (D.told result.disk ≡ D.told disk) }
 {
     match Replayer::new(alloc, disk) {
         Ok(replayer) => answer_lines(alloc, source, sink, replayer),
@@ -146,7 +152,8 @@ fn answer_lines<S: Source, K: Sink, D: Disk>(
     sink: &mut K,
     replayer: Replayer<D>,
 ) -> Ended<D>
-    ensures runs { (s : State) (input : List ℕ) → Represents replayer.store s → S.left source.old ≡ Some input
+    ensures runs { (s : State) (input : List ℕ) → Represents replayer.store s
+        → S.left source.old ≡ Some input
         → EndsRun D.Watched ⊥ (DiskEndsFrom D.Watched IsStored Shown replayer.disk result.disk s)
         (script_of s 0 input) (outside S.Source K.Sink source.old sink.old replayer.disk)
         (outside S.Source K.Sink source.new sink.new result.disk) result.ending }

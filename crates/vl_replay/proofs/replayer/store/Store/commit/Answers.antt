@@ -1,9 +1,8 @@
-use Rattle.std.proofs.Common.{◌≡◌, Some, Ok, refl, ap, ◌∙◌, sym, subst}
+use Rattle.std.proofs.Common.{Ok, sym, subst}
 use Rattle.std.specs.Prelude.{IfOk}
-use Rattle.std.specs.FinMap.{get}
 use Rattle.vl_script.specs.declared.answer.Answer.TheVariants.{Nothing}
-use Rattle.vl_replay.specs.Sequential.{Outcome, committed, without_handle}
-use Rattle.vl_replay.specs.Represents.{Gives, Decides}
+use Rattle.vl_replay.specs.Sequential.{Outcome, without_handle}
+use Rattle.vl_replay.specs.Represents.{Gives}
 use Rattle.vl_replay.specs.Durable.{CarriesOut}
 use Rattle.vl_replay.specs.Stored.{IsStored, Shown}
 use Rattle.vl_replay.proofs.Commits.{carries_kept}
