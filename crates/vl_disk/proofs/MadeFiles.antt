@@ -1,5 +1,5 @@
 -- The three calls that make a file.
-use Rattle.std.proofs.Common.{◌≡◌, ◌⊎◌, ⊎_elim, ℕ, ◌+◌, ◌-◌, ◌^◌, ◌≤◌, min, true, false, List, length, Option, None, Some, Result, Ok, Err, IsErr, OnOk, OnErr, ◌∙◌, ap, sym, subst, arith, refl}
+use Rattle.std.proofs.Common.{◌≡◌, ◌⊎◌, ⊎_elim, ℕ, ◌≤◌, true, false, List, length, Option, None, Some, Result, Ok, Err, IsErr, OnOk, OnErr, ◌∙◌, ap, subst, arith, refl}
 use Rattle.std.proofs.lemmas.List.{take_all}
 use Rattle.std.proofs.lemmas.Result.{on_ok_weaker, on_err_weaker}
 use Rattle.std.specs.FinMap.{get, insert}

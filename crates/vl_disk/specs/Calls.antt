@@ -19,7 +19,8 @@ pub record Looks {D : Type 0} (g : Ghosts D) (old new : D) (failed : Type 0) : T
   pub cause : HasCause (g.faults old) (g.faults new) failed
 
 -- a changing call: it is counted, and meanwhile the disk is what `during` says
-pub record Works {D : Type 0} (g : Ghosts D) (old new : D) (during : DiskState → DiskState → Type 0) (failed : Type 0) : Type 0 where
+pub record Works {D : Type 0} (g : Ghosts D) (old new : D)
+    (during : DiskState → DiskState → Type 0) (failed : Type 0) : Type 0 where
   pub calls : g.calls new ≡ one_more (g.calls old)
   pub time : Elapses g old new during
   pub cause : HasCause (g.faults old) (g.faults new) failed
@@ -34,10 +35,12 @@ pub record Creates {D T E : Type 0} (g : Ghosts D) (name : Name) (old new : D) (
   pub works : Works g old new (WhileCreating name) (IsErr result)
   pub spare : UsesChange name (g.spare old) (g.spare new)
 
-pub record Appends {D T E : Type 0} (g : Ghosts D) (name : Name) (piece : List ℕ) (old new : D) (result : Result T E) : Type 0 where
+pub record Appends {D T E : Type 0} (g : Ghosts D) (name : Name) (piece : List ℕ) (old new : D)
+    (result : Result T E) : Type 0 where
   pub appended : OnOk result (Turns (state.appended name piece (length piece)) (g.told old) (g.told new))
   -- where it failed the file has taken some first bytes of the piece,
-  pub failed : OnErr result ((taken : ℕ) × (taken ≤ length piece) × Turns (state.appended name piece taken) (g.told old) (g.told new))
+  pub failed : OnErr result ((taken : ℕ) × (taken ≤ length piece)
+      × Turns (state.appended name piece taken) (g.told old) (g.told new))
   -- and none on a disk that fails cleanly; the piece is due all the same
   pub clean : IsTrue g.fails_cleanly → OnErr result (Turns (state.appended name piece 0) (g.told old) (g.told new))
   pub stands : ForSome (g.told new) (Stands name)
@@ -52,13 +55,16 @@ pub record Syncs {D T E : Type 0} (g : Ghosts D) (name : Name) (old new : D) (re
   pub works : Works g old new (WhileSyncing name) (IsErr result)
   pub spare : SameSpare (g.spare old) (g.spare new)
 
-pub record Cuts {D T E : Type 0} (g : Ghosts D) (name : Name) (len : ℕ) (old new : D) (result : Result T E) : Type 0 where
+pub record Cuts {D T E : Type 0} (g : Ghosts D) (name : Name) (len : ℕ) (old new : D)
+    (result : Result T E) : Type 0 where
   pub cut : OnOk result (Turns (cut_to name len len) (g.told old) (g.told new))
   -- where it failed the file has that length, its old one or one between, and no more than was to stay is durable;
-  pub failed : OnErr result ((left : ℕ) × (len ≤ left) × ForSome (g.told old) (IsInside name left) × Turns (cut_to name len left) (g.told old) (g.told new))
+  pub failed : OnErr result ((left : ℕ) × (len ≤ left) × ForSome (g.told old) (IsInside name left)
+      × Turns (cut_to name len left) (g.told old) (g.told new))
   -- it has its old length on a disk that fails cleanly
   pub clean : IsTrue g.fails_cleanly
-      → OnErr result (ForSome (g.told old) (λ disk. Turns (cut_to name len (length (file_at disk name).bytes)) (g.told old) (g.told new)))
+      → OnErr result (ForSome (g.told old) (λ disk.
+      Turns (cut_to name len (length (file_at disk name).bytes)) (g.told old) (g.told new)))
   pub stands : ForSome (g.told new) (Stands name)
   pub works : Works g old new (WhileCutting name len) (IsErr result)
   pub spare : UsesChange name (g.spare old) (g.spare new)

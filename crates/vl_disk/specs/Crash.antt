@@ -46,13 +46,15 @@ abbrev pub WhileCreating : Name → DiskState → DiskState → Type 0
 WhileCreating name disk now = (now ≡ disk) ⊎ (now ≡ created name disk)
 
 abbrev pub WhileAppending : Name → List ℕ → DiskState → DiskState → Type 0
-WhileAppending name piece disk now = (now ≡ disk) ⊎ ((taken : ℕ) × (taken ≤ length piece) × (now ≡ appended name piece taken disk))
+WhileAppending name piece disk now =
+    (now ≡ disk) ⊎ ((taken : ℕ) × (taken ≤ length piece) × (now ≡ appended name piece taken disk))
 
 abbrev pub WhileSyncing : Name → DiskState → DiskState → Type 0
 WhileSyncing name disk now = (now ≡ disk) ⊎ (now ≡ synced name disk)
 
 abbrev pub WhileCutting : Name → ℕ → DiskState → DiskState → Type 0
-WhileCutting name len disk now = (now ≡ disk) ⊎ ((left : ℕ) × (len ≤ left) × IsInside name left disk × (now ≡ cut_to name len left disk))
+WhileCutting name len disk now =
+    (now ≡ disk) ⊎ ((left : ℕ) × (len ≤ left) × IsInside name left disk × (now ≡ cut_to name len left disk))
 
 abbrev pub WhileRemoving : Name → DiskState → DiskState → Type 0
 WhileRemoving name disk now = (now ≡ disk) ⊎ (now ≡ without name disk)

@@ -1,15 +1,16 @@
 -- Each call keeps a disk lawful.
-use Rattle.std.specs.Prelude.{◌≡◌, ◌≢◌, ℕ, ◌≤◌, true, false, List, length, take, All, Option, None, Some, IsTrue}
+use Rattle.std.specs.Prelude.{◌≡◌, ◌≢◌, ℕ, ◌≤◌, true, false, List, length, take, Option, None, Some, IsTrue}
 use Rattle.std.specs.Option.{option_map}
 use Rattle.std.specs.FinMap.{get, get-empty}
-use Rattle.std.proofs.Common.{⊎_elim, refl, sym, ◌∙◌, ap, subst, arith, length-append}
+use Rattle.std.proofs.Common.{⊎_elim, refl, sym, ◌∙◌, subst, arith, length-append}
 use Rattle.std.proofs.lemmas.List.{length-take}
 use Rattle.std.proofs.lemmas.List.Elements.{All-nil, All-push}
 use Rattle.vl_disk.specs.declared.name.Name.{Name}
 use Rattle.vl_disk.specs.Name.{name_cmp, IsNumbered}
-use Rattle.vl_disk.specs.NameMap.{same_or_other, get_removed}
+use Rattle.vl_disk.specs.NameMap.{same_or_other, get_inserted, get_inserted_other, get_removed, get_removed_other}
 use Rattle.vl_disk.specs.Crash.{last_file}
 use Rattle.vl_disk.specs.Changes.{SameElsewhere, created_there, created_elsewhere, changed_there, changed_elsewhere, unchanged, without_removed, without_elsewhere}
+use Rattle.vl_disk.specs.MadeFile.{made}
 use Rattle.vl_disk.specs.DiskState.{Piece, File, DiskState, IsLawfulFile, IsLawful, empty_disk, new_file, settled, synced_file, lengthened, shortened, with_file, created, appended, synced, cut_to, without}
 
 none_some : {X : Type 0} (x : X) → None ≡ Some x → ⊥
@@ -39,14 +40,6 @@ lengthened_lawful piece taken file lawful = record {
 pub shortened_lawful : (len left : ℕ) → len ≤ left → (file : File) → IsLawfulFile file → IsLawfulFile (shortened len left file)
 shortened_lawful len left short file lawful = record {
   within = omega (arith, short, lawful.within, length-take left file.bytes);
-  as_synced = λ whole. absurd (false_true whole);
-  due = λ k d within. omega (arith, lawful.due k d within);
-}
-
--- a cut that left the whole file
-pub uncut_lawful : (len : ℕ) (file : File) → IsLawfulFile file → IsLawfulFile (shortened len (length file.bytes) file)
-uncut_lawful len file lawful = record {
-  within = omega (arith, lawful.within, length-take (length file.bytes) file.bytes);
   as_synced = λ whole. absurd (false_true whole);
   due = λ k d within. omega (arith, lawful.due k d within);
 }
@@ -115,6 +108,12 @@ module _ (disk : DiskState) (lawful : IsLawful disk) (name : Name) where
   created_lawful numbered = lawful_there name disk (created name disk) (created_elsewhere name disk)
       (subst (IsLawfulAt name (get (created name disk).standing name)) (sym (get_removed disk.removed name))
       (subst (λ (o : Option File). IsLawfulAt name o None) (sym (created_there name disk)) (new_file_lawful, numbered))) lawful
+
+  pub made_lawful : (bytes : List ℕ) → IsNumbered name → IsLawful (made name bytes disk)
+  made_lawful bytes numbered = lawful_there name disk (made name bytes disk)
+      (record { standing = get_inserted_other disk.standing name (settled bytes); removed = get_removed_other disk.removed name })
+      (subst (IsLawfulAt name (get (made name bytes disk).standing name)) (sym (get_removed disk.removed name))
+      (subst (λ (o : Option File). IsLawfulAt name o None) (sym (get_inserted disk.standing name (settled bytes))) (settled_lawful bytes, numbered))) lawful
 
   -- of a change that keeps a file lawful
   pub with_file_lawful : (change : File → File) → ((file : File) → IsLawfulFile file → IsLawfulFile (change file)) → IsLawful (with_file name change disk)

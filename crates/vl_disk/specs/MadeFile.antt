@@ -30,7 +30,8 @@ TellsPart name bytes None new = new ≡ None
 TellsPart name bytes (Some old) new = (now : DiskState) × (new ≡ Some now) × WhileMaking name bytes old now
 
 -- the making of a file
-pub record Makes {D T E : Type 0} (g : Ghosts D) (name : Name) (bytes : List ℕ) (old new : D) (result : Result T E) : Type 0 where
+pub record Makes {D T E : Type 0} (g : Ghosts D) (name : Name) (bytes : List ℕ) (old new : D)
+    (result : Result T E) : Type 0 where
   pub made : OnOk result (Turns (made name bytes) (g.told old) (g.told new))
   pub stands : OnOk result (ForSome (g.told new) (Stands name))
   pub failed : OnErr result (TellsPart name bytes (g.told old) (g.told new))

@@ -1,12 +1,15 @@
 -- The names of a disk's files, and their order.
-use Rattle.std.specs.Prelude.{◌≡◌, ℕ, ◌+◌, ◌-◌, ◌*◌, ◌^◌, ◌≤◌}
+use Rattle.std.specs.Prelude.{◌≡◌, ◌≢◌, ◌==◌, ℕ, Bool, true, false, ◌+◌, ◌-◌, ◌*◌, ◌^◌, ◌≤◌}
 use Rattle.std.specs.declared.cmp.Ordering.{Ordering}
-use Rattle.std.specs.Ordering.{nat_cmp}
-use Rattle.std.specs.Cmp.{IsTotalOrder, nat_cmp_total}
+use Rattle.std.specs.Ordering.{nat_cmp, is_eq}
+use Rattle.std.specs.Cmp.{IsTotalOrder, nat_cmp_total, unsigned_ties}
 use Rattle.std.specs.FinMap.{IsAntisymmetric, nat_cmp-IsAntisymmetric}
-use Rattle.std.proofs.Common.{ap, arith}
+use Rattle.std.proofs.Common.{⊎_elim, sym, ◌∙◌, ap, arith}
+use Rattle.std.proofs.lemmas.Bool.{cases_eq}
+use Rattle.std.proofs.lemmas.Bool.Decides.{nat_tests}
 use Rattle.vl_disk.specs.declared.name.Name.{Name}
 use Rattle.vl_disk.specs.declared.name.Name.TheVariants.{Log, Table, Manifest}
+use Rattle.vl_disk.specs.contracts.name.NamePartialEq.TheImpl as name_equal
 
 -- a number of its own for each name
 abbrev pub name_number : Name → ℕ
@@ -50,3 +53,27 @@ same_name (Manifest m) (Table n) e = absurd (omega arith)
 -- so a map is known by what it has at each name
 pub name_cmp_exact : IsAntisymmetric name_cmp
 name_cmp_exact a b tied = same_name a b (nat_cmp-IsAntisymmetric (name_number a) (name_number b) tied)
+
+abbrev name_eq : Name → Name → Bool
+name_eq = (name_equal.ghosts).eq
+
+same_kind : (m n p q : ℕ) → (m ≡ n → p ≡ q) → (p ≡ q → m ≡ n) → (m == n) ≡ is_eq (nat_cmp p q)
+same_kind m n p q up down = ⊎_elim
+    (λ (e : p ≡ q). let f : m ≡ n = down e in let a : (m == n) ≡ true = grind (arith, nat_tests) in let b : (p == q) ≡ true = grind (arith, nat_tests) in a ∙ sym b ∙ unsigned_ties p q)
+    (λ (o : p ≢ q). let f : m ≢ n = λ e. o (up e) in let a : (m == n) ≡ false = grind (arith, nat_tests) in let b : (p == q) ≡ false = grind (arith, nat_tests) in a ∙ sym b ∙ unsigned_ties p q)
+    (cases_eq p q)
+
+other_kind : (p q : ℕ) → p ≢ q → false ≡ is_eq (nat_cmp p q)
+other_kind p q apart = let b : (p == q) ≡ false = grind (arith, nat_tests) in sym b ∙ unsigned_ties p q
+
+-- names are the same where their order ties
+pub name_ties : (a b : Name) → name_eq a b ≡ is_eq (name_cmp a b)
+name_ties (Log m) (Log n) = same_kind m n (3 * m) (3 * n) (λ e. omega (arith, e)) (λ e. omega (arith, e))
+name_ties (Table m) (Table n) = same_kind m n (3 * m + 1) (3 * n + 1) (λ e. omega (arith, e)) (λ e. omega (arith, e))
+name_ties (Manifest m) (Manifest n) = same_kind m n (3 * m + 2) (3 * n + 2) (λ e. omega (arith, e)) (λ e. omega (arith, e))
+name_ties (Log m) (Table n) = other_kind (3 * m) (3 * n + 1) (λ e. omega (arith, e))
+name_ties (Log m) (Manifest n) = other_kind (3 * m) (3 * n + 2) (λ e. omega (arith, e))
+name_ties (Table m) (Log n) = other_kind (3 * m + 1) (3 * n) (λ e. omega (arith, e))
+name_ties (Table m) (Manifest n) = other_kind (3 * m + 1) (3 * n + 2) (λ e. omega (arith, e))
+name_ties (Manifest m) (Log n) = other_kind (3 * m + 2) (3 * n) (λ e. omega (arith, e))
+name_ties (Manifest m) (Table n) = other_kind (3 * m + 2) (3 * n + 1) (λ e. omega (arith, e))

@@ -1,8 +1,8 @@
 -- Which names stand and which are free after a call, for a caller that asks the next one.
-use Rattle.std.specs.Prelude.{◌≡◌, ◌≢◌, refl, false, true, Option, None, Some, IsSome}
+use Rattle.std.specs.Prelude.{◌≡◌, refl, Option, None, Some, IsSome}
 use Rattle.std.specs.Option.{ForSome, option_map}
 use Rattle.std.specs.FinMap.{get, get-empty}
-use Rattle.std.proofs.Common.{⊎_elim, sym, ◌∙◌, subst}
+use Rattle.std.proofs.Common.{sym, ◌∙◌, subst}
 use Rattle.vl_disk.specs.declared.name.Name.{Name}
 use Rattle.vl_disk.specs.Name.{name_cmp}
 use Rattle.vl_disk.specs.NameMap.{get_removed}

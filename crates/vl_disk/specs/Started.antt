@@ -1,11 +1,13 @@
 -- A disk that was just started from what stood on it, and what it leaves.
-use Rattle.std.specs.Prelude.{◌≡◌, ℕ, true, false, List, [], Option, None, Some, IsTrue}
+use Rattle.std.specs.Prelude.{◌≡◌, ◌≢◌, ℕ, true, false, List, Option, None, Some}
 use Rattle.std.specs.Option.{option_map}
-use Rattle.std.specs.FinMap.{get, same_map}
-use Rattle.std.proofs.Common.{refl, sym, ◌∙◌, ap, subst}
+use Rattle.std.specs.FinMap.{get, empty, insert, remove, get-empty, same_map}
+use Rattle.std.proofs.Common.{⊎_elim, refl, sym, ◌∙◌, ap, subst}
 use Rattle.vl_disk.specs.declared.name.Name.{Name}
-use Rattle.vl_disk.specs.Name.{IsNumbered, name_cmp_total, name_cmp_exact}
-use Rattle.vl_disk.specs.DiskState.{File, DiskState, IsLawfulFile, IsLawful, settled}
+use Rattle.vl_disk.specs.Name.{IsNumbered, name_cmp, name_cmp_total, name_cmp_exact}
+use Rattle.vl_disk.specs.NameMap.{same_or_other, get_inserted, get_inserted_other, get_removed, get_removed_other}
+use Rattle.vl_disk.specs.DiskState.{File, DiskState, IsLawfulFile, IsLawful, empty_disk, settled}
+use Rattle.vl_disk.specs.MadeFile.{made}
 use Rattle.vl_disk.specs.Crash.{Image, MayLeaveOne, MayLeave}
 use Rattle.vl_disk.specs.Lawful.{settled_lawful}
 
@@ -80,3 +82,21 @@ module _ (image : Image) (disk : DiskState) (started : Started image disk) where
       named : (name : Name) (file : File) → get disk.standing name ≡ Some file → (there : Option (List ℕ)) → get image name ≡ there → IsNumbered name
       named name file is None none = absurd (none_some file (sym (started.standing name ∙ ap (option_map settled) none) ∙ is))
       named name file is (Some bytes) there = numbered name bytes there
+
+-- the disk on which nothing ever stood was started from nothing
+pub started_empty : Started empty empty_disk
+started_empty = record { standing = λ name. get-empty name_cmp name ∙ sym (ap (option_map settled) (get-empty name_cmp name)); removed = get-empty name_cmp }
+
+-- and with one file more it is as if it had been started with it
+pub started_made : (image : Image) (disk : DiskState) (name : Name) (bytes : List ℕ) → Started image disk → Started (insert image name bytes) (made name bytes disk)
+started_made image disk name bytes started = record {
+  standing = λ q. ⊎_elim
+      (λ (same : q ≡ name). ap (get (insert disk.standing name (settled bytes))) same ∙ get_inserted disk.standing name (settled bytes)
+      ∙ sym (ap (option_map settled) (ap (get (insert image name bytes)) same ∙ get_inserted image name bytes)))
+      (λ (other : q ≢ name). get_inserted_other disk.standing name (settled bytes) q other ∙ started.standing q ∙ sym (ap (option_map settled) (get_inserted_other image name bytes q other)))
+      (same_or_other q name);
+  removed = λ q. ⊎_elim
+      (λ (same : q ≡ name). ap (get (remove disk.removed name)) same ∙ get_removed disk.removed name)
+      (λ (other : q ≢ name). get_removed_other disk.removed name q other ∙ started.removed q)
+      (same_or_other q name);
+}

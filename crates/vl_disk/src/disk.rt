@@ -26,7 +26,8 @@ pub trait Disk: Watched {
     /// The length of a file in bytes.
     fn size(&mut self, name: Name) -> Result<u64, Failed>
         requires { ForSome (Self.told self.old) (Stands name) }
-        ensures size { IfOk result (λ size. ForSome (Self.told self.old) (λ disk. size ≡ length (file_at disk name).bytes)) }
+        ensures size { IfOk result (λ size. ForSome (Self.told self.old)
+            (λ disk. size ≡ length (file_at disk name).bytes)) }
         ensures looks { Looks Self.Watched self.old self.new (IsErr result) }
         ensures spare { SameSpare (Self.spare self.old) (Self.spare self.new) };
 
@@ -82,7 +83,8 @@ pub trait Disk: Watched {
     /// Shares a file as it is. What it gives keeps these bytes, whatever becomes of the file.
     fn hold(&mut self, name: Name) -> Result<Self::Held, HoldFail>
         requires { ForSome (Self.told self.old) (Stands name) }
-        ensures held { IfOk result (λ held. ForSome (Self.told self.old) (λ disk. Self.Held.bytes held ≡ Some (file_at disk name).bytes)) }
+        ensures held { IfOk result (λ held. ForSome (Self.told self.old)
+            (λ disk. Self.Held.bytes held ≡ Some (file_at disk name).bytes)) }
         ensures looks { Looks Self.Watched self.old self.new (IsErrOf result HoldFail.Failed) }
         ensures memory { IsTrue (Self.spare self.old name).hold → IsErrOf result HoldFail.NoMemory → ⊥ }
         ensures spare { UsesHold name (Self.spare self.old) (Self.spare self.new) };

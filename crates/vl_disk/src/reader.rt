@@ -35,6 +35,7 @@ pub trait Reader {
     /// Reads the bytes of a held file from a place on, as many as fill `out`. If it fails, `out` may hold anything.
     fn read(&mut self, held: &Self::Held, place: u64, out: &mut [u8]) -> Result<(), Failed>
         requires { place + length out.old ≤ Self.Held.size held.now }
-        ensures bytes { OnOk result (ForSome (Self.Held.bytes held.now) (λ bytes. out.new ≡ bytes_at place (length out.old) bytes)) }
+        ensures bytes { OnOk result (ForSome (Self.Held.bytes held.now)
+            (λ bytes. out.new ≡ bytes_at place (length out.old) bytes)) }
         ensures cause { HasCause (faults self.old) (faults self.new) (IsErr result) };
 }

@@ -11,7 +11,8 @@ use std::alloc::Global;
 /// Reads a whole file, by one read.
 pub fn read_file<D: Disk>(alloc: Global, disk: &mut D, name: Name) -> Result<Vec<u8>, ReadFail>
     requires { ForSome (D.told disk.old) (Stands name) }
-    ensures bytes { IfOk result (λ bytes. ForSome (D.told disk.old) (λ state. bytes.items ≡ (file_at state name).bytes)) }
+    ensures bytes { IfOk result (λ bytes. ForSome (D.told disk.old)
+        (λ state. bytes.items ≡ (file_at state name).bytes)) }
     ensures looks { Looks D.Watched disk.old disk.new (IsErrOf result ReadFail.Failed) }
     ensures spare { SameSpare (D.spare disk.old) (D.spare disk.new) }
 {

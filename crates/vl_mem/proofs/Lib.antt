@@ -1,8 +1,3 @@
-pub mod Elapsed
-pub mod Entries
-pub mod InStep
-pub mod Kept
+pub mod Calls
 pub mod Listed
-pub mod Numbered
-pub mod Ready
-pub mod Told
+pub mod Steps

@@ -1,78 +1,123 @@
 -- What a disk in memory keeps under each name.
-use Rattle.std.specs.Prelude.{◌≡◌, ◌≢◌, ◌⊎◌, ◌++◌, ℕ, zero, suc, ◌+◌, ◌≤◌, true, false, List, [], ◌∷◌, length, Option, None, Some, is_some, ◌==◌, if◌then◌else◌, vec_capacity, AllPairs, Vec}
+use Rattle.std.specs.Prelude.{◌≡◌, ℕ, ◌+◌, ◌≤◌, Bool, true, false, [], length, Option, None, Some, if◌then◌else◌, vec_capacity, Vec}
 use Rattle.std.specs.Global.{Global}
 use Rattle.std.specs.Option.{ForSome, option_map}
-use Rattle.vl_disk.specs.declared.name.Name.{Name}
-use Rattle.vl_disk.specs.Name.{name_number}
-use Rattle.vl_mem.specs.declared.entry.Entry.{Entry}
+use Rattle.std.specs.BTreeMap as tree
+use Rattle.std.specs.BTreeMap.{BTreeMap}
 use Rattle.std.specs.FinMap.{get}
-use Rattle.vl_disk.specs.Disk.{Spare}
+use Rattle.vl_disk.specs.declared.name.Name.{Name}
+use Rattle.vl_disk.specs.Name.{name_cmp}
+use Rattle.vl_disk.specs.Spare.{Spare}
 use Rattle.vl_disk.specs.DiskState.{File, DiskState}
+use Rattle.vl_mem.specs.declared.entry.Entry.{Entry}
+use Rattle.vl_mem.specs.declared.entry.Presence.{Presence}
+use Rattle.vl_mem.specs.declared.entry.Presence.TheVariants.{Absent, Standing, Removed}
+
+-- a file, but for the pieces that are due
+abbrev pub plain : File → File
+plain file = record file { due = [] }
+
+-- so the file of an entry
+abbrev pub file_of : Entry → File
+file_of entry = record {
+  bytes = entry.bytes.items;
+  synced = entry.synced;
+  wholly_synced = entry.wholly_synced;
+  lasting = entry.lasting;
+  due = [];
+}
+
+abbrev pub is_standing : Presence → Bool
+is_standing Absent = false
+is_standing Standing = true
+is_standing Removed = false
+
+-- the file that stands, and the one that was removed
+abbrev pub if_standing : Presence → File → Option File
+if_standing Absent file = None
+if_standing Standing file = Some file
+if_standing Removed file = None
+
+abbrev pub if_removed : Presence → File → Option File
+if_removed Absent file = None
+if_removed Standing file = None
+if_removed Removed file = Some file
+
+abbrev pub standing_in : Option Entry → Option File
+standing_in None = None
+standing_in (Some entry) = if_standing entry.presence (file_of entry)
+
+abbrev pub removed_in : Option Entry → Option File
+removed_in None = None
+removed_in (Some entry) = if_removed entry.presence (file_of entry)
+
+-- an entry has the file that stands under its name, or the one that was removed there
+pub record Matches (entry : Option Entry) (there gone : Option File) : Type 0 where
+  pub standing : standing_in entry ≡ option_map plain there
+  pub removed : removed_in entry ≡ option_map plain gone
+
+abbrev pub Entries : Type 0
+Entries = BTreeMap Name Entry
+
+-- the entry of a name
+abbrev pub entry_of : Entries → Name → Option Entry
+entry_of entries name = tree.get name_cmp entries name
+
+-- so it is of each name
+abbrev pub HasFiles : Entries → DiskState → Type 0
+HasFiles entries disk = (name : Name) → Matches (entry_of entries name) (get disk.standing name) (get disk.removed name)
+
+-- the room that is made there
+abbrev pub spare_of : Option Entry → Spare
+spare_of None = record { change = false; append = None; hold = false }
+spare_of (Some entry) = record { change = entry.change; append = option_map vec_capacity entry.buffer; hold = entry.hold }
 
 -- so many bytes may yet come into some room
 abbrev pub room_in : Option (Vec ℕ Global) → ℕ
 room_in None = 0
 room_in (Some buffer) = vec_capacity buffer
 
--- The room for the next piece is empty, and the file has as much behind its end. The room for a copy is empty, and has
--- place for the file with that piece.
+-- what is made of rooms is there
 pub record Fits (entry : Entry) : Type 0 where
-  pub piece : ForSome entry.buffer (λ buffer. (buffer.items ≡ []) × (length entry.bytes.items + vec_capacity buffer ≤ vec_capacity entry.bytes))
-  pub copy : ForSome entry.copy (λ copy. (copy.items ≡ []) × (length entry.bytes.items + room_in entry.buffer ≤ vec_capacity copy))
+  -- the room for the next piece is empty, and the file has as much behind its end
+  pub piece : ForSome entry.buffer (λ buffer. (buffer.items ≡ [])
+      × (length entry.bytes.items + vec_capacity buffer ≤ vec_capacity entry.bytes))
+  -- the room for a copy is empty, and has place for the file with that piece
+  pub empty : entry.copy.items ≡ []
+  pub copy : entry.hold ≡ true → length entry.bytes.items + room_in entry.buffer ≤ vec_capacity entry.copy
+
+-- a file that stands may be removed
+abbrev pub removes : Presence → ℕ
+removes Absent = 0
+removes Standing = 1
+removes Removed = 0
+
+abbrev pub appends : Option (Vec ℕ Global) → ℕ
+appends None = 0
+appends (Some buffer) = 2
 
 -- how many events may yet come of this name before the next `ready`: a create with a sync and a remove after it, an
--- append with a sync, a sync and a remove of what is there, and a hold
+-- append with a sync, and a sync and a remove of what is there
 abbrev pub slots : Entry → ℕ
-slots entry = (if entry.change then 3 else 0) + (if is_some entry.buffer then 2 else 0) + (if entry.unsynced then 1 else 0) + (if entry.stands then 1 else 0) + (if is_some entry.copy then 1 else 0)
+slots entry =
+    (if entry.change then 3 else 0) + appends entry.buffer + (if entry.wholly_synced then 0 else 1) + removes entry.presence
 
--- the first entry of a name
-abbrev pub entry_of : Name → List Entry → Option Entry
-entry_of name [] = None
-entry_of name (entry ∷ entries) = if name_number entry.name == name_number name then Some entry else entry_of name entries
+-- a call that leaves an event has this of the file, in the room that was made
+pub record Becomes (old new : Entry) (now : Presence) (left : File) : Type 0 where
+  pub presence : new.presence ≡ now
+  pub file : file_of new ≡ left
+  pub fits : Fits old → Fits new
+  pub slots : slots new + 1 ≤ slots old
 
--- the first entry of a name is the one at i
-abbrev pub IsAt : Name → List Entry → ℕ → Type 0
-IsAt name [] i = ⊥
-IsAt name (entry ∷ entries) zero = entry.name ≡ name
-IsAt name (entry ∷ entries) (suc i) = (entry.name ≢ name) × IsAt name entries i
+-- the file is as it was
+pub record KeepsFile (old new : Entry) : Type 0 where
+  pub presence : new.presence ≡ old.presence
+  pub file : file_of new ≡ file_of old
+  pub fits : Fits old → Fits new
 
--- the bytes of the file that stands there
-abbrev pub shown : Option Entry → Option (List ℕ)
-shown None = None
-shown (Some entry) = if entry.stands then Some entry.bytes.items else None
-
--- the room that is made there
-abbrev pub spare_of : Option Entry → Spare
-spare_of None = record { change = false; append = None; hold = false }
-spare_of (Some entry) = record { change = entry.change; append = option_map vec_capacity entry.buffer; hold = is_some entry.copy }
-
--- the names of the files that stand
-abbrev pub standing_names : List Entry → List Name
-standing_names [] = []
-standing_names (entry ∷ entries) = if entry.stands then entry.name ∷ standing_names entries else standing_names entries
-
--- no name has two entries
-abbrev pub IsDistinct : List Entry → Type 0
-IsDistinct entries = AllPairs (λ a b. a.name ≢ b.name) entries
-
--- the entries have the bytes of the files that stand
-abbrev pub HasBytes : List Entry → DiskState → Type 0
-HasBytes entries disk = (name : Name) → shown (entry_of name entries) ≡ option_map (λ file. file.bytes) (get disk.standing name)
-
--- they note each file that isn't wholly synced
-abbrev pub NotesUnsynced : List Entry → DiskState → Type 0
-NotesUnsynced entries disk = (name : Name) (file : File) (entry : Entry)
-    → get disk.standing name ≡ Some file → entry_of name entries ≡ Some entry → entry.unsynced ≡ false → file.wholly_synced ≡ true
-
--- an entry of this name with nothing in it
-pub record IsBlank (name : Name) (entry : Entry) : Type 0 where
-  pub name_is : entry.name ≡ name
-  pub stands : entry.stands ≡ false
-  pub unsynced : entry.unsynced ≡ false
-  pub change : entry.change ≡ false
-  pub buffer : entry.buffer ≡ None
-  pub copy : entry.copy ≡ None
-
--- the entries are as they were, or have one more, with nothing in it, of a name that had none
-abbrev pub AddsNone : Name → List Entry → List Entry → Type 0
-AddsNone name old new = (new ≡ old) ⊎ ((entry_of name old ≡ None) × ((entry : Entry) × IsBlank name entry × (new ≡ old ++ entry ∷ [])))
+-- an entry of a name of which nothing is known
+pub record IsBlank (entry : Entry) : Type 0 where
+  pub presence : entry.presence ≡ Absent
+  pub spare : spare_of (Some entry) ≡ spare_of None
+  pub fits : Fits entry
+  pub slots : slots entry ≡ 0

@@ -1,6 +1,5 @@
 pub mod Entry
 pub mod Event
 pub mod Held
+pub mod Kept
 pub mod MemDisk
-pub mod MemReader
-pub mod Past

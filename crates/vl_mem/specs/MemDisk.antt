@@ -1,14 +1,20 @@
 -- A disk in memory as its callers see it.
-use Rattle.std.specs.Prelude.{◌≡◌, ◌↔◌, ℕ, ◌+◌, ◌-◌, ◌^◌, min, List, length, Option, Some, Contains}
+use Rattle.std.specs.Prelude.{◌≡◌, ℕ, ◌+◌, [], ◌∷◌, ◌++◌, length, Option, Some}
 use Rattle.vl_disk.specs.declared.name.Name.{Name}
 use Rattle.vl_disk.specs.DiskState.{DiskState}
-use Rattle.vl_disk.specs.Disk.{Spare}
+use Rattle.vl_disk.specs.FaultPlan.{Follows, Plan}
+use Rattle.vl_disk.specs.Spare.{Spare}
+use Rattle.vl_mem.specs.declared.event.Event.{Event}
 use Rattle.vl_mem.specs.declared.mem_disk.MemDisk.{MemDisk}
+use Rattle.vl_mem.specs.declared.mem_reader.MemReader.{MemReader}
 use Rattle.vl_mem.specs.Entry.{entry_of, spare_of}
-use Rattle.vl_mem.specs.Event.{WasSince, told_of}
+use Rattle.vl_mem.specs.Event.{WasSince, after_event, state_after}
+
+abbrev pub state_of : MemDisk → DiskState
+state_of disk = state_after disk.events.items
 
 abbrev pub told_by : MemDisk → Option DiskState
-told_by disk = Some (told_of disk.events.items disk.plan.calls)
+told_by disk = Some (state_of disk)
 
 abbrev pub moment_of : MemDisk → ℕ
 moment_of disk = length disk.events.items
@@ -17,45 +23,43 @@ abbrev pub was_since : MemDisk → ℕ → DiskState → Type 0
 was_since disk = WasSince disk.events.items
 
 abbrev pub faults_of : MemDisk → ℕ
-faults_of disk = disk.plan.faults + disk.reads.faults
+faults_of disk = disk.changes.faults + disk.reads.faults
 
 abbrev pub room_of : MemDisk → Name → Spare
-room_of disk name = spare_of (entry_of name disk.entries.items)
+room_of disk name = spare_of (entry_of disk.entries name)
 
--- the numbers of the changing calls that are to fail, from 1
-abbrev pub failing_calls : MemDisk → List ℕ
-failing_calls disk = disk.plan.failing.items
+-- which of its changing calls are to fail, and how many came
+abbrev pub changes_of : MemDisk → Plan
+changes_of disk = disk.changes
 
--- how many changing calls were asked for
-abbrev pub calls_of : MemDisk → ℕ
-calls_of disk = disk.plan.calls
+-- the same of its other calls that can fail
+abbrev pub reads_of : MemDisk → Plan
+reads_of disk = disk.reads
 
--- the numbers of the other calls that are to fail, from 1
-abbrev pub failing_reads : MemDisk → List ℕ
-failing_reads disk = disk.reads.failing.items
+-- the same of the reads of a reader
+abbrev pub reads_by : MemReader → Plan
+reads_by reader = reader.plan
 
--- how many of the other calls that can fail were asked for
-abbrev pub reads_of : MemDisk → ℕ
-reads_of disk = disk.reads.calls
+-- a changing call was asked for, and failed exactly if it was due
+pub record CountsChange (old new : MemDisk) (failed : Type 0) : Type 0 where
+  pub changes : Follows (changes_of old) (changes_of new) failed
+  pub reads : reads_of new ≡ reads_of old
 
--- no changing call was asked for
-pub record KeepsPlan (old new : MemDisk) : Type 0 where
-  pub failing : failing_calls new ≡ failing_calls old
-  pub calls : calls_of new ≡ calls_of old
+-- another call that can fail was
+pub record CountsRead (old new : MemDisk) (failed : Type 0) : Type 0 where
+  pub changes : changes_of new ≡ changes_of old
+  pub reads : Follows (reads_of old) (reads_of new) failed
 
--- none of the other calls that can fail was asked for
-pub record KeepsReads (old new : MemDisk) : Type 0 where
-  pub failing : failing_reads new ≡ failing_reads old
-  pub calls : reads_of new ≡ reads_of old
+-- a call left one event, which did this to the disk
+pub record Goes (old new : MemDisk) (change : DiskState → DiskState) : Type 0 where
+  pub event : Event
+  pub does : (disk : DiskState) → after_event event disk ≡ change disk
+  pub events : new.events.items ≡ old.events.items ++ event ∷ []
+  pub changes : new.changes ≡ old.changes
+  pub reads : new.reads ≡ old.reads
 
--- a changing call was asked for, and failed exactly if it is listed
-pub record FollowsPlan (old new : MemDisk) (failed : Type 0) : Type 0 where
-  pub failing : failing_calls new ≡ failing_calls old
-  pub calls : calls_of new ≡ min (calls_of old + 1) (2 ^ 64 - 1)
-  pub exactly : failed ↔ Contains (failing_calls old) (calls_of old + 1)
-
--- another call that can fail was asked for, and failed exactly if it is listed
-pub record FollowsReads (old new : MemDisk) (failed : Type 0) : Type 0 where
-  pub failing : failing_reads new ≡ failing_reads old
-  pub calls : reads_of new ≡ min (reads_of old + 1) (2 ^ 64 - 1)
-  pub exactly : failed ↔ Contains (failing_reads old) (reads_of old + 1)
+-- it left none
+pub record Stays (old new : MemDisk) : Type 0 where
+  pub events : new.events.items ≡ old.events.items
+  pub changes : new.changes ≡ old.changes
+  pub reads : new.reads ≡ old.reads

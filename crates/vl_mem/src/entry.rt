@@ -1,58 +1,97 @@
 // What a disk in memory keeps under one name.
-ghost use Rattle.std.specs.Prelude.{◌≡◌, ◌+◌, ◌≤◌, [], ◌++◌, length, take, Some, true, false, is_some, IsTrue, IsSome, vec_capacity, OnOk, OnErr};
+ghost use Rattle.std.specs.Prelude.{◌≡◌, ◌≤◌, length, Some, Ok, true, false, OnOk, OnErr};
 
 use std::alloc::Global;
-use vl_disk::{Name, NoMemory};
+use std::mem;
+use vl_disk::NoMemory;
+
+/// Whether the file of a name stands.
+#[derive(Clone, Copy)]
+pub enum Presence {
+    /// None was there since the disk was started.
+    Absent,
+    Standing,
+    Removed,
+}
 
 #[derive(Drop)]
 pub struct Entry {
-    pub name: Name,
-    pub stands: bool,
+    pub presence: Presence,
     pub bytes: Vec<u8>,
-    /// Something was asked for since the last sync that passed.
-    pub unsynced: bool,
+    /// So many of the bytes are durable.
+    pub synced: usize,
+    /// Nothing was asked for since the last sync that passed.
+    pub wholly_synced: bool,
+    /// It was synced once, or stood when the disk was started.
+    pub lasting: bool,
     /// There is room for a create or a cut.
     pub change: bool,
     /// Room for the next piece. `bytes` has as much room behind its end.
     pub buffer: Option<Vec<u8>>,
-    /// Room for a copy of the file, with the next piece.
-    pub copy: Option<Vec<u8>>,
+    /// There is room in `copy` for a copy of the file, with the next piece.
+    pub hold: bool,
+    pub copy: Vec<u8>,
 }
 
 impl Entry {
-    ghost use Rattle.vl_disk.specs.Disk.{CanAppend, IsReady};
-    ghost use Rattle.vl_mem.specs.Entry.{Fits, slots, shown, spare_of};
+    ghost use Rattle.vl_disk.specs.Spare.{CanAppend, IsReady};
+    ghost use Rattle.vl_disk.specs.DiskState.{new_file, settled, synced_file, lengthened, shortened};
+    ghost use Rattle.vl_mem.specs.declared.entry.Presence.TheVariants.{Standing, Removed};
+    ghost use Rattle.vl_mem.specs.Entry.{Fits, IsBlank, Becomes, KeepsFile, file_of, is_standing, plain, slots, spare_of};
 
-    pub fn new(alloc: Global, name: Name) -> Self
-        ensures name { result.name ≡ name }
-        ensures stands { result.stands ≡ false }
-        ensures unsynced { result.unsynced ≡ false }
-        ensures change { result.change ≡ false }
-        ensures buffer { result.buffer ≡ None }
-        ensures copy { result.copy ≡ None }
+    /// An entry of a name of which nothing is known.
+    pub fn blank(alloc: Global) -> Self
+        ensures { IsBlank result }
     {
         Entry {
-            name,
-            stands: false,
+            presence: Presence::Absent,
             bytes: Vec::new(alloc),
-            unsynced: false,
+            synced: 0,
+            wholly_synced: true,
+            lasting: false,
             change: false,
             buffer: None,
-            copy: None,
+            hold: false,
+            copy: Vec::new(alloc),
+        }
+    }
+
+    /// An entry of a file that stood when the disk was started.
+    pub fn found(alloc: Global, bytes: Vec<u8>) -> Self
+        ensures presence { result.presence ≡ Standing }
+        ensures file { file_of result ≡ settled bytes.items }
+        ensures fits { Fits result }
+        ensures slots { slots result ≡ 1 }
+    {
+        Entry {
+            presence: Presence::Standing,
+            synced: bytes.len(),
+            bytes,
+            wholly_synced: true,
+            lasting: true,
+            change: false,
+            buffer: None,
+            hold: false,
+            copy: Vec::new(alloc),
+        }
+    }
+
+    /// Whether the file of this name stands.
+    pub fn stands(&self) -> bool
+        ensures { result ≡ is_standing self.now.presence }
+    {
+        match self.presence {
+            Presence::Standing => true,
+            _ => false,
         }
     }
 
     /// Makes room for a create or a cut, for an append of so many bytes, and for a hold.
     pub fn make_room(&mut self, alloc: Global, bytes: usize) -> Result<(), NoMemory>
         ensures ready { OnOk result (IsReady bytes (spare_of (Some self.new))) }
-        ensures hold { OnOk result (is_some self.new.copy ≡ true) }
+        ensures hold { OnOk result (self.new.hold ≡ true) }
         ensures refused { OnErr result (spare_of (Some self.new) ≡ spare_of (Some self.old)) }
-        ensures name { self.new.name ≡ self.old.name }
-        ensures stands { self.new.stands ≡ self.old.stands }
-        ensures bytes { self.new.bytes.items ≡ self.old.bytes.items }
-        ensures unsynced { self.new.unsynced ≡ self.old.unsynced }
-        ensures fits { Fits self.old → Fits self.new }
-        ensures slots { slots self.new ≤ 8 }
+        ensures keeps { KeepsFile self.old self.new }
     {
         let Ok(buffer) = Vec::with_capacity(alloc, bytes) else {
             return Err(NoMemory);
@@ -60,137 +99,112 @@ impl Entry {
         if self.bytes.reserve(buffer.capacity()).is_err() {
             return Err(NoMemory);
         }
-        let Ok(copy) = Vec::with_capacity(alloc, self.bytes.capacity()) else {
+        if self.copy.reserve(self.bytes.capacity()).is_err() {
             return Err(NoMemory);
-        };
+        }
         self.buffer = Some(buffer);
-        self.copy = Some(copy);
+        self.hold = true;
         self.change = true;
         Ok(())
     }
 
-    /// Makes room for a hold.
-    pub fn make_hold_room(&mut self, alloc: Global) -> Result<(), NoMemory>
-        ensures hold { OnOk result (is_some self.new.copy ≡ true) }
-        ensures name { self.new.name ≡ self.old.name }
-        ensures stands { self.new.stands ≡ self.old.stands }
-        ensures bytes { self.new.bytes.items ≡ self.old.bytes.items }
-        ensures unsynced { self.new.unsynced ≡ self.old.unsynced }
+    /// Makes room for a hold, where there is none.
+    pub fn make_hold_room(&mut self) -> Result<(), NoMemory>
+        ensures hold { OnOk result (self.new.hold ≡ true) }
+        ensures has_room { self.old.hold ≡ true → result ≡ Ok tt }
+        ensures keeps { KeepsFile self.old self.new }
+        ensures slots { slots self.new ≤ slots self.old }
         ensures change { self.new.change ≡ self.old.change }
         ensures buffer { self.new.buffer ≡ self.old.buffer }
-        ensures fits { Fits self.old → Fits self.new }
     {
-        let Ok(copy) = Vec::with_capacity(alloc, self.bytes.capacity()) else {
-            return Err(NoMemory);
-        };
-        self.copy = Some(copy);
+        if !self.hold {
+            if self.copy.reserve(self.bytes.capacity()).is_err() {
+                return Err(NoMemory);
+            }
+            self.hold = true;
+        }
         Ok(())
     }
 
     /// The file stands, and is empty.
     pub fn create(&mut self)
         requires { self.old.change ≡ true }
-        ensures name { self.new.name ≡ self.old.name }
-        ensures stands { self.new.stands ≡ true }
-        ensures bytes { self.new.bytes.items ≡ [] }
-        ensures unsynced { self.new.unsynced ≡ true }
+        ensures becomes { Becomes self.old self.new Standing new_file }
         ensures buffer { self.new.buffer ≡ self.old.buffer }
-        ensures copy { self.new.copy ≡ self.old.copy }
-        ensures fits { Fits self.old → Fits self.new }
-        ensures slots { slots self.new + 1 ≤ slots self.old }
+        ensures hold { self.new.hold ≡ self.old.hold }
     {
-        self.stands = true;
+        self.presence = Presence::Standing;
         self.bytes.clear();
-        self.unsynced = true;
+        self.synced = 0;
+        self.wholly_synced = false;
+        self.lasting = false;
         self.change = false;
     }
 
-    /// Gives back the piece in the room that was made for it. The file takes all of it or nothing.
-    pub fn append(&mut self, alloc: Global, piece: &[u8], takes: bool) -> Vec<u8>
+    /// Gives back the piece in the room that was made for it. The file takes so many bytes of it.
+    pub fn append(&mut self, piece: &[u8], taken: usize) -> Vec<u8>
         requires room { CanAppend (length piece.now) (spare_of (Some self.old)) }
+        requires part { taken ≤ length piece.now }
         requires fits { Fits self.old }
         ensures piece { result.items ≡ piece.now }
-        ensures name { self.new.name ≡ self.old.name }
-        ensures stands { self.new.stands ≡ self.old.stands }
-        ensures takes { takes ≡ true → self.new.bytes.items ≡ self.old.bytes.items ++ piece.now }
-        ensures refuses { takes ≡ false → self.new.bytes.items ≡ self.old.bytes.items }
-        ensures unsynced { self.new.unsynced ≡ true }
+        ensures becomes { Becomes self.old self.new self.old.presence
+            (plain (lengthened result.items taken (file_of self.old))) }
         ensures change { self.new.change ≡ self.old.change }
-        ensures copy { self.new.copy ≡ self.old.copy }
-        ensures fits { Fits self.new }
-        ensures slots { slots self.new + 1 ≤ slots self.old }
+        ensures hold { self.new.hold ≡ self.old.hold }
     {
         let mut buffer = self.buffer.take().unwrap();
         let _ = buffer.extend_from_slice(piece);
-        if takes {
-            let _ = self.bytes.extend_from_slice(piece);
-        }
-        self.unsynced = true;
+        let _ = self.bytes.extend_from_slice(&piece[..taken]);
+        self.wholly_synced = false;
         buffer
     }
 
     /// What was asked for is durable.
     pub fn sync(&mut self)
-        requires { self.old.unsynced ≡ true }
-        ensures name { self.new.name ≡ self.old.name }
-        ensures stands { self.new.stands ≡ self.old.stands }
-        ensures bytes { self.new.bytes.items ≡ self.old.bytes.items }
-        ensures unsynced { self.new.unsynced ≡ false }
+        requires { self.old.wholly_synced ≡ false }
+        ensures becomes { Becomes self.old self.new self.old.presence (synced_file (file_of self.old)) }
         ensures spare { spare_of (Some self.new) ≡ spare_of (Some self.old) }
-        ensures fits { Fits self.old → Fits self.new }
-        ensures slots { slots self.new + 1 ≤ slots self.old }
     {
-        self.unsynced = false;
+        self.synced = self.bytes.len();
+        self.wholly_synced = true;
+        self.lasting = true;
     }
 
-    /// So many bytes of the file are left, or all of it.
-    pub fn cut(&mut self, len: usize, cuts: bool)
+    /// The file was to be cut to a length, and so many bytes of it are left.
+    pub fn cut(&mut self, len: usize, left: usize)
         requires { self.old.change ≡ true }
-        ensures name { self.new.name ≡ self.old.name }
-        ensures stands { self.new.stands ≡ self.old.stands }
-        ensures cuts { cuts ≡ true → self.new.bytes.items ≡ take len self.old.bytes.items }
-        ensures refuses { cuts ≡ false → self.new.bytes.items ≡ self.old.bytes.items }
-        ensures unsynced { self.new.unsynced ≡ true }
+        ensures becomes { Becomes self.old self.new self.old.presence (shortened len left (file_of self.old)) }
         ensures buffer { self.new.buffer ≡ self.old.buffer }
-        ensures copy { self.new.copy ≡ self.old.copy }
-        ensures fits { Fits self.old → Fits self.new }
-        ensures slots { slots self.new + 1 ≤ slots self.old }
+        ensures hold { self.new.hold ≡ self.old.hold }
     {
-        if cuts {
-            self.bytes.truncate(len);
-        }
-        self.unsynced = true;
+        self.bytes.truncate(left);
+        self.synced = len.min(self.synced);
+        self.wholly_synced = false;
         self.change = false;
     }
 
     /// The file doesn't stand any more.
     pub fn remove(&mut self)
-        requires { self.old.stands ≡ true }
-        ensures name { self.new.name ≡ self.old.name }
-        ensures stands { self.new.stands ≡ false }
+        requires { self.old.presence ≡ Standing }
+        ensures becomes { Becomes self.old self.new Removed (file_of self.old) }
         ensures spare { spare_of (Some self.new) ≡ spare_of (Some self.old) }
-        ensures fits { Fits self.old → Fits self.new }
-        ensures slots { slots self.new + 1 ≤ slots self.old }
     {
-        self.stands = false;
+        self.presence = Presence::Removed;
     }
 
     /// Copies the file into the room that was made for it.
-    pub fn hold(&mut self) -> Vec<u8>
-        requires room { is_some self.old.copy ≡ true }
+    pub fn share(&mut self, alloc: Global) -> Vec<u8>
+        requires room { self.old.hold ≡ true }
         requires fits { Fits self.old }
         ensures copied { result.items ≡ self.old.bytes.items }
-        ensures name { self.new.name ≡ self.old.name }
-        ensures stands { self.new.stands ≡ self.old.stands }
-        ensures bytes { self.new.bytes.items ≡ self.old.bytes.items }
-        ensures unsynced { self.new.unsynced ≡ self.old.unsynced }
+        ensures keeps { KeepsFile self.old self.new }
+        ensures slots { slots self.new ≤ slots self.old }
         ensures change { self.new.change ≡ self.old.change }
         ensures buffer { self.new.buffer ≡ self.old.buffer }
-        ensures fits { Fits self.new }
-        ensures slots { slots self.new + 1 ≤ slots self.old }
     {
-        let mut copy = self.copy.take().unwrap();
+        let mut copy = mem::replace(&mut self.copy, Vec::new(alloc));
         let _ = copy.extend_from_slice(&self.bytes);
+        self.hold = false;
         copy
     }
 }

@@ -3,12 +3,12 @@
 
 mod entry;
 mod event;
+mod found;
 mod held;
 mod mem_disk;
 mod mem_reader;
-mod plan;
+mod names;
 mod reading;
-mod table;
 
 pub use held::MemHeld;
 pub use mem_disk::MemDisk;

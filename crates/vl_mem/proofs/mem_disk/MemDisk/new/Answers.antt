@@ -1,5 +1,6 @@
-use Rattle.vl_mem.proofs.InStep.{has_bytes_at_first}
+use Rattle.std.proofs.Common.{vec_capacity}
+use Rattle.vl_mem.proofs.Steps.{kept_at_first}
 use Rattle.vl_mem.proofs.mem_disk.MemDisk.new.Goals as goal
 
-pub invariant_of-result-clause-has_bytes : goal.invariant_of-result-clause-has_bytes
-invariant_of-result-clause-has_bytes c = has_bytes_at_first c.new-3.result.items c.new-4.result.items c.new-3.ensures.items c.new-4.ensures.items
+pub invariant_of-result : goal.invariant_of-result
+invariant_of-result c = record { kept = kept_at_first c.new-3.result c.new-4.result.items (vec_capacity c.new-4.result) c.new-3.ensures.empty c.new-4.ensures.items }

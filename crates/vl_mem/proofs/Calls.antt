@@ -1,0 +1,230 @@
+-- What the calls of a disk in memory do to what it tells.
+use Rattle.std.proofs.Common.{◌≡◌, ◌⊎◌, inl, inr, ⊎_elim, ℕ, ◌+◌, ◌-◌, ◌≤◌, Bool, true, false, List, [], ◌∷◌, ◌++◌, length, Option, None, Some, Ok, Err, refl, sym, ◌∙◌, ap, subst, arith, length-append, IsSome, IsTrue, unwrap_or}
+use Rattle.std.proofs.lemmas.List.{take_all, take-append-le}
+use Rattle.std.specs.Option.{option_map}
+use Rattle.std.specs.FinMap.{get}
+use Rattle.vl_disk.specs.declared.name.Name.{Name}
+use Rattle.vl_disk.specs.declared.watched.Watched.{Ghosts}
+use Rattle.vl_disk.specs.DiskState.{File, DiskState, IsLawful, empty_disk, new_file, synced_file, lengthened, shortened, file_at, created, appended, synced, cut_to, without}
+use Rattle.vl_disk.specs.Calls.{Works, Creates, Appends, Syncs, Cuts, Removes}
+use Rattle.vl_disk.specs.Crash.{WhileCreating, WhileAppending, WhileSyncing, WhileCutting, WhileRemoving}
+use Rattle.vl_disk.specs.Disk.{Stands, IsInside, Turns}
+use Rattle.vl_disk.specs.FaultPlan.{Follows}
+use Rattle.vl_disk.specs.Faults.{HasCause}
+use Rattle.vl_disk.specs.Lawful.{synced_again}
+use Rattle.vl_disk.specs.Moments.{Passes, While}
+use Rattle.vl_disk.specs.Spare.{SameSpare, UsesChange, UsesAppend}
+use Rattle.vl_disk.specs.Standing.{changed_stands, created_stands, removed_free}
+use Rattle.vl_mem.specs.contracts.mem_disk.MemDiskWatched.TheImpl as memory
+use Rattle.vl_mem.specs.declared.entry.Entry.{Entry}
+use Rattle.vl_mem.specs.declared.event.Event.{Event}
+use Rattle.vl_mem.specs.declared.mem_disk.MemDisk.{MemDisk}
+use Rattle.vl_mem.specs.Entry.{Entries, HasFiles, entry_of, file_of, plain, standing_in}
+use Rattle.vl_mem.specs.Event.{after_event, replayed-push, state_after, told_lawful, WasSince}
+use Rattle.vl_mem.specs.MemDisk.{state_of, told_by, room_of, Goes}
+use Rattle.vl_mem.proofs.Steps.{stood}
+
+abbrev watched : Ghosts MemDisk
+watched = memory.ghosts
+
+pub some_state : (a b : DiskState) → Some a ≡ Some b → a ≡ b
+some_state a b e = cc
+
+false_true : false ≡ true → ⊥
+false_true e = cc
+
+-- ---- time
+
+le_or_last : (k n : ℕ) → k ≤ n + 1 → (k ≤ n) ⊎ (k ≡ n + 1)
+le_or_last k n le = grind arith
+
+passes_push : (events later : List Event) (event : Event) (P : DiskState → Type 0) → later ≡ events ++ event ∷ [] → ((now : DiskState) → now ≡ after_event event (state_after events) → P now)
+    → Passes (length events) (length later) (WasSince events) (WasSince later) P
+passes_push events later event P pushed there = subst (λ es. Passes (length events) (length es) (WasSince events) (WasSince es) P) (sym pushed) (record {
+  later = omega (arith, longer);
+  nothing_else = λ t now le left. ⊎_elim
+      (λ (within : left.0 ≤ length events). inl (left.0, left.1, within, left.3 ∙ ap state_after (take-append-le left.0 events (event ∷ []) within)))
+      (λ (last : left.0 ≡ length events + 1). inr (there now (left.3 ∙ ap state_after (take_all left.0 (events ++ event ∷ []) (omega (arith, longer, last))) ∙ replayed-push events event empty_disk)))
+      (le_or_last left.0 (length events) (omega (arith, longer, left.2)));
+  keeps = λ t now le left. (left.0, left.1, omega (arith, longer, left.2), left.3 ∙ sym (ap state_after (take-append-le left.0 events (event ∷ []) left.2)));
+})
+  where
+    longer : length (events ++ event ∷ []) ≡ length events + 1
+    longer = length-append events (event ∷ [])
+
+passes_still : (events : List Event) (P : DiskState → Type 0) → Passes (length events) (length events) (WasSince events) (WasSince events) P
+passes_still events P = record { later = omega arith; nothing_else = λ t now le left. inl left; keeps = λ t now le left. left }
+
+-- ---- counts
+
+-- the call was counted, and failed or not
+pub record Counts (old mid : MemDisk) (failed : Bool) : Type 0 where
+  pub events : mid.events.items ≡ old.events.items
+  pub reads : mid.reads ≡ old.reads
+  pub follows : Follows old.changes mid.changes (IsTrue failed)
+  pub cause : HasCause old.changes.faults mid.changes.faults (IsTrue failed)
+
+pub counted : (old mid : MemDisk) (fails failed : Bool) → fails ≡ failed → mid.events.items ≡ old.events.items → mid.reads ≡ old.reads
+    → Follows old.changes mid.changes (IsTrue fails) → HasCause old.changes.faults mid.changes.faults (IsTrue fails) → Counts old mid failed
+counted old mid fails failed is events reads follows cause = subst (Counts old mid) is (record { events = events; reads = reads; follows = follows; cause = cause })
+
+cause_of : (a b rest : ℕ) (failed : Bool) → HasCause a b (IsTrue failed) → HasCause (a + rest) (b + rest) (IsTrue failed)
+cause_of a b rest failed cause = record {
+  later = omega (arith, cause.later);
+  rose = λ fails. omega (arith, cause.rose fails, cause.later);
+  steady = λ passes. ap (λ n. n + rest) (cause.steady passes);
+}
+
+module _ (old mid new : MemDisk) (failed : Bool) (counts : Counts old mid failed) where
+  abbrev now : DiskState
+  now = state_of old
+
+  module _ (change : DiskState → DiskState) (goes : Goes mid new change) where
+    pushed : new.events.items ≡ old.events.items ++ goes.event ∷ []
+    pushed = goes.events ∙ ap (λ es. es ++ goes.event ∷ []) counts.events
+
+    turns : Turns change (told_by old) (told_by new)
+    turns = ap (λ es. Some (state_after es)) pushed ∙ ap Some (replayed-push old.events.items goes.event empty_disk ∙ goes.does now)
+
+    works : (during : DiskState → DiskState → Type 0) → ((next : DiskState) → next ≡ change now → during now next) → Works watched old new during (IsTrue failed)
+    works during meanwhile = record {
+      calls = ap (λ p. p.calls) goes.changes ∙ counts.follows.calls;
+      time = passes_push old.events.items new.events.items goes.event (While (told_by old) during) pushed
+          (λ next is disk told. subst (λ d. during d next) (some_state now disk told) (meanwhile next (is ∙ goes.does now)));
+      cause = subst (λ n. HasCause (old.changes.faults + old.reads.faults) n (IsTrue failed))
+          (sym (ap (λ p. p.faults + new.reads.faults) goes.changes ∙ ap (λ p. mid.changes.faults + p.faults) (goes.reads ∙ counts.reads)))
+          (cause_of old.changes.faults mid.changes.faults old.reads.faults failed counts.cause);
+    }
+
+module _ (name : Name) (old mid new : MemDisk) where
+  pub creates : {X E : Type 0} (x : X) → Counts old mid false → Goes mid new (created name) → UsesChange name (room_of old) (room_of new) → Creates {E = E} watched name old new (Ok x)
+  creates x counts goes spare = record {
+    created = turns old mid new false counts (created name) goes;
+    stands = created_stands name (told_by old) (told_by new) (turns old mid new false counts (created name) goes);
+    failed = tt;
+    clean = λ _. tt;
+    works = works old mid new false counts (created name) goes (WhileCreating name) (λ next is. inr is);
+    spare = spare;
+  }
+
+  pub removes : {X E : Type 0} (x : X) → Counts old mid false → Goes mid new (without name) → SameSpare (room_of old) (room_of new) → Removes {E = E} watched name old new (Ok x)
+  removes x counts goes spare = record {
+    removed = turns old mid new false counts (without name) goes;
+    free = removed_free name (told_by old) (told_by new) (turns old mid new false counts (without name) goes);
+    failed = tt;
+    clean = λ _. tt;
+    works = works old mid new false counts (without name) goes (WhileRemoving name) (λ next is. inr is);
+    spare = spare;
+  }
+
+  module _ (stands : IsSome (get (state_of old).standing name)) where
+    told_stands : (disk : DiskState) → told_by old ≡ Some disk → Stands name disk
+    told_stands disk is = subst (Stands name) (some_state (state_of old) disk is) stands
+
+    pub syncs : {X E : Type 0} (x : X) → Counts old mid false → Goes mid new (synced name) → SameSpare (room_of old) (room_of new) → Syncs {E = E} watched name old new (Ok x)
+    syncs x counts goes spare = record {
+      synced = turns old mid new false counts (synced name) goes;
+      failed = tt;
+      stands = changed_stands name synced_file (told_by old) (told_by new) (turns old mid new false counts (synced name) goes) told_stands;
+      works = works old mid new false counts (synced name) goes (WhileSyncing name) (λ next is. inr is);
+      spare = spare;
+    }
+
+    module _ (piece : List ℕ) (failed : Bool) (taken : ℕ) (counts : Counts old mid failed) (goes : Goes mid new (appended name piece taken)) (within : taken ≤ length piece) where
+      hands : Turns (appended name piece taken) (told_by old) (told_by new)
+      hands = turns old mid new failed counts (appended name piece taken) goes
+
+      still_stands : (disk : DiskState) → told_by new ≡ Some disk → Stands name disk
+      still_stands = changed_stands name (lengthened piece taken) (told_by old) (told_by new) hands told_stands
+
+      appending : Works watched old new (WhileAppending name piece) (IsTrue failed)
+      appending = works old mid new failed counts (appended name piece taken) goes (WhileAppending name piece) (λ next is. inr (taken, within, is))
+
+    pub appends : {X E : Type 0} (x : X) (piece : List ℕ) (taken : ℕ) → taken ≡ length piece → Counts old mid false → Goes mid new (appended name piece taken) → UsesAppend name (room_of old) (room_of new) → Appends {E = E} watched name piece old new (Ok x)
+    appends x piece taken all counts goes spare = record {
+      appended = subst (λ n. Turns (appended name piece n) (told_by old) (told_by new)) all (hands piece false taken counts goes (omega (arith, all)));
+      failed = tt;
+      clean = λ _. tt;
+      stands = still_stands piece false taken counts goes (omega (arith, all));
+      works = appending piece false taken counts goes (omega (arith, all));
+      spare = spare;
+    }
+
+    pub fails_to_append : {X E : Type 0} (e : E) (piece : List ℕ) → Counts old mid true → Goes mid new (appended name piece 0) → UsesAppend name (room_of old) (room_of new) → Appends {T = X} watched name piece old new (Err e)
+    fails_to_append e piece counts goes spare = record {
+      appended = tt;
+      failed = (0, omega arith, hands piece true 0 counts goes (omega arith));
+      clean = λ _. hands piece true 0 counts goes (omega arith);
+      stands = still_stands piece true 0 counts goes (omega arith);
+      works = appending piece true 0 counts goes (omega arith);
+      spare = spare;
+    }
+
+    module _ (len left : ℕ) (failed : Bool) (counts : Counts old mid failed) (goes : Goes mid new (cut_to name len left)) (short : len ≤ left) (inside : IsInside name left (state_of old)) where
+      shortens : Turns (cut_to name len left) (told_by old) (told_by new)
+      shortens = turns old mid new failed counts (cut_to name len left) goes
+
+      stands_cut : (disk : DiskState) → told_by new ≡ Some disk → Stands name disk
+      stands_cut = changed_stands name (shortened len left) (told_by old) (told_by new) shortens told_stands
+
+      cutting : Works watched old new (WhileCutting name len) (IsTrue failed)
+      cutting = works old mid new failed counts (cut_to name len left) goes (WhileCutting name len) (λ next is. inr (left, short, inside, is))
+
+    pub cuts : {X E : Type 0} (x : X) (len : ℕ) → Counts old mid false → Goes mid new (cut_to name len len) → IsInside name len (state_of old) → UsesChange name (room_of old) (room_of new) → Cuts {E = E} watched name len old new (Ok x)
+    cuts x len counts goes inside spare = record {
+      cut = shortens len len false counts goes (omega arith) inside;
+      failed = tt;
+      clean = λ _. tt;
+      stands = stands_cut len len false counts goes (omega arith) inside;
+      works = cutting len len false counts goes (omega arith) inside;
+      spare = spare;
+    }
+
+    pub fails_to_cut : {X E : Type 0} (e : E) (len whole : ℕ) → Counts old mid true → Goes mid new (cut_to name len whole) → IsInside name len (state_of old) → whole ≡ length (file_at (state_of old) name).bytes
+        → UsesChange name (room_of old) (room_of new) → Cuts {T = X} watched name len old new (Err e)
+    fails_to_cut e len whole counts goes within is spare =
+        let short : len ≤ whole = omega (arith, within, is) in
+        let inside : IsInside name whole (state_of old) = omega (arith, is) in
+        let turned = shortens len whole true counts goes short inside in
+        record {
+          cut = tt;
+          failed = (whole, short, (λ disk told. subst (IsInside name whole) (some_state (state_of old) disk told) inside), turned);
+          clean = λ _ disk told. subst (λ n. Turns (cut_to name len n) (told_by old) (told_by new)) (is ∙ ap (λ d. length (file_at d name).bytes) (some_state (state_of old) disk told)) turned;
+          stands = stands_cut len whole true counts goes short inside;
+          works = cutting len whole true counts goes short inside;
+          spare = spare;
+        }
+
+-- the entry of a file that stands has its bytes, and whether it is wholly synced
+pub shown : (name : Name) (entries : Entries) (disk : DiskState) (entry : Entry) → HasFiles entries disk → IsSome (get disk.standing name) → entry_of entries name ≡ Some entry → file_of entry ≡ plain (file_at disk name)
+shown name entries disk entry has stands found =
+    of (get disk.standing name) stands (sym (ap (λ e. standing_in e) found) ∙ (has name).standing)
+  where
+    of : (file : Option File) → IsSome file → standing_in (Some entry) ≡ option_map plain file → file_of entry ≡ plain (unwrap_or file new_file)
+    of None is same = absurd (false_true is)
+    of (Some file) is same = (stood entry.presence (file_of entry) file same).1
+
+-- a sync of a file that is wholly synced leaves no event
+pub syncs_again : {X E : Type 0} (name : Name) (old new : MemDisk) (entry : Entry) (x : X) → IsSome (get (state_of old).standing name) → Counts old new false → entry_of old.entries name ≡ Some entry → entry.wholly_synced ≡ true
+    → SameSpare (room_of old) (room_of new) → Syncs {E = E} watched name old new (Ok x)
+syncs_again name old new entry x stands counts found whole spare = record {
+  synced = ap (λ es. Some (state_after es)) counts.events ∙ ap Some (sym (synced_again name (state_of old) (file_at (state_of old) name) lawful (there (get (state_of old).standing name) stands)
+      (sym (ap (λ (f : File). f.wholly_synced) (shown name old.entries (state_of old) entry old.kept.files stands found)) ∙ whole)));
+  failed = tt;
+  stands = λ disk is. subst (Stands name) (some_state (state_of old) disk (sym (ap (λ es. Some (state_after es)) counts.events) ∙ is)) stands;
+  works = record {
+    calls = counts.follows.calls;
+    time = subst (λ es. Passes (length old.events.items) (length es) (WasSince old.events.items) (WasSince es) (While (told_by old) (WhileSyncing name))) (sym counts.events)
+        (passes_still old.events.items (While (told_by old) (WhileSyncing name)));
+    cause = subst (λ n. HasCause (old.changes.faults + old.reads.faults) n (IsTrue false)) (ap (λ p. new.changes.faults + p.faults) (sym counts.reads))
+        (cause_of old.changes.faults new.changes.faults old.reads.faults false counts.cause);
+  };
+  spare = spare;
+}
+  where
+    lawful : IsLawful (state_of old)
+    lawful = told_lawful old.events.items old.kept.sound (state_of old) refl
+
+    there : (file : Option File) → IsSome file → file ≡ Some (unwrap_or file new_file)
+    there None is = absurd (false_true is)
+    there (Some file) is = refl
