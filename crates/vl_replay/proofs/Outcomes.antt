@@ -101,8 +101,8 @@ line_extends s line = elim (line_adds s line) [
 ]
 
 -- a line that gives no number makes no commit
-pub history_stays : (s : State) (line : Line) → ((n : ℕ) → answer_to s line ≡ Number n → ⊥) → (state_after s line).history ≡ s.history
-history_stays s line none = elim (line_adds s line) [
-  | inl kept ↦ kept.history
+pub line_keeps : (s : State) (line : Line) → ((n : ℕ) → answer_to s line ≡ Number n → ⊥) → Keeps s (state_after s line)
+line_keeps s line none = elim (line_adds s line) [
+  | inl kept ↦ kept
   | inr added ↦ absurd (none added.1 added.3)
 ]

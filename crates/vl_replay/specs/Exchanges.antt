@@ -44,10 +44,10 @@ abbrev pub exchanges_from : State → List (List ℕ) → List Exchange
 exchanges_from s [] = []
 exchanges_from s (text ∷ texts) = and_later (λ e. exchanges_from e.after texts) (exchange_at s text)
 
--- the history that these exchanges leave of one
-abbrev pub history_after : History → List Exchange → History
-history_after h [] = h
-history_after h (e ∷ later) = history_after e.after.history later
+-- the state behind these exchanges, the first of which begins in this one
+abbrev pub last_state : State → List Exchange → State
+last_state s [] = s
+last_state s (e ∷ later) = last_state e.after later
 
 -- the text of their answers, each one whole
 abbrev pub answers_text : List Exchange → List ℕ

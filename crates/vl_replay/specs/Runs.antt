@@ -9,7 +9,7 @@ use Rattle.vl_io.specs.declared.source.Source as source
 use Rattle.vl_io.specs.declared.sink.Sink as sink
 use Rattle.vl_script.specs.Script.{lines_of, text_of}
 use Rattle.vl_replay.specs.Sequential.{State}
-use Rattle.vl_replay.specs.Exchanges.{Exchange, exchanges_from, history_after, answers_text, ended_lines, KeepsUp}
+use Rattle.vl_replay.specs.Exchanges.{Exchange, exchanges_from, last_state, answers_text, ended_lines, KeepsUp}
 use Rattle.vl_replay.specs.Endings.{Culprit, NoOne, TheLine, TheWords, TheDisk, TheFiles, Memory, TheSource, TheSink, LastPiece, NoPiece, BadLinePiece, Line, LineFront, AnswerFront, end_of, culprit_of, bad_line, last_line, Causes}
 use Rattle.vl_replay.specs.declared.ending.Ending.{Ending}
 
@@ -98,20 +98,20 @@ outside s k source sink disk = record {
   disk = disk;
 }
 
--- How far a run came: how it ended, over which history it began, which lines it answered, and the history that may stand,
--- with one line more.
+-- How far a run came: how it ended, in which state it began, which lines it answered, and the state that may stand, with one
+-- line more.
 pub record Course : Type 0 where
   pub ending : Ending
-  pub first : History
+  pub first : State
   pub answered : List Exchange
-  pub most : History
+  pub most : State
 
 abbrev pub course : Script → ℕ → Ending → Course
 course script m ending = record {
   ending = ending;
-  first = script.start.history;
+  first = script.start;
   answered = take m (exchanges script);
-  most = history_after script.start.history (take (suc m) (exchanges script));
+  most = last_state script.start (take (suc m) (exchanges script));
 }
 
 -- What caused the end of a run: a fault of the source or of the disk was counted, or files stood there that are no store.

@@ -81,7 +81,7 @@ abbrev pub DiskSteps : {D : Type 0} → Ghosts D → Holding → Showing → (ol
     → (before after : State) → Option Ending → Type 0
 DiskSteps g holds shows old new before after None = MovesOn g holds shows old new before after
 DiskSteps g holds shows old new before after (Some ending) =
-    DiskEnds g holds shows ⊥ old new (record { ending = ending; first = before.history; answered = []; most = after.history })
+    DiskEnds g holds shows ⊥ old new (record { ending = ending; first = before; answered = []; most = after })
 
 -- The next line was answered and printed, and a run over the others goes on from here; when the source was last asked no
 -- answer was owed.
