@@ -1,6 +1,5 @@
 -- What a run's status says of how it ended.
-use Rattle.std.proofs.Common.{◌≡◌, ◌≢◌, ◌<◌, ⊎_elim, ℕ, List, Option, Some, None, refl, sym, ◌∙◌, ap, subst, arith}
-use Rattle.std.specs.Option.{option_map}
+use Rattle.std.proofs.Common.{◌≡◌, ◌≢◌, ◌<◌, ⊎_elim, ℕ, List, Some, refl, sym, ◌∙◌, ap, subst, arith}
 use Rattle.vl_disk.specs.Faults.{Rose}
 use Rattle.vl_io.specs.declared.sink.Sink as sink
 use Rattle.vl_replay.specs.Endings.{Culprit, TheDisk, TheSource, TheSink, Counts, culprit_of, status_of}
@@ -99,7 +98,7 @@ module _ {K : Type 0} (g : sink.Ghosts K) (old new : K) (line : List ℕ) (resul
       (λ (cut : (result ≡ WriteFault) × IsFront finishes.printed line × Rose (g.faults old) (g.faults new)). cut.2)
       finishes.how
     where
-      apart : 2 ≡ 7 → ⊥
+      apart : ◌≡◌ {A = ℕ} 2 7 → ⊥
       apart e = omega arith
 
   pub refused_steady : status_of result < 6 → g.faults new ≡ g.faults old

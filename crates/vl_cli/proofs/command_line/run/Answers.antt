@@ -1,4 +1,4 @@
-use Rattle.std.proofs.Common.{◌≡◌, ◌≢◌, ◌<◌, ℕ, true, false, refl, sym, subst, ◌∙◌, arith}
+use Rattle.std.proofs.Common.{◌≡◌, ◌≢◌, ◌<◌, ◌≤◌, ℕ, true, false, refl, sym, subst, ◌∙◌, arith}
 use Rattle.vl_script.specs.Script.{lines_of}
 use Rattle.vl_replay.specs.Endings.{TheDisk, TheSource, TheSink, status_of, usage_line}
 use Rattle.vl_replay.specs.Start.{all_explained}
@@ -14,53 +14,53 @@ below n m less le e = omega arith
 -- ---- plain words
 
 pub returns-then-are_plain-clause-answers : goal.returns-then-are_plain-clause-answers
-returns-then-are_plain-clause-answers g c s input plain starts told = record { ending = c.replay.result.ending; status_is = c.status.ensures; run = c.replay.ensures.runs s input starts told }
+returns-then-are_plain-clause-answers g c s input plain starts told = record { ending = c.replay-ending.result.ending; status_is = c.status-status.ensures; run = c.replay-ending.ensures.runs s input starts told }
 
 pub returns-then-are_plain-clause-explained : goal.returns-then-are_plain-clause-explained
 returns-then-are_plain-clause-explained g c s input starts = all_explained g.D.Watched c.args.disk s (lines_of input) starts
 
 pub returns-then-are_plain-clause-plain : goal.returns-then-are_plain-clause-plain
-returns-then-are_plain-clause-plain g c plain two = c.replay.ensures.words (is_bad_words c.replay.result.ending (sym c.status.ensures ∙ two))
+returns-then-are_plain-clause-plain g c plain two = c.replay-ending.ensures.words (is_bad_words c.replay-ending.result.ending (sym c.status-status.ensures ∙ two))
 
 pub returns-then-are_plain-clause-not_plain : goal.returns-then-are_plain-clause-not_plain
 returns-then-are_plain-clause-not_plain g c other = absurd (not_both (sym c.if-are_plain.true ∙ c.are_plain.ensures ∙ other))
 
 pub returns-then-are_plain-clause-disk_fault : goal.returns-then-are_plain-clause-disk_fault
-returns-then-are_plain-clause-disk_fault g c is = rose_by TheDisk 3 disk_status c.replay.result.ending _ _ c.replay.ensures.disk (sym c.status.ensures ∙ is)
+returns-then-are_plain-clause-disk_fault g c is = rose_by TheDisk 3 disk_status c.replay-ending.result.ending _ _ c.replay-ending.ensures.disk (sym c.status-status.ensures ∙ is)
 
 pub returns-then-are_plain-clause-disk_steady : goal.returns-then-are_plain-clause-disk_steady
 returns-then-are_plain-clause-disk_steady g c other whole =
-    steady_by TheDisk 3 disk_status c.replay.result.ending _ _ c.replay.ensures.disk (λ e. other (c.status.ensures ∙ e)) (λ e. whole (c.status.ensures ∙ e))
+    steady_by TheDisk 3 disk_status c.replay-ending.result.ending _ _ c.replay-ending.ensures.disk (λ e. other (c.status-status.ensures ∙ e)) (λ e. whole (c.status-status.ensures ∙ e))
 
 pub returns-then-are_plain-clause-not_a_store : goal.returns-then-are_plain-clause-not_a_store
 returns-then-are_plain-clause-not_a_store g c is =
-    let refused = c.replay.ensures.not_a_store (is_not_a_store c.replay.result.ending (sym c.status.ensures ∙ is)) in
-    (refused.0, refused.1, refused.2, (c.replay.result.ending, c.status.ensures, refused.3))
+    let refused = c.replay-ending.ensures.not_a_store (is_not_a_store c.replay-ending.result.ending (sym c.status-status.ensures ∙ is)) in
+    (refused.0, refused.1, refused.2, (c.replay-ending.result.ending, c.status-status.ensures, refused.3))
 
 pub returns-then-are_plain-clause-occupied : goal.returns-then-are_plain-clause-occupied
 returns-then-are_plain-clause-occupied g c plain state is stands =
-    let refused = c.replay.ensures.occupied state is stands in
-    (refused.1, refused.2, (c.replay.result.ending, c.status.ensures, refused.0))
+    let refused = c.replay-ending.ensures.occupied state is stands in
+    (refused.1, refused.2, (c.replay-ending.result.ending, c.status-status.ensures, refused.0))
 
 pub returns-then-are_plain-clause-read_fault : goal.returns-then-are_plain-clause-read_fault
 returns-then-are_plain-clause-read_fault g c is =
-    let six = sym c.status.ensures ∙ is in (
-      rose_by TheSource 6 source_status c.replay.result.ending _ _ c.replay.ensures.source six,
-      steady_by TheSink 7 sink_status c.replay.result.ending _ _ c.replay.ensures.sink (λ e. apart (sym six ∙ e)) (λ e. apart (sym six ∙ e)),
+    let six = sym c.status-status.ensures ∙ is in (
+      rose_by TheSource 6 source_status c.replay-ending.result.ending _ _ c.replay-ending.ensures.source six,
+      steady_by TheSink 7 sink_status c.replay-ending.result.ending _ _ c.replay-ending.ensures.sink (λ e. apart (sym six ∙ e)) (λ e. apart (sym six ∙ e)),
     )
   where
-    apart : 6 ≡ 7 → ⊥
+    apart : ◌≡◌ {A = ℕ} 6 7 → ⊥
     apart e = omega arith
 
 pub returns-then-are_plain-clause-write_fault : goal.returns-then-are_plain-clause-write_fault
-returns-then-are_plain-clause-write_fault g c is = rose_by TheSink 7 sink_status c.replay.result.ending _ _ c.replay.ensures.sink (sym c.status.ensures ∙ is)
+returns-then-are_plain-clause-write_fault g c is = rose_by TheSink 7 sink_status c.replay-ending.result.ending _ _ c.replay-ending.ensures.sink (sym c.status-status.ensures ∙ is)
 
 pub returns-then-are_plain-clause-steady : goal.returns-then-are_plain-clause-steady
 returns-then-are_plain-clause-steady g c less =
-    let ending = c.replay.result.ending in
-    let small : status_of ending < 6 = subst (λ (n : ℕ). n < 6) c.status.ensures less in (
-      steady_by TheSource 6 source_status ending _ _ c.replay.ensures.source (below (status_of ending) 6 small (omega arith)) (below (status_of ending) 7 small (omega arith)),
-      steady_by TheSink 7 sink_status ending _ _ c.replay.ensures.sink (below (status_of ending) 7 small (omega arith)) (below (status_of ending) 7 small (omega arith)),
+    let ending = c.replay-ending.result.ending in
+    let small : status_of ending < 6 = subst (λ (n : ℕ). n < 6) c.status-status.ensures less in (
+      steady_by TheSource 6 source_status ending _ _ c.replay-ending.ensures.source (below (status_of ending) 6 small (omega arith)) (below (status_of ending) 7 small (omega arith)),
+      steady_by TheSink 7 sink_status ending _ _ c.replay-ending.ensures.sink (below (status_of ending) 7 small (omega arith)) (below (status_of ending) 7 small (omega arith)),
     )
 
 -- ---- other words
@@ -75,22 +75,22 @@ pub returns-clause-plain : goal.returns-clause-plain
 returns-clause-plain g c plain = absurd (not_both (sym plain ∙ sym c.are_plain.ensures ∙ c.if-are_plain.false))
 
 pub returns-clause-not_plain : goal.returns-clause-not_plain
-returns-clause-not_plain g c other = (refl, refl, (c.finish.result, c.status.ensures, (usage_line, refl, c.finish.ensures)))
+returns-clause-not_plain g c other = (refl, refl, (c.finish.result, c.status-status-2.ensures, (usage_line, refl, c.finish.ensures)))
 
 pub returns-clause-disk_fault : goal.returns-clause-disk_fault
-returns-clause-disk_fault g c is = absurd (refused_status g.K.Sink _ _ _ c.finish.result c.finish.ensures 3 (λ e. omega arith) (λ e. omega arith) (sym c.status.ensures ∙ is))
+returns-clause-disk_fault g c is = absurd (refused_status g.K.Sink _ _ _ c.finish.result c.finish.ensures 3 (λ e. omega arith) (λ e. omega arith) (sym c.status-status-2.ensures ∙ is))
 
 pub returns-clause-not_a_store : goal.returns-clause-not_a_store
-returns-clause-not_a_store g c is = absurd (refused_status g.K.Sink _ _ _ c.finish.result c.finish.ensures 4 (λ e. omega arith) (λ e. omega arith) (sym c.status.ensures ∙ is))
+returns-clause-not_a_store g c is = absurd (refused_status g.K.Sink _ _ _ c.finish.result c.finish.ensures 4 (λ e. omega arith) (λ e. omega arith) (sym c.status-status-2.ensures ∙ is))
 
 pub returns-clause-occupied : goal.returns-clause-occupied
 returns-clause-occupied g c plain = absurd (not_both (sym plain ∙ sym c.are_plain.ensures ∙ c.if-are_plain.false))
 
 pub returns-clause-read_fault : goal.returns-clause-read_fault
-returns-clause-read_fault g c is = absurd (refused_status g.K.Sink _ _ _ c.finish.result c.finish.ensures 6 (λ e. omega arith) (λ e. omega arith) (sym c.status.ensures ∙ is))
+returns-clause-read_fault g c is = absurd (refused_status g.K.Sink _ _ _ c.finish.result c.finish.ensures 6 (λ e. omega arith) (λ e. omega arith) (sym c.status-status-2.ensures ∙ is))
 
 pub returns-clause-write_fault : goal.returns-clause-write_fault
-returns-clause-write_fault g c is = refused_rose g.K.Sink _ _ _ c.finish.result c.finish.ensures (sym c.status.ensures ∙ is)
+returns-clause-write_fault g c is = refused_rose g.K.Sink _ _ _ c.finish.result c.finish.ensures (sym c.status-status-2.ensures ∙ is)
 
 pub returns-clause-steady : goal.returns-clause-steady
-returns-clause-steady g c less = (refl, refused_steady g.K.Sink _ _ _ c.finish.result c.finish.ensures (subst (λ (n : ℕ). n < 6) c.status.ensures less))
+returns-clause-steady g c less = (refl, refused_steady g.K.Sink _ _ _ c.finish.result c.finish.ensures (subst (λ (n : ℕ). n < 6) c.status-status-2.ensures less))
