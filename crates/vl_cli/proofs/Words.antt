@@ -1,56 +1,111 @@
--- What a run prints for its words, where they are plain and where they aren't.
-use Rattle.std.proofs.Common.{◌≡◌, ⊎_elim, ℕ, suc, List, Bool, true, false, Option, sym, ◌∙◌, subst}
-use Rattle.std.specs.Prelude.{MatchBool}
-use Rattle.vl_io.specs.Sink.{Takes}
-use Rattle.vl_model.specs.History.{History}
-use Rattle.vl_replay.specs.Sequential.{empty_store}
-use Rattle.vl_replay.specs.Replay.{Exchange, KeepsUp, Replays, IsFront, status_of}
-use Rattle.vl_replay.specs.Durable.{answered_lines, history_of}
-use Rattle.vl_replay.specs.Steps.{EndsRun, Finishes}
-use Rattle.vl_cli.specs.Run.{RefusesWords, Runs, is_plain, usage_line}
+-- What a run's status says of how it ended.
+use Rattle.std.proofs.Common.{◌≡◌, ◌≢◌, ◌<◌, ⊎_elim, ℕ, List, Some, refl, sym, ◌∙◌, ap, subst, arith}
+use Rattle.vl_disk.specs.Faults.{Rose}
+use Rattle.vl_io.specs.declared.sink.Sink as sink
+use Rattle.vl_replay.specs.Endings.{Culprit, TheDisk, TheSource, TheSink, Counts, culprit_of, status_of}
+use Rattle.vl_replay.specs.Runs.{IsFront}
+use Rattle.vl_replay.specs.Steps.{Finishes}
 use Rattle.vl_replay.specs.declared.ending.Ending.{Ending}
-use Rattle.vl_replay.specs.declared.ending.Ending.TheVariants.{BadWords, WriteFault}
+use Rattle.vl_replay.specs.declared.ending.Ending.TheVariants.{Complete, BadLine, BadWords, DiskFault, NotAStore, NoMemory, ReadFault, WriteFault, AnswerCut}
 
-abbrev pub RunAnswers : (Ending → Type 0) → (Ending → List Exchange → History → Type 0) → List (List ℕ) → List ℕ → Option (List ℕ) → Option (List ℕ) → ℕ → Option (List ℕ) → Option (List ℕ) → Type 0
-RunAnswers cause so words input left asked status held held' =
-    (ending : Ending) × (printed : List ℕ) × (answered : ℕ) × (status ≡ status_of ending) × Takes held held' printed × Runs cause words input left answered ending printed
-    × KeepsUp input asked answered × (is_plain words ≡ true → so ending (answered_lines input answered) (history_of input (suc answered)))
+-- the status of an ending by an object
+abbrev pub StatusBy : Culprit → ℕ → Type 0
+StatusBy who n = (ending : Ending) → (status_of ending ≡ n → culprit_of ending ≡ who) × (culprit_of ending ≡ who → status_of ending ≡ n)
 
-pub plain_answers : (cause : Ending → Type 0) (so : Ending → List Exchange → History → Type 0) (words : List (List ℕ)) (input : List ℕ) (left asked : Option (List ℕ)) (ending : Ending) (status : ℕ) (held held' : Option (List ℕ))
-    → is_plain words ≡ true → status ≡ status_of ending → EndsRun cause so empty_store 0 input left asked ending held held' → RunAnswers cause so words input left asked status held held'
-plain_answers cause so words input left asked ending status held held' plain is (printed, m, printed_is, run, kept_up, holds) = (
-  ending,
-  printed,
-  m,
-  is,
-  printed_is,
-  subst (λ (b : Bool). MatchBool b (Replays cause empty_store 0 input left m ending printed) (RefusesWords ending printed)) (sym plain) run,
-  kept_up,
-  λ _. holds,
-)
+pub disk_status : StatusBy TheDisk 3
+disk_status Complete = (λ e. cc, λ e. cc)
+disk_status BadLine = (λ e. cc, λ e. cc)
+disk_status BadWords = (λ e. cc, λ e. cc)
+disk_status DiskFault = (λ e. refl, λ e. refl)
+disk_status NotAStore = (λ e. cc, λ e. cc)
+disk_status NoMemory = (λ e. cc, λ e. cc)
+disk_status ReadFault = (λ e. cc, λ e. cc)
+disk_status WriteFault = (λ e. cc, λ e. cc)
+disk_status AnswerCut = (λ e. cc, λ e. cc)
 
-pub other_answers : (cause : Ending → Type 0) (so : Ending → List Exchange → History → Type 0) (words : List (List ℕ)) (input : List ℕ) (left asked : Option (List ℕ)) (ending : Ending) (status : ℕ) (held held' : Option (List ℕ))
-    → is_plain words ≡ false → status ≡ status_of ending → (printed : List ℕ) → Takes held held' printed → RefusesWords ending printed → KeepsUp input asked 0 → RunAnswers cause so words input left asked status held held'
-other_answers cause so words input left asked ending status held held' other is printed printed_is refuses kept_up = (
-  ending,
-  printed,
-  0,
-  is,
-  printed_is,
-  subst (λ (b : Bool). MatchBool b (Replays cause empty_store 0 input left 0 ending printed) (RefusesWords ending printed)) (sym other) refuses,
-  kept_up,
-  λ plain. absurd (true_false (sym plain ∙ other)),
-)
-  where
-    true_false : true ≡ false → ⊥
-    true_false e = cc
+pub source_status : StatusBy TheSource 6
+source_status Complete = (λ e. cc, λ e. cc)
+source_status BadLine = (λ e. cc, λ e. cc)
+source_status BadWords = (λ e. cc, λ e. cc)
+source_status DiskFault = (λ e. cc, λ e. cc)
+source_status NotAStore = (λ e. cc, λ e. cc)
+source_status NoMemory = (λ e. cc, λ e. cc)
+source_status ReadFault = (λ e. refl, λ e. refl)
+source_status WriteFault = (λ e. cc, λ e. cc)
+source_status AnswerCut = (λ e. cc, λ e. cc)
 
-pub refused_words : (result : Ending) (held held' : Option (List ℕ)) → Finishes held usage_line BadWords result held' → (printed : List ℕ) × Takes held held' printed × RefusesWords result printed
-refused_words result held held' (printed, takes, how) = (
-  printed,
-  takes,
-  ⊎_elim
-      (λ (same : (result ≡ BadWords) × (printed ≡ usage_line)). subst (λ (e : Ending). RefusesWords e printed) (sym same.0) same.1)
-      (λ (cut : (result ≡ WriteFault) × IsFront printed usage_line). subst (λ (e : Ending). RefusesWords e printed) (sym cut.0) cut.1)
-      how,
-)
+pub sink_status : StatusBy TheSink 7
+sink_status Complete = (λ e. cc, λ e. cc)
+sink_status BadLine = (λ e. cc, λ e. cc)
+sink_status BadWords = (λ e. cc, λ e. cc)
+sink_status DiskFault = (λ e. cc, λ e. cc)
+sink_status NotAStore = (λ e. cc, λ e. cc)
+sink_status NoMemory = (λ e. cc, λ e. cc)
+sink_status ReadFault = (λ e. cc, λ e. cc)
+sink_status WriteFault = (λ e. refl, λ e. refl)
+sink_status AnswerCut = (λ e. refl, λ e. refl)
+
+pub is_not_a_store : (ending : Ending) → status_of ending ≡ 4 → ending ≡ NotAStore
+is_not_a_store Complete e = cc
+is_not_a_store BadLine e = cc
+is_not_a_store BadWords e = cc
+is_not_a_store DiskFault e = cc
+is_not_a_store NotAStore e = refl
+is_not_a_store NoMemory e = cc
+is_not_a_store ReadFault e = cc
+is_not_a_store WriteFault e = cc
+is_not_a_store AnswerCut e = cc
+
+pub is_bad_words : (ending : Ending) → status_of ending ≡ 2 → ending ≡ BadWords
+is_bad_words Complete e = cc
+is_bad_words BadLine e = cc
+is_bad_words BadWords e = refl
+is_bad_words DiskFault e = cc
+is_bad_words NotAStore e = cc
+is_bad_words NoMemory e = cc
+is_bad_words ReadFault e = cc
+is_bad_words WriteFault e = cc
+is_bad_words AnswerCut e = cc
+
+same : (a b : Culprit) → Some a ≡ Some b → a ≡ b
+same a b e = cc
+
+cut : (ending : Ending) → Some ending ≡ Some WriteFault → status_of ending ≡ 7
+cut ending e = let is : ending ≡ WriteFault = cc in ap status_of is
+
+module _ (who : Culprit) (n : ℕ) (by : StatusBy who n) (ending : Ending) (before now : ℕ) (counts : Counts who (Some ending) before now) where
+  -- the object failed where the run ended by it
+  pub rose_by : status_of ending ≡ n → Rose before now
+  rose_by is = counts.rose (ap Some ((by ending).0 is))
+
+  -- and counted nothing where it ended otherwise, and the last line could be put
+  pub steady_by : status_of ending ≢ n → status_of ending ≢ 7 → now ≡ before
+  steady_by other whole = counts.steady (λ e. other ((by ending).1 (same (culprit_of ending) who e))) (λ e. whole (cut ending e))
+
+-- ---- words that aren't plain
+
+module _ {K : Type 0} (g : sink.Ghosts K) (old new : K) (line : List ℕ) (result : Ending) (finishes : Finishes g old new line BadWords result) where
+  -- the run ends by them or by the sink
+  pub refused_status : (n : ℕ) → n ≢ 2 → n ≢ 7 → status_of result ≡ n → ⊥
+  refused_status n two seven is = ⊎_elim
+      (λ (whole : (result ≡ BadWords) × (finishes.printed ≡ line) × (g.faults new ≡ g.faults old)). two (sym is ∙ ap status_of whole.0))
+      (λ (cut : (result ≡ WriteFault) × IsFront finishes.printed line × Rose (g.faults old) (g.faults new)). seven (sym is ∙ ap status_of cut.0))
+      finishes.how
+
+  pub refused_rose : status_of result ≡ 7 → Rose (g.faults old) (g.faults new)
+  refused_rose is = ⊎_elim
+      (λ (whole : (result ≡ BadWords) × (finishes.printed ≡ line) × (g.faults new ≡ g.faults old)). absurd (apart (sym (ap status_of whole.0) ∙ is)))
+      (λ (cut : (result ≡ WriteFault) × IsFront finishes.printed line × Rose (g.faults old) (g.faults new)). cut.2)
+      finishes.how
+    where
+      apart : ◌≡◌ {A = ℕ} 2 7 → ⊥
+      apart e = omega arith
+
+  pub refused_steady : status_of result < 6 → g.faults new ≡ g.faults old
+  refused_steady less = ⊎_elim
+      (λ (whole : (result ≡ BadWords) × (finishes.printed ≡ line) × (g.faults new ≡ g.faults old)). whole.2)
+      (λ (cut : (result ≡ WriteFault) × IsFront finishes.printed line × Rose (g.faults old) (g.faults new)). absurd (past (subst (λ (n : ℕ). n < 6) (ap status_of cut.0) less)))
+      finishes.how
+    where
+      past : 7 < 6 → ⊥
+      past lt = omega arith

@@ -1,38 +1,38 @@
--- Whole runs of the command line: what is printed for its words and its input.
-use Rattle.std.specs.Prelude.{◌≡◌, ℕ, Bool, false, not, ◌==◌, ◌&&◌, List, [], ◌∷◌, ◌++◌, codes, Option, MatchBool}
+-- Whole runs of the command line: what is done for its words and its input.
+use Rattle.std.specs.Prelude.{◌≡◌, ℕ, Bool, false, not, ◌==◌, ◌&&◌, List, [], ◌∷◌, codes}
+use Rattle.std.specs.Option.{ForSome}
 use Rattle.std.specs.Str.{bytes_eq}
-use Rattle.vl_replay.specs.Sequential.{empty_store}
-use Rattle.vl_replay.specs.Replay.{Replays, IsFront}
+use Rattle.vl_disk.specs.declared.watched.Watched.{Ghosts}
+use Rattle.vl_io.specs.declared.sink.Sink as sink
+use Rattle.vl_journal.specs.Files.{StandsSome}
+use Rattle.vl_replay.specs.Sequential.{State}
+use Rattle.vl_replay.specs.Endings.{status_of}
+use Rattle.vl_replay.specs.Runs.{Outside, EndsRun, script_of}
+use Rattle.vl_replay.specs.Start.{DiskEndsFromStart}
+use Rattle.vl_replay.specs.Steps.{FinishesBy}
 use Rattle.vl_replay.specs.declared.ending.Ending.{Ending}
-use Rattle.vl_replay.specs.declared.ending.Ending.TheVariants.{Complete, BadLine, BadWords, DiskFault, NotAStore, NoMemory, ReadFault, WriteFault, AnswerCut}
 
 -- a word that is neither empty nor an option
 abbrev pub is_plain_word : List ℕ → Bool
 is_plain_word [] = false
 is_plain_word (b ∷ bytes) = not (b == 45)
 
--- the last line of a run whose words aren't plain
-abbrev pub usage_line : List ℕ
-usage_line = codes "usage: vlstore replay DIR, trial STOP OUTCOME, bench SEED COUNT or drive CLIENTS TXNS SEED" ++ (10 ∷ [])
-
--- what a run prints whose words aren't plain
-abbrev pub RefusesWords : Ending → List ℕ → Type 0
-RefusesWords Complete printed = ⊥
-RefusesWords BadLine printed = ⊥
-RefusesWords BadWords printed = printed ≡ usage_line
-RefusesWords DiskFault printed = ⊥
-RefusesWords NotAStore printed = ⊥
-RefusesWords NoMemory printed = ⊥
-RefusesWords ReadFault printed = ⊥
-RefusesWords WriteFault printed = IsFront printed usage_line
-RefusesWords AnswerCut printed = ⊥
-
 -- the two words replay and a folder's name
 abbrev pub is_plain : List (List ℕ) → Bool
 is_plain (command ∷ folder ∷ []) = bytes_eq command (codes "replay") && is_plain_word folder
 is_plain words = false
 
--- what a run prints for these words and this input, of which so many lines were answered and the source has so much left
-abbrev pub Runs : (Ending → Type 0) → List (List ℕ) → List ℕ → Option (List ℕ) → ℕ → Ending → List ℕ → Type 0
-Runs cause words input left m ending printed =
-    MatchBool (is_plain words) (Replays cause empty_store 0 input left m ending printed) (RefusesWords ending printed)
+-- A run of an input from a state on ended with this status.
+pub record Answers {D : Type 0} (g : Ghosts D) (start : State) (input : List ℕ) (old new : Outside D) (status : ℕ) : Type 0 where
+  -- how it ended: the table of endings says the status, the culprit and the last line of each
+  pub ending : Ending
+  pub status_is : status ≡ status_of ending
+  -- what was printed and how many lines were answered, that each answer was put before the next line was read, and what
+  -- was done to a disk on which nothing stood: each accepted commit is one synced frame of its log
+  pub run : EndsRun g (ForSome (g.told old.disk) StandsSome) (DiskEndsFromStart g old.disk new.disk) (script_of start 0 input) old new ending
+
+-- a run that wasn't begun: it put the line of this ending, whole or a front of it, and has that ending's status, or that of
+-- a line that couldn't be put
+abbrev pub EndsBy : {K : Type 0} → sink.Ghosts K → (old new : K) → Ending → (status : ℕ) → Type 0
+EndsBy g old new why status =
+    (ending : Ending) × (status ≡ status_of ending) × FinishesBy g old new why ending

@@ -2,7 +2,7 @@
 
 ghost use Rattle.std.specs.Prelude.{◌≡◌, ◌≢◌};
 ghost use Rattle.vl_disk.specs.Faults.{Rose};
-ghost use Rattle.vl_replay.specs.Replay.{status_of};
+ghost use Rattle.vl_replay.specs.Endings.{status_of};
 ghost use Rattle.vl_replay.specs.declared.ending.Ending.{Ending as HowEnded};
 
 use crate::{Ended, refuse_without_words, run};

@@ -1,9 +1,9 @@
 -- Histories that go on, and what is shown between two of them.
-use Rattle.std.proofs.Common.{◌≡◌, ℕ, ◌+◌, ◌≤◌, List, [], ◌∷◌, ◌++◌, length, refl, sym, ◌∙◌, ap, append-nil, append_assoc, length-append, arith}
+use Rattle.std.proofs.Common.{◌≡◌, ◌+◌, ◌≤◌, List, [], ◌∷◌, ◌++◌, length, refl, sym, ◌∙◌, ap, append-nil, append_assoc, length-append, arith}
 use Rattle.vl_model.specs.Keys.{Writes}
 use Rattle.vl_model.specs.History.{History, last_number, with_commit}
 use Rattle.vl_disk.specs.Crash.{Image}
-use Rattle.vl_replay.specs.Between.{Extends, ShowsBetween}
+use Rattle.vl_replay.specs.Between.{Showing, Extends, ShowsBetween}
 use Rattle.vl_replay.specs.Durable.{StaysShown}
 
 pub extends_same : (h k : History) → k ≡ h → Extends h k
@@ -38,12 +38,12 @@ last-extends h k e =
     let first = e.first in let count = ap length e.commits in let both = length-append h.commits e.more in omega arith
 
 -- what is shown between two histories is shown between an earlier and a later one
-pub between_wider : (shows : Image → History → ℕ → Type 0) → StaysShown shows → (least less more most : History) → Extends least less → Extends more most
+pub between_wider : (shows : Showing) → StaysShown shows → (least less more most : History) → Extends least less → Extends more most
     → (image : Image) → ShowsBetween shows less more image → ShowsBetween shows least most image
 between_wider shows stays least less more most lower upper image (m, low, high, shown) =
     let l = last-extends least less lower in
     let u = last-extends more most upper in
     (m, omega arith, omega arith, stays more most upper image m high shown)
 
-pub between_exactly : (shows : Image → History → ℕ → Type 0) (h : History) (image : Image) → shows image h (last_number h) → ShowsBetween shows h h image
+pub between_exactly : (shows : Showing) (h : History) (image : Image) → shows image h (last_number h) → ShowsBetween shows h h image
 between_exactly shows h image shown = (last_number h, omega arith, omega arith, shown)

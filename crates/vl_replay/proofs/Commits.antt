@@ -1,35 +1,31 @@
 -- What a line does to the disk, by each exit of the functions that answer it.
-use Rattle.std.proofs.Common.{◌≡◌, ◌==◌, ◌⊎◌, ⊎_elim, ℕ, ◌+◌, ◌-◌, ◌^◌, ◌<◌, ◌≤◌, min, List, [], ◌∷◌, ◌++◌, length, Option, Some, true, false, IsTrue, Result, Ok, Err, OnOk, refl, sym, ◌∙◌, ap, subst, arith}
-use Rattle.std.specs.Prelude.{IsErr, IsErrAnd, IfErr, nat_le}
-use Rattle.std.specs.FinMap.{get, entries, len, len-entries, is_sorted}
-use Rattle.std.proofs.lemmas.Bool.{cond-true, cond-false, eqb-false, le-leb, lt-leb}
+use Rattle.std.proofs.Common.{◌≡◌, ◌==◌, ◌⊎◌, ⊎_elim, ℕ, ◌+◌, ◌-◌, ◌<◌, ◌≤◌, List, [], ◌∷◌, ◌++◌, length, Some, false, IsTrue, Result, Ok, Err, OnOk, refl, sym, ◌∙◌, ap, subst, arith}
+use Rattle.std.specs.Prelude.{IsErr, IsErrAnd}
+use Rattle.std.specs.FinMap.{entries, len, len-entries, is_sorted}
+use Rattle.std.proofs.lemmas.Bool.{eqb-false}
 use Rattle.vl_model.specs.declared.change.Change.{Change}
-use Rattle.vl_model.specs.declared.counter.Counter.TheVariants.{Commit as CommitNumber}
-use Rattle.vl_model.specs.History.{History, last_number, with_commit}
+use Rattle.vl_model.specs.History.{last_number}
 use Rattle.vl_model.specs.Keys.{Writes, key_cmp}
-use Rattle.vl_model.specs.Limits.{max_commit_number, max_room}
+use Rattle.vl_model.specs.Limits.{max_commit_number}
 use Rattle.vl_disk.specs.declared.watched.Watched.{Ghosts}
 use Rattle.vl_disk.specs.Calls.{Looks}
 use Rattle.vl_disk.specs.DiskState.{DiskState}
 use Rattle.vl_disk.specs.Crash.{Image, Unchanged}
-use Rattle.vl_disk.specs.Faults.{HasCause, after_calls}
+use Rattle.vl_disk.specs.Faults.{after_calls}
 use Rattle.vl_disk.specs.Moments.{HoldsThroughout, goes_by, holds_weaker}
-use Rattle.vl_seglog.specs.Log.{Commit, IsCommit, HasFrame, AreRecords, commit_frame, log_bytes}
+use Rattle.vl_seglog.specs.Log.{IsCommit, HasFrame, AreRecords, commit_frame, log_bytes}
 use Rattle.vl_seglog.specs.declared.active.ActiveLog.{ActiveLog}
 use Rattle.vl_journal.specs.declared.names.TheConstants.{NUMBER}
 use Rattle.vl_journal.specs.Files.{Holds, IsNextFrame}
 use Rattle.vl_journal.specs.Images.{Leaves, ImageShows, ShowsEither}
-use Rattle.vl_script.specs.declared.answer.Answer.{Answer}
-use Rattle.vl_script.specs.declared.answer.Answer.TheVariants.{Number, Nothing, Full, Exhausted}
-use Rattle.vl_replay.specs.Sequential.{State, Outcome, without_handle, committed, frame_length, after_commit}
+use Rattle.vl_replay.specs.Sequential.{State, after_commit}
 use Rattle.vl_replay.specs.Between.{Extends, ShowsBetween}
 use Rattle.vl_replay.specs.Represents.{Represents}
-use Rattle.vl_replay.specs.Durable.{Tells, HoldsState, HoldsHistory, GoesFrom, CarriesOut}
+use Rattle.vl_replay.specs.Durable.{HoldsState, GoesFrom, CarriesOut}
 use Rattle.vl_replay.specs.Stored.{logged, IsStored, Shown}
 use Rattle.vl_replay.specs.declared.replayer.store.Store.{Store}
 use Rattle.vl_replay.specs.declared.fails.Halt.{Halt}
 use Rattle.vl_replay.specs.declared.fails.Halt.TheVariants.{NoMemory as NoRoom, Disk as DiskFailed}
-use Rattle.vl_replay.specs.declared.replayer.handle.Handle.TheVariants.{Transaction}
 use Rattle.vl_replay.proofs.Betweens.{extends_itself, extends_same, extends_one, last-extends}
 use Rattle.vl_replay.proofs.Outcomes.{Keeps}
 use Rattle.vl_replay.proofs.Logged.{next_commit, logged-more, shown_all, shown_stays, stored_exactly, stored_kept, stored_commit}
@@ -89,8 +85,7 @@ module _ {D : Type 0} (g : Ghosts D) (watched : IsWatched g) where
   looked s old new failed looks held =
       let (state, is, here) = held.there in
       let P = Leaves (ShowsBetween Shown s.history s.history) in
-      let start = rests g watched IsStored Shown shown_stays stored_exactly s old held in
-      (
+      let start = rests g watched IsStored Shown shown_stays stored_exactly s old held in (
         record { calls = looks.calls ∙ held.calls; there = (state, looks.told ∙ is, here) },
         goes_by g P old old new state Unchanged is start looks.time (λ now same. subst P (sym same) (start.each state (watched.counts_now old state (g.moment old) is (omega arith)))),
       )

@@ -1,22 +1,22 @@
 -- What a line, and a run of lines, does to a disk that holds the state before it: by what is held and shown, whatever these are.
-use Rattle.std.proofs.Common.{◌≡◌, ◌⊎◌, ⊎_elim, inl, inr, ℕ, zero, suc, ◌≤◌, List, [], ◌∷◌, take, Option, None, Some, refl, sym, ◌∙◌, ap, subst, arith}
+use Rattle.std.proofs.Common.{◌≡◌, ◌⊎◌, ⊎_elim, inl, inr, ℕ, zero, suc, ◌≤◌, List, [], ◌∷◌, take, Option, None, Some, refl, sym, subst, arith}
 use Rattle.std.specs.Option.{option_map}
 use Rattle.vl_model.specs.History.{History, last_number}
 use Rattle.vl_disk.specs.declared.watched.Watched.{Ghosts}
 use Rattle.vl_disk.specs.Faults.{Rose}
 use Rattle.vl_disk.specs.DiskState.{DiskState}
 use Rattle.vl_disk.specs.Crash.{Image}
-use Rattle.vl_disk.specs.Moments.{HoldsThroughout, waits, holds_weaker, holds_then}
+use Rattle.vl_disk.specs.Moments.{waits, holds_weaker, holds_then}
 use Rattle.vl_journal.specs.Images.{Leaves}
 use Rattle.vl_script.specs.declared.line.Line.{Line}
 use Rattle.vl_script.specs.Script.{line_of}
 use Rattle.vl_replay.specs.Sequential.{State, state_after}
-use Rattle.vl_replay.specs.Exchanges.{Exchange, exchange_at, exchanged, state_behind, exchanges_from, and_later, history_after}
-use Rattle.vl_replay.specs.Between.{Extends, ShowsBetween}
+use Rattle.vl_replay.specs.Exchanges.{Exchange, exchange_at, exchanged, state_behind, exchanges_from, and_later, last_state}
+use Rattle.vl_replay.specs.Between.{Showing, Extends, ShowsBetween}
 use Rattle.vl_replay.specs.Endings.{CutsAnswer, IsBetweenLines, culprit_of}
-use Rattle.vl_replay.specs.Durable.{LeavesItsHistory, StaysShown, Tells, HoldsState, HoldsHistory, GoesFrom, GoesAlong, DiskEnds}
+use Rattle.vl_replay.specs.Durable.{Holding, LeavesItsHistory, StaysShown, Tells, HoldsState, HoldsCommits, GoesFrom, GoesAlong, DiskEnds}
 use Rattle.vl_replay.specs.declared.ending.Ending.{Ending}
-use Rattle.vl_replay.specs.declared.ending.Ending.TheVariants.{NoMemory, Complete}
+use Rattle.vl_replay.specs.declared.ending.Ending.TheVariants.{NoMemory}
 use Rattle.vl_replay.proofs.Betweens.{extends_itself, extends_then, between_wider, between_exactly}
 use Rattle.vl_replay.proofs.Outcomes.{line_extends}
 
@@ -42,22 +42,22 @@ behind_extends s text (Some e) is = exchange_extends s text e is
 pub text_extends : (s : State) (text : List ℕ) → Extends s.history (state_behind s (exchange_at s text)).history
 text_extends s text = behind_extends s text (exchange_at s text) refl
 
--- the history behind the first line
-one_behind : (s : State) (later : Exchange → List Exchange) (o : Option Exchange) → history_after s.history (take 1 (and_later later o)) ≡ (state_behind s o).history
+-- the state behind the first line
+one_behind : (s : State) (later : Exchange → List Exchange) (o : Option Exchange) → last_state s (take 1 (and_later later o)) ≡ state_behind s o
 one_behind s later None = refl
 one_behind s later (Some e) = refl
 
-pub first_behind : (s : State) (text : List ℕ) (texts : List (List ℕ)) → history_after s.history (take 1 (exchanges_from s (text ∷ texts))) ≡ (state_behind s (exchange_at s text)).history
+pub first_behind : (s : State) (text : List ℕ) (texts : List (List ℕ)) → last_state s (take 1 (exchanges_from s (text ∷ texts))) ≡ state_behind s (exchange_at s text)
 first_behind s text texts = one_behind s (λ e. exchanges_from e.after texts) (exchange_at s text)
 
 first_extends : (s : State) (text : List ℕ) (texts : List (List ℕ)) (m : ℕ) (o : Option Exchange) → exchange_at s text ≡ o
-    → ((after : State) → Extends after.history (history_after after.history (take m (exchanges_from after texts))))
-    → Extends s.history (history_after s.history (take (suc m) (and_later (λ e. exchanges_from e.after texts) o)))
+    → ((after : State) → Extends after.history (last_state after (take m (exchanges_from after texts))).history)
+    → Extends s.history (last_state s (take (suc m) (and_later (λ e. exchanges_from e.after texts) o))).history
 first_extends s text texts m None is later = extends_itself s.history
-first_extends s text texts m (Some e) is later = extends_then s.history e.after.history (history_after e.after.history (take m (exchanges_from e.after texts))) (exchange_extends s text e is) (later e.after)
+first_extends s text texts m (Some e) is later = extends_then s.history e.after.history (last_state e.after (take m (exchanges_from e.after texts))).history (exchange_extends s text e is) (later e.after)
 
 -- the exchanges of some lines leave no less than there was
-pub exchanges_extend : (texts : List (List ℕ)) (s : State) (m : ℕ) → Extends s.history (history_after s.history (take m (exchanges_from s texts)))
+pub exchanges_extend : (texts : List (List ℕ)) (s : State) (m : ℕ) → Extends s.history (last_state s (take m (exchanges_from s texts))).history
 exchanges_extend [] s zero = extends_itself s.history
 exchanges_extend [] s (suc m) = extends_itself s.history
 exchanges_extend (text ∷ texts) s zero = extends_itself s.history
@@ -77,7 +77,7 @@ leaves_weaker P Q weaker state leaves image may chance = weaker image (leaves im
 pub rose_earlier : (f a b : ℕ) → f ≤ a → Rose a b → Rose f b
 rose_earlier f a b le rose = omega arith
 
-module _ {D : Type 0} (g : Ghosts D) (watched : IsWatched g) (holds : State → DiskState → Type 0) (shows : Image → History → ℕ → Type 0)
+module _ {D : Type 0} (g : Ghosts D) (watched : IsWatched g) (holds : Holding) (shows : Showing)
     (stays : StaysShown shows) (exactly : LeavesItsHistory holds shows) where
   -- a wider pair of histories
   pub goes_wider : (old new : D) (least less more most : History) → Extends least less → Extends more most → GoesFrom g shows old new less more → GoesFrom g shows old new least most
@@ -102,22 +102,22 @@ module _ {D : Type 0} (g : Ghosts D) (watched : IsWatched g) (holds : State → 
       (goes_wider a b least least mid most (extends_itself least) upper first)
       (goes_wider b c least mid most most lower (extends_itself most) second)
 
-  pub it_holds : (s : State) (disk : D) → HoldsState g holds s disk → HoldsHistory g holds s.history disk
-  it_holds s disk held = (s, refl, held)
+  pub it_holds : (s : State) (disk : D) → HoldsState g holds s disk → HoldsCommits g holds s disk
+  it_holds s disk held = (s, refl, refl, held)
 
   -- what a crash leaves in the end
   pub at_end : (old new : D) (least most : History) → GoesFrom g shows old new least most → Tells g new (λ _. Unit {0}) → Tells g new (Leaves (ShowsBetween shows least most))
   at_end old new least most goes (state, is, nothing) = (state, is, goes.each state (watched.counts_now new state (g.moment old) is goes.later))
 
   -- the run ended before a line was answered
-  pub ends_within : (old new : D) (ending : Ending) (least most : History) → GoesFrom g shows old new least most → Tells g new (λ _. Unit {0})
-      → ((Rose (g.faults old) (g.faults new) → ⊥) → HoldsHistory g holds least new ⊎ HoldsHistory g holds most new)
-      → (ending ≡ NoMemory → HoldsHistory g holds least new) → (IsBetweenLines (culprit_of ending) → HoldsHistory g holds least new) → (CutsAnswer ending → HoldsHistory g holds most new)
+  pub ends_within : (old new : D) (ending : Ending) (least most : State) → GoesFrom g shows old new least.history most.history → Tells g new (λ _. Unit {0})
+      → ((Rose (g.faults old) (g.faults new) → ⊥) → HoldsCommits g holds least new ⊎ HoldsCommits g holds most new)
+      → (ending ≡ NoMemory → HoldsCommits g holds least new) → (IsBetweenLines (culprit_of ending) → HoldsCommits g holds least new) → (CutsAnswer ending → HoldsCommits g holds most new)
       → DiskEnds g holds shows ⊥ old new (record { ending = ending; first = least; answered = []; most = most })
   ends_within old new ending least most goes tells settled no_memory whole cut = record {
     through = goes;
     along = tt;
-    now = at_end old new least most goes tells;
+    now = at_end old new least.history most.history goes tells;
     settled = λ sound. inr (settled sound);
     no_memory = λ out. inr (no_memory out);
     whole = whole;
@@ -125,19 +125,19 @@ module _ {D : Type 0} (g : Ghosts D) (watched : IsWatched g) (holds : State → 
   }
 
   -- it still holds what it held
-  pub ends_unchanged : (old new : D) (ending : Ending) (least most : History) → GoesFrom g shows old new least most → Tells g new (λ _. Unit {0}) → HoldsHistory g holds least new
-      → (CutsAnswer ending → HoldsHistory g holds most new) → DiskEnds g holds shows ⊥ old new (record { ending = ending; first = least; answered = []; most = most })
+  pub ends_unchanged : (old new : D) (ending : Ending) (least most : State) → GoesFrom g shows old new least.history most.history → Tells g new (λ _. Unit {0}) → HoldsCommits g holds least new
+      → (CutsAnswer ending → HoldsCommits g holds most new) → DiskEnds g holds shows ⊥ old new (record { ending = ending; first = least; answered = []; most = most })
   ends_unchanged old new ending least most goes tells held cut = ends_within old new ending least most goes tells (λ sound. inl held) (λ out. held) (λ whole. held) cut
 
   -- the disk was left alone
-  pub ends_untouched : (s : State) (most : History) → Extends s.history most → (disk : D) (ending : Ending) → (CutsAnswer ending → ⊥) → HoldsState g holds s disk
-      → DiskEnds g holds shows ⊥ disk disk (record { ending = ending; first = s.history; answered = []; most = most })
+  pub ends_untouched : (s most : State) → Extends s.history most.history → (disk : D) (ending : Ending) → (CutsAnswer ending → ⊥) → HoldsState g holds s disk
+      → DiskEnds g holds shows ⊥ disk disk (record { ending = ending; first = s; answered = []; most = most })
   ends_untouched s most extends disk ending none held =
-      ends_unchanged disk disk ending s.history most (rests_until s most extends disk held) (held.there.0, held.there.1, tt) (it_holds s disk held) (λ cuts. absurd (none cuts))
+      ends_unchanged disk disk ending s most (rests_until s most.history extends disk held) (held.there.0, held.there.1, tt) (it_holds s disk held) (λ cuts. absurd (none cuts))
 
   -- the last line was answered
-  pub ends_answered : (old new : D) (ending : Ending) (before : History) (e : Exchange) → GoesFrom g shows old new before e.after.history → HoldsState g holds e.after new
-      → DiskEnds g holds shows ⊥ old new (record { ending = ending; first = before; answered = e ∷ []; most = e.after.history })
+  pub ends_answered : (old new : D) (ending : Ending) (before : State) (e : Exchange) → GoesFrom g shows old new before.history e.after.history → HoldsState g holds e.after new
+      → DiskEnds g holds shows ⊥ old new (record { ending = ending; first = before; answered = e ∷ []; most = e.after })
   ends_answered old new ending before e goes held =
       let there = it_holds e.after new held in
       let rest = rests e.after new held in
@@ -152,29 +152,29 @@ module _ {D : Type 0} (g : Ghosts D) (watched : IsWatched g) (holds : State → 
       }
 
   -- a run that began earlier, and had answered some lines
-  pub ends_later : (unopened : Type 0) (first old new : D) (ending : Ending) (start before most : History) (answered whole : List Exchange) → Extends start before → Extends before most → g.faults first ≤ g.faults old
-      → GoesFrom g shows first old start before
-      → (GoesFrom g shows old new before most → GoesAlong g holds shows new most old before answered → GoesAlong g holds shows new most first start whole)
-      → history_after before answered ≡ history_after start whole
+  pub ends_later : (unopened : Type 0) (first old new : D) (ending : Ending) (start before most : State) (answered whole : List Exchange) → Extends start.history before.history → Extends before.history most.history → g.faults first ≤ g.faults old
+      → GoesFrom g shows first old start.history before.history
+      → (GoesFrom g shows old new before.history most.history → GoesAlong g holds shows new most old before answered → GoesAlong g holds shows new most first start whole)
+      → last_state before answered ≡ last_state start whole
       → DiskEnds g holds shows ⊥ old new (record { ending = ending; first = before; answered = answered; most = most })
       → DiskEnds g holds shows unopened first new (record { ending = ending; first = start; answered = whole; most = most })
   ends_later unopened first old new ending start before most answered whole lower upper earlier so_far longer same ends =
-      let moved : HoldsHistory g holds (history_after before answered) new → HoldsHistory g holds (history_after start whole) new =
-      λ (held : HoldsHistory g holds (history_after before answered) new). subst (λ (h : History). HoldsHistory g holds h new) same held in
+      let moved : HoldsCommits g holds (last_state before answered) new → HoldsCommits g holds (last_state start whole) new =
+      λ (held : HoldsCommits g holds (last_state before answered) new). subst (λ (s : State). HoldsCommits g holds s new) same held in
       record {
-        through = goes_then first old new start before most lower upper so_far ends.through;
+        through = goes_then first old new start.history before.history most.history lower upper so_far ends.through;
         along = longer ends.through ends.along;
-        now = (ends.now.0, ends.now.1, subst (λ (h : History). Leaves (ShowsBetween shows h most) ends.now.0) same ends.now.2);
+        now = (ends.now.0, ends.now.1, subst (λ (s : State). Leaves (ShowsBetween shows s.history most.history) ends.now.0) same ends.now.2);
         settled = λ sound. ⊎_elim
             (λ (never : ⊥). absurd never)
-            (λ (there : HoldsHistory g holds (history_after before answered) new ⊎ HoldsHistory g holds most new). inr (⊎_elim
-            (λ (held : HoldsHistory g holds (history_after before answered) new). inl (moved held))
-            (λ (held : HoldsHistory g holds most new). inr held)
+            (λ (there : HoldsCommits g holds (last_state before answered) new ⊎ HoldsCommits g holds most new). inr (⊎_elim
+            (λ (held : HoldsCommits g holds (last_state before answered) new). inl (moved held))
+            (λ (held : HoldsCommits g holds most new). inr held)
             there))
             (ends.settled (λ rose. sound (rose_earlier (g.faults first) (g.faults old) (g.faults new) earlier rose)));
         no_memory = λ out. ⊎_elim
             (λ (never : ⊥). absurd never)
-            (λ (held : HoldsHistory g holds (history_after before answered) new). inr (moved held))
+            (λ (held : HoldsCommits g holds (last_state before answered) new). inr (moved held))
             (ends.no_memory out);
         whole = λ between. moved (ends.whole between);
         cut = ends.cut;

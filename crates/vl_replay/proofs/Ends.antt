@@ -1,5 +1,5 @@
 -- Whole runs: how a run ends at its next line, and how one goes on behind an answered line.
-use Rattle.std.proofs.Common.{append_assoc, append-nil, ◌≡◌, ◌≢◌, ◌⊎◌, ⊎_elim, ◌+◌, ◌-◌, ◌^◌, ◌<◌, ◌≤◌, ℕ, suc, min, List, [], ◌∷◌, ◌++◌, length, take, drop, refl, ap, sym, ◌∙◌, Bool, true, false, arith, subst, inl, inr, zero-le, one-add, cond}
+use Rattle.std.proofs.Common.{append_assoc, append-nil, ◌≡◌, ◌≢◌, ◌⊎◌, ⊎_elim, ◌+◌, ◌-◌, ◌^◌, ◌<◌, ℕ, suc, min, List, [], ◌∷◌, ◌++◌, length, take, drop, refl, ap, sym, ◌∙◌, Bool, true, false, arith, subst, zero-le, one-add, cond}
 use Rattle.std.proofs.lemmas.List.{take-append-drop}
 use Rattle.std.proofs.lemmas.Bool.{ne_eqb}
 use Rattle.std.specs.Prelude.{Option, Some, None, codes, ◌==◌, nat_le}
@@ -7,22 +7,21 @@ use Rattle.std.specs.List.{slice_get}
 use Rattle.std.specs.Option.{option_map}
 use Rattle.std.specs.Fmt.{decimal}
 use Rattle.std.proofs.lemmas.Bool.Decides.{nat_tests}
-use Rattle.vl_disk.specs.declared.watched.Watched.{Ghosts}
 use Rattle.vl_disk.specs.Faults.{Rose}
 use Rattle.vl_io.specs.declared.sink.Sink as sink
 use Rattle.vl_io.specs.Sink.{Takes, TakesPrefix}
 use Rattle.vl_script.specs.declared.line.Line.{Line as ScriptLine}
 use Rattle.vl_script.specs.declared.answer.Answer.{Answer}
-use Rattle.vl_script.specs.declared.limits.TheConstants.{MAX_LINE_BYTES}
+use Rattle.vl_script.specs.Script.{longest_line}
 use Rattle.vl_script.specs.Script.{text_of, lines_of, line_of}
 use Rattle.vl_replay.specs.Sequential.{State, answer_to, state_after}
 use Rattle.vl_replay.specs.Input.{HasNoLineEnd}
 use Rattle.vl_replay.specs.Exchanges.{Exchange, exchange_at, exchanged, exchanges_from, and_later, answers_text, ended_lines, KeepsUp}
 use Rattle.vl_replay.specs.Endings.{Culprit, NoOne, TheLine, TheWords, TheDisk, TheFiles, Memory, TheSource, TheSink, LastPiece, NoPiece, BadLinePiece, Line, LineFront, AnswerFront, Counts, Causes, CutsAnswer, culprit_of, end_of, last_line, line_of_piece, line_number, bad_line}
-use Rattle.vl_replay.specs.Runs.{Script, script_of, exchanges, next_number, IsFront, GaveLines, Stops, Puts, EndsSo}
+use Rattle.vl_replay.specs.Runs.{Script, exchanges, next_number, IsFront, Stops, Puts, EndsSo}
 use Rattle.vl_replay.specs.Steps.{Finishes, IsNext, EndsBefore}
 use Rattle.vl_replay.specs.declared.ending.Ending.{Ending}
-use Rattle.vl_replay.specs.declared.ending.Ending.TheVariants.{Complete, BadLine, DiskFault, NoMemory, ReadFault, WriteFault, AnswerCut}
+use Rattle.vl_replay.specs.declared.ending.Ending.TheVariants.{Complete, WriteFault, AnswerCut}
 use Rattle.vl_replay.specs.Laws.{ended_lines-cons}
 use Rattle.vl_replay.proofs.Lines.{lines_of-ended}
 
@@ -60,8 +59,8 @@ chosen_false true x y e = absurd (cc)
 chosen_false false x y e = refl
 
 -- a line that is too long is a bad one
-pub too_long_is_bad : (s : State) (text : List ℕ) → MAX_LINE_BYTES < length text → exchange_at s text ≡ None
-too_long_is_bad s text long = ap (option_map (exchanged s)) (chosen_false (nat_le (length text) MAX_LINE_BYTES) _ None (grind (arith, nat_tests)))
+pub too_long_is_bad : (s : State) (text : List ℕ) → longest_line < length text → exchange_at s text ≡ None
+too_long_is_bad s text long = ap (option_map (exchanged s)) (chosen_false (nat_le (length text) longest_line) _ None (grind (arith, nat_tests)))
 
 -- ---- what a sink takes
 

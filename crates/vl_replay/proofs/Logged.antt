@@ -1,19 +1,18 @@
 -- What is stored of a state, and shown of a history, in a store of one log: the laws that the loop needs, and what a commit
 -- adds.
-use Rattle.std.proofs.Common.{◌≡◌, ◌+◌, ◌-◌, ◌≤◌, ℕ, List, [], ◌∷◌, ◌++◌, length, take, refl, ap, sym, ◌∙◌, arith, subst}
+use Rattle.std.proofs.Common.{◌≡◌, ◌+◌, ◌-◌, ℕ, List, [], ◌∷◌, ◌++◌, length, take, ap, sym, ◌∙◌, arith, subst}
 use Rattle.std.proofs.lemmas.List.{take_all, take-append-le}
 use Rattle.std.specs.FinMap.{entries, len-entries}
 use Rattle.vl_disk.specs.DiskState.{DiskState}
 use Rattle.vl_disk.specs.Crash.{Image}
 use Rattle.vl_journal.specs.Files.{Holds}
-use Rattle.vl_journal.specs.Images.{Leaves, ImageShows}
+use Rattle.vl_journal.specs.Images.{ImageShows}
 use Rattle.vl_journal.specs.StoreImages.{leaves_all}
-use Rattle.vl_model.specs.History.{History, last_number, commits_up_to, with_commit}
+use Rattle.vl_model.specs.History.{History, last_number, commits_up_to}
 use Rattle.vl_model.specs.Keys.{Writes}
 use Rattle.vl_seglog.specs.Laws.{length-commit_frame, log_bytes-length-more}
-use Rattle.vl_seglog.specs.Log.{Commit, commit_frame, commit_length, log_bytes}
+use Rattle.vl_seglog.specs.Log.{Commit, commit_frame, log_bytes}
 use Rattle.vl_replay.specs.Sequential.{State, frame_length, after_commit}
-use Rattle.vl_replay.specs.Between.{Extends}
 use Rattle.vl_replay.specs.Durable.{LeavesItsHistory, StaysShown}
 use Rattle.vl_replay.specs.Stored.{numbered, logged, IsStored, Shown}
 use Rattle.vl_replay.proofs.Outcomes.{Keeps}

@@ -1,29 +1,26 @@
 -- A run that opens its store first, or can't.
-use Rattle.std.proofs.Common.{◌≡◌, ◌≢◌, ◌⊎◌, inl, ℕ, zero, suc, ◌≤◌, List, [], ◌∷◌, take, Option, Some, refl, sym, ◌∙◌, ap, subst, arith}
+use Rattle.std.proofs.Common.{◌≡◌, ◌≢◌, inl, ℕ, zero, suc, ◌≤◌, List, [], ◌∷◌, take, Option, Some, refl, ◌∙◌, subst}
 use Rattle.vl_model.specs.History.{History}
 use Rattle.vl_disk.specs.declared.watched.Watched.{Ghosts}
 use Rattle.vl_disk.specs.Faults.{Rose, HasCause}
-use Rattle.vl_disk.specs.DiskState.{DiskState}
-use Rattle.vl_disk.specs.Crash.{Image}
-use Rattle.vl_disk.specs.Moments.{HoldsThroughout}
 use Rattle.vl_io.specs.declared.sink.Sink as sink
 use Rattle.vl_io.specs.Sink.{Takes}
 use Rattle.vl_journal.specs.declared.fails.OpenFail.{OpenFail as Why}
 use Rattle.vl_journal.specs.declared.fails.OpenFail.TheVariants as why
 use Rattle.vl_script.specs.Script.{lines_of}
 use Rattle.vl_replay.specs.Sequential.{State}
-use Rattle.vl_replay.specs.Exchanges.{Exchange, KeepsUp, history_after}
-use Rattle.vl_replay.specs.Between.{Extends}
+use Rattle.vl_replay.specs.Exchanges.{Exchange, KeepsUp, last_state}
+use Rattle.vl_replay.specs.Between.{Showing, Extends}
 use Rattle.vl_replay.specs.Endings.{Culprit, TheDisk, TheSink, TheSource, Counts, Causes, CutsAnswer, IsBetweenLines, culprit_of, last_line}
 use Rattle.vl_replay.specs.Runs.{Script, exchanges, next_number, Stops, Course, Outside, CausesOf, EndsRun}
-use Rattle.vl_replay.specs.Durable.{LeavesItsHistory, StaysShown, Tells, HoldsState, GoesFrom, GoesAlong, DiskEnds, DiskEndsFrom}
+use Rattle.vl_replay.specs.Durable.{Holding, LeavesItsHistory, StaysShown, Tells, HoldsState, GoesFrom, GoesAlong, DiskEnds, DiskEndsFrom}
 use Rattle.vl_replay.specs.Opening.{refusal_of}
-use Rattle.vl_replay.specs.Steps.{EndsBefore, Finishes, FinishesBy}
+use Rattle.vl_replay.specs.Steps.{EndsBefore, FinishesBy}
 use Rattle.vl_replay.specs.declared.ending.Ending.{Ending}
-use Rattle.vl_replay.specs.declared.ending.Ending.TheVariants.{NotAStore, NoMemory, DiskFault, WriteFault}
+use Rattle.vl_replay.specs.declared.ending.Ending.TheVariants.{BadWords, NotAStore, NoMemory, WriteFault}
 use Rattle.vl_replay.proofs.Betweens.{extends_itself}
 use Rattle.vl_replay.proofs.Ends.{ends_weaker, causes_weaker, finished, or_cut, finish_counts, counts_none}
-use Rattle.vl_replay.proofs.DiskSteps.{IsWatched, exchanges_extend, exchange_extends, goes_wider, goes_then, at_end, ends_later, rose_earlier}
+use Rattle.vl_replay.proofs.DiskSteps.{IsWatched, exchanges_extend, goes_wider, goes_then, at_end, ends_later, rose_earlier}
 
 -- ---- the store wasn't opened
 
@@ -70,7 +67,7 @@ out_of_memory k old new how result (line, own, finishes) = or_cut k old new line
     of why.NoMemory e is = cc
     of why.Disk e is = cc
 
-module _ {D : Type 0} (g : Ghosts D) (watched : IsWatched g) (holds : State → DiskState → Type 0) (shows : Image → History → ℕ → Type 0)
+module _ {D : Type 0} (g : Ghosts D) (watched : IsWatched g) (holds : Holding) (shows : Showing)
     (stays : StaysShown shows) (exactly : LeavesItsHistory holds shows) (P : Type 0) (by_files : Type 0) (script : Script) (first end : Outside D) where
   abbrev pub SoFar : Course → Type 0
   SoFar run = P → DiskEnds g holds shows (g.told end.disk ≡ g.told first.disk) first.disk end.disk run
@@ -82,7 +79,7 @@ module _ {D : Type 0} (g : Ghosts D) (watched : IsWatched g) (holds : State → 
       → EndsRun g by_files SoFar script first end ending
   ends_refused ending (none, none_cut) before kept_up goes tells kept kept_out =
       let h = script.start.history in
-      let most = history_after h (take 1 (exchanges script)) in
+      let most = (last_state script.start (take 1 (exchanges script))).history in
       record {
         answered = 0;
         printed = before.printed;
@@ -104,20 +101,20 @@ module _ {D : Type 0} (g : Ghosts D) (watched : IsWatched g) (holds : State → 
 
   -- ---- the store was opened before the first line
 
-  along_opened : (mid new : D) (h most : History) (all : List Exchange) (m : ℕ) → Extends h (history_after h (take 1 all)) → GoesFrom g shows first.disk mid h h
-      → GoesAlong g holds shows new most mid h (take m all) → GoesAlong g holds shows new most first.disk h (take m all)
-  along_opened mid new h most [] zero extends goes along = tt
-  along_opened mid new h most [] (suc m) extends goes along = tt
-  along_opened mid new h most (e ∷ all) zero extends goes along = tt
-  along_opened mid new h most (e ∷ all) (suc m) extends goes (passed, step, there, on, later) =
-      (passed, goes_then g watched holds shows stays exactly first.disk mid passed h h e.after.history (extends_itself h) extends goes step, there, on, later)
+  along_opened : (mid new : D) (s most : State) (all : List Exchange) (m : ℕ) → Extends s.history (last_state s (take 1 all)).history → GoesFrom g shows first.disk mid s.history s.history
+      → GoesAlong g holds shows new most mid s (take m all) → GoesAlong g holds shows new most first.disk s (take m all)
+  along_opened mid new s most [] zero extends goes along = tt
+  along_opened mid new s most [] (suc m) extends goes along = tt
+  along_opened mid new s most (e ∷ all) zero extends goes along = tt
+  along_opened mid new s most (e ∷ all) (suc m) extends goes (passed, step, there, on, later) =
+      (passed, goes_then g watched holds shows stays exactly first.disk mid passed s.history s.history e.after.history (extends_itself s.history) extends goes step, there, on, later)
 
   pub ends_opened : (mid : Outside D) (ending : Ending) → mid.source_faults ≡ first.source_faults → mid.held ≡ first.held → g.faults first.disk ≤ g.faults mid.disk
       → (P → HoldsState g holds script.start mid.disk) → (P → GoesFrom g shows first.disk mid.disk script.start.history script.start.history)
       → EndsRun g ⊥ (DiskEndsFrom g holds shows mid.disk end.disk script.start) script mid end ending
       → EndsRun g by_files SoFar script first end ending
   ends_opened mid ending same_faults same_held earlier opened goes run =
-      let h = script.start.history in
+      let s = script.start in
       let all = exchanges script in
       let m = run.answered in
       let extends = exchanges_extend (lines_of script.bytes) script.start in
@@ -131,8 +128,8 @@ module _ {D : Type 0} (g : Ghosts D) (watched : IsWatched g) (holds : State → 
             script end.left m ending run.printed run.ends;
         kept_up = run.kept_up;
         disk = λ p.
-            ends_later g watched holds shows stays exactly (g.told end.disk ≡ g.told first.disk) first.disk mid.disk end.disk ending h h (history_after h (take (suc m) all)) (take m all) (take m all)
-            (extends_itself h) (extends (suc m)) earlier (goes p) (λ _ along. along_opened mid.disk end.disk h (history_after h (take (suc m) all)) all m (extends 1) (goes p) along) refl
+            ends_later g watched holds shows stays exactly (g.told end.disk ≡ g.told first.disk) first.disk mid.disk end.disk ending s s (last_state s (take (suc m) all)) (take m all) (take m all)
+            (extends_itself s.history) (extends (suc m)) earlier (goes p) (λ _ along. along_opened mid.disk end.disk s (last_state s (take (suc m) all)) all m (extends 1) (goes p) along) refl
             (run.disk (opened p));
       }
 
@@ -154,6 +151,15 @@ module _ {K : Type 0} (k : sink.Ghosts K) (old new : K) (how : Why) (result : En
     where
       of : (how : Why) → refusal_of how ≡ NotAStore → how ≡ why.NotAStore
       of why.NotAStore e = refl
+      of why.NoMemory e = cc
+      of why.Disk e = cc
+
+  -- and not for its words
+  pub not_for_words : result ≢ BadWords
+  not_for_words = of_result (λ (e : Ending). e ≢ BadWords) (of how) (λ e. cc)
+    where
+      of : (how : Why) → refusal_of how ≢ BadWords
+      of why.NotAStore e = cc
       of why.NoMemory e = cc
       of why.Disk e = cc
 

@@ -1,8 +1,8 @@
 -- What a line leaves of the commits: it keeps them, or adds one and is answered by its number.
-use Rattle.std.proofs.Common.{◌≡◌, ◌+◌, ◌⊎◌, ◌==◌, not, ℕ, Bool, true, false, cond, List, [], ◌∷◌, length, refl, inl, inr}
+use Rattle.std.proofs.Common.{◌≡◌, ◌+◌, ◌⊎◌, ◌==◌, not, ℕ, Bool, true, false, cond, List, [], length, refl, inl, inr}
 use Rattle.std.specs.FinMap.{get, insert, contains_key, len, empty}
 use Rattle.std.specs.Prelude.{Option, Some, None, nat_le}
-use Rattle.vl_model.specs.History.{History, last_number, value_at, with_commit}
+use Rattle.vl_model.specs.History.{last_number, value_at, with_commit}
 use Rattle.vl_model.specs.Keys.{Writes, is_key_length}
 use Rattle.vl_model.specs.Limits.{max_commit_number, max_room}
 use Rattle.vl_model.specs.Reads.{Read}
@@ -101,8 +101,8 @@ line_extends s line = elim (line_adds s line) [
 ]
 
 -- a line that gives no number makes no commit
-pub history_stays : (s : State) (line : Line) → ((n : ℕ) → answer_to s line ≡ Number n → ⊥) → (state_after s line).history ≡ s.history
-history_stays s line none = elim (line_adds s line) [
-  | inl kept ↦ kept.history
+pub line_keeps : (s : State) (line : Line) → ((n : ℕ) → answer_to s line ≡ Number n → ⊥) → Keeps s (state_after s line)
+line_keeps s line none = elim (line_adds s line) [
+  | inl kept ↦ kept
   | inr added ↦ absurd (none added.1 added.3)
 ]

@@ -1,9 +1,8 @@
 -- The store over no commits: what is stored of it, and shown.
-use Rattle.std.proofs.Common.{◌≡◌, ℕ, List, [], length, refl, sym, subst}
-use Rattle.vl_model.specs.History.{History, no_history}
+use Rattle.std.proofs.Common.{◌≡◌, ℕ, [], sym, subst}
+use Rattle.vl_model.specs.History.{no_history}
 use Rattle.vl_disk.specs.declared.watched.Watched.{Ghosts}
 use Rattle.vl_disk.specs.DiskState.{DiskState}
-use Rattle.vl_disk.specs.Crash.{Image}
 use Rattle.vl_disk.specs.Moments.{HoldsThroughout, holds_weaker}
 use Rattle.vl_seglog.specs.Laws.{header_length}
 use Rattle.vl_journal.specs.Files.{Holds}

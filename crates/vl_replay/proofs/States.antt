@@ -1,5 +1,5 @@
 -- What a replayer keeps, and the states that it stands for.
-use Rattle.std.proofs.Common.{min, ◌^◌, ◌≡◌, ℕ, zero, suc, ◌+◌, ◌-◌, ◌≤◌, ◌<◌, Bool, true, false, cond, ◌&&◌, not, List, [], ◌∷◌, ◌++◌, length, take, refl, ap, sym, ◌∙◌, subst, arith, inl, inr, length-append, Bor, ◌==◌}
+use Rattle.std.proofs.Common.{◌≡◌, ℕ, zero, suc, ◌+◌, ◌-◌, ◌≤◌, Bool, true, false, cond, ◌&&◌, not, List, [], ◌∷◌, ◌++◌, length, take, refl, ap, sym, ◌∙◌, subst, arith, inl, inr, length-append, Bor}
 use Rattle.std.specs.Option.{option_copied}
 use Rattle.std.specs.Prelude.{Option, Some, None, is_some, nat_le, Result, Ok, Err, IfOk, OnOk}
 use Rattle.std.proofs.lemmas.Result.{IfOk-weaker}
@@ -21,16 +21,15 @@ use Rattle.vl_model.specs.declared.change.Change.TheVariants.{Set as Put, Delete
 use Rattle.vl_model.specs.HistoryLaws.{value_at-with_commit}
 use Rattle.vl_replay.specs.Memtable.{newest}
 use Rattle.vl_replay.specs.Sequential as sequential
-use Rattle.vl_replay.specs.Sequential.{State, Outcome, OpenTransaction, OpenView, with_handle, without_handle, opened, read, read_in_transaction, is_lawful_write, written, committed, dropped, frame_length, found, fits_transaction}
+use Rattle.vl_replay.specs.Sequential.{State, Outcome, OpenTransaction, with_handle, without_handle, opened, read, read_in_transaction, is_lawful_write, written, dropped, found, fits_transaction}
 use Rattle.vl_replay.specs.Represents.{IsReadable, Shows, StandsFor, IsOpen, Represents, Gives, handle_named, write_answer, writes_after}
 use Rattle.vl_replay.specs.declared.replayer.entry.Entry.{Entry}
 use Rattle.vl_replay.specs.declared.replayer.handle.Open.{Open}
 use Rattle.vl_replay.specs.declared.replayer.handle.Handle.{Handle}
 use Rattle.vl_replay.specs.declared.replayer.handle.Handle.TheVariants.{Transaction, View}
-use Rattle.vl_replay.specs.declared.replayer.memtable.Memtable.{Memtable}
 use Rattle.vl_replay.specs.declared.replayer.store.Store.{Store}
 use Rattle.vl_script.specs.declared.answer.Answer.{Answer}
-use Rattle.vl_script.specs.declared.answer.Answer.TheVariants.{Done, Number, Taken, Unknown, Invalid, TooBig, TooMany, Nothing, Full, Exhausted}
+use Rattle.vl_script.specs.declared.answer.Answer.TheVariants.{Done, Number, Taken, Unknown, Invalid, TooBig, TooMany}
 
 -- ---- one handle in use
 

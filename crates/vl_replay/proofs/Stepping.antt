@@ -1,20 +1,19 @@
 -- One step of a run over a disk, by what was read and how it was answered.
-use Rattle.std.proofs.Common.{◌≡◌, ℕ, ◌≤◌, List, [], ◌∷◌, ◌++◌, length, take, Option, None, Some, refl, sym, ◌∙◌, ap, subst}
+use Rattle.std.proofs.Common.{◌≡◌, ℕ, List, [], ◌∷◌, ◌++◌, take, Option, None, Some, sym, ◌∙◌, ap, subst}
 use Rattle.std.specs.Prelude.{unwrap_or}
 use Rattle.vl_model.specs.History.{History}
 use Rattle.vl_disk.specs.declared.watched.Watched.{Ghosts}
 use Rattle.vl_disk.specs.Faults.{Rose}
-use Rattle.vl_disk.specs.DiskState.{DiskState}
-use Rattle.vl_disk.specs.Crash.{Image}
 use Rattle.vl_io.specs.Sink.{Takes}
 use Rattle.vl_script.specs.Script.{text_of, lines_of}
+use Rattle.vl_replay.specs.Between.{Showing}
 use Rattle.vl_replay.specs.Input.{ReadsLine}
 use Rattle.vl_replay.specs.Sequential.{State}
-use Rattle.vl_replay.specs.Exchanges.{Exchange, exchange_at, state_behind, exchanges_from, history_after, KeepsUp}
-use Rattle.vl_replay.specs.Endings.{Culprit, Causes, CutsAnswer}
-use Rattle.vl_replay.specs.Runs.{Script, script_of, exchanges, Outside, CausesOf, EndsSo, EndsRun}
-use Rattle.vl_replay.specs.Durable.{LeavesItsHistory, StaysShown, HoldsState, DiskEnds, DiskEndsFrom}
-use Rattle.vl_replay.specs.Steps.{IsNext, EndsBefore, StepsOn, MovesOn, DiskSteps, GoesOn, Steps}
+use Rattle.vl_replay.specs.Exchanges.{Exchange, exchange_at, state_behind, exchanges_from, last_state, KeepsUp}
+use Rattle.vl_replay.specs.Endings.{Causes, CutsAnswer}
+use Rattle.vl_replay.specs.Runs.{Script, exchanges, Outside, CausesOf, EndsRun}
+use Rattle.vl_replay.specs.Durable.{Holding, LeavesItsHistory, StaysShown, HoldsState, DiskEnds, DiskEndsFrom}
+use Rattle.vl_replay.specs.Steps.{IsNext, EndsBefore, StepsOn, MovesOn, DiskSteps, Steps}
 use Rattle.vl_replay.specs.declared.input.lines.Next.TheVariants.{Line as WholeLine, LastLine}
 use Rattle.vl_replay.specs.declared.replayer.store.Store.{Store}
 use Rattle.vl_replay.specs.declared.ending.Ending.{Ending}
@@ -31,12 +30,12 @@ next_line script line buffer left (rest, told, parts, unended) = (lines_of (buff
 pub next_last : (script : Script) (line buffer : List ℕ) (left : Option (List ℕ)) → ReadsLine LastLine script.bytes line buffer left → IsNext script line
 next_last script line buffer left (told, same, unended, some) = ([], ap lines_of same ∙ lines_of-unended line unended some)
 
-module _ {D : Type 0} (g : Ghosts D) (watched : IsWatched g) (holds : State → DiskState → Type 0) (shows : Image → History → ℕ → Type 0)
+module _ {D : Type 0} (g : Ghosts D) (watched : IsWatched g) (holds : Holding) (shows : Showing)
     (stays : StaysShown shows) (exactly : LeavesItsHistory holds shows) (script : Script) (old new : Outside D) where
   -- a run that ended before it answered a line
   ended : (by_source by_disk : Type 0) → (by_source → Rose old.source_faults new.source_faults) → (by_disk → Rose (g.faults old.disk) (g.faults new.disk))
       → (ending : Ending) → EndsBefore (Causes by_source by_disk ⊥) script new.left ending old.held new.held → KeepsUp script.bytes new.asked 0
-      → (HoldsState g holds script.start old.disk → DiskEnds g holds shows ⊥ old.disk new.disk (record { ending = ending; first = script.start.history; answered = []; most = history_after script.start.history (take 1 (exchanges script)) }))
+      → (HoldsState g holds script.start old.disk → DiskEnds g holds shows ⊥ old.disk new.disk (record { ending = ending; first = script.start; answered = []; most = last_state script.start (take 1 (exchanges script)) }))
       → EndsRun g ⊥ (DiskEndsFrom g holds shows old.disk new.disk script.start) script old new ending
   ended by_source by_disk source disk ending before kept_up disk_ends = record {
     answered = 0;
@@ -54,9 +53,9 @@ module _ {D : Type 0} (g : Ghosts D) (watched : IsWatched g) (holds : State → 
       → EndsBefore (Causes by_source ⊥ ⊥) script new.left ending old.held new.held → KeepsUp script.bytes new.asked 0
       → EndsRun g ⊥ (DiskEndsFrom g holds shows old.disk new.disk script.start) script old new ending
   step_apart by_source source ending none same before kept_up =
-      let most = history_after script.start.history (take 1 (exchanges script)) in
+      let most = last_state script.start (take 1 (exchanges script)) in
       ended by_source ⊥ source (λ never. absurd never) ending before kept_up
-      (λ held. subst (λ (d : D). DiskEnds g holds shows ⊥ old.disk d (record { ending = ending; first = script.start.history; answered = []; most = most })) (sym same)
+      (λ held. subst (λ (d : D). DiskEnds g holds shows ⊥ old.disk d (record { ending = ending; first = script.start; answered = []; most = most })) (sym same)
       (ends_untouched g watched holds shows stays exactly script.start most (exchanges_extend (lines_of script.bytes) script.start 1) old.disk ending none held))
 
   -- there is no further line
@@ -78,10 +77,10 @@ module _ {D : Type 0} (g : Ghosts D) (watched : IsWatched g) (holds : State → 
         → KeepsUp script.bytes new.asked 0 → (HoldsState g holds script.start old.disk → DiskSteps g holds shows old.disk new.disk script.start behind (Some ending))
         → EndsRun g ⊥ (DiskEndsFrom g holds shows old.disk new.disk script.start) script old new ending
     line_ended texts lines ending before kept_up moves =
-        let most : history_after script.start.history (take 1 (exchanges script)) ≡ behind.history =
-        ap (λ (ls : List (List ℕ)). history_after script.start.history (take 1 (exchanges_from script.start ls))) lines ∙ first_behind script.start line texts in
+        let most : last_state script.start (take 1 (exchanges script)) ≡ behind =
+        ap (λ (ls : List (List ℕ)). last_state script.start (take 1 (exchanges_from script.start ls))) lines ∙ first_behind script.start line texts in
         ended ⊥ (Rose (g.faults old.disk) (g.faults new.disk)) (λ never. absurd never) (λ rose. rose) ending before kept_up
-        (λ held. subst (λ (h : History). DiskEnds g holds shows ⊥ old.disk new.disk (record { ending = ending; first = script.start.history; answered = []; most = h })) (sym most) (moves held))
+        (λ held. subst (λ (s : State). DiskEnds g holds shows ⊥ old.disk new.disk (record { ending = ending; first = script.start; answered = []; most = s })) (sym most) (moves held))
 
     -- a line that was read with its end was answered, or the run ended there
     pub step_line : (buffer : List ℕ) (result : Option Ending) → ReadsLine WholeLine script.bytes line buffer new.left
@@ -120,8 +119,8 @@ module _ {D : Type 0} (g : Ghosts D) (watched : IsWatched g) (holds : State → 
           kept_up = keeps_up_more script.bytes new.asked 1 kept_up;
           disk = λ held.
               let m = subst (λ (o : Option Exchange). MovesOn g holds shows old.disk new.disk script.start (state_behind script.start o)) is (moves held) in
-              subst (λ (es : List Exchange). DiskEnds g holds shows ⊥ old.disk new.disk (record { ending = Complete; first = script.start.history; answered = take 1 es; most = history_after script.start.history (take 2 es) })) (sym all)
-              (ends_answered g watched holds shows stays exactly old.disk new.disk Complete script.start.history e m.through m.held);
+              subst (λ (es : List Exchange). DiskEnds g holds shows ⊥ old.disk new.disk (record { ending = Complete; first = script.start; answered = take 1 es; most = last_state script.start (take 2 es) })) (sym all)
+              (ends_answered g watched holds shows stays exactly old.disk new.disk Complete script.start e m.through m.held);
         })
     step_last buffer (Some ending) result r (told, same, unended, some) ends moves kept_up =
         let lines : lines_of script.bytes ≡ line ∷ [] = ap lines_of same ∙ lines_of-unended line unended some in

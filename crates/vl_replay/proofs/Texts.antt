@@ -1,8 +1,7 @@
 -- What taking a text for a line does to the disk, and how a run ends there.
-use Rattle.std.proofs.Common.{◌≡◌, ◌≢◌, inl, inr, ⊎_elim, ℕ, List, [], Option, None, Some, Result, Ok, Err, OnOk, refl, sym, ◌∙◌, ap, subst}
+use Rattle.std.proofs.Common.{◌≡◌, inr, ℕ, List, [], None, Some, Result, Ok, Err, OnOk, refl, sym, ◌∙◌, ap, subst}
 use Rattle.std.specs.Prelude.{IsOk, IsErr, IsErrAnd}
 use Rattle.std.specs.Option.{option_map}
-use Rattle.vl_model.specs.History.{History}
 use Rattle.vl_disk.specs.declared.watched.Watched.{Ghosts}
 use Rattle.vl_disk.specs.Faults.{Rose}
 use Rattle.vl_io.specs.declared.sink.Sink as sink
@@ -11,19 +10,19 @@ use Rattle.vl_script.specs.declared.answer.Answer.TheVariants.{Number}
 use Rattle.vl_script.specs.declared.line.Line.{Line}
 use Rattle.vl_script.specs.Script.{line_of}
 use Rattle.vl_replay.specs.Sequential.{State, answer_to, state_after}
-use Rattle.vl_replay.specs.Exchanges.{Exchange, exchange_at, exchanged, state_behind}
+use Rattle.vl_replay.specs.Exchanges.{exchange_at, exchanged, state_behind}
 use Rattle.vl_replay.specs.Endings.{CutsAnswer, IsBetweenLines, culprit_of}
-use Rattle.vl_replay.specs.Durable.{HoldsState, HoldsHistory, CarriesOut, DiskEnds}
+use Rattle.vl_replay.specs.Durable.{HoldsState, HoldsCommits, CarriesOut, DiskEnds}
 use Rattle.vl_replay.specs.Stored.{IsStored, Shown}
 use Rattle.vl_replay.specs.Steps.{Finishes}
 use Rattle.vl_replay.specs.declared.fails.Halt.{Halt}
-use Rattle.vl_replay.specs.declared.fails.Halt.TheVariants.{NoMemory as NoRoom, Disk}
+use Rattle.vl_replay.specs.declared.fails.Halt.TheVariants.{NoMemory as NoRoom}
 use Rattle.vl_replay.specs.declared.ending.Ending.{Ending}
-use Rattle.vl_replay.specs.declared.ending.Ending.TheVariants.{NoMemory, DiskFault, WriteFault, AnswerCut}
+use Rattle.vl_replay.specs.declared.ending.Ending.TheVariants.{NoMemory, DiskFault, AnswerCut}
 use Rattle.vl_replay.proofs.Ends.{or_cut}
 use Rattle.vl_replay.proofs.DiskSteps.{IsWatched, text_extends, rests_until, it_holds, ends_within, ends_unchanged}
 use Rattle.vl_replay.proofs.Logged.{shown_stays, stored_exactly}
-use Rattle.vl_replay.proofs.Outcomes.{history_stays}
+use Rattle.vl_replay.proofs.Outcomes.{line_keeps}
 
 -- ---- results
 
@@ -86,7 +85,7 @@ module _ {D : Type 0} (g : Ghosts D) (watched : IsWatched g) (s : State) (text :
   module _ (old new : D) where
     -- the line was carried out, or failed
     pub carries_line : {T U : Type 0} (line : Line) (carried : Result U Halt) (result : Result T Halt) → line_of text ≡ Some line → CarriesOut g IsStored Shown old new s (state_after s line) carried
-        → (IsOk result → IsOk carried) → (result ≡ Err NoRoom → HoldsHistory g IsStored s.history new) → CarriesOut g IsStored Shown old new s behind result
+        → (IsOk result → IsOk carried) → (result ≡ Err NoRoom → HoldsCommits g IsStored s new) → CarriesOut g IsStored Shown old new s behind result
     carries_line line carried result spelled carries ok out =
         subst (λ (t : State). CarriesOut g IsStored Shown old new s t result) (sym (line_behind s text line spelled)) (record {
           answered = on_ok_if result carried _ ok carries.answered;
@@ -96,37 +95,37 @@ module _ {D : Type 0} (g : Ghosts D) (watched : IsWatched g) (s : State) (text :
         })
 
     -- the answer to a line that makes no commit found no memory
-    pub kept_without_number : (line : Line) (answer : Answer) → answer ≡ answer_to s line → ((n : ℕ) → answer ≡ Number n → ⊥) → HoldsState g IsStored (state_after s line) new → HoldsHistory g IsStored s.history new
-    kept_without_number line answer is none held = (state_after s line, history_stays s line (λ n numbered. none n (is ∙ numbered)), held)
+    pub kept_without_number : (line : Line) (answer : Answer) → answer ≡ answer_to s line → ((n : ℕ) → answer ≡ Number n → ⊥) → HoldsState g IsStored (state_after s line) new → HoldsCommits g IsStored s new
+    kept_without_number line answer is none held = let kept = line_keeps s line (λ n numbered. none n (is ∙ numbered)) in (state_after s line, kept.history, kept.calls, held)
 
     -- ---- how a run ends there
 
     -- the sink failed within the answer
-    pub ends_cut : {T : Type 0} (result : Result T Halt) → IsOk result → CarriesOut g IsStored Shown old new s behind result → DiskEnds g IsStored Shown ⊥ old new (record { ending = AnswerCut; first = s.history; answered = []; most = behind.history })
+    pub ends_cut : {T : Type 0} (result : Result T Halt) → IsOk result → CarriesOut g IsStored Shown old new s behind result → DiskEnds g IsStored Shown ⊥ old new (record { ending = AnswerCut; first = s; answered = []; most = behind })
     ends_cut result ok carries =
         let held = it_holds g watched IsStored Shown shown_stays stored_exactly behind new (of_ok result _ ok carries.answered) in
-        ends_within g watched IsStored Shown shown_stays stored_exactly old new AnswerCut s.history behind.history carries.through carries.tells (λ sound. inr held) (λ out. cc) (λ whole. absurd whole) (λ cuts. held)
+        ends_within g watched IsStored Shown shown_stays stored_exactly old new AnswerCut s behind carries.through carries.tells (λ sound. inr held) (λ out. cc) (λ whole. absurd whole) (λ cuts. held)
 
     -- it is a bad line, whatever could be put
     pub ends_bad : {T : Type 0} (result : Result T Halt) (ending : Ending) → IsOk result → exchange_at s text ≡ None → CarriesOut g IsStored Shown old new s behind result
-        → DiskEnds g IsStored Shown ⊥ old new (record { ending = ending; first = s.history; answered = []; most = behind.history })
+        → DiskEnds g IsStored Shown ⊥ old new (record { ending = ending; first = s; answered = []; most = behind })
     ends_bad result ending ok bad carries =
         let held = of_ok result _ ok carries.answered in
-        ends_unchanged g watched IsStored Shown shown_stays stored_exactly old new ending s.history behind.history carries.through carries.tells
-        (behind, ap (λ (t : State). t.history) (bad_behind s text bad), held) (λ cuts. it_holds g watched IsStored Shown shown_stays stored_exactly behind new held)
+        ends_unchanged g watched IsStored Shown shown_stays stored_exactly old new ending s behind carries.through carries.tells
+        (behind, ap (λ (t : State). t.history) (bad_behind s text bad), ap (λ (t : State). t.calls) (bad_behind s text bad), held) (λ cuts. it_holds g watched IsStored Shown shown_stays stored_exactly behind new held)
 
     -- memory ran out
     pub ends_out : {T K : Type 0} (k : sink.Ghosts K) (sink_old sink_new : K) (line : List ℕ) (result : Result T Halt) (ending : Ending) → result ≡ Err NoRoom → Finishes k sink_old sink_new line NoMemory ending
-        → CarriesOut g IsStored Shown old new s behind result → DiskEnds g IsStored Shown ⊥ old new (record { ending = ending; first = s.history; answered = []; most = behind.history })
+        → CarriesOut g IsStored Shown old new s behind result → DiskEnds g IsStored Shown ⊥ old new (record { ending = ending; first = s; answered = []; most = behind })
     ends_out k sink_old sink_new line result ending out finishes carries =
-        ends_unchanged g watched IsStored Shown shown_stays stored_exactly old new ending s.history behind.history carries.through carries.tells (carries.no_memory out)
+        ends_unchanged g watched IsStored Shown shown_stays stored_exactly old new ending s behind carries.through carries.tells (carries.no_memory out)
         (λ cuts. absurd (or_cut k sink_old sink_new line NoMemory ending (λ (e : Ending). CutsAnswer e → ⊥) finishes (λ e. cc) (λ e. cc) cuts))
 
     -- the disk failed
     pub ends_fault : {T K : Type 0} (k : sink.Ghosts K) (sink_old sink_new : K) (line : List ℕ) (result : Result T Halt) (ending : Ending) → Rose (g.faults old) (g.faults new) → Finishes k sink_old sink_new line DiskFault ending
-        → CarriesOut g IsStored Shown old new s behind result → DiskEnds g IsStored Shown ⊥ old new (record { ending = ending; first = s.history; answered = []; most = behind.history })
+        → CarriesOut g IsStored Shown old new s behind result → DiskEnds g IsStored Shown ⊥ old new (record { ending = ending; first = s; answered = []; most = behind })
     ends_fault k sink_old sink_new line result ending rose finishes carries =
-        ends_within g watched IsStored Shown shown_stays stored_exactly old new ending s.history behind.history carries.through carries.tells (λ sound. absurd (sound rose))
+        ends_within g watched IsStored Shown shown_stays stored_exactly old new ending s behind carries.through carries.tells (λ sound. absurd (sound rose))
         (λ out. absurd (or_cut k sink_old sink_new line DiskFault ending (λ (e : Ending). e ≡ NoMemory → ⊥) finishes (λ e. cc) (λ e. cc) out))
         (λ whole. absurd (or_cut k sink_old sink_new line DiskFault ending (λ (e : Ending). IsBetweenLines (culprit_of e) → ⊥) finishes (λ never. never) (λ never. never) whole))
         (λ cuts. absurd (or_cut k sink_old sink_new line DiskFault ending (λ (e : Ending). CutsAnswer e → ⊥) finishes (λ e. cc) (λ e. cc) cuts))

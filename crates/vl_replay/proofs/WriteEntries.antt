@@ -18,7 +18,6 @@ use Rattle.std.proofs.lemmas.List.Sums.{sum_by-cons}
 use Rattle.std.proofs.lemmas.Map.Text.{is_eq-slice_cmp}
 use Rattle.vl_model.specs.Keys.{Writes, key_cmp, value_bytes}
 use Rattle.vl_model.specs.declared.change.Change.{Change}
-use Rattle.vl_model.specs.declared.change.Change.TheVariants.{Set as Put, Delete}
 use Rattle.vl_record.specs.Record.{IsRecord}
 use Rattle.vl_seglog.specs.Log.{AreRecords}
 use Rattle.vl_replay.specs.Sequential.{is_lawful_write, write_bytes, frame_length, fits_transaction}

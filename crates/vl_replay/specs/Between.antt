@@ -11,8 +11,12 @@ pub record Extends (least most : History) : Type 0 where
   pub more : List Writes
   pub commits : most.commits ≡ least.commits ++ more
 
+-- what an image shows of a history at a number
+abbrev pub Showing : Type 1
+Showing = Image → History → ℕ → Type 0
+
 -- The image shows a history at one of its numbers, not below the last one of an earlier history: it has all commits of the
--- earlier one, and maybe some of those behind them. `shows` says what an image shows of a history at a number.
-abbrev pub ShowsBetween : (Image → History → ℕ → Type 0) → History → History → Image → Type 0
+-- earlier one, and maybe some of those behind them.
+abbrev pub ShowsBetween : Showing → History → History → Image → Type 0
 ShowsBetween shows least most image =
     (m : ℕ) × (last_number least ≤ m) × (m ≤ last_number most) × shows image most m

@@ -1,6 +1,6 @@
 -- What a disk holds while a script is answered, and what a crash leaves of it. `holds` says what a disk holds of a state,
 -- and `shows` what an image shows of a history at a number: both are parameters throughout.
-use Rattle.std.specs.Prelude.{◌≡◌, ◌≢◌, ◌⊎◌, ℕ, ◌≤◌, List, [], ◌∷◌, Option, Some, None, Err, Result, OnOk}
+use Rattle.std.specs.Prelude.{◌≡◌, ◌⊎◌, ℕ, ◌≤◌, List, [], ◌∷◌, Some, Err, Result, OnOk}
 use Rattle.vl_model.specs.History.{History, last_number}
 use Rattle.vl_disk.specs.declared.watched.Watched.{Ghosts}
 use Rattle.vl_disk.specs.Faults.{Rose}
@@ -9,26 +9,31 @@ use Rattle.vl_disk.specs.Crash.{Image}
 use Rattle.vl_disk.specs.Moments.{HoldsThroughout}
 use Rattle.vl_journal.specs.Images.{Leaves}
 use Rattle.vl_replay.specs.Sequential.{State}
-use Rattle.vl_replay.specs.Exchanges.{Exchange, history_after}
-use Rattle.vl_replay.specs.Between.{Extends, ShowsBetween}
+use Rattle.vl_replay.specs.Exchanges.{Exchange, last_state}
+use Rattle.vl_replay.specs.Between.{Showing, Extends, ShowsBetween}
 use Rattle.vl_replay.specs.Endings.{CutsAnswer, IsBetweenLines, culprit_of}
 use Rattle.vl_replay.specs.Runs.{Course}
 use Rattle.vl_replay.specs.declared.fails.Halt.{Halt}
 use Rattle.vl_replay.specs.declared.fails.Halt.TheVariants.{NoMemory as NoRoom}
-use Rattle.vl_replay.specs.declared.ending.Ending.{Ending}
 use Rattle.vl_replay.specs.declared.ending.Ending.TheVariants.{NoMemory}
+
+-- what a disk holds of a state
+abbrev pub Holding : Type 1
+Holding = State → DiskState → Type 0
 
 -- ---- what the loop needs of the two parameters
 
 -- a disk that holds a state leaves images that show exactly its history
-abbrev pub LeavesItsHistory : (State → DiskState → Type 0) → (Image → History → ℕ → Type 0) → Type 0
+abbrev pub LeavesItsHistory : Holding → Showing → Type 0
 LeavesItsHistory holds shows =
-    (s : State) (disk : DiskState) → holds s disk → Leaves (λ image. shows image s.history (last_number s.history)) disk
+    (s : State) (disk : DiskState) → holds s disk
+    → Leaves (λ image. shows image s.history (last_number s.history)) disk
 
 -- what an image shows of a history at one of its numbers it shows of each later history
-abbrev pub StaysShown : (Image → History → ℕ → Type 0) → Type 0
+abbrev pub StaysShown : Showing → Type 0
 StaysShown shows =
-    (h k : History) → Extends h k → (image : Image) (m : ℕ) → m ≤ last_number h → shows image h m → shows image k m
+    (h k : History) → Extends h k → (image : Image) (m : ℕ) → m ≤ last_number h → shows image h m
+    → shows image k m
 
 -- ---- what is said of a disk
 
@@ -37,61 +42,70 @@ abbrev pub Tells : {D : Type 0} → Ghosts D → D → (DiskState → Type 0) �
 Tells g disk P = (state : DiskState) × (g.told disk ≡ Some state) × P state
 
 -- the disk holds the state, and was asked for the changing calls that the state counts
-pub record HoldsState {D : Type 0} (g : Ghosts D) (holds : State → DiskState → Type 0) (s : State) (disk : D) : Type 0 where
+pub record HoldsState {D : Type 0} (g : Ghosts D) (holds : Holding) (s : State) (disk : D) : Type 0 where
   pub calls : g.calls disk ≡ s.calls
   pub there : Tells g disk (holds s)
 
--- it holds a state with this history
-abbrev pub HoldsHistory : {D : Type 0} → Ghosts D → (State → DiskState → Type 0) → History → D → Type 0
-HoldsHistory g holds h disk = (s : State) × (s.history ≡ h) × HoldsState g holds s disk
+-- it holds the commits of a state and nothing else, and was asked for the changing calls that this one counts
+abbrev pub HoldsCommits : {D : Type 0} → Ghosts D → Holding → State → D → Type 0
+HoldsCommits g holds t disk =
+    (s : State) × (s.history ≡ t.history) × (s.calls ≡ t.calls) × HoldsState g holds s disk
 
 -- what a crash meanwhile leaves shows what was there before, or more of what is there in the end
-abbrev pub GoesFrom : {D : Type 0} → Ghosts D → (Image → History → ℕ → Type 0) → (old new : D) → (least most : History) → Type 0
-GoesFrom g shows old new least most = HoldsThroughout g old new (Leaves (ShowsBetween shows least most))
+abbrev pub GoesFrom : {D : Type 0} → Ghosts D → Showing → (old new : D) → (least most : History)
+    → Type 0
+GoesFrom g shows old new least most =
+    HoldsThroughout g old new (Leaves (ShowsBetween shows least most))
 
 -- A line, or a text, was carried out over a disk that holds the state before it.
-pub record CarriesOut {D T : Type 0} (g : Ghosts D) (holds : State → DiskState → Type 0) (shows : Image → History → ℕ → Type 0) (old new : D) (before after : State) (result : Result T Halt) : Type 0 where
+pub record CarriesOut {D T : Type 0} (g : Ghosts D) (holds : Holding) (shows : Showing) (old new : D) (before after : State) (result : Result T Halt) : Type 0 where
   -- after an answer the disk holds the state after it
   pub answered : OnOk result (HoldsState g holds after new)
   -- where memory ran out it holds no commit more
-  pub no_memory : result ≡ Err NoRoom → HoldsHistory g holds before.history new
+  pub no_memory : result ≡ Err NoRoom → HoldsCommits g holds before new
   pub tells : Tells g new (λ _. Unit {0})
   -- what a crash meanwhile leaves shows the commits before, or those after it
   pub through : GoesFrom g shows old new before.history after.history
 
--- The disk went, from one that held the commits of a history, through one for each of these lines, in order: that of a line
--- held the commits up to it and nothing else. What a crash leaves at a moment between that of the line before and it shows
+-- The disk went, from one that held the commits of a state, through one for each of these lines, in order: that of a line
+-- held the commits up to it and nothing else, after just the changing calls of these lines. What a crash leaves at a moment between that of the line before and it shows
 -- the commits before the line or those after it, and what one leaves from it on, until the run's end, shows at least the
 -- latter. When the line was answered isn't said.
-abbrev pub GoesAlong : {D : Type 0} → Ghosts D → (State → DiskState → Type 0) → (Image → History → ℕ → Type 0) → (new : D) (most : History) → D → History → List Exchange → Type 0
-GoesAlong g holds shows new most disk h [] = Unit {0}
-GoesAlong {D} g holds shows new most disk h (e ∷ later) =
-    (passed : D) × GoesFrom g shows disk passed h e.after.history
-    × HoldsHistory g holds e.after.history passed
-    × GoesFrom g shows passed new e.after.history most
-    × GoesAlong g holds shows new most passed e.after.history later
+abbrev pub GoesAlong : {D : Type 0} → Ghosts D → Holding → Showing → (new : D) (most : State) → D
+    → State → List Exchange → Type 0
+GoesAlong g holds shows new most disk s [] = Unit {0}
+GoesAlong {D} g holds shows new most disk s (e ∷ later) =
+    (passed : D) × GoesFrom g shows disk passed s.history e.after.history
+    × HoldsCommits g holds e.after passed
+    × GoesFrom g shows passed new e.after.history most.history
+    × GoesAlong g holds shows new most passed e.after later
 
 -- What a run that came so far did to its disk. The commits of the answered lines are the acknowledged ones. `unopened` says
 -- what the disk is where the store wasn't opened.
-pub record DiskEnds {D : Type 0} (g : Ghosts D) (holds : State → DiskState → Type 0) (shows : Image → History → ℕ → Type 0) (unopened : Type 0) (old new : D) (run : Course) : Type 0 where
+pub record DiskEnds {D : Type 0} (g : Ghosts D) (holds : Holding) (shows : Showing) (unopened : Type 0) (old new : D) (run : Course) : Type 0 where
   -- what a crash at any moment since the begin leaves shows a first part of the commits
-  pub through : GoesFrom g shows old new run.first run.most
+  pub through : GoesFrom g shows old new run.first.history run.most.history
   -- and the disk went through one for each answered line, from which on a crash leaves its commit too
   pub along : GoesAlong g holds shows new run.most old run.first run.answered
   -- what a crash leaves after the run's end shows each acknowledged one; so it is over a disk of which each call from some
   -- put on failed too
-  pub now : Tells g new (Leaves (ShowsBetween shows (history_after run.first run.answered) run.most))
+  pub now : Tells g new (Leaves (ShowsBetween shows (last_state run.first run.answered).history run.most.history))
   -- where the disk didn't fail nothing is torn: it wasn't opened, or holds the acknowledged commits, or these and that of
   -- one line more
   pub settled : (Rose (g.faults old) (g.faults new) → ⊥)
-      → unopened ⊎ (HoldsHistory g holds (history_after run.first run.answered) new ⊎ HoldsHistory g holds run.most new)
+      → unopened
+      ⊎ (HoldsCommits g holds (last_state run.first run.answered) new ⊎ HoldsCommits g holds run.most new)
   -- where the run ended by want of memory, it wasn't opened, or holds just the acknowledged ones
-  pub no_memory : run.ending ≡ NoMemory → unopened ⊎ HoldsHistory g holds (history_after run.first run.answered) new
+  pub no_memory : run.ending ≡ NoMemory
+      → unopened ⊎ HoldsCommits g holds (last_state run.first run.answered) new
   -- where the run ended between two lines, the disk holds just the acknowledged ones
-  pub whole : IsBetweenLines (culprit_of run.ending) → HoldsHistory g holds (history_after run.first run.answered) new
+  pub whole : IsBetweenLines (culprit_of run.ending)
+      → HoldsCommits g holds (last_state run.first run.answered) new
   -- and where it ended while an answer was put, the commit of that answer's line too
-  pub cut : CutsAnswer run.ending → HoldsHistory g holds run.most new
+  pub cut : CutsAnswer run.ending → HoldsCommits g holds run.most new
 
 -- so it is of a run over an open store, where the disk held the state in which it began
-abbrev pub DiskEndsFrom : {D : Type 0} → Ghosts D → (State → DiskState → Type 0) → (Image → History → ℕ → Type 0) → (old new : D) → State → Course → Type 0
-DiskEndsFrom g holds shows old new s run = HoldsState g holds s old → DiskEnds g holds shows ⊥ old new run
+abbrev pub DiskEndsFrom : {D : Type 0} → Ghosts D → Holding → Showing → (old new : D) → State
+    → Course → Type 0
+DiskEndsFrom g holds shows old new s run =
+    HoldsState g holds s old → DiskEnds g holds shows ⊥ old new run

@@ -7,7 +7,7 @@ use Rattle.vl_model.specs.History.{History, last_number, value_at}
 use Rattle.vl_model.specs.Reads.{Read, IsExplained}
 use Rattle.vl_model.specs.Keys.{Writes, is_key_length}
 use Rattle.vl_replay.specs.Sequential.{State, answer_to, state_after, OpenTransaction, OpenView, found}
-use Rattle.vl_script.specs.Script.{line_of, lines_of, text_of}
+use Rattle.vl_script.specs.Script.{line_of, text_of}
 use Rattle.vl_script.specs.declared.line.Line.{Line}
 use Rattle.vl_script.specs.declared.line.Line.TheVariants.{Begin, View, Get, Set, Delete, Commit, Drop}
 use Rattle.vl_script.specs.declared.answer.Answer.{Answer}
@@ -22,7 +22,8 @@ pub record Exchange : Type 0 where
 
 -- what the sequential store makes of a line
 abbrev pub exchanged : State → Line → Exchange
-exchanged s line = record { before = s; line = line; answer = answer_to s line; after = state_after s line }
+exchanged s line =
+    record { before = s; line = line; answer = answer_to s line; after = state_after s line }
 
 -- and of some text, where it is a line of the language
 abbrev pub exchange_at : State → List ℕ → Option Exchange
@@ -43,10 +44,10 @@ abbrev pub exchanges_from : State → List (List ℕ) → List Exchange
 exchanges_from s [] = []
 exchanges_from s (text ∷ texts) = and_later (λ e. exchanges_from e.after texts) (exchange_at s text)
 
--- the history that these exchanges leave of one
-abbrev pub history_after : History → List Exchange → History
-history_after h [] = h
-history_after h (e ∷ later) = history_after e.after.history later
+-- the state behind these exchanges, the first of which begins in this one
+abbrev pub last_state : State → List Exchange → State
+last_state s [] = s
+last_state s (e ∷ later) = last_state e.after later
 
 -- the text of their answers, each one whole
 abbrev pub answers_text : List Exchange → List ℕ
@@ -60,7 +61,9 @@ ended_lines bytes = count_by (λ b. b == 10) bytes
 -- ended in what it had given of these bytes than were answered. Those lines are the ones that ended in these bytes but not
 -- in what it then had left.
 abbrev pub KeepsUp : List ℕ → Option (List ℕ) → ℕ → Type 0
-KeepsUp bytes asked answered = (earlier : List ℕ) × (asked ≡ Some earlier) × (ended_lines bytes ≤ answered + ended_lines earlier)
+KeepsUp bytes asked answered =
+    (earlier : List ℕ) × (asked ≡ Some earlier)
+    × (ended_lines bytes ≤ answered + ended_lines earlier)
 
 -- What is read is explained by the history at the reader's number: what a view reads, by that at the view's own
 -- number, where the key is within its limits; what the transaction of an accepted commit has read, by that at the
@@ -74,8 +77,10 @@ IsExplainedExchange (Get name key) e =
 IsExplainedExchange (Set name key value) e = Unit {0}
 IsExplainedExchange (Delete name key) e = Unit {0}
 IsExplainedExchange (Commit name) e =
-    (number : ℕ) (reads : List Read) (writes : Writes) (n : ℕ) → get e.before.handles name ≡ Some (OpenTransaction number reads writes)
-    → e.answer ≡ Number n → IsExplained e.after.history (n - 1) reads × (number ≡ last_number e.before.history)
+    (number : ℕ) (reads : List Read) (writes : Writes) (n : ℕ)
+    → get e.before.handles name ≡ Some (OpenTransaction number reads writes)
+    → e.answer ≡ Number n
+    → IsExplained e.after.history (n - 1) reads × (number ≡ last_number e.before.history)
 IsExplainedExchange (Drop name) e = Unit {0}
 
 -- so it is in each of these exchanges

@@ -4,6 +4,7 @@ pub mod Endings
 pub mod Exchanges
 pub mod Input
 pub mod Laws
+pub mod Limits
 pub mod Memtable
 pub mod Opening
 pub mod Represents

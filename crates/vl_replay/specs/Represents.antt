@@ -28,18 +28,22 @@ IsReadable h number = (h.first ≤ number) × (number ≤ last_number h)
 
 -- the entries show the history: at each of its numbers they leave of each key what it has there
 pub record Shows (entries : List Entry) (h : History) : Type 0 where
-  pub values : (number : ℕ) (key : List ℕ) → IsReadable h number → value_left None (newest entries key number) ≡ value_at h number key
+  pub values : (number : ℕ) (key : List ℕ) → IsReadable h number
+      → value_left None (newest entries key number) ≡ value_at h number key
   pub versions : AllByRecursion (λ entry. entry.version ≤ last_number h) entries
 
 -- what is kept of a handle stands for it; the reads of a transaction aren't kept
 abbrev pub StandsFor : History → Handle → sequential.Handle → Type 0
-StandsFor h (Transaction number writes) handle = IsReadable h number × ((reads : List Read) × (handle ≡ OpenTransaction number reads writes))
+StandsFor h (Transaction number writes) handle =
+    IsReadable h number × ((reads : List Read) × (handle ≡ OpenTransaction number reads writes))
 StandsFor h (View number) handle = IsReadable h number × (handle ≡ OpenView number)
 
 -- what is kept open stands for the handles
 abbrev pub IsOpen : History → Option Open → FinMap key_cmp sequential.Handle → Type 0
 IsOpen h None handles = handles ≡ empty
-IsOpen h (Some held) handles = (handle : sequential.Handle) × StandsFor h held.handle handle × (handles ≡ insert empty held.name handle)
+IsOpen h (Some held) handles =
+    (handle : sequential.Handle) × StandsFor h held.handle handle
+    × (handles ≡ insert empty held.name handle)
 
 pub record Represents (r : Store) (s : State) : Type 0 where
   pub last : r.last ≡ last_number s.history
@@ -59,17 +63,21 @@ handle_named (Some held) name = if bytes_eq name held.name then Some held.handle
 
 -- a transaction with these writes is open under this name
 abbrev pub HasOpen : Store → List ℕ → Writes → Type 0
-HasOpen r name writes = (number : ℕ) × (r.in_use ≡ Some (record { name = name; handle = Transaction number writes }))
+HasOpen r name writes =
+    (number : ℕ) × (r.in_use ≡ Some (record { name = name; handle = Transaction number writes }))
 
 -- a transaction is open that has written something, and there is a number for its commit
 abbrev pub CanCommit : Store → Type 0
-CanCommit r = (name : List ℕ) × (writes : Writes) × HasOpen r name writes × ((len writes == 0) ≡ false) × (r.last < max_commit_number)
+CanCommit r =
+    (name : List ℕ) × (writes : Writes) × HasOpen r name writes × ((len writes == 0) ≡ false)
+    × (r.last < max_commit_number)
 
 -- what is decided of the commit under a name, by the outcome that it is to have
 abbrev pub Decides : Store → State → List ℕ → Decision → Type 0
 Decides r s name (Refuse answer) = committed s name (get s.handles name) ≡ (answer, s)
 Decides r s name Empty =
-    (committed s name (get s.handles name) ≡ (Nothing, without_handle s name)) × (remove s.handles name ≡ empty)
+    (committed s name (get s.handles name) ≡ (Nothing, without_handle s name))
+    × (remove s.handles name ≡ empty)
 Decides r s name Write =
     (writes : Writes) × HasOpen r name writes
     × (committed s name (get s.handles name) ≡ (Number (last_number s.history + 1), after_commit s name writes))

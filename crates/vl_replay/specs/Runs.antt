@@ -9,7 +9,7 @@ use Rattle.vl_io.specs.declared.source.Source as source
 use Rattle.vl_io.specs.declared.sink.Sink as sink
 use Rattle.vl_script.specs.Script.{lines_of, text_of}
 use Rattle.vl_replay.specs.Sequential.{State}
-use Rattle.vl_replay.specs.Exchanges.{Exchange, exchanges_from, history_after, answers_text, ended_lines, KeepsUp}
+use Rattle.vl_replay.specs.Exchanges.{Exchange, exchanges_from, last_state, answers_text, ended_lines, KeepsUp}
 use Rattle.vl_replay.specs.Endings.{Culprit, NoOne, TheLine, TheWords, TheDisk, TheFiles, Memory, TheSource, TheSink, LastPiece, NoPiece, BadLinePiece, Line, LineFront, AnswerFront, end_of, culprit_of, bad_line, last_line, Causes}
 use Rattle.vl_replay.specs.declared.ending.Ending.{Ending}
 
@@ -35,15 +35,19 @@ IsFront front piece = (rest : List ℕ) × (piece ≡ front ++ rest)
 
 -- A source gave some of these bytes and has the others left, and m lines had ended in what it gave.
 abbrev pub GaveLines : List ℕ → Option (List ℕ) → ℕ → Type 0
-GaveLines bytes left m = (given : List ℕ) × (rest : List ℕ) × (bytes ≡ given ++ rest) × (left ≡ Some rest) × (m ≡ ended_lines given)
+GaveLines bytes left m =
+    (given : List ℕ) × (rest : List ℕ) × (bytes ≡ given ++ rest) × (left ≡ Some rest)
+    × (m ≡ ended_lines given)
 
 -- What is so where this ended a run that had answered m lines. `left` is what the source has left in the end, and `cause`
 -- says what caused it, where a cause is asked for.
 abbrev pub Stops : (Culprit → Type 0) → Script → Option (List ℕ) → ℕ → Culprit → Type 0
 -- every line was answered, and the source was read to its end
-Stops cause script left m NoOne = (m ≡ length (exchanges script)) × (m ≡ length (lines_of script.bytes)) × (left ≡ Some [])
+Stops cause script left m NoOne =
+    (m ≡ length (exchanges script)) × (m ≡ length (lines_of script.bytes)) × (left ≡ Some [])
 -- all lines before the bad one were answered, and there is one more
-Stops cause script left m TheLine = (m ≡ length (exchanges script)) × (m < length (lines_of script.bytes))
+Stops cause script left m TheLine =
+    (m ≡ length (exchanges script)) × (m < length (lines_of script.bytes))
 -- the words were plain
 Stops cause script left m TheWords = ⊥
 Stops cause script left m TheDisk = cause TheDisk
@@ -55,10 +59,13 @@ Stops cause script left m TheSource = cause TheSource × GaveLines script.bytes 
 Stops cause script left m TheSink = ⊥
 
 -- what is put behind the m answers
-abbrev pub Puts : (Culprit → Type 0) → Script → Option (List ℕ) → ℕ → Culprit → LastPiece → List ℕ → Type 0
+abbrev pub Puts : (Culprit → Type 0) → Script → Option (List ℕ) → ℕ → Culprit → LastPiece → List ℕ
+    → Type 0
 Puts cause script left m culprit NoPiece piece = Stops cause script left m culprit × (piece ≡ [])
-Puts cause script left m culprit BadLinePiece piece = Stops cause script left m culprit × (piece ≡ bad_line (next_number script m))
-Puts cause script left m culprit (Line line) piece = Stops cause script left m culprit × (piece ≡ line)
+Puts cause script left m culprit BadLinePiece piece =
+    Stops cause script left m culprit × (piece ≡ bad_line (next_number script m))
+Puts cause script left m culprit (Line line) piece =
+    Stops cause script left m culprit × (piece ≡ line)
 Puts cause script left m culprit LineFront piece =
     (other : Ending) × (line : List ℕ) × (last_line (next_number script m) other ≡ Some line)
     × Stops cause script left m (culprit_of other) × IsFront piece line
@@ -91,24 +98,25 @@ outside s k source sink disk = record {
   disk = disk;
 }
 
--- How far a run came: how it ended, over which history it began, which lines it answered, and the history that may stand,
--- with one line more.
+-- How far a run came: how it ended, in which state it began, which lines it answered, and the state that may stand, with one
+-- line more.
 pub record Course : Type 0 where
   pub ending : Ending
-  pub first : History
+  pub first : State
   pub answered : List Exchange
-  pub most : History
+  pub most : State
 
 abbrev pub course : Script → ℕ → Ending → Course
 course script m ending = record {
   ending = ending;
-  first = script.start.history;
+  first = script.start;
   answered = take m (exchanges script);
-  most = history_after script.start.history (take (suc m) (exchanges script));
+  most = last_state script.start (take (suc m) (exchanges script));
 }
 
 -- What caused the end of a run: a fault of the source or of the disk was counted, or files stood there that are no store.
-abbrev pub CausesOf : {D : Type 0} → Ghosts D → (old new : Outside D) → (by_files : Type 0) → Culprit → Type 0
+abbrev pub CausesOf : {D : Type 0} → Ghosts D → (old new : Outside D) → (by_files : Type 0)
+    → Culprit → Type 0
 CausesOf g old new by_files =
     Causes (Rose old.source_faults new.source_faults) (Rose (g.faults old.disk) (g.faults new.disk)) by_files
 

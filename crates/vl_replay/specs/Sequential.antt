@@ -57,8 +57,10 @@ found None = NoValue
 
 -- A key that the transaction has written has that write's value, and nothing is noted. Another has the
 -- value at the transaction's number, which is noted.
-abbrev pub read_in_transaction : State → List ℕ → List ℕ → ℕ → List Read → Writes → Option Change → Outcome
-read_in_transaction s name key number reads writes (Some change) = (found (value_left None (Some change)), s)
+abbrev pub read_in_transaction : State → List ℕ → List ℕ → ℕ → List Read → Writes → Option Change
+    → Outcome
+read_in_transaction s name key number reads writes (Some change) =
+    (found (value_left None (Some change)), s)
 read_in_transaction s name key number reads writes None =
     let answer = value_at s.history number key in
     (found answer, with_handle s name (OpenTransaction number (reads ++ (KeyRead key answer ∷ [])) writes))
@@ -72,15 +74,18 @@ read s name key (Some (OpenTransaction number reads writes)) =
 
 -- a key and what is written to it are within their limits
 abbrev pub is_lawful_write : List ℕ → Change → Bool
-is_lawful_write key change = is_key_length (length key) && is_value_length (length (value_bytes change))
+is_lawful_write key change =
+    is_key_length (length key) && is_value_length (length (value_bytes change))
 
 -- the bytes of the written keys and of their values
 abbrev pub write_bytes : Writes → ℕ
-write_bytes writes = sum_by (λ write. length write.0 + length (value_bytes write.1)) (entries writes)
+write_bytes writes =
+    sum_by (λ write. length write.0 + length (value_bytes write.1)) (entries writes)
 
 -- whether one transaction may have these writes
 abbrev pub fits_transaction : Writes → Bool
-fits_transaction writes = nat_le (len writes) max_transaction_keys && nat_le (write_bytes writes) max_transaction_bytes
+fits_transaction writes =
+    nat_le (len writes) max_transaction_keys && nat_le (write_bytes writes) max_transaction_bytes
 
 -- set and del: one write in the place of an earlier one of its key
 abbrev pub written : State → List ℕ → List ℕ → Change → Option Handle → Outcome

@@ -1,7 +1,7 @@
 -- The state in which a run begins. For now a store is opened only over a disk on which nothing stands.
 use Rattle.std.specs.Prelude.{◌≡◌, ℕ, List}
 use Rattle.std.specs.FinMap.{empty, len-empty}
-use Rattle.std.proofs.Common.{refl, sym, ◌∙◌, subst, zero-le}
+use Rattle.std.proofs.Common.{sym, ◌∙◌, subst, zero-le}
 use Rattle.vl_model.specs.Keys.{key_cmp}
 use Rattle.vl_model.specs.History.{no_history}
 use Rattle.vl_disk.specs.declared.watched.Watched.{Ghosts}
@@ -25,12 +25,16 @@ StartsAs g disk s = s ≡ empty_store (after_calls 6 (g.calls disk))
 -- What a run did to a disk on which nothing stood, and from which nothing was removed: where the store wasn't opened, the
 -- disk is as it was.
 abbrev pub DiskEndsFromStart : {D : Type 0} → Ghosts D → (old new : D) → Course → Type 0
-DiskEndsFromStart g old new run = Tells g old IsEmpty → DiskEnds g IsStored Shown (g.told new ≡ g.told old) old new run
+DiskEndsFromStart g old new run =
+    Tells g old IsEmpty → DiskEnds g IsStored Shown (g.told new ≡ g.told old) old new run
 
 -- ---- what is read in such a run is explained
 
 empty_sound : (calls : ℕ) → IsSound (empty_store calls)
-empty_sound calls = record { one = rw (len-empty key_cmp Handle) zero-le; current = λ name handle is. absurd (nothing_there handle (sym is ∙ none_in_empty name)) }
+empty_sound calls =
+    record { one = rw (len-empty key_cmp Handle) zero-le; current = λ name handle is. absurd (nothing_there handle (sym is ∙ none_in_empty name)) }
 
-pub all_explained : {D : Type 0} (g : Ghosts D) (disk : D) (s : State) (texts : List (List ℕ)) → StartsAs g disk s → AreExplained (exchanges_from s texts)
-all_explained g disk s texts is = exchanges_from-explained texts s (subst IsSound (sym is) (empty_sound (after_calls 6 (g.calls disk))))
+pub all_explained : {D : Type 0} (g : Ghosts D) (disk : D) (s : State) (texts : List (List ℕ))
+    → StartsAs g disk s → AreExplained (exchanges_from s texts)
+all_explained g disk s texts is =
+    exchanges_from-explained texts s (subst IsSound (sym is) (empty_sound (after_calls 6 (g.calls disk))))

@@ -2,12 +2,10 @@
 use Rattle.std.specs.Prelude.{◌≡◌, ◌≤◌, ◌++◌, ◌∷◌, [], ◌⊎◌, ℕ, List, Option, Some, None}
 use Rattle.vl_disk.specs.declared.watched.Watched.{Ghosts}
 use Rattle.vl_disk.specs.Faults.{Rose}
-use Rattle.vl_disk.specs.DiskState.{DiskState}
-use Rattle.vl_disk.specs.Crash.{Image}
 use Rattle.vl_io.specs.declared.sink.Sink as sink
 use Rattle.vl_io.specs.Sink.{Takes}
-use Rattle.vl_model.specs.History.{History}
 use Rattle.vl_script.specs.Script.{text_of, lines_of}
+use Rattle.vl_replay.specs.Between.{Showing}
 use Rattle.vl_replay.specs.Sequential.{State}
 use Rattle.vl_replay.specs.Input.{HasNoLineEnd}
 use Rattle.vl_replay.specs.Exchanges.{Exchange, exchange_at, KeepsUp}
@@ -16,7 +14,7 @@ use Rattle.vl_replay.specs.Opening.{refusal_of}
 use Rattle.vl_journal.specs.declared.fails.OpenFail.{OpenFail as Why}
 use Rattle.vl_replay.specs.Runs.{Script, IsFront, EndsSo, Outside, EndsRun}
 use Rattle.vl_replay.specs.Represents.{Represents}
-use Rattle.vl_replay.specs.Durable.{HoldsState, GoesFrom, DiskEnds, DiskEndsFrom}
+use Rattle.vl_replay.specs.Durable.{Holding, HoldsState, GoesFrom, DiskEnds, DiskEndsFrom}
 use Rattle.vl_replay.specs.declared.replayer.store.Store.{Store}
 use Rattle.vl_replay.specs.declared.ending.Ending.{Ending}
 use Rattle.vl_replay.specs.declared.ending.Ending.TheVariants.{WriteFault}
@@ -30,8 +28,10 @@ pub record Finishes {K : Type 0} (g : sink.Ghosts K) (old new : K) (line : List 
       ⊎ ((result ≡ WriteFault) × IsFront printed line × Rose (g.faults old) (g.faults new))
 
 -- so it was with the line that this ending has of its own
-abbrev pub FinishesBy : {K : Type 0} → sink.Ghosts K → (old new : K) → (ending result : Ending) → Type 0
-FinishesBy g old new ending result = (line : List ℕ) × (last_line 0 ending ≡ Some line) × Finishes g old new line ending result
+abbrev pub FinishesBy : {K : Type 0} → sink.Ghosts K → (old new : K) → (ending result : Ending)
+    → Type 0
+FinishesBy g old new ending result =
+    (line : List ℕ) × (last_line 0 ending ≡ Some line) × Finishes g old new line ending result
 
 -- a run that isn't begun: its last line says that there is no store, that the disk failed or that memory ran out
 abbrev pub IsRefused : {K : Type 0} → sink.Ghosts K → (old new : K) → Ending → Type 0
@@ -39,7 +39,9 @@ IsRefused g old new result = (why : Why) × FinishesBy g old new (refusal_of why
 
 -- a line's answer was made, and the store stands for the state after it; or it is a bad line
 abbrev pub Answers : State → List ℕ → Store → Option (List ℕ) → Type 0
-Answers s text after (Some out) = (e : Exchange) × (exchange_at s text ≡ Some e) × Represents after e.after × (out ≡ text_of e.answer)
+Answers s text after (Some out) =
+    (e : Exchange) × (exchange_at s text ≡ Some e) × Represents after e.after
+    × (out ≡ text_of e.answer)
 Answers s text after None = exchange_at s text ≡ None
 
 -- this text is the next line of the script
@@ -55,30 +57,35 @@ pub record EndsBefore (cause : Culprit → Type 0) (script : Script) (left : Opt
 -- it ended at the next line, which is none of the language
 abbrev pub EndsAtBadLine : (answered : ℕ) → Ending → (held held' : Option (List ℕ)) → Type 0
 EndsAtBadLine answered ending held held' =
-    (script : Script) (text : List ℕ) (left : Option (List ℕ)) → answered ≡ line_number script.before
-    → IsNext script text → exchange_at script.start text ≡ None → EndsBefore (Causes ⊥ ⊥ ⊥) script left ending held held'
+    (script : Script) (text : List ℕ) (left : Option (List ℕ))
+    → answered ≡ line_number script.before
+    → IsNext script text → exchange_at script.start text ≡ None
+    → EndsBefore (Causes ⊥ ⊥ ⊥) script left ending held held'
 
 -- the next line was answered and printed, and the run goes on; or it ended there. `failed` says that the disk failed.
-abbrev pub StepsOn : (failed : Type 0) → Script → List ℕ → Store → Option Ending → (held held' : Option (List ℕ)) → Type 0
+abbrev pub StepsOn : (failed : Type 0) → Script → List ℕ → Store → Option Ending
+    → (held held' : Option (List ℕ)) → Type 0
 StepsOn failed script text after None held held' =
-    (e : Exchange) × (exchange_at script.start text ≡ Some e) × Represents after e.after × Takes held held' (text_of e.answer)
+    (e : Exchange) × (exchange_at script.start text ≡ Some e) × Represents after e.after
+    × Takes held held' (text_of e.answer)
 StepsOn failed script text after (Some ending) held held' =
     (left : Option (List ℕ)) → EndsBefore (Causes ⊥ failed ⊥) script left ending held held'
 
 -- the disk holds the state after a line, and a crash meanwhile left what was before it or after it
-pub record MovesOn {D : Type 0} (g : Ghosts D) (holds : State → DiskState → Type 0) (shows : Image → History → ℕ → Type 0) (old new : D) (before after : State) : Type 0 where
+pub record MovesOn {D : Type 0} (g : Ghosts D) (holds : Holding) (shows : Showing) (old new : D) (before after : State) : Type 0 where
   pub held : HoldsState g holds after new
   pub through : GoesFrom g shows old new before.history after.history
 
 -- what a step did to a disk that held the state before it
-abbrev pub DiskSteps : {D : Type 0} → Ghosts D → (State → DiskState → Type 0) → (Image → History → ℕ → Type 0) → (old new : D) → (before after : State) → Option Ending → Type 0
+abbrev pub DiskSteps : {D : Type 0} → Ghosts D → Holding → Showing → (old new : D)
+    → (before after : State) → Option Ending → Type 0
 DiskSteps g holds shows old new before after None = MovesOn g holds shows old new before after
 DiskSteps g holds shows old new before after (Some ending) =
-    DiskEnds g holds shows ⊥ old new (record { ending = ending; first = before.history; answered = []; most = after.history })
+    DiskEnds g holds shows ⊥ old new (record { ending = ending; first = before; answered = []; most = after })
 
 -- The next line was answered and printed, and a run over the others goes on from here; when the source was last asked no
 -- answer was owed.
-pub record GoesOn {D : Type 0} (g : Ghosts D) (holds : State → DiskState → Type 0) (shows : Image → History → ℕ → Type 0) (script : Script) (old new : Outside D) (store : Store) (buffer : List ℕ) : Type 0 where
+pub record GoesOn {D : Type 0} (g : Ghosts D) (holds : Holding) (shows : Showing) (script : Script) (old new : Outside D) (store : Store) (buffer : List ℕ) : Type 0 where
   pub exchange : Exchange
   pub text : List ℕ
   pub rest : List ℕ
@@ -89,10 +96,13 @@ pub record GoesOn {D : Type 0} (g : Ghosts D) (holds : State → DiskState → T
   pub stands : Represents store exchange.after
   pub taken : Takes old.held new.held (text_of exchange.answer)
   pub kept_up : KeepsUp (buffer ++ rest) new.asked 0
-  pub moves : HoldsState g holds script.start old.disk → MovesOn g holds shows old.disk new.disk script.start exchange.after
+  pub moves : HoldsState g holds script.start old.disk
+      → MovesOn g holds shows old.disk new.disk script.start exchange.after
 
 -- so it was, or the run ended
-abbrev pub Steps : {D : Type 0} → Ghosts D → (State → DiskState → Type 0) → (Image → History → ℕ → Type 0) → Script → (old new : Outside D) → Store → List ℕ → Option Ending → Type 0
-Steps g holds shows script old new store buffer None = GoesOn g holds shows script old new store buffer
+abbrev pub Steps : {D : Type 0} → Ghosts D → Holding → Showing → Script → (old new : Outside D)
+    → Store → List ℕ → Option Ending → Type 0
+Steps g holds shows script old new store buffer None =
+    GoesOn g holds shows script old new store buffer
 Steps g holds shows script old new store buffer (Some ending) =
     EndsRun g ⊥ (DiskEndsFrom g holds shows old.disk new.disk script.start) script old new ending

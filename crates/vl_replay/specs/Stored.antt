@@ -13,7 +13,8 @@ use Rattle.vl_replay.specs.Sequential.{State}
 -- commits with their numbers, of which the first is one above a number, as the log has them
 abbrev pub numbered : ℕ → List Writes → List Commit
 numbered n [] = []
-numbered n (writes ∷ later) = record { number = n + 1; writes = entries writes } ∷ numbered (n + 1) later
+numbered n (writes ∷ later) =
+    record { number = n + 1; writes = entries writes } ∷ numbered (n + 1) later
 
 -- the commits of a history, as the log has them
 abbrev pub logged : History → List Commit

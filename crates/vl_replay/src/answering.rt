@@ -29,7 +29,8 @@ fn carry_out<D: Disk>(
 ) -> Result<Option<Vec<u8>>, Halt>
     ensures answers { (s : State) → Represents replayer.old.store s
         → IfOk result (λ out. Answers s text.now replayer.new.store (option_map (λ text. text.items) out)) }
-    ensures carries { (s : State) → Represents replayer.old.store s → HoldsState D.Watched IsStored s replayer.old.disk
+    ensures carries { (s : State) → Represents replayer.old.store s
+        → HoldsState D.Watched IsStored s replayer.old.disk
         → CarriesOut D.Watched IsStored Shown replayer.old.disk replayer.new.disk s (state_behind s (exchange_at s text.now)) result }
     ensures cause { HasCause (D.faults replayer.old.disk) (D.faults replayer.new.disk) (result ≡ Err DiskHalt) }
 {
@@ -49,6 +50,7 @@ pub fn end_at_bad_line<K: Sink>(alloc: Global, answered: u64, sink: &mut K) -> E
     ensures disk { culprit_of result ≢ TheDisk }
     ensures read { culprit_of result ≢ TheSource }
     ensures opened { result ≢ Ending.NotAStore }
+    ensures words { result ≢ Ending.BadWords }
     ensures whole { CutsAnswer result → ⊥ }
 {
     let mut line = Vec::new(alloc);
@@ -66,16 +68,19 @@ pub fn answer<K: Sink, D: Disk>(
     answered: u64,
     sink: &mut K,
 ) -> Option<Ending>
-    ensures printed { (script : Script) → Represents replayer.old.store script.start → answered ≡ line_number script.before
+    ensures printed { (script : Script) → Represents replayer.old.store script.start
+        → answered ≡ line_number script.before
         → IsNext script text.now
         → StepsOn (Rose (D.faults replayer.old.disk) (D.faults replayer.new.disk)) script text.now replayer.new.store
         result (K.held sink.old) (K.held sink.new) }
-    ensures disk { (s : State) → Represents replayer.old.store s → HoldsState D.Watched IsStored s replayer.old.disk
+    ensures disk { (s : State) → Represents replayer.old.store s
+        → HoldsState D.Watched IsStored s replayer.old.disk
         → DiskSteps D.Watched IsStored Shown replayer.old.disk replayer.new.disk s (state_behind s (exchange_at s text.now)) result }
     ensures sink { Counts TheSink result (K.faults sink.old) (K.faults sink.new) }
     ensures disk_faults { Counts TheDisk result (D.faults replayer.old.disk) (D.faults replayer.new.disk) }
     ensures read { option_map culprit_of result ≢ Some TheSource }
     ensures opened { result ≢ Some Ending.NotAStore }
+    ensures words { result ≢ Some Ending.BadWords }
 {
     match carry_out(alloc, replayer, text) {
         Ok(Some(answer)) => match sink.put(&answer) {

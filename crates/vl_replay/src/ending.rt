@@ -54,7 +54,8 @@ impl Ending {
 }
 
 /// The last line of a run whose words aren't plain.
-pub const USAGE: &[u8] = b"usage: vlstore replay DIR, trial STOP OUTCOME, bench SEED COUNT or drive CLIENTS TXNS SEED\n";
+pub const USAGE: &[u8] =
+    b"usage: vlstore replay DIR, trial STOP OUTCOME, bench SEED COUNT or drive CLIENTS TXNS SEED\n";
 
 pub const DISK_FAULT: &[u8] = b"disk fault\n";
 

@@ -48,7 +48,8 @@ pub struct Replayer<D: Disk> {
 impl<D: Disk> Replayer<D> {
     /// Opens the store on a disk. For now it is one without commits, on an empty disk.
     pub fn new(alloc: Global, disk: D) -> Result<Self, OpenFail<D>>
-        ensures store { (s : State) → StartsAs D.Watched disk s → IfOk result (λ replayer. Represents replayer.store s) }
+        ensures store { (s : State) → StartsAs D.Watched disk s
+            → IfOk result (λ replayer. Represents replayer.store s) }
 
         // The store's files are made by six changing calls, and what a crash leaves meanwhile shows no commit.
         ensures holds { (s : State) → StartsAs D.Watched disk s → Tells D.Watched disk IsEmpty
@@ -60,7 +61,8 @@ impl<D: Disk> Replayer<D> {
 
         // It isn't opened where anything stands, and is refused as no store only there. Then, and where memory ran out,
         // nothing was changed.
-        ensures not_a_store { why_of result ≡ Some why.NotAStore → ForSome (D.told disk) StandsSome }
+        ensures not_a_store { why_of result ≡ Some why.NotAStore
+            → ForSome (D.told disk) StandsSome }
         ensures occupied { (state : DiskState) → D.told disk ≡ Some state → StandsSome state
             → IsErr result × (D.told (disk_of (λ replayer. replayer.disk) result) ≡ D.told disk) }
         ensures unchanged { why_of result ≢ Some why.Disk → IsErr result
@@ -80,14 +82,19 @@ impl<D: Disk> Replayer<D> {
     /// Answers a line. Want of memory leaves the store and the disk's bytes as they were, and so does a fault of the disk
     /// the store. After such a fault the disk may hold less or more than the store, and no further line is to be answered.
     pub fn line(&mut self, line: Line) -> Result<Answer, Halt>
-        ensures answer { (s : State) → Represents self.old.store s → IfOk result (λ answer. answer ≡ answer_to s line) }
-        ensures after { (s : State) → Represents self.old.store s → OnOk result (Represents self.new.store (state_after s line)) }
-        ensures unchanged { (s : State) → Represents self.old.store s → OnErr result (Represents self.new.store s) }
+        ensures answer { (s : State) → Represents self.old.store s
+            → IfOk result (λ answer. answer ≡ answer_to s line) }
+        ensures after { (s : State) → Represents self.old.store s
+            → OnOk result (Represents self.new.store (state_after s line)) }
+        ensures unchanged { (s : State) → Represents self.old.store s
+            → OnErr result (Represents self.new.store s) }
 
         // Each accepted commit is one synced frame of the log, which is written before the answer.
-        ensures carries { (s : State) → Represents self.old.store s → HoldsState D.Watched IsStored s self.old.disk
+        ensures carries { (s : State) → Represents self.old.store s
+            → HoldsState D.Watched IsStored s self.old.disk
             → CarriesOut D.Watched IsStored Shown self.old.disk self.new.disk s (state_after s line) result }
-        ensures no_memory { result ≡ Err Halt.NoMemory → D.told self.new.disk ≡ D.told self.old.disk }
+        ensures no_memory { result ≡ Err Halt.NoMemory
+            → D.told self.new.disk ≡ D.told self.old.disk }
         ensures cause { HasCause (D.faults self.old.disk) (D.faults self.new.disk) (result ≡ Err Halt.Disk) }
     {
         self.store.line(&mut self.disk, line)

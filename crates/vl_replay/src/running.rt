@@ -39,7 +39,8 @@ struct Progress<D: Disk> {
 impl<D: Disk> Progress<D> {
     /// Reads a line and answers it. None where the run goes on.
     fn step<S: Source, K: Sink>(&mut self, source: &mut S, sink: &mut K) -> Option<Ending>
-        ensures runs { (s : State) (before : ℕ) (had : List ℕ) → Represents self.old.replayer.store s
+        ensures runs { (s : State) (before : ℕ) (had : List ℕ)
+            → Represents self.old.replayer.store s
             → self.old.answered ≡ line_number before → S.left source.old ≡ Some had
             → KeepsUp (self.old.buffer ++ had) (S.asked source.old) 0
             → Steps D.Watched IsStored Shown (script_of s before (self.old.buffer ++ had))
@@ -54,6 +55,7 @@ impl<D: Disk> Progress<D> {
         ensures sink { Counts TheSink result (K.faults sink.old) (K.faults sink.new) }
         ensures disk { Counts TheDisk result (D.faults self.old.replayer.disk) (D.faults self.new.replayer.disk) }
         ensures opened { result ≢ Some Ending.NotAStore }
+        ensures words { result ≢ Some Ending.BadWords }
     {
         match read_line(&mut self.buffer, source, &mut self.line) {
             Ok(Next::Line) => self.answer(sink),
@@ -75,12 +77,14 @@ impl<D: Disk> Progress<D> {
             → HoldsState D.Watched IsStored s self.old.replayer.disk
             → DiskSteps D.Watched IsStored Shown self.old.replayer.disk self.new.replayer.disk s
             (state_behind s (exchange_at s self.old.line.items)) result }
-        ensures counted { (before : ℕ) → self.old.answered ≡ line_number before → self.new.answered ≡ line_number (before + 1) }
+        ensures counted { (before : ℕ) → self.old.answered ≡ line_number before
+            → self.new.answered ≡ line_number (before + 1) }
         ensures same { self.new.buffer ≡ self.old.buffer }
         ensures sink { Counts TheSink result (K.faults sink.old) (K.faults sink.new) }
         ensures disk { Counts TheDisk result (D.faults self.old.replayer.disk) (D.faults self.new.replayer.disk) }
         ensures read { option_map culprit_of result ≢ Some TheSource }
         ensures opened { result ≢ Some Ending.NotAStore }
+        ensures words { result ≢ Some Ending.BadWords }
     {
         let ended = answer(
             self.alloc,
@@ -101,20 +105,25 @@ pub fn replay<S: Source, K: Sink, D: Disk>(
     sink: &mut K,
     disk: D,
 ) -> Ended<D>
-    ensures runs { (s : State) (input : List ℕ) → StartsAs D.Watched disk s → S.left source.old ≡ Some input
+    ensures runs { (s : State) (input : List ℕ) → StartsAs D.Watched disk s
+        → S.left source.old ≡ Some input
         → EndsRun D.Watched (ForSome (D.told disk) StandsSome) (DiskEndsFromStart D.Watched disk result.disk)
         (script_of s 0 input) (outside S.Source K.Sink source.old sink.old disk)
         (outside S.Source K.Sink source.new sink.new result.disk) result.ending }
     ensures source { Counts TheSource (Some result.ending) (S.faults source.old) (S.faults source.new) }
     ensures sink { Counts TheSink (Some result.ending) (K.faults sink.old) (K.faults sink.new) }
     ensures disk { Counts TheDisk (Some result.ending) (D.faults disk) (D.faults result.disk) }
+    ensures words { result.ending ≢ Ending.BadWords }
 
     // The run ends as no store only where anything stands, and there always, unless a fault or want of memory comes
     // first. Then nothing was changed or read, and the last line is all that is printed.
-    ensures not_a_store { result.ending ≡ Ending.NotAStore → ForSome (D.told disk) StandsSome × (D.told result.disk ≡ D.told disk)
-        × (source.new ≡ source.old) × FinishesBy K.Sink sink.old sink.new Ending.NotAStore result.ending }
+    ensures not_a_store { result.ending ≡ Ending.NotAStore
+        → ForSome (D.told disk) StandsSome × (D.told result.disk ≡ D.told disk)
+        × (source.new ≡ source.old)
+        × FinishesBy K.Sink sink.old sink.new Ending.NotAStore result.ending }
     ensures occupied { (state : DiskState) → D.told disk ≡ Some state → StandsSome state
-        → IsRefused K.Sink sink.old sink.new result.ending × (source.new ≡ source.old) × (D.told result.disk ≡ D.told disk) }
+        → IsRefused K.Sink sink.old sink.new result.ending × (source.new ≡ source.old)
+        × (D.told result.disk ≡ D.told disk) }
 {
     match Replayer::new(alloc, disk) {
         Ok(replayer) => answer_lines(alloc, source, sink, replayer),
@@ -143,7 +152,8 @@ fn answer_lines<S: Source, K: Sink, D: Disk>(
     sink: &mut K,
     replayer: Replayer<D>,
 ) -> Ended<D>
-    ensures runs { (s : State) (input : List ℕ) → Represents replayer.store s → S.left source.old ≡ Some input
+    ensures runs { (s : State) (input : List ℕ) → Represents replayer.store s
+        → S.left source.old ≡ Some input
         → EndsRun D.Watched ⊥ (DiskEndsFrom D.Watched IsStored Shown replayer.disk result.disk s)
         (script_of s 0 input) (outside S.Source K.Sink source.old sink.old replayer.disk)
         (outside S.Source K.Sink source.new sink.new result.disk) result.ending }
@@ -151,6 +161,7 @@ fn answer_lines<S: Source, K: Sink, D: Disk>(
     ensures sink { Counts TheSink (Some result.ending) (K.faults sink.old) (K.faults sink.new) }
     ensures disk { Counts TheDisk (Some result.ending) (D.faults replayer.disk) (D.faults result.disk) }
     ensures opened { result.ending ≢ Ending.NotAStore }
+    ensures words { result.ending ≢ Ending.BadWords }
 {
     let Ok(buffer) = Buffer::new(alloc) else {
         return Ended {

@@ -1,10 +1,6 @@
 ghost use Rattle.std.specs.Prelude.{◌≡◌, map, string_bytes};
 ghost use Rattle.vl_cli.specs.Run.{is_plain, is_plain_word};
 
-/// Printed where the words aren't plain.
-pub const USAGE: &[u8] =
-    b"usage: vlstore replay DIR, trial STOP OUTCOME, bench SEED COUNT or drive CLIENTS TXNS SEED\n";
-
 /// Whether a word isn't empty and doesn't begin with `-`.
 fn is_plain_word_text(word: &[u8]) -> bool
     ensures { result ≡ is_plain_word word.now }

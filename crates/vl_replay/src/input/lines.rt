@@ -36,7 +36,8 @@ pub fn read_line<S: Source>(
         → FailsWithin (buffer.old ++ left) (S.left source.new) }
     // Where no answer was owed when the source was last asked before, none was when it was last asked now: it is asked
     // only within a line.
-    ensures keeps_up { (left : List ℕ) → S.left source.old ≡ Some left → KeepsUp (buffer.old ++ left) (S.asked source.old) 0
+    ensures keeps_up { (left : List ℕ) → S.left source.old ≡ Some left
+        → KeepsUp (buffer.old ++ left) (S.asked source.old) 0
         → KeepsUp (buffer.old ++ left) (S.asked source.new) 0 }
     ensures cause { HasCause (S.faults source.old) (S.faults source.new) (result ≡ Err InputFail.Fault) }
 {

@@ -47,9 +47,11 @@ impl Memtable {
     /// Adds the writes of a commit, for which there is room.
     pub fn apply(&mut self, number: u64, writes: Writes)
         requires { vec_len self.old.entries + len writes ≤ vec_capacity self.old.entries }
-        ensures newest { (key : List ℕ) (n : ℕ) → AllByRecursion (λ entry. entry.version ≤ number) self.old.entries.items →
+        ensures newest { (key : List ℕ) (n : ℕ)
+            → AllByRecursion (λ entry. entry.version ≤ number) self.old.entries.items →
             newest self.new.entries.items key n ≡ newer (newest self.old.entries.items key n) (if nat_le number n then get writes key else None) }
-        ensures versions { AllByRecursion (λ entry. entry.version ≤ number) self.old.entries.items → AllByRecursion (λ entry. entry.version ≤ number) self.new.entries.items }
+        ensures versions { AllByRecursion (λ entry. entry.version ≤ number) self.old.entries.items
+            → AllByRecursion (λ entry. entry.version ≤ number) self.new.entries.items }
     {
         for (key, change) in writes.into_entries() {
             let at = self.place(key.as_slice(), number);

@@ -20,7 +20,7 @@ use crate::replayer::{Decision, Handle, Memtable, Open, Writes};
 use std::alloc::Global;
 use vl_disk::Disk;
 use vl_journal::{NUMBER, append_durably};
-use vl_model::{Bytes, Change, Counter, Key, MAX_COMMIT_NUMBER, MAX_ROOM, is_key_len, is_value_len};
+use vl_model::{Change, Counter, Key, MAX_COMMIT_NUMBER, MAX_ROOM, is_key_len, is_value_len};
 use vl_script::{Answer, Ident, Line};
 use vl_seglog::ActiveLog;
 
@@ -52,10 +52,14 @@ impl Store {
     /// Answers a line over the disk that holds the store.
     pub fn line<D: Disk>(&mut self, disk: &mut D, line: Line) -> Result<Answer, Halt>
         requires { ForSome (D.told disk.old) (Stands (names.Log self.old.log.number)) }
-        ensures answer { (s : State) → Represents self.old s → IfOk result (λ answer. answer ≡ answer_to s line) }
-        ensures after { (s : State) → Represents self.old s → OnOk result (Represents self.new (state_after s line)) }
-        ensures unchanged { (s : State) → Represents self.old s → OnErr result (Represents self.new s) }
-        ensures carries { (s : State) → Represents self.old s → HoldsState D.Watched IsStored s disk.old
+        ensures answer { (s : State) → Represents self.old s
+            → IfOk result (λ answer. answer ≡ answer_to s line) }
+        ensures after { (s : State) → Represents self.old s
+            → OnOk result (Represents self.new (state_after s line)) }
+        ensures unchanged { (s : State) → Represents self.old s
+            → OnErr result (Represents self.new s) }
+        ensures carries { (s : State) → Represents self.old s
+            → HoldsState D.Watched IsStored s disk.old
             → CarriesOut D.Watched IsStored Shown disk.old disk.new s (state_after s line) result }
         ensures stands { ForSome (D.told disk.new) (Stands (names.Log self.new.log.number)) }
         ensures no_memory { result ≡ Err Halt.NoMemory → D.told disk.new ≡ D.told disk.old }
@@ -94,7 +98,8 @@ impl Store {
     }
 
     fn open(&mut self, name: Ident, handle: Handle) -> Answer
-        ensures answer { (s : State) (opens : sequential.Handle) → Represents self.old s → StandsFor s.history handle opens
+        ensures answer { (s : State) (opens : sequential.Handle) → Represents self.old s
+            → StandsFor s.history handle opens
             → Gives result self.new (opened s name opens) }
         ensures log { self.new.log ≡ self.old.log }
     {
@@ -131,7 +136,8 @@ impl Store {
     fn write(&mut self, name: Ident, key: Key, change: Change) -> Result<Answer, Halt>
         ensures answer { (s : State) → Represents self.old s
             → IfOk result (λ answer. Gives answer self.new (written s name key change (get s.handles name))) }
-        ensures unchanged { (s : State) → Represents self.old s → OnErr result (Represents self.new s) }
+        ensures unchanged { (s : State) → Represents self.old s
+            → OnErr result (Represents self.new s) }
         ensures halt { IfErr result (λ halt. halt ≡ Halt.NoMemory) }
         ensures log { self.new.log ≡ self.old.log }
     {
@@ -148,8 +154,10 @@ impl Store {
         requires { ForSome (D.told disk.old) (Stands (names.Log self.old.log.number)) }
         ensures answer { (s : State) → Represents self.old s
             → IfOk result (λ answer. Gives answer self.new (committed s name (get s.handles name))) }
-        ensures unchanged { (s : State) → Represents self.old s → OnErr result (Represents self.new s) }
-        ensures carries { (s : State) → Represents self.old s → HoldsState D.Watched IsStored s disk.old
+        ensures unchanged { (s : State) → Represents self.old s
+            → OnErr result (Represents self.new s) }
+        ensures carries { (s : State) → Represents self.old s
+            → HoldsState D.Watched IsStored s disk.old
             → CarriesOut D.Watched IsStored Shown disk.old disk.new s (committed s name (get s.handles name)).1 result }
         ensures stands { ForSome (D.told disk.new) (Stands (names.Log self.new.log.number)) }
         ensures no_memory { result ≡ Err Halt.NoMemory → D.told disk.new ≡ D.told disk.old }
@@ -194,10 +202,13 @@ impl Store {
     fn write_commit<D: Disk>(&mut self, disk: &mut D) -> Result<Answer, Halt>
         requires stands { ForSome (D.told disk.old) (Stands (names.Log self.old.log.number)) }
         requires can { CanCommit self.old }
-        ensures answer { (s : State) (name : List ℕ) (writes : Writes) → Represents self.old s → HasOpen self.old name writes
+        ensures answer { (s : State) (name : List ℕ) (writes : Writes) → Represents self.old s
+            → HasOpen self.old name writes
             → IfOk result (λ answer. Gives answer self.new (NumberAnswer (last_number s.history + 1), after_commit s name writes)) }
-        ensures unchanged { (s : State) → Represents self.old s → OnErr result (Represents self.new s) }
-        ensures carries { (s : State) (name : List ℕ) (writes : Writes) → Represents self.old s → HasOpen self.old name writes
+        ensures unchanged { (s : State) → Represents self.old s
+            → OnErr result (Represents self.new s) }
+        ensures carries { (s : State) (name : List ℕ) (writes : Writes) → Represents self.old s
+            → HasOpen self.old name writes
             → HoldsState D.Watched IsStored s disk.old
             → CarriesOut D.Watched IsStored Shown disk.old disk.new s (after_commit s name writes) result }
         ensures stands { ForSome (D.told disk.new) (Stands (names.Log self.new.log.number)) }
@@ -236,7 +247,8 @@ impl Store {
 
     // Ends a transaction or a view. What a transaction has written goes with it.
     fn end(&mut self, name: Ident) -> Answer
-        ensures answer { (s : State) → Represents self.old s → Gives result self.new (dropped s name (get s.handles name)) }
+        ensures answer { (s : State) → Represents self.old s
+            → Gives result self.new (dropped s name (get s.handles name)) }
         ensures log { self.new.log ≡ self.old.log }
     {
         if self.find(name.as_slice()).is_some() {
@@ -264,7 +276,7 @@ impl Store {
     {
         match change {
             Some(Change::Set(value)) => Ok(Answer::Found {
-                value: Bytes::copy_of(self.alloc, value.as_slice())?,
+                value: value.share()?,
             }),
             Some(Change::Delete) | None => Ok(Answer::NoValue),
         }

@@ -1,33 +1,96 @@
-use Rattle.std.proofs.Common.{◌∙◌, ap, sym}
-use Rattle.std.specs.Prelude.{map, string_bytes}
-use Rattle.std.specs.Option.{ForSome}
-use Rattle.vl_journal.specs.Files.{StandsSome}
-use Rattle.vl_replay.specs.Replay.{status_of}
-use Rattle.vl_replay.specs.Durable.{DiskEndsFromEmpty}
-use Rattle.vl_replay.specs.declared.ended.Ended.{Ended}
-use Rattle.vl_replay.specs.Steps.{Causes}
-use Rattle.vl_replay.specs.Laws.{all_explained, keeps_up_at_first}
-use Rattle.vl_cli.proofs.Words.{plain_answers, other_answers, refused_words}
+use Rattle.std.proofs.Common.{◌≡◌, ◌≢◌, ◌<◌, ◌≤◌, ℕ, true, false, refl, sym, subst, ◌∙◌, arith}
 use Rattle.vl_script.specs.Script.{lines_of}
+use Rattle.vl_replay.specs.Endings.{TheDisk, TheSource, TheSink, status_of, usage_line}
+use Rattle.vl_replay.specs.Start.{all_explained}
+use Rattle.vl_cli.proofs.Words.{disk_status, source_status, sink_status, is_not_a_store, is_bad_words, rose_by, steady_by, refused_status, refused_rose, refused_steady}
 use Rattle.vl_cli.proofs.command_line.run.Goals as goal
-use Rattle.vl_cli.proofs.command_line.run.Goals.{then-are_plain, else-are_plain}
 
-pub returns-clause-explained : goal.returns-clause-explained
-returns-clause-explained g c input told = all_explained (lines_of input)
+not_both : true ≡ false → ⊥
+not_both e = cc
+
+below : (n m : ℕ) → n < 6 → 6 ≤ m → n ≢ m
+below n m less le e = omega arith
+
+-- ---- plain words
+
+pub returns-then-are_plain-clause-answers : goal.returns-then-are_plain-clause-answers
+returns-then-are_plain-clause-answers g c s input plain starts told = record { ending = c.replay-ending.result.ending; status_is = c.status-status.ensures; run = c.replay-ending.ensures.runs s input starts told }
+
+pub returns-then-are_plain-clause-explained : goal.returns-then-are_plain-clause-explained
+returns-then-are_plain-clause-explained g c s input starts = all_explained g.D.Watched c.args.disk s (lines_of input) starts
+
+pub returns-then-are_plain-clause-plain : goal.returns-then-are_plain-clause-plain
+returns-then-are_plain-clause-plain g c plain two = c.replay-ending.ensures.words (is_bad_words c.replay-ending.result.ending (sym c.status-status.ensures ∙ two))
+
+pub returns-then-are_plain-clause-not_plain : goal.returns-then-are_plain-clause-not_plain
+returns-then-are_plain-clause-not_plain g c other = absurd (not_both (sym c.if-are_plain.true ∙ c.are_plain.ensures ∙ other))
+
+pub returns-then-are_plain-clause-disk_fault : goal.returns-then-are_plain-clause-disk_fault
+returns-then-are_plain-clause-disk_fault g c is = rose_by TheDisk 3 disk_status c.replay-ending.result.ending _ _ c.replay-ending.ensures.disk (sym c.status-status.ensures ∙ is)
+
+pub returns-then-are_plain-clause-disk_steady : goal.returns-then-are_plain-clause-disk_steady
+returns-then-are_plain-clause-disk_steady g c other whole =
+    steady_by TheDisk 3 disk_status c.replay-ending.result.ending _ _ c.replay-ending.ensures.disk (λ e. other (c.status-status.ensures ∙ e)) (λ e. whole (c.status-status.ensures ∙ e))
+
+pub returns-then-are_plain-clause-not_a_store : goal.returns-then-are_plain-clause-not_a_store
+returns-then-are_plain-clause-not_a_store g c is =
+    let refused = c.replay-ending.ensures.not_a_store (is_not_a_store c.replay-ending.result.ending (sym c.status-status.ensures ∙ is)) in
+    (refused.0, refused.1, refused.2, (c.replay-ending.result.ending, c.status-status.ensures, refused.3))
+
+pub returns-then-are_plain-clause-occupied : goal.returns-then-are_plain-clause-occupied
+returns-then-are_plain-clause-occupied g c plain state is stands =
+    let refused = c.replay-ending.ensures.occupied state is stands in
+    (refused.1, refused.2, (c.replay-ending.result.ending, c.status-status.ensures, refused.0))
+
+pub returns-then-are_plain-clause-read_fault : goal.returns-then-are_plain-clause-read_fault
+returns-then-are_plain-clause-read_fault g c is =
+    let six = sym c.status-status.ensures ∙ is in (
+      rose_by TheSource 6 source_status c.replay-ending.result.ending _ _ c.replay-ending.ensures.source six,
+      steady_by TheSink 7 sink_status c.replay-ending.result.ending _ _ c.replay-ending.ensures.sink (λ e. apart (sym six ∙ e)) (λ e. apart (sym six ∙ e)),
+    )
+  where
+    apart : ◌≡◌ {A = ℕ} 6 7 → ⊥
+    apart e = omega arith
+
+pub returns-then-are_plain-clause-write_fault : goal.returns-then-are_plain-clause-write_fault
+returns-then-are_plain-clause-write_fault g c is = rose_by TheSink 7 sink_status c.replay-ending.result.ending _ _ c.replay-ending.ensures.sink (sym c.status-status.ensures ∙ is)
+
+pub returns-then-are_plain-clause-steady : goal.returns-then-are_plain-clause-steady
+returns-then-are_plain-clause-steady g c less =
+    let ending = c.replay-ending.result.ending in
+    let small : status_of ending < 6 = subst (λ (n : ℕ). n < 6) c.status-status.ensures less in (
+      steady_by TheSource 6 source_status ending _ _ c.replay-ending.ensures.source (below (status_of ending) 6 small (omega arith)) (below (status_of ending) 7 small (omega arith)),
+      steady_by TheSink 7 sink_status ending _ _ c.replay-ending.ensures.sink (below (status_of ending) 7 small (omega arith)) (below (status_of ending) 7 small (omega arith)),
+    )
+
+-- ---- other words
 
 pub returns-clause-answers : goal.returns-clause-answers
-returns-clause-answers g c input told =
-    let words = map string_bytes c.args.words.now in
-    elim c.if-are_plain.branch [
-      | then-are_plain w ↦
-          let cause = Causes (g.S.Source.faults c.args.source.now) (g.S.Source.faults w.replay.new.source) (g.D.Disk.faults c.args.disk) (g.D.Disk.faults w.replay.result.disk) (ForSome (g.D.Disk.told c.args.disk) StandsSome) in
-          rw (w.source-is, w.sink-is, w.ending-is)
-          (plain_answers cause (DiskEndsFromEmpty g.D.Disk.told g.D.Disk.moment g.D.Disk.states_since g.D.Disk.faults c.args.disk w.replay.result.disk) words input (g.S.Source.left w.replay.new.source) (g.S.Source.asked w.replay.new.source) w.replay.result.ending c.status.result (g.K.Sink.held c.args.sink.now) (g.K.Sink.held w.replay.new.sink)
-          (sym c.are_plain.ensures ∙ w.if-are_plain.true) (c.status.ensures ∙ ap (λ (e : Ended g.row.D.Denot). status_of e.ending) w.ending-is) (w.replay.ensures.printed input told))
-      | else-are_plain w ↦
-          let refused = refused_words w.finish-ending.result (g.K.Sink.held c.args.sink.now) (g.K.Sink.held w.finish-ending.new.sink) w.finish-ending.ensures.printed in
-          let cause = Causes (g.S.Source.faults c.args.source.now) (g.S.Source.faults c.args.source.now) (g.D.Disk.faults c.args.disk) (g.D.Disk.faults c.args.disk) (ForSome (g.D.Disk.told c.args.disk) StandsSome) in
-          rw (w.source-is, w.sink-is, w.ending-is)
-          (other_answers cause (DiskEndsFromEmpty g.D.Disk.told g.D.Disk.moment g.D.Disk.states_since g.D.Disk.faults c.args.disk c.args.disk) words input (g.S.Source.left c.args.source.now) (g.S.Source.asked c.args.source.now) w.finish-ending.result c.status.result (g.K.Sink.held c.args.sink.now) (g.K.Sink.held w.finish-ending.new.sink)
-          (sym c.are_plain.ensures ∙ w.if-are_plain.false) (c.status.ensures ∙ ap (λ (e : Ended g.row.D.Denot). status_of e.ending) w.ending-is) refused.0 refused.1 refused.2 (keeps_up_at_first input (g.S.Source.asked c.args.source.now) (g.met.S.Source.since_asked c.args.source.now input told)))
-    ]
+returns-clause-answers g c s input plain starts told = absurd (not_both (sym plain ∙ sym c.are_plain.ensures ∙ c.if-are_plain.false))
+
+pub returns-clause-explained : goal.returns-clause-explained
+returns-clause-explained g c s input starts = all_explained g.D.Watched c.args.disk s (lines_of input) starts
+
+pub returns-clause-plain : goal.returns-clause-plain
+returns-clause-plain g c plain = absurd (not_both (sym plain ∙ sym c.are_plain.ensures ∙ c.if-are_plain.false))
+
+pub returns-clause-not_plain : goal.returns-clause-not_plain
+returns-clause-not_plain g c other = (refl, refl, (c.finish.result, c.status-status-2.ensures, (usage_line, refl, c.finish.ensures)))
+
+pub returns-clause-disk_fault : goal.returns-clause-disk_fault
+returns-clause-disk_fault g c is = absurd (refused_status g.K.Sink _ _ _ c.finish.result c.finish.ensures 3 (λ e. omega arith) (λ e. omega arith) (sym c.status-status-2.ensures ∙ is))
+
+pub returns-clause-not_a_store : goal.returns-clause-not_a_store
+returns-clause-not_a_store g c is = absurd (refused_status g.K.Sink _ _ _ c.finish.result c.finish.ensures 4 (λ e. omega arith) (λ e. omega arith) (sym c.status-status-2.ensures ∙ is))
+
+pub returns-clause-occupied : goal.returns-clause-occupied
+returns-clause-occupied g c plain = absurd (not_both (sym plain ∙ sym c.are_plain.ensures ∙ c.if-are_plain.false))
+
+pub returns-clause-read_fault : goal.returns-clause-read_fault
+returns-clause-read_fault g c is = absurd (refused_status g.K.Sink _ _ _ c.finish.result c.finish.ensures 6 (λ e. omega arith) (λ e. omega arith) (sym c.status-status-2.ensures ∙ is))
+
+pub returns-clause-write_fault : goal.returns-clause-write_fault
+returns-clause-write_fault g c is = refused_rose g.K.Sink _ _ _ c.finish.result c.finish.ensures (sym c.status-status-2.ensures ∙ is)
+
+pub returns-clause-steady : goal.returns-clause-steady
+returns-clause-steady g c less = (refl, refused_steady g.K.Sink _ _ _ c.finish.result c.finish.ensures (subst (λ (n : ℕ). n < 6) c.status-status-2.ensures less))

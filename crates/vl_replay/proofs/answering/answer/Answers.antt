@@ -1,8 +1,7 @@
 use Rattle.std.proofs.Common.{◌∙◌, ap, Err, ℕ, List, refl, subst}
 use Rattle.std.specs.Prelude.{is_ok}
-use Rattle.vl_disk.specs.Faults.{Rose}
 use Rattle.vl_io.specs.Sink.{Takes, TakesPrefix}
-use Rattle.vl_replay.specs.Endings.{Causes, no_memory_line, disk_fault_line}
+use Rattle.vl_replay.specs.Endings.{no_memory_line, disk_fault_line}
 use Rattle.vl_replay.specs.declared.ending.Ending.TheVariants.{NoMemory, DiskFault}
 use Rattle.vl_replay.proofs.Ends.{answer_cut, finished, finish_counts, before_weaker}
 use Rattle.vl_replay.proofs.Texts.{of_ok, ends_cut, ends_bad, ends_out, ends_fault}

@@ -7,7 +7,7 @@ use Rattle.vl_replay.specs.Laws.{keeps_up_at_first}
 use Rattle.vl_replay.specs.Runs.{script_of, outside}
 use Rattle.vl_replay.specs.Stored.{IsStored, Shown}
 use Rattle.vl_replay.proofs.Logged.{shown_stays, stored_exactly}
-use Rattle.vl_replay.proofs.OpenedRuns.{ends_opened, ends_refused, refused, refused_nothing, refused_as, out_of_memory, counts_sink, counts_source, counts_disk, some_why}
+use Rattle.vl_replay.proofs.OpenedRuns.{ends_opened, ends_refused, refused, refused_nothing, refused_as, not_for_words, out_of_memory, counts_sink, counts_source, counts_disk, some_why}
 use Rattle.vl_journal.specs.declared.fails.OpenFail.{OpenFail as Why}
 use Rattle.vl_journal.specs.declared.fails.OpenFail.TheVariants as why
 use Rattle.vl_replay.specs.Opening.{refusal_of}
@@ -52,11 +52,13 @@ returns-in-Err-clause-sink g c = counts_sink g.K.Sink _ _ c.in-Err.field-0.why c
 pub returns-in-Err-clause-disk : goal.returns-in-Err-clause-disk
 returns-in-Err-clause-disk g c = counts_disk g.K.Sink _ _ c.in-Err.field-0.why c.finish_unopened-ending.result c.finish_unopened-ending.ensures _ _ _ some_why (λ is. ap Some is) c.in-Err.ensures.cause
 
+pub returns-in-Err-clause-words : goal.returns-in-Err-clause-words
+returns-in-Err-clause-words g c = not_for_words g.K.Sink _ _ c.in-Err.field-0.why c.finish_unopened-ending.result c.finish_unopened-ending.ensures
+
 pub returns-in-Err-clause-not_a_store : goal.returns-in-Err-clause-not_a_store
 returns-in-Err-clause-not_a_store g c no_store =
     let ended = c.finish_unopened-ending in
-    let how = refused_as g.K.Sink c.args.sink.now ended.new.sink c.in-Err.field-0.why ended.result ended.ensures no_store in
-    (
+    let how = refused_as g.K.Sink c.args.sink.now ended.new.sink c.in-Err.field-0.why ended.result ended.ensures no_store in (
       c.in-Err.ensures.not_a_store (ap Some how),
       c.in-Err.ensures.unchanged (λ is. apart (some_why (ap Some (sym how) ∙ is))) refl,
       refl,

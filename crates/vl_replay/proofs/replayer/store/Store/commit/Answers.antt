@@ -1,9 +1,8 @@
-use Rattle.std.proofs.Common.{◌≡◌, Some, Ok, refl, ap, ◌∙◌, sym, subst}
+use Rattle.std.proofs.Common.{Ok, sym, subst}
 use Rattle.std.specs.Prelude.{IfOk}
-use Rattle.std.specs.FinMap.{get}
 use Rattle.vl_script.specs.declared.answer.Answer.TheVariants.{Nothing}
-use Rattle.vl_replay.specs.Sequential.{Outcome, committed, without_handle}
-use Rattle.vl_replay.specs.Represents.{Gives, Decides}
+use Rattle.vl_replay.specs.Sequential.{Outcome, without_handle}
+use Rattle.vl_replay.specs.Represents.{Gives}
 use Rattle.vl_replay.specs.Durable.{CarriesOut}
 use Rattle.vl_replay.specs.Stored.{IsStored, Shown}
 use Rattle.vl_replay.proofs.Commits.{carries_kept}
@@ -14,8 +13,8 @@ pub returns-in-Refuse-clause-carries : goal.returns-in-Refuse-clause-carries
 returns-in-Refuse-clause-carries g c s rep held =
     let disk = c.args.disk.now in
     let decided = rw c.in-Refuse.is at (c.decide.ensures.decides s rep) in
-    subst (λ (o : Outcome). CarriesOut g.D.Watched IsStored Shown disk disk s o.1 (Ok c.in-Refuse.field-0)) (sym decided)
-    (carries_kept g.D.Watched (record { only_now = g.met.D.Disk.only_now; counts_now = g.met.D.Disk.counts_now }) s s disk (Ok c.in-Refuse.field-0) (kept_nothing s) held)
+    subst (λ (o : Outcome). CarriesOut g.D.Watched IsStored Shown disk disk s o.1 (Ok c.in-Refuse.answer)) (sym decided)
+    (carries_kept g.D.Watched (record { only_now = g.met.D.Disk.only_now; counts_now = g.met.D.Disk.counts_now }) s s disk (Ok c.in-Refuse.answer) (kept_nothing s) held)
 
 pub returns-in-Empty-clause-carries : goal.returns-in-Empty-clause-carries
 returns-in-Empty-clause-carries g c s rep held =

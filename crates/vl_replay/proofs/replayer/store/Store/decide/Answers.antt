@@ -1,10 +1,9 @@
-use Rattle.std.proofs.Common.{◌≡◌, ◌+◌, ◌-◌, ◌^◌, ◌<◌, ◌≤◌, ℕ, min, false, Some, refl, ap, ◌∙◌, sym, subst}
+use Rattle.std.proofs.Common.{◌≡◌, ◌+◌, ◌-◌, ◌^◌, ◌<◌, ◌≤◌, ℕ, min, Some, ap, ◌∙◌, sym, subst}
 use Rattle.std.specs.Option.{option_copied}
-use Rattle.std.specs.FinMap.{get, len}
 use Rattle.vl_model.specs.Limits.{max_room}
 use Rattle.vl_replay.specs.Sequential.{committed}
 use Rattle.vl_replay.specs.Represents.{handle_named}
-use Rattle.vl_replay.specs.declared.replayer.handle.Handle.TheVariants.{Transaction, View}
+use Rattle.vl_replay.specs.declared.replayer.handle.Handle.TheVariants.{View}
 use Rattle.vl_replay.proofs.States.{unnamed, named}
 use Rattle.vl_replay.proofs.Deciding.{decides_empty, decides_exhausted, decides_full, decides_write, can_commit}
 use Rattle.vl_replay.proofs.replayer.store.Store.decide.Goals as goal

@@ -1,4 +1,4 @@
-use Rattle.std.proofs.Common.{◌≡◌, ◌==◌, ◌+◌, ℕ, List, Some, false, refl, ap, ◌∙◌, sym, subst}
+use Rattle.std.proofs.Common.{◌≡◌, ◌==◌, ◌+◌, false, refl, ap, ◌∙◌, sym, subst}
 use Rattle.std.specs.FinMap.{entries, len}
 use Rattle.vl_model.specs.History.{last_number}
 use Rattle.vl_model.specs.Keys.{Writes}
