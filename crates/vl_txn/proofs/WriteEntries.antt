@@ -291,6 +291,3 @@ len-insert_absent writes key change missing = len-insert nat_list_cmp_total writ
 -- the bytes of what is kept
 pub bytes-is : (list : List Write) (bytes : ℕ) (writes : Writes) → AreWrites list bytes → writes_of list ≡ writes → bytes ≡ write_bytes writes
 bytes-is list bytes writes are view = are.counted ∙ ap entry_bytes (sym (entries-writes_of list are.sorted)) ∙ ap write_bytes view
-
-pub len-le : (list : List Write) (bytes : ℕ) (writes : Writes) → AreWrites list bytes → writes_of list ≡ writes → len writes ≤ max_transaction_keys
-len-le list bytes writes are view = let few = are.few in omega (arith, len-writes_of list are.sorted, ap len view)

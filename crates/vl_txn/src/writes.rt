@@ -3,7 +3,7 @@ ghost use Rattle.std.specs.List.{AllByRecursion, prefix_len};
 ghost use Rattle.std.specs.Option.{option_copied};
 ghost use Rattle.std.specs.FinMap as map;
 ghost use Rattle.vl_model.specs.Keys.{key_cmp, value_bytes};
-ghost use Rattle.vl_model.specs.Limits.{max_key_bytes, max_value_bytes};
+ghost use Rattle.vl_model.specs.Limits.{max_key_bytes, max_transaction_bytes, max_transaction_keys, max_value_bytes};
 ghost use Rattle.vl_model.specs.declared.change.Change.TheVariants.{Set, Delete};
 ghost use Rattle.vl_txn.specs.Refusals.{IsWritten, IsAllowed, HasSizes, write_bytes};
 ghost use Rattle.vl_txn.specs.Writes.{is_above, IsLawful};
@@ -45,7 +45,8 @@ impl Writes {
 
     /// How many keys are written.
     pub fn len(&self) -> usize
-        ensures { result ≡ map.len self.now }
+        ensures value { result ≡ map.len self.now }
+        ensures few { result ≤ max_transaction_keys }
     {
         self.entries.len()
     }
@@ -58,7 +59,8 @@ impl Writes {
 
     /// The bytes of the keys and of their values.
     pub fn bytes(&self) -> usize
-        ensures { result ≡ write_bytes self.now }
+        ensures value { result ≡ write_bytes self.now }
+        ensures bounded { result ≤ max_transaction_bytes }
     {
         self.bytes
     }
