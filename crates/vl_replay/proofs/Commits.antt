@@ -1,7 +1,8 @@
 -- What a line does to the disk, by each exit of the functions that answer it.
-use Rattle.std.proofs.Common.{◌≡◌, ◌==◌, ◌⊎◌, ⊎_elim, ℕ, ◌+◌, ◌-◌, ◌<◌, ◌≤◌, List, [], ◌∷◌, ◌++◌, length, Some, false, IsTrue, Result, Ok, Err, OnOk, refl, sym, ◌∙◌, ap, subst, arith}
+use Rattle.std.proofs.Common.{◌≡◌, ◌==◌, ⊎_elim, ℕ, ◌+◌, ◌<◌, ◌≤◌, List, [], ◌∷◌, ◌++◌, length, Some, false, IsTrue, Result, Ok, Err, OnOk, refl, sym, ◌∙◌, ap, subst, arith}
 use Rattle.std.specs.Prelude.{IsErr, IsErrAnd}
 use Rattle.std.specs.FinMap.{entries, len, len-entries, is_sorted}
+use Rattle.std.specs.List.{AllByRecursion}
 use Rattle.std.proofs.lemmas.Bool.{eqb-false}
 use Rattle.vl_model.specs.declared.change.Change.{Change}
 use Rattle.vl_model.specs.History.{last_number}
@@ -15,6 +16,7 @@ use Rattle.vl_disk.specs.Faults.{after_calls}
 use Rattle.vl_disk.specs.Moments.{HoldsThroughout, goes_by, holds_weaker}
 use Rattle.vl_seglog.specs.Log.{IsCommit, HasFrame, AreRecords, commit_frame, log_bytes}
 use Rattle.vl_seglog.specs.declared.active.ActiveLog.{ActiveLog}
+use Rattle.vl_txn.specs.Writes.{IsLawful}
 use Rattle.vl_journal.specs.declared.names.TheConstants.{NUMBER}
 use Rattle.vl_journal.specs.Files.{Holds, IsNextFrame}
 use Rattle.vl_journal.specs.Images.{Leaves, ImageShows, ShowsEither}
@@ -51,13 +53,18 @@ disk_failed (Err halt) P failed is = let same : halt ≡ NoRoom = cc in not_memo
 
 -- ---- the commit that is written
 
-pub is_commit : (last : ℕ) (writes : Writes) (list : List (List ℕ × Change)) → list ≡ entries writes → (len writes == 0) ≡ false → last < max_commit_number → IsTrue (is_sorted key_cmp list) → AreRecords list
+-- what a transaction may write can be spelled
+are_records : (list : List (List ℕ × Change)) → AllByRecursion IsLawful list → AreRecords list
+are_records [] all = tt
+are_records (write ∷ list) all = (record { key_length = all.0.key; value_length = all.0.value }, are_records list all.1)
+
+pub is_commit : (last : ℕ) (writes : Writes) (list : List (List ℕ × Change)) → list ≡ entries writes → (len writes == 0) ≡ false → last < max_commit_number → IsTrue (is_sorted key_cmp list) → AllByRecursion IsLawful list
     → IsCommit (record { number = last + 1; writes = list })
 is_commit last writes list is some left rising lawful =
     let lengths : length list ≡ length (entries writes) = ap length is in
     let not_none = eqb-false _ _ some in
     let at_least_one : 1 ≤ length list = omega (arith, lengths, len-entries writes, not_none) in
-    record { first = omega arith; last = omega (arith, left); some = at_least_one; rising = rising; lawful = lawful }
+    record { first = omega arith; last = omega (arith, left); some = at_least_one; rising = rising; lawful = are_records list lawful }
 
 -- the staged frame is that of the next commit, at the log's end
 pub next_frame : (r : Store) (s : State) (disk : DiskState) (writes : Writes) (list : List (List ℕ × Change)) (frame : List ℕ) → Represents r s → IsStored s disk → list ≡ entries writes

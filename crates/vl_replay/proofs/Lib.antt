@@ -16,4 +16,4 @@ pub mod States
 pub mod Stepping
 pub mod Texts
 pub mod UnderWay
-pub mod WriteEntries
+pub mod Writing

@@ -1,5 +1,5 @@
 -- The place in a list before the first element that fails a test.
-use Rattle.std.proofs.Common.{◌≡◌, ℕ, zero, suc, ◌+◌, ◌<◌, ◌≤◌, Bool, true, false, cond, List, [], ◌∷◌, length, get_or, set, refl, ap, sym, ◌∙◌, arith, Option, Some, None, slice_get, Bor}
+use Rattle.std.proofs.Common.{◌≡◌, ℕ, zero, suc, ◌+◌, ◌<◌, ◌≤◌, Bool, true, false, cond, List, [], ◌∷◌, length, get_or, refl, ap, sym, ◌∙◌, arith, Option, Some, None, slice_get, Bor}
 use Rattle.std.specs.List.{AllByRecursion, prefix_len, insert}
 use Rattle.std.specs.List.Sorted.{IsPartitionedBy, IsPartitionPoint}
 use Rattle.std.specs.Option.{option_copied}
@@ -55,19 +55,6 @@ module _ {X : Type 0} (p : X → Bool) where
   insert-prefix_len y (x ∷ xs) =
       elim (p x) as (λ b. insert (x ∷ xs) (cond b (1 + prefix_len p xs) 0) y ≡ cond b (x ∷ put_before y xs) (y ∷ x ∷ xs)) [
         | true ↦ ap (λ n. insert (x ∷ xs) n y) (one_more (prefix_len p xs)) ∙ ap (λ ys. x ∷ ys) (insert-prefix_len y xs)
-        | false ↦ refl
-      ]
-
-  -- another element in the place of the first that fails
-  abbrev pub replace_first : X → List X → List X
-  replace_first y [] = []
-  replace_first y (x ∷ xs) = cond (p x) (x ∷ replace_first y xs) (y ∷ xs)
-
-  pub set-prefix_len : (y : X) (xs : List X) → set xs (prefix_len p xs) y ≡ replace_first y xs
-  set-prefix_len y [] = refl
-  set-prefix_len y (x ∷ xs) =
-      elim (p x) as (λ b. set (x ∷ xs) (cond b (1 + prefix_len p xs) 0) y ≡ cond b (x ∷ replace_first y xs) (y ∷ xs)) [
-        | true ↦ ap (λ n. set (x ∷ xs) n y) (one_more (prefix_len p xs)) ∙ ap (λ ys. x ∷ ys) (set-prefix_len y xs)
         | false ↦ refl
       ]
 

@@ -13,4 +13,3 @@ pub mod Sequential
 pub mod Start
 pub mod Steps
 pub mod Stored
-pub mod Writes

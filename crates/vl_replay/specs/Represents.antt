@@ -1,5 +1,5 @@
 -- What a replayer keeps, and the state that it stands for.
-use Rattle.std.specs.Prelude.{◌≡◌, ℕ, ◌+◌, ◌<◌, ◌≤◌, ◌==◌, false, List, Option, Some, None, not, if◌then◌else◌}
+use Rattle.std.specs.Prelude.{◌≡◌, ℕ, ◌+◌, ◌<◌, ◌≤◌, ◌==◌, false, List, Option, Some, None, Result, Ok, Err, ⊤, not, if◌then◌else◌}
 use Rattle.std.specs.List.{AllByRecursion}
 use Rattle.std.specs.FinMap.{FinMap, get, insert, remove, empty, len}
 use Rattle.std.specs.Str.{bytes_eq}
@@ -10,6 +10,8 @@ use Rattle.vl_model.specs.Reads.{Read}
 use Rattle.vl_replay.specs.Memtable.{newest}
 use Rattle.vl_replay.specs.Sequential.{State, Outcome, OpenTransaction, OpenView, without_handle, is_lawful_write, fits_transaction, committed, after_commit}
 use Rattle.vl_replay.specs.Sequential as sequential
+use Rattle.vl_replay.specs.declared.fails.Halt.{Halt}
+use Rattle.vl_replay.specs.declared.fails.Halt.TheVariants.{NoMemory as NoRoom}
 use Rattle.vl_replay.specs.declared.replayer.entry.Entry.{Entry}
 use Rattle.vl_replay.specs.declared.replayer.handle.Open.{Open}
 use Rattle.vl_replay.specs.declared.replayer.handle.Handle.{Handle}
@@ -21,6 +23,8 @@ use Rattle.vl_replay.specs.declared.replayer.decision.Decision.TheVariants.{Refu
 use Rattle.vl_replay.specs.declared.replayer.store.Store.{Store}
 use Rattle.vl_script.specs.declared.answer.Answer.{Answer}
 use Rattle.vl_script.specs.declared.answer.Answer.TheVariants.{Done, Invalid, TooBig, Nothing, Number}
+use Rattle.vl_txn.specs.declared.set_fail.SetFail.{SetFail}
+use Rattle.vl_txn.specs.declared.set_fail.SetFail.TheVariants.{EmptyKey, KeyTooLong, ValueTooLong, TooBig as TooMuch, NoMemory}
 
 -- a number at which the history can be read
 abbrev pub IsReadable : History → ℕ → Type 0
@@ -92,3 +96,12 @@ abbrev pub writes_after : Writes → List ℕ → Change → Writes
 writes_after writes key change =
     if not (is_lawful_write key change) then writes
     else (if fits_transaction (insert writes key change) then insert writes key change else writes)
+
+-- what a write that ended so is answered
+abbrev pub answer_of : Result ⊤ SetFail → Result Answer Halt
+answer_of (Ok done) = Ok Done
+answer_of (Err EmptyKey) = Ok Invalid
+answer_of (Err KeyTooLong) = Ok Invalid
+answer_of (Err ValueTooLong) = Ok Invalid
+answer_of (Err TooMuch) = Ok TooBig
+answer_of (Err NoMemory) = Err NoRoom

@@ -1,16 +1,17 @@
 -- The store as one thread of script lines sees it: what each line is answered, and what it leaves.
 -- Nothing here knows of memtables, logs or tables.
-use Rattle.std.specs.Prelude.{◌+◌, ℕ, Bool, not, ◌&&◌, ◌==◌, nat_le, if◌then◌else◌, List, [], ◌∷◌, ◌++◌, length, sum_by, Option, Some, None}
-use Rattle.std.specs.FinMap.{FinMap, get, insert, remove, entries, contains_key, len, empty}
+use Rattle.std.specs.Prelude.{◌+◌, ℕ, Bool, not, ◌&&◌, ◌==◌, nat_le, if◌then◌else◌, List, [], ◌∷◌, ◌++◌, length, Option, Some, None}
+use Rattle.std.specs.FinMap.{FinMap, get, insert, remove, contains_key, len, empty}
 use Rattle.vl_model.specs.Keys.{Stored, Writes, key_cmp, value_bytes, is_key_length, is_value_length}
 use Rattle.vl_model.specs.History.{History, last_number, with_commit, value_at, value_left}
 use Rattle.vl_model.specs.Reads.{Read, KeyRead}
 use Rattle.vl_model.specs.declared.change.Change.{Change}
 use Rattle.vl_model.specs.declared.change.Change.TheVariants.{Set as Put, Delete}
 use Rattle.vl_model.specs.declared.counter.Counter.TheVariants.{Commit as CommitNumber}
-use Rattle.vl_model.specs.Limits.{max_transaction_keys, max_transaction_bytes, max_commit_number, max_room}
+use Rattle.vl_model.specs.Limits.{max_commit_number, max_room}
 use Rattle.vl_disk.specs.Faults.{after_calls}
 use Rattle.vl_seglog.specs.Log.{commit_length}
+pub use Rattle.vl_txn.specs.Refusals.{fits_transaction, write_bytes}
 use Rattle.vl_script.specs.declared.line.Line.{Line}
 use Rattle.vl_script.specs.declared.line.Line.TheVariants.{Begin, View, Get, Set, Delete as DeleteLine, Commit, Drop}
 use Rattle.vl_script.specs.declared.answer.Answer.{Answer}
@@ -76,16 +77,6 @@ read s name key (Some (OpenTransaction number reads writes)) =
 abbrev pub is_lawful_write : List ℕ → Change → Bool
 is_lawful_write key change =
     is_key_length (length key) && is_value_length (length (value_bytes change))
-
--- the bytes of the written keys and of their values
-abbrev pub write_bytes : Writes → ℕ
-write_bytes writes =
-    sum_by (λ write. length write.0 + length (value_bytes write.1)) (entries writes)
-
--- whether one transaction may have these writes
-abbrev pub fits_transaction : Writes → Bool
-fits_transaction writes =
-    nat_le (len writes) max_transaction_keys && nat_le (write_bytes writes) max_transaction_bytes
 
 -- set and del: one write in the place of an earlier one of its key
 abbrev pub written : State → List ℕ → List ℕ → Change → Option Handle → Outcome

@@ -21,7 +21,6 @@ mod laws;
 mod limits;
 mod memtable;
 mod store;
-mod writes;
 
 use crate::fails::{Halt, OpenFail};
 use decision::Decision;
@@ -35,7 +34,6 @@ use store::Store;
 use vl_disk::Disk;
 use vl_journal::open_store;
 use vl_script::{Answer, Line};
-use writes::Writes;
 
 /// A store on a disk, which answers a script's lines.
 #[derive(Drop)]

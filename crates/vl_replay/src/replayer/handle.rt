@@ -1,8 +1,8 @@
 ghost use Rattle.std.specs.Prelude.{◌≡◌};
 ghost use Rattle.std.specs.Str.{bytes_eq};
 
-use crate::replayer::Writes;
 use vl_script::Ident;
+use vl_txn::Writes;
 
 /// What a name in use stands for.
 #[derive(Drop)]

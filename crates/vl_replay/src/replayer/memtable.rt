@@ -6,9 +6,10 @@ ghost use Rattle.std.specs.FinMap.{get, len};
 ghost use Rattle.vl_model.specs.History.{newer};
 ghost use Rattle.vl_replay.specs.Memtable.{is_ordered, is_before, newest};
 
-use crate::replayer::{Entry, Writes};
+use crate::replayer::Entry;
 use std::alloc::{AllocError, Global};
 use vl_model::Change;
+use vl_txn::Writes;
 
 /// The changes of the commits so far, in one list: keys rise, and of one key the newest change is first.
 #[derive(Drop)]

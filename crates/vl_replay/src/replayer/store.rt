@@ -7,22 +7,24 @@ ghost use Rattle.vl_disk.specs.Disk.{Stands};
 ghost use Rattle.vl_disk.specs.Faults.{HasCause};
 ghost use Rattle.vl_model.specs.History.{last_number, value_left};
 ghost use Rattle.vl_model.specs.Keys.{Writes};
-ghost use Rattle.vl_replay.specs.Sequential.{State, answer_to, state_after, opened, read, is_lawful_write, written, committed, after_commit, dropped, found};
+ghost use Rattle.vl_replay.specs.Sequential.{State, answer_to, state_after, opened, read, written, committed, frame_length, after_commit, dropped, found};
 ghost use Rattle.vl_replay.specs.Sequential as sequential;
-ghost use Rattle.vl_replay.specs.Represents.{Represents, Gives, StandsFor, HasOpen, CanCommit, Decides, handle_named, write_answer, writes_after};
+ghost use Rattle.vl_replay.specs.Represents.{Represents, Gives, StandsFor, HasOpen, CanCommit, Decides, handle_named, write_answer, writes_after, answer_of};
 ghost use Rattle.vl_replay.specs.Durable.{HoldsState, CarriesOut};
 ghost use Rattle.vl_replay.specs.Stored.{IsStored, Shown};
 ghost use Rattle.vl_replay.specs.Start.{empty_store};
 ghost use Rattle.vl_script.specs.declared.answer.Answer.TheVariants.{Number as NumberAnswer};
+ghost use Rattle.vl_txn.specs.Refusals.{IsWritten};
 
 use crate::fails::Halt;
-use crate::replayer::{Decision, Handle, Memtable, Open, Writes};
+use crate::replayer::{Decision, Handle, Memtable, Open};
 use std::alloc::Global;
 use vl_disk::Disk;
 use vl_journal::{NUMBER, append_durably};
-use vl_model::{Change, Counter, Key, MAX_COMMIT_NUMBER, MAX_ROOM, is_key_len, is_value_len};
+use vl_model::{Change, Counter, Key, MAX_COMMIT_NUMBER, MAX_ROOM, is_key_len};
 use vl_script::{Answer, Ident, Line};
-use vl_seglog::ActiveLog;
+use vl_seglog::{ActiveLog, commit_length};
+use vl_txn::{SetFail, Writes};
 
 /// Commits in memory, of which each is written to a disk before it is answered, and what the script has open.
 #[derive(Drop)]
@@ -192,7 +194,7 @@ impl Store {
                 counter: Counter::Commit,
             });
         }
-        if self.log.length.saturating_add(writes.frame_length()) > MAX_ROOM {
+        if self.log.length.saturating_add(frame_length(writes)) > MAX_ROOM {
             return Decision::Refuse(Answer::Full);
         }
         Decision::Write
@@ -283,10 +285,11 @@ impl Store {
     }
 }
 
-fn is_within_limits(key: &Key, change: &Change) -> bool
-    ensures { result ≡ is_lawful_write key.now change.now }
+// How many bytes a commit of these writes takes in the log.
+fn frame_length(writes: &Writes) -> u64
+    ensures { result ≡ frame_length writes.now }
 {
-    is_key_len(key.len()) && is_value_len(change.value_len())
+    commit_length(writes.len(), writes.bytes())
 }
 
 // A write in a transaction.
@@ -296,12 +299,28 @@ fn write(writes: &mut Writes, key: Key, change: Change) -> Result<Answer, Halt>
     ensures err { OnErr result (writes.new ≡ writes.old) }
     ensures halt { IfErr result (λ halt. halt ≡ Halt.NoMemory) }
 {
-    if !is_within_limits(&key, &change) {
-        return Ok(Answer::Invalid);
+    let written = make(writes, key.as_slice(), &change);
+    answer_of(written)
+}
+
+// Makes a write, where it isn't refused.
+fn make(writes: &mut Writes, key: &[u8], change: &Change) -> Result<(), SetFail>
+    ensures { IsWritten writes.old key.now change.now writes.new result }
+{
+    match change {
+        Change::Set(value) => writes.set(key, value.as_slice()),
+        Change::Delete => writes.delete(key),
     }
-    if !writes.fits(key.as_slice(), &change) {
-        return Ok(Answer::TooBig);
+}
+
+// What a write is answered that ended so.
+fn answer_of(written: Result<(), SetFail>) -> Result<Answer, Halt>
+    ensures { result ≡ answer_of written }
+{
+    match written {
+        Ok(()) => Ok(Answer::Done),
+        Err(SetFail::EmptyKey | SetFail::KeyTooLong | SetFail::ValueTooLong) => Ok(Answer::Invalid),
+        Err(SetFail::TooBig) => Ok(Answer::TooBig),
+        Err(SetFail::NoMemory) => Err(Halt::NoMemory),
     }
-    writes.insert(key, change)?;
-    Ok(Answer::Done)
 }

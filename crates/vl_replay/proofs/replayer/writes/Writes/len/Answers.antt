@@ -1,7 +1,0 @@
-use Rattle.std.proofs.Common.{sym, ap, ◌∙◌}
-use Rattle.std.specs.FinMap.{len}
-use Rattle.vl_replay.proofs.WriteEntries.{len-writes_of}
-use Rattle.vl_replay.proofs.replayer.writes.Writes.len.Goals as goal
-
-pub returns : goal.returns
-returns c = c.len.ensures ∙ c.self.inside.entries.ok.0 ∙ sym (len-writes_of _ c.self.invariant.sorted) ∙ ap len c.self.view_is
