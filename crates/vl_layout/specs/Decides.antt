@@ -5,8 +5,8 @@ use Rattle.vl_layout.specs.Ruling.{Ruling, halted_at}
 use Rattle.vl_layout.specs.declared.file_name.FileName.{FileName}
 use Rattle.vl_layout.specs.declared.layout.Layout.{Layout}
 
--- what a call came to: an answer; want of memory; a failed call of the disk, at a file; or bytes of
--- a file that aren't what should stand there, at a place
+-- what a call came to: an answer; want of memory; a call on a file that failed; or bytes of a file
+-- that aren't what should stand there, at a place
 pub data Came (A : Type 0) : Type 0 where
   Answered : A → Came A
   NoRoom : Came A
