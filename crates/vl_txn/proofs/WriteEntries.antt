@@ -1,5 +1,5 @@
 -- The list of what a transaction has written, and the map that it stands for.
-use Rattle.std.proofs.Common.{◌*◌, ◌≡◌, ℕ, ◌+◌, ◌≤◌, ◌<◌, Bool, true, false, cond, ◌&&◌, List, [], ◌∷◌, length, refl, ap, sym, ◌∙◌, subst, arith, IsTrue, T, Bor, slice_get, get_or, set, inl, inr}
+use Rattle.std.proofs.Common.{◌≡◌, ℕ, ◌+◌, ◌≤◌, ◌<◌, Bool, true, false, cond, ◌&&◌, List, [], ◌∷◌, length, refl, ap, sym, ◌∙◌, subst, arith, IsTrue, T, Bor, slice_get, get_or, set, inl, inr}
 use Rattle.std.specs.Prelude.{Option, Some, None, is_some}
 use Rattle.std.specs.Option.{option_copied}
 use Rattle.std.specs.Slice.{IsItemAt}
@@ -18,7 +18,6 @@ use Rattle.std.proofs.lemmas.List.Sums.{sum_by-cons}
 use Rattle.std.proofs.lemmas.Map.Text.{is_eq-slice_cmp}
 use Rattle.vl_model.specs.Keys.{Writes, key_cmp, value_bytes}
 use Rattle.vl_model.specs.declared.change.Change.{Change}
-use Rattle.vl_model.specs.declared.change.Change.TheVariants.{Set as Put, Delete}
 use Rattle.vl_model.specs.Limits.{max_transaction_bytes, max_transaction_keys}
 use Rattle.vl_txn.specs.Refusals.{write_bytes, fits_transaction}
 use Rattle.vl_txn.specs.Writes.{Write, IsLawful, writes_of, is_above, entry_bytes, AreWrites}
