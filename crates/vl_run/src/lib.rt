@@ -1,0 +1,6 @@
+//! Entries in order that several may share.
+#![tactic(auto)]
+
+mod run;
+
+pub use run::Run;
