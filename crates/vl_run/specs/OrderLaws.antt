@@ -199,3 +199,27 @@ put-before e (f ∷ fs) before = put-less e f fs before.0
 pub in_order-rising : (es : List Entry) → IsRising es → IsInOrder es
 in_order-rising [] rising = refl
 in_order-rising (e ∷ es) rising = ap (put e) (in_order-rising es rising.1) ∙ put-before e es rising.0
+
+-- ---- the least of several goes first
+
+all-in_order : (P : Entry → Type 0) (es : List Entry) → AllByRecursion P es → AllByRecursion P (in_order es)
+all-in_order P [] all = tt
+all-in_order P (e ∷ es) all = all-put P e (in_order es) all.0 (all-in_order P es all.1)
+  where
+    all-put : (P : Entry → Type 0) (e : Entry) (es : List Entry) → P e → AllByRecursion P es → AllByRecursion P (put e es)
+    all-put P e [] here all = (here, tt)
+    all-put P e (f ∷ fs) here all = elim (entry_cmp e f) as (λ r. AllByRecursion P (by_order r (e ∷ f ∷ fs) (e ∷ fs) (f ∷ put e fs))) [
+      | Less ↦ (here, all)
+      | Equal ↦ (here, all.1)
+      | Greater ↦ (all.0, all-put P e fs here all.1)
+    ]
+
+pub all-append : (P : Entry → Type 0) (es fs : List Entry) → AllByRecursion P es → AllByRecursion P fs → AllByRecursion P (es ++ fs)
+all-append P [] fs here there = there
+all-append P (e ∷ es) fs here there = (here.0, all-append P es fs here.1 there)
+
+pub in_order-least : (es : List Entry) (f : Entry) (fs : List Entry) → IsBefore f es → IsBefore f fs
+    → in_order (es ++ f ∷ fs) ≡ f ∷ in_order (es ++ fs)
+in_order-least [] f fs before after = put-before f (in_order fs) (all-in_order (λ g. entry_cmp f g ≡ Less) fs after)
+in_order-least (e ∷ es) f fs before after =
+    ap (put e) (in_order-least es f fs before.1 after) ∙ put-greater e f (in_order (es ++ fs)) (turned f e Less before.0)

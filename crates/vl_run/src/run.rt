@@ -1,16 +1,18 @@
-ghost use Rattle.std.specs.Prelude.{◌≡◌, ◌==◌, ◌++◌, length, IfOk};
+ghost use Rattle.std.specs.Prelude.{◌≡◌, ◌==◌, ◌++◌, length, Some, IfOk};
 ghost use Rattle.std.specs.List.{prefix_len};
 ghost use Rattle.std.specs.Option.{option_copied};
 ghost use Rattle.vl_model.specs.Entries.{in_order};
 ghost use Rattle.vl_model.specs.Winners.{winner, exact};
-ghost use Rattle.vl_run.specs.Order.{IsInOrder};
+ghost use Rattle.vl_run.specs.Order.{IsInOrder, along};
 ghost use Rattle.vl_run.specs.Lookup.{is_ahead};
 ghost use Rattle.vl_run.specs.Places.{first_failing};
 
-use std::alloc::AllocError;
+use crate::RunCursor;
+use crate::merged::merged;
+use std::alloc::{AllocError, Global};
 use std::marker::Model;
 use std::sync::ArcSlice;
-use vl_model::Entry;
+use vl_model::{Cursor, Entry, Way};
 
 /// Entries that don't change, in order, with no key and version twice. Several may share them.
 #[derive(Drop)]
@@ -89,6 +91,21 @@ impl Run {
             Some(entry) if key == entry.key.as_slice() && entry.version == version => Some(entry),
             _ => None,
         }
+    }
+
+    /// The entries of this run over an older one's: of those of one key and version this run's. It
+    /// copies no key and no value.
+    pub fn over(&self, alloc: Global, older: &Run) -> Result<Run, AllocError>
+        ensures { IfOk result (λ run. run ≡ in_order (self.now ++ older.now)) }
+    {
+        Run::from_writes(merged(alloc, self.as_slice(), older.as_slice())?)
+    }
+
+    /// A cursor over all entries, which shares them. It may want memory.
+    pub fn cursor(&self, way: Way) -> Result<RunCursor, AllocError>
+        ensures { IfOk result (λ cursor. ⟦<RunCursor as Cursor>⟧.left cursor ≡ Some (along way self.now)) }
+    {
+        Ok(RunCursor::new(self.share()?, way))
     }
 
     // The first entry that doesn't come before the place of a key and version.
