@@ -68,9 +68,9 @@ pub record CarriesOut {D T : Type 0} (g : Ghosts D) (holds : Holding) (shows : S
   pub through : GoesFrom g shows old new before.history after.history
 
 -- The disk went, from one that held the commits of a state, through one for each of these lines, in order: that of a line
--- held the commits up to it and nothing else, after just the changing calls of these lines. What a crash leaves at a moment between that of the line before and it shows
--- the commits before the line or those after it, and what one leaves from it on, until the run's end, shows at least the
--- latter. When the line was answered isn't said.
+-- held the commits up to it and nothing else, after just the changing calls of these lines. What a crash leaves at a moment
+-- between that of the line before and it shows the commits before the line or those after it, and what one leaves from it
+-- on, until the run's end, shows at least the latter. When the line was answered isn't said.
 abbrev pub GoesAlong : {D : Type 0} → Ghosts D → Holding → Showing → (new : D) (most : State) → D
     → State → List Exchange → Type 0
 GoesAlong g holds shows new most disk s [] = Unit {0}
