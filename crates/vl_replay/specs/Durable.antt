@@ -42,7 +42,8 @@ abbrev pub Tells : {D : Type 0} → Ghosts D → D → (DiskState → Type 0) �
 Tells g disk P = (state : DiskState) × (g.told disk ≡ Some state) × P state
 
 -- the disk holds the state, and was asked for the changing calls that the state counts
-pub record HoldsState {D : Type 0} (g : Ghosts D) (holds : Holding) (s : State) (disk : D) : Type 0 where
+pub record HoldsState {D : Type 0} (g : Ghosts D) (holds : Holding)
+    (s : State) (disk : D) : Type 0 where
   pub calls : g.calls disk ≡ s.calls
   pub there : Tells g disk (holds s)
 
@@ -58,7 +59,8 @@ GoesFrom g shows old new least most =
     HoldsThroughout g old new (Leaves (ShowsBetween shows least most))
 
 -- A line, or a text, was carried out over a disk that holds the state before it.
-pub record CarriesOut {D T : Type 0} (g : Ghosts D) (holds : Holding) (shows : Showing) (old new : D) (before after : State) (result : Result T Halt) : Type 0 where
+pub record CarriesOut {D T : Type 0} (g : Ghosts D) (holds : Holding) (shows : Showing)
+    (old new : D) (before after : State) (result : Result T Halt) : Type 0 where
   -- after an answer the disk holds the state after it
   pub answered : OnOk result (HoldsState g holds after new)
   -- where memory ran out it holds no commit more
@@ -82,7 +84,8 @@ GoesAlong {D} g holds shows new most disk s (e ∷ later) =
 
 -- What a run that came so far did to its disk. The commits of the answered lines are the acknowledged ones. `unopened` says
 -- what the disk is where the store wasn't opened.
-pub record DiskEnds {D : Type 0} (g : Ghosts D) (holds : Holding) (shows : Showing) (unopened : Type 0) (old new : D) (run : Course) : Type 0 where
+pub record DiskEnds {D : Type 0} (g : Ghosts D) (holds : Holding) (shows : Showing)
+    (unopened : Type 0) (old new : D) (run : Course) : Type 0 where
   -- what a crash at any moment since the begin leaves shows a first part of the commits
   pub through : GoesFrom g shows old new run.first.history run.most.history
   -- and the disk went through one for each answered line, from which on a crash leaves its commit too
