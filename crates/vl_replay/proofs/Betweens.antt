@@ -1,5 +1,5 @@
 -- Histories that go on, and what is shown between two of them.
-use Rattle.std.proofs.Common.{◌≡◌, ◌+◌, ◌≤◌, List, [], ◌∷◌, ◌++◌, length, refl, sym, ◌∙◌, ap, append-nil, append_assoc, length-append, arith}
+use Rattle.std.proofs.Common.{◌≡◌, ◌≤◌, List, [], ◌∷◌, ◌++◌, length, refl, sym, ◌∙◌, ap, append-nil, append_assoc, length-append, arith}
 use Rattle.vl_model.specs.Keys.{Writes}
 use Rattle.vl_model.specs.History.{History, last_number, with_commit}
 use Rattle.vl_disk.specs.Crash.{Image}

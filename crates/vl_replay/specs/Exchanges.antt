@@ -3,7 +3,7 @@ use Rattle.std.specs.Prelude.{◌≡◌, ◌+◌, ◌-◌, ◌≤◌, ℕ, ◌==
 use Rattle.std.specs.List.{flat_map, AllByRecursion}
 use Rattle.std.specs.FinMap.{get}
 use Rattle.std.specs.Option.{option_map}
-use Rattle.vl_model.specs.History.{History, last_number, value_at}
+use Rattle.vl_model.specs.History.{last_number, value_at}
 use Rattle.vl_model.specs.Reads.{Read, IsExplained}
 use Rattle.vl_model.specs.Keys.{Writes, is_key_length}
 use Rattle.vl_replay.specs.Sequential.{State, answer_to, state_after, OpenTransaction, OpenView, found}
