@@ -23,13 +23,15 @@ is_plain (command ∷ folder ∷ []) = bytes_eq command (codes "replay") && is_p
 is_plain words = false
 
 -- A run of an input from a state on ended with this status.
-pub record Answers {D : Type 0} (g : Ghosts D) (start : State) (input : List ℕ) (old new : Outside D) (status : ℕ) : Type 0 where
+pub record Answers {D : Type 0} (g : Ghosts D) (start : State) (input : List ℕ)
+    (old new : Outside D) (status : ℕ) : Type 0 where
   -- how it ended: the table of endings says the status, the culprit and the last line of each
   pub ending : Ending
   pub status_is : status ≡ status_of ending
   -- what was printed and how many lines were answered, that each answer was put before the next line was read, and what
   -- was done to a disk on which nothing stood: each accepted commit is one synced frame of its log
-  pub run : EndsRun g (ForSome (g.told old.disk) StandsSome) (DiskEndsFromStart g old.disk new.disk) (script_of start 0 input) old new ending
+  pub run : EndsRun g (ForSome (g.told old.disk) StandsSome)
+      (DiskEndsFromStart g old.disk new.disk) (script_of start 0 input) old new ending
 
 -- a run that wasn't begun: it put the line of this ending, whole or a front of it, and has that ending's status, or that of
 -- a line that couldn't be put

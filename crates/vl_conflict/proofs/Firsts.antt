@@ -1,6 +1,6 @@
 -- Where the first entry stands that passes a test.
-use Rattle.std.proofs.Common.{◌≡◌, ℕ, zero, suc, ◌+◌, ◌<◌, ◌≤◌, Bool, true, false, cond, ◌&&◌, ◌||◌, not, List, [], ◌∷◌, length, min, refl, ap, sym, ◌∙◌, subst, arith, T, slice_get, get_or, inl, inr, Option, Some, None, Bor, drop}
-use Rattle.std.proofs.lemmas.Bool.{cases_lt, cond-true, cond-false}
+use Rattle.std.proofs.Common.{◌≡◌, ℕ, zero, suc, ◌+◌, ◌<◌, ◌≤◌, Bool, true, false, cond, ◌&&◌, ◌||◌, not, List, [], ◌∷◌, length, min, refl, ap, sym, ◌∙◌, arith, T, slice_get, get_or, inl, inr, Option, Some, None, Bor, drop}
+use Rattle.std.proofs.lemmas.Bool.{cases_lt}
 use Rattle.std.proofs.lemmas.Bool.Decides.{nat_tests}
 use Rattle.std.proofs.lemmas.List.{at_drop_more}
 use Rattle.std.proofs.lemmas.Map.Text.{is_eq-slice_cmp}
@@ -9,7 +9,6 @@ use Rattle.std.specs.Prelude.{nat_lt}
 use Rattle.std.specs.Option.{option_copied}
 use Rattle.std.specs.Slice.{IsItemAt}
 use Rattle.std.specs.List.{filter, list_any, prefix_len, AllWithin}
-use Rattle.std.specs.List.Sorted.{IsPartitionPoint}
 use Rattle.std.specs.declared.cmp.Ordering.{Ordering}
 use Rattle.std.specs.declared.cmp.Ordering.TheVariants.{Less, Equal, Greater}
 use Rattle.std.specs.Ordering.{is_gt, is_lt, is_eq, eq_by_cmp, ordering_reverse}
@@ -20,7 +19,7 @@ use Rattle.vl_model.specs.Keys.{key_cmp}
 use Rattle.vl_model.specs.Conflicts.{Named, first_of}
 use Rattle.vl_model.specs.Reads.{is_in_span, is_from, is_up_to}
 use Rattle.vl_model.specs.declared.span.Span.{Span}
-use Rattle.vl_conflict.specs.Recent.{is_above, is_before, is_before_end, first_at, first_late, is_late, is_noted, is_late_at, is_late_within, is_late_at_any, is_late_within_any}
+use Rattle.vl_conflict.specs.Recent.{is_above, is_before, is_before_end, IsStart, IsEnd, first_at, first_late, is_late, is_late_at, is_late_within, is_late_at_any, is_late_within_any}
 use Rattle.vl_conflict.specs.RecentLaws.{as_T}
 use Rattle.vl_conflict.proofs.NamedEntries.{T_parts, lt-is}
 use Rattle.vl_conflict.proofs.Parted.{first_failing, slice_get-item, slice_get-prefix_len}
@@ -164,8 +163,7 @@ not_behind span e = by_tests (is_from span.lo e.0) (is_up_to span.hi span.closed
 
 abbrev pub AreBounds : List Named → Span → ℕ → ℕ → Type 0
 AreBounds list span from to =
-    IsPartitionPoint (λ e. is_before span e ≡ true) (λ e. is_before span e ≡ false) list from
-    × IsPartitionPoint (λ e. is_before_end span e ≡ true) (λ e. is_before_end span e ≡ false) list to
+    IsStart span list from × IsEnd span list to
 
 -- up to here no entry of the interval has a number above this one
 abbrev pub NoneLate : List Named → ℕ → ℕ → ℕ → Type 0

@@ -1,16 +1,18 @@
 -- What is kept of the commits above a floor, and which of it conflicts with reads.
-use Rattle.std.specs.Prelude.{◌≡◌, ℕ, ◌+◌, ◌-◌, Bool, true, not, ◌&&◌, ◌||◌, nat_lt, if◌then◌else◌, List, [], ◌∷◌, Option, Some, None}
+use Rattle.std.specs.Prelude.{◌≡◌, ◌≤◌, ℕ, ◌+◌, Bool, true, false, not, ◌&&◌, ◌||◌, nat_lt, if◌then◌else◌, List, [], ◌∷◌, Option, Some, None}
 use Rattle.std.specs.FinMap.{find, put, is_sorted}
 use Rattle.std.specs.List.{filter, list_any}
+use Rattle.std.specs.List.Sorted.{IsPartitionPoint}
 use Rattle.std.specs.Ordering.{eq_by_cmp, is_gt}
 use Rattle.vl_model.specs.Keys.{key_cmp}
 use Rattle.vl_model.specs.History.{History, last_naming}
 use Rattle.vl_model.specs.Reads.{Read, is_in_span, is_read, is_from, is_up_to}
-use Rattle.vl_model.specs.Conflicts.{Named, first_of}
+use Rattle.vl_model.specs.Conflicts.{Named, first_of, first_conflict}
 use Rattle.vl_model.specs.declared.change.Change.{Change}
 use Rattle.vl_model.specs.declared.span.Span.{Span}
 
--- keys with the number of the last commit that names them, in rising order; and how many more may be noted without memory
+-- keys in rising order, each with the number of the last commit that names it; and how many more may be noted without
+-- memory
 pub record Kept : Type 0 where
   pub named : List Named
   pub room : ℕ
@@ -19,7 +21,8 @@ pub record Kept : Type 0 where
 
 -- whether a key is among those that were read, or lies in an interval that was
 abbrev pub is_noted : List (List ℕ) → List Span → List ℕ → Bool
-is_noted keys spans key = list_any (eq_by_cmp key_cmp key) keys || list_any (λ span. is_in_span span key) spans
+is_noted keys spans key =
+    list_any (eq_by_cmp key_cmp key) keys || list_any (λ span. is_in_span span key) spans
 
 -- the keys and the intervals are those of the reads: they cover the same keys
 abbrev pub AreNotesOf : List Read → List (List ℕ) → List Span → Type 0
@@ -43,7 +46,19 @@ since floor (Some number) = if nat_lt floor number then Some number else None
 -- From the floor on, this is what the history says: of each key the last commit above the floor that names it.
 pub record Remembers (floor : ℕ) (h : History) (named : List Named) : Type 0 where
   pub rising : is_sorted key_cmp named ≡ true
-  pub last : (key : List ℕ) → since floor (find key_cmp key named) ≡ since floor (last_naming (h.first + 1) h.commits key)
+  pub last : (key : List ℕ)
+      → since floor (find key_cmp key named) ≡ since floor (last_naming (h.first + 1) h.commits key)
+
+-- Whatever history is remembered, and whatever reads these are the notes of: what was found is their first conflict.
+abbrev pub IsFirstConflict : List Named → ℕ → List (List ℕ) → List Span → Option Named → Type 0
+IsFirstConflict named number keys spans found =
+    (h : History) (floor : ℕ) (reads : List Read) → Remembers floor h named → floor ≤ number
+    → AreNotesOf reads keys spans → found ≡ first_conflict h number reads
+
+-- whatever was remembered still is, from this floor on
+abbrev pub StillRemembers : ℕ → List Named → List Named → Type 0
+StillRemembers floor old new =
+    (h : History) (least : ℕ) → Remembers least h old → least ≤ floor → Remembers floor h new
 
 -- the keys of a commit noted, one after the other
 abbrev pub noted_all : ℕ → List (List ℕ × Change) → List Named → List Named
@@ -66,6 +81,13 @@ is_before span named = not (is_from span.lo named.0)
 
 abbrev pub is_before_end : Span → Named → Bool
 is_before_end span named = is_up_to span.hi span.closed named.0
+
+-- as many entries are below the interval, and as many aren't above its end
+abbrev pub IsStart : Span → List Named → ℕ → Type 0
+IsStart span = IsPartitionPoint (λ e. is_before span e ≡ true) (λ e. is_before span e ≡ false)
+
+abbrev pub IsEnd : Span → List Named → ℕ → Type 0
+IsEnd span = IsPartitionPoint (λ e. is_before_end span e ≡ true) (λ e. is_before_end span e ≡ false)
 
 -- how many entries stand before the first that passes
 abbrev pub first_at : (Named → Bool) → List Named → ℕ

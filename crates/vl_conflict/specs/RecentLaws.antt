@@ -1,5 +1,5 @@
 -- Laws of what is remembered: it stands for a history from a floor on, and finds just its conflicts.
-use Rattle.std.proofs.Common.{◌≡◌, ℕ, ◌+◌, ◌≤◌, ◌<◌, Bool, true, false, cond, ◌&&◌, List, [], ◌∷◌, ◌++◌, length, refl, ap, sym, ◌∙◌, arith, T, Option, Some, None, ltb}
+use Rattle.std.proofs.Common.{◌≡◌, ℕ, ◌+◌, ◌≤◌, Bool, true, false, cond, ◌&&◌, List, [], ◌∷◌, ◌++◌, length, refl, ap, sym, ◌∙◌, arith, T, Option, Some, None}
 use Rattle.std.proofs.lemmas.Bool.Decides.{nat_tests}
 use Rattle.std.specs.Prelude.{nat_lt}
 use Rattle.std.specs.Option.{option_map}
@@ -11,7 +11,7 @@ use Rattle.std.specs.Ordering.{eq_by_cmp, is_lt}
 use Rattle.vl_model.specs.Keys.{Writes, key_cmp}
 use Rattle.vl_model.specs.History.{History, last_number, with_commit, last_naming, newer}
 use Rattle.vl_model.specs.Reads.{Read, is_read}
-use Rattle.vl_model.specs.Conflicts.{Named, passing, is_overwritten, overwritten, first_of, first_conflict}
+use Rattle.vl_model.specs.Conflicts.{Named, passing, overwritten, first_of, first_conflict}
 use Rattle.vl_model.specs.ConflictLaws.{find-filter, find-overwritten, overwritten-rises}
 use Rattle.vl_model.specs.declared.change.Change.{Change}
 use Rattle.vl_model.specs.declared.span.Span.{Span}

@@ -19,5 +19,6 @@ pub fn commits_are_remembered()
 
 /// What stands for a history from a floor on does so from a higher floor on.
 pub fn floor_may_rise()
-    ensures { (floor higher : ℕ) (h : History) (named : List Named) → Remembers floor h named → floor ≤ higher → Remembers higher h named }
+    ensures { (floor higher : ℕ) (h : History) (named : List Named) → Remembers floor h named → floor ≤ higher
+        → Remembers higher h named }
 {}

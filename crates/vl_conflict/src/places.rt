@@ -1,12 +1,12 @@
 // Searches among entries in the order of their keys.
-ghost use Rattle.std.specs.Prelude.{◌≡◌, ◌≤◌, ◌<◌, ◌+◌, ℕ, true, false, length, not, vec_len};
+ghost use Rattle.std.specs.Prelude.{◌≡◌, ◌≤◌, ◌<◌, ◌+◌, true, length, vec_len};
 ghost use Rattle.std.specs.List.{prefix_len};
-ghost use Rattle.std.specs.List.Sorted.{IsPartitionPoint};
 ghost use Rattle.std.specs.Vec.{vec_capacity};
 ghost use Rattle.std.specs.FinMap as map;
 ghost use Rattle.vl_model.specs.Keys.{key_cmp};
 ghost use Rattle.vl_model.specs.Reads.{is_from, is_up_to};
-ghost use Rattle.vl_conflict.specs.Recent.{is_above, is_before, is_before_end, first_at, is_late_at, is_late_within, is_late_at_any, is_late_within_any};
+ghost use Rattle.vl_conflict.specs.Recent.{is_above, IsStart, IsEnd, first_at, is_late_at, is_late_within};
+ghost use Rattle.vl_conflict.specs.Recent.{is_late_at_any, is_late_within_any};
 
 use vl_model::{Key, Span};
 
@@ -99,7 +99,7 @@ fn first_within(entries: &[(Key, u64)], number: u64, span: &Span) -> usize
 // How many of the entries are below the interval.
 fn start(entries: &[(Key, u64)], span: &Span) -> usize
     requires { map.is_sorted key_cmp entries.now ≡ true }
-    ensures { IsPartitionPoint (λ e. is_before span.now e ≡ true) (λ e. is_before span.now e ≡ false) entries.now result }
+    ensures { IsStart span.now entries.now result }
 {
     entries.partition_point(|entry| !is_from(span, entry.0.as_slice()))
 }
@@ -107,7 +107,7 @@ fn start(entries: &[(Key, u64)], span: &Span) -> usize
 // How many of the entries are not above its end.
 fn end(entries: &[(Key, u64)], span: &Span) -> usize
     requires { map.is_sorted key_cmp entries.now ≡ true }
-    ensures point { IsPartitionPoint (λ e. is_before_end span.now e ≡ true) (λ e. is_before_end span.now e ≡ false) entries.now result }
+    ensures point { IsEnd span.now entries.now result }
     ensures within { result ≤ length entries.now }
 {
     entries.partition_point(|entry| is_up_to(span, entry.0.as_slice()))

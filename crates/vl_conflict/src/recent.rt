@@ -1,11 +1,8 @@
-ghost use Rattle.std.specs.Prelude.{◌≡◌, ◌≤◌, ◌+◌, ◌-◌, ℕ, List, [], OnOk, OnErr, IfOk};
+ghost use Rattle.std.specs.Prelude.{◌≡◌, ◌≤◌, ◌+◌, [], OnOk, OnErr, IfOk};
 ghost use Rattle.std.specs.List.{filter};
 ghost use Rattle.std.specs.FinMap.{put};
 ghost use Rattle.vl_model.specs.Keys.{key_cmp};
-ghost use Rattle.vl_model.specs.History.{History};
-ghost use Rattle.vl_model.specs.Reads.{Read};
-ghost use Rattle.vl_model.specs.Conflicts.{first_conflict};
-ghost use Rattle.vl_conflict.specs.Recent.{Kept, first_late, is_above_floor, AreNotesOf, Remembers};
+ghost use Rattle.vl_conflict.specs.Recent.{first_late, IsFirstConflict, is_above_floor, StillRemembers};
 
 use crate::places::{first_of_keys, first_of_spans, put};
 use std::alloc::{AllocError, Global};
@@ -41,8 +38,8 @@ impl Recent {
         }
     }
 
-    /// The least of the keys that were read, or lie in an interval that was, that a commit above the number named, with the
-    /// last that did.
+    /// Of the keys that were read, or lie in an interval that was, the least that a commit above the number named, with
+    /// the last that did.
     pub fn check(
         &self,
         number: u64,
@@ -50,8 +47,7 @@ impl Recent {
         spans: &[Span],
     ) -> Result<Option<(Key, u64)>, AllocError>
         ensures first { IfOk result (λ found. found ≡ first_late number keys.now spans.now self.now.named) }
-        ensures conflict { (h : History) (floor : ℕ) (reads : List Read) → Remembers floor h self.now.named
-            → floor ≤ number → AreNotesOf reads keys.now spans.now → IfOk result (λ found. found ≡ first_conflict h number reads) }
+        ensures conflict { IfOk result (IsFirstConflict self.now.named number keys.now spans.now) }
     {
         let of_keys = first_of_keys(&self.entries, number, keys);
         let of_spans = first_of_spans(&self.entries, number, spans);
@@ -82,7 +78,7 @@ impl Recent {
     /// Forgets what no one can ask whose number is at or above the floor.
     pub fn prune(&mut self, floor: u64)
         ensures named { self.new.named ≡ filter (is_above_floor floor) self.old.named }
-        ensures remembers { (h : History) (least : ℕ) → Remembers least h self.old.named → least ≤ floor → Remembers floor h self.new.named }
+        ensures remembers { StillRemembers floor self.old.named self.new.named }
         ensures room { self.old.room ≤ self.new.room }
     {
         self.entries.retain(|entry| entry.1 > floor);

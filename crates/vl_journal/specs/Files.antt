@@ -52,7 +52,8 @@ pub record Holds (commits : List Commit) (disk : DiskState) : Type 0 where
   pub files_are : HasFiles (Some (settled first_manifest)) (Some (settled (log_bytes NUMBER commits))) disk
 
 -- the frame is that of the commit behind these, in the store's log
-pub record IsNextFrame (log : ActiveLog) (frame : List ℕ) (commits : List Commit) (c : Commit) : Type 0 where
+pub record IsNextFrame (log : ActiveLog) (frame : List ℕ)
+    (commits : List Commit) (c : Commit) : Type 0 where
   pub number : log.number ≡ NUMBER
   pub has_frame : HasFrame c
   pub spelled : frame ≡ commit_frame NUMBER (length (log_bytes NUMBER commits)) c

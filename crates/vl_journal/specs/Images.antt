@@ -13,7 +13,8 @@ use Rattle.vl_journal.specs.Files.{first_manifest}
 -- the log's bytes, where there is a log, read as these commits; its header is whole where there is a commit
 abbrev pub LogShows : Option (List ℕ) → List Commit → Type 0
 LogShows None commits = commits ≡ []
-LogShows (Some bytes) commits = ReadsLog NUMBER bytes commits × (commits ≢ [] → take 16 bytes ≡ log_header NUMBER)
+LogShows (Some bytes) commits =
+    ReadsLog NUMBER bytes commits × (commits ≢ [] → take 16 bytes ≡ log_header NUMBER)
 
 -- The image shows these commits: its log reads as them, its manifest is whole where there is a log, and nothing else stands.
 pub record ImageShows (image : Image) (commits : List Commit) : Type 0 where
@@ -23,7 +24,9 @@ pub record ImageShows (image : Image) (commits : List Commit) : Type 0 where
 
 -- The frames that are looked for when a crash has left torn bytes: those of commits, in logs. Manifests aren't read yet.
 abbrev pub SpellsCommit : Name → List ℕ → ℕ → List ℕ → Type 0
-SpellsCommit (Log file) bytes at frame = (c : Commit) × (rest : List ℕ) × StandsAt file at (drop at bytes) c rest × (frame ≡ commit_frame file at c)
+SpellsCommit (Log file) bytes at frame =
+    (c : Commit) × (rest : List ℕ) × StandsAt file at (drop at bytes) c rest
+    × (frame ≡ commit_frame file at c)
 SpellsCommit (Table number) bytes at frame = ⊥
 SpellsCommit (Manifest number) bytes at frame = ⊥
 

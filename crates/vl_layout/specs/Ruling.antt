@@ -20,12 +20,12 @@ pub record Ruling (A : Type 0) : Type 0 where
   pub answer : A
   pub history : History
   pub layout : Layout
-  -- how many calls change the disk
+  -- how many calls change files
   pub calls : ℕ
   -- the files that are removed
   pub gone : List FileName
 
--- an answer that needs no call of the disk, over a layout that is left
+-- an answer that changes no file, over a layout that is left
 abbrev pub leaving : {A : Type 0} → A → History → Layout → Ruling A
 leaving answer h l = record { answer = answer; history = h; layout = l; calls = 0; gone = [] }
 
@@ -38,7 +38,7 @@ pub data StepAnswer : Type 0 where
 
 -- ---- changes
 
--- a call of the disk failed at this file
+-- a call failed at this file
 abbrev pub halted_at : FileName → Layout → Layout
 halted_at name l = record l { halted = Some name }
 

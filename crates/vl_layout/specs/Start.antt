@@ -39,7 +39,7 @@ layout_at_start room found = record {
 abbrev pub no_tables : List (List Table)
 no_tables = [] ∷ [] ∷ [] ∷ [] ∷ [] ∷ [] ∷ [] ∷ []
 
--- of a disk that was empty
+-- of a new store
 abbrev pub fresh_layout : ℕ → Layout
 fresh_layout room = layout_at_start room (record {
   active = new_segment 1 [];

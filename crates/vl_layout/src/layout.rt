@@ -28,6 +28,6 @@ pub struct Layout {
     pub pass: Option<OpenPass>,
     /// Retired files that weren't removed, the earliest retired first.
     pub retired: LinkedList<Retired>,
-    /// The file at which a call of the disk failed, after which nothing is changed any more.
+    /// The file at which a call failed, after which nothing is changed any more.
     pub halted: Option<FileName>,
 }

@@ -12,7 +12,7 @@ pub record History : Type 0 where
   pub base : Pairs
   pub commits : List Writes
 
--- the history of an empty disk
+-- the history of a new store
 abbrev pub no_history : History
 no_history = record { first = 0; base = empty; commits = [] }
 

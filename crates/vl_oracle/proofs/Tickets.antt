@@ -1,7 +1,7 @@
 -- What a begin, an end and a new last number do to the tickets, to the counts and to the floor.
-use Rattle.std.proofs.Common.{◌≡◌, ℕ, suc, ◌+◌, ◌^◌, ◌<◌, ◌≤◌, ◌==◌, Bool, true, false, cond, ◌&&◌, not, List, [], ◌∷◌, length, refl, ap, sym, ◌∙◌, subst, arith, T, min, Option, Some, None, IsTrue, IsSome, is_some, unwrap_or}
+use Rattle.std.proofs.Common.{◌≡◌, ℕ, ◌+◌, ◌^◌, ◌<◌, ◌≤◌, ◌==◌, Bool, true, false, cond, not, List, [], ◌∷◌, length, refl, ap, sym, ◌∙◌, subst, arith, T, min, Option, Some, None, IsSome, is_some, unwrap_or}
 use Rattle.std.proofs.lemmas.Bool.Decides.{nat_tests}
-use Rattle.std.specs.List.{AllByRecursion, filter}
+use Rattle.std.specs.List.{filter}
 use Rattle.std.specs.Map.{remove_entry, lookup}
 use Rattle.std.specs.BTreeMap.{insert_entry, is_at}
 use Rattle.std.specs.FinMap.{put, find, is_sorted}
@@ -9,7 +9,7 @@ use Rattle.std.specs.FinMap.Entries.{below_all, by_order, is_sorted-put, is_sort
 use Rattle.std.specs.Cmp.{nat_cmp_total}
 use Rattle.std.specs.declared.cmp.Ordering.{Ordering}
 use Rattle.std.specs.declared.cmp.Ordering.TheVariants.{Less, Equal, Greater}
-use Rattle.std.specs.Ordering.{nat_cmp, eq_by_cmp, is_eq, is_lt}
+use Rattle.std.specs.Ordering.{nat_cmp, eq_by_cmp, is_eq}
 use Rattle.vl_model.specs.Limits.{max_live}
 use Rattle.vl_oracle.specs.Live.{Live, Ticket, AreLive, free_from, free_ticket, least_number, floor_of, begun, ended, advanced}
 use Rattle.vl_oracle.specs.Counts.{uses, counted, with_count, IsLeastKey, IsKept}

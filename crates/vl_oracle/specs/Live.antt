@@ -1,5 +1,5 @@
 -- The live transactions and views, which tickets are free, and the floor.
-use Rattle.std.specs.Prelude.{◌≡◌, ◌≤◌, ◌<◌, ◌==◌, ◌+◌, ℕ, not, min, if◌then◌else◌, List, [], ◌∷◌, Option, Some, None, unwrap_or, IsTrue}
+use Rattle.std.specs.Prelude.{◌≤◌, ◌==◌, ◌+◌, ℕ, not, min, if◌then◌else◌, List, [], ◌∷◌, Option, Some, None, unwrap_or, IsTrue}
 use Rattle.std.specs.Option.{option_map}
 use Rattle.std.specs.List.{AllByRecursion, filter}
 use Rattle.std.specs.FinMap.{put, is_sorted}
@@ -29,7 +29,8 @@ begun live = record live { tickets = put nat_cmp (free_ticket live) live.last li
 
 -- without the one that has the ticket
 abbrev pub ended : ℕ → Live → Live
-ended ticket live = record live { tickets = filter (λ other. not (eq_by_cmp nat_cmp ticket other.0)) live.tickets }
+ended ticket live =
+    record live { tickets = filter (λ other. not (eq_by_cmp nat_cmp ticket other.0)) live.tickets }
 
 abbrev pub advanced : ℕ → Live → Live
 advanced last live = record live { last = last }

@@ -6,12 +6,14 @@ ghost use Rattle.vl_oracle.specs.Live.{Live, Ticket, AreLive, free_ticket, floor
 
 /// None has the free ticket, and each lesser one is taken.
 pub fn free_ticket_is_the_least()
-    ensures free { (live : Live) → IsTrue (is_sorted nat_cmp live.tickets) → find nat_cmp (free_ticket live) live.tickets ≡ None }
+    ensures free { (live : Live) → IsTrue (is_sorted nat_cmp live.tickets)
+        → find nat_cmp (free_ticket live) live.tickets ≡ None }
     ensures below { (live : Live) (ticket : ℕ) → ticket < free_ticket live → IsSome (find nat_cmp ticket live.tickets) }
 {}
 
 /// Nothing that is live reads below the floor, and the floor isn't above the last number.
 pub fn floor_is_the_least()
-    ensures live { (live : Live) (ticket number : ℕ) → find nat_cmp ticket live.tickets ≡ Some number → floor_of live ≤ number }
+    ensures live { (live : Live) (ticket number : ℕ) → find nat_cmp ticket live.tickets ≡ Some number
+        → floor_of live ≤ number }
     ensures last { (live : Live) → AreLive live → floor_of live ≤ live.last }
 {}

@@ -42,7 +42,8 @@ abbrev pub Tells : {D : Type 0} → Ghosts D → D → (DiskState → Type 0) �
 Tells g disk P = (state : DiskState) × (g.told disk ≡ Some state) × P state
 
 -- the disk holds the state, and was asked for the changing calls that the state counts
-pub record HoldsState {D : Type 0} (g : Ghosts D) (holds : Holding) (s : State) (disk : D) : Type 0 where
+pub record HoldsState {D : Type 0} (g : Ghosts D) (holds : Holding)
+    (s : State) (disk : D) : Type 0 where
   pub calls : g.calls disk ≡ s.calls
   pub there : Tells g disk (holds s)
 
@@ -58,7 +59,8 @@ GoesFrom g shows old new least most =
     HoldsThroughout g old new (Leaves (ShowsBetween shows least most))
 
 -- A line, or a text, was carried out over a disk that holds the state before it.
-pub record CarriesOut {D T : Type 0} (g : Ghosts D) (holds : Holding) (shows : Showing) (old new : D) (before after : State) (result : Result T Halt) : Type 0 where
+pub record CarriesOut {D T : Type 0} (g : Ghosts D) (holds : Holding) (shows : Showing)
+    (old new : D) (before after : State) (result : Result T Halt) : Type 0 where
   -- after an answer the disk holds the state after it
   pub answered : OnOk result (HoldsState g holds after new)
   -- where memory ran out it holds no commit more
@@ -68,9 +70,9 @@ pub record CarriesOut {D T : Type 0} (g : Ghosts D) (holds : Holding) (shows : S
   pub through : GoesFrom g shows old new before.history after.history
 
 -- The disk went, from one that held the commits of a state, through one for each of these lines, in order: that of a line
--- held the commits up to it and nothing else, after just the changing calls of these lines. What a crash leaves at a moment between that of the line before and it shows
--- the commits before the line or those after it, and what one leaves from it on, until the run's end, shows at least the
--- latter. When the line was answered isn't said.
+-- held the commits up to it and nothing else, after just the changing calls of these lines. What a crash leaves at a moment
+-- between that of the line before and it shows the commits before the line or those after it, and what one leaves from it
+-- on, until the run's end, shows at least the latter. When the line was answered isn't said.
 abbrev pub GoesAlong : {D : Type 0} → Ghosts D → Holding → Showing → (new : D) (most : State) → D
     → State → List Exchange → Type 0
 GoesAlong g holds shows new most disk s [] = Unit {0}
@@ -82,7 +84,8 @@ GoesAlong {D} g holds shows new most disk s (e ∷ later) =
 
 -- What a run that came so far did to its disk. The commits of the answered lines are the acknowledged ones. `unopened` says
 -- what the disk is where the store wasn't opened.
-pub record DiskEnds {D : Type 0} (g : Ghosts D) (holds : Holding) (shows : Showing) (unopened : Type 0) (old new : D) (run : Course) : Type 0 where
+pub record DiskEnds {D : Type 0} (g : Ghosts D) (holds : Holding) (shows : Showing)
+    (unopened : Type 0) (old new : D) (run : Course) : Type 0 where
   -- what a crash at any moment since the begin leaves shows a first part of the commits
   pub through : GoesFrom g shows old new run.first.history run.most.history
   -- and the disk went through one for each answered line, from which on a crash leaves its commit too

@@ -72,7 +72,8 @@ Puts cause script left m culprit AnswerFront piece =
     (e : Exchange) × (slice_get (exchanges script) m ≡ Some e) × IsFront piece (text_of e.answer)
 
 -- How a run ended that answered m lines, and what it printed. A line counts as answered where its whole answer was put.
-pub record EndsSo (cause : Culprit → Type 0) (script : Script) (left : Option (List ℕ)) (m : ℕ) (ending : Ending) (printed : List ℕ) : Type 0 where
+pub record EndsSo (cause : Culprit → Type 0) (script : Script) (left : Option (List ℕ)) (m : ℕ)
+    (ending : Ending) (printed : List ℕ) : Type 0 where
   pub within : m ≤ length (exchanges script)
   pub piece : List ℕ
   pub puts : Puts cause script left m (culprit_of ending) (end_of ending).last piece
@@ -120,7 +121,8 @@ CausesOf g old new by_files =
     Causes (Rose old.source_faults new.source_faults) (Rose (g.faults old.disk) (g.faults new.disk)) by_files
 
 -- A run ended so. `disk_ends` says what it did to its disk, by how far it came.
-pub record EndsRun {D : Type 0} (g : Ghosts D) (by_files : Type 0) (disk_ends : Course → Type 0) (script : Script) (old new : Outside D) (ending : Ending) : Type 0 where
+pub record EndsRun {D : Type 0} (g : Ghosts D) (by_files : Type 0) (disk_ends : Course → Type 0)
+    (script : Script) (old new : Outside D) (ending : Ending) : Type 0 where
   -- how many lines were answered, and what was printed
   pub answered : ℕ
   pub printed : List ℕ

@@ -20,7 +20,8 @@ use Rattle.vl_replay.specs.declared.ending.Ending.{Ending}
 use Rattle.vl_replay.specs.declared.ending.Ending.TheVariants.{WriteFault}
 
 -- the last line was printed whole, or the sink failed behind some first bytes of it and counted that
-pub record Finishes {K : Type 0} (g : sink.Ghosts K) (old new : K) (line : List ℕ) (ending result : Ending) : Type 0 where
+pub record Finishes {K : Type 0} (g : sink.Ghosts K) (old new : K) (line : List ℕ)
+    (ending result : Ending) : Type 0 where
   pub printed : List ℕ
   pub taken : Takes (g.held old) (g.held new) printed
   pub later : g.faults old ≤ g.faults new
@@ -49,7 +50,8 @@ abbrev pub IsNext : Script → List ℕ → Type 0
 IsNext script text = (texts : List (List ℕ)) × (lines_of script.bytes ≡ text ∷ texts)
 
 -- the run printed something and ended, before the next line was answered whole
-pub record EndsBefore (cause : Culprit → Type 0) (script : Script) (left : Option (List ℕ)) (ending : Ending) (held held' : Option (List ℕ)) : Type 0 where
+pub record EndsBefore (cause : Culprit → Type 0) (script : Script) (left : Option (List ℕ))
+    (ending : Ending) (held held' : Option (List ℕ)) : Type 0 where
   pub printed : List ℕ
   pub taken : Takes held held' printed
   pub ends : EndsSo cause script left 0 ending printed
@@ -72,7 +74,8 @@ StepsOn failed script text after (Some ending) held held' =
     (left : Option (List ℕ)) → EndsBefore (Causes ⊥ failed ⊥) script left ending held held'
 
 -- the disk holds the state after a line, and a crash meanwhile left what was before it or after it
-pub record MovesOn {D : Type 0} (g : Ghosts D) (holds : Holding) (shows : Showing) (old new : D) (before after : State) : Type 0 where
+pub record MovesOn {D : Type 0} (g : Ghosts D) (holds : Holding) (shows : Showing)
+    (old new : D) (before after : State) : Type 0 where
   pub held : HoldsState g holds after new
   pub through : GoesFrom g shows old new before.history after.history
 
@@ -85,7 +88,8 @@ DiskSteps g holds shows old new before after (Some ending) =
 
 -- The next line was answered and printed, and a run over the others goes on from here; when the source was last asked no
 -- answer was owed.
-pub record GoesOn {D : Type 0} (g : Ghosts D) (holds : Holding) (shows : Showing) (script : Script) (old new : Outside D) (store : Store) (buffer : List ℕ) : Type 0 where
+pub record GoesOn {D : Type 0} (g : Ghosts D) (holds : Holding) (shows : Showing) (script : Script)
+    (old new : Outside D) (store : Store) (buffer : List ℕ) : Type 0 where
   pub exchange : Exchange
   pub text : List ℕ
   pub rest : List ℕ

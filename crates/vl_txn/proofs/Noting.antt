@@ -7,12 +7,11 @@ use Rattle.std.specs.FinMap.{get}
 use Rattle.std.specs.List.{list_any}
 use Rattle.std.specs.Ordering.{eq_by_cmp}
 use Rattle.vl_model.specs.Keys.{Stored, Row, Writes, key_cmp}
-use Rattle.vl_model.specs.Reads.{Read, KeyRead, RangeRead, Scan, bound, covered, covered_to, last_key, is_in_span, is_read, is_read_by}
+use Rattle.vl_model.specs.Reads.{Read, KeyRead, RangeRead, Scan, covered, covered_to, last_key, is_in_span, is_read_by}
 use Rattle.vl_model.specs.declared.change.Change.{Change}
-use Rattle.vl_model.specs.declared.span.Span.{Span}
 use Rattle.vl_model.specs.declared.way.Way.{Way}
 use Rattle.vl_model.specs.declared.way.Way.TheVariants.{Up, Down}
-use Rattle.vl_txn.specs.Reads.{Notes, with_key, with_span, after_get, scan_of, is_noted, AreNotesOf, with_get, with_scan, NotesGet, NotesScan, AddsSpan, covered_up_to}
+use Rattle.vl_txn.specs.Reads.{Notes, with_key, after_get, scan_of, is_noted, AreNotesOf, NotesGet, NotesScan, AddsSpan, covered_up_to}
 
 any-append : {X : Type 0} (test : X → Bool) (xs : List X) (y : X) → list_any test (xs ++ (y ∷ [])) ≡ (list_any test xs || test y)
 any-append test [] y = or_false (test y)

@@ -29,11 +29,13 @@ after_get own key notes = if is_some (get own key) then notes else with_key note
 
 -- a scan with these bounds, of these rows
 abbrev pub scan_of : List ℕ → List ℕ → ℕ → Way → List Row → Writes → Scan
-scan_of low high limit way rows own = record { low = low; high = high; limit = limit; way = way; own = own; rows = rows }
+scan_of low high limit way rows own =
+    record { low = low; high = high; limit = limit; way = way; own = own; rows = rows }
 
 -- whether a key was read, or lies in an interval that was scanned
 abbrev pub is_noted : List (List ℕ) → List Span → List ℕ → Bool
-is_noted keys spans key = list_any (eq_by_cmp key_cmp key) keys || list_any (λ span. is_in_span span key) spans
+is_noted keys spans key =
+    list_any (eq_by_cmp key_cmp key) keys || list_any (λ span. is_in_span span key) spans
 
 -- the notes are those of the reads: they cover the same keys
 abbrev pub AreNotesOf : List Read → Notes → Type 0
@@ -48,11 +50,13 @@ with_scan reads scan = reads ++ RangeRead scan ∷ []
 
 -- whatever the notes are of, after a get they are of that too
 abbrev pub NotesGet : Writes → List ℕ → Notes → Notes → Type 0
-NotesGet own key old new = (reads : List Read) (answer : Option Stored) → AreNotesOf reads old → AreNotesOf (with_get own reads key answer) new
+NotesGet own key old new =
+    (reads : List Read) (answer : Option Stored) → AreNotesOf reads old → AreNotesOf (with_get own reads key answer) new
 
 -- and after a scan of that
 abbrev pub NotesScan : (Writes → Scan) → Notes → Notes → Type 0
-NotesScan scan old new = (reads : List Read) (own : Writes) → AreNotesOf reads old → AreNotesOf (with_scan reads (scan own)) new
+NotesScan scan old new =
+    (reads : List Read) (own : Writes) → AreNotesOf reads old → AreNotesOf (with_scan reads (scan own)) new
 
 -- the notes with what a scan covers, whatever its own writes
 abbrev pub AddsSpan : (Writes → Scan) → Notes → Notes → Type 0

@@ -27,7 +27,8 @@ write_bytes writes = sum_by (λ write. length write.0 + length (value_bytes writ
 
 -- whether one transaction may have these writes
 abbrev pub fits_transaction : Writes → Bool
-fits_transaction writes = nat_le (len writes) max_transaction_keys && nat_le (write_bytes writes) max_transaction_bytes
+fits_transaction writes =
+    nat_le (len writes) max_transaction_keys && nat_le (write_bytes writes) max_transaction_bytes
 
 -- A write beside these ones, in the place of an earlier one of its key: the first limit that it would pass.
 abbrev pub refused_write : Writes → List ℕ → Change → Option SetFail
@@ -47,10 +48,13 @@ IsWritten old key change new (Err why) = (refused_write old key change ≡ Some 
 -- the keys and the bytes that there are with a write of a value of this length
 abbrev pub HasSizes : Writes → List ℕ → ℕ → ℕ × ℕ → Type 0
 HasSizes writes key value_length sizes =
-    (change : Change) → length (value_bytes change) ≡ value_length → (sizes.0 ≡ len (insert writes key change)) × (sizes.1 ≡ write_bytes (insert writes key change))
+    (change : Change) → length (value_bytes change) ≡ value_length
+    → (sizes.0 ≡ len (insert writes key change)) × (sizes.1 ≡ write_bytes (insert writes key change))
 
 -- whether a write of a value of this length is refused, and the bytes that there are with it where it isn't
 abbrev pub IsAllowed : Writes → List ℕ → ℕ → Result ℕ SetFail → Type 0
 IsAllowed writes key value_length (Ok bytes) =
-    (change : Change) → length (value_bytes change) ≡ value_length → (refused_write writes key change ≡ None) × (bytes ≡ write_bytes (insert writes key change))
-IsAllowed writes key value_length (Err why) = (change : Change) → length (value_bytes change) ≡ value_length → refused_write writes key change ≡ Some why
+    (change : Change) → length (value_bytes change) ≡ value_length
+    → (refused_write writes key change ≡ None) × (bytes ≡ write_bytes (insert writes key change))
+IsAllowed writes key value_length (Err why) =
+    (change : Change) → length (value_bytes change) ≡ value_length → refused_write writes key change ≡ Some why

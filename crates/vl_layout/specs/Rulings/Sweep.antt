@@ -1,5 +1,5 @@
 -- Retired files that no pin holds are removed.
-use Rattle.std.specs.Prelude.{ℕ, Bool, not, nat_lt, ◌==◌, List, [], ◌∷◌, ◌++◌, map, length, Option, Some, None, false}
+use Rattle.std.specs.Prelude.{ℕ, Bool, not, nat_lt, ◌==◌, List, [], ◌∷◌, ◌++◌, map, length, take, Option, Some, None, false}
 use Rattle.std.specs.List.{filter, list_any}
 use Rattle.vl_model.specs.History.{History}
 use Rattle.vl_layout.specs.Ruling.{Ruling, leaving}
@@ -53,9 +53,9 @@ abbrev pub without_files : List FileName → Layout → Layout
 without_files gone l =
     record l { retired = filter (λ (r : Retired). not (list_any (is_same r.file) gone)) l.retired }
 
--- what is left where a removal fails after these files have gone, but for the halt
-abbrev pub sweep_lost : Layout → List FileName → Layout
-sweep_lost l gone = without_files gone l
+-- what is left where a removal fails after so many of the files have gone, but for the halt
+abbrev pub sweep_lost : Layout → ℕ → Layout
+sweep_lost l count = without_files (take count (swept l)) l
 
 abbrev pub sweep_unless : Option FileName → Layout → History → Ruling SweepAnswer
 sweep_unless (Some name) l h = leaving (Halted name) h l

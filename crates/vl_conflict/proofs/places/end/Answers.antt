@@ -1,9 +1,9 @@
-use Rattle.std.proofs.Common.{rules, ℕ, List}
+use Rattle.std.proofs.Common.{rules}
 use Rattle.std.proofs.lemmas.List.Sorted.{IsPartitionPoint-from_clause}
 use Rattle.vl_model.specs.Conflicts.{Named}
-use Rattle.vl_conflict.specs.Recent.{is_above, is_before, is_before_end}
-use Rattle.vl_conflict.proofs.Parted.{partitioned, prefix_len-point}
-use Rattle.vl_conflict.proofs.NamedEntries.{is_parted, above_falls, before_falls, before_end_falls}
+use Rattle.vl_conflict.specs.Recent.{is_before_end}
+use Rattle.vl_conflict.proofs.Parted.{partitioned}
+use Rattle.vl_conflict.proofs.NamedEntries.{is_parted, before_end_falls}
 use Rattle.vl_conflict.proofs.places.end.Goals as goal
 
 pub returns-clause-point : goal.returns-clause-point

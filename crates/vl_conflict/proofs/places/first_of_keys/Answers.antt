@@ -1,4 +1,4 @@
-use Rattle.std.proofs.Common.{◌≡◌, ◌+◌, ℕ, List, ◌∷◌, min, drop, length, sym, ap, ◌∙◌, arith}
+use Rattle.std.proofs.Common.{◌+◌, ℕ, List, min, drop, sym, ap, ◌∙◌, arith}
 use Rattle.std.proofs.lemmas.List.{at_drop_all}
 use Rattle.vl_conflict.specs.Recent.{first_at, is_late_at, is_late_at_any}
 use Rattle.vl_conflict.proofs.Firsts.{at_first, at_last, drop_next, key_further}

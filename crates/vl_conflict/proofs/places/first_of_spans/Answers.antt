@@ -1,7 +1,7 @@
-use Rattle.std.proofs.Common.{◌≡◌, ◌+◌, ℕ, List, ◌∷◌, min, drop, length, sym, ap, ◌∙◌, arith}
+use Rattle.std.proofs.Common.{◌+◌, List, min, drop, sym, ap, ◌∙◌, arith}
 use Rattle.std.proofs.lemmas.List.{at_drop_all}
 use Rattle.vl_model.specs.declared.span.Span.{Span}
-use Rattle.vl_conflict.specs.Recent.{first_at, is_late_within, is_late_within_any}
+use Rattle.vl_conflict.specs.Recent.{first_at, is_late_within_any}
 use Rattle.vl_conflict.proofs.Firsts.{at_first, at_last, drop_next, span_further}
 use Rattle.vl_conflict.proofs.places.first_of_spans.Goals as goal
 

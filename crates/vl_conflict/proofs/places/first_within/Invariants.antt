@@ -1,4 +1,3 @@
-use Rattle.std.proofs.Common.{◌≤◌}
 use Rattle.vl_conflict.proofs.Firsts.{NoneLate}
 use Rattle.vl_conflict.proofs.places.first_within.Given as goal
 

@@ -1,4 +1,4 @@
-use Rattle.std.proofs.Common.{◌≡◌, List, cond, true, false, sym, ap, ◌∙◌, ◌<◌, length, arith}
+use Rattle.std.proofs.Common.{◌≡◌, cond, true, false, sym, ap, ◌∙◌, ◌<◌, length, arith}
 use Rattle.std.proofs.lemmas.List.{get_or_default}
 use Rattle.std.specs.List.{insert, prefix_len}
 use Rattle.std.specs.Str.{bytes_eq}

@@ -1,5 +1,5 @@
 use Rattle.vl_oracle.proofs.Tickets.{free_from-next, length-next}
-use Rattle.std.proofs.Common.{◌≡◌, sym, ◌∙◌}
+use Rattle.std.proofs.Common.{◌≡◌, ◌∙◌}
 use Rattle.vl_oracle.proofs.oracle.free_ticket.Goals as goal
 
 pub loop-held-preserved : goal.loop-held-preserved

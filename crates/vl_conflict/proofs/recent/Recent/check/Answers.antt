@@ -1,4 +1,4 @@
-use Rattle.std.proofs.Common.{◌≡◌, ℕ, List, Option, Some, None, sym, ap, ◌∙◌}
+use Rattle.std.proofs.Common.{ℕ, List, Some, sym, ap, ◌∙◌}
 use Rattle.std.specs.Option.{option_copied}
 use Rattle.vl_model.specs.Conflicts.{Named}
 use Rattle.vl_conflict.specs.Recent.{Kept, first_at, first_late, is_late_at_any, is_late_within_any}

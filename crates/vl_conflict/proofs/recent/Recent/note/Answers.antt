@@ -1,4 +1,4 @@
-use Rattle.std.proofs.Common.{◌≡◌, true, sym, ap, ◌∙◌}
+use Rattle.std.proofs.Common.{ap, ◌∙◌}
 use Rattle.std.specs.FinMap.{is_sorted}
 use Rattle.vl_model.specs.Keys.{key_cmp}
 use Rattle.vl_conflict.proofs.NamedEntries.{put_rising}

@@ -1,4 +1,4 @@
-use Rattle.std.proofs.Common.{◌≡◌, ℕ, List, rules, true, sym, ap, ◌∙◌, subst}
+use Rattle.std.proofs.Common.{List, rules, sym, ap, ◌∙◌, subst}
 use Rattle.std.proofs.lemmas.Fn.{filter_same}
 use Rattle.std.specs.List.{filter}
 use Rattle.std.specs.FinMap.{is_sorted}

@@ -1,4 +1,4 @@
-use Rattle.std.proofs.Common.{◌≡◌, ◌≤◌, ◌<◌, ℕ, List, length, Option, ap, sym, ◌∙◌, subst, arith}
+use Rattle.std.proofs.Common.{◌≤◌, ◌<◌, List, length, ap, sym, ◌∙◌, subst, arith}
 use Rattle.std.specs.Ordering.{nat_cmp}
 use Rattle.std.specs.FinMap.{put}
 use Rattle.std.specs.BTreeMap.{get}
@@ -23,7 +23,7 @@ pub invariant_of-self-in-Err : goal.invariant_of-self-in-Err
 invariant_of-self-in-Err c =
     let live : Live = record { last = c.self.inside.last; tickets = c.self.inside.live.entries } in
     subst (λ (ts : List Ticket). IsKept (record { last = live.last; tickets = ts }) (get nat_cmp c.remove.new.numbers)) (sym c.in-Err.ensures.err)
-    (kept-undone live (get nat_cmp c.self.inside.numbers) c.self.invariant (get nat_cmp c.add.new.numbers) (get nat_cmp c.remove.new.numbers) c.in_ok-add.ensures.ok c.remove.ensures)
+    (kept-undone live (get nat_cmp c.self.inside.numbers) c.self.invariant (get nat_cmp c.add.new.numbers) (get nat_cmp c.remove.new.numbers) c.in_ok-add.ensures.ok (λ count n one. c.remove.ensures count one n))
 
 pub returns-in-Ok-clause-ok : goal.returns-in-Ok-clause-ok
 returns-in-Ok-clause-ok c =

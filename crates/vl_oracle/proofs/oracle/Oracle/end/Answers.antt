@@ -1,11 +1,11 @@
-use Rattle.std.proofs.Common.{◌≡◌, ◌≤◌, ℕ, List, Option, Some, None, ap, sym, ◌∙◌, subst}
-use Rattle.std.specs.FinMap.{find, is_sorted}
+use Rattle.std.proofs.Common.{◌≤◌, List, ap, sym, ◌∙◌, subst}
+use Rattle.std.specs.FinMap.{is_sorted}
 use Rattle.std.specs.Ordering.{nat_cmp}
 use Rattle.std.specs.BTreeMap.{get}
 use Rattle.vl_oracle.specs.Live.{Live, Ticket, ended, floor_of}
 use Rattle.vl_oracle.specs.Counts.{IsKept}
 use Rattle.vl_oracle.specs.LiveLaws.{as_T}
-use Rattle.vl_oracle.proofs.Tickets.{kept-ended, ended-none, floor-ended, remove_entry-without, without, lookup-find}
+use Rattle.vl_oracle.proofs.Tickets.{kept-ended, floor-ended, remove_entry-without, lookup-find}
 use Rattle.vl_oracle.proofs.oracle.Oracle.end.Goals as goal
 
 pub invariant_of-self : goal.invariant_of-self
@@ -15,7 +15,7 @@ invariant_of-self c =
     let left = c.remove.ensures.entries ∙ remove_entry-without c.args.ticket live.tickets (as_T (is_sorted nat_cmp live.tickets) kept.are.rising) in
     let found = lookup-find c.args.ticket live.tickets ∙ sym c.remove.ensures.value ∙ c.in-Some.is in
     subst (λ (ts : List Ticket). IsKept (record { last = live.last; tickets = ts }) (get nat_cmp c.remove-in-Some.new.numbers)) (sym left)
-    (kept-ended live (get nat_cmp c.self.inside.numbers) kept c.args.ticket c.in-Some.number (get nat_cmp c.remove-in-Some.new.numbers) found c.remove-in-Some.ensures)
+    (kept-ended live (get nat_cmp c.self.inside.numbers) kept c.args.ticket c.in-Some.number (get nat_cmp c.remove-in-Some.new.numbers) found (λ count n one. c.remove-in-Some.ensures count one n))
 
 pub returns-in-Some-clause-ended : goal.returns-in-Some-clause-ended
 returns-in-Some-clause-ended c =
@@ -29,7 +29,7 @@ returns-in-Some-clause-floor c =
     let kept = c.self.invariant in
     let left = c.remove.ensures.entries ∙ remove_entry-without c.args.ticket live.tickets (as_T (is_sorted nat_cmp live.tickets) kept.are.rising) in
     let found = lookup-find c.args.ticket live.tickets ∙ sym c.remove.ensures.value ∙ c.in-Some.is in
-    let after = kept-ended live (get nat_cmp c.self.inside.numbers) kept c.args.ticket c.in-Some.number (get nat_cmp c.remove-in-Some.new.numbers) found c.remove-in-Some.ensures in
+    let after = kept-ended live (get nat_cmp c.self.inside.numbers) kept c.args.ticket c.in-Some.number (get nat_cmp c.remove-in-Some.new.numbers) found (λ count n one. c.remove-in-Some.ensures count one n) in
     let floors = floor-ended c.args.ticket live kept.are after.are in
     subst (λ (ts : List Ticket). floor_of c.args.self.now ≤ floor_of (record { last = live.last; tickets = ts })) (sym left)
     (subst (λ (l : Live). floor_of l ≤ floor_of (ended c.args.ticket live)) c.self.view_is floors)

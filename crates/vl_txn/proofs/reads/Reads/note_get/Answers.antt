@@ -1,6 +1,5 @@
-use Rattle.std.proofs.Common.{◌≡◌, ℕ, List, Bool, cond, rules, refl, sym, ap, ◌∙◌, ◌++◌, ◌∷◌, []}
-use Rattle.std.specs.Prelude.{Option, is_some}
-use Rattle.vl_txn.specs.Reads.{Notes, with_key, after_get}
+use Rattle.std.proofs.Common.{◌≡◌, ℕ, List, cond, sym, ap, ◌∙◌, ◌++◌, ◌∷◌, []}
+use Rattle.vl_txn.specs.Reads.{Notes, with_key}
 use Rattle.vl_txn.proofs.Noting.{get_noted, written_alike}
 use Rattle.vl_txn.proofs.reads.Reads.note_get.Goals as goal
 

@@ -1,10 +1,9 @@
-use Rattle.std.proofs.Common.{◌≡◌, ℕ, ◌-◌, ◌<◌, ◌≤◌, List, cond, refl, sym, ap, ◌∙◌, ◌++◌, ◌∷◌, [], length, slice_get, arith, true, false}
-use Rattle.std.specs.Prelude.{Option, None, nat_le}
+use Rattle.std.proofs.Common.{◌≡◌, ◌-◌, List, cond, sym, ap, ◌∙◌, ◌++◌, ◌∷◌, [], length, slice_get}
+use Rattle.std.specs.Prelude.{None, nat_le}
 use Rattle.std.specs.Option.{option_copied}
-use Rattle.vl_model.specs.Keys.{Row}
 use Rattle.vl_model.specs.Reads.{covered}
 use Rattle.vl_model.specs.declared.span.Span.{Span}
-use Rattle.vl_txn.specs.Reads.{Notes, AddsSpan, with_span, scan_of, covered_up_to}
+use Rattle.vl_txn.specs.Reads.{Notes, with_span, scan_of}
 use Rattle.vl_txn.proofs.Noting.{span_noted, covered-scan, as_many, fewer}
 use Rattle.vl_txn.proofs.reads.Reads.note_scan.Goals as goal
 use Rattle.vl_txn.proofs.reads.Reads.note_scan.Goals.{then-rows-limit, else-rows-limit}

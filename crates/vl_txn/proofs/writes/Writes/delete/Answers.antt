@@ -1,4 +1,4 @@
-use Rattle.std.proofs.Common.{rules, refl}
+use Rattle.std.proofs.Common.{refl}
 use Rattle.std.proofs.lemmas.Result.{err_from_is_err_and}
 use Rattle.vl_model.specs.declared.change.Change.TheVariants.{Delete}
 use Rattle.vl_txn.proofs.Allowing.{refused_so}

@@ -1,5 +1,4 @@
 use Rattle.std.proofs.Common.{refl}
-use Rattle.vl_txn.specs.Writes.{IsLawful}
 use Rattle.vl_txn.proofs.Allowing.{allowed}
 use Rattle.vl_txn.proofs.WriteEntries.{AreWrites-put, writes_of-put}
 use Rattle.vl_txn.proofs.writes.Writes.insert.Goals as goal

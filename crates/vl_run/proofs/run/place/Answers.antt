@@ -1,0 +1,14 @@
+use Rattle.std.proofs.Common.{rules}
+use Rattle.std.proofs.lemmas.List.Sorted.{IsPartitionPoint-from_clause}
+use Rattle.vl_model.specs.declared.entry.Entry.{Entry}
+use Rattle.vl_run.specs.Lookup.{is_ahead, rising-parted}
+use Rattle.vl_run.specs.OrderLaws.{rising}
+use Rattle.vl_run.specs.Places.{parted_at, point-prefix}
+use Rattle.vl_run.proofs.run.place.Goals as goal
+
+pub returns : goal.returns
+returns c =
+    let test = λ (e : Entry). is_ahead c.args.key.now c.args.version e in
+    let entries = c.args.entries.now in
+    let point = IsPartitionPoint-from_clause test _ _ c.partition_point.ensures.partitioned (parted_at test entries (rising-parted c.args.key.now c.args.version entries (rising entries c.requires))) (λ a r q k. search rules) in
+    point-prefix test entries _ c.partition_point.ensures.bound point

@@ -1,0 +1,36 @@
+//! Entries in order that don't change, so that several may share them.
+//!
+//! With n entries a look-up costs a logarithm of n comparisons, and one entry of a cursor costs a fixed
+//! time. `over` costs a step for each entry of both runs. A run is shared, and an entry is handed on,
+//! without a copy of keys and values; only the list of entries is made anew by `over`.
+#![tactic(auto)]
+
+mod cursor;
+mod merged;
+mod run;
+
+pub use cursor::RunCursor;
+pub use run::Run;
+
+#[cfg(test)]
+mod tests {
+    use super::*;
+    use std::test::Fail;
+    use vl_model::{Body, Bytes, Cursor, Entry, Way};
+
+    #[test]
+    fn an_entry_is_found(rt: HostRuntime) -> Result<(), Fail> {
+        let mut entries = Vec::new(rt.alloc());
+        entries.push(Entry {
+            key: Bytes::copy_of(rt.alloc(), b"a")?,
+            version: 3,
+            body: Body::Gone,
+        })?;
+        let run = Run::from_writes(entries)?;
+        let found = run.find(b"a", 5).ok_or("none")?;
+        assert_eq!(rt; found.version, 3);
+        let mut cursor = run.cursor(Way::Down)?;
+        assert!(rt; cursor.next()?.is_some());
+        Ok(())
+    }
+}

@@ -1,0 +1,131 @@
+ghost use Rattle.std.specs.Prelude.{◌≡◌, ◌==◌, ◌++◌, length, Some, IfOk};
+ghost use Rattle.std.specs.List.{prefix_len};
+ghost use Rattle.std.specs.Option.{option_copied};
+ghost use Rattle.vl_model.specs.Entries.{in_order};
+ghost use Rattle.vl_model.specs.Winners.{winner, exact};
+ghost use Rattle.vl_run.specs.Order.{IsInOrder, along};
+ghost use Rattle.vl_run.specs.Lookup.{is_ahead};
+ghost use Rattle.vl_run.specs.Places.{first_failing};
+
+use crate::RunCursor;
+use crate::merged::merged;
+use std::alloc::{AllocError, Global};
+use std::marker::Model;
+use std::sync::ArcSlice;
+use vl_model::{Cursor, Entry, Way};
+
+/// Entries that don't change, in order, with no key and version twice. Several may share them.
+#[derive(Drop)]
+pub struct Run {
+    entries: ArcSlice<Entry>,
+}
+
+impl Model for Run {
+    ghost use Rattle.std.specs.Prelude.{List};
+    ghost use Rattle.std.specs.Arc.{arc_slice_items};
+    ghost use Rattle.vl_model.specs.declared.entry.Entry.{Entry};
+    ghost use Rattle.vl_run.specs.Order.{IsInOrder};
+
+    ghost Value = { List Entry };
+
+    ghost view = { λ a. arc_slice_items a.entries };
+
+    ghost invariant = { λ a. IsInOrder (arc_slice_items a.entries) };
+}
+
+impl Run {
+    /// The run of these entries.
+    pub fn from_writes(entries: Vec<Entry>) -> Result<Self, AllocError>
+        requires { IsInOrder entries.items }
+        ensures { IfOk result (λ run. run ≡ entries.items) }
+    {
+        Ok(Run {
+            entries: ArcSlice::from_vec(entries)?,
+        })
+    }
+
+    /// The same once more, without a copy of the entries. It may want memory.
+    pub fn share(&self) -> Result<Self, AllocError>
+        ensures { IfOk result (λ shared. shared ≡ self.now) }
+    {
+        Ok(Run {
+            entries: self.entries.clone()?,
+        })
+    }
+
+    pub fn len(&self) -> usize
+        ensures { result ≡ length self.now }
+    {
+        self.entries.len()
+    }
+
+    pub fn is_empty(&self) -> bool
+        ensures { result ≡ (length self.now == 0) }
+    {
+        self.as_slice().is_empty()
+    }
+
+    /// The entries in order.
+    pub fn as_slice(&self) -> &[Entry]
+        ensures entries { result.now ≡ self.now }
+        ensures in_order { IsInOrder result.now }
+    {
+        &self.entries
+    }
+
+    /// Of the entries of a key with a version of at most a number the one of the greatest version.
+    pub fn find(&self, key: &[u8], number: u64) -> Option<&Entry>
+        ensures { option_copied result ≡ winner self.now key.now number }
+    {
+        match self.first_at(key, number) {
+            Some(entry) if key == entry.key.as_slice() => Some(entry),
+            _ => None,
+        }
+    }
+
+    /// The entry of a key and version.
+    pub fn exact(&self, key: &[u8], version: u64) -> Option<&Entry>
+        ensures { option_copied result ≡ exact self.now key.now version }
+    {
+        match self.first_at(key, version) {
+            Some(entry) if key == entry.key.as_slice() && entry.version == version => Some(entry),
+            _ => None,
+        }
+    }
+
+    /// The entries of this run over an older one's: of those of one key and version this run's. It
+    /// copies no key and no value.
+    pub fn over(&self, alloc: Global, older: &Run) -> Result<Run, AllocError>
+        ensures { IfOk result (λ run. run ≡ in_order (self.now ++ older.now)) }
+    {
+        Run::from_writes(merged(alloc, self.as_slice(), older.as_slice())?)
+    }
+
+    /// A cursor over all entries, which shares them. It may want memory.
+    pub fn cursor(&self, way: Way) -> Result<RunCursor, AllocError>
+        ensures { IfOk result (λ cursor. ⟦<RunCursor as Cursor>⟧.left cursor ≡ Some (along way self.now)) }
+    {
+        Ok(RunCursor::new(self.share()?, way))
+    }
+
+    // The first entry that doesn't come before the place of a key and version.
+    fn first_at(&self, key: &[u8], version: u64) -> Option<&Entry>
+        ensures first { option_copied result ≡ first_failing (is_ahead key.now version) self.now }
+        ensures in_order { IsInOrder self.now }
+    {
+        let entries = self.as_slice();
+        entries.get(place(entries, key, version))
+    }
+}
+
+// How many of the entries come before the place of a key and version.
+fn place(entries: &[Entry], key: &[u8], version: u64) -> usize
+    requires { IsInOrder entries.now }
+    ensures { result ≡ prefix_len (is_ahead key.now version) entries.now }
+{
+    entries.partition_point(|entry| {
+        key.cmp(&entry.key.as_slice())
+            .then(entry.version.cmp(&version))
+            .is_gt()
+    })
+}
