@@ -8,7 +8,7 @@ ghost use Rattle.std.specs.Prelude.{◌≡◌, ◌≢◌, ◌<◌, ℕ, List, ma
 ghost use Rattle.std.specs.Option.{ForSome};
 ghost use Rattle.vl_disk.specs.DiskState.{DiskState};
 ghost use Rattle.vl_disk.specs.Faults.{Rose};
-ghost use Rattle.vl_journal.specs.Files.{StandsSome};
+ghost use Rattle.vl_journal.specs.Files.{IsAsBefore, StandsSome};
 ghost use Rattle.vl_script.specs.Script.{lines_of};
 ghost use Rattle.vl_replay.specs.Sequential.{State};
 ghost use Rattle.vl_replay.specs.Endings.{status_of};
@@ -72,12 +72,12 @@ pub fn run<S: Source, K: Sink, D: Disk>(
     // Where the words are plain, status 4 comes exactly where anything stands on the disk, unless the disk failed, memory
     // ran out, or the last line couldn't be put. Then nothing was changed or read, and the last line is all that is printed.
     ensures not_a_store { result.status ≡ 4
-        → ForSome (D.told disk) StandsSome × (D.told result.disk ≡ D.told disk)
+        → ForSome (D.told disk) StandsSome × IsAsBefore D.Watched disk result.disk
         × (source.new ≡ source.old)
         × EndsBy K.Sink sink.old sink.new Ending.NotAStore result.status }
     ensures occupied { is_plain (map string_bytes words.now) ≡ true → (state : DiskState)
         → D.told disk ≡ Some state → StandsSome state
-        → (source.new ≡ source.old) × (D.told result.disk ≡ D.told disk)
+        → (source.new ≡ source.old) × IsAsBefore D.Watched disk result.disk
         × ((ending : HowEnded) × (result.status ≡ status_of ending) × IsRefused K.Sink sink.old sink.new ending) }
 
     // Statuses 6 and 7 come only by faults of the source and of the sink, and the others only without.

@@ -4,6 +4,7 @@ use Rattle.std.specs.List.{AllByRecursion}
 use Rattle.std.specs.FinMap.{get, empty}
 use Rattle.byteorder.specs.Endian.{big_bytes}
 use Rattle.vl_disk.specs.declared.name.Name.{Name}
+use Rattle.vl_disk.specs.declared.watched.Watched.{Ghosts}
 use Rattle.vl_disk.specs.DiskState.{File, Files, DiskState, placed, settled}
 use Rattle.vl_disk.specs.Disk.{Stands}
 use Rattle.vl_frame.specs.Frame.{frame_bytes}
@@ -33,6 +34,10 @@ files manifest log = placed LOG log (placed MANIFEST manifest empty)
 pub record HasFiles (manifest log : Option File) (disk : DiskState) : Type 0 where
   pub standing : disk.standing ≡ files manifest log
   pub removed : disk.removed ≡ empty
+
+-- the disk is as it was, and was asked for no changing call
+abbrev pub IsAsBefore : {D : Type 0} → Ghosts D → (old new : D) → Type 0
+IsAsBefore g old new = (g.told new ≡ g.told old) × (g.calls new ≡ g.calls old)
 
 -- no file stands or was removed
 abbrev pub IsEmpty : DiskState → Type 0

@@ -4,7 +4,7 @@ ghost use Rattle.vl_disk.specs.DiskState.{DiskState};
 ghost use Rattle.vl_disk.specs.Disk.{Stands};
 ghost use Rattle.vl_disk.specs.Faults.{HasCause, after_calls};
 ghost use Rattle.vl_disk.specs.Moments.{HoldsThroughout};
-ghost use Rattle.vl_journal.specs.Files.{IsEmpty, Holds, StandsSome, StandsNothing};
+ghost use Rattle.vl_journal.specs.Files.{IsAsBefore, IsEmpty, Holds, StandsSome, StandsNothing};
 ghost use Rattle.vl_journal.specs.Images.{Leaves, ShowsNone};
 
 use crate::OpenFail;
@@ -27,9 +27,9 @@ pub fn open_store<D: Disk>(alloc: Global, disk: &mut D) -> Result<(), OpenFail>
     ensures free { OnOk result (ForSome (D.told disk.old) StandsNothing) }
     ensures not_a_store { result ≡ Err OpenFail.NotAStore → ForSome (D.told disk.old) StandsSome }
     ensures occupied { (state : DiskState) → D.told disk.old ≡ Some state → StandsSome state
-        → D.told disk.new ≡ D.told disk.old }
-    ensures refused { result ≡ Err OpenFail.NotAStore → D.told disk.new ≡ D.told disk.old }
-    ensures no_memory { result ≡ Err OpenFail.NoMemory → D.told disk.new ≡ D.told disk.old }
+        → IsAsBefore D.Watched disk.old disk.new }
+    ensures refused { result ≡ Err OpenFail.NotAStore → IsAsBefore D.Watched disk.old disk.new }
+    ensures no_memory { result ≡ Err OpenFail.NoMemory → IsAsBefore D.Watched disk.old disk.new }
 
     // What a crash leaves meanwhile shows no commit, if no torn bytes spell a frame by chance.
     ensures through { (state : DiskState) → D.told disk.old ≡ Some state → IsEmpty state

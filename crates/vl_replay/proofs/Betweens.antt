@@ -1,16 +1,16 @@
 -- Histories that go on, and what is shown between two of them.
 use Rattle.std.proofs.Common.{◌≡◌, ◌≤◌, List, [], ◌∷◌, ◌++◌, length, refl, sym, ◌∙◌, ap, append-nil, append_assoc, length-append, arith}
 use Rattle.vl_model.specs.Keys.{Writes}
-use Rattle.vl_model.specs.History.{History, last_number, with_commit}
+use Rattle.vl_model.specs.History.{Extends, History, last_number, with_commit}
 use Rattle.vl_disk.specs.Crash.{Image}
-use Rattle.vl_replay.specs.Between.{Showing, Extends, ShowsBetween}
+use Rattle.vl_replay.specs.Between.{Showing, ShowsBetween}
 use Rattle.vl_replay.specs.Durable.{StaysShown}
 
 pub extends_same : (h k : History) → k ≡ h → Extends h k
 extends_same h k same = record {
   first = ap (λ (x : History). x.first) same;
   base = ap (λ (x : History). x.base) same;
-  more = [];
+  later = [];
   commits = ap (λ (x : History). x.commits) same ∙ sym (append-nil h.commits);
 }
 
@@ -21,7 +21,7 @@ pub extends_one : (h k : History) (writes : Writes) → k ≡ with_commit h writ
 extends_one h k writes is = record {
   first = ap (λ (x : History). x.first) is;
   base = ap (λ (x : History). x.base) is;
-  more = writes ∷ [];
+  later = writes ∷ [];
   commits = ap (λ (x : History). x.commits) is;
 }
 
@@ -29,13 +29,13 @@ pub extends_then : (a b c : History) → Extends a b → Extends b c → Extends
 extends_then a b c one two = record {
   first = two.first ∙ one.first;
   base = two.base ∙ one.base;
-  more = one.more ++ two.more;
-  commits = two.commits ∙ ap (λ (cs : List Writes). cs ++ two.more) one.commits ∙ append_assoc a.commits one.more two.more;
+  later = one.later ++ two.later;
+  commits = two.commits ∙ ap (λ (cs : List Writes). cs ++ two.later) one.commits ∙ append_assoc a.commits one.later two.later;
 }
 
 pub last-extends : (h k : History) → Extends h k → last_number h ≤ last_number k
 last-extends h k e =
-    let first = e.first in let count = ap length e.commits in let both = length-append h.commits e.more in omega arith
+    let first = e.first in let count = ap length e.commits in let both = length-append h.commits e.later in omega arith
 
 -- what is shown between two histories is shown between an earlier and a later one
 pub between_wider : (shows : Showing) → StaysShown shows → (least less more most : History) → Extends least less → Extends more most

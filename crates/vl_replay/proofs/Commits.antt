@@ -5,7 +5,7 @@ use Rattle.std.specs.FinMap.{entries, len, len-entries, is_sorted}
 use Rattle.std.specs.List.{AllByRecursion}
 use Rattle.std.proofs.lemmas.Bool.{eqb-false}
 use Rattle.vl_model.specs.declared.change.Change.{Change}
-use Rattle.vl_model.specs.History.{last_number}
+use Rattle.vl_model.specs.History.{Extends, last_number}
 use Rattle.vl_model.specs.Keys.{Writes, key_cmp}
 use Rattle.vl_model.specs.Limits.{max_commit_number}
 use Rattle.vl_disk.specs.declared.watched.Watched.{Ghosts}
@@ -21,7 +21,7 @@ use Rattle.vl_journal.specs.declared.names.TheConstants.{NUMBER}
 use Rattle.vl_journal.specs.Files.{Holds, IsNextFrame}
 use Rattle.vl_journal.specs.Images.{Leaves, ImageShows, ShowsEither}
 use Rattle.vl_replay.specs.Sequential.{State, after_commit}
-use Rattle.vl_replay.specs.Between.{Extends, ShowsBetween}
+use Rattle.vl_replay.specs.Between.{ShowsBetween}
 use Rattle.vl_replay.specs.Represents.{Represents}
 use Rattle.vl_replay.specs.Durable.{HoldsState, GoesFrom, CarriesOut}
 use Rattle.vl_replay.specs.Stored.{logged, IsStored, Shown}

@@ -31,7 +31,7 @@ stored_exactly s disk stored image may chance = shown_all s.history image (leave
 pub shown_stays : StaysShown Shown
 shown_stays h k e image m le shown =
     let same : commits_up_to k m ≡ commits_up_to h m =
-    ap (λ (n : ℕ). take (m - n) k.commits) e.first ∙ ap (take (m - h.first)) e.commits ∙ take-append-le (m - h.first) h.commits e.more (omega arith) in
+    ap (λ (n : ℕ). take (m - n) k.commits) e.first ∙ ap (take (m - h.first)) e.commits ∙ take-append-le (m - h.first) h.commits e.later (omega arith) in
     subst (λ (n : ℕ). ImageShows image (numbered n (commits_up_to k m))) (sym e.first)
     (subst (λ (commits : List Writes). ImageShows image (numbered h.first commits)) (sym same) shown)
 

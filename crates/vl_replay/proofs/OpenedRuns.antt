@@ -4,12 +4,14 @@ use Rattle.vl_disk.specs.declared.watched.Watched.{Ghosts}
 use Rattle.vl_disk.specs.Faults.{Rose, HasCause}
 use Rattle.vl_io.specs.declared.sink.Sink as sink
 use Rattle.vl_io.specs.Sink.{Takes}
+use Rattle.vl_journal.specs.Files.{IsAsBefore}
 use Rattle.vl_journal.specs.declared.fails.OpenFail.{OpenFail as Why}
 use Rattle.vl_journal.specs.declared.fails.OpenFail.TheVariants as why
 use Rattle.vl_script.specs.Script.{lines_of}
 use Rattle.vl_replay.specs.Sequential.{State}
 use Rattle.vl_replay.specs.Exchanges.{Exchange, KeepsUp, last_state}
-use Rattle.vl_replay.specs.Between.{Showing, Extends}
+use Rattle.vl_model.specs.History.{Extends}
+use Rattle.vl_replay.specs.Between.{Showing}
 use Rattle.vl_replay.specs.Endings.{Culprit, TheDisk, TheSink, TheSource, Counts, Causes, CutsAnswer, IsBetweenLines, culprit_of, last_line}
 use Rattle.vl_replay.specs.Runs.{Script, exchanges, next_number, Stops, Course, Outside, CausesOf, EndsRun}
 use Rattle.vl_replay.specs.Durable.{Holding, LeavesItsHistory, StaysShown, Tells, HoldsState, GoesFrom, GoesAlong, DiskEnds, DiskEndsFrom}
@@ -69,12 +71,12 @@ out_of_memory k old new how result (line, own, finishes) = or_cut k old new line
 module _ {D : Type 0} (g : Ghosts D) (watched : IsWatched g) (holds : Holding) (shows : Showing)
     (stays : StaysShown shows) (exactly : LeavesItsHistory holds shows) (P : Type 0) (by_files : Type 0) (script : Script) (first end : Outside D) where
   abbrev pub SoFar : Course → Type 0
-  SoFar run = P → DiskEnds g holds shows (g.told end.disk ≡ g.told first.disk) first.disk end.disk run
+  SoFar run = P → DiskEnds g holds shows (IsAsBefore g first.disk end.disk) first.disk end.disk run
 
   -- nothing was opened
   pub ends_refused : (ending : Ending) → AnswersNothing ending → EndsBefore (CausesOf g first end by_files) script end.left ending first.held end.held → KeepsUp script.bytes end.asked 0
       → (P → GoesFrom g shows first.disk end.disk script.start.history script.start.history) → (P → Tells g end.disk (λ _. Unit {0}))
-      → ((Rose (g.faults first.disk) (g.faults end.disk) → ⊥) → g.told end.disk ≡ g.told first.disk) → (ending ≡ NoMemory → g.told end.disk ≡ g.told first.disk)
+      → ((Rose (g.faults first.disk) (g.faults end.disk) → ⊥) → IsAsBefore g first.disk end.disk) → (ending ≡ NoMemory → IsAsBefore g first.disk end.disk)
       → EndsRun g by_files SoFar script first end ending
   ends_refused ending (none, none_cut) before kept_up goes tells kept kept_out =
       let h = script.start.history in
@@ -127,7 +129,7 @@ module _ {D : Type 0} (g : Ghosts D) (watched : IsWatched g) (holds : Holding) (
             script end.left m ending run.printed run.ends;
         kept_up = run.kept_up;
         disk = λ p.
-            ends_later g watched holds shows stays exactly (g.told end.disk ≡ g.told first.disk) first.disk mid.disk end.disk ending s s (last_state s (take (suc m) all)) (take m all) (take m all)
+            ends_later g watched holds shows stays exactly (IsAsBefore g first.disk end.disk) first.disk mid.disk end.disk ending s s (last_state s (take (suc m) all)) (take m all) (take m all)
             (extends_itself s.history) (extends (suc m)) earlier (goes p) (λ _ along. along_opened mid.disk end.disk s (last_state s (take (suc m) all)) all m (extends 1) (goes p) along) refl
             (run.disk (opened p));
       }

@@ -2,7 +2,7 @@
 use Rattle.std.proofs.Common.{◌≡◌, ◌+◌, ◌⊎◌, ◌==◌, not, ℕ, Bool, true, false, cond, List, [], length, refl, inl, inr}
 use Rattle.std.specs.FinMap.{get, insert, contains_key, len, empty}
 use Rattle.std.specs.Prelude.{Option, Some, None, nat_le}
-use Rattle.vl_model.specs.History.{last_number, value_at, with_commit}
+use Rattle.vl_model.specs.History.{Extends, last_number, value_at, with_commit}
 use Rattle.vl_model.specs.Keys.{Writes, is_key_length}
 use Rattle.vl_model.specs.Limits.{max_commit_number, max_room}
 use Rattle.vl_model.specs.Reads.{Read}
@@ -12,7 +12,6 @@ use Rattle.vl_model.specs.declared.counter.Counter.TheVariants.{Commit as Commit
 use Rattle.vl_script.specs.declared.answer.Answer.TheVariants.{Done, Number, Taken, Invalid, TooBig, TooMany, Nothing, Full, Exhausted}
 use Rattle.vl_script.specs.declared.line.Line.{Line}
 use Rattle.vl_script.specs.declared.line.Line.TheVariants.{Begin, View, Get, Set, Delete as DeleteLine, Commit as CommitLine, Drop}
-use Rattle.vl_replay.specs.Between.{Extends}
 use Rattle.vl_replay.specs.Sequential.{State, Handle, Outcome, OpenTransaction, OpenView, most_open, with_handle, without_handle, opened, found, read, read_in_transaction, is_lawful_write, written, committed, dropped, fits_transaction, frame_length, after_commit, answer_to, state_after}
 use Rattle.vl_replay.proofs.Betweens.{extends_same, extends_one}
 

@@ -8,7 +8,8 @@ use Rattle.vl_script.specs.Script.{text_of, lines_of}
 use Rattle.vl_replay.specs.Sequential.{State}
 use Rattle.vl_replay.specs.Represents.{Represents}
 use Rattle.vl_replay.specs.Exchanges.{Exchange, KeepsUp, last_state}
-use Rattle.vl_replay.specs.Between.{Showing, Extends}
+use Rattle.vl_model.specs.History.{Extends}
+use Rattle.vl_replay.specs.Between.{Showing}
 use Rattle.vl_replay.specs.Endings.{Causes, line_number}
 use Rattle.vl_replay.specs.Runs.{Script, script_of, exchanges, Outside, CausesOf, EndsSo, EndsRun}
 use Rattle.vl_replay.specs.Durable.{Holding, LeavesItsHistory, StaysShown, HoldsState, GoesFrom, GoesAlong, DiskEnds, DiskEndsFrom}

@@ -1,15 +1,7 @@
--- Histories that go on, and images that show one at a number between two.
-use Rattle.std.specs.Prelude.{◌≡◌, ◌≤◌, ℕ, List, ◌++◌}
-use Rattle.vl_model.specs.Keys.{Writes}
+-- Images that show a history at a number between two.
+use Rattle.std.specs.Prelude.{◌≤◌, ℕ}
 use Rattle.vl_model.specs.History.{History, last_number}
 use Rattle.vl_disk.specs.Crash.{Image}
-
--- a later history: over the same base, with at least the commits
-pub record Extends (least most : History) : Type 0 where
-  pub first : most.first ≡ least.first
-  pub base : most.base ≡ least.base
-  pub more : List Writes
-  pub commits : most.commits ≡ least.commits ++ more
 
 -- what an image shows of a history at a number
 abbrev pub Showing : Type 1

@@ -1,7 +1,7 @@
 -- What a disk holds while a script is answered, and what a crash leaves of it. `holds` says what a disk holds of a state,
 -- and `shows` what an image shows of a history at a number: both are parameters throughout.
 use Rattle.std.specs.Prelude.{◌≡◌, ◌⊎◌, ℕ, ◌≤◌, List, [], ◌∷◌, Some, Err, Result, OnOk}
-use Rattle.vl_model.specs.History.{History, last_number}
+use Rattle.vl_model.specs.History.{Extends, History, last_number}
 use Rattle.vl_disk.specs.declared.watched.Watched.{Ghosts}
 use Rattle.vl_disk.specs.Faults.{Rose}
 use Rattle.vl_disk.specs.DiskState.{DiskState}
@@ -10,7 +10,7 @@ use Rattle.vl_disk.specs.Moments.{HoldsThroughout}
 use Rattle.vl_journal.specs.Images.{Leaves}
 use Rattle.vl_replay.specs.Sequential.{State}
 use Rattle.vl_replay.specs.Exchanges.{Exchange, last_state}
-use Rattle.vl_replay.specs.Between.{Showing, Extends, ShowsBetween}
+use Rattle.vl_replay.specs.Between.{Showing, ShowsBetween}
 use Rattle.vl_replay.specs.Endings.{CutsAnswer, IsBetweenLines, culprit_of}
 use Rattle.vl_replay.specs.Runs.{Course}
 use Rattle.vl_replay.specs.declared.fails.Halt.{Halt}

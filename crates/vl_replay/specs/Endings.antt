@@ -115,10 +115,6 @@ pub record Counts (who : Culprit) (ended : Option Ending) (before now : ℕ) : T
   pub rose : option_map culprit_of ended ≡ Some who → Rose before now
   pub steady : option_map culprit_of ended ≢ Some who → ended ≢ Some WriteFault → now ≡ before
 
--- the last line of this ending was put whole, or couldn't be
-abbrev pub IsOrCut : Ending → Ending → Type 0
-IsOrCut ending result = (result ≡ ending) ⊎ (result ≡ WriteFault)
-
 -- what caused an end, where it is asked for: a fault of the source or of the disk, or files that are no store
 abbrev pub Causes : (by_source by_disk by_files : Type 0) → Culprit → Type 0
 Causes by_source by_disk by_files NoOne = ⊥

@@ -6,7 +6,7 @@ use Rattle.vl_model.specs.Keys.{key_cmp}
 use Rattle.vl_model.specs.History.{no_history}
 use Rattle.vl_disk.specs.declared.watched.Watched.{Ghosts}
 use Rattle.vl_disk.specs.Faults.{after_calls}
-use Rattle.vl_journal.specs.Files.{IsEmpty}
+use Rattle.vl_journal.specs.Files.{IsAsBefore, IsEmpty}
 use Rattle.vl_replay.specs.Sequential.{State, Handle}
 use Rattle.vl_replay.specs.Exchanges.{AreExplained, exchanges_from}
 use Rattle.vl_replay.specs.Laws.{IsSound, none_in_empty, nothing_there, exchanges_from-explained}
@@ -26,7 +26,7 @@ StartsAs g disk s = s ≡ empty_store (after_calls 6 (g.calls disk))
 -- disk is as it was.
 abbrev pub DiskEndsFromStart : {D : Type 0} → Ghosts D → (old new : D) → Course → Type 0
 DiskEndsFromStart g old new run =
-    Tells g old IsEmpty → DiskEnds g IsStored Shown (g.told new ≡ g.told old) old new run
+    Tells g old IsEmpty → DiskEnds g IsStored Shown (IsAsBefore g old new) old new run
 
 -- ---- what is read in such a run is explained
 

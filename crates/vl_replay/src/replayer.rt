@@ -6,7 +6,7 @@ ghost use Rattle.vl_disk.specs.DiskState.{DiskState};
 ghost use Rattle.vl_disk.specs.Disk.{Stands};
 ghost use Rattle.vl_disk.specs.Faults.{HasCause};
 ghost use Rattle.vl_journal.specs.declared.fails.OpenFail.TheVariants as why;
-ghost use Rattle.vl_journal.specs.Files.{IsEmpty, StandsSome};
+ghost use Rattle.vl_journal.specs.Files.{IsAsBefore, IsEmpty, StandsSome};
 ghost use Rattle.vl_replay.specs.Durable.{Tells, HoldsState, GoesFrom, CarriesOut};
 ghost use Rattle.vl_replay.specs.Stored.{IsStored, Shown};
 ghost use Rattle.vl_replay.specs.Start.{StartsAs};
@@ -62,9 +62,9 @@ impl<D: Disk> Replayer<D> {
         ensures not_a_store { why_of result ≡ Some why.NotAStore
             → ForSome (D.told disk) StandsSome }
         ensures occupied { (state : DiskState) → D.told disk ≡ Some state → StandsSome state
-            → IsErr result × (D.told (disk_of (λ replayer. replayer.disk) result) ≡ D.told disk) }
+            → IsErr result × IsAsBefore D.Watched disk (disk_of (λ replayer. replayer.disk) result) }
         ensures unchanged { why_of result ≢ Some why.Disk → IsErr result
-            → D.told (disk_of (λ replayer. replayer.disk) result) ≡ D.told disk }
+            → IsAsBefore D.Watched disk (disk_of (λ replayer. replayer.disk) result) }
         ensures cause { HasCause (D.faults disk) (D.faults (disk_of (λ replayer. replayer.disk) result)) (why_of result ≡ Some why.Disk) }
     {
         let mut disk = disk;

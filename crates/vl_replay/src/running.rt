@@ -2,7 +2,7 @@
 ghost use Rattle.std.specs.Prelude.{◌≡◌, ◌≢◌, ◌+◌, ◌<◌, ◌++◌, ℕ, List, Some, None, length};
 ghost use Rattle.std.specs.Option.{ForSome};
 ghost use Rattle.vl_disk.specs.DiskState.{DiskState};
-ghost use Rattle.vl_journal.specs.Files.{StandsSome};
+ghost use Rattle.vl_journal.specs.Files.{IsAsBefore, StandsSome};
 ghost use Rattle.vl_replay.specs.Sequential.{State};
 ghost use Rattle.vl_replay.specs.Represents.{Represents};
 ghost use Rattle.vl_replay.specs.Exchanges.{KeepsUp, exchange_at, state_behind};
@@ -118,12 +118,12 @@ pub fn replay<S: Source, K: Sink, D: Disk>(
     // The run ends as no store only where anything stands, and there always, unless a fault or want of memory comes
     // first. Then nothing was changed or read, and the last line is all that is printed.
     ensures not_a_store { result.ending ≡ Ending.NotAStore
-        → ForSome (D.told disk) StandsSome × (D.told result.disk ≡ D.told disk)
+        → ForSome (D.told disk) StandsSome × IsAsBefore D.Watched disk result.disk
         × (source.new ≡ source.old)
         × FinishesBy K.Sink sink.old sink.new Ending.NotAStore result.ending }
     ensures occupied { (state : DiskState) → D.told disk ≡ Some state → StandsSome state
         → IsRefused K.Sink sink.old sink.new result.ending × (source.new ≡ source.old)
-        × (D.told result.disk ≡ D.told disk) }
+        × IsAsBefore D.Watched disk result.disk }
 {
     match Replayer::new(alloc, disk) {
         Ok(replayer) => answer_lines(alloc, source, sink, replayer),
