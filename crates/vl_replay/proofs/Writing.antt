@@ -25,7 +25,7 @@ answer_where (Some EmptyKey) = Invalid
 answer_where (Some KeyTooLong) = Invalid
 answer_where (Some ValueTooLong) = Invalid
 answer_where (Some TooMuch) = TooBig
-answer_where (Some NoMemory) = Done
+answer_where (Some NoMemory) = Invalid
 
 abbrev after_where : Writes → Writes → Option SetFail → Writes
 after_where old more None = more
