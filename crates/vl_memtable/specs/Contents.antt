@@ -1,5 +1,5 @@
 -- What a memtable shows: its entries in order, and how long its runs are.
-use Rattle.std.specs.Prelude.{◌≡◌, ℕ, Bool, true, List, [], ◌∷◌, ◌++◌, length, map, Option, None}
+use Rattle.std.specs.Prelude.{◌≡◌, ◌<◌, ℕ, true, List, [], ◌∷◌, ◌++◌, length, map, None}
 use Rattle.std.specs.List.{AllByRecursion}
 use Rattle.vl_model.specs.Entries.{in_order}
 use Rattle.vl_model.specs.Winners.{exact}
@@ -25,10 +25,11 @@ contents_of runs = record { entries = in_order (all_of runs); lengths = map leng
 abbrev pub IsApart : List Entry → Type 0
 IsApart es = length (in_order es) ≡ length es
 
--- of the runs, newest first, none has a key and version of another, and each has at least twice the
+-- of the runs, newest first, none is empty or has a key and version of another, and each has at least twice the
 -- entries of the next newer one
 pub record AreRuns (runs : List (List Entry)) : Type 0 where
   pub rising : AllByRecursion IsInOrder runs
+  pub some : AllByRecursion (λ run. 0 < length run) runs
   pub apart : IsApart (all_of runs)
   pub double : doubles (map length runs) ≡ true
 

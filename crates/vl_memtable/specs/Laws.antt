@@ -1,21 +1,21 @@
 -- Laws of lists of runs.
 use Rattle.std.proofs.Common.{◌≡◌, ℕ, zero, suc, ◌+◌, ◌*◌, ◌<◌, ◌≤◌, Bool, true, false, cond, ◌&&◌, List, [], ◌∷◌, ◌++◌, length, map, take, drop, refl, ap, sym, ◌∙◌, subst, arith, append_assoc, length-append, get_or, Option, Some, None}
-use Rattle.std.specs.Prelude.{nat_lt, nat_le}
+use Rattle.std.specs.Prelude.{◌==◌, IsTrue, nat_lt, nat_le}
 use Rattle.std.specs.List.{AllByRecursion}
 use Rattle.std.specs.Ordering.{is_eq}
 use Rattle.std.proofs.lemmas.Bool.{and_parts}
 use Rattle.std.proofs.lemmas.Bool.Decides.{nat_tests}
 use Rattle.std.specs.declared.cmp.Ordering.{Ordering}
 use Rattle.std.specs.declared.cmp.Ordering.TheVariants.{Less, Equal, Greater}
-use Rattle.vl_model.specs.Entries.{entry_cmp, by_order, put, in_order, is_at}
+use Rattle.vl_model.specs.Entries.{entry_cmp, put, in_order, is_at}
 use Rattle.vl_model.specs.Winners.{winner, exact, newest_of}
-use Rattle.vl_model.specs.WinnerLaws.{winner-append, winner-in_order}
+use Rattle.vl_model.specs.WinnerLaws.{winner-append}
 use Rattle.vl_model.specs.declared.entry.Entry.{Entry}
-use Rattle.vl_run.specs.Order.{IsInOrder, place_of}
-use Rattle.vl_run.specs.OrderLaws.{IsBefore, IsRising, rising, in_order-front, in_order-back, length-in_order, put-less, put-equal, put-greater}
+use Rattle.vl_run.specs.Order.{IsInOrder}
+use Rattle.vl_run.specs.OrderLaws.{IsRising, rising, in_order-front, in_order-back, length-in_order, put-less, put-greater}
 use Rattle.vl_run.specs.Lookup.{is_at-tied, exact-behind}
 use Rattle.vl_run.specs.Exact.{exact-append, exact-in_order, first_of}
-use Rattle.vl_memtable.specs.Contents.{Contents, all_of, contents_of, IsApart, AreRuns, IsNewTo}
+use Rattle.vl_memtable.specs.Contents.{all_of, IsApart, AreRuns, IsNewTo}
 use Rattle.vl_memtable.specs.Lengths.{lengths_with, doubles}
 
 -- ---- lengths
@@ -104,6 +104,7 @@ pub record Joins (run front : List Entry) (runs rest : List (List Entry)) : Type
   pub entries : in_order (front ++ all_of rest) ≡ in_order (run ++ all_of runs)
   pub lengths : lengths_with (length front) (map length rest) ≡ lengths_with (length run) (map length runs)
   pub apart : IsApart (front ++ all_of rest)
+  pub some : 0 < length front
 
 pub joins_next : (run front : List Entry) (runs rest : List (List Entry)) (next now : List Entry)
     → Joins run front runs (next ∷ rest) → length next < 2 * length front → now ≡ in_order (front ++ next) → Joins run now runs rest
@@ -114,10 +115,11 @@ joins_next run front runs rest next now so less is =
           ap (λ n. lengths_with n (map length rest)) (joined-length front next (all_of rest) so.apart)
           ∙ sym (lengths_with-joins (length front) (length next) (map length rest) less) ∙ so.lengths;
       apart = omega (arith, so.apart, joined-length front next (all_of rest) so.apart, ap length (joined-order front next (all_of rest)), length-append front (next ++ all_of rest), length-append next (all_of rest), length-append (in_order (front ++ next)) (all_of rest));
+      some = omega (arith, so.some, joined-length front next (all_of rest) so.apart);
     })
 
-pub joins_first : (run : List Entry) (runs : List (List Entry)) → IsInOrder run → IsNewTo (in_order (all_of runs)) run → AreRuns runs → Joins run run runs runs
-joins_first run runs up new are = record { entries = refl; lengths = refl; apart = apart-new run (all_of runs) (rising run up) new are.apart }
+pub joins_first : (run : List Entry) (runs : List (List Entry)) → IsInOrder run → IsNewTo (in_order (all_of runs)) run → AreRuns runs → 0 < length run → Joins run run runs runs
+joins_first run runs up new are some = record { some = some; entries = refl; lengths = refl; apart = apart-new run (all_of runs) (rising run up) new are.apart }
 
 abbrev pub IsFinished : List Entry → List (List Entry) → Type 0
 IsFinished front rest = lengths_with (length front) (map length rest) ≡ length front ∷ map length rest
@@ -134,8 +136,9 @@ pub joined-lengths : (run front : List Entry) (runs rest : List (List Entry)) �
     → map length (front ∷ rest) ≡ lengths_with (length run) (map length runs)
 joined-lengths run front runs rest so finished = sym finished ∙ so.lengths
 
-pub are_joined : (run front : List Entry) (runs rest : List (List Entry)) → Joins run front runs rest → IsFinished front rest → AreRuns runs → IsInOrder front → AllByRecursion IsInOrder rest → AreRuns (front ∷ rest)
-are_joined run front runs rest so finished are here there = record {
+pub are_joined : (run front : List Entry) (runs rest : List (List Entry)) → Joins run front runs rest → IsFinished front rest → AreRuns runs → IsInOrder front → AllByRecursion IsInOrder rest → AllByRecursion (λ r. 0 < length r) rest → AreRuns (front ∷ rest)
+are_joined run front runs rest so finished are here there some = record {
+  some = (so.some, some);
   rising = (here, there);
   apart = so.apart;
   double = ap doubles (joined-lengths run front runs rest so finished) ∙ doubles-with (length run) (map length runs) are.double;
@@ -216,7 +219,25 @@ module _ where
   joins_at run front runs i next now within is so less merged =
       joins_next run front runs (drop (i + 1) runs) next now (subst (Joins run front runs) (drop_next runs i next within is) so) less merged
 
-  pub rising-drop : (runs : List (List Entry)) (i : ℕ) → AllByRecursion IsInOrder runs → AllByRecursion IsInOrder (drop i runs)
-  rising-drop runs zero all = all
-  rising-drop [] (suc i) all = tt
-  rising-drop (run ∷ runs) (suc i) all = rising-drop runs i all.1
+  pub all-drop : (P : List Entry → Type 0) (runs : List (List Entry)) (i : ℕ) → AllByRecursion P runs → AllByRecursion P (drop i runs)
+  all-drop P runs zero all = all
+  all-drop P [] (suc i) all = tt
+  all-drop P (run ∷ runs) (suc i) all = all-drop P runs i all.1
+
+  pub no_runs : (runs : List (List Entry)) → length runs ≡ 0 → in_order (all_of runs) ≡ []
+  no_runs [] none = refl
+  no_runs (run ∷ runs) none = absurd (omega arith)
+
+  -- entries there are where there is a run
+  pub some_runs : (runs : List (List Entry)) → AreRuns runs → in_order (all_of runs) ≡ [] → length runs ≡ 0
+  some_runs [] are none = refl
+  some_runs (run ∷ runs) are none = absurd (omega (arith, are.some.0, are.apart, ap length none, length-append run (all_of runs)))
+
+  not_zero : (n : ℕ) → (suc n == 0) ≡ true → ⊥
+  not_zero n is = grind (arith, nat_tests)
+
+  pub is_empty-runs : (runs : List (List Entry)) → AreRuns runs → (b : Bool) (es : List Entry) → b ≡ (length runs == 0)
+      → in_order (all_of runs) ≡ es → (IsTrue b → es ≡ []) × (es ≡ [] → IsTrue b)
+  is_empty-runs [] are b es is same = (λ yes. sym same, λ none. is)
+  is_empty-runs (run ∷ runs) are b es is same =
+      (λ yes. absurd (not_zero (length runs) (sym is ∙ yes)), λ none. let zero_runs : length (run ∷ runs) ≡ 0 = some_runs (run ∷ runs) are (same ∙ none) in absurd (omega (arith, zero_runs)))

@@ -1,4 +1,4 @@
-ghost use Rattle.std.specs.Prelude.{◌≡◌, ◌++◌, ◌<◌, length, IfOk};
+ghost use Rattle.std.specs.Prelude.{◌≡◌, ◌++◌, ◌<◌, ◌↔◌, length, IfOk, IsTrue};
 ghost use Rattle.std.specs.Option.{option_copied};
 ghost use Rattle.vl_model.specs.Entries.{in_order};
 ghost use Rattle.vl_model.specs.Winners.{winner, exact};
@@ -52,6 +52,20 @@ impl Memtable {
         Ok(Memtable { runs })
     }
 
+    /// Whether it has no entry.
+    pub fn is_empty(&self) -> bool
+        ensures { IsTrue result ↔ (self.now.entries ≡ []) }
+    {
+        self.runs.as_slice().is_empty()
+    }
+
+    /// This memtable as one that takes no more entries.
+    pub fn freeze(self) -> Frozen
+        ensures { result ≡ self }
+    {
+        Frozen { memtable: self }
+    }
+
     /// Of the entries of a key with a version of at most a number the one of the greatest version.
     pub fn find(&self, key: &[u8], number: u64) -> Option<&Entry>
         ensures { option_copied result ≡ winner self.now.entries key.now number }
@@ -80,5 +94,27 @@ impl Memtable {
         ensures { IfOk result (λ cursors. GiveAll way self.now cursors.items) }
     {
         runs::cursors(*self.runs.allocator(), &self.runs, way)
+    }
+}
+
+/// A memtable that takes no more entries.
+#[derive(Drop)]
+pub struct Frozen {
+    memtable: Memtable,
+}
+
+impl Model for Frozen {
+    ghost use Rattle.vl_memtable.specs.Contents.{Contents};
+
+    ghost Value = { Contents };
+
+    ghost view = { λ a. a.memtable };
+}
+
+impl Frozen {
+    pub fn memtable(&self) -> &Memtable
+        ensures { result.now ≡ self.now }
+    {
+        &self.memtable
     }
 }

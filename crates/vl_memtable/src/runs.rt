@@ -15,6 +15,7 @@ use vl_run::{Run, RunCursor};
 // joins that.
 pub fn with(alloc: Global, runs: &[Run], run: Run) -> Result<Vec<Run>, AllocError>
     requires runs { AreRuns runs.now }
+    requires some { 0 < length run }
     requires new { IsNewTo (in_order (all_of runs.now)) run }
     ensures entries { IfOk result (λ with. in_order (all_of with.items) ≡ in_order (run ++ in_order (all_of runs.now))) }
     ensures lengths { IfOk result (λ with. map length with.items ≡ lengths_with (length run) (map length runs.now)) }

@@ -1,5 +1,4 @@
-use Rattle.std.proofs.Common.{◌≡◌, ◌++◌, ◌∷◌, [], take, Option, Some, None, sym, ap, ◌∙◌}
-use Rattle.std.specs.Option.{option_copied}
+use Rattle.std.proofs.Common.{take, sym, ap, ◌∙◌}
 use Rattle.vl_model.specs.Winners.{exact}
 use Rattle.vl_run.specs.Exact.{first_of}
 use Rattle.vl_memtable.specs.Contents.{all_of}

@@ -1,16 +1,16 @@
-use Rattle.std.proofs.Common.{◌≡◌, ◌+◌, ◌*◌, ◌<◌, ◌≤◌, ◌++◌, ◌∷◌, [], length, drop, sym, ap, ◌∙◌, subst, arith}
+use Rattle.std.proofs.Common.{◌≡◌, ◌*◌, ◌<◌, ◌++◌, ◌∷◌, [], length, drop, sym, ap, ◌∙◌, subst, arith}
 use Rattle.std.proofs.lemmas.List.{take_rest, get_or_default}
 use Rattle.vl_model.specs.Entries.{in_order}
 use Rattle.vl_run.specs.Order.{IsInOrder}
 use Rattle.vl_memtable.specs.Contents.{all_of, AreRuns}
-use Rattle.vl_memtable.specs.Laws.{IsFinished, joins_first, joins_at, joined-entries, are_joined, finished_at, finished_past, rising-drop}
+use Rattle.vl_memtable.specs.Laws.{IsFinished, joins_first, joins_at, joined-entries, are_joined, finished_at, finished_past, all-drop}
 use Rattle.vl_memtable.proofs.runs.with.Goals as goal
 use Rattle.vl_memtable.proofs.runs.with.Goals.{then-joining-test+else-len, else-joining-test}
 
 pub joining-init : goal.joining-init
 joining-init c = record {
   place = omega arith;
-  joins = joins_first c.args.run c.args.runs.now (subst IsInOrder c.as_slice.ensures.entries c.as_slice.ensures.in_order) c.requires.new c.requires.runs;
+  joins = joins_first c.args.run c.args.runs.now (subst IsInOrder c.as_slice.ensures.entries c.as_slice.ensures.in_order) c.requires.new c.requires.runs c.requires.some;
 }
 
 pub joining-preserved : goal.joining-preserved
@@ -51,4 +51,4 @@ returns-clause-are c =
           (let test = w.if-len.false in omega (arith, w.len.ensures, w.len-in-joining.ensures, test))
       | else-joining-test w ↦ finished_past front runs i (let test = w.joining-test.false in omega (arith, test))
     ] in
-    subst AreRuns (sym all) (are_joined c.args.run front runs (drop i runs) c.joining.invariant.joins finished c.requires.runs here (rising-drop runs i c.requires.runs.rising))
+    subst AreRuns (sym all) (are_joined c.args.run front runs (drop i runs) c.joining.invariant.joins finished c.requires.runs here (all-drop IsInOrder runs i c.requires.runs.rising) (all-drop (λ r. 0 < length r) runs i c.requires.runs.some))

@@ -1,4 +1,4 @@
-use Rattle.std.proofs.Common.{◌≡◌, sym, ap, ◌∙◌}
+use Rattle.std.proofs.Common.{sym, ap, ◌∙◌}
 use Rattle.vl_model.specs.Winners.{winner}
 use Rattle.vl_model.specs.WinnerLaws.{winner-in_order}
 use Rattle.vl_memtable.specs.Contents.{Contents, all_of}
