@@ -5,7 +5,8 @@ ghost use Rattle.vl_memtable.specs.Rows.{after_runs_of_one};
 
 /// Each run keeps at least twice the entries of the next newer one.
 pub fn runs_double()
-    ensures { (n : ℕ) (lengths : List ℕ) → doubles lengths ≡ true → doubles (lengths_with n lengths) ≡ true }
+    ensures { (n : ℕ) (lengths : List ℕ) → doubles lengths ≡ true
+        → doubles (lengths_with n lengths) ≡ true }
 {}
 
 /// How long the runs are after seven, eight and nine commits of one write each, the newest first.

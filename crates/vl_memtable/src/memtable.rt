@@ -39,15 +39,15 @@ impl Memtable {
         }
     }
 
-    /// This memtable with a run more, of entries whose keys and versions it hasn't. It stays as it is
-    /// itself, and shares its entries with the new one.
+    /// This memtable with a run more, of entries whose keys and versions it hasn't. It stays as it
+    /// is itself, and shares its entries with the new one.
     pub fn with(&self, run: Run) -> Result<Memtable, AllocError>
         requires some { 0 < length run }
         requires new { IsNewTo self.now.entries run }
         ensures entries { IfOk result (λ with. with.entries ≡ in_order (run ++ self.now.entries)) }
-        ensures lengths { IfOk result (λ with. with.lengths ≡ lengths_with (length run) self.now.lengths) }
+        ensures lengths { IfOk result
+            (λ with. with.lengths ≡ lengths_with (length run) self.now.lengths) }
     {
-        let _ = run.as_slice();
         let runs = runs::with(*self.runs.allocator(), &self.runs, run)?;
         Ok(Memtable { runs })
     }

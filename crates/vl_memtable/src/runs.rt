@@ -17,10 +17,13 @@ pub fn with(alloc: Global, runs: &[Run], run: Run) -> Result<Vec<Run>, AllocErro
     requires runs { AreRuns runs.now }
     requires some { 0 < length run }
     requires new { IsNewTo (in_order (all_of runs.now)) run }
-    ensures entries { IfOk result (λ with. in_order (all_of with.items) ≡ in_order (run ++ in_order (all_of runs.now))) }
-    ensures lengths { IfOk result (λ with. map length with.items ≡ lengths_with (length run) (map length runs.now)) }
+    ensures entries { IfOk result
+        (λ with. in_order (all_of with.items) ≡ in_order (run ++ in_order (all_of runs.now))) }
+    ensures lengths { IfOk result
+        (λ with. map length with.items ≡ lengths_with (length run) (map length runs.now)) }
     ensures are { IfOk result (λ with. AreRuns with.items) }
 {
+    // What is read tells the proof that a run is in order, here and below.
     let _ = run.as_slice();
     let mut front = run;
     let mut joined = 0;
