@@ -1,5 +1,5 @@
 -- What stands at a place both ways through a list.
-use Rattle.std.proofs.Common.{◌≡◌, ℕ, ◌+◌, ◌-◌, ◌<◌, List, [], ◌∷◌, length, drop, reverse, get_or, refl, ap, sym, ◌∙◌, arith, Some}
+use Rattle.std.proofs.Common.{◌≡◌, ℕ, ◌+◌, ◌-◌, ◌<◌, List, ◌∷◌, length, drop, get_or, refl, ap, sym, ◌∙◌, arith, Some}
 use Rattle.std.proofs.lemmas.List.{get_or-reverse, length-reverse}
 use Rattle.vl_model.specs.declared.entry.Entry.{Entry}
 use Rattle.vl_model.specs.declared.way.Way.{Way}

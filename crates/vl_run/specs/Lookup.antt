@@ -62,7 +62,7 @@ module _ (key : List ℕ) (version : ℕ) where
   pub is_at-tied : (e : Entry) → is_at key version e ≡ is_eq (entry_cmp (place_of key version) e)
   is_at-tied e = tied_test (key_cmp key e.key) e.version version
 
-  exact-behind : (es : List Entry) → IsBefore (place_of key version) es → exact es key version ≡ None
+  pub exact-behind : (es : List Entry) → IsBefore (place_of key version) es → exact es key version ≡ None
   exact-behind [] before = refl
   exact-behind (e ∷ es) before =
       ap (λ b. cond b (Some e) (exact es key version)) (is_at-tied e ∙ ap is_eq before.0) ∙ exact-behind es before.1

@@ -1,14 +1,11 @@
 -- Two lists in order merged into one, a step at a time.
 use Rattle.std.proofs.Common.{◌≡◌, ℕ, zero, suc, ◌+◌, ◌<◌, ◌≤◌, List, [], ◌∷◌, ◌++◌, length, drop, get_or, refl, ap, sym, ◌∙◌, subst, arith, append-nil, append_assoc}
 use Rattle.std.proofs.Math.Seq.{drop-cons}
-use Rattle.std.proofs.lemmas.List.{get_or_default}
 use Rattle.std.specs.declared.cmp.Ordering.TheVariants.{Less, Equal, Greater}
-use Rattle.std.specs.List.{AllByRecursion}
 use Rattle.vl_model.specs.Entries.{entry_cmp, put, in_order}
 use Rattle.vl_model.specs.declared.entry.Entry.{Entry}
 use Rattle.vl_run.specs.Order.{IsInOrder}
 use Rattle.vl_run.specs.OrderLaws.{entry_total, IsBefore, IsRising, before-all, all-append, in_order-least, in_order-rising, put-equal, rising, turned}
-use Rattle.std.specs.Cmp.{tied_back}
 
 -- what stands at a place, and what comes behind it
 pub drop_at : (es : List Entry) (i : ℕ) (e : Entry) → i < length es → e ≡ get_or es i e → drop i es ≡ e ∷ drop (i + 1) es

@@ -1,11 +1,13 @@
-ghost use Rattle.std.specs.Prelude.{◌≡◌, Some, IfOk};
+ghost use Rattle.std.specs.Prelude.{◌≡◌};
 ghost use Rattle.vl_run.specs.Order.{along};
 
 use crate::Run;
 use std::alloc::AllocError;
+use std::marker::Model;
 use vl_model::{Cursor, Entry, Way};
 
 /// The entries of a run, one after the other. Each that it gives shares its bytes with the run's.
+/// Clauses see the entries that are left.
 #[derive(Drop)]
 pub struct RunCursor {
     run: Run,
@@ -13,15 +15,24 @@ pub struct RunCursor {
     given: usize,
 }
 
-impl Cursor for RunCursor {
-    ghost use Rattle.std.specs.Prelude.{Some, length, drop, false, ◌-◌};
+impl Model for RunCursor {
+    ghost use Rattle.std.specs.Prelude.{List, drop};
+    ghost use Rattle.vl_model.specs.declared.entry.Entry.{Entry};
     ghost use Rattle.vl_run.specs.Order.{along};
+
+    ghost Value = { List Entry };
+
+    ghost view = { λ c. drop c.given (along c.way c.run) };
+}
+
+impl Cursor for RunCursor {
+    ghost use Rattle.std.specs.Prelude.{Some, length, false};
 
     type Fault = AllocError;
 
-    ghost left = { λ c. Some (drop c.given (along c.way c.run)) };
+    ghost left = { λ c. Some c };
 
-    ghost budget = { λ c. length c.run - c.given };
+    ghost budget = { λ c. length c };
 
     ghost faults = { λ _. 0 };
 
@@ -43,11 +54,9 @@ impl Cursor for RunCursor {
 }
 
 impl RunCursor {
-    ghost use Rattle.std.specs.Prelude.{Some};
-
     /// A cursor over all entries of a run.
     pub fn new(run: Run, way: Way) -> Self
-        ensures { ⟦<RunCursor as Cursor>⟧.left result ≡ Some (along way run) }
+        ensures { result ≡ along way run }
     {
         RunCursor { run, way, given: 0 }
     }

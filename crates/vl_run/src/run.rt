@@ -1,4 +1,4 @@
-ghost use Rattle.std.specs.Prelude.{◌≡◌, ◌==◌, ◌++◌, length, Some, IfOk};
+ghost use Rattle.std.specs.Prelude.{◌≡◌, ◌==◌, ◌++◌, length, IfOk};
 ghost use Rattle.std.specs.List.{prefix_len};
 ghost use Rattle.std.specs.Option.{option_copied};
 ghost use Rattle.vl_model.specs.Entries.{in_order};
@@ -12,7 +12,7 @@ use crate::merged::merged;
 use std::alloc::{AllocError, Global};
 use std::marker::Model;
 use std::sync::ArcSlice;
-use vl_model::{Cursor, Entry, Way};
+use vl_model::{Entry, Way};
 
 /// Entries that don't change, in order, with no key and version twice. Several may share them.
 #[derive(Drop)]
@@ -103,7 +103,7 @@ impl Run {
 
     /// A cursor over all entries, which shares them. It may want memory.
     pub fn cursor(&self, way: Way) -> Result<RunCursor, AllocError>
-        ensures { IfOk result (λ cursor. ⟦<RunCursor as Cursor>⟧.left cursor ≡ Some (along way self.now)) }
+        ensures { IfOk result (λ cursor. cursor ≡ along way self.now) }
     {
         Ok(RunCursor::new(self.share()?, way))
     }

@@ -1,5 +1,4 @@
-use Rattle.std.proofs.Common.{◌≡◌, ◌++◌, sym, ap, ◌∙◌, subst}
-use Rattle.vl_model.specs.Entries.{in_order}
+use Rattle.std.proofs.Common.{◌++◌, sym, subst}
 use Rattle.vl_run.specs.Order.{IsInOrder}
 use Rattle.vl_run.specs.OrderLaws.{in_order-again}
 use Rattle.vl_run.proofs.run.Run.over.Goals as goal

@@ -1,0 +1,5 @@
+use Rattle.vl_memtable.specs.Laws.{doubles-with}
+use Rattle.vl_memtable.proofs.laws.runs_double.Goals as goal
+
+pub returns : goal.returns
+returns c = doubles-with
