@@ -1,2 +1,0 @@
-pub mod MergeLaws
-pub mod Merging
