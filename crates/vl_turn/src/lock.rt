@@ -78,7 +78,7 @@ impl<T: Standing> TurnLock<T> {
         requires { IsTokenOf (lock_name self.now) (lock_start self.now) token.old }
         ensures same_reference { result.token.ghost_name ≡ token.entry.ghost_name }
         ensures token { HasTurn (lock_name self.now) (lock_start self.now) result.token.now }
-        ensures begins { Begins T.stands (lock_start self.now) token.old.me.0 result.token.now.me.0 result.value }
+        ensures begins { Begins T.stands T.by (lock_start self.now) token.old.me.0 result.token.now.me.0 result.value }
     {
         let value = self.wait_and_take(rt, token);
         Turn { value, token }
@@ -170,7 +170,7 @@ impl<T: Standing> TurnLock<T> {
     fn wait_and_take<R: Wait>(&self, rt: &R, token: &mut Token<T>) -> T
         requires { IsTokenOf (lock_name self.now) (lock_start self.now) token.old }
         ensures token { HasTurn (lock_name self.now) (lock_start self.now) token.new }
-        ensures begins { Begins T.stands (lock_start self.now) token.old.me.0 token.new.me.0 result }
+        ensures begins { Begins T.stands T.by (lock_start self.now) token.old.me.0 token.new.me.0 result }
     {
         for _ in rt.forever() {
             if self.raw.take(token) {
