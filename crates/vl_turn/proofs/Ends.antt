@@ -5,9 +5,10 @@ use lib.ListN.{get_elem?}
 use Rattle.atomic_table.specs.Table.{rest}
 use Rattle.vl_turn.specs.declared.view.Own.{Own}
 use Rattle.vl_turn.specs.declared.view.View.{View}
-use Rattle.vl_turn.specs.Entries.{AreNumbered}
-use Rattle.vl_turn.specs.Rule.{OwnsFit, Table, out_slot}
-use Rattle.vl_turn.specs.Tokens.{Owned, IsWhole}
+use Rattle.vl_turn.specs.Entries.{AreNumbered, Owned, AreAmong}
+use Rattle.vl_turn.specs.Rule.{Table, out_slot}
+use Rattle.vl_turn.specs.Tokens.{IsWhole}
+use Rattle.vl_turn.proofs.Sessions.{owned, among}
 use Rattle.vl_turn.proofs.Keeping.{Rule, has_it}
 
 -- the slot that a token took last stands in front
@@ -15,13 +16,10 @@ pub in_front : {T : Type 0} (slots : List (ℕ × T)) (value : T) → slots ≡ 
 in_front slots value is = is ∙ ap (λ c. (0, value) ∷ rest c) (sym is)
 
 module _ {T E : Type 0} (stands : T → T → List E → Type 0) (by : E → ℕ) (start : T) where
-  owned : (list : List E) (count : ℕ) (token_of : ℕ → ℕ) (id : ℕ) (os : List (Own E)) → OwnsFit by list count token_of id os → Owned by list os
-  owned list count token_of id [] fit = tt
-  owned list count token_of id (o ∷ os) fit = (fit.0.2, owned list count token_of id os fit.1)
-
-  all_numbered : (made : Option ℕ) (count root id : ℕ) (list : List E) → IfSome made (λ n. (n ≡ count) × (id ≡ root)) → AreNumbered by count list → IfSome made (λ n. AreNumbered by n list)
-  all_numbered None count root id list is all = tt
-  all_numbered (Some n) count root id list is all = subst (λ k. AreNumbered by k list) (sym is.0) all
+  all_numbered : (made : Option ℕ) (count root id : ℕ) (list : List E) (os : List (Own E)) → IfSome made (λ n. (n ≡ count) × (id ≡ root)) → AreNumbered by count list → AreAmong count os
+      → IfSome made (λ n. AreNumbered by n list × AreAmong n os)
+  all_numbered None count root id list os is all own = tt
+  all_numbered (Some n) count root id list os is all own = subst (λ k. AreNumbered by k list × AreAmong k os) (sym is.0) (all, own)
 
   -- once the lock is empty, its slot holds nothing, and the token with the turn has seen the whole list
   pub emptied : (s : Table T E) → Rule stands by start s → (id : ℕ) (v : View T E) (slots : List (Option T)) (found : Option T) → get_elem? s.views id ≡ some v → v.holds ≡ true → v.closed ≡ true
@@ -31,9 +29,9 @@ module _ {T E : Type 0} (stands : T → T → List E → Type 0) (by : E → ℕ
       let fit = r.views id v at in
       let out : s.homes ≡ some None ∷ [] = h.out ∙ ap out_slot closed in (
         record {
-          owns = subst (λ l. Owned by l v.owns) (sym h.knows) (owned r.list r.count r.token_of id v.owns fit.owns);
+          owns = subst (λ l. Owned by l v.owns) (sym h.knows) (owned by r.list r.count r.token_of id v.owns fit.owns);
           apart = fit.apart;
-          numbers = subst (λ l. IfSome v.made (λ n. AreNumbered by n l)) (sym h.knows) (all_numbered v.made r.count r.root id r.list fit.made r.numbers);
+          numbers = subst (λ l. IfSome v.made (λ n. AreNumbered by n l × AreAmong n v.owns)) (sym h.knows) (all_numbered v.made r.count r.root id r.list v.owns fit.made r.numbers (among by r.list r.count r.token_of id v.owns fit.owns));
         },
         some-injective found None (sym is ∙ homes 0 None (ap (λ hs. get_elem? hs 0) out)),
       )

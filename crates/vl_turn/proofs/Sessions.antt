@@ -1,7 +1,7 @@
 -- Own entries, as the list grows and sessions are numbered and joined.
 use Rattle.std.proofs.Common.{◌≡◌, ◌≢◌, ℕ, ◌+◌, ◌<◌, ◌==◌, eq-eqb, ne_eqb, Bool, true, false, if◌then◌else◌, List, [], ◌∷◌, ◌++◌, sym, refl, ap, ◌∙◌, arith}
 use Rattle.vl_turn.specs.declared.view.Own.{Own}
-use Rattle.vl_turn.specs.Entries.{entries_by, AreNumbered, AreOthers, AreApart}
+use Rattle.vl_turn.specs.Entries.{entries_by, AreNumbered, AreOthers, AreApart, Owned, AreAmong}
 use Rattle.vl_turn.specs.Rule.{OwnsFit}
 
 module _ {E : Type 0} (by : E → ℕ) where
@@ -35,6 +35,14 @@ module _ {E : Type 0} (by : E → ℕ) where
   numbered_more count (x ∷ xs) all = (let below : by x < count = all.0 in omega arith, numbered_more count xs all.1)
 
   -- the sessions of a token
+
+  pub owned : (list : List E) (count : ℕ) (token_of : ℕ → ℕ) (id : ℕ) (os : List (Own E)) → OwnsFit by list count token_of id os → Owned by list os
+  owned list count token_of id [] fit = tt
+  owned list count token_of id (o ∷ os) fit = (fit.0.2, owned list count token_of id os fit.1)
+
+  pub among : (list : List E) (count : ℕ) (token_of : ℕ → ℕ) (id : ℕ) (os : List (Own E)) → OwnsFit by list count token_of id os → AreAmong count os
+  among list count token_of id [] fit = tt
+  among list count token_of id (o ∷ os) fit = (fit.0.0, among list count token_of id os fit.1)
 
   -- an entry of another token's session
   pub fit_grown : (list : List E) (count : ℕ) (token_of : ℕ → ℕ) (id j : ℕ) (e : E) (os : List (Own E)) → token_of (by e) ≡ id → j ≢ id → OwnsFit by list count token_of j os → OwnsFit by (list ++ e ∷ []) count token_of j os

@@ -12,7 +12,7 @@ use Rattle.vl_turn.specs.Views.{root, holding, entered, gave, opened, closing}
 use Rattle.vl_turn.specs.Rule.{OwnsFit, Fits, Table, IsFree, IsHeld, out_slot}
 use Rattle.vl_turn.specs.Steps.{TokenState, MayEnter, Takes, Enters, Gives, Opens, Closes}
 use Rattle.vl_turn.proofs.Prefixes.{begins_itself, begins_more, begins_grown}
-use Rattle.vl_turn.proofs.Sessions.{of_this, numbered_grown, fit_grown}
+use Rattle.vl_turn.proofs.Sessions.{of_this, numbered_grown, owned, fit_grown}
 use Rattle.vl_turn.proofs.Places.{at_changed, each_after_change, place_of_one}
 use Rattle.vl_turn.proofs.Keeping.{Rule, has_it, held_still, state_still, kept_still}
 
@@ -52,7 +52,7 @@ module _ {T E : Type 0} (stands : T → T → List E → Type 0) (by : E → ℕ
 
   taken_free : (n id : ℕ) (m : TokenState T E) → m.0.closed ≡ false → (s : Table T E) (r : Rule stands by start s) → get_elem? s.views id ≡ some m.0 → (r.turn ≡ 0) × IsFree (stands start) s r.list
       → (w : View T E) × (a : Act (Option T)) × Valid s.homes m.1 a
-      × Rule stands by start (stepped s 1 1 id m.1 w a) × Takes stands m (get_or s.words 1 0) (w, carried_after m.1 a)
+      × Rule stands by start (stepped s 1 1 id m.1 w a) × Takes stands by m (get_or s.words 1 0) (w, carried_after m.1 a)
   taken_free n id m unclosed s r at free =
       let f = free.1 in
       let found : get_or s.words 1 0 ≡ 0 = ap (λ ws. get_or ws 1 0) r.words ∙ free.0 in
@@ -69,12 +69,12 @@ module _ {T E : Type 0} (stands : T → T → List E → Type 0) (by : E → ℕ
             (record { same = mine.same; seen = begins_itself r.list; told = begins_more m.0.told m.0.seen r.list mine.told mine.seen; owns = mine.owns; apart = mine.apart; made = mine.made })
             (inr (refl, record { holder = id; view = w; at = at_changed s.views id m.0 w at; holds = refl; knows = refl; out = ap (λ hs. set hs 0 none) f.home ∙ ap out_slot (sym unclosed); alone = alone })),
         (
-          (λ _. record { value = f.value; list = r.list; later = mine.seen; is = refl; meaning = of_start (λ (x : T). stands x f.value r.list) start m.0.start mine.same f.stands }),
+          (λ _. record { value = f.value; list = r.list; later = mine.seen; is = refl; owns = owned by r.list r.count r.token_of id m.0.owns mine.owns; meaning = of_start (λ (x : T). stands x f.value r.list) start m.0.start mine.same f.stands }),
           (λ other. absurd (other found)),
         ),
       )
 
-  pub take_keeps : (n id : ℕ) (m : TokenState T E) → m.0.closed ≡ false → Allows (Rule stands by start) n id m 1 (λ _. 1) (Takes stands m)
+  pub take_keeps : (n id : ℕ) (m : TokenState T E) → m.0.closed ≡ false → Allows (Rule stands by start) n id m 1 (λ _. 1) (Takes stands by m)
   take_keeps n id m unclosed s r wide at _ = ⊎_elim
       (taken_free n id m unclosed s r at)
       (λ (held : (r.turn ≡ 1) × IsHeld s r.list).

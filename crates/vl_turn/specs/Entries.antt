@@ -1,5 +1,5 @@
 -- Lists of entries, and the own entries of sessions.
-use Rattle.std.specs.Prelude.{◌≢◌, ℕ, ◌<◌, ◌==◌, if◌then◌else◌, List, [], ◌∷◌, ◌++◌, Option, Some, None, length, nat_le}
+use Rattle.std.specs.Prelude.{◌≡◌, ◌≢◌, ℕ, ◌<◌, ◌==◌, if◌then◌else◌, List, [], ◌∷◌, ◌++◌, Option, Some, None, length, nat_le}
 use Rattle.vl_turn.specs.declared.view.Own.{Own}
 
 module _ {E : Type 0} where
@@ -44,3 +44,13 @@ module _ {E : Type 0} where
   abbrev pub AreApart : List (Own E) → Type 0
   AreApart [] = Unit {0}
   AreApart (o ∷ os) = AreOthers o.number os × AreApart os
+
+  -- of each of these sessions these are all its entries in the list, in order
+  abbrev pub Owned : (E → ℕ) → List E → List (Own E) → Type 0
+  Owned by list [] = Unit {0}
+  Owned by list (o ∷ os) = (o.entries ≡ entries_by by o.number list) × Owned by list os
+
+  -- these own entries are of some of the first `count` sessions
+  abbrev pub AreAmong : ℕ → List (Own E) → Type 0
+  AreAmong count [] = Unit {0}
+  AreAmong count (o ∷ os) = (o.number < count) × AreAmong count os

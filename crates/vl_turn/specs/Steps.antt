@@ -4,6 +4,7 @@ use Rattle.std.specs.Prelude.{◌≡◌, ◌≢◌, ℕ, List, [], ◌∷◌, Op
 use mathlib.Core.List.{IsPrefix}
 use Rattle.atomic_table.specs.Table.{Me}
 use Rattle.vl_turn.specs.declared.view.View.{View}
+use Rattle.vl_turn.specs.Entries.{Owned}
 use Rattle.vl_turn.specs.Views.{holding, entered, gave, opened, closing, looked, numbered}
 
 -- what a token knows, and the slot that it holds, if it does
@@ -22,16 +23,17 @@ module _ {T E : Type 0} where
   HoldsValue stands start m = (value : T) × (m.1 ≡ (0, Some value) ∷ []) × stands start value m.0.seen
 
   -- the turn was free: the token has it now, with the slot, and has seen the whole list, for which
-  -- the value stands
-  pub record IsTaken (stands : T → T → List E → Type 0) (m m' : TokenState T E) : Type 0 where
+  -- the value stands; its own entries are all that its sessions have in the list
+  pub record IsTaken (stands : T → T → List E → Type 0) (by : E → ℕ) (m m' : TokenState T E) : Type 0 where
     pub value : T
     pub list : List E
     pub later : IsPrefix m.0.seen list
     pub is : m' ≡ (holding m.0 list, (0, Some value) ∷ m.1)
+    pub owns : Owned by list m.0.owns
     pub meaning : IfSome m.0.start (λ x. stands x value list)
 
-  abbrev pub Takes : (T → T → List E → Type 0) → TokenState T E → ℕ → TokenState T E → Type 0
-  Takes stands m found m' = (found ≡ 0 → IsTaken stands m m') × (found ≢ 0 → m' ≡ m)
+  abbrev pub Takes : (T → T → List E → Type 0) → (E → ℕ) → TokenState T E → ℕ → TokenState T E → Type 0
+  Takes stands by m found m' = (found ≡ 0 → IsTaken stands by m m') × (found ≢ 0 → m' ≡ m)
 
   abbrev pub Enters : Option E → TokenState T E → ℕ → TokenState T E → Type 0
   Enters e m found m' = m' ≡ (entered m.0 e, m.1)

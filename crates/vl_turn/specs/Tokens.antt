@@ -3,9 +3,8 @@ use Rattle.std.specs.Prelude.{◌≡◌, ℕ, true, false, List, [], ◌∷◌, 
 use mathlib.Core.List.{IsPrefix}
 use Rattle.atomic_table.specs.Seated.{TableId}
 use Rattle.atomic_table.specs.declared.shared.Seat.{Seat}
-use Rattle.vl_turn.specs.declared.view.Own.{Own}
 use Rattle.vl_turn.specs.declared.view.View.{View}
-use Rattle.vl_turn.specs.Entries.{entries_by, AreNumbered, AreApart}
+use Rattle.vl_turn.specs.Entries.{AreNumbered, AreApart, Owned, AreAmong}
 use Rattle.vl_turn.specs.Views.{holding}
 
 -- it doesn't have the turn
@@ -32,22 +31,20 @@ pub record IsEmpty {T E : Type 0} (name : TableId) (start : T) (token : Seat (Op
   pub closed : token.me.0.closed ≡ true
   pub slots : token.me.1 ≡ []
 
--- a turn began: all of the list is now seen, and the value stands for it
-pub record Begins {T E : Type 0} (stands : T → T → List E → Type 0) (start : T) (v w : View T E) (value : T) : Type 0 where
+-- a turn began: all of the list is now seen, and the value stands for it; the token's own entries
+-- are all that its sessions have in it
+pub record Begins {T E : Type 0} (stands : T → T → List E → Type 0) (by : E → ℕ) (start : T) (v w : View T E) (value : T) : Type 0 where
   pub later : IsPrefix v.seen w.seen
   pub is : w ≡ holding v w.seen
+  pub owns : Owned by w.seen w.owns
   pub meaning : stands start value w.seen
 
--- of each of these sessions these are all its entries in the list, in order
-abbrev pub Owned : {E : Type 0} → (E → ℕ) → List E → List (Own E) → Type 0
-Owned by list [] = Unit {0}
-Owned by list (o ∷ os) = (o.entries ≡ entries_by by o.number list) × Owned by list os
-
--- the list is whole: nothing will be entered any more
+-- the list is whole: nothing will be entered any more; where the token knows how many sessions were
+-- numbered, each entry is of one of these, and each of its own sessions is one of these
 pub record IsWhole {T E : Type 0} (by : E → ℕ) (list : List E) (v : View T E) : Type 0 where
   pub owns : Owned by list v.owns
   pub apart : AreApart v.owns
-  pub numbers : IfSome v.made (λ n. AreNumbered by n list)
+  pub numbers : IfSome v.made (λ n. AreNumbered by n list × AreAmong n v.owns)
 
 -- the lock was closed: the value stands for the whole list, which begins with all that the token
 -- had seen

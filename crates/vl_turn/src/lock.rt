@@ -78,7 +78,7 @@ impl<T: Standing> TurnLock<T> {
         requires { IsTokenOf (lock_name self.now) (lock_start self.now) token.old }
         ensures same_reference { result.token.ghost_name ≡ token.entry.ghost_name }
         ensures token { HasTurn (lock_name self.now) (lock_start self.now) result.token.now }
-        ensures begins { Begins T.stands (lock_start self.now) token.old.me.0 result.token.now.me.0 result.value }
+        ensures begins { Begins T.stands T.by (lock_start self.now) token.old.me.0 result.token.now.me.0 result.value }
     {
         let value = self.wait_and_take(rt, token);
         Turn { value, token }
@@ -129,17 +129,9 @@ impl<T: Standing> TurnLock<T> {
         Ok(self.raw.split(from))
     }
 
-    /// Makes two tokens one. It has the sessions of both, and the longer of what they had seen.
-    pub fn join(&self, stay: &mut Token<T>, gone: Token<T>)
-        requires stay { IsTokenOf (lock_name self.now) (lock_start self.now) stay.old }
-        requires gone { IsTokenOf (lock_name self.now) (lock_start self.now) gone }
-        ensures token { IsTokenOf (lock_name self.now) (lock_start self.now) stay.new }
-        ensures joined { stay.new.me.0 ≡ joined stay.old.me.0 gone.me.0 }
-    {
-        self.raw.join(stay, gone);
-    }
-
-    /// The same, and what either had seen is known to begin what the token has seen now.
+    /// Makes two tokens one. It has the sessions of both, and the longer of what they had seen: what
+    /// either had seen is known to begin it. Where `note` is the token that numbers sessions, nobody
+    /// numbers any more.
     pub fn meet(&self, mine: &mut Token<T>, note: Token<T>)
         requires mine { IsTokenOf (lock_name self.now) (lock_start self.now) mine.old }
         requires note { IsTokenOf (lock_name self.now) (lock_start self.now) note }
@@ -151,7 +143,7 @@ impl<T: Standing> TurnLock<T> {
         ensures mine { IsPrefix mine.old.me.0.seen mine.new.me.0.seen }
         ensures note { IsPrefix note.me.0.seen mine.new.me.0.seen }
     {
-        self.join(mine, note);
+        self.raw.join(mine, note);
         self.raw.load(mine);
     }
 
@@ -170,7 +162,7 @@ impl<T: Standing> TurnLock<T> {
     fn wait_and_take<R: Wait>(&self, rt: &R, token: &mut Token<T>) -> T
         requires { IsTokenOf (lock_name self.now) (lock_start self.now) token.old }
         ensures token { HasTurn (lock_name self.now) (lock_start self.now) token.new }
-        ensures begins { Begins T.stands (lock_start self.now) token.old.me.0 token.new.me.0 result }
+        ensures begins { Begins T.stands T.by (lock_start self.now) token.old.me.0 token.new.me.0 result }
     {
         for _ in rt.forever() {
             if self.raw.take(token) {

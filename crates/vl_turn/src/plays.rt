@@ -10,7 +10,7 @@ use std::marker::PhantomData;
 pub(crate) struct Take;
 
 impl<T: Standing> Play<Option<T>, View<T, T::Entry>> for Take {
-    ghost then = { λ _. Takes T.stands };
+    ghost then = { λ _. Takes T.stands T.by };
 }
 
 pub(crate) struct Enter<W> {

@@ -56,7 +56,7 @@ impl<T: Standing> RawLock<T> {
     pub(crate) fn take(&self, token: &mut Token<T>) -> bool
         requires { IsTokenOf (raw_name self.now) (raw_start self.now) token.old }
         ensures here { token.new.table_id ≡ token.old.table_id }
-        ensures taken { OnTrue result (IsTaken T.stands token.old.me token.new.me) }
+        ensures taken { OnTrue result (IsTaken T.stands T.by token.old.me token.new.me) }
         ensures held { OnFalse result (token.new.me ≡ token.old.me) }
     {
         self.table.shared.swap::<Take>(token, TURN, 1) == 0
