@@ -59,14 +59,14 @@ pub fn run<S: Source, K: Sink, D: Disk>(
 
     // Where the words aren't plain nothing is opened or read and the usage line is printed, with status 2, or 7 where it
     // can't be. Status 2 comes nowhere else.
-    ensures plain { is_plain (map string_bytes words.now) ≡ true → result.status ≢ 2 }
+    ensures no_usage_line { is_plain (map string_bytes words.now) ≡ true → result.status ≢ 2 }
     ensures not_plain { is_plain (map string_bytes words.now) ≡ false
         → (source.new ≡ source.old) × (result.disk ≡ disk)
         × EndsBy K.Sink sink.old sink.new Ending.BadWords result.status }
 
     // Status 3 comes only by a fault of the disk, and all others but 7 only without.
     ensures disk_fault { result.status ≡ 3 → Rose (D.faults disk) (D.faults result.disk) }
-    ensures disk_steady { result.status ≢ 3 → result.status ≢ 7
+    ensures no_disk_fault { result.status ≢ 3 → result.status ≢ 7
         → D.faults result.disk ≡ D.faults disk }
 
     // Where the words are plain, status 4 comes exactly where anything stands on the disk, unless the disk failed, memory
@@ -85,7 +85,7 @@ pub fn run<S: Source, K: Sink, D: Disk>(
         → Rose (S.faults source.old) (S.faults source.new)
         × (K.faults sink.new ≡ K.faults sink.old) }
     ensures write_fault { result.status ≡ 7 → Rose (K.faults sink.old) (K.faults sink.new) }
-    ensures steady { result.status < 6
+    ensures no_stream_fault { result.status < 6
         → (S.faults source.new ≡ S.faults source.old) × (K.faults sink.new ≡ K.faults sink.old) }
 
     // There are no other statuses.

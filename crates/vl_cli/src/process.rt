@@ -17,7 +17,7 @@ use vl_io::{StdSink, StdSource};
 pub fn serve<R: Env + Input + Print + AllocGlobal, D: Disk>(rt: &R, disk: D) -> Ended<D>
     ensures status { (ending : HowEnded) × (result.status ≡ status_of ending) }
     ensures disk_fault { result.status ≡ 3 → Rose (D.faults disk) (D.faults result.disk) }
-    ensures disk_steady { result.status ≢ 3 → result.status ≢ 7 → D.faults result.disk ≡ D.faults disk }
+    ensures no_disk_fault { result.status ≢ 3 → result.status ≢ 7 → D.faults result.disk ≡ D.faults disk }
 {
     let mut sink = StdSink::new(io::writer(rt));
     let Ok(words) = words(rt) else {

@@ -115,13 +115,13 @@ module _ {D : Type 0} (g : Ghosts D) (watched : IsWatched g) (holds : Holding) (
       → (ending ≡ NoMemory → HoldsCommits g holds least new) → (IsBetweenLines (culprit_of ending) → HoldsCommits g holds least new) → (CutsAnswer ending → HoldsCommits g holds most new)
       → DiskEnds g holds shows ⊥ old new (record { ending = ending; first = least; answered = []; most = most })
   ends_within old new ending least most goes tells settled no_memory whole cut = record {
-    through = goes;
-    along = tt;
-    now = at_end old new least.history most.history goes tells;
-    settled = λ sound. inr (settled sound);
+    crash_during = goes;
+    line_by_line = tt;
+    crash_after = at_end old new least.history most.history goes tells;
+    without_fault = λ sound. inr (settled sound);
     no_memory = λ out. inr (no_memory out);
-    whole = whole;
-    cut = cut;
+    between_lines = whole;
+    answer_cut = cut;
   }
 
   -- it still holds what it held
@@ -142,13 +142,13 @@ module _ {D : Type 0} (g : Ghosts D) (watched : IsWatched g) (holds : Holding) (
       let there = it_holds e.after new held in
       let rest = rests e.after new held in
       record {
-        through = goes;
-        along = (new, goes, there, rest, tt);
-        now = at_end new new e.after.history e.after.history rest (held.there.0, held.there.1, tt);
-        settled = λ sound. inr (inl there);
+        crash_during = goes;
+        line_by_line = (new, goes, there, rest, tt);
+        crash_after = at_end new new e.after.history e.after.history rest (held.there.0, held.there.1, tt);
+        without_fault = λ sound. inr (inl there);
         no_memory = λ out. inr there;
-        whole = λ whole. there;
-        cut = λ cuts. there;
+        between_lines = λ whole. there;
+        answer_cut = λ cuts. there;
       }
 
   -- a run that began earlier, and had answered some lines
@@ -162,20 +162,20 @@ module _ {D : Type 0} (g : Ghosts D) (watched : IsWatched g) (holds : Holding) (
       let moved : HoldsCommits g holds (last_state before answered) new → HoldsCommits g holds (last_state start whole) new =
       λ (held : HoldsCommits g holds (last_state before answered) new). subst (λ (s : State). HoldsCommits g holds s new) same held in
       record {
-        through = goes_then first old new start.history before.history most.history lower upper so_far ends.through;
-        along = longer ends.through ends.along;
-        now = (ends.now.0, ends.now.1, subst (λ (s : State). Leaves (ShowsBetween shows s.history most.history) ends.now.0) same ends.now.2);
-        settled = λ sound. ⊎_elim
+        crash_during = goes_then first old new start.history before.history most.history lower upper so_far ends.crash_during;
+        line_by_line = longer ends.crash_during ends.line_by_line;
+        crash_after = (ends.crash_after.0, ends.crash_after.1, subst (λ (s : State). Leaves (ShowsBetween shows s.history most.history) ends.crash_after.0) same ends.crash_after.2);
+        without_fault = λ sound. ⊎_elim
             (λ (never : ⊥). absurd never)
             (λ (there : HoldsCommits g holds (last_state before answered) new ⊎ HoldsCommits g holds most new). inr (⊎_elim
             (λ (held : HoldsCommits g holds (last_state before answered) new). inl (moved held))
             (λ (held : HoldsCommits g holds most new). inr held)
             there))
-            (ends.settled (λ rose. sound (rose_earlier (g.faults first) (g.faults old) (g.faults new) earlier rose)));
+            (ends.without_fault (λ rose. sound (rose_earlier (g.faults first) (g.faults old) (g.faults new) earlier rose)));
         no_memory = λ out. ⊎_elim
             (λ (never : ⊥). absurd never)
             (λ (held : HoldsCommits g holds (last_state before answered) new). inr (moved held))
             (ends.no_memory out);
-        whole = λ between. moved (ends.whole between);
-        cut = ends.cut;
+        between_lines = λ between. moved (ends.between_lines between);
+        answer_cut = ends.answer_cut;
       }

@@ -90,13 +90,13 @@ module _ {D : Type 0} (g : Ghosts D) (watched : IsWatched g) (holds : Holding) (
         disk = λ p.
             let through = goes_wider g watched holds shows stays exactly first.disk end.disk h h h most (extends_itself h) (exchanges_extend (lines_of script.bytes) script.start 1) (goes p) in
             record {
-              through = through;
-              along = tt;
-              now = at_end g watched holds shows stays exactly first.disk end.disk h most through (tells p);
-              settled = λ sound. inl (kept sound);
+              crash_during = through;
+              line_by_line = tt;
+              crash_after = at_end g watched holds shows stays exactly first.disk end.disk h most through (tells p);
+              without_fault = λ sound. inl (kept sound);
               no_memory = λ out. inl (kept_out out);
-              whole = λ between. absurd (none between);
-              cut = λ cuts. absurd (none_cut cuts);
+              between_lines = λ between. absurd (none between);
+              answer_cut = λ cuts. absurd (none_cut cuts);
             };
       }
 

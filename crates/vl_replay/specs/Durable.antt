@@ -87,25 +87,25 @@ GoesAlong {D} g holds shows new most disk s (e ∷ later) =
 pub record DiskEnds {D : Type 0} (g : Ghosts D) (holds : Holding) (shows : Showing)
     (unopened : Type 0) (old new : D) (run : Course) : Type 0 where
   -- what a crash at any moment since the begin leaves shows a first part of the commits
-  pub through : GoesFrom g shows old new run.first.history run.most.history
+  pub crash_during : GoesFrom g shows old new run.first.history run.most.history
   -- and the disk went through one for each answered line, from which on a crash leaves its commit too
-  pub along : GoesAlong g holds shows new run.most old run.first run.answered
+  pub line_by_line : GoesAlong g holds shows new run.most old run.first run.answered
   -- what a crash leaves after the run's end shows each acknowledged one; so it is over a disk of which each call from some
   -- put on failed too
-  pub now : Tells g new (Leaves (ShowsBetween shows (last_state run.first run.answered).history run.most.history))
+  pub crash_after : Tells g new (Leaves (ShowsBetween shows (last_state run.first run.answered).history run.most.history))
   -- where the disk didn't fail nothing is torn: it wasn't opened, or holds the acknowledged commits, or these and that of
   -- one line more
-  pub settled : (Rose (g.faults old) (g.faults new) → ⊥)
+  pub without_fault : (Rose (g.faults old) (g.faults new) → ⊥)
       → unopened
       ⊎ (HoldsCommits g holds (last_state run.first run.answered) new ⊎ HoldsCommits g holds run.most new)
   -- where the run ended by want of memory, it wasn't opened, or holds just the acknowledged ones
   pub no_memory : run.ending ≡ NoMemory
       → unopened ⊎ HoldsCommits g holds (last_state run.first run.answered) new
   -- where the run ended between two lines, the disk holds just the acknowledged ones
-  pub whole : IsBetweenLines (culprit_of run.ending)
+  pub between_lines : IsBetweenLines (culprit_of run.ending)
       → HoldsCommits g holds (last_state run.first run.answered) new
   -- and where it ended while an answer was put, the commit of that answer's line too
-  pub cut : CutsAnswer run.ending → HoldsCommits g holds run.most new
+  pub answer_cut : CutsAnswer run.ending → HoldsCommits g holds run.most new
 
 -- so it is of a run over an open store, where the disk held the state in which it began
 abbrev pub DiskEndsFrom : {D : Type 0} → Ghosts D → Holding → Showing → (old new : D) → State

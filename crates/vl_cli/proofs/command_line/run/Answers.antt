@@ -19,8 +19,8 @@ returns-then-are_plain-clause-answers g c s input plain starts told = record { e
 pub returns-then-are_plain-clause-explained : goal.returns-then-are_plain-clause-explained
 returns-then-are_plain-clause-explained g c s input starts = all_explained g.D.Watched c.args.disk s (lines_of input) starts
 
-pub returns-then-are_plain-clause-plain : goal.returns-then-are_plain-clause-plain
-returns-then-are_plain-clause-plain g c plain two = c.replay-ending.ensures.words (is_bad_words c.replay-ending.result.ending (sym c.status-status.ensures ∙ two))
+pub returns-then-are_plain-clause-no_usage_line : goal.returns-then-are_plain-clause-no_usage_line
+returns-then-are_plain-clause-no_usage_line g c plain two = c.replay-ending.ensures.words (is_bad_words c.replay-ending.result.ending (sym c.status-status.ensures ∙ two))
 
 pub returns-then-are_plain-clause-not_plain : goal.returns-then-are_plain-clause-not_plain
 returns-then-are_plain-clause-not_plain g c other = absurd (not_both (sym c.if-are_plain.true ∙ c.are_plain.ensures ∙ other))
@@ -28,8 +28,8 @@ returns-then-are_plain-clause-not_plain g c other = absurd (not_both (sym c.if-a
 pub returns-then-are_plain-clause-disk_fault : goal.returns-then-are_plain-clause-disk_fault
 returns-then-are_plain-clause-disk_fault g c is = rose_by TheDisk 3 disk_status c.replay-ending.result.ending _ _ c.replay-ending.ensures.disk (sym c.status-status.ensures ∙ is)
 
-pub returns-then-are_plain-clause-disk_steady : goal.returns-then-are_plain-clause-disk_steady
-returns-then-are_plain-clause-disk_steady g c other whole =
+pub returns-then-are_plain-clause-no_disk_fault : goal.returns-then-are_plain-clause-no_disk_fault
+returns-then-are_plain-clause-no_disk_fault g c other whole =
     steady_by TheDisk 3 disk_status c.replay-ending.result.ending _ _ c.replay-ending.ensures.disk (λ e. other (c.status-status.ensures ∙ e)) (λ e. whole (c.status-status.ensures ∙ e))
 
 pub returns-then-are_plain-clause-not_a_store : goal.returns-then-are_plain-clause-not_a_store
@@ -55,8 +55,8 @@ returns-then-are_plain-clause-read_fault g c is =
 pub returns-then-are_plain-clause-write_fault : goal.returns-then-are_plain-clause-write_fault
 returns-then-are_plain-clause-write_fault g c is = rose_by TheSink 7 sink_status c.replay-ending.result.ending _ _ c.replay-ending.ensures.sink (sym c.status-status.ensures ∙ is)
 
-pub returns-then-are_plain-clause-steady : goal.returns-then-are_plain-clause-steady
-returns-then-are_plain-clause-steady g c less =
+pub returns-then-are_plain-clause-no_stream_fault : goal.returns-then-are_plain-clause-no_stream_fault
+returns-then-are_plain-clause-no_stream_fault g c less =
     let ending = c.replay-ending.result.ending in
     let small : status_of ending < 6 = subst (λ (n : ℕ). n < 6) c.status-status.ensures less in (
       steady_by TheSource 6 source_status ending _ _ c.replay-ending.ensures.source (below (status_of ending) 6 small (omega arith)) (below (status_of ending) 7 small (omega arith)),
@@ -71,8 +71,8 @@ returns-clause-answers g c s input plain starts told = absurd (not_both (sym pla
 pub returns-clause-explained : goal.returns-clause-explained
 returns-clause-explained g c s input starts = all_explained g.D.Watched c.args.disk s (lines_of input) starts
 
-pub returns-clause-plain : goal.returns-clause-plain
-returns-clause-plain g c plain = absurd (not_both (sym plain ∙ sym c.are_plain.ensures ∙ c.if-are_plain.false))
+pub returns-clause-no_usage_line : goal.returns-clause-no_usage_line
+returns-clause-no_usage_line g c plain = absurd (not_both (sym plain ∙ sym c.are_plain.ensures ∙ c.if-are_plain.false))
 
 pub returns-clause-not_plain : goal.returns-clause-not_plain
 returns-clause-not_plain g c other = (refl, refl, (c.finish.result, c.status-status-2.ensures, (usage_line, refl, c.finish.ensures)))
@@ -92,5 +92,5 @@ returns-clause-read_fault g c is = absurd (refused_status g.K.Sink _ _ _ c.finis
 pub returns-clause-write_fault : goal.returns-clause-write_fault
 returns-clause-write_fault g c is = refused_rose g.K.Sink _ _ _ c.finish.result c.finish.ensures (sym c.status-status-2.ensures ∙ is)
 
-pub returns-clause-steady : goal.returns-clause-steady
-returns-clause-steady g c less = (refl, refused_steady g.K.Sink _ _ _ c.finish.result c.finish.ensures (subst (λ (n : ℕ). n < 6) c.status-status-2.ensures less))
+pub returns-clause-no_stream_fault : goal.returns-clause-no_stream_fault
+returns-clause-no_stream_fault g c less = (refl, refused_steady g.K.Sink _ _ _ c.finish.result c.finish.ensures (subst (λ (n : ℕ). n < 6) c.status-status-2.ensures less))
