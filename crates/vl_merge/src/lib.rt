@@ -1,0 +1,8 @@
+//! What entries of several sources come to when they are merged, and what a look-up in sources answers.
+#![tactic(auto)]
+
+mod laws;
+mod sources;
+
+pub use laws::{merged_goes_along, merged_has_the_same_winners, merged_one_at_a_time};
+pub use sources::Sources;
