@@ -15,7 +15,7 @@ use Rattle.vl_run.specs.OrderLaws.{entry_total, put-apart, turned}
 use Rattle.vl_run.specs.Exact.{exact-in_order}
 use Rattle.vl_merge.specs.Merging.{way_cmp, place, merged, IsFirst, IsAlong}
 
-way_total : (way : Way) → IsTotalOrder (way_cmp way)
+pub way_total : (way : Way) → IsTotalOrder (way_cmp way)
 way_total Up = entry_total
 way_total Down = back_total entry_total
 
@@ -30,7 +30,7 @@ greater Less is = absurd cc
 greater Equal is = absurd cc
 greater Greater is = refl
 
-not_after : (r : Ordering) → is_gt r ≡ true → is_gt (ordering_reverse r) ≡ false
+pub not_after : (r : Ordering) → is_gt r ≡ true → is_gt (ordering_reverse r) ≡ false
 not_after Less is = absurd cc
 not_after Equal is = absurd cc
 not_after Greater is = refl
@@ -61,7 +61,7 @@ pub length-merged : (way : Way) (es : List Entry) → length (merged way es) ≡
 length-merged way [] = refl
 length-merged way (e ∷ es) = let here = length-place way e (merged way es) in let later = length-merged way es in omega arith
 
-first-all : (way : Way) (e f : Entry) (fs : List Entry) → is_gt (way_cmp way e f) ≡ false → IsFirst way f fs → IsFirst way e fs
+pub first-all : (way : Way) (e f : Entry) (fs : List Entry) → is_gt (way_cmp way e f) ≡ false → IsFirst way f fs → IsFirst way e fs
 first-all way e f [] here first = tt
 first-all way e f (g ∷ fs) here first = (upto (way_total way) e f g here first.0, first-all way e f fs here first.1)
 

@@ -1,0 +1,52 @@
+ghost use Rattle.std.specs.Prelude.{◌≡◌, ◌≤◌, OnOk, IfErr};
+ghost use Rattle.std.specs.List.{AllByRecursion, sum_by};
+ghost use Rattle.vl_model.specs.Cursors.{HasRisen};
+ghost use Rattle.vl_merge.specs.Ahead.{left_of, budget_of, merge_of, IsRead, Stands};
+ghost use Rattle.vl_merge.specs.declared.ahead.Ahead.{Ahead};
+
+use crate::Steady;
+use crate::ahead::Ahead;
+use crate::choice::first;
+use vl_model::{Cursor, Entry, Way};
+
+/// The entries of several cursors in one. Of those of one key and version the one of the newest source
+/// comes first.
+#[derive(Drop)]
+pub struct Merge<C> {
+    sources: Vec<Ahead<C>>,
+    way: Way,
+}
+
+impl<C: Steady + Drop> Cursor for Merge<C> {
+    ghost use Rattle.std.specs.Prelude.{map};
+
+    type Fault = C::Fault;
+
+    ghost left = { λ m. merge_of m.way (map (λ (a : Ahead C). left_of a.read (C.left a.cursor)) m.sources.items) };
+
+    ghost budget = { λ m. sum_by (λ (a : Ahead C). budget_of a.read (C.budget a.cursor)) m.sources.items };
+
+    ghost faults = { λ m. sum_by (λ (a : Ahead C). C.faults a.cursor) m.sources.items };
+
+    ghost is_read_fault = { λ f. C.is_read_fault f };
+
+    fn next(&mut self) -> Result<Option<Entry>, C::Fault> {
+        look_all(&mut self.sources)?;
+        Ok(match first(&self.sources, self.way) {
+            None => None,
+            Some(at) => self.sources[at].give(),
+        })
+    }
+}
+
+// Reads ahead in each source where nothing is.
+fn look_all<C: Steady + Drop>(sources: &mut [Ahead<C>]) -> Result<(), C::Fault>
+    ensures stands { Stands (λ (a : Ahead C). left_of a.read (C.left a.cursor)) (λ (a : Ahead C). budget_of a.read (C.budget a.cursor)) (λ (a : Ahead C). C.faults a.cursor) sources.old sources.new }
+    ensures read { OnOk result (AllByRecursion (λ (a : Ahead C). IsRead a.read (C.left a.cursor)) sources.new) }
+    ensures failed { IfErr result (λ fault. HasRisen (C.is_read_fault fault) (sum_by (λ (a : Ahead C). C.faults a.cursor) sources.old) (sum_by (λ (a : Ahead C). C.faults a.cursor) sources.new)) }
+{
+    for i in 0..sources.len() {
+        sources[i].look()?;
+    }
+    Ok(())
+}
