@@ -1,7 +1,7 @@
 -- Laws of a merge's steps: what is chosen among the sources is the first of the merged entries.
 use Rattle.std.proofs.Common.{◌≡◌, ◌≢◌, ℕ, zero, suc, ◌+◌, ◌≤◌, ◌<◌, ◌-◌, ◌^◌, min, Bool, true, false, cond, not, ◌&&◌, List, [], ◌∷◌, ◌++◌, map, take, drop, length, get_or, refl, ap, sym, ◌∙◌, subst, arith, Option, Some, None}
 use Rattle.std.proofs.Math.ListN.{set}
-use Rattle.std.proofs.Math.Seq.{map-set_same, get_or-append_seam, set-append_seam, take-length}
+use Rattle.std.proofs.Math.Seq.{map-set_same, get_or-append_seam, set-append_seam, take-append_seam}
 use Rattle.std.proofs.lemmas.List.{map-append, append_assoc, take_more, take_more_set, take-append-drop, length-take-le, length-append}
 use Rattle.std.proofs.lemmas.List.Sums.{sum_by-set, get_or-le-sum_by}
 use Rattle.std.specs.List.{AllByRecursion, sum_by}
@@ -248,3 +248,35 @@ module _ {X : Type 0} (left : X → Option (List Entry)) (budget faults : X → 
 module _ {X : Type 0} (P : X → Type 0) where
   pub all-set : (xs : List X) (i : ℕ) (y : X) → i < length xs → AllByRecursion P (take i xs) → P y → AllByRecursion P (take (i + 1) (set xs i y))
   all-set xs i y within all here = subst (AllByRecursion P) (sym (take_more_set xs i y within)) (all-more P (take i xs) y all here)
+
+-- ---- as the code has them
+
+module _ {X : Type 0} (way : Way) (read : X → Option Entry) (left : X → Option (List Entry)) (xs ys : List X) (lefts : List (Option (List Entry)))
+  (same : map (λ x. left_of (read x) (left x)) xs ≡ lefts) (are : AllByRecursion (λ x. IsRead (read x) (left x)) xs)
+  (choice : Option ℕ) (chosen : IsChoice way read xs choice) (out : Option Entry) where
+  pub none_given : choice ≡ None → ys ≡ xs → out ≡ None
+      → Gives (merge_of way lefts) (merge_of way (map (λ x. left_of (read x) (left x)) ys)) out
+  none_given is stay gave =
+      subst (Gives (merge_of way lefts) (merge_of way (map (λ x. left_of (read x) (left x)) ys))) (sym gave)
+      (subst (λ l. Gives (merge_of way lefts) (merge_of way (map (λ x. left_of (read x) (left x)) l)) None) (sym stay)
+      (gives_none way read left xs lefts same are (subst (IsChoice way read xs) is chosen)))
+
+  pub first_given : (at : ℕ) (x y : X) → choice ≡ Some at → x ≡ get_or xs at x → read y ≡ None → left y ≡ left (get_or xs at x)
+      → ys ≡ set xs at y → out ≡ read (get_or xs at x)
+      → Gives (merge_of way lefts) (merge_of way (map (λ x. left_of (read x) (left x)) ys)) out
+  first_given at x y is there gone stays set_is gave =
+      subst (Gives (merge_of way lefts) (merge_of way (map (λ x. left_of (read x) (left x)) ys))) (sym (gave ∙ ap read (sym there)))
+      (gives_first way read left xs ys at x y lefts same are (subst (IsChoice way read xs) is chosen) there gone (stays ∙ ap left (sym there)) set_is)
+
+module _ {X : Type 0} (faults : X → ℕ) (before : ℕ) (xs ys : List X) where
+  pub counts-stays : before ≤ sum_by faults xs → ys ≡ xs → before ≤ sum_by faults ys
+  counts-stays upto same = subst (λ l. before ≤ sum_by faults l) (sym same) upto
+
+  pub counts-set : (at : ℕ) (x y : X) → before ≤ sum_by faults xs → at < length xs → faults y ≡ faults (get_or xs at x) → ys ≡ set xs at y
+      → before ≤ sum_by faults ys
+  counts-set at x y upto within same set_is =
+      let b = sum_by-set faults xs at y x within in let whole = ap (sum_by faults) set_is in omega arith
+
+-- what is written back of a part that is all
+pub taken : {X : Type 0} (n : ℕ) (ys zs : List X) → length ys ≡ n → take n (ys ++ drop (length ys) zs) ≡ ys
+taken n ys zs is = ap (λ k. take k (ys ++ drop (length ys) zs)) (sym is) ∙ take-append_seam ys (drop (length ys) zs)

@@ -1,6 +1,6 @@
-ghost use Rattle.std.specs.Prelude.{◌≡◌, ◌≤◌, OnOk, IfErr};
+ghost use Rattle.std.specs.Prelude.{◌≡◌, ◌≤◌, ◌<◌, map, OnOk, OnErr, IfOk, IfErr, IsSome, MatchResult};
 ghost use Rattle.std.specs.List.{AllByRecursion, sum_by};
-ghost use Rattle.vl_model.specs.Cursors.{HasRisen};
+ghost use Rattle.vl_model.specs.Cursors.{Gives, HasRisen};
 ghost use Rattle.vl_merge.specs.Ahead.{left_of, budget_of, merge_of, IsRead, Stands};
 ghost use Rattle.vl_merge.specs.declared.ahead.Ahead.{Ahead};
 
@@ -18,8 +18,6 @@ pub struct Merge<C> {
 }
 
 impl<C: Steady + Drop> Cursor for Merge<C> {
-    ghost use Rattle.std.specs.Prelude.{map};
-
     type Fault = C::Fault;
 
     ghost left = { λ m. merge_of m.way (map (λ (a : Ahead C). left_of a.read (C.left a.cursor)) m.sources.items) };
@@ -31,11 +29,7 @@ impl<C: Steady + Drop> Cursor for Merge<C> {
     ghost is_read_fault = { λ f. C.is_read_fault f };
 
     fn next(&mut self) -> Result<Option<Entry>, C::Fault> {
-        look_all(&mut self.sources)?;
-        Ok(match first(&self.sources, self.way) {
-            None => None,
-            Some(at) => self.sources[at].give(),
-        })
+        next_of(&mut self.sources, self.way)
     }
 }
 
@@ -49,4 +43,23 @@ fn look_all<C: Steady + Drop>(sources: &mut [Ahead<C>]) -> Result<(), C::Fault>
         sources[i].look()?;
     }
     Ok(())
+}
+
+// The next entry of all sources.
+fn next_of<C: Steady + Drop>(sources: &mut [Ahead<C>], way: Way) -> Result<Option<Entry>, C::Fault>
+    ensures given { IfOk result (λ next. Gives
+        (merge_of way (map (λ (a : Ahead C). left_of a.read (C.left a.cursor)) sources.old))
+        (merge_of way (map (λ (a : Ahead C). left_of a.read (C.left a.cursor)) sources.new)) next) }
+    ensures kept { OnErr result (map (λ (a : Ahead C). left_of a.read (C.left a.cursor)) sources.new ≡ map (λ (a : Ahead C). left_of a.read (C.left a.cursor)) sources.old) }
+    ensures spends { MatchResult result
+        (λ next. IsSome next → sum_by (λ (a : Ahead C). budget_of a.read (C.budget a.cursor)) sources.new < sum_by (λ (a : Ahead C). budget_of a.read (C.budget a.cursor)) sources.old)
+        (λ _. sum_by (λ (a : Ahead C). budget_of a.read (C.budget a.cursor)) sources.new ≤ sum_by (λ (a : Ahead C). budget_of a.read (C.budget a.cursor)) sources.old) }
+    ensures counts { sum_by (λ (a : Ahead C). C.faults a.cursor) sources.old ≤ sum_by (λ (a : Ahead C). C.faults a.cursor) sources.new }
+    ensures failed { IfErr result (λ fault. HasRisen (C.is_read_fault fault) (sum_by (λ (a : Ahead C). C.faults a.cursor) sources.old) (sum_by (λ (a : Ahead C). C.faults a.cursor) sources.new)) }
+{
+    look_all(sources)?;
+    Ok(match first(sources, way) {
+        None => None,
+        Some(at) => sources[at].give(),
+    })
 }
