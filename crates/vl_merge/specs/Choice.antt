@@ -75,15 +75,31 @@ module _ {X : Type 0} (way : Way) (read : X → Option Entry) where
       → IsChoice way read (take i xs) best → IsChoice way read (take (i + 1) xs) best
   choice-past xs i x None within is gone none =
       subst (AllByRecursion (λ y. read y ≡ None)) (sym (one_more xs i x within is)) (all-more (λ y. read y ≡ None) (take i xs) x none gone)
-  choice-past xs i x (Some at) within is gone (front, z, back, e, whole, here, reads, behind, ahead) =
-      (front, z, back ++ x ∷ [], e, one_more xs i x within is ∙ ap (λ l. l ++ x ∷ []) whole ∙ append_assoc front (z ∷ back) (x ∷ []), here, reads, behind,
-        all-more (λ y. IsNotAhead way e (read y)) back x ahead (subst (IsNotAhead way e) (sym gone) tt))
+  choice-past xs i x (Some at) within is gone (front, z, back, e, whole, here, reads, behind, ahead) = (
+    front,
+    z,
+    back ++ x ∷ [],
+    e,
+    one_more xs i x within is ∙ ap (λ l. l ++ x ∷ []) whole ∙ append_assoc front (z ∷ back) (x ∷ []),
+    here,
+    reads,
+    behind,
+    all-more (λ y. IsNotAhead way e (read y)) back x ahead (subst (IsNotAhead way e) (sym gone) tt),
+  )
 
   pub choice-only : (xs : List X) (i : ℕ) (x : X) (e : Entry) → i < length xs → x ≡ get_or xs i x → read x ≡ Some e
       → IsChoice way read (take i xs) None → IsChoice way read (take (i + 1) xs) (Some i)
-  choice-only xs i x e within is reads none =
-      (take i xs, x, [], e, one_more xs i x within is, sym (length-take-le i xs (omega arith)), reads,
-        all-weaker (λ y. read y ≡ None) (λ y. IsBehind way e (read y)) (take i xs) (λ y. nothing-behind e (read y)) none, tt)
+  choice-only xs i x e within is reads none = (
+    take i xs,
+    x,
+    [],
+    e,
+    one_more xs i x within is,
+    sym (length-take-le i xs (omega arith)),
+    reads,
+    all-weaker (λ y. read y ≡ None) (λ y. IsBehind way e (read y)) (take i xs) (λ y. nothing-behind e (read y)) none,
+    tt,
+  )
 
   -- the source that was chosen so far, in the whole list
   chosen-at : (xs : List X) (i at : ℕ) (front : List X) (z : X) (back : List X) (y : X) → take i xs ≡ front ++ z ∷ back → at ≡ length front
@@ -108,12 +124,20 @@ module _ {X : Type 0} (way : Way) (read : X → Option Entry) where
 
   pub choice-new : (xs : List X) (i at : ℕ) (x y : X) (e f : Entry) → i < length xs → x ≡ get_or xs i x → read x ≡ Some e → y ≡ get_or xs at y → read y ≡ Some f
       → is_gt (way_cmp way f e) ≡ true → IsChoice way read (take i xs) (Some at) → IsChoice way read (take (i + 1) xs) (Some i)
-  choice-new xs i at x y e f within is reads there reads_y after (front, z, back, g, whole, here, reads_z, behind, ahead) =
-      (take i xs, x, [], e, one_more xs i x within is, sym (length-take-le i xs (omega arith)), reads,
-        subst (AllByRecursion (λ w. IsBehind way e (read w))) (sym whole)
+  choice-new xs i at x y e f within is reads there reads_y after (front, z, back, g, whole, here, reads_z, behind, ahead) = (
+    take i xs,
+    x,
+    [],
+    e,
+    one_more xs i x within is,
+    sym (length-take-le i xs (omega arith)),
+    reads,
+    subst (AllByRecursion (λ w. IsBehind way e (read w))) (sym whole)
         (all-join (λ w. IsBehind way e (read w)) front (z ∷ back)
-          (all-weaker (λ w. IsBehind way g (read w)) (λ w. IsBehind way e (read w)) front (λ w. behind-two e g after_g (read w)) behind)
-          (subst (IsBehind way e) (sym reads_z) after_g, all-weaker (λ w. IsNotAhead way g (read w)) (λ w. IsBehind way e (read w)) back (λ w. behind-after e g after_g (read w)) ahead)), tt)
+        (all-weaker (λ w. IsBehind way g (read w)) (λ w. IsBehind way e (read w)) front (λ w. behind-two e g after_g (read w)) behind)
+        (subst (IsBehind way e) (sym reads_z) after_g, all-weaker (λ w. IsNotAhead way g (read w)) (λ w. IsBehind way e (read w)) back (λ w. behind-after e g after_g (read w)) ahead)),
+    tt,
+  )
     where
       same : f ≡ g
       same = some_is f g (sym reads_y ∙ ap read (chosen-at xs i at front z back y whole here there) ∙ reads_z)
@@ -126,9 +150,17 @@ module _ {X : Type 0} (way : Way) (read : X → Option Entry) where
 
   pub choice-old : (xs : List X) (i at : ℕ) (x y : X) (e f : Entry) → i < length xs → x ≡ get_or xs i x → read x ≡ Some e → y ≡ get_or xs at y → read y ≡ Some f
       → is_gt (way_cmp way f e) ≡ false → IsChoice way read (take i xs) (Some at) → IsChoice way read (take (i + 1) xs) (Some at)
-  choice-old xs i at x y e f within is reads there reads_y after (front, z, back, g, whole, here, reads_z, behind, ahead) =
-      (front, z, back ++ x ∷ [], g, one_more xs i x within is ∙ ap (λ l. l ++ x ∷ []) whole ∙ append_assoc front (z ∷ back) (x ∷ []), here, reads_z, behind,
-        all-more (λ w. IsNotAhead way g (read w)) back x ahead (subst (IsNotAhead way g) (sym reads) after_g))
+  choice-old xs i at x y e f within is reads there reads_y after (front, z, back, g, whole, here, reads_z, behind, ahead) = (
+    front,
+    z,
+    back ++ x ∷ [],
+    g,
+    one_more xs i x within is ∙ ap (λ l. l ++ x ∷ []) whole ∙ append_assoc front (z ∷ back) (x ∷ []),
+    here,
+    reads_z,
+    behind,
+    all-more (λ w. IsNotAhead way g (read w)) back x ahead (subst (IsNotAhead way g) (sym reads) after_g),
+  )
     where
       same : f ≡ g
       same = some_is f g (sym reads_y ∙ ap read (chosen-at xs i at front z back y whole here there) ∙ reads_z)
@@ -142,7 +174,7 @@ module _ {X : Type 0} (way : Way) (read : X → Option Entry) where
 -- ---- as the code has them: what is read of the element at a place, and what the choice was
 
 module _ {X : Type 0} (way : Way) (read : X → Option Entry) (xs : List X) (i : ℕ) (x : X) (best : Option ℕ) (within : i < length xs)
-  (is : x ≡ get_or xs i x) (choice : IsChoice way read (take i xs) best) where
+    (is : x ≡ get_or xs i x) (choice : IsChoice way read (take i xs) best) where
   pub past : read (get_or xs i x) ≡ None → IsChoice way read (take (i + 1) xs) best
   past gone = choice-past way read xs i x best within is (ap read is ∙ gone) choice
 

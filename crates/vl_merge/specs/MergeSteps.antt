@@ -120,10 +120,14 @@ module _ {X : Type 0} (way : Way) (read : X → Option Entry) (left : X → Opti
           → IsSplit e (Some es) [] back all
       by (gs, fs, here, along, later, whole) =
           let same : gs ≡ e ∷ es = cc in
-          let parts = both (is_first way e es) (is_along way es) (ap (is_along way) (sym same) ∙ along) in
-          ([], es ++ fs, whole ∙ ap (λ l. l ++ fs) same, tt,
+          let parts = both (is_first way e es) (is_along way es) (ap (is_along way) (sym same) ∙ along) in (
+            [],
+            es ++ fs,
+            whole ∙ ap (λ l. l ++ fs) same,
+            tt,
             all-append (λ f. is_gt (way_cmp way e f) ≡ false) es fs (first-true way e es parts.0) (back-first e back fs ahead are later),
-            told-join way es fs (map source back) parts.1 later)
+            told-join way es fs (map source back) parts.1 later,
+          )
 
   split : (e : Entry) (l : Option (List Entry)) (front back : List X) (all : List Entry)
       → AllByRecursion (λ y. IsBehind way e (read y)) front → AreRead front
@@ -140,13 +144,16 @@ module _ {X : Type 0} (way : Way) (read : X → Option Entry) (left : X → Opti
       by again (es, fs, here, along, rest_told, whole) = more (again fs rest_told)
         where
           more : IsSplit e l front back fs → IsSplit e l (y ∷ front) back all
-          more (newer, rest, is_fs, all_behind, first, now) =
-              (es ++ newer, rest, whole ∙ ap (λ l. es ++ l) is_fs ∙ sym (append_assoc es newer (e ∷ rest)),
-                all-append (λ f. is_gt (way_cmp way f e) ≡ true) es newer (behind-source way e (read y) (left y) es are.0 behind.0 here (along-true way es along)) all_behind,
-                first,
-                ap (λ s. told way (s ∷ map source front ++ l ∷ map source back)) here
+          more (newer, rest, is_fs, all_behind, first, now) = (
+            es ++ newer,
+            rest,
+            whole ∙ ap (λ l. es ++ l) is_fs ∙ sym (append_assoc es newer (e ∷ rest)),
+            all-append (λ f. is_gt (way_cmp way f e) ≡ true) es newer (behind-source way e (read y) (left y) es are.0 behind.0 here (along-true way es along)) all_behind,
+            first,
+            ap (λ s. told way (s ∷ map source front ++ l ∷ map source back)) here
                 ∙ told-join way es (newer ++ rest) (map source front ++ l ∷ map source back) along now
-                ∙ ap Some (sym (append_assoc es newer rest)))
+                ∙ ap Some (sym (append_assoc es newer rest)),
+          )
 
   all-parts : (P : X → Type 0) (front : List X) (x : X) (back : List X) → AllByRecursion P (front ++ x ∷ back) → AllByRecursion P front × P x × AllByRecursion P back
   all-parts P [] x back all = (tt, all.0, all.1)
@@ -179,9 +186,11 @@ module _ {X : Type 0} (way : Way) (read : X → Option Entry) (left : X → Opti
 
       merged_by : (all : List Entry) → IsSplit e (left z) front back all
           → (rest : List Entry) × (merged way all ≡ e ∷ rest) × (merge_of way (map source ys) ≡ Some rest)
-      merged_by all (newer, rest, is_all, all_behind, first, now) =
-          (merged way (newer ++ rest), ap (merged way) is_all ∙ merged-first way newer e rest all_behind first,
-            ap (merge_of way) after ∙ ap (option_map (merged way)) now)
+      merged_by all (newer, rest, is_all, all_behind, first, now) = (
+        merged way (newer ++ rest),
+        ap (merged way) is_all ∙ merged-first way newer e rest all_behind first,
+        ap (merge_of way) after ∙ ap (option_map (merged way)) now,
+      )
 
       of_told : (t : Option (List Entry)) → told way lefts ≡ t → (out : List Entry) → option_map (merged way) t ≡ Some out
           → (rest : List Entry) × (out ≡ e ∷ rest) × (merge_of way (map source ys) ≡ Some rest)
@@ -227,10 +236,11 @@ module _ {X : Type 0} (way : Way) (read : X → Option Entry) (left : X → Opti
 module _ {X : Type 0} (left : X → Option (List Entry)) (budget faults : X → ℕ) where
   pub stands-set : (xs ys : List X) (i : ℕ) (x y : X) → Stands left budget faults xs ys → i < length ys
       → left y ≡ left (get_or ys i x) → budget y ≤ budget (get_or ys i x) → faults (get_or ys i x) ≤ faults y → Stands left budget faults xs (set ys i y)
-  stands-set xs ys i x y so within same spends rises =
-      (map-set_same left ys i y x same ∙ so.0,
-        (let b = sum_by-set budget ys i y x within in let s = so.1 in omega arith),
-        (let b = sum_by-set faults ys i y x within in let s = so.2 in omega arith))
+  stands-set xs ys i x y so within same spends rises = (
+    map-set_same left ys i y x same ∙ so.0,
+    (let b = sum_by-set budget ys i y x within in let s = so.1 in omega arith),
+    (let b = sum_by-set faults ys i y x within in let s = so.2 in omega arith),
+  )
 
   raised : (top a b c d : ℕ) → a ≤ c → min (a + 1) top ≤ b → d + a ≡ c + b → min (c + 1) top ≤ d
   raised top a b c d part up is = omega arith
@@ -252,8 +262,8 @@ module _ {X : Type 0} (P : X → Type 0) where
 -- ---- as the code has them
 
 module _ {X : Type 0} (way : Way) (read : X → Option Entry) (left : X → Option (List Entry)) (xs ys : List X) (lefts : List (Option (List Entry)))
-  (same : map (λ x. left_of (read x) (left x)) xs ≡ lefts) (are : AllByRecursion (λ x. IsRead (read x) (left x)) xs)
-  (choice : Option ℕ) (chosen : IsChoice way read xs choice) (out : Option Entry) where
+    (same : map (λ x. left_of (read x) (left x)) xs ≡ lefts) (are : AllByRecursion (λ x. IsRead (read x) (left x)) xs)
+    (choice : Option ℕ) (chosen : IsChoice way read xs choice) (out : Option Entry) where
   pub none_given : choice ≡ None → ys ≡ xs → out ≡ None
       → Gives (merge_of way lefts) (merge_of way (map (λ x. left_of (read x) (left x)) ys)) out
   none_given is stay gave =

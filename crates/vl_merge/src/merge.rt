@@ -1,4 +1,4 @@
-ghost use Rattle.std.specs.Prelude.{◌≡◌, ◌≤◌, ◌<◌, map, OnOk, OnErr, IfOk, IfErr, IsSome, MatchResult};
+ghost use Rattle.std.specs.Prelude.{◌≡◌, ◌≤◌, ◌<◌, map, None, OnOk, OnErr, IfOk, IfErr, IsSome, MatchResult};
 ghost use Rattle.std.specs.List.{AllByRecursion, sum_by};
 ghost use Rattle.vl_model.specs.Cursors.{Gives, HasRisen};
 ghost use Rattle.vl_merge.specs.Ahead.{left_of, budget_of, merge_of, IsRead, Stands};
@@ -7,6 +7,7 @@ ghost use Rattle.vl_merge.specs.declared.ahead.Ahead.{Ahead};
 use crate::Steady;
 use crate::ahead::Ahead;
 use crate::choice::first;
+use std::alloc::AllocError;
 use vl_model::{Cursor, Entry, Way};
 
 /// The entries of several cursors in one. Of those of one key and version the one of the newest source
@@ -31,6 +32,31 @@ impl<C: Steady + Drop> Cursor for Merge<C> {
     fn next(&mut self) -> Result<Option<Entry>, C::Fault> {
         next_of(&mut self.sources, self.way)
     }
+}
+
+impl<C: Steady + Drop> Merge<C> {
+    /// The entries of these cursors in one, the newest source first. It may want memory.
+    pub fn new(sources: Vec<C>, way: Way) -> Result<Self, AllocError>
+        ensures left { IfOk result (λ merge. ⟦<Merge<C> as Cursor>⟧.left merge ≡ merge_of way (map (λ c. C.left c) sources.items)) }
+        ensures budget { IfOk result (λ merge. ⟦<Merge<C> as Cursor>⟧.budget merge ≡ sum_by (λ c. C.budget c) sources.items) }
+        ensures faults { IfOk result (λ merge. ⟦<Merge<C> as Cursor>⟧.faults merge ≡ sum_by (λ c. C.faults c) sources.items) }
+    {
+        Ok(Merge {
+            sources: unread(sources)?,
+            way,
+        })
+    }
+}
+
+// These cursors with nothing read ahead.
+fn unread<C: Drop>(cursors: Vec<C>) -> Result<Vec<Ahead<C>>, AllocError>
+    ensures { IfOk result (λ all. all.items ≡ map (λ c. record { cursor = c; read = None }) cursors.items) }
+{
+    let mut all = Vec::new(*cursors.allocator());
+    for cursor in cursors {
+        all.push(Ahead { cursor, read: None })?;
+    }
+    Ok(all)
 }
 
 // Reads ahead in each source where nothing is.
