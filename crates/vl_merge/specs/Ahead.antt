@@ -55,10 +55,14 @@ module _ {X : Type 0} where
   abbrev pub IsChoice : Way → (X → Option Entry) → List X → Option ℕ → Type 0
   IsChoice way read xs None = AllByRecursion (λ x. read x ≡ None) xs
   IsChoice way read xs (Some at) =
-      (front : List X) × (x : X) × (back : List X) × (e : Entry) × (xs ≡ front ++ x ∷ back) × (at ≡ length front) × (read x ≡ Some e)
-      × AllByRecursion (λ y. IsBehind way e (read y)) front × AllByRecursion (λ y. IsNotAhead way e (read y)) back
+      (front : List X) × (x : X) × (back : List X) × (e : Entry)
+      × (xs ≡ front ++ x ∷ back) × (at ≡ length front) × (read x ≡ Some e)
+      × AllByRecursion (λ y. IsBehind way e (read y)) front
+      × AllByRecursion (λ y. IsNotAhead way e (read y)) back
 
   -- sources have the same left, and the budget hasn't grown and the count of faults hasn't fallen
-  abbrev pub Stands : (X → Option (List Entry)) → (X → ℕ) → (X → ℕ) → List X → List X → Type 0
+  abbrev pub Stands : (X → Option (List Entry)) → (X → ℕ) → (X → ℕ)
+      → List X → List X → Type 0
   Stands left budget faults before now =
-      (map left now ≡ map left before) × (sum_by budget now ≤ sum_by budget before) × (sum_by faults before ≤ sum_by faults now)
+      (map left now ≡ map left before) × (sum_by budget now ≤ sum_by budget before)
+      × (sum_by faults before ≤ sum_by faults now)

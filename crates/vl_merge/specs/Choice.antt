@@ -1,20 +1,15 @@
 -- Laws of the choice among sources: one source more.
-use Rattle.std.proofs.Common.{◌≡◌, ◌≢◌, ℕ, ◌+◌, ◌≤◌, ◌<◌, ◌-◌, ◌^◌, min, Bool, true, false, cond, not, ◌&&◌, List, [], ◌∷◌, ◌++◌, map, take, drop, length, get_or, refl, ap, sym, ◌∙◌, subst, arith, Option, Some, None}
-use Rattle.std.proofs.Math.ListN.{set}
-use Rattle.std.proofs.Math.Seq.{map-set_same, get_or-append_seam, set-append_seam, take-length}
-use Rattle.std.proofs.lemmas.List.{map-append, append_assoc, take_more, take_more_set, take-append-drop, length-take-le, length-append}
-use Rattle.std.proofs.lemmas.List.Sums.{sum_by-set, sum_by-append, sum_by-cons}
-use Rattle.std.specs.List.{AllByRecursion, sum_by}
-use Rattle.std.specs.Option.{ForSome, option_map}
+use Rattle.std.proofs.Common.{◌≡◌, ◌≢◌, ℕ, ◌+◌, ◌≤◌, ◌<◌, Bool, true, false, List, [], ◌∷◌, ◌++◌, take, drop, length, get_or, refl, ap, sym, ◌∙◌, subst, arith, Option, Some, None}
+use Rattle.std.proofs.Math.Seq.{get_or-append_seam}
+use Rattle.std.proofs.lemmas.List.{append_assoc, take_more, take-append-drop, length-take-le, length-append}
+use Rattle.std.specs.List.{AllByRecursion}
 use Rattle.std.specs.Ordering.{is_gt}
 use Rattle.std.specs.Cmp.{upto}
-use Rattle.vl_model.specs.Cursors.{Gives, HasRisen}
 use Rattle.vl_model.specs.declared.entry.Entry.{Entry}
 use Rattle.vl_model.specs.declared.way.Way.{Way}
-use Rattle.vl_run.specs.OrderLaws.{all-append}
-use Rattle.vl_merge.specs.Merging.{way_cmp, merged, IsFirst, IsAlong}
-use Rattle.vl_merge.specs.MergeLaws.{way_total, not_after, first-all, merged-first}
-use Rattle.vl_merge.specs.Ahead.{left_of, budget_of, IsRead, is_first, is_along, told, merge_of, IsBehind, IsNotAhead, IsChoice, Stands}
+use Rattle.vl_merge.specs.Merging.{way_cmp, IsFirst}
+use Rattle.vl_merge.specs.MergeLaws.{way_total, not_after}
+use Rattle.vl_merge.specs.Ahead.{IsBehind, IsNotAhead, IsChoice}
 
 -- ---- an entry that comes before another, and what is behind that
 

@@ -1,11 +1,11 @@
 -- Laws of a merge's steps: what is chosen among the sources is the first of the merged entries.
-use Rattle.std.proofs.Common.{◌≡◌, ◌≢◌, ℕ, zero, suc, ◌+◌, ◌≤◌, ◌<◌, ◌-◌, ◌^◌, min, Bool, true, false, cond, not, ◌&&◌, List, [], ◌∷◌, ◌++◌, map, take, drop, length, get_or, refl, ap, sym, ◌∙◌, subst, arith, Option, Some, None}
+use Rattle.std.proofs.Common.{◌≡◌, ℕ, ◌+◌, ◌≤◌, ◌<◌, ◌-◌, ◌^◌, min, Bool, true, false, cond, not, ◌&&◌, List, [], ◌∷◌, ◌++◌, map, take, drop, length, get_or, refl, ap, sym, ◌∙◌, subst, arith, Option, Some, None}
 use Rattle.std.proofs.Math.ListN.{set}
 use Rattle.std.proofs.Math.Seq.{map-set_same, get_or-append_seam, set-append_seam, take-append_seam}
-use Rattle.std.proofs.lemmas.List.{map-append, append_assoc, take_more, take_more_set, take-append-drop, length-take-le, length-append}
+use Rattle.std.proofs.lemmas.List.{map-append, append_assoc, take_more_set}
 use Rattle.std.proofs.lemmas.List.Sums.{sum_by-set, get_or-le-sum_by}
 use Rattle.std.specs.List.{AllByRecursion, sum_by}
-use Rattle.std.specs.Option.{ForSome, option_map}
+use Rattle.std.specs.Option.{option_map}
 use Rattle.std.specs.Ordering.{is_gt}
 use Rattle.std.specs.Cmp.{upto}
 use Rattle.vl_model.specs.Cursors.{Gives, HasRisen}
@@ -13,9 +13,9 @@ use Rattle.vl_model.specs.declared.entry.Entry.{Entry}
 use Rattle.vl_model.specs.declared.way.Way.{Way}
 use Rattle.vl_run.specs.OrderLaws.{all-append}
 use Rattle.vl_merge.specs.Merging.{way_cmp, merged, IsFirst, IsAlong}
-use Rattle.vl_merge.specs.MergeLaws.{way_total, not_after, first-all, merged-first}
+use Rattle.vl_merge.specs.MergeLaws.{first-all, merged-first}
 use Rattle.vl_merge.specs.Choice.{behind_all, all-more}
-use Rattle.vl_merge.specs.Ahead.{left_of, budget_of, IsRead, is_first, is_along, told, merge_of, IsBehind, IsNotAhead, IsChoice, Stands}
+use Rattle.vl_merge.specs.Ahead.{left_of, IsRead, is_first, is_along, told, merge_of, IsBehind, IsNotAhead, IsChoice, Stands}
 
 -- ---- tests of order
 

@@ -1,4 +1,5 @@
-ghost use Rattle.std.specs.Prelude.{◌≡◌, ◌≤◌, None, OnOk, IfErr};
+ghost use Rattle.std.specs.Prelude.{◌≡◌, ◌≤◌, ℕ, List, Option, None, OnOk, IfErr};
+ghost use Rattle.vl_model.specs.declared.entry.Entry.{Entry};
 ghost use Rattle.vl_model.specs.Cursors.{HasRisen};
 ghost use Rattle.vl_merge.specs.Ahead.{left_of, budget_of, IsRead};
 
@@ -12,14 +13,36 @@ pub struct Ahead<C> {
     pub read: Option<Entry>,
 }
 
+// What clauses say of a source.
+pub trait Source {
+    ghost left: { Self → Option (List Entry) };
+
+    ghost budget: { Self → ℕ };
+
+    ghost faults: { Self → ℕ };
+
+    ghost is_read: { Self → Type 0 };
+}
+
+impl<C: Steady> Source for Ahead<C> {
+    ghost left = { λ a. left_of a.read (C.left a.cursor) };
+
+    ghost budget = { λ a. budget_of a.read (C.budget a.cursor) };
+
+    ghost faults = { λ a. C.faults a.cursor };
+
+    ghost is_read = { λ a. IsRead a.read (C.left a.cursor) };
+}
+
 impl<C: Steady + Drop> Ahead<C> {
     // Reads ahead where nothing is.
     pub fn look(&mut self) -> Result<(), C::Fault>
-        ensures told { left_of self.new.read (C.left self.new.cursor) ≡ left_of self.old.read (C.left self.old.cursor) }
-        ensures read { OnOk result (IsRead self.new.read (C.left self.new.cursor)) }
-        ensures spends { budget_of self.new.read (C.budget self.new.cursor) ≤ budget_of self.old.read (C.budget self.old.cursor) }
-        ensures counts { C.faults self.old.cursor ≤ C.faults self.new.cursor }
-        ensures failed { IfErr result (λ fault. HasRisen (C.is_read_fault fault) (C.faults self.old.cursor) (C.faults self.new.cursor)) }
+        ensures told { ⟦<Ahead<C> as Source>⟧.left self.new ≡ ⟦<Ahead<C> as Source>⟧.left self.old }
+        ensures read { OnOk result (⟦<Ahead<C> as Source>⟧.is_read self.new) }
+        ensures spends { ⟦<Ahead<C> as Source>⟧.budget self.new ≤ ⟦<Ahead<C> as Source>⟧.budget self.old }
+        ensures counts { ⟦<Ahead<C> as Source>⟧.faults self.old ≤ ⟦<Ahead<C> as Source>⟧.faults self.new }
+        ensures failed { IfErr result (λ fault. HasRisen (C.is_read_fault fault)
+            (⟦<Ahead<C> as Source>⟧.faults self.old) (⟦<Ahead<C> as Source>⟧.faults self.new)) }
     {
         if self.read.is_none() {
             self.read = self.cursor.step()?;

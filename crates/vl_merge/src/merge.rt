@@ -1,11 +1,10 @@
 ghost use Rattle.std.specs.Prelude.{◌≡◌, ◌≤◌, ◌<◌, map, None, OnOk, OnErr, IfOk, IfErr, IsSome, MatchResult};
 ghost use Rattle.std.specs.List.{AllByRecursion, sum_by};
 ghost use Rattle.vl_model.specs.Cursors.{Gives, HasRisen};
-ghost use Rattle.vl_merge.specs.Ahead.{left_of, budget_of, merge_of, IsRead, Stands};
-ghost use Rattle.vl_merge.specs.declared.ahead.Ahead.{Ahead};
+ghost use Rattle.vl_merge.specs.Ahead.{merge_of, Stands};
 
 use crate::Steady;
-use crate::ahead::Ahead;
+use crate::ahead::{Ahead, Source};
 use crate::choice::first;
 use std::alloc::AllocError;
 use vl_model::{Cursor, Entry, Way};
@@ -21,11 +20,11 @@ pub struct Merge<C> {
 impl<C: Steady + Drop> Cursor for Merge<C> {
     type Fault = C::Fault;
 
-    ghost left = { λ m. merge_of m.way (map (λ (a : Ahead C). left_of a.read (C.left a.cursor)) m.sources.items) };
+    ghost left = { λ m. merge_of m.way (map ⟦<Ahead<C> as Source>⟧.left m.sources.items) };
 
-    ghost budget = { λ m. sum_by (λ (a : Ahead C). budget_of a.read (C.budget a.cursor)) m.sources.items };
+    ghost budget = { λ m. sum_by ⟦<Ahead<C> as Source>⟧.budget m.sources.items };
 
-    ghost faults = { λ m. sum_by (λ (a : Ahead C). C.faults a.cursor) m.sources.items };
+    ghost faults = { λ m. sum_by ⟦<Ahead<C> as Source>⟧.faults m.sources.items };
 
     ghost is_read_fault = { λ f. C.is_read_fault f };
 
@@ -37,9 +36,12 @@ impl<C: Steady + Drop> Cursor for Merge<C> {
 impl<C: Steady + Drop> Merge<C> {
     /// The entries of these cursors in one, the newest source first. It may want memory.
     pub fn new(sources: Vec<C>, way: Way) -> Result<Self, AllocError>
-        ensures left { IfOk result (λ merge. ⟦<Merge<C> as Cursor>⟧.left merge ≡ merge_of way (map (λ c. C.left c) sources.items)) }
-        ensures budget { IfOk result (λ merge. ⟦<Merge<C> as Cursor>⟧.budget merge ≡ sum_by (λ c. C.budget c) sources.items) }
-        ensures faults { IfOk result (λ merge. ⟦<Merge<C> as Cursor>⟧.faults merge ≡ sum_by (λ c. C.faults c) sources.items) }
+        ensures left { IfOk result (λ merge.
+            ⟦<Merge<C> as Cursor>⟧.left merge ≡ merge_of way (map (λ c. C.left c) sources.items)) }
+        ensures budget { IfOk result (λ merge.
+            ⟦<Merge<C> as Cursor>⟧.budget merge ≡ sum_by (λ c. C.budget c) sources.items) }
+        ensures faults { IfOk result (λ merge.
+            ⟦<Merge<C> as Cursor>⟧.faults merge ≡ sum_by (λ c. C.faults c) sources.items) }
     {
         Ok(Merge {
             sources: unread(sources)?,
@@ -61,9 +63,11 @@ fn unread<C: Drop>(cursors: Vec<C>) -> Result<Vec<Ahead<C>>, AllocError>
 
 // Reads ahead in each source where nothing is.
 fn look_all<C: Steady + Drop>(sources: &mut [Ahead<C>]) -> Result<(), C::Fault>
-    ensures stands { Stands (λ (a : Ahead C). left_of a.read (C.left a.cursor)) (λ (a : Ahead C). budget_of a.read (C.budget a.cursor)) (λ (a : Ahead C). C.faults a.cursor) sources.old sources.new }
-    ensures read { OnOk result (AllByRecursion (λ (a : Ahead C). IsRead a.read (C.left a.cursor)) sources.new) }
-    ensures failed { IfErr result (λ fault. HasRisen (C.is_read_fault fault) (sum_by (λ (a : Ahead C). C.faults a.cursor) sources.old) (sum_by (λ (a : Ahead C). C.faults a.cursor) sources.new)) }
+    ensures stands { Stands ⟦<Ahead<C> as Source>⟧.left ⟦<Ahead<C> as Source>⟧.budget ⟦<Ahead<C> as Source>⟧.faults
+        sources.old sources.new }
+    ensures read { OnOk result (AllByRecursion ⟦<Ahead<C> as Source>⟧.is_read sources.new) }
+    ensures failed { IfErr result (λ fault. HasRisen (C.is_read_fault fault)
+        (sum_by ⟦<Ahead<C> as Source>⟧.faults sources.old) (sum_by ⟦<Ahead<C> as Source>⟧.faults sources.new)) }
 {
     for i in 0..sources.len() {
         sources[i].look()?;
@@ -74,14 +78,17 @@ fn look_all<C: Steady + Drop>(sources: &mut [Ahead<C>]) -> Result<(), C::Fault>
 // The next entry of all sources.
 fn next_of<C: Steady + Drop>(sources: &mut [Ahead<C>], way: Way) -> Result<Option<Entry>, C::Fault>
     ensures given { IfOk result (λ next. Gives
-        (merge_of way (map (λ (a : Ahead C). left_of a.read (C.left a.cursor)) sources.old))
-        (merge_of way (map (λ (a : Ahead C). left_of a.read (C.left a.cursor)) sources.new)) next) }
-    ensures kept { OnErr result (map (λ (a : Ahead C). left_of a.read (C.left a.cursor)) sources.new ≡ map (λ (a : Ahead C). left_of a.read (C.left a.cursor)) sources.old) }
+        (merge_of way (map ⟦<Ahead<C> as Source>⟧.left sources.old))
+        (merge_of way (map ⟦<Ahead<C> as Source>⟧.left sources.new)) next) }
+    ensures kept { OnErr result
+        (map ⟦<Ahead<C> as Source>⟧.left sources.new ≡ map ⟦<Ahead<C> as Source>⟧.left sources.old) }
     ensures spends { MatchResult result
-        (λ next. IsSome next → sum_by (λ (a : Ahead C). budget_of a.read (C.budget a.cursor)) sources.new < sum_by (λ (a : Ahead C). budget_of a.read (C.budget a.cursor)) sources.old)
-        (λ _. sum_by (λ (a : Ahead C). budget_of a.read (C.budget a.cursor)) sources.new ≤ sum_by (λ (a : Ahead C). budget_of a.read (C.budget a.cursor)) sources.old) }
-    ensures counts { sum_by (λ (a : Ahead C). C.faults a.cursor) sources.old ≤ sum_by (λ (a : Ahead C). C.faults a.cursor) sources.new }
-    ensures failed { IfErr result (λ fault. HasRisen (C.is_read_fault fault) (sum_by (λ (a : Ahead C). C.faults a.cursor) sources.old) (sum_by (λ (a : Ahead C). C.faults a.cursor) sources.new)) }
+        (λ next. IsSome next
+        → sum_by ⟦<Ahead<C> as Source>⟧.budget sources.new < sum_by ⟦<Ahead<C> as Source>⟧.budget sources.old)
+        (λ _. sum_by ⟦<Ahead<C> as Source>⟧.budget sources.new ≤ sum_by ⟦<Ahead<C> as Source>⟧.budget sources.old) }
+    ensures counts { sum_by ⟦<Ahead<C> as Source>⟧.faults sources.old ≤ sum_by ⟦<Ahead<C> as Source>⟧.faults sources.new }
+    ensures failed { IfErr result (λ fault. HasRisen (C.is_read_fault fault)
+        (sum_by ⟦<Ahead<C> as Source>⟧.faults sources.old) (sum_by ⟦<Ahead<C> as Source>⟧.faults sources.new)) }
 {
     look_all(sources)?;
     Ok(match first(sources, way) {

@@ -17,7 +17,8 @@ pub trait Steady: Cursor {
         ensures spends { IfOk result (λ next. budget_of next (Self.budget self.new) ≤ Self.budget self.old) }
         ensures spends_none { OnErr result (Self.budget self.new ≤ Self.budget self.old) }
         ensures counts { Self.faults self.old ≤ Self.faults self.new }
-        ensures failed { IfErr result (λ fault. HasRisen (Self.is_read_fault fault) (Self.faults self.old) (Self.faults self.new)) };
+        ensures failed { IfErr result (λ fault.
+            HasRisen (Self.is_read_fault fault) (Self.faults self.old) (Self.faults self.new)) };
 }
 
 impl Steady for RunCursor {

@@ -1,4 +1,4 @@
-use Rattle.std.proofs.Common.{ap, sym, ◌∙◌, subst}
+use Rattle.std.proofs.Common.{ap, ◌∙◌, subst}
 use Rattle.vl_merge.specs.Ahead.{IsChoice}
 use Rattle.vl_merge.specs.Choice.{choice-within}
 use Rattle.vl_merge.specs.MergeSteps.{none_given, first_given, counts-stays, counts-set}

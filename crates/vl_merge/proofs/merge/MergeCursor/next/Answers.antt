@@ -1,4 +1,4 @@
-use Rattle.std.proofs.Common.{◌≡◌, ◌<◌, ◌≤◌, ◌∙◌, ap, sym, subst, map, IfOk, IsSome, MatchResult}
+use Rattle.std.proofs.Common.{◌<◌, ◌≤◌, ◌∙◌, sym, subst, map, IfOk, IsSome, MatchResult}
 use Rattle.std.specs.List.{sum_by}
 use Rattle.vl_model.specs.Cursors.{Gives}
 use Rattle.vl_merge.specs.Ahead.{left_of, budget_of, merge_of}
