@@ -4,7 +4,7 @@ use Rattle.std.proofs.Math.ListN.{set}
 use Rattle.std.proofs.Math.Seq.{map-set_same, get_or-append_seam, set-append_seam, take-append_seam}
 use Rattle.std.proofs.lemmas.List.{map-append, append_assoc, take_more_set}
 use Rattle.std.proofs.lemmas.List.Sums.{sum_by-set, get_or-le-sum_by}
-use Rattle.std.specs.List.{AllByRecursion, sum_by}
+use Rattle.std.specs.List.{AllByRecursion, sum_by, flat_map}
 use Rattle.std.specs.Option.{option_map}
 use Rattle.std.specs.Ordering.{is_gt}
 use Rattle.std.specs.Cmp.{upto}
@@ -290,3 +290,22 @@ module _ {X : Type 0} (faults : X → ℕ) (before : ℕ) (xs ys : List X) where
 -- what is written back of a part that is all
 pub taken : {X : Type 0} (n : ℕ) (ys zs : List X) → length ys ≡ n → take n (ys ++ drop (length ys) zs) ≡ ys
 taken n ys zs is = ap (λ k. take k (ys ++ drop (length ys) zs)) (sym is) ∙ take-append_seam ys (drop (length ys) zs)
+
+-- ---- sources that are all told, each as the way goes
+
+first-is : (way : Way) (e : Entry) (es : List Entry) → IsFirst way e es → is_first way e es ≡ true
+first-is way e [] first = refl
+first-is way e (f ∷ fs) first = ap (λ b. not b && is_first way e fs) first.0 ∙ first-is way e fs first.1
+
+along-is : (way : Way) (es : List Entry) → IsAlong way es → is_along way es ≡ true
+along-is way [] along = refl
+along-is way (e ∷ es) along = ap (λ b. b && is_along way es) (first-is way e es along.0) ∙ along-is way es along.1
+
+told-all : (way : Way) (sources : List (List Entry)) → AllByRecursion (IsAlong way) sources → told way (map Some sources) ≡ Some (flat_map (λ es. es) sources)
+told-all way [] along = refl
+told-all way (es ∷ sources) along =
+    told-join way es (flat_map (λ es. es) sources) (map Some sources) (along-is way es along.0) (told-all way sources along.1)
+
+pub merge_of_all : (way : Way) (sources : List (List Entry)) → AllByRecursion (IsAlong way) sources
+    → merge_of way (map Some sources) ≡ Some (merged way (flat_map (λ es. es) sources))
+merge_of_all way sources along = ap (option_map (merged way)) (told-all way sources along)

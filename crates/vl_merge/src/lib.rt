@@ -11,7 +11,9 @@ mod merge;
 mod sources;
 mod steady;
 
-pub use laws::{merged_goes_along, merged_has_the_same_winners, merged_one_at_a_time};
+pub use laws::{
+    merge_of_told_sources, merged_goes_along, merged_has_the_same_winners, merged_one_at_a_time,
+};
 pub use merge::Merge;
 pub use sources::Sources;
 pub use steady::Steady;
