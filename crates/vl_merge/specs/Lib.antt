@@ -1,0 +1,5 @@
+pub mod Ahead
+pub mod Choice
+pub mod MergeLaws
+pub mod MergeSteps
+pub mod Merging
