@@ -1,0 +1,43 @@
+-- What a disk holds of an opened store, of which all files are durable.
+use Rattle.std.specs.Prelude.{◌≡◌, ℕ, ◌+◌, ◌≤◌, ◌<◌, List, [], ◌∷◌, None, Some, Ok}
+use Rattle.std.specs.FinMap.{get}
+use Rattle.std.specs.List.{AllByRecursion}
+use Rattle.vl_disk.specs.DiskState.{DiskState, settled}
+use Rattle.vl_disk.specs.declared.name.Name.{Name}
+use Rattle.vl_disk.specs.declared.name.Name.TheVariants.{Log, Manifest}
+use Rattle.vl_layout.specs.declared.segment.Segment.{Segment}
+use Rattle.vl_manifest.specs.Manifest.{ManifestSays}
+use Rattle.vl_manifest.specs.declared.state.ManifestState.{ManifestState}
+use Rattle.vl_recover.specs.LogReading.{HasFrame, log_bytes}
+
+-- no file stands under this name, and none was removed since the disk was started
+pub record IsNowhere (disk : DiskState) (name : Name) : Type 0 where
+  pub free : get disk.standing name ≡ None
+  pub never : get disk.removed name ≡ None
+
+-- the file stands, durable, with these bytes
+abbrev pub IsSettled : DiskState → Name → List ℕ → Type 0
+IsSettled disk name bytes = get disk.standing name ≡ Some (settled bytes)
+
+-- the manifest that says this state is durable, and no greater one stands or was removed
+pub record HoldsManifest (state : ManifestState) (disk : DiskState) : Type 0 where
+  pub number : ℕ
+  pub bytes : List ℕ
+  pub stands : IsSettled disk (Manifest number) bytes
+  pub says : ManifestSays number bytes (Ok state)
+  pub above : (m : ℕ) → number < m → IsNowhere disk (Manifest m)
+
+-- from a number on stand just these logs, rising, each durable with its frames and nothing else, and none other was removed
+abbrev pub HoldsLogs : ℕ → List Segment → DiskState → Type 0
+HoldsLogs least [] disk = (m : ℕ) → least ≤ m → IsNowhere disk (Log m)
+HoldsLogs least (s ∷ ss) disk =
+    (least ≤ s.number)
+    × ((m : ℕ) → least ≤ m → m < s.number → IsNowhere disk (Log m))
+    × AllByRecursion HasFrame s.frames
+    × IsSettled disk (Log s.number) (log_bytes s.number s.frames)
+    × HoldsLogs (s.number + 1) ss disk
+
+-- The disk holds a store: a manifest that says this state, and these logs from its head on.
+pub record HoldsStore (state : ManifestState) (logs : List Segment) (disk : DiskState) : Type 0 where
+  pub manifest : HoldsManifest state disk
+  pub logs_are : HoldsLogs state.head logs disk

@@ -1,0 +1,10 @@
+pub mod Alike
+pub mod Answers
+pub mod Held
+pub mod LogReading
+pub mod Opening
+pub mod Plans
+pub mod Stages
+pub mod Starts
+pub mod Walk
+pub mod Results

@@ -1,0 +1,32 @@
+-- What is asked of a disk on which a store is opened, where crashes are spoken of.
+use Rattle.std.specs.Prelude.{◌≡◌, ◌≢◌, ℕ, ◌+◌, ◌≤◌, ◌<◌, false, true, length, None, Some, Ok, All}
+use Rattle.std.specs.FinMap.{get}
+use Rattle.vl_disk.specs.Crash.{Image, MayLeave}
+use Rattle.vl_disk.specs.DiskState.{DiskState, File}
+use Rattle.vl_disk.specs.Started.{IsRead}
+use Rattle.vl_disk.specs.declared.name.Name.TheVariants.{Log, Manifest}
+use Rattle.vl_recover.specs.LogReading.{LogReading, ReadsLog}
+use Rattle.vl_recover.specs.Opening.{Opening, Opens}
+use Rattle.vl_recover.specs.Alike.{IsLeft, SameState}
+
+-- A store may be opened on it. So it is with a disk that was just started, and with one that an opening or a run left.
+pub record MayOpen (disk : DiskState) : Type 0 where
+  -- what reads give has no frame by chance
+  pub as_read : (read : Image) → IsRead read disk → IsLeft disk read
+  -- whatever a crash could leave says the same state
+  pub says : (read before : Image) (o p : Opening) → IsRead read disk → Opens read (Ok o)
+      → IsLeft disk before → Opens before (Ok p) → SameState o.state p.state
+  -- what was removed is below: a manifest below one that stands,
+  pub manifests : (m : ℕ) → get disk.removed (Manifest m) ≢ None
+      → (n : ℕ) × (m < n) × (get disk.standing (Manifest n) ≢ None)
+  -- and a log below head
+  pub logs : (read : Image) (o : Opening) → IsRead read disk → Opens read (Ok o)
+      → (m : ℕ) → o.state.head ≤ m → get disk.removed (Log m) ≡ None
+  -- of a log with a wrong header no piece is due that goes past the header
+  pub headless : (m : ℕ) (file : File) (reading : LogReading) → get disk.standing (Log m) ≡ Some file
+      → ReadsLog m file.bytes reading → reading.header ≡ false
+      → All (λ piece. piece.place + length piece.bytes ≤ 16) file.due
+  -- a log from head on that isn't the last is durable
+  pub sealed : (read : Image) (o : Opening) → IsRead read disk → Opens read (Ok o)
+      → (m k : ℕ) (file : File) → o.state.head ≤ m → m < k → get disk.standing (Log k) ≢ None
+      → get disk.standing (Log m) ≡ Some file → (file.wholly_synced ≡ true) × (file.lasting ≡ true)

@@ -1,0 +1,26 @@
+use vl_disk::Name;
+use vl_model::Counter;
+
+/// Why a store wasn't opened.
+#[derive(Clone, Copy, Debug, PartialEq, Eq)]
+pub enum Why {
+    /// A log or a table stands, and no manifest that can be read, in a known format or a newer one.
+    NotAStore,
+    /// No manifest can be read, and the greatest one in a format that isn't known yet has this one.
+    NewerFormat(u32),
+    /// A file's bytes say nothing at this place, or something that can't be.
+    Damaged { name: Name, place: u64 },
+    /// No number is left for the new log, or for the new manifest.
+    Exhausted(Counter),
+    /// Memory ran out. Nothing was changed.
+    NoMemory,
+    /// The disk failed at this file, or where there is none at listing the files.
+    Disk { name: Option<Name> },
+}
+
+/// A store that wasn't opened, and its disk.
+#[derive(Drop)]
+pub struct OpenFail<D> {
+    pub why: Why,
+    pub disk: D,
+}
