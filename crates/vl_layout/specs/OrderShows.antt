@@ -36,7 +36,7 @@ times-put key version e (f ∷ fs) =
       | Greater ↦ omega (arith, later)
     ]
 
-all-in_order : (P : Entry → Type 0) (es : List Entry) → AllByRecursion P es
+pub all-in_order : (P : Entry → Type 0) (es : List Entry) → AllByRecursion P es
     → AllByRecursion P (in_order es)
 all-in_order P [] all = tt
 all-in_order P (e ∷ es) all = all-put P e (in_order es) all.0 (all-in_order P es all.1)
@@ -47,7 +47,7 @@ times-in_order key version [] = omega arith
 times-in_order key version (e ∷ es) = let here = times-put key version e (in_order es) in let later = times-in_order key version es in omega arith
 
 -- entries in front of others in order, taken in among these
-all-taken_in : (P : Entry → Type 0) (es fs : List Entry) → AllByRecursion P (es ++ in_order fs)
+pub all-taken_in : (P : Entry → Type 0) (es fs : List Entry) → AllByRecursion P (es ++ in_order fs)
     → AllByRecursion P (in_order (es ++ fs))
 all-taken_in P [] fs all = all
 all-taken_in P (e ∷ es) fs all = all-put P e (in_order (es ++ fs)) all.0 (all-taken_in P es fs all.1)
