@@ -1,3 +1,4 @@
 pub mod Stored
 pub mod Start
 pub mod StoredLaws
+pub mod StartLaws

@@ -42,14 +42,15 @@ nothing_behind : (es : List Entry) → es ≡ es ++ []
 nothing_behind [] = refl
 nothing_behind (e ∷ es) = ap (λ xs. e ∷ xs) (nothing_behind es)
 
+with_frames-entries : (log : ℕ) (frames : List LogFrame) (others : List Segment)
+    → logs_entries (with_frames log frames others) ≡ logs_entries others ++ memtable (new_segment log frames)
+with_frames-entries log [] others = nothing_behind (logs_entries others)
+with_frames-entries log (f ∷ fs) others = refl
+
 -- such a log has no entries
 pub filled-entries : (logs : List StandingLog) → logs_entries (filled logs) ≡ logs_entries (map as_segment logs)
 filled-entries [] = refl
-filled-entries (q ∷ qs) = by q.reading.frames
-  where
-    by : (frames : List LogFrame) → logs_entries (with_frames q.number frames (filled qs)) ≡ logs_entries (map as_segment qs) ++ memtable (new_segment q.number frames)
-    by [] = filled-entries qs ∙ nothing_behind (logs_entries (map as_segment qs))
-    by (f ∷ fs) = ap (λ es. es ++ memtable (new_segment q.number (f ∷ fs))) (filled-entries qs)
+filled-entries (q ∷ qs) = with_frames-entries q.number q.reading.frames (filled qs) ∙ ap (λ es. es ++ memtable (as_segment q)) (filled-entries qs)
 
 -- ---- a log behind others
 
