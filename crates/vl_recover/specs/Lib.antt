@@ -1,7 +1,6 @@
 pub mod Alike
 pub mod Answers
 pub mod Held
-pub mod LogReading
 pub mod Opening
 pub mod Plans
 pub mod Stages
