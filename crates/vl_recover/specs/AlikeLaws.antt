@@ -1,5 +1,5 @@
 -- Opening depends on what leads an image and on its logs from head on.
-use Rattle.std.specs.Prelude.{◌≡◌, ◌≢◌, ◌⊎◌, ◌≤◌, ◌<◌, ℕ, ◌+◌, if◌then◌else◌, List, [], ◌∷◌, length, Option, None, Some, Result, Ok, Err, refl, true, false, Bool}
+use Rattle.std.specs.Prelude.{◌≡◌, ◌≢◌, ◌⊎◌, ◌≤◌, ◌<◌, ℕ, ◌+◌, if◌then◌else◌, List, [], ◌∷◌, length, None, Some, Result, Ok, Err, refl, true, Bool}
 use Rattle.std.specs.FinMap.{get}
 use Rattle.std.proofs.Common.{sym, ap, subst, ◌∙◌, arith, ⊎_elim}
 use Rattle.std.proofs.lemmas.Bool.{cases_eq}
@@ -8,19 +8,18 @@ use Rattle.vl_disk.specs.NameMap.{same_or_other}
 use Rattle.vl_disk.specs.declared.name.Name.{Name}
 use Rattle.vl_disk.specs.declared.name.Name.TheVariants.{Log, Table, Manifest}
 use Rattle.vl_layout.specs.Logs.{log_length}
-use Rattle.vl_layout.specs.declared.segment.Segment.{Segment}
 use Rattle.vl_manifest.specs.Current.{IsCurrent, StandsReadable}
-use Rattle.vl_manifest.specs.Manifest.{IsReadable, SaysState}
+use Rattle.vl_manifest.specs.Manifest.{SaysState}
 use Rattle.vl_manifest.specs.declared.state.ManifestState.{ManifestState}
 use Rattle.vl_model.specs.declared.log_frame.LogFrame.{LogFrame}
 use Rattle.vl_recover.specs.Alike.{OpensLike, SameState, ShowsAs}
-use Rattle.vl_recover.specs.LogReading.{LogReading, ReadsLog}
-use Rattle.vl_recover.specs.LogReadingLaws.{one_log_reading}
+use Rattle.vl_seglog.specs.LogReading.{LogReading, ReadsLog}
+use Rattle.vl_seglog.specs.LogReadingLaws.{one_log_reading}
 use Rattle.vl_recover.specs.Opening.{Bare, Current, Headless, Heading, IsBare, IsHeaded, IsNextLog, Led, LogsFrom, Newest, NewerFormat, NotAStore, Opening, Opens, Refusal, Says, StandingLogs}
 use Rattle.vl_recover.specs.OpeningLaws.{IsOpened, OpensBy, one_heading, opened, opens_by, some_none, some_same}
-use Rattle.vl_recover.specs.StageLaws.{ok_err, then_kept}
+use Rattle.vl_recover.specs.StageLaws.{then_kept}
 use Rattle.vl_recover.specs.Stages.{on_ok}
-use Rattle.vl_recover.specs.Walk.{LogDamage, StandingLog, counted, counted_whole, filled, in_log, walked, walked_on, with_frames}
+use Rattle.vl_recover.specs.Walk.{LogDamage, StandingLog, counted, counted_whole, filled, in_log, walked, with_frames}
 
 -- ---- states and images that are alike
 
@@ -459,18 +458,18 @@ module _ (image other : Image) where
   pub like_lead : SameLead image other → ((m : ℕ) → get image (Log m) ≡ get other (Log m))
       → ((m : ℕ) → get image (Table m) ≡ get other (Table m)) → OpensLike image other
   like_lead same logs tables = like_by image other (λ o is. record {
-      heading = is.heading;
-      state = o.state;
-      standing = is.standing;
-      same = same_state o.state;
-      by = record {
-        headed = heads o is.heading is.by.headed is.by.says;
-        says = is.by.says;
-        standing = standing_kept image other o.state.head is.standing (λ m from. logs m) is.by.standing;
-        walk = is.by.walk;
-      };
-      logs = refl;
-    })
+    heading = is.heading;
+    state = o.state;
+    standing = is.standing;
+    same = same_state o.state;
+    by = record {
+      headed = heads o is.heading is.by.headed is.by.says;
+      says = is.by.says;
+      standing = standing_kept image other o.state.head is.standing (λ m from. logs m) is.by.standing;
+      walk = is.by.walk;
+    };
+    logs = refl;
+  })
     where
       heads : (o : Opening) (h : Heading) → IsHeaded other h → Says h (Ok o.state) → IsHeaded image h
       heads o Bare bare says = bare_kept image other same logs tables bare

@@ -7,7 +7,6 @@ pub mod Stages
 pub mod Starts
 pub mod Walk
 pub mod Results
-pub mod LogReadingLaws
 pub mod OpeningLaws
 pub mod StageLaws
 pub mod AlikeLaws

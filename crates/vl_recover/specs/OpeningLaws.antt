@@ -1,5 +1,5 @@
 -- An image opens in one way; an opening taken apart, and put together.
-use Rattle.std.specs.Prelude.{◌≡◌, ◌⊎◌, ◌≤◌, ◌<◌, ℕ, ◌+◌, List, [], ◌∷◌, length, Option, None, Some, Result, Ok, Err, IsSome, refl, true, false}
+use Rattle.std.specs.Prelude.{◌≡◌, ◌<◌, ℕ, ◌+◌, List, [], ◌∷◌, length, Option, None, Some, Result, Ok, Err, IsSome, refl, true, false}
 use Rattle.std.specs.FinMap.{get}
 use Rattle.std.proofs.Common.{sym, ap, subst, ◌∙◌, arith, ⊎_elim}
 use Rattle.vl_disk.specs.Crash.{Image}
@@ -8,9 +8,9 @@ use Rattle.vl_layout.specs.declared.segment.Segment.{Segment}
 use Rattle.vl_manifest.specs.CurrentLaws as manifests
 use Rattle.vl_manifest.specs.ManifestLaws.{one_saying}
 use Rattle.vl_manifest.specs.declared.state.ManifestState.{ManifestState}
-use Rattle.vl_recover.specs.LogReading.{LogReading, ReadsLog}
-use Rattle.vl_recover.specs.LogReadingLaws.{one_log_reading}
-use Rattle.vl_recover.specs.Opening.{Bare, Current, Headless, Heading, IsBare, IsHeaded, IsHeadless, Led, LogsFrom, Newest, Opening, Opens, Refusal, Says, StandingLogs, of_manifest, opening_of}
+use Rattle.vl_seglog.specs.LogReading.{ReadsLog}
+use Rattle.vl_seglog.specs.LogReadingLaws.{one_log_reading}
+use Rattle.vl_recover.specs.Opening.{Bare, Current, Headless, Heading, IsBare, IsHeaded, IsHeadless, Led, LogsFrom, Newest, Opening, Opens, Says, StandingLogs, of_manifest, opening_of}
 use Rattle.vl_recover.specs.StageLaws.{ok_err, ok_same, single_then}
 use Rattle.vl_recover.specs.Stages.{IsSingle}
 use Rattle.vl_recover.specs.Walk.{LogDamage, StandingLog, filled, walked}
@@ -149,7 +149,7 @@ opened image o (state, (heading, headed, says), (logs, standing, e)) =
       heading = heading;
       standing = logs;
       by = subst (λ (s : ManifestState). OpensBy image heading s logs o.number) is_state
-      (record { headed = headed; says = says; standing = standing; walk = apart.0 });
+          (record { headed = headed; says = says; standing = standing; walk = apart.0 });
       logs_are = apart.2;
     }
 

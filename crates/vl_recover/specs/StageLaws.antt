@@ -1,5 +1,5 @@
 -- Stages that have one outcome each have one together.
-use Rattle.std.specs.Prelude.{◌≡◌, ◌⊎◌, Result, Ok, Err}
+use Rattle.std.specs.Prelude.{◌≡◌, Result, Ok, Err}
 use Rattle.std.proofs.Common.{ap, subst, inl, inr, ⊎_elim}
 use Rattle.vl_recover.specs.Stages.{AndThen, IsSingle}
 
