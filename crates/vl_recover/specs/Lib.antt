@@ -10,3 +10,4 @@ pub mod Results
 pub mod OpeningLaws
 pub mod StageLaws
 pub mod AlikeLaws
+pub mod HeldLaws
