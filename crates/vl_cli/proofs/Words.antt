@@ -2,7 +2,7 @@
 use Rattle.std.proofs.Common.{◌≡◌, ◌≢◌, ◌<◌, ⊎_elim, ℕ, List, Some, refl, sym, ◌∙◌, ap, subst, arith}
 use Rattle.vl_disk.specs.Faults.{Rose}
 use Rattle.vl_io.specs.declared.sink.Sink as sink
-use Rattle.vl_replay.specs.Endings.{Culprit, TheDisk, TheSource, TheSink, Counts, culprit_of, status_of}
+use Rattle.vl_replay.specs.Endings.{Culprit, TheDisk, TheSource, TheSink, CountsFaultsOf, culprit_of, status_of}
 use Rattle.vl_replay.specs.Runs.{IsFront}
 use Rattle.vl_replay.specs.Steps.{Finishes}
 use Rattle.vl_replay.specs.declared.ending.Ending.{Ending}
@@ -73,7 +73,7 @@ same a b e = cc
 cut : (ending : Ending) → Some ending ≡ Some WriteFault → status_of ending ≡ 7
 cut ending e = let is : ending ≡ WriteFault = cc in ap status_of is
 
-module _ (who : Culprit) (n : ℕ) (by : StatusBy who n) (ending : Ending) (before now : ℕ) (counts : Counts who (Some ending) before now) where
+module _ (who : Culprit) (n : ℕ) (by : StatusBy who n) (ending : Ending) (before now : ℕ) (counts : CountsFaultsOf who (Some ending) before now) where
   -- the object failed where the run ended by it
   pub rose_by : status_of ending ≡ n → Rose before now
   rose_by is = counts.rose (ap Some ((by ending).0 is))

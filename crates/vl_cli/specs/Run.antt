@@ -4,7 +4,7 @@ use Rattle.std.specs.Option.{ForSome}
 use Rattle.std.specs.Str.{bytes_eq}
 use Rattle.vl_disk.specs.declared.watched.Watched.{Ghosts}
 use Rattle.vl_io.specs.declared.sink.Sink as sink
-use Rattle.vl_journal.specs.Files.{StandsSome}
+use Rattle.vl_journal.specs.Files.{HasSomeFile}
 use Rattle.vl_replay.specs.Sequential.{State}
 use Rattle.vl_replay.specs.Endings.{status_of}
 use Rattle.vl_replay.specs.Runs.{Outside, EndsRun, script_of}
@@ -30,7 +30,7 @@ pub record Answers {D : Type 0} (g : Ghosts D) (start : State) (input : List ℕ
   pub status_is : status ≡ status_of ending
   -- what was printed and how many lines were answered, that each answer was put before the next line was read, and what
   -- was done to a disk on which nothing stood: each accepted commit is one synced frame of its log
-  pub run : EndsRun g (ForSome (g.told old.disk) StandsSome)
+  pub run : EndsRun g (ForSome (g.told old.disk) HasSomeFile)
       (DiskEndsFromStart g old.disk new.disk) (script_of start 0 input) old new ending
 
 -- a run that wasn't begun: it put the line of this ending, whole or a front of it, and has that ending's status, or that of

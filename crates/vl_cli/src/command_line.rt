@@ -8,14 +8,14 @@ ghost use Rattle.std.specs.Prelude.{◌≡◌, ◌≢◌, ◌<◌, ℕ, List, ma
 ghost use Rattle.std.specs.Option.{ForSome};
 ghost use Rattle.vl_disk.specs.DiskState.{DiskState};
 ghost use Rattle.vl_disk.specs.Faults.{Rose};
-ghost use Rattle.vl_journal.specs.Files.{IsAsBefore, StandsSome};
+ghost use Rattle.vl_journal.specs.Files.{IsAsBefore, HasSomeFile};
 ghost use Rattle.vl_script.specs.Script.{lines_of};
 ghost use Rattle.vl_replay.specs.Sequential.{State};
 ghost use Rattle.vl_replay.specs.Endings.{status_of};
 ghost use Rattle.vl_replay.specs.Exchanges.{exchanges_from, AreExplained};
 ghost use Rattle.vl_replay.specs.Runs.{outside};
-ghost use Rattle.vl_replay.specs.Start.{StartsAs};
-ghost use Rattle.vl_replay.specs.Steps.{IsRefused};
+ghost use Rattle.vl_replay.specs.Start.{StartsIn};
+ghost use Rattle.vl_replay.specs.Steps.{EndsUnopened};
 ghost use Rattle.vl_replay.specs.declared.ending.Ending.{Ending as HowEnded};
 ghost use Rattle.vl_cli.specs.Run.{Answers, EndsBy, is_plain};
 
@@ -49,12 +49,12 @@ pub fn run<S: Source, K: Sink, D: Disk>(
     // What is printed, how the run ends, and what it does to the disk are those of the sequential store over the lines of
     // the input, where the words are plain.
     ensures answers { (s : State) (input : List ℕ) → is_plain (map string_bytes words.now) ≡ true
-        → StartsAs D.Watched disk s → S.left source.old ≡ Some input
+        → StartsIn D.Watched disk s → S.left source.old ≡ Some input
         → Answers D.Watched s input (outside S.Source K.Sink source.old sink.old disk)
         (outside S.Source K.Sink source.new sink.new result.disk) result.status }
 
     // What was read is explained by the history at the reader's number: a law of the exchanges that `answers` speaks of.
-    ensures explained { (s : State) (input : List ℕ) → StartsAs D.Watched disk s
+    ensures explained { (s : State) (input : List ℕ) → StartsIn D.Watched disk s
         → AreExplained (exchanges_from s (lines_of input)) }
 
     // Where the words aren't plain nothing is opened or read and the usage line is printed, with status 2, or 7 where it
@@ -72,13 +72,13 @@ pub fn run<S: Source, K: Sink, D: Disk>(
     // Where the words are plain, status 4 comes exactly where anything stands on the disk, unless the disk failed, memory
     // ran out, or the last line couldn't be put. Then nothing was changed or read, and the last line is all that is printed.
     ensures not_a_store { result.status ≡ 4
-        → ForSome (D.told disk) StandsSome × IsAsBefore D.Watched disk result.disk
+        → ForSome (D.told disk) HasSomeFile × IsAsBefore D.Watched disk result.disk
         × (source.new ≡ source.old)
         × EndsBy K.Sink sink.old sink.new Ending.NotAStore result.status }
     ensures occupied { is_plain (map string_bytes words.now) ≡ true → (state : DiskState)
-        → D.told disk ≡ Some state → StandsSome state
+        → D.told disk ≡ Some state → HasSomeFile state
         → (source.new ≡ source.old) × IsAsBefore D.Watched disk result.disk
-        × ((ending : HowEnded) × (result.status ≡ status_of ending) × IsRefused K.Sink sink.old sink.new ending) }
+        × ((ending : HowEnded) × (result.status ≡ status_of ending) × EndsUnopened K.Sink sink.old sink.new ending) }
 
     // Statuses 6 and 7 come only by faults of the source and of the sink, and the others only without.
     ensures read_fault { result.status ≡ 6

@@ -1,6 +1,6 @@
 ghost use Rattle.std.specs.Prelude.{◌≡◌, ◌+◌, ◌++◌, ◌<◌, ◌≤◌, [], List, IfOk, IfSome, IsErr, MatchResult, OnErr, Option, Some, length, take, ℕ};
 ghost use Rattle.vl_disk.specs.Faults.{HasCause};
-ghost use Rattle.vl_io.specs.Source.{Gives};
+ghost use Rattle.vl_io.specs.Source.{HandsOver};
 
 use vl_disk::Failed;
 
@@ -25,7 +25,7 @@ pub trait Source {
         requires room { 0 < length out.old }
 
         ensures within { IfOk result (λ n. n ≤ length out.old) }
-        ensures given { IfOk result (λ n. Gives (left self.old) (left self.new) (take n out.new)) }
+        ensures given { IfOk result (λ n. HandsOver (left self.old) (left self.new) (take n out.new)) }
         ensures end { IfOk result (λ n. n ≡ 0 → IfSome (left self.old) (λ rest. rest ≡ [])) }
         ensures kept { OnErr result (left self.new ≡ left self.old) }
 

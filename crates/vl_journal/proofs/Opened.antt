@@ -8,7 +8,7 @@ use Rattle.vl_disk.specs.Disk.{Stands, IsFree, Lists, IsChangedBy}
 use Rattle.vl_disk.specs.MadeFile.{made, WhileMaking}
 use Rattle.vl_seglog.specs.Log.{log_header}
 use Rattle.vl_journal.specs.declared.names.TheConstants.{NUMBER, MANIFEST, LOG}
-use Rattle.vl_journal.specs.Files.{HasFiles, IsEmpty, Holds, first_manifest}
+use Rattle.vl_journal.specs.Files.{HasFiles, IsBlank, Holds, first_manifest}
 use Rattle.vl_journal.specs.Images.{Leaves, ShowsNone}
 use Rattle.vl_journal.specs.StoreFiles.{apart, HasPart, making, with_manifest, with_log}
 use Rattle.vl_journal.specs.StoreImages.{leaves_no_log, leaves_part}
@@ -43,7 +43,7 @@ log_free names bytes (Some old) told1 lists none makes disk is =
 
 -- ---- what a crash leaves
 
-module _ (state : DiskState) (is_empty : IsEmpty state) where
+module _ (state : DiskState) (is_empty : IsBlank state) where
   pub leaves_nothing : (now : DiskState) → now ≡ state → Leaves ShowsNone now
   leaves_nothing now same = subst (Leaves ShowsNone) (sym same) (leaves_no_log None state is_empty)
 

@@ -40,16 +40,16 @@ abbrev pub IsAsBefore : {D : Type 0} → Ghosts D → (old new : D) → Type 0
 IsAsBefore g old new = (g.told new ≡ g.told old) × (g.calls new ≡ g.calls old)
 
 -- no file stands or was removed
-abbrev pub IsEmpty : DiskState → Type 0
-IsEmpty disk = HasFiles None None disk
+abbrev pub IsBlank : DiskState → Type 0
+IsBlank disk = HasFiles None None disk
 
 -- under some name a file stands
-abbrev pub StandsSome : DiskState → Type 0
-StandsSome disk = (name : Name) × Stands name disk
+abbrev pub HasSomeFile : DiskState → Type 0
+HasSomeFile disk = (name : Name) × Stands name disk
 
 -- under no name a file stands
-abbrev pub StandsNothing : DiskState → Type 0
-StandsNothing disk = (name : Name) → get disk.standing name ≡ None
+abbrev pub HasNoFile : DiskState → Type 0
+HasNoFile disk = (name : Name) → get disk.standing name ≡ None
 
 -- The disk holds these commits: the log has a frame for each, in order, and nothing else. All is synced.
 pub record Holds (commits : List Commit) (disk : DiskState) : Type 0 where

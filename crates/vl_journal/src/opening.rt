@@ -4,7 +4,7 @@ ghost use Rattle.vl_disk.specs.DiskState.{DiskState};
 ghost use Rattle.vl_disk.specs.Disk.{Stands};
 ghost use Rattle.vl_disk.specs.Faults.{HasCause, after_calls};
 ghost use Rattle.vl_disk.specs.Moments.{HoldsThroughout};
-ghost use Rattle.vl_journal.specs.Files.{IsAsBefore, IsEmpty, Holds, StandsSome, StandsNothing};
+ghost use Rattle.vl_journal.specs.Files.{IsAsBefore, IsBlank, Holds, HasSomeFile, HasNoFile};
 ghost use Rattle.vl_journal.specs.Images.{Leaves, ShowsNone};
 
 use crate::OpenFail;
@@ -17,22 +17,22 @@ use vl_seglog::log_header;
 /// Opens a store without commits on an empty disk. A disk on which anything stands is no store, for now.
 pub fn open_store<D: Disk>(alloc: Global, disk: &mut D) -> Result<(), OpenFail>
     // The manifest and the log are made by six changing calls.
-    ensures opened { (state : DiskState) → D.told disk.old ≡ Some state → IsEmpty state
+    ensures opened { (state : DiskState) → D.told disk.old ≡ Some state → IsBlank state
         → OnOk result ((now : DiskState) × (D.told disk.new ≡ Some now) × Holds [] now) }
     ensures calls { OnOk result (D.calls disk.new ≡ after_calls 6 (D.calls disk.old)) }
     ensures stands { OnOk result (ForSome (D.told disk.new) (Stands LOG)) }
 
     // It isn't opened where anything stands, and is refused as no store only there. Then, and where memory ran out, nothing
     // was changed.
-    ensures free { OnOk result (ForSome (D.told disk.old) StandsNothing) }
-    ensures not_a_store { result ≡ Err OpenFail.NotAStore → ForSome (D.told disk.old) StandsSome }
-    ensures occupied { (state : DiskState) → D.told disk.old ≡ Some state → StandsSome state
+    ensures free { OnOk result (ForSome (D.told disk.old) HasNoFile) }
+    ensures not_a_store { result ≡ Err OpenFail.NotAStore → ForSome (D.told disk.old) HasSomeFile }
+    ensures occupied { (state : DiskState) → D.told disk.old ≡ Some state → HasSomeFile state
         → IsAsBefore D.Watched disk.old disk.new }
-    ensures refused { result ≡ Err OpenFail.NotAStore → IsAsBefore D.Watched disk.old disk.new }
+    ensures left_alone { result ≡ Err OpenFail.NotAStore → IsAsBefore D.Watched disk.old disk.new }
     ensures no_memory { result ≡ Err OpenFail.NoMemory → IsAsBefore D.Watched disk.old disk.new }
 
     // What a crash leaves meanwhile shows no commit, if no torn bytes spell a frame by chance.
-    ensures through { (state : DiskState) → D.told disk.old ≡ Some state → IsEmpty state
+    ensures through { (state : DiskState) → D.told disk.old ≡ Some state → IsBlank state
         → HoldsThroughout D.Watched disk.old disk.new (Leaves ShowsNone) }
     ensures tells { (state : DiskState) → D.told disk.old ≡ Some state
         → (now : DiskState) × (D.told disk.new ≡ Some now) }

@@ -21,7 +21,7 @@ pub fn append_durably<D: Disk>(
     disk: &mut D,
     staged: &Staged,
 ) -> Result<(), Failed>
-    requires bound { IsStagedFor log.old staged.now }
+    requires staged_for { IsStagedFor log.old staged.now }
     requires stands { ForSome (D.told disk.old) (Stands (names.Log log.old.number)) }
     requires room { CanAppend (length staged.now.frame.items) (D.spare disk.old (names.Log log.old.number)) }
     ensures written { (state : DiskState) (commits : List Commit) (c : Commit)

@@ -23,7 +23,7 @@ use Rattle.vl_journal.specs.Images.{Leaves, ImageShows, ShowsEither}
 use Rattle.vl_replay.specs.Sequential.{State, after_commit}
 use Rattle.vl_replay.specs.Between.{ShowsBetween}
 use Rattle.vl_replay.specs.Represents.{Represents}
-use Rattle.vl_replay.specs.Durable.{HoldsState, GoesFrom, CarriesOut}
+use Rattle.vl_replay.specs.Durable.{HoldsState, GoesFrom, LeadsTo}
 use Rattle.vl_replay.specs.Stored.{logged, IsStored, Shown}
 use Rattle.vl_replay.specs.declared.replayer.store.Store.{Store}
 use Rattle.vl_replay.specs.declared.fails.Halt.{Halt}
@@ -102,22 +102,22 @@ module _ {D : Type 0} (g : Ghosts D) (watched : IsWatched g) where
   held_kept before after disk keeps held = record { calls = held.calls ∙ sym keeps.calls; there = (held.there.0, held.there.1, stored_kept before after held.there.0 keeps held.there.2) }
 
   -- the disk was left alone, and the commits stay
-  pub carries_kept : {T : Type 0} (s after : State) (disk : D) (result : Result T Halt) → Keeps s after → HoldsState g IsStored s disk → CarriesOut g IsStored Shown disk disk s after result
+  pub carries_kept : {T : Type 0} (s after : State) (disk : D) (result : Result T Halt) → Keeps s after → HoldsState g IsStored s disk → LeadsTo g IsStored Shown disk disk s after result
   carries_kept s after disk result keeps held = record {
     answered = on_ok_of result _ (held_kept s after disk keeps held);
-    no_memory = λ _. it_holds g watched IsStored Shown shown_stays stored_exactly s disk held;
+    no_commit = λ _. it_holds g watched IsStored Shown shown_stays stored_exactly s disk held;
     tells = (held.there.0, held.there.1, tt);
     through = rests_until g watched IsStored Shown shown_stays stored_exactly s after.history (extends_same s.history after.history keeps.history) disk held;
   }
 
   -- memory ran out before anything was written
   pub carries_no_memory : {T : Type 0} (s after : State) (old new : D) (failed : Type 0) (result : Result T Halt) → IsErr result → Extends s.history after.history → ChangesNothing g old new failed → HoldsState g IsStored s old
-      → CarriesOut g IsStored Shown old new s after result
+      → LeadsTo g IsStored Shown old new s after result
   carries_no_memory s after old new failed result err extends no_change held =
       let (kept, goes) = looked s old new failed no_change held in
       record {
         answered = on_ok_at_err result _ err;
-        no_memory = λ _. it_holds g watched IsStored Shown shown_stays stored_exactly s new kept;
+        no_commit = λ _. it_holds g watched IsStored Shown shown_stays stored_exactly s new kept;
         tells = (kept.there.0, kept.there.1, tt);
         through = goes_wider g watched IsStored Shown shown_stays stored_exactly old new s.history s.history s.history after.history (extends_itself s.history) extends goes;
       }
@@ -147,20 +147,20 @@ module _ {D : Type 0} (g : Ghosts D) (watched : IsWatched g) where
         (holds_weaker g (Leaves either) (Leaves between) mid new through (leaves_weaker either between shown_either))
 
     -- the disk failed while it was written
-    pub carries_failed : {T : Type 0} (result : Result T Halt) → IsErr result → IsErrAnd result (λ halt. halt ≡ DiskFailed) → (now : DiskState) × (g.told new ≡ Some now) → CarriesOut g IsStored Shown old new s after result
+    pub carries_failed : {T : Type 0} (result : Result T Halt) → IsErr result → IsErrAnd result (λ halt. halt ≡ DiskFailed) → (now : DiskState) × (g.told new ≡ Some now) → LeadsTo g IsStored Shown old new s after result
     carries_failed result err disk tells = record {
       answered = on_ok_at_err result _ err;
-      no_memory = disk_failed result _ disk;
+      no_commit = disk_failed result _ disk;
       tells = (tells.0, tells.1, tt);
       through = written;
     }
 
     -- it was written
     pub carries_commit : {T : Type 0} (answer : T) → g.calls new ≡ after_calls 2 (g.calls mid) → (now : DiskState) × (g.told new ≡ Some now) × Holds (logged s.history ++ next_commit s writes ∷ []) now
-        → CarriesOut g IsStored Shown old new s after (Ok answer)
+        → LeadsTo g IsStored Shown old new s after (Ok answer)
     carries_commit answer calls (now, is, holds) = record {
       answered = record { calls = calls ∙ ap (after_calls 2) (no_change.calls ∙ held.calls); there = (now, is, stored_commit s name writes held.there.0 now held.there.2 holds) };
-      no_memory = λ none. cc;
+      no_commit = λ none. cc;
       tells = (now, is, tt);
       through = written;
     }

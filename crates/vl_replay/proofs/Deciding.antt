@@ -14,8 +14,8 @@ use Rattle.vl_seglog.specs.declared.active.ActiveLog.{ActiveLog}
 use Rattle.vl_seglog.specs.Log.{commit_frame}
 use Rattle.vl_journal.specs.declared.names.TheConstants.{NUMBER}
 use Rattle.vl_script.specs.declared.answer.Answer.TheVariants.{Number, Nothing, Full, Exhausted}
-use Rattle.vl_replay.specs.Sequential.{State, OpenTransaction, without_handle, committed, frame_length, after_commit}
-use Rattle.vl_replay.specs.Represents.{IsOpen, Represents, Gives, HasOpen, CanCommit, handle_named}
+use Rattle.vl_replay.specs.Sequential.{State, OpenTransaction, without_handle, committed, bytes_in_log, after_commit}
+use Rattle.vl_replay.specs.Represents.{IsOpen, Represents, IsOutcome, HasOpen, CanCommit, handle_named}
 use Rattle.vl_replay.specs.declared.replayer.handle.Handle.{Handle}
 use Rattle.vl_replay.specs.declared.replayer.handle.Handle.TheVariants.{Transaction}
 use Rattle.vl_replay.specs.declared.replayer.handle.Open.{Open}
@@ -60,19 +60,19 @@ module _ (r : Store) (s : State) (name : List ℕ) (number : ℕ) (writes : Writ
     decides_exhausted past = asked ∙ cond-false _ _ _ some ∙ cond-true _ _ _ (ap (nat_le max_commit_number) (sym rep.last) ∙ le-leb _ _ past)
 
     module _ (left : r.last < max_commit_number) where
-      numbered : committed s name (get s.handles name) ≡ cond (nat_le (s.log_length + frame_length writes) max_room) (Number (last_number s.history + 1), after_commit s name writes) (Full, s)
+      numbered : committed s name (get s.handles name) ≡ cond (nat_le (s.log_length + bytes_in_log writes) max_room) (Number (last_number s.history + 1), after_commit s name writes) (Full, s)
       numbered = asked ∙ cond-false _ _ _ some ∙ cond-false _ _ _ (ap (nat_le max_commit_number) (sym rep.last) ∙ lt-leb _ _ left)
 
       -- adding up to the last value of a number doesn't change whether the log has room
-      pub decides_full : max_room < min (r.log.length + frame_length writes) (2 ^ 64 - 1) → committed s name (get s.handles name) ≡ (Full, s)
+      pub decides_full : max_room < min (r.log.length + bytes_in_log writes) (2 ^ 64 - 1) → committed s name (get s.handles name) ≡ (Full, s)
       decides_full full =
-          let past : max_room < s.log_length + frame_length writes = omega (arith, room_is, full) in
+          let past : max_room < s.log_length + bytes_in_log writes = omega (arith, room_is, full) in
           numbered ∙ cond-false _ _ _ (lt-leb _ _ past)
 
-      pub decides_write : min (r.log.length + frame_length writes) (2 ^ 64 - 1) ≤ max_room
+      pub decides_write : min (r.log.length + bytes_in_log writes) (2 ^ 64 - 1) ≤ max_room
           → (written : Writes) × HasOpen r name written × (committed s name (get s.handles name) ≡ (Number (last_number s.history + 1), after_commit s name written))
       decides_write fits =
-          let within : s.log_length + frame_length writes ≤ max_room = omega (arith, room_is, fits) in
+          let within : s.log_length + bytes_in_log writes ≤ max_room = omega (arith, room_is, fits) in
           (writes, (number, open_named r.in_use name (Transaction number writes) is), numbered ∙ cond-true _ _ _ (le-leb _ _ within))
 
 pub can_commit : (r : Store) (name : List ℕ) (number : ℕ) (writes : Writes) → handle_named r.in_use name ≡ Some (Transaction number writes) → (len writes == 0) ≡ false → r.last < max_commit_number → CanCommit r
@@ -112,13 +112,13 @@ pub log_after : (r : Store) (s : State) (name : List ℕ) (writes : Writes) (lis
 log_after r s name writes list frame log rep listed spelled number_is length_is fits =
     let number : r.log.number ≡ NUMBER = ap (λ (l : ActiveLog). l.number) rep.log in
     let place : r.log.length ≡ s.log_length = ap (λ (l : ActiveLog). l.length) rep.log in
-    let frame_is : length frame ≡ frame_length writes =
+    let frame_is : length frame ≡ bytes_in_log writes =
     ap length (spelled ∙ ap (λ (es : List (List ℕ × Change)). commit_frame r.log.number r.log.length (record { number = r.last + 1; writes = es })) listed ∙ ap (λ (n : ℕ). commit_frame n r.log.length (record { number = r.last + 1; writes = entries writes })) number) ∙ frame-length r.log.length (r.last + 1) writes in
-    same_log log NUMBER (s.log_length + frame_length writes) (number_is ∙ number) (omega (arith, longer_is r.log.length (length frame) log.length length_is fits, place, frame_is))
+    same_log log NUMBER (s.log_length + bytes_in_log writes) (number_is ∙ number) (omega (arith, longer_is r.log.length (length frame) log.length length_is fits, place, frame_is))
 
 pub gives_commit : (r : Store) (s : State) (name : List ℕ) (writes : Writes) (log : ActiveLog) (memtable : Memtable) → Represents r s → HasOpen r name writes
     → log ≡ record { number = NUMBER; length = (after_commit s name writes).log_length } → Takes r.memtable.entries.items memtable.entries.items writes (r.last + 1)
-    → Gives (Number (r.last + 1)) (record { alloc = r.alloc; last = r.last + 1; log = log; memtable = memtable; in_use = None }) (Number (last_number s.history + 1), after_commit s name writes)
+    → IsOutcome (Number (r.last + 1)) (record { alloc = r.alloc; last = r.last + 1; log = log; memtable = memtable; in_use = None }) (Number (last_number s.history + 1), after_commit s name writes)
 gives_commit r s name writes log memtable rep (number, is) log_is takes =
     let next : r.last + 1 ≡ last_number s.history + 1 = ap (λ n. n + 1) rep.last in
     record {

@@ -17,7 +17,7 @@ use Rattle.vl_script.specs.Script.{text_of, lines_of, line_of}
 use Rattle.vl_replay.specs.Sequential.{State, answer_to, state_after}
 use Rattle.vl_replay.specs.Input.{HasNoLineEnd}
 use Rattle.vl_replay.specs.Exchanges.{Exchange, exchange_at, exchanged, exchanges_from, and_later, answers_text, ended_lines, KeepsUp}
-use Rattle.vl_replay.specs.Endings.{Culprit, NoOne, TheLine, TheWords, TheDisk, TheFiles, Memory, TheSource, TheSink, LastPiece, NoPiece, BadLinePiece, Line, LineFront, AnswerFront, Counts, Causes, CutsAnswer, culprit_of, end_of, last_line, line_of_piece, line_number, bad_line}
+use Rattle.vl_replay.specs.Endings.{Culprit, NoOne, TheLine, TheWords, TheDisk, TheFiles, Memory, TheSource, TheSink, LastPiece, NoPiece, BadLinePiece, Line, LineFront, AnswerFront, CountsFaultsOf, Evidence, CutsAnswer, culprit_of, end_of, last_line, line_of_piece, line_number, bad_line}
 use Rattle.vl_replay.specs.Runs.{Script, exchanges, next_number, IsFront, Stops, Puts, EndsSo}
 use Rattle.vl_replay.specs.Steps.{Finishes, IsNext, EndsBefore}
 use Rattle.vl_replay.specs.declared.ending.Ending.{Ending}
@@ -212,22 +212,22 @@ module _ (cause cause' : Culprit → Type 0) (weaker : (culprit : Culprit) → c
     printed_is = ends.printed_is;
   }
 
-pub causes_weaker : (A B C A' B' C' : Type 0) → (A → A') → (B → B') → (C → C') → (culprit : Culprit) → Causes A B C culprit → Causes A' B' C' culprit
-causes_weaker A B C A' B' C' f g h NoOne c = c
-causes_weaker A B C A' B' C' f g h TheLine c = c
-causes_weaker A B C A' B' C' f g h TheWords c = c
-causes_weaker A B C A' B' C' f g h TheDisk c = g c
-causes_weaker A B C A' B' C' f g h TheFiles c = h c
-causes_weaker A B C A' B' C' f g h Memory c = c
-causes_weaker A B C A' B' C' f g h TheSource c = f c
-causes_weaker A B C A' B' C' f g h TheSink c = c
+pub evidence_weaker : (A B C A' B' C' : Type 0) → (A → A') → (B → B') → (C → C') → (culprit : Culprit) → Evidence A B C culprit → Evidence A' B' C' culprit
+evidence_weaker A B C A' B' C' f g h NoOne c = c
+evidence_weaker A B C A' B' C' f g h TheLine c = c
+evidence_weaker A B C A' B' C' f g h TheWords c = c
+evidence_weaker A B C A' B' C' f g h TheDisk c = g c
+evidence_weaker A B C A' B' C' f g h TheFiles c = h c
+evidence_weaker A B C A' B' C' f g h Memory c = c
+evidence_weaker A B C A' B' C' f g h TheSource c = f c
+evidence_weaker A B C A' B' C' f g h TheSink c = c
 
 -- a run that ended without a cause being asked for
-pub before_weaker : (by_disk : Type 0) (script : Script) (left : Option (List ℕ)) (ending : Ending) (held held' : Option (List ℕ)) → EndsBefore (Causes ⊥ ⊥ ⊥) script left ending held held' → EndsBefore (Causes ⊥ by_disk ⊥) script left ending held held'
+pub before_weaker : (by_disk : Type 0) (script : Script) (left : Option (List ℕ)) (ending : Ending) (held held' : Option (List ℕ)) → EndsBefore (Evidence ⊥ ⊥ ⊥) script left ending held held' → EndsBefore (Evidence ⊥ by_disk ⊥) script left ending held held'
 before_weaker by_disk script left ending held held' before = record {
   printed = before.printed;
   taken = before.taken;
-  ends = ends_weaker (Causes ⊥ ⊥ ⊥) (Causes ⊥ by_disk ⊥) (causes_weaker ⊥ ⊥ ⊥ ⊥ by_disk ⊥ (λ never. never) (λ never. absurd never) (λ never. never)) script left 0 ending before.printed before.ends;
+  ends = ends_weaker (Evidence ⊥ ⊥ ⊥) (Evidence ⊥ by_disk ⊥) (evidence_weaker ⊥ ⊥ ⊥ ⊥ by_disk ⊥ (λ never. never) (λ never. absurd never) (λ never. never)) script left 0 ending before.printed before.ends;
 }
 
 -- ---- one more answer in front
@@ -322,17 +322,17 @@ some_culprit : (c who : Culprit) → Some c ≡ Some who → c ≡ who
 some_culprit c who e = cc
 
 -- an ending by another object counts nothing of this one
-pub counts_none : (who : Culprit) (ending : Ending) (n : ℕ) → culprit_of ending ≢ who → Counts who (Some ending) n n
+pub counts_none : (who : Culprit) (ending : Ending) (n : ℕ) → culprit_of ending ≢ who → CountsFaultsOf who (Some ending) n n
 counts_none who ending n other = record { later = omega arith; rose = λ by. absurd (other (some_culprit (culprit_of ending) who by)); steady = λ _ _. refl }
 
 cut_is : (result : Ending) → result ≡ WriteFault → culprit_of result ≡ TheSink
 cut_is result same = ap culprit_of same
 
 -- the sink counts its own faults
-pub finish_counts : {K : Type 0} (g : sink.Ghosts K) (old new : K) (line : List ℕ) (ending result : Ending) → culprit_of ending ≢ TheSink → Finishes g old new line ending result → Counts TheSink (Some result) (g.faults old) (g.faults new)
+pub finish_counts : {K : Type 0} (g : sink.Ghosts K) (old new : K) (line : List ℕ) (ending result : Ending) → culprit_of ending ≢ TheSink → Finishes g old new line ending result → CountsFaultsOf TheSink (Some result) (g.faults old) (g.faults new)
 finish_counts g old new line ending result other f = ⊎_elim
     (λ (same : (result ≡ ending) × (f.printed ≡ line) × (g.faults new ≡ g.faults old)).
-    subst (λ (n : ℕ). Counts TheSink (Some result) (g.faults old) n) (sym same.2)
+    subst (λ (n : ℕ). CountsFaultsOf TheSink (Some result) (g.faults old) n) (sym same.2)
     (counts_none TheSink result (g.faults old) (λ by. other (sym (ap culprit_of same.0) ∙ by))))
     (λ (failed : (result ≡ WriteFault) × IsFront f.printed line × Rose (g.faults old) (g.faults new)).
     record { later = f.later; rose = λ _. failed.2; steady = λ other _. absurd (other (ap (λ (e : Ending). Some (culprit_of e)) failed.0)) })

@@ -12,7 +12,7 @@ use Rattle.vl_model.specs.History.{History, last_number, commits_up_to}
 use Rattle.vl_model.specs.Keys.{Writes}
 use Rattle.vl_seglog.specs.Laws.{length-commit_frame, log_bytes-length-more}
 use Rattle.vl_seglog.specs.Log.{Commit, commit_frame, log_bytes}
-use Rattle.vl_replay.specs.Sequential.{State, frame_length, after_commit}
+use Rattle.vl_replay.specs.Sequential.{State, bytes_in_log, after_commit}
 use Rattle.vl_replay.specs.Durable.{LeavesItsHistory, StaysShown}
 use Rattle.vl_replay.specs.Stored.{numbered, logged, IsStored, Shown}
 use Rattle.vl_replay.proofs.Outcomes.{Keeps}
@@ -62,7 +62,7 @@ numbered-more n (first ∷ commits) writes =
 pub logged-more : (s : State) (name : List ℕ) (writes : Writes) → logged (after_commit s name writes).history ≡ logged s.history ++ next_commit s writes ∷ []
 logged-more s name writes = numbered-more s.history.first s.history.commits writes
 
-pub frame-length : (at number : ℕ) (writes : Writes) → length (commit_frame 1 at (record { number = number; writes = entries writes })) ≡ frame_length writes
+pub frame-length : (at number : ℕ) (writes : Writes) → length (commit_frame 1 at (record { number = number; writes = entries writes })) ≡ bytes_in_log writes
 frame-length at number writes = omega (arith, length-commit_frame 1 at (commit_with writes number), len-entries writes)
 
 -- after a commit that was written the state with it is stored
@@ -70,7 +70,7 @@ pub stored_commit : (s : State) (name : List ℕ) (writes : Writes) (before now 
 stored_commit s name writes before now stored holds =
     let old = logged s.history in
     let new = next_commit s writes in
-    let longer : s.log_length + frame_length writes ≡ length (log_bytes 1 (old ++ new ∷ [])) =
+    let longer : s.log_length + bytes_in_log writes ≡ length (log_bytes 1 (old ++ new ∷ [])) =
     omega (arith, stored.length_is, log_bytes-length-more 1 old new, frame-length (length (log_bytes 1 old)) (last_number s.history + 1) writes) in
     record {
       commits = subst (λ (commits : List Commit). Holds commits now) (sym (logged-more s name writes)) holds;

@@ -12,43 +12,43 @@ use Rattle.vl_replay.specs.Sequential.{State}
 use Rattle.vl_replay.specs.Exchanges.{Exchange, KeepsUp, last_state}
 use Rattle.vl_model.specs.History.{Extends}
 use Rattle.vl_replay.specs.Between.{Showing}
-use Rattle.vl_replay.specs.Endings.{Culprit, TheDisk, TheSink, TheSource, Counts, Causes, CutsAnswer, IsBetweenLines, culprit_of, last_line}
-use Rattle.vl_replay.specs.Runs.{Script, exchanges, next_number, Stops, Course, Outside, CausesOf, EndsRun}
+use Rattle.vl_replay.specs.Endings.{Culprit, TheDisk, TheSink, TheSource, CountsFaultsOf, Evidence, CutsAnswer, IsBetweenLines, culprit_of, last_line}
+use Rattle.vl_replay.specs.Runs.{Script, exchanges, next_number, Stops, Course, Outside, EvidenceOf, EndsRun}
 use Rattle.vl_replay.specs.Durable.{Holding, LeavesItsHistory, StaysShown, Tells, HoldsState, GoesFrom, GoesAlong, DiskEnds, DiskEndsFrom}
-use Rattle.vl_replay.specs.Opening.{refusal_of}
+use Rattle.vl_replay.specs.Opening.{ending_unopened}
 use Rattle.vl_replay.specs.Steps.{EndsBefore, FinishesBy}
 use Rattle.vl_replay.specs.declared.ending.Ending.{Ending}
 use Rattle.vl_replay.specs.declared.ending.Ending.TheVariants.{BadWords, NotAStore, NoMemory, WriteFault}
 use Rattle.vl_replay.proofs.Betweens.{extends_itself}
-use Rattle.vl_replay.proofs.Ends.{ends_weaker, causes_weaker, finished, or_cut, finish_counts, counts_none}
+use Rattle.vl_replay.proofs.Ends.{ends_weaker, evidence_weaker, finished, or_cut, finish_counts, counts_none}
 use Rattle.vl_replay.proofs.DiskSteps.{IsWatched, exchanges_extend, goes_wider, goes_then, at_end, ends_later, rose_earlier}
 
 -- ---- the store wasn't opened
 
 -- a refusal stops a run before anything is read
 refusal_stops : (by_source by_disk by_files : Type 0) (script : Script) (left : Option (List ℕ)) (how : Why) → (how ≡ why.NotAStore → by_files) → (how ≡ why.Disk → by_disk) → left ≡ Some script.bytes
-    → Stops (Causes by_source by_disk by_files) script left 0 (culprit_of (refusal_of how))
+    → Stops (Evidence by_source by_disk by_files) script left 0 (culprit_of (ending_unopened how))
 refusal_stops by_source by_disk by_files script left why.NotAStore occupied fault unread = (occupied refl, refl, unread)
 refusal_stops by_source by_disk by_files script left why.NoMemory occupied fault unread = tt
 refusal_stops by_source by_disk by_files script left why.Disk occupied fault unread = fault refl
 
 -- and its line is the same whatever line comes next
-same_line : (n : ℕ) (how : Why) → last_line n (refusal_of how) ≡ last_line 0 (refusal_of how)
+same_line : (n : ℕ) (how : Why) → last_line n (ending_unopened how) ≡ last_line 0 (ending_unopened how)
 same_line n why.NotAStore = refl
 same_line n why.NoMemory = refl
 same_line n why.Disk = refl
 
 pub refused : {K : Type 0} (k : sink.Ghosts K) (old new : K) (by_source by_disk by_files : Type 0) (script : Script) (left : Option (List ℕ)) (how : Why) (result : Ending) → (how ≡ why.NotAStore → by_files) → (how ≡ why.Disk → by_disk)
-    → left ≡ Some script.bytes → FinishesBy k old new (refusal_of how) result → EndsBefore (Causes by_source by_disk by_files) script left result (k.held old) (k.held new)
+    → left ≡ Some script.bytes → FinishesBy k old new (ending_unopened how) result → EndsBefore (Evidence by_source by_disk by_files) script left result (k.held old) (k.held new)
 refused k old new by_source by_disk by_files script left how result occupied fault unread (line, own, finishes) =
-    finished k old new (Causes by_source by_disk by_files) script left (refusal_of how) result line (same_line (next_number script 0) how ∙ own)
+    finished k old new (Evidence by_source by_disk by_files) script left (ending_unopened how) result line (same_line (next_number script 0) how ∙ own)
     (refusal_stops by_source by_disk by_files script left how occupied fault unread) finishes
 
 -- of a refusal and of a line that couldn't be put it holds that nothing was answered and no answer cut
 abbrev pub AnswersNothing : Ending → Type 0
 AnswersNothing ending = (IsBetweenLines (culprit_of ending) → ⊥) × (CutsAnswer ending → ⊥)
 
-nothing_refused : (how : Why) → AnswersNothing (refusal_of how)
+nothing_refused : (how : Why) → AnswersNothing (ending_unopened how)
 nothing_refused why.NotAStore = (λ never. never, λ e. cc)
 nothing_refused why.NoMemory = (λ never. never, λ e. cc)
 nothing_refused why.Disk = (λ never. never, λ e. cc)
@@ -56,14 +56,14 @@ nothing_refused why.Disk = (λ never. never, λ e. cc)
 nothing_cut : AnswersNothing WriteFault
 nothing_cut = (λ never. never, λ e. cc)
 
-pub refused_nothing : {K : Type 0} (k : sink.Ghosts K) (old new : K) (how : Why) (result : Ending) → FinishesBy k old new (refusal_of how) result → AnswersNothing result
-refused_nothing k old new how result (line, own, finishes) = or_cut k old new line (refusal_of how) result AnswersNothing finishes (nothing_refused how) nothing_cut
+pub refused_nothing : {K : Type 0} (k : sink.Ghosts K) (old new : K) (how : Why) (result : Ending) → FinishesBy k old new (ending_unopened how) result → AnswersNothing result
+refused_nothing k old new how result (line, own, finishes) = or_cut k old new line (ending_unopened how) result AnswersNothing finishes (nothing_refused how) nothing_cut
 
 -- where the run ended by want of memory, that was why
-pub out_of_memory : {K : Type 0} (k : sink.Ghosts K) (old new : K) (how : Why) (result : Ending) → FinishesBy k old new (refusal_of how) result → result ≡ NoMemory → how ≡ why.Disk → ⊥
-out_of_memory k old new how result (line, own, finishes) = or_cut k old new line (refusal_of how) result (λ (e : Ending). e ≡ NoMemory → how ≡ why.Disk → ⊥) finishes (of how) (λ e _. cc)
+pub out_of_memory : {K : Type 0} (k : sink.Ghosts K) (old new : K) (how : Why) (result : Ending) → FinishesBy k old new (ending_unopened how) result → result ≡ NoMemory → how ≡ why.Disk → ⊥
+out_of_memory k old new how result (line, own, finishes) = or_cut k old new line (ending_unopened how) result (λ (e : Ending). e ≡ NoMemory → how ≡ why.Disk → ⊥) finishes (of how) (λ e _. cc)
   where
-    of : (how : Why) → refusal_of how ≡ NoMemory → how ≡ why.Disk → ⊥
+    of : (how : Why) → ending_unopened how ≡ NoMemory → how ≡ why.Disk → ⊥
     of why.NotAStore e is = cc
     of why.NoMemory e is = cc
     of why.Disk e is = cc
@@ -74,7 +74,7 @@ module _ {D : Type 0} (g : Ghosts D) (watched : IsWatched g) (holds : Holding) (
   SoFar run = P → DiskEnds g holds shows (IsAsBefore g first.disk end.disk) first.disk end.disk run
 
   -- nothing was opened
-  pub ends_refused : (ending : Ending) → AnswersNothing ending → EndsBefore (CausesOf g first end by_files) script end.left ending first.held end.held → KeepsUp script.bytes end.asked 0
+  pub ends_refused : (ending : Ending) → AnswersNothing ending → EndsBefore (EvidenceOf g first end by_files) script end.left ending first.held end.held → KeepsUp script.bytes end.asked 0
       → (P → GoesFrom g shows first.disk end.disk script.start.history script.start.history) → (P → Tells g end.disk (λ _. Unit {0}))
       → ((Rose (g.faults first.disk) (g.faults end.disk) → ⊥) → IsAsBefore g first.disk end.disk) → (ending ≡ NoMemory → IsAsBefore g first.disk end.disk)
       → EndsRun g by_files SoFar script first end ending
@@ -123,8 +123,8 @@ module _ {D : Type 0} (g : Ghosts D) (watched : IsWatched g) (holds : Holding) (
         answered = m;
         printed = run.printed;
         taken = subst (λ (held : Option (List ℕ)). Takes held end.held run.printed) same_held run.taken;
-        ends = ends_weaker (CausesOf g mid end ⊥) (CausesOf g first end by_files)
-            (causes_weaker (Rose mid.source_faults end.source_faults) (Rose (g.faults mid.disk) (g.faults end.disk)) ⊥ (Rose first.source_faults end.source_faults) (Rose (g.faults first.disk) (g.faults end.disk)) by_files
+        ends = ends_weaker (EvidenceOf g mid end ⊥) (EvidenceOf g first end by_files)
+            (evidence_weaker (Rose mid.source_faults end.source_faults) (Rose (g.faults mid.disk) (g.faults end.disk)) ⊥ (Rose first.source_faults end.source_faults) (Rose (g.faults first.disk) (g.faults end.disk)) by_files
             (λ rose. subst (λ (n : ℕ). Rose n end.source_faults) same_faults rose) (λ rose. rose_earlier (g.faults first.disk) (g.faults mid.disk) (g.faults end.disk) earlier rose) (λ never. absurd never))
             script end.left m ending run.printed run.ends;
         kept_up = run.kept_up;
@@ -142,15 +142,15 @@ some_why e = cc
 some_culprit : (a b : Culprit) → Some a ≡ Some b → a ≡ b
 some_culprit a b e = cc
 
-module _ {K : Type 0} (k : sink.Ghosts K) (old new : K) (how : Why) (result : Ending) (finishes : FinishesBy k old new (refusal_of how) result) where
-  of_result : (P : Ending → Type 0) → P (refusal_of how) → P WriteFault → P result
-  of_result P whole cut = or_cut k old new finishes.0 (refusal_of how) result P finishes.2 whole cut
+module _ {K : Type 0} (k : sink.Ghosts K) (old new : K) (how : Why) (result : Ending) (finishes : FinishesBy k old new (ending_unopened how) result) where
+  of_result : (P : Ending → Type 0) → P (ending_unopened how) → P WriteFault → P result
+  of_result P whole cut = or_cut k old new finishes.0 (ending_unopened how) result P finishes.2 whole cut
 
   -- it was refused as no store
   pub refused_as : result ≡ NotAStore → how ≡ why.NotAStore
   refused_as = of_result (λ (e : Ending). e ≡ NotAStore → how ≡ why.NotAStore) (of how) (λ e. cc)
     where
-      of : (how : Why) → refusal_of how ≡ NotAStore → how ≡ why.NotAStore
+      of : (how : Why) → ending_unopened how ≡ NotAStore → how ≡ why.NotAStore
       of why.NotAStore e = refl
       of why.NoMemory e = cc
       of why.Disk e = cc
@@ -159,40 +159,40 @@ module _ {K : Type 0} (k : sink.Ghosts K) (old new : K) (how : Why) (result : En
   pub not_for_words : result ≢ BadWords
   not_for_words = of_result (λ (e : Ending). e ≢ BadWords) (of how) (λ e. cc)
     where
-      of : (how : Why) → refusal_of how ≢ BadWords
+      of : (how : Why) → ending_unopened how ≢ BadWords
       of why.NotAStore e = cc
       of why.NoMemory e = cc
       of why.Disk e = cc
 
-  pub counts_sink : Counts TheSink (Some result) (k.faults old) (k.faults new)
-  counts_sink = finish_counts k old new finishes.0 (refusal_of how) result (of how) finishes.2
+  pub counts_sink : CountsFaultsOf TheSink (Some result) (k.faults old) (k.faults new)
+  counts_sink = finish_counts k old new finishes.0 (ending_unopened how) result (of how) finishes.2
     where
-      of : (how : Why) → culprit_of (refusal_of how) ≢ TheSink
+      of : (how : Why) → culprit_of (ending_unopened how) ≢ TheSink
       of why.NotAStore e = cc
       of why.NoMemory e = cc
       of why.Disk e = cc
 
-  pub counts_source : (n : ℕ) → Counts TheSource (Some result) n n
+  pub counts_source : (n : ℕ) → CountsFaultsOf TheSource (Some result) n n
   counts_source n = counts_none TheSource result n (of_result (λ (e : Ending). culprit_of e ≢ TheSource) (of how) (λ e. cc))
     where
-      of : (how : Why) → culprit_of (refusal_of how) ≢ TheSource
+      of : (how : Why) → culprit_of (ending_unopened how) ≢ TheSource
       of why.NotAStore e = cc
       of why.NoMemory e = cc
       of why.Disk e = cc
 
-  pub counts_disk : (before now : ℕ) (failed : Type 0) → (failed → how ≡ why.Disk) → (how ≡ why.Disk → failed) → HasCause before now failed → Counts TheDisk (Some result) before now
+  pub counts_disk : (before now : ℕ) (failed : Type 0) → (failed → how ≡ why.Disk) → (how ≡ why.Disk → failed) → HasCause before now failed → CountsFaultsOf TheDisk (Some result) before now
   counts_disk before now failed was is cause = record {
     later = cause.later;
     rose = λ by. cause.rose (is (of_result (λ (e : Ending). culprit_of e ≡ TheDisk → how ≡ why.Disk) (by_disk how) (λ e. cc) (some_culprit (culprit_of result) TheDisk by)));
     steady = λ other whole. cause.steady (λ f. of_result (λ (e : Ending). how ≡ why.Disk → Some (culprit_of e) ≢ Some TheDisk → Some e ≢ Some WriteFault → ⊥) (not_other how) (λ d o w. w refl) (was f) other whole);
   }
     where
-      by_disk : (how : Why) → culprit_of (refusal_of how) ≡ TheDisk → how ≡ why.Disk
+      by_disk : (how : Why) → culprit_of (ending_unopened how) ≡ TheDisk → how ≡ why.Disk
       by_disk why.NotAStore e = cc
       by_disk why.NoMemory e = cc
       by_disk why.Disk e = refl
 
-      not_other : (how : Why) → how ≡ why.Disk → Some (culprit_of (refusal_of how)) ≢ Some TheDisk → Some (refusal_of how) ≢ Some WriteFault → ⊥
+      not_other : (how : Why) → how ≡ why.Disk → Some (culprit_of (ending_unopened how)) ≢ Some TheDisk → Some (ending_unopened how) ≢ Some WriteFault → ⊥
       not_other why.NotAStore d o w = cc
       not_other why.NoMemory d o w = cc
       not_other why.Disk d o w = o refl

@@ -12,7 +12,7 @@ use Rattle.vl_model.specs.declared.counter.Counter.TheVariants.{Commit as Commit
 use Rattle.vl_script.specs.declared.answer.Answer.TheVariants.{Done, Number, Taken, Invalid, TooBig, TooMany, Nothing, Full, Exhausted}
 use Rattle.vl_script.specs.declared.line.Line.{Line}
 use Rattle.vl_script.specs.declared.line.Line.TheVariants.{Begin, View, Get, Set, Delete as DeleteLine, Commit as CommitLine, Drop}
-use Rattle.vl_replay.specs.Sequential.{State, Handle, Outcome, OpenTransaction, OpenView, most_open, with_handle, without_handle, opened, found, read, read_in_transaction, is_lawful_write, written, committed, dropped, fits_transaction, frame_length, after_commit, answer_to, state_after}
+use Rattle.vl_replay.specs.Sequential.{State, Handle, Outcome, OpenTransaction, OpenView, most_open, with_handle, without_handle, opened, found, read, read_in_transaction, is_lawful_write, written, committed, dropped, fits_transaction, bytes_in_log, after_commit, answer_to, state_after}
 use Rattle.vl_replay.proofs.Betweens.{extends_same, extends_one}
 
 -- the commits, the log and the calls stay
@@ -75,7 +75,7 @@ committed_adds s name None = inl (kept_nothing s)
 committed_adds s name (Some (OpenView number)) = inl (kept_nothing s)
 committed_adds s name (Some (OpenTransaction number reads writes)) =
     let number = last_number s.history + 1 in
-    let fits = nat_le (s.log_length + frame_length writes) max_room in
+    let fits = nat_le (s.log_length + bytes_in_log writes) max_room in
     let done : Outcome = (Number number, after_commit s name writes) in
     let has_number : Outcome = cond fits done (Full, s) in
     let some : Outcome = cond (nat_le max_commit_number (last_number s.history)) (Exhausted CommitNumber, s) has_number in

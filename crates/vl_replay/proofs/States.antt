@@ -22,7 +22,7 @@ use Rattle.vl_model.specs.HistoryLaws.{value_at-with_commit}
 use Rattle.vl_replay.specs.Memtable.{newest}
 use Rattle.vl_replay.specs.Sequential as sequential
 use Rattle.vl_replay.specs.Sequential.{State, Outcome, OpenTransaction, with_handle, without_handle, opened, read, read_in_transaction, is_lawful_write, written, dropped, found, fits_transaction}
-use Rattle.vl_replay.specs.Represents.{IsReadable, Shows, StandsFor, IsOpen, Represents, Gives, handle_named, write_answer, writes_after}
+use Rattle.vl_replay.specs.Represents.{IsReadable, ShowsHistory, StandsFor, IsOpen, Represents, IsOutcome, handle_named, write_answer, writes_after}
 use Rattle.vl_replay.specs.declared.replayer.entry.Entry.{Entry}
 use Rattle.vl_replay.specs.declared.replayer.handle.Open.{Open}
 use Rattle.vl_replay.specs.declared.replayer.handle.Handle.{Handle}
@@ -102,8 +102,8 @@ named h handles (Some held) name kept is found =
 
 -- ---- answers
 
-pub gives_as : {answer : Answer} {r : Store} {o : Outcome} (p : Outcome) → p ≡ o → Gives answer r o → Gives answer r p
-gives_as {answer} {r} p e g = subst (Gives answer r) (sym e) g
+pub gives_as : {answer : Answer} {r : Store} {o : Outcome} (p : Outcome) → p ≡ o → IsOutcome answer r o → IsOutcome answer r p
+gives_as {answer} {r} p e g = subst (IsOutcome answer r) (sym e) g
 
 -- an open handle is opened over nothing
 pub opened_taken : (s : State) (name : List ℕ) (opens handle : sequential.Handle) → get s.handles name ≡ Some handle → opened s name opens ≡ (Taken name, s)
@@ -128,13 +128,13 @@ is_some-copied : {X : Type 0} (o : Option (Bor X)) → is_some (option_copied o)
 is_some-copied None = refl
 is_some-copied (Some x) = refl
 
-pub gives_taken : (r : Store) (s : State) (name : List ℕ) (opens : sequential.Handle) (o : Option (Bor Handle)) → Represents r s → option_copied o ≡ handle_named r.in_use name → is_some o ≡ true → Gives (Taken name) r (opened s name opens)
+pub gives_taken : (r : Store) (s : State) (name : List ℕ) (opens : sequential.Handle) (o : Option (Bor Handle)) → Represents r s → option_copied o ≡ handle_named r.in_use name → is_some o ≡ true → IsOutcome (Taken name) r (opened s name opens)
 gives_taken r s name opens o rep is some =
     let kept = some_of (handle_named r.in_use name) (ap is_some (sym is) ∙ is_some-copied o ∙ some) in
     let holds = named s.history s.handles r.in_use name kept.0 rep.in_use kept.1 in
     gives_as _ (opened_taken s name opens holds.handle holds.found_is) (record { answer_is = refl; stands = rep })
 
-pub gives_full : (r : Store) (s : State) (name : List ℕ) (opens : sequential.Handle) (o : Option (Bor Handle)) → Represents r s → option_copied o ≡ handle_named r.in_use name → is_some o ≡ false → is_some r.in_use ≡ true → Gives TooMany r (opened s name opens)
+pub gives_full : (r : Store) (s : State) (name : List ℕ) (opens : sequential.Handle) (o : Option (Bor Handle)) → Represents r s → option_copied o ≡ handle_named r.in_use name → is_some o ≡ false → is_some r.in_use ≡ true → IsOutcome TooMany r (opened s name opens)
 gives_full r s name opens o rep is none some =
     let missing = unnamed s.history s.handles r.in_use name rep.in_use (sym is ∙ none_of (option_copied o) (is_some-copied o ∙ none)) in
     let held = some_of r.in_use some in
@@ -142,7 +142,7 @@ gives_full r s name opens o rep is none some =
     gives_as _ (opened_full s name opens missing (ap len in_use.2 ∙ len-one held.0.name in_use.0)) (record { answer_is = refl; stands = rep })
 
 pub gives_open : (r : Store) (s : State) (name : List ℕ) (opens : sequential.Handle) (handle : Handle) → Represents r s → StandsFor s.history handle opens → is_some r.in_use ≡ false →
-    Gives (Number r.last) (record { alloc = r.alloc; last = r.last; log = r.log; memtable = r.memtable; in_use = Some (record { name = name; handle = handle }) }) (opened s name opens)
+    IsOutcome (Number r.last) (record { alloc = r.alloc; last = r.last; log = r.log; memtable = r.memtable; in_use = Some (record { name = name; handle = handle }) }) (opened s name opens)
 gives_open r s name opens handle rep stands none =
     let nothing : s.handles ≡ empty = subst (λ o. IsOpen s.history o s.handles) (none_of r.in_use none) rep.in_use in
     gives_as _ (opened_new s name opens nothing) (record {
@@ -175,11 +175,11 @@ pub read_invalid : (s : State) (name key : List ℕ) (kept : Handle) → IsInUse
 read_invalid s name key (Transaction number writes) holds unlawful = ap (read s name key) (holds.found_is ∙ ap Some holds.stands.1.1) ∙ cond-false _ _ _ unlawful
 read_invalid s name key (View number) holds unlawful = ap (read s name key) (holds.found_is ∙ ap Some holds.stands.1) ∙ cond-false _ _ _ unlawful
 
-pub gives_if_ok : (result : Result Answer Halt) (answer : Answer) (r : Store) (o : Outcome) → IfOk result (λ a. a ≡ answer) → Gives answer r o → IfOk result (λ a. Gives a r o)
-gives_if_ok result answer r o is gives = IfOk-weaker result (λ a. a ≡ answer) (λ a. Gives a r o) (λ a e. subst (λ x. Gives x r o) (sym e) gives) is
+pub gives_if_ok : (result : Result Answer Halt) (answer : Answer) (r : Store) (o : Outcome) → IfOk result (λ a. a ≡ answer) → IsOutcome answer r o → IfOk result (λ a. IsOutcome a r o)
+gives_if_ok result answer r o is gives = IfOk-weaker result (λ a. a ≡ answer) (λ a. IsOutcome a r o) (λ a e. subst (λ x. IsOutcome x r o) (sym e) gives) is
 
 pub read_view : (r : Store) (s : State) (name key : List ℕ) (number : ℕ) → Represents r s → IsInUse s.history s.handles name (View number) → is_key_length (length key) ≡ true →
-    Gives (found (value_left None (newest r.memtable.entries.items key number))) r (read s name key (get s.handles name))
+    IsOutcome (found (value_left None (newest r.memtable.entries.items key number))) r (read s name key (get s.handles name))
 read_view r s name key number rep holds lawful =
     gives_as _ (ap (read s name key) (holds.found_is ∙ ap Some holds.stands.1) ∙ cond-true _ _ _ lawful) (record {
       answer_is = ap found (rep.shows.values number key holds.stands.0);
@@ -187,14 +187,14 @@ read_view r s name key number rep holds lawful =
     })
 
 pub read_own : (r : Store) (s : State) (name key : List ℕ) (number : ℕ) (writes : Writes) (change : Change) → Represents r s → IsInUse s.history s.handles name (Transaction number writes) → is_key_length (length key) ≡ true → get writes key ≡ Some change →
-    Gives (found (value_left None (Some change))) r (read s name key (get s.handles name))
+    IsOutcome (found (value_left None (Some change))) r (read s name key (get s.handles name))
 read_own r s name key number writes change rep holds lawful own =
     gives_as _ (
     ap (read s name key) (holds.found_is ∙ ap Some holds.stands.1.1) ∙ cond-true _ _ _ lawful ∙ ap (read_in_transaction s name key number holds.stands.1.0 writes) own)
     (record { answer_is = refl; stands = rep })
 
 pub read_noted : (r : Store) (s : State) (name key : List ℕ) (number : ℕ) (writes : Writes) → Represents r s → handle_named r.in_use name ≡ Some (Transaction number writes) → is_key_length (length key) ≡ true → get writes key ≡ None →
-    Gives (found (value_left None (newest r.memtable.entries.items key number))) r (read s name key (get s.handles name))
+    IsOutcome (found (value_left None (newest r.memtable.entries.items key number))) r (read s name key (get s.handles name))
 read_noted r s name key number writes rep named_is lawful missing =
     let holds = named s.history s.handles r.in_use name (Transaction number writes) rep.in_use named_is in
     let reads = holds.stands.1.0 in
@@ -225,7 +225,7 @@ stands_kept r s held kept rep is e =
     record { last = rep.last; log = rep.log; shows = rep.shows; in_use = kept_open s.history s.handles held kept (subst (λ o. IsOpen s.history o s.handles) is rep.in_use) e }
 
 gives_write_answer : (r : Store) (s : State) (held : Open) (name key : List ℕ) (change : Change) (number : ℕ) (writes : Writes) → Represents r s → r.in_use ≡ Some held → bytes_eq name held.name ≡ true → held.handle ≡ Transaction number writes →
-    Gives (write_answer writes key change) (with_kept r held (Transaction number (writes_after writes key change))) (written s name key change (get s.handles name))
+    IsOutcome (write_answer writes key change) (with_kept r held (Transaction number (writes_after writes key change))) (written s name key change (get s.handles name))
 gives_write_answer r s held name key change number writes rep is same kept_is =
     let in_use = subst (λ o. IsOpen s.history o s.handles) is rep.in_use in
     let holds = subst (IsInUse s.history s.handles name) kept_is (held_in_use s.history s.handles held name in_use same) in
@@ -235,11 +235,11 @@ gives_write_answer r s held name key change number writes rep is same kept_is =
     let unchanged = stands_kept r s held (Transaction number writes) rep is kept_is in
     gives_as _ (ap (written s name key change) (holds.found_is ∙ ap Some holds.stands.1.1))
     (elim (not (is_lawful_write key change)) as (λ b.
-    Gives (cond b Invalid (cond (fits_transaction more) Done TooBig)) (with_kept r held (Transaction number (cond b writes (cond (fits_transaction more) more writes))))
+    IsOutcome (cond b Invalid (cond (fits_transaction more) Done TooBig)) (with_kept r held (Transaction number (cond b writes (cond (fits_transaction more) more writes))))
     (cond b (Invalid, s) (cond (fits_transaction more) (Done, with_handle s name after) (TooBig, s)))) [
       | true ↦ record { answer_is = refl; stands = unchanged }
       | false ↦ elim (fits_transaction more) as (λ b.
-          Gives (cond b Done TooBig) (with_kept r held (Transaction number (cond b more writes))) (cond b (Done, with_handle s name after) (TooBig, s))) [
+          IsOutcome (cond b Done TooBig) (with_kept r held (Transaction number (cond b more writes))) (cond b (Done, with_handle s name after) (TooBig, s))) [
             | true ↦ record {
               answer_is = refl;
               stands = record { last = rep.last; log = rep.log; shows = rep.shows; in_use = IsOpen-insert s.history s.handles held name (Transaction number more) after in_use same (holds.stands.0, (reads, refl)) };
@@ -249,10 +249,10 @@ gives_write_answer r s held name key change number writes rep is same kept_is =
     ])
 
 pub gives_write : (result : Result Answer Halt) (r : Store) (s : State) (held : Open) (name key : List ℕ) (change : Change) (number : ℕ) (writes new : Writes) → Represents r s → r.in_use ≡ Some held → bytes_eq name held.name ≡ true → held.handle ≡ Transaction number writes →
-    IfOk result (λ a. a ≡ write_answer writes key change) → OnOk result (new ≡ writes_after writes key change) → IfOk result (λ a. Gives a (with_kept r held (Transaction number new)) (written s name key change (get s.handles name)))
+    IfOk result (λ a. a ≡ write_answer writes key change) → OnOk result (new ≡ writes_after writes key change) → IfOk result (λ a. IsOutcome a (with_kept r held (Transaction number new)) (written s name key change (get s.handles name)))
 gives_write (Ok a) r s held name key change number writes new rep is same kept_is answer_is new_is =
-    subst (λ x. Gives x (with_kept r held (Transaction number new)) (written s name key change (get s.handles name))) (sym answer_is)
-    (subst (λ w. Gives (write_answer writes key change) (with_kept r held (Transaction number w)) (written s name key change (get s.handles name))) (sym new_is)
+    subst (λ x. IsOutcome x (with_kept r held (Transaction number new)) (written s name key change (get s.handles name))) (sym answer_is)
+    (subst (λ w. IsOutcome (write_answer writes key change) (with_kept r held (Transaction number w)) (written s name key change (get s.handles name))) (sym new_is)
     (gives_write_answer r s held name key change number writes rep is same kept_is))
 gives_write (Err e) r s held name key change number writes new rep is same kept_is answer_is new_is = tt
 
@@ -265,13 +265,13 @@ with_none r = record { alloc = r.alloc; last = r.last; log = r.log; memtable = r
 pub stands_without : (r : Store) (s : State) (name : List ℕ) (kept : Handle) → Represents r s → IsInUse s.history s.handles name kept → Represents (with_none r) (without_handle s name)
 stands_without r s name kept rep holds = record { last = rep.last; log = rep.log; shows = rep.shows; in_use = remove_in_use s.history s.handles name kept holds }
 
-pub gives_dropped : (r : Store) (s : State) (name : List ℕ) (o : Option (Bor Handle)) → Represents r s → option_copied o ≡ handle_named r.in_use name → is_some o ≡ true → Gives Done (with_none r) (dropped s name (get s.handles name))
+pub gives_dropped : (r : Store) (s : State) (name : List ℕ) (o : Option (Bor Handle)) → Represents r s → option_copied o ≡ handle_named r.in_use name → is_some o ≡ true → IsOutcome Done (with_none r) (dropped s name (get s.handles name))
 gives_dropped r s name o rep is some =
     let kept = some_of (handle_named r.in_use name) (ap is_some (sym is) ∙ is_some-copied o ∙ some) in
     let holds = named s.history s.handles r.in_use name kept.0 rep.in_use kept.1 in
     gives_as _ (ap (dropped s name) holds.found_is) (record { answer_is = refl; stands = stands_without r s name kept.0 rep holds })
 
-pub gives_unknown_dropped : (r : Store) (s : State) (name : List ℕ) (o : Option (Bor Handle)) → Represents r s → option_copied o ≡ handle_named r.in_use name → is_some o ≡ false → Gives (Unknown name) r (dropped s name (get s.handles name))
+pub gives_unknown_dropped : (r : Store) (s : State) (name : List ℕ) (o : Option (Bor Handle)) → Represents r s → option_copied o ≡ handle_named r.in_use name → is_some o ≡ false → IsOutcome (Unknown name) r (dropped s name (get s.handles name))
 gives_unknown_dropped r s name o rep is none =
     let missing = unnamed s.history s.handles r.in_use name rep.in_use (sym is ∙ none_of (option_copied o) (is_some-copied o ∙ none)) in
     gives_as _ (ap (dropped s name) missing) (record { answer_is = refl; stands = rep })
@@ -307,7 +307,7 @@ readable_last : (h : History) → IsReadable h (last_number h)
 readable_last h = (omega arith, omega arith)
 
 -- a memtable that took the writes of a commit shows the history with it
-pub shows_commit : (entries new : List Entry) (h : History) (writes : Writes) (number : ℕ) → number ≡ last_number h + 1 → Shows entries h → Takes entries new writes number → Shows new (with_commit h writes)
+pub shows_commit : (entries new : List Entry) (h : History) (writes : Writes) (number : ℕ) → number ≡ last_number h + 1 → ShowsHistory entries h → Takes entries new writes number → ShowsHistory new (with_commit h writes)
 shows_commit entries new h writes number is shows takes =
     let old_versions = up_to_more (last_number h) number entries (omega (arith, is)) shows.versions in
     let last_is : last_number (with_commit h writes) ≡ number = omega (arith, is, length-append h.commits (writes ∷ [])) in
@@ -339,8 +339,8 @@ take_none : {X : Type 0} (n : ℕ) → take {A = X} n [] ≡ []
 take_none zero = refl
 take_none (suc n) = refl
 
-pub shows_none : (entries : List Entry) → entries ≡ [] → Shows entries no_history
-shows_none entries none = subst (λ es. Shows es no_history) (sym none) (record {
+pub shows_none : (entries : List Entry) → entries ≡ [] → ShowsHistory entries no_history
+shows_none entries none = subst (λ es. ShowsHistory es no_history) (sym none) (record {
   values = λ n key readable. sym (ap (λ commits. value_left (get (empty {X = List ℕ} {R = key_cmp}) key) (last_change commits key)) (take_none (n - 0)) ∙ get-empty key_cmp key);
   versions = tt;
 })

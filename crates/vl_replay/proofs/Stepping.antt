@@ -1,5 +1,5 @@
 -- One step of a run over a disk, by what was read and how it was answered.
-use Rattle.std.proofs.Common.{◌≡◌, ℕ, List, [], ◌∷◌, ◌++◌, take, Option, None, Some, sym, ◌∙◌, ap, subst}
+use Rattle.std.proofs.Common.{◌≡◌, ℕ, ◌+◌, List, [], ◌∷◌, ◌++◌, take, Option, None, Some, refl, sym, ◌∙◌, ap, subst}
 use Rattle.std.specs.Prelude.{unwrap_or}
 use Rattle.vl_disk.specs.declared.watched.Watched.{Ghosts}
 use Rattle.vl_disk.specs.Faults.{Rose}
@@ -9,17 +9,26 @@ use Rattle.vl_replay.specs.Between.{Showing}
 use Rattle.vl_replay.specs.Input.{ReadsLine}
 use Rattle.vl_replay.specs.Sequential.{State}
 use Rattle.vl_replay.specs.Exchanges.{Exchange, exchange_at, state_behind, exchanges_from, last_state, KeepsUp}
-use Rattle.vl_replay.specs.Endings.{Causes, CutsAnswer}
-use Rattle.vl_replay.specs.Runs.{Script, exchanges, Outside, CausesOf, EndsRun}
+use Rattle.vl_replay.specs.Endings.{Evidence, CutsAnswer, line_number}
+use Rattle.vl_replay.specs.Runs.{Script, exchanges, Outside, EvidenceOf, EndsRun}
 use Rattle.vl_replay.specs.Durable.{Holding, LeavesItsHistory, StaysShown, HoldsState, DiskEnds, DiskEndsFrom}
-use Rattle.vl_replay.specs.Steps.{IsNext, EndsBefore, StepsOn, MovesOn, DiskSteps, Steps}
+use Rattle.vl_replay.specs.Steps.{IsNext, EndsBefore, StepsOn, MovesOn, DiskSteps, kept, Steps}
+use Rattle.vl_replay.specs.declared.input.lines.Next.{Next}
 use Rattle.vl_replay.specs.declared.input.lines.Next.TheVariants.{Line as WholeLine, LastLine}
 use Rattle.vl_replay.specs.declared.replayer.store.Store.{Store}
 use Rattle.vl_replay.specs.declared.ending.Ending.{Ending}
 use Rattle.vl_replay.specs.declared.ending.Ending.TheVariants.{Complete}
 use Rattle.vl_replay.proofs.Lines.{lines_of-ended, lines_of-unended}
-use Rattle.vl_replay.proofs.Ends.{keeps_up_after, keeps_up_more, last_answered, next_answered, none_left, takes_nothing, ends_weaker, causes_weaker}
+use Rattle.vl_replay.proofs.Ends.{keeps_up_after, keeps_up_more, last_answered, next_answered, none_left, takes_nothing, ends_weaker, evidence_weaker}
 use Rattle.vl_replay.proofs.DiskSteps.{IsWatched, exchanges_extend, first_behind, ends_untouched, ends_answered}
+
+-- the bytes of a script that is still to do are those that were read, and those that the source has left
+
+pub reads_script : (next : Next) (bytes had line buffer : List ℕ) (left : Option (List ℕ)) → bytes ≡ had → ReadsLine next had line buffer left → ReadsLine next bytes line buffer left
+reads_script next bytes had line buffer left same reads = subst (λ (b : List ℕ). ReadsLine next b line buffer left) (sym same) reads
+
+pub still_keeps_up : (bytes had : List ℕ) (asked asked' : Option (List ℕ)) → bytes ≡ had → (KeepsUp had asked 0 → KeepsUp had asked' 0) → KeepsUp bytes asked 0 → KeepsUp bytes asked' 0
+still_keeps_up bytes had asked asked' same keeps = subst (λ (b : List ℕ). KeepsUp b asked 0 → KeepsUp b asked' 0) (sym same) keeps
 
 -- what was read is the next line
 
@@ -33,15 +42,15 @@ module _ {D : Type 0} (g : Ghosts D) (watched : IsWatched g) (holds : Holding) (
     (stays : StaysShown shows) (exactly : LeavesItsHistory holds shows) (script : Script) (old new : Outside D) where
   -- a run that ended before it answered a line
   ended : (by_source by_disk : Type 0) → (by_source → Rose old.source_faults new.source_faults) → (by_disk → Rose (g.faults old.disk) (g.faults new.disk))
-      → (ending : Ending) → EndsBefore (Causes by_source by_disk ⊥) script new.left ending old.held new.held → KeepsUp script.bytes new.asked 0
+      → (ending : Ending) → EndsBefore (Evidence by_source by_disk ⊥) script new.left ending old.held new.held → KeepsUp script.bytes new.asked 0
       → (HoldsState g holds script.start old.disk → DiskEnds g holds shows ⊥ old.disk new.disk (record { ending = ending; first = script.start; answered = []; most = last_state script.start (take 1 (exchanges script)) }))
       → EndsRun g ⊥ (DiskEndsFrom g holds shows old.disk new.disk script.start) script old new ending
   ended by_source by_disk source disk ending before kept_up disk_ends = record {
     answered = 0;
     printed = before.printed;
     taken = before.taken;
-    ends = ends_weaker (Causes by_source by_disk ⊥) (CausesOf g old new ⊥)
-        (causes_weaker by_source by_disk ⊥ (Rose old.source_faults new.source_faults) (Rose (g.faults old.disk) (g.faults new.disk)) ⊥ source disk (λ never. never))
+    ends = ends_weaker (Evidence by_source by_disk ⊥) (EvidenceOf g old new ⊥)
+        (evidence_weaker by_source by_disk ⊥ (Rose old.source_faults new.source_faults) (Rose (g.faults old.disk) (g.faults new.disk)) ⊥ source disk (λ never. never))
         script new.left 0 ending before.printed before.ends;
     kept_up = kept_up;
     disk = disk_ends;
@@ -49,7 +58,7 @@ module _ {D : Type 0} (g : Ghosts D) (watched : IsWatched g) (holds : Holding) (
 
   -- where the disk was left alone
   pub step_apart : (by_source : Type 0) → (by_source → Rose old.source_faults new.source_faults) → (ending : Ending) → (CutsAnswer ending → ⊥) → new.disk ≡ old.disk
-      → EndsBefore (Causes by_source ⊥ ⊥) script new.left ending old.held new.held → KeepsUp script.bytes new.asked 0
+      → EndsBefore (Evidence by_source ⊥ ⊥) script new.left ending old.held new.held → KeepsUp script.bytes new.asked 0
       → EndsRun g ⊥ (DiskEndsFrom g holds shows old.disk new.disk script.start) script old new ending
   step_apart by_source source ending none same before kept_up =
       let most = last_state script.start (take 1 (exchanges script)) in
@@ -62,7 +71,7 @@ module _ {D : Type 0} (g : Ghosts D) (watched : IsWatched g) (holds : Holding) (
       → EndsRun g ⊥ (DiskEndsFrom g holds shows old.disk new.disk script.start) script old new Complete
   step_end none told same quiet kept_up =
       step_apart ⊥ (λ never. absurd never) Complete no_cut same
-      (record { printed = []; taken = subst (λ (h : Option (List ℕ)). Takes old.held h []) (sym quiet) (takes_nothing old.held); ends = none_left (Causes ⊥ ⊥ ⊥) script new.left none told }) kept_up
+      (record { printed = []; taken = subst (λ (h : Option (List ℕ)). Takes old.held h []) (sym quiet) (takes_nothing old.held); ends = none_left (Evidence ⊥ ⊥ ⊥) script new.left none told }) kept_up
     where
       no_cut : CutsAnswer Complete → ⊥
       no_cut e = cc
@@ -72,7 +81,7 @@ module _ {D : Type 0} (g : Ghosts D) (watched : IsWatched g) (holds : Holding) (
     behind = state_behind script.start (exchange_at script.start line)
 
     -- the line ended the run
-    line_ended : (texts : List (List ℕ)) → lines_of script.bytes ≡ line ∷ texts → (ending : Ending) → EndsBefore (Causes ⊥ (Rose (g.faults old.disk) (g.faults new.disk)) ⊥) script new.left ending old.held new.held
+    line_ended : (texts : List (List ℕ)) → lines_of script.bytes ≡ line ∷ texts → (ending : Ending) → EndsBefore (Evidence ⊥ (Rose (g.faults old.disk) (g.faults new.disk)) ⊥) script new.left ending old.held new.held
         → KeepsUp script.bytes new.asked 0 → (HoldsState g holds script.start old.disk → DiskSteps g holds shows old.disk new.disk script.start behind (Some ending))
         → EndsRun g ⊥ (DiskEndsFrom g holds shows old.disk new.disk script.start) script old new ending
     line_ended texts lines ending before kept_up moves =
@@ -82,24 +91,29 @@ module _ {D : Type 0} (g : Ghosts D) (watched : IsWatched g) (holds : Holding) (
         (λ held. subst (λ (s : State). DiskEnds g holds shows ⊥ old.disk new.disk (record { ending = ending; first = script.start; answered = []; most = s })) (sym most) (moves held))
 
     -- a line that was read with its end was answered, or the run ended there
-    pub step_line : (buffer : List ℕ) (result : Option Ending) → ReadsLine WholeLine script.bytes line buffer new.left
+    pub step_line : (buffer : List ℕ) (answered : ℕ) (result : Option Ending) → answered ≡ line_number (script.before + 1) → ReadsLine WholeLine script.bytes line buffer new.left
         → StepsOn (Rose (g.faults old.disk) (g.faults new.disk)) script line store result old.held new.held
         → (HoldsState g holds script.start old.disk → DiskSteps g holds shows old.disk new.disk script.start behind result)
-        → KeepsUp script.bytes new.asked 0 → Steps g holds shows script old new store buffer result
-    step_line buffer None (rest, told, parts, unended) (e, is, stands, taken) moves kept_up = record {
-      exchange = e;
+        → KeepsUp script.bytes new.asked 0 → Steps g holds shows script old new (kept store buffer answered) result
+    step_line buffer answered None count (rest, told, parts, unended) (e, is, stands, taken) moves kept_up = record {
       text = line;
-      rest = rest;
-      left_is = told;
+      later = buffer ++ rest;
       bytes_are = parts;
       unended = unended;
+      exchange = e;
       exchange_is = is;
-      stands = stands;
       taken = taken;
-      kept_up = keeps_up_after script.bytes line (buffer ++ rest) new.asked parts unended kept_up;
+      to_do = record {
+        stands = stands;
+        count = count;
+        rest = rest;
+        left_is = told;
+        bytes_are = refl;
+        kept_up = keeps_up_after script.bytes line (buffer ++ rest) new.asked parts unended kept_up;
+      };
       moves = λ held. subst (λ (o : Option Exchange). MovesOn g holds shows old.disk new.disk script.start (state_behind script.start o)) is (moves held);
     }
-    step_line buffer (Some ending) (rest, told, parts, unended) ends moves kept_up =
+    step_line buffer answered (Some ending) count (rest, told, parts, unended) ends moves kept_up =
         line_ended (lines_of (buffer ++ rest)) (ap lines_of parts ∙ lines_of-ended line (buffer ++ rest) unended) ending (ends new.left) kept_up moves
 
     -- the last line was answered, and so the run is complete, or it ended there
@@ -114,7 +128,7 @@ module _ {D : Type 0} (g : Ghosts D) (watched : IsWatched g) (holds : Holding) (
           answered = 1;
           printed = text_of e.answer;
           taken = taken;
-          ends = last_answered (CausesOf g old new ⊥) script line new.left e lines is told;
+          ends = last_answered (EvidenceOf g old new ⊥) script line new.left e lines is told;
           kept_up = keeps_up_more script.bytes new.asked 1 kept_up;
           disk = λ held.
               let m = subst (λ (o : Option Exchange). MovesOn g holds shows old.disk new.disk script.start (state_behind script.start o)) is (moves held) in

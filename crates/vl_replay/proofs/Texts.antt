@@ -12,7 +12,7 @@ use Rattle.vl_script.specs.Script.{line_of}
 use Rattle.vl_replay.specs.Sequential.{State, answer_to, state_after}
 use Rattle.vl_replay.specs.Exchanges.{exchange_at, exchanged, state_behind}
 use Rattle.vl_replay.specs.Endings.{CutsAnswer, IsBetweenLines, culprit_of}
-use Rattle.vl_replay.specs.Durable.{HoldsState, HoldsCommits, CarriesOut, DiskEnds}
+use Rattle.vl_replay.specs.Durable.{HoldsState, HoldsCommits, LeadsTo, DiskEnds}
 use Rattle.vl_replay.specs.Stored.{IsStored, Shown}
 use Rattle.vl_replay.specs.Steps.{Finishes}
 use Rattle.vl_replay.specs.declared.fails.Halt.{Halt}
@@ -65,31 +65,31 @@ module _ {D : Type 0} (g : Ghosts D) (watched : IsWatched g) (s : State) (text :
   behind = state_behind s (exchange_at s text)
 
   -- memory ran out before the text was looked at
-  pub carries_nothing : {T : Type 0} (disk : D) (result : Result T Halt) → IsErr result → HoldsState g IsStored s disk → CarriesOut g IsStored Shown disk disk s behind result
+  pub carries_nothing : {T : Type 0} (disk : D) (result : Result T Halt) → IsErr result → HoldsState g IsStored s disk → LeadsTo g IsStored Shown disk disk s behind result
   carries_nothing disk result err held = record {
     answered = on_ok_at_err result _ err;
-    no_memory = λ _. it_holds g watched IsStored Shown shown_stays stored_exactly s disk held;
+    no_commit = λ _. it_holds g watched IsStored Shown shown_stays stored_exactly s disk held;
     tells = (held.there.0, held.there.1, tt);
     through = rests_until g watched IsStored Shown shown_stays stored_exactly s behind.history (text_extends s text) disk held;
   }
 
   -- it is a bad line
-  pub carries_bad : {T : Type 0} (disk : D) (x : T) → exchange_at s text ≡ None → HoldsState g IsStored s disk → CarriesOut g IsStored Shown disk disk s behind (Ok x)
+  pub carries_bad : {T : Type 0} (disk : D) (x : T) → exchange_at s text ≡ None → HoldsState g IsStored s disk → LeadsTo g IsStored Shown disk disk s behind (Ok x)
   carries_bad disk x bad held = record {
     answered = subst (λ (t : State). HoldsState g IsStored t disk) (sym (bad_behind s text bad)) held;
-    no_memory = λ out. absurd (ok_not_out x out);
+    no_commit = λ out. absurd (ok_not_out x out);
     tells = (held.there.0, held.there.1, tt);
     through = rests_until g watched IsStored Shown shown_stays stored_exactly s behind.history (text_extends s text) disk held;
   }
 
   module _ (old new : D) where
     -- the line was carried out, or failed
-    pub carries_line : {T U : Type 0} (line : Line) (carried : Result U Halt) (result : Result T Halt) → line_of text ≡ Some line → CarriesOut g IsStored Shown old new s (state_after s line) carried
-        → (IsOk result → IsOk carried) → (result ≡ Err NoRoom → HoldsCommits g IsStored s new) → CarriesOut g IsStored Shown old new s behind result
+    pub carries_line : {T U : Type 0} (line : Line) (carried : Result U Halt) (result : Result T Halt) → line_of text ≡ Some line → LeadsTo g IsStored Shown old new s (state_after s line) carried
+        → (IsOk result → IsOk carried) → (result ≡ Err NoRoom → HoldsCommits g IsStored s new) → LeadsTo g IsStored Shown old new s behind result
     carries_line line carried result spelled carries ok out =
-        subst (λ (t : State). CarriesOut g IsStored Shown old new s t result) (sym (line_behind s text line spelled)) (record {
+        subst (λ (t : State). LeadsTo g IsStored Shown old new s t result) (sym (line_behind s text line spelled)) (record {
           answered = on_ok_if result carried _ ok carries.answered;
-          no_memory = out;
+          no_commit = out;
           tells = carries.tells;
           through = carries.through;
         })
@@ -101,13 +101,13 @@ module _ {D : Type 0} (g : Ghosts D) (watched : IsWatched g) (s : State) (text :
     -- ---- how a run ends there
 
     -- the sink failed within the answer
-    pub ends_cut : {T : Type 0} (result : Result T Halt) → IsOk result → CarriesOut g IsStored Shown old new s behind result → DiskEnds g IsStored Shown ⊥ old new (record { ending = AnswerCut; first = s; answered = []; most = behind })
+    pub ends_cut : {T : Type 0} (result : Result T Halt) → IsOk result → LeadsTo g IsStored Shown old new s behind result → DiskEnds g IsStored Shown ⊥ old new (record { ending = AnswerCut; first = s; answered = []; most = behind })
     ends_cut result ok carries =
         let held = it_holds g watched IsStored Shown shown_stays stored_exactly behind new (of_ok result _ ok carries.answered) in
         ends_within g watched IsStored Shown shown_stays stored_exactly old new AnswerCut s behind carries.through carries.tells (λ sound. inr held) (λ out. cc) (λ whole. absurd whole) (λ cuts. held)
 
     -- it is a bad line, whatever could be put
-    pub ends_bad : {T : Type 0} (result : Result T Halt) (ending : Ending) → IsOk result → exchange_at s text ≡ None → CarriesOut g IsStored Shown old new s behind result
+    pub ends_bad : {T : Type 0} (result : Result T Halt) (ending : Ending) → IsOk result → exchange_at s text ≡ None → LeadsTo g IsStored Shown old new s behind result
         → DiskEnds g IsStored Shown ⊥ old new (record { ending = ending; first = s; answered = []; most = behind })
     ends_bad result ending ok bad carries =
         let held = of_ok result _ ok carries.answered in
@@ -116,14 +116,14 @@ module _ {D : Type 0} (g : Ghosts D) (watched : IsWatched g) (s : State) (text :
 
     -- memory ran out
     pub ends_out : {T K : Type 0} (k : sink.Ghosts K) (sink_old sink_new : K) (line : List ℕ) (result : Result T Halt) (ending : Ending) → result ≡ Err NoRoom → Finishes k sink_old sink_new line NoMemory ending
-        → CarriesOut g IsStored Shown old new s behind result → DiskEnds g IsStored Shown ⊥ old new (record { ending = ending; first = s; answered = []; most = behind })
+        → LeadsTo g IsStored Shown old new s behind result → DiskEnds g IsStored Shown ⊥ old new (record { ending = ending; first = s; answered = []; most = behind })
     ends_out k sink_old sink_new line result ending out finishes carries =
-        ends_unchanged g watched IsStored Shown shown_stays stored_exactly old new ending s behind carries.through carries.tells (carries.no_memory out)
+        ends_unchanged g watched IsStored Shown shown_stays stored_exactly old new ending s behind carries.through carries.tells (carries.no_commit out)
         (λ cuts. absurd (or_cut k sink_old sink_new line NoMemory ending (λ (e : Ending). CutsAnswer e → ⊥) finishes (λ e. cc) (λ e. cc) cuts))
 
     -- the disk failed
     pub ends_fault : {T K : Type 0} (k : sink.Ghosts K) (sink_old sink_new : K) (line : List ℕ) (result : Result T Halt) (ending : Ending) → Rose (g.faults old) (g.faults new) → Finishes k sink_old sink_new line DiskFault ending
-        → CarriesOut g IsStored Shown old new s behind result → DiskEnds g IsStored Shown ⊥ old new (record { ending = ending; first = s; answered = []; most = behind })
+        → LeadsTo g IsStored Shown old new s behind result → DiskEnds g IsStored Shown ⊥ old new (record { ending = ending; first = s; answered = []; most = behind })
     ends_fault k sink_old sink_new line result ending rose finishes carries =
         ends_within g watched IsStored Shown shown_stays stored_exactly old new ending s behind carries.through carries.tells (λ sound. absurd (sound rose))
         (λ out. absurd (or_cut k sink_old sink_new line DiskFault ending (λ (e : Ending). e ≡ NoMemory → ⊥) finishes (λ e. cc) (λ e. cc) out))

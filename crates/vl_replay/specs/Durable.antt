@@ -58,16 +58,23 @@ abbrev pub GoesFrom : {D : Type 0} → Ghosts D → Showing → (old new : D) �
 GoesFrom g shows old new least most =
     HoldsThroughout g old new (Leaves (ShowsBetween shows least most))
 
--- A line, or a text, was carried out over a disk that holds the state before it.
-pub record CarriesOut {D T : Type 0} (g : Ghosts D) (holds : Holding) (shows : Showing)
+-- A call took a disk from one state to the next, or failed on the way.
+pub record LeadsTo {D T : Type 0} (g : Ghosts D) (holds : Holding) (shows : Showing)
     (old new : D) (before after : State) (result : Result T Halt) : Type 0 where
-  -- after an answer the disk holds the state after it
+  -- where it was answered the disk holds the state after it;
   pub answered : OnOk result (HoldsState g holds after new)
-  -- where memory ran out it holds no commit more
-  pub no_memory : result ≡ Err NoRoom → HoldsCommits g holds before new
+  -- where memory ran out it holds the commits before and no more;
+  pub no_commit : result ≡ Err NoRoom → HoldsCommits g holds before new
+  -- it tells its bytes, also where it failed;
   pub tells : Tells g new (λ _. Unit {0})
   -- what a crash meanwhile leaves shows the commits before, or those after it
   pub through : GoesFrom g shows old new before.history after.history
+
+-- A line, or a text, was carried out: so it is where the disk held the state before.
+abbrev pub CarriesOut : {D T : Type 0} → Ghosts D → Holding → Showing → (old new : D)
+    → (before after : State) → Result T Halt → Type 0
+CarriesOut g holds shows old new before after result =
+    HoldsState g holds before old → LeadsTo g holds shows old new before after result
 
 -- The disk went, from one that held the commits of a state, through one for each of these lines, in order: that of a line
 -- held the commits up to it and nothing else, after just the changing calls of these lines. What a crash leaves at a moment

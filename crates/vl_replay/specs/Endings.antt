@@ -1,5 +1,5 @@
 -- How a run may end, in one table, and what follows from its columns.
-use Rattle.std.specs.Prelude.{◌≡◌, ◌≢◌, ◌-◌, ◌^◌, ◌≤◌, ℕ, min, List, [], ◌∷◌, ◌++◌, codes, Option, Some, None}
+use Rattle.std.specs.Prelude.{◌≡◌, ◌-◌, ◌^◌, ◌≤◌, ℕ, min, List, [], ◌∷◌, ◌++◌, codes, Option, Some, None}
 use Rattle.std.specs.Option.{option_map}
 use Rattle.std.specs.Fmt.{decimal}
 use Rattle.vl_disk.specs.Faults.{Rose}
@@ -107,21 +107,30 @@ IsBetweenLines TheSink = ⊥
 abbrev pub CutsAnswer : Ending → Type 0
 CutsAnswer ending = (end_of ending).last ≡ AnswerFront
 
--- What was counted of the faults of one of the outside objects by a step, or by a run that ended so: a fault where it
--- ended by that object, and none where it goes on or ended otherwise; but where a last line couldn't be put, that line
--- may have been about such a fault.
-pub record Counts (who : Culprit) (ended : Option Ending) (before now : ℕ) : Type 0 where
-  pub later : before ≤ now
-  pub rose : option_map culprit_of ended ≡ Some who → Rose before now
-  pub steady : option_map culprit_of ended ≢ Some who → ended ≢ Some WriteFault → now ≡ before
+-- a step, or a run, ended by this one; None says that it goes on
+abbrev pub EndedBy : Culprit → Option Ending → Type 0
+EndedBy who ended = option_map culprit_of ended ≡ Some who
 
--- what caused an end, where it is asked for: a fault of the source or of the disk, or files that are no store
-abbrev pub Causes : (by_source by_disk by_files : Type 0) → Culprit → Type 0
-Causes by_source by_disk by_files NoOne = ⊥
-Causes by_source by_disk by_files TheLine = ⊥
-Causes by_source by_disk by_files TheWords = ⊥
-Causes by_source by_disk by_files TheDisk = by_disk
-Causes by_source by_disk by_files TheFiles = by_files
-Causes by_source by_disk by_files Memory = ⊥
-Causes by_source by_disk by_files TheSource = by_source
-Causes by_source by_disk by_files TheSink = ⊥
+-- its last line couldn't be put, and what that line was about isn't told
+abbrev pub LastLineFailed : Option Ending → Type 0
+LastLineFailed ended = ended ≡ Some WriteFault
+
+-- The faults of one of the outside objects, counted before and after a step, or a run, that ended so.
+pub record CountsFaultsOf (who : Culprit) (ended : Option Ending) (before now : ℕ) : Type 0 where
+  pub later : before ≤ now
+  -- where it ended by this object a fault was counted,
+  pub rose : EndedBy who ended → Rose before now
+  -- and else none, unless its last line failed, which may have been about such a fault
+  pub steady : (EndedBy who ended → ⊥) → (LastLineFailed ended → ⊥) → now ≡ before
+
+-- what shows that a culprit ended a run, where that is asked for: of the source and the disk that a fault was counted, and
+-- of the files what stands there
+abbrev pub Evidence : (by_source by_disk by_files : Type 0) → Culprit → Type 0
+Evidence by_source by_disk by_files NoOne = ⊥
+Evidence by_source by_disk by_files TheLine = ⊥
+Evidence by_source by_disk by_files TheWords = ⊥
+Evidence by_source by_disk by_files TheDisk = by_disk
+Evidence by_source by_disk by_files TheFiles = by_files
+Evidence by_source by_disk by_files Memory = ⊥
+Evidence by_source by_disk by_files TheSource = by_source
+Evidence by_source by_disk by_files TheSink = ⊥

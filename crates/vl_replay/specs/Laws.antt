@@ -13,7 +13,7 @@ use Rattle.vl_model.specs.History.{History, last_number, with_commit, value_at, 
 use Rattle.vl_model.specs.Reads.{Read, KeyRead, RangeRead, IsExplained, IsExplainedRead}
 use Rattle.vl_model.specs.declared.change.Change.{Change}
 use Rattle.vl_model.specs.declared.change.Change.TheVariants.{Set as Put, Delete}
-use Rattle.vl_replay.specs.Sequential.{Handle, OpenTransaction, OpenView, State, Outcome, with_handle, without_handle, opened, found, read, read_in_transaction, is_lawful_write, written, committed, dropped, after_commit, frame_length, fits_transaction, state_after}
+use Rattle.vl_replay.specs.Sequential.{Handle, OpenTransaction, OpenView, State, Outcome, with_handle, without_handle, opened, found, read, read_in_transaction, is_lawful_write, written, committed, dropped, after_commit, bytes_in_log, fits_transaction, state_after}
 use Rattle.vl_script.specs.Script.{line_of}
 use Rattle.vl_replay.specs.Exchanges.{exchanged, exchanges_from, and_later, IsExplainedExchange, AreExplained, ended_lines, KeepsUp}
 use Rattle.vl_script.specs.declared.line.Line.{Line}
@@ -119,7 +119,7 @@ accepted s name writes = (Number (last_number s.history + 1), after_commit s nam
 
 -- whether the log has room for it
 abbrev has_room : State → Writes → Bool
-has_room s writes = nat_le (s.log_length + frame_length writes) max_room
+has_room s writes = nat_le (s.log_length + bytes_in_log writes) max_room
 
 -- nothing is left open behind a commit
 alone : (s : State) (name : List ℕ) (handle : Handle) → IsSound s → get s.handles name ≡ Some handle → remove s.handles name ≡ empty

@@ -17,7 +17,7 @@ why_of (Ok replayer) = None
 why_of (Err fail) = Some fail.why
 
 -- how a run ends whose store wasn't opened
-abbrev pub refusal_of : Why → Ending
-refusal_of why.NotAStore = NotAStore
-refusal_of why.NoMemory = NoMemory
-refusal_of why.Disk = DiskFault
+abbrev pub ending_unopened : Why → Ending
+ending_unopened why.NotAStore = NotAStore
+ending_unopened why.NoMemory = NoMemory
+ending_unopened why.Disk = DiskFault

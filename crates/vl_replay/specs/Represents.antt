@@ -31,7 +31,7 @@ abbrev pub IsReadable : History → ℕ → Type 0
 IsReadable h number = (h.first ≤ number) × (number ≤ last_number h)
 
 -- the entries show the history: at each of its numbers they leave of each key what it has there
-pub record Shows (entries : List Entry) (h : History) : Type 0 where
+pub record ShowsHistory (entries : List Entry) (h : History) : Type 0 where
   pub values : (number : ℕ) (key : List ℕ) → IsReadable h number
       → value_left None (newest entries key number) ≡ value_at h number key
   pub versions : AllByRecursion (λ entry. entry.version ≤ last_number h) entries
@@ -52,11 +52,11 @@ IsOpen h (Some held) handles =
 pub record Represents (r : Store) (s : State) : Type 0 where
   pub last : r.last ≡ last_number s.history
   pub log : r.log ≡ record { number = NUMBER; length = s.log_length }
-  pub shows : Shows r.memtable.entries.items s.history
+  pub shows : ShowsHistory r.memtable.entries.items s.history
   pub in_use : IsOpen s.history r.in_use s.handles
 
 -- the answer of an outcome, from a replayer that stands for its state
-pub record Gives (answer : Answer) (after : Store) (outcome : Outcome) : Type 0 where
+pub record IsOutcome (answer : Answer) (after : Store) (outcome : Outcome) : Type 0 where
   pub answer_is : answer ≡ outcome.0
   pub stands : Represents after outcome.1
 

@@ -9,7 +9,7 @@ use Rattle.vl_io.specs.declared.sink.Sink as sink
 use Rattle.vl_script.specs.Script.{lines_of, text_of}
 use Rattle.vl_replay.specs.Sequential.{State}
 use Rattle.vl_replay.specs.Exchanges.{Exchange, exchanges_from, last_state, answers_text, ended_lines, KeepsUp}
-use Rattle.vl_replay.specs.Endings.{Culprit, NoOne, TheLine, TheWords, TheDisk, TheFiles, Memory, TheSource, TheSink, LastPiece, NoPiece, BadLinePiece, Line, LineFront, AnswerFront, end_of, culprit_of, bad_line, last_line, Causes}
+use Rattle.vl_replay.specs.Endings.{Culprit, NoOne, TheLine, TheWords, TheDisk, TheFiles, Memory, TheSource, TheSink, LastPiece, NoPiece, BadLinePiece, Line, LineFront, AnswerFront, end_of, culprit_of, bad_line, last_line, Evidence}
 use Rattle.vl_replay.specs.declared.ending.Ending.{Ending}
 
 -- what is to be run: the lines of these bytes, from a state on, so many lines after the script's begin
@@ -38,45 +38,45 @@ GaveLines bytes left m =
     (given : List ℕ) × (rest : List ℕ) × (bytes ≡ given ++ rest) × (left ≡ Some rest)
     × (m ≡ ended_lines given)
 
--- What is so where this ended a run that had answered m lines. `left` is what the source has left in the end, and `cause`
--- says what caused it, where a cause is asked for.
+-- What is so where this ended a run that had answered m lines. `left` is what the source has left in the end, and `evidence`
+-- says what shows that a culprit ended it.
 abbrev pub Stops : (Culprit → Type 0) → Script → Option (List ℕ) → ℕ → Culprit → Type 0
 -- every line was answered, and the source was read to its end
-Stops cause script left m NoOne =
+Stops evidence script left m NoOne =
     (m ≡ length (exchanges script)) × (m ≡ length (lines_of script.bytes)) × (left ≡ Some [])
 -- all lines before the bad one were answered, and there is one more
-Stops cause script left m TheLine =
+Stops evidence script left m TheLine =
     (m ≡ length (exchanges script)) × (m < length (lines_of script.bytes))
 -- the words were plain
-Stops cause script left m TheWords = ⊥
-Stops cause script left m TheDisk = cause TheDisk
+Stops evidence script left m TheWords = ⊥
+Stops evidence script left m TheDisk = evidence TheDisk
 -- nothing was read
-Stops cause script left m TheFiles = cause TheFiles × (m ≡ 0) × (left ≡ Some script.bytes)
-Stops cause script left m Memory = Unit {0}
+Stops evidence script left m TheFiles = evidence TheFiles × (m ≡ 0) × (left ≡ Some script.bytes)
+Stops evidence script left m Memory = Unit {0}
 -- each line that had ended in the bytes that the source gave was answered
-Stops cause script left m TheSource = cause TheSource × GaveLines script.bytes left m
-Stops cause script left m TheSink = ⊥
+Stops evidence script left m TheSource = evidence TheSource × GaveLines script.bytes left m
+Stops evidence script left m TheSink = ⊥
 
 -- what is put behind the m answers
 abbrev pub Puts : (Culprit → Type 0) → Script → Option (List ℕ) → ℕ → Culprit → LastPiece → List ℕ
     → Type 0
-Puts cause script left m culprit NoPiece piece = Stops cause script left m culprit × (piece ≡ [])
-Puts cause script left m culprit BadLinePiece piece =
-    Stops cause script left m culprit × (piece ≡ bad_line (next_number script m))
-Puts cause script left m culprit (Line line) piece =
-    Stops cause script left m culprit × (piece ≡ line)
-Puts cause script left m culprit LineFront piece =
+Puts evidence script left m culprit NoPiece piece = Stops evidence script left m culprit × (piece ≡ [])
+Puts evidence script left m culprit BadLinePiece piece =
+    Stops evidence script left m culprit × (piece ≡ bad_line (next_number script m))
+Puts evidence script left m culprit (Line line) piece =
+    Stops evidence script left m culprit × (piece ≡ line)
+Puts evidence script left m culprit LineFront piece =
     (other : Ending) × (line : List ℕ) × (last_line (next_number script m) other ≡ Some line)
-    × Stops cause script left m (culprit_of other) × IsFront piece line
-Puts cause script left m culprit AnswerFront piece =
+    × Stops evidence script left m (culprit_of other) × IsFront piece line
+Puts evidence script left m culprit AnswerFront piece =
     (e : Exchange) × (slice_get (exchanges script) m ≡ Some e) × IsFront piece (text_of e.answer)
 
 -- How a run ended that answered m lines, and what it printed. A line counts as answered where its whole answer was put.
-pub record EndsSo (cause : Culprit → Type 0) (script : Script) (left : Option (List ℕ)) (m : ℕ)
+pub record EndsSo (evidence : Culprit → Type 0) (script : Script) (left : Option (List ℕ)) (m : ℕ)
     (ending : Ending) (printed : List ℕ) : Type 0 where
   pub within : m ≤ length (exchanges script)
   pub piece : List ℕ
-  pub puts : Puts cause script left m (culprit_of ending) (end_of ending).last piece
+  pub puts : Puts evidence script left m (culprit_of ending) (end_of ending).last piece
   pub printed_is : printed ≡ answers_text (take m (exchanges script)) ++ piece
 
 -- what contracts see of a run's source, sink and disk at one moment
@@ -114,11 +114,11 @@ course script m ending = record {
   most = last_state script.start (take (suc m) (exchanges script));
 }
 
--- What caused the end of a run: a fault of the source or of the disk was counted, or files stood there that are no store.
-abbrev pub CausesOf : {D : Type 0} → Ghosts D → (old new : Outside D) → (by_files : Type 0)
+-- What shows which of them ended a run: a fault of the source or of the disk was counted, or this is so of the files.
+abbrev pub EvidenceOf : {D : Type 0} → Ghosts D → (old new : Outside D) → (by_files : Type 0)
     → Culprit → Type 0
-CausesOf g old new by_files =
-    Causes (Rose old.source_faults new.source_faults) (Rose (g.faults old.disk) (g.faults new.disk)) by_files
+EvidenceOf g old new by_files =
+    Evidence (Rose old.source_faults new.source_faults) (Rose (g.faults old.disk) (g.faults new.disk)) by_files
 
 -- A run ended so. `disk_ends` says what it did to its disk, by how far it came.
 pub record EndsRun {D : Type 0} (g : Ghosts D) (by_files : Type 0) (disk_ends : Course → Type 0)
@@ -127,7 +127,7 @@ pub record EndsRun {D : Type 0} (g : Ghosts D) (by_files : Type 0) (disk_ends : 
   pub answered : ℕ
   pub printed : List ℕ
   pub taken : Takes old.held new.held printed
-  pub ends : EndsSo (CausesOf g old new by_files) script new.left answered ending printed
+  pub ends : EndsSo (EvidenceOf g old new by_files) script new.left answered ending printed
   -- each answer was put whole before the next line was read
   pub kept_up : KeepsUp script.bytes new.asked answered
   pub disk : disk_ends (course script answered ending)

@@ -88,14 +88,14 @@ written s name key change (Some (OpenTransaction number reads writes)) =
     else (TooBig, s))
 
 -- what a commit of these writes takes in the log: a frame with the commit's number and a record for each key
-abbrev pub frame_length : Writes → ℕ
-frame_length writes = commit_length (len writes) (write_bytes writes)
+abbrev pub bytes_in_log : Writes → ℕ
+bytes_in_log writes = commit_length (len writes) (write_bytes writes)
 
 -- the state after the transaction's writes became the next commit: its frame was appended and synced
 abbrev pub after_commit : State → List ℕ → Writes → State
 after_commit s name writes = record {
   history = with_commit s.history writes;
-  log_length = s.log_length + frame_length writes;
+  log_length = s.log_length + bytes_in_log writes;
   handles = remove s.handles name;
   calls = after_calls 2 s.calls;
 }
@@ -108,7 +108,7 @@ committed s name (Some (OpenView number)) = (ReadOnly, s)
 committed s name (Some (OpenTransaction number reads writes)) =
     if len writes == 0 then (Nothing, without_handle s name)
     else (if nat_le max_commit_number (last_number s.history) then (Exhausted CommitNumber, s)
-    else (if nat_le (s.log_length + frame_length writes) max_room then (Number (last_number s.history + 1), after_commit s name writes)
+    else (if nat_le (s.log_length + bytes_in_log writes) max_room then (Number (last_number s.history + 1), after_commit s name writes)
     else (Full, s)))
 
 -- a transaction or a view ends, and its name is free again; what a transaction has written goes with it

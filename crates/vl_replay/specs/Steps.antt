@@ -1,5 +1,5 @@
 -- One step of a run: what it prints, and how it leaves the store and the disk.
-use Rattle.std.specs.Prelude.{◌≡◌, ◌≤◌, ◌++◌, ◌∷◌, [], ◌⊎◌, ℕ, List, Option, Some, None}
+use Rattle.std.specs.Prelude.{◌≡◌, ◌≤◌, ◌+◌, ◌++◌, ◌∷◌, ◌⊎◌, ℕ, List, [], Option, Some, None}
 use Rattle.vl_disk.specs.declared.watched.Watched.{Ghosts}
 use Rattle.vl_disk.specs.Faults.{Rose}
 use Rattle.vl_io.specs.declared.sink.Sink as sink
@@ -9,10 +9,10 @@ use Rattle.vl_replay.specs.Between.{Showing}
 use Rattle.vl_replay.specs.Sequential.{State}
 use Rattle.vl_replay.specs.Input.{HasNoLineEnd}
 use Rattle.vl_replay.specs.Exchanges.{Exchange, exchange_at, KeepsUp}
-use Rattle.vl_replay.specs.Endings.{Culprit, Causes, last_line, line_number}
-use Rattle.vl_replay.specs.Opening.{refusal_of}
+use Rattle.vl_replay.specs.Endings.{Culprit, Evidence, last_line, line_number}
+use Rattle.vl_replay.specs.Opening.{ending_unopened}
 use Rattle.vl_journal.specs.declared.fails.OpenFail.{OpenFail as Why}
-use Rattle.vl_replay.specs.Runs.{Script, IsFront, EndsSo, Outside, EndsRun}
+use Rattle.vl_replay.specs.Runs.{Script, script_of, IsFront, EndsSo, Outside, EndsRun}
 use Rattle.vl_replay.specs.Represents.{Represents}
 use Rattle.vl_replay.specs.Durable.{Holding, HoldsState, GoesFrom, DiskEnds, DiskEndsFrom}
 use Rattle.vl_replay.specs.declared.replayer.store.Store.{Store}
@@ -34,27 +34,27 @@ abbrev pub FinishesBy : {K : Type 0} → sink.Ghosts K → (old new : K) → (en
 FinishesBy g old new ending result =
     (line : List ℕ) × (last_line 0 ending ≡ Some line) × Finishes g old new line ending result
 
--- a run that isn't begun: its last line says that there is no store, that the disk failed or that memory ran out
-abbrev pub IsRefused : {K : Type 0} → sink.Ghosts K → (old new : K) → Ending → Type 0
-IsRefused g old new result = (why : Why) × FinishesBy g old new (refusal_of why) result
+-- a run whose store wasn't opened: its last line says that there is no store, that the disk failed or that memory ran out
+abbrev pub EndsUnopened : {K : Type 0} → sink.Ghosts K → (old new : K) → Ending → Type 0
+EndsUnopened g old new result = (why : Why) × FinishesBy g old new (ending_unopened why) result
 
--- a line's answer was made, and the store stands for the state after it; or it is a bad line
-abbrev pub Answers : State → List ℕ → Store → Option (List ℕ) → Type 0
-Answers s text after (Some out) =
+-- a text has this answer, and the store stands for the state after it; or it has none, and is a bad line
+abbrev pub IsAnswered : State → List ℕ → Store → Option (List ℕ) → Type 0
+IsAnswered s text after (Some out) =
     (e : Exchange) × (exchange_at s text ≡ Some e) × Represents after e.after
     × (out ≡ text_of e.answer)
-Answers s text after None = exchange_at s text ≡ None
+IsAnswered s text after None = exchange_at s text ≡ None
 
 -- this text is the next line of the script
 abbrev pub IsNext : Script → List ℕ → Type 0
 IsNext script text = (texts : List (List ℕ)) × (lines_of script.bytes ≡ text ∷ texts)
 
 -- the run printed something and ended, before the next line was answered whole
-pub record EndsBefore (cause : Culprit → Type 0) (script : Script) (left : Option (List ℕ))
+pub record EndsBefore (evidence : Culprit → Type 0) (script : Script) (left : Option (List ℕ))
     (ending : Ending) (held held' : Option (List ℕ)) : Type 0 where
   pub printed : List ℕ
   pub taken : Takes held held' printed
-  pub ends : EndsSo cause script left 0 ending printed
+  pub ends : EndsSo evidence script left 0 ending printed
 
 -- it ended at the next line, which is none of the language
 abbrev pub EndsAtBadLine : (answered : ℕ) → Ending → (held held' : Option (List ℕ)) → Type 0
@@ -62,7 +62,7 @@ EndsAtBadLine answered ending held held' =
     (script : Script) (text : List ℕ) (left : Option (List ℕ))
     → answered ≡ line_number script.before
     → IsNext script text → exchange_at script.start text ≡ None
-    → EndsBefore (Causes ⊥ ⊥ ⊥) script left ending held held'
+    → EndsBefore (Evidence ⊥ ⊥ ⊥) script left ending held held'
 
 -- the next line was answered and printed, and the run goes on; or it ended there. `failed` says that the disk failed.
 abbrev pub StepsOn : (failed : Type 0) → Script → List ℕ → Store → Option Ending
@@ -71,7 +71,7 @@ StepsOn failed script text after None held held' =
     (e : Exchange) × (exchange_at script.start text ≡ Some e) × Represents after e.after
     × Takes held held' (text_of e.answer)
 StepsOn failed script text after (Some ending) held held' =
-    (left : Option (List ℕ)) → EndsBefore (Causes ⊥ failed ⊥) script left ending held held'
+    (left : Option (List ℕ)) → EndsBefore (Evidence ⊥ failed ⊥) script left ending held held'
 
 -- the disk holds the state after a line, and a crash meanwhile left what was before it or after it
 pub record MovesOn {D : Type 0} (g : Ghosts D) (holds : Holding) (shows : Showing)
@@ -86,27 +86,48 @@ DiskSteps g holds shows old new before after None = MovesOn g holds shows old ne
 DiskSteps g holds shows old new before after (Some ending) =
     DiskEnds g holds shows ⊥ old new (record { ending = ending; first = before; answered = []; most = after })
 
--- The next line was answered and printed, and a run over the others goes on from here; when the source was last asked no
--- answer was owed.
-pub record GoesOn {D : Type 0} (g : Ghosts D) (holds : Holding) (shows : Showing) (script : Script)
-    (old new : Outside D) (store : Store) (buffer : List ℕ) : Type 0 where
-  pub exchange : Exchange
-  pub text : List ℕ
+-- what a run under way keeps: its store, the bytes that were read and not answered yet, and how many lines were answered
+pub record Kept : Type 0 where
+  pub store : Store
+  pub buffer : List ℕ
+  pub answered : ℕ
+
+abbrev pub kept : Store → List ℕ → ℕ → Kept
+kept store buffer answered = record { store = store; buffer = buffer; answered = answered }
+
+-- A run that keeps this has a script still to do.
+pub record HasToDo {D : Type 0} (script : Script) (kept : Kept) (now : Outside D) : Type 0 where
+  -- its store stands for the state in which the script starts, and the lines before it were answered;
+  pub stands : Represents kept.store script.start
+  pub count : kept.answered ≡ line_number script.before
+  -- the script's bytes are those that were read, and those that the source has left;
   pub rest : List ℕ
-  pub left_is : new.left ≡ Some rest
-  pub bytes_are : script.bytes ≡ text ++ 10 ∷ (buffer ++ rest)
+  pub left_is : now.left ≡ Some rest
+  pub bytes_are : script.bytes ≡ kept.buffer ++ rest
+  -- and when the source was last asked no answer was owed
+  pub kept_up : KeepsUp script.bytes now.asked 0
+
+-- The next line was answered, and the run goes on.
+pub record GoesOn {D : Type 0} (g : Ghosts D) (holds : Holding) (shows : Showing) (script : Script)
+    (old new : Outside D) (kept : Kept) : Type 0 where
+  -- the script's first line, and the bytes behind its end;
+  pub text : List ℕ
+  pub later : List ℕ
+  pub bytes_are : script.bytes ≡ text ++ 10 ∷ later
   pub unended : HasNoLineEnd text
+  -- its exchange, of which the answer was printed;
+  pub exchange : Exchange
   pub exchange_is : exchange_at script.start text ≡ Some exchange
-  pub stands : Represents store exchange.after
   pub taken : Takes old.held new.held (text_of exchange.answer)
-  pub kept_up : KeepsUp (buffer ++ rest) new.asked 0
+  -- the later lines are still to do;
+  pub to_do : HasToDo (script_of exchange.after (script.before + 1) later) kept new
+  -- and a disk that held the state before the line holds the one after it
   pub moves : HoldsState g holds script.start old.disk
       → MovesOn g holds shows old.disk new.disk script.start exchange.after
 
 -- so it was, or the run ended
 abbrev pub Steps : {D : Type 0} → Ghosts D → Holding → Showing → Script → (old new : Outside D)
-    → Store → List ℕ → Option Ending → Type 0
-Steps g holds shows script old new store buffer None =
-    GoesOn g holds shows script old new store buffer
-Steps g holds shows script old new store buffer (Some ending) =
+    → Kept → Option Ending → Type 0
+Steps g holds shows script old new kept None = GoesOn g holds shows script old new kept
+Steps g holds shows script old new kept (Some ending) =
     EndsRun g ⊥ (DiskEndsFrom g holds shows old.disk new.disk script.start) script old new ending

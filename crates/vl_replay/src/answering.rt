@@ -5,11 +5,11 @@ ghost use Rattle.vl_disk.specs.Faults.{Rose, HasCause};
 ghost use Rattle.vl_replay.specs.Sequential.{State};
 ghost use Rattle.vl_replay.specs.Represents.{Represents};
 ghost use Rattle.vl_replay.specs.Exchanges.{exchange_at, state_behind};
-ghost use Rattle.vl_replay.specs.Endings.{TheDisk, TheSink, TheSource, Counts, CutsAnswer, culprit_of, line_number};
+ghost use Rattle.vl_replay.specs.Endings.{TheDisk, TheSink, TheSource, CountsFaultsOf, CutsAnswer, culprit_of, line_number};
 ghost use Rattle.vl_replay.specs.Runs.{Script};
 ghost use Rattle.vl_replay.specs.Durable.{HoldsState, CarriesOut};
 ghost use Rattle.vl_replay.specs.Stored.{IsStored, Shown};
-ghost use Rattle.vl_replay.specs.Steps.{Answers, IsNext, EndsAtBadLine, StepsOn, DiskSteps};
+ghost use Rattle.vl_replay.specs.Steps.{IsAnswered, IsNext, EndsAtBadLine, StepsOn, DiskSteps};
 ghost use Rattle.vl_replay.specs.declared.fails.Halt.TheVariants.{Disk as DiskHalt};
 
 use crate::ending::{DISK_FAULT, Ending, NO_MEMORY, finish};
@@ -28,9 +28,8 @@ fn carry_out<D: Disk>(
     text: &[u8],
 ) -> Result<Option<Vec<u8>>, Halt>
     ensures answers { (s : State) → Represents replayer.old.store s
-        → IfOk result (λ out. Answers s text.now replayer.new.store (option_map (λ text. text.items) out)) }
+        → IfOk result (λ out. IsAnswered s text.now replayer.new.store (option_map (λ text. text.items) out)) }
     ensures carries { (s : State) → Represents replayer.old.store s
-        → HoldsState D.Watched IsStored s replayer.old.disk
         → CarriesOut D.Watched IsStored Shown replayer.old.disk replayer.new.disk s (state_behind s (exchange_at s text.now)) result }
     ensures cause { HasCause (D.faults replayer.old.disk) (D.faults replayer.new.disk) (result ≡ Err DiskHalt) }
 {
@@ -46,11 +45,11 @@ fn carry_out<D: Disk>(
 /// Ends a run at a bad line, with so many lines answered before it.
 pub fn end_at_bad_line<K: Sink>(alloc: Global, answered: u64, sink: &mut K) -> Ending
     ensures printed { EndsAtBadLine answered result (K.held sink.old) (K.held sink.new) }
-    ensures sink { Counts TheSink (Some result) (K.faults sink.old) (K.faults sink.new) }
-    ensures disk { culprit_of result ≢ TheDisk }
-    ensures read { culprit_of result ≢ TheSource }
-    ensures opened { result ≢ Ending.NotAStore }
-    ensures words { result ≢ Ending.BadWords }
+    ensures sink_faults { CountsFaultsOf TheSink (Some result) (K.faults sink.old) (K.faults sink.new) }
+    ensures not_the_disk { culprit_of result ≢ TheDisk }
+    ensures not_the_source { culprit_of result ≢ TheSource }
+    ensures not_the_files { result ≢ Ending.NotAStore }
+    ensures not_the_words { result ≢ Ending.BadWords }
     ensures whole { CutsAnswer result → ⊥ }
 {
     let mut line = Vec::new(alloc);
@@ -73,14 +72,14 @@ pub fn answer<K: Sink, D: Disk>(
         → IsNext script text.now
         → StepsOn (Rose (D.faults replayer.old.disk) (D.faults replayer.new.disk)) script text.now replayer.new.store
         result (K.held sink.old) (K.held sink.new) }
-    ensures disk { (s : State) → Represents replayer.old.store s
+    ensures moves { (s : State) → Represents replayer.old.store s
         → HoldsState D.Watched IsStored s replayer.old.disk
         → DiskSteps D.Watched IsStored Shown replayer.old.disk replayer.new.disk s (state_behind s (exchange_at s text.now)) result }
-    ensures sink { Counts TheSink result (K.faults sink.old) (K.faults sink.new) }
-    ensures disk_faults { Counts TheDisk result (D.faults replayer.old.disk) (D.faults replayer.new.disk) }
-    ensures read { option_map culprit_of result ≢ Some TheSource }
-    ensures opened { result ≢ Some Ending.NotAStore }
-    ensures words { result ≢ Some Ending.BadWords }
+    ensures sink_faults { CountsFaultsOf TheSink result (K.faults sink.old) (K.faults sink.new) }
+    ensures disk_faults { CountsFaultsOf TheDisk result (D.faults replayer.old.disk) (D.faults replayer.new.disk) }
+    ensures not_the_source { option_map culprit_of result ≢ Some TheSource }
+    ensures not_the_files { result ≢ Some Ending.NotAStore }
+    ensures not_the_words { result ≢ Some Ending.BadWords }
 {
     match carry_out(alloc, replayer, text) {
         Ok(Some(answer)) => match sink.put(&answer) {

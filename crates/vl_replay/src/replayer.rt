@@ -6,10 +6,10 @@ ghost use Rattle.vl_disk.specs.DiskState.{DiskState};
 ghost use Rattle.vl_disk.specs.Disk.{Stands};
 ghost use Rattle.vl_disk.specs.Faults.{HasCause};
 ghost use Rattle.vl_journal.specs.declared.fails.OpenFail.TheVariants as why;
-ghost use Rattle.vl_journal.specs.Files.{IsAsBefore, IsEmpty, StandsSome};
+ghost use Rattle.vl_journal.specs.Files.{IsAsBefore, IsBlank, HasSomeFile};
 ghost use Rattle.vl_replay.specs.Durable.{Tells, HoldsState, GoesFrom, CarriesOut};
 ghost use Rattle.vl_replay.specs.Stored.{IsStored, Shown};
-ghost use Rattle.vl_replay.specs.Start.{StartsAs};
+ghost use Rattle.vl_replay.specs.Start.{StartsIn};
 ghost use Rattle.vl_replay.specs.Sequential.{State, answer_to, state_after};
 ghost use Rattle.vl_replay.specs.Represents.{Represents};
 ghost use Rattle.vl_replay.specs.Opening.{disk_of, why_of};
@@ -46,13 +46,13 @@ pub struct Replayer<D: Disk> {
 impl<D: Disk> Replayer<D> {
     /// Opens the store on a disk. For now it is one without commits, on an empty disk.
     pub fn new(alloc: Global, disk: D) -> Result<Self, OpenFail<D>>
-        ensures store { (s : State) → StartsAs D.Watched disk s
+        ensures store { (s : State) → StartsIn D.Watched disk s
             → IfOk result (λ replayer. Represents replayer.store s) }
 
         // The store's files are made by six changing calls, and what a crash leaves meanwhile shows no commit.
-        ensures holds { (s : State) → StartsAs D.Watched disk s → Tells D.Watched disk IsEmpty
+        ensures holds { (s : State) → StartsIn D.Watched disk s → Tells D.Watched disk IsBlank
             → IfOk result (λ replayer. HoldsState D.Watched IsStored s replayer.disk) }
-        ensures through { (s : State) → StartsAs D.Watched disk s → Tells D.Watched disk IsEmpty
+        ensures through { (s : State) → StartsIn D.Watched disk s → Tells D.Watched disk IsBlank
             → GoesFrom D.Watched Shown disk (disk_of (λ replayer. replayer.disk) result) s.history s.history }
         ensures tells { (state : DiskState) → D.told disk ≡ Some state
             → Tells D.Watched (disk_of (λ replayer. replayer.disk) result) (λ _. Unit {0}) }
@@ -60,10 +60,10 @@ impl<D: Disk> Replayer<D> {
         // It isn't opened where anything stands, and is refused as no store only there. Then, and where memory ran out,
         // nothing was changed.
         ensures not_a_store { why_of result ≡ Some why.NotAStore
-            → ForSome (D.told disk) StandsSome }
-        ensures occupied { (state : DiskState) → D.told disk ≡ Some state → StandsSome state
+            → ForSome (D.told disk) HasSomeFile }
+        ensures occupied { (state : DiskState) → D.told disk ≡ Some state → HasSomeFile state
             → IsErr result × IsAsBefore D.Watched disk (disk_of (λ replayer. replayer.disk) result) }
-        ensures unchanged { why_of result ≢ Some why.Disk → IsErr result
+        ensures left_alone { why_of result ≢ Some why.Disk → IsErr result
             → IsAsBefore D.Watched disk (disk_of (λ replayer. replayer.disk) result) }
         ensures cause { HasCause (D.faults disk) (D.faults (disk_of (λ replayer. replayer.disk) result)) (why_of result ≡ Some why.Disk) }
     {
@@ -84,12 +84,11 @@ impl<D: Disk> Replayer<D> {
             → IfOk result (λ answer. answer ≡ answer_to s line) }
         ensures after { (s : State) → Represents self.old.store s
             → OnOk result (Represents self.new.store (state_after s line)) }
-        ensures unchanged { (s : State) → Represents self.old.store s
+        ensures kept { (s : State) → Represents self.old.store s
             → OnErr result (Represents self.new.store s) }
 
         // Each accepted commit is one synced frame of the log, which is written before the answer.
         ensures carries { (s : State) → Represents self.old.store s
-            → HoldsState D.Watched IsStored s self.old.disk
             → CarriesOut D.Watched IsStored Shown self.old.disk self.new.disk s (state_after s line) result }
         ensures no_memory { result ≡ Err Halt.NoMemory
             → D.told self.new.disk ≡ D.told self.old.disk }

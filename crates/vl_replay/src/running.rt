@@ -2,19 +2,19 @@
 ghost use Rattle.std.specs.Prelude.{◌≡◌, ◌≢◌, ◌+◌, ◌<◌, ◌++◌, ℕ, List, Some, None, length};
 ghost use Rattle.std.specs.Option.{ForSome};
 ghost use Rattle.vl_disk.specs.DiskState.{DiskState};
-ghost use Rattle.vl_journal.specs.Files.{IsAsBefore, StandsSome};
+ghost use Rattle.vl_journal.specs.Files.{IsAsBefore, HasSomeFile};
 ghost use Rattle.vl_replay.specs.Sequential.{State};
 ghost use Rattle.vl_replay.specs.Represents.{Represents};
-ghost use Rattle.vl_replay.specs.Exchanges.{KeepsUp, exchange_at, state_behind};
-ghost use Rattle.vl_replay.specs.Endings.{TheDisk, TheSink, TheSource, Counts, culprit_of, line_number, not_a_store_line};
+ghost use Rattle.vl_replay.specs.Exchanges.{exchange_at, state_behind};
+ghost use Rattle.vl_replay.specs.Endings.{TheDisk, TheSink, TheSource, CountsFaultsOf, culprit_of, line_number, not_a_store_line};
 ghost use Rattle.std.specs.Option.{option_map};
 ghost use Rattle.vl_disk.specs.Faults.{Rose};
 ghost use Rattle.vl_replay.specs.Runs.{Script, script_of, outside, EndsRun};
 ghost use Rattle.vl_replay.specs.Durable.{HoldsState, DiskEndsFrom};
 ghost use Rattle.vl_replay.specs.Stored.{IsStored, Shown};
-ghost use Rattle.vl_replay.specs.Start.{StartsAs, DiskEndsFromStart};
-ghost use Rattle.vl_replay.specs.Opening.{refusal_of};
-ghost use Rattle.vl_replay.specs.Steps.{IsNext, StepsOn, DiskSteps, Steps, FinishesBy, IsRefused};
+ghost use Rattle.vl_replay.specs.Start.{StartsIn, DiskEndsFromStart};
+ghost use Rattle.vl_replay.specs.Opening.{ending_unopened};
+ghost use Rattle.vl_replay.specs.Steps.{IsNext, StepsOn, DiskSteps, kept, HasToDo, Steps, FinishesBy, EndsUnopened};
 
 use crate::answering::{answer, end_at_bad_line};
 use crate::ending::{DISK_FAULT, Ended, Ending, NO_MEMORY, NOT_A_STORE, READ_FAULT, finish};
@@ -39,23 +39,20 @@ struct Progress<D: Disk> {
 impl<D: Disk> Progress<D> {
     /// Reads a line and answers it. None where the run goes on.
     fn step<S: Source, K: Sink>(&mut self, source: &mut S, sink: &mut K) -> Option<Ending>
-        ensures runs { (s : State) (before : ℕ) (had : List ℕ)
-            → Represents self.old.replayer.store s
-            → self.old.answered ≡ line_number before → S.left source.old ≡ Some had
-            → KeepsUp (self.old.buffer ++ had) (S.asked source.old) 0
-            → Steps D.Watched IsStored Shown (script_of s before (self.old.buffer ++ had))
+        ensures runs { (script : Script)
+            → HasToDo script (kept self.old.replayer.store self.old.buffer self.old.answered)
+            (outside S.Source K.Sink source.old sink.old self.old.replayer.disk)
+            → Steps D.Watched IsStored Shown script
             (outside S.Source K.Sink source.old sink.old self.old.replayer.disk)
             (outside S.Source K.Sink source.new sink.new self.new.replayer.disk)
-            self.new.replayer.store self.new.buffer result }
-        ensures counted { (before : ℕ) → self.old.answered ≡ line_number before → result ≡ None
-            → self.new.answered ≡ line_number (before + 1) }
+            (kept self.new.replayer.store self.new.buffer self.new.answered) result }
         ensures shorter { result ≡ None
             → length self.new.buffer + S.budget source.new < length self.old.buffer + S.budget source.old }
-        ensures source { Counts TheSource result (S.faults source.old) (S.faults source.new) }
-        ensures sink { Counts TheSink result (K.faults sink.old) (K.faults sink.new) }
-        ensures disk { Counts TheDisk result (D.faults self.old.replayer.disk) (D.faults self.new.replayer.disk) }
-        ensures opened { result ≢ Some Ending.NotAStore }
-        ensures words { result ≢ Some Ending.BadWords }
+        ensures source_faults { CountsFaultsOf TheSource result (S.faults source.old) (S.faults source.new) }
+        ensures sink_faults { CountsFaultsOf TheSink result (K.faults sink.old) (K.faults sink.new) }
+        ensures disk_faults { CountsFaultsOf TheDisk result (D.faults self.old.replayer.disk) (D.faults self.new.replayer.disk) }
+        ensures not_the_files { result ≢ Some Ending.NotAStore }
+        ensures not_the_words { result ≢ Some Ending.BadWords }
     {
         match read_line(&mut self.buffer, source, &mut self.line) {
             Ok(Next::Line) => self.answer(sink),
@@ -80,11 +77,11 @@ impl<D: Disk> Progress<D> {
         ensures counted { (before : ℕ) → self.old.answered ≡ line_number before
             → self.new.answered ≡ line_number (before + 1) }
         ensures same { self.new.buffer ≡ self.old.buffer }
-        ensures sink { Counts TheSink result (K.faults sink.old) (K.faults sink.new) }
-        ensures disk { Counts TheDisk result (D.faults self.old.replayer.disk) (D.faults self.new.replayer.disk) }
-        ensures read { option_map culprit_of result ≢ Some TheSource }
-        ensures opened { result ≢ Some Ending.NotAStore }
-        ensures words { result ≢ Some Ending.BadWords }
+        ensures sink_faults { CountsFaultsOf TheSink result (K.faults sink.old) (K.faults sink.new) }
+        ensures disk_faults { CountsFaultsOf TheDisk result (D.faults self.old.replayer.disk) (D.faults self.new.replayer.disk) }
+        ensures not_the_source { option_map culprit_of result ≢ Some TheSource }
+        ensures not_the_files { result ≢ Some Ending.NotAStore }
+        ensures not_the_words { result ≢ Some Ending.BadWords }
     {
         let ended = answer(
             self.alloc,
@@ -105,24 +102,24 @@ pub fn replay<S: Source, K: Sink, D: Disk>(
     sink: &mut K,
     disk: D,
 ) -> Ended<D>
-    ensures runs { (s : State) (input : List ℕ) → StartsAs D.Watched disk s
+    ensures runs { (s : State) (input : List ℕ) → StartsIn D.Watched disk s
         → S.left source.old ≡ Some input
-        → EndsRun D.Watched (ForSome (D.told disk) StandsSome) (DiskEndsFromStart D.Watched disk result.disk)
+        → EndsRun D.Watched (ForSome (D.told disk) HasSomeFile) (DiskEndsFromStart D.Watched disk result.disk)
         (script_of s 0 input) (outside S.Source K.Sink source.old sink.old disk)
         (outside S.Source K.Sink source.new sink.new result.disk) result.ending }
-    ensures source { Counts TheSource (Some result.ending) (S.faults source.old) (S.faults source.new) }
-    ensures sink { Counts TheSink (Some result.ending) (K.faults sink.old) (K.faults sink.new) }
-    ensures disk { Counts TheDisk (Some result.ending) (D.faults disk) (D.faults result.disk) }
-    ensures words { result.ending ≢ Ending.BadWords }
+    ensures source_faults { CountsFaultsOf TheSource (Some result.ending) (S.faults source.old) (S.faults source.new) }
+    ensures sink_faults { CountsFaultsOf TheSink (Some result.ending) (K.faults sink.old) (K.faults sink.new) }
+    ensures disk_faults { CountsFaultsOf TheDisk (Some result.ending) (D.faults disk) (D.faults result.disk) }
+    ensures not_the_words { result.ending ≢ Ending.BadWords }
 
     // The run ends as no store only where anything stands, and there always, unless a fault or want of memory comes
     // first. Then nothing was changed or read, and the last line is all that is printed.
     ensures not_a_store { result.ending ≡ Ending.NotAStore
-        → ForSome (D.told disk) StandsSome × IsAsBefore D.Watched disk result.disk
+        → ForSome (D.told disk) HasSomeFile × IsAsBefore D.Watched disk result.disk
         × (source.new ≡ source.old)
         × FinishesBy K.Sink sink.old sink.new Ending.NotAStore result.ending }
-    ensures occupied { (state : DiskState) → D.told disk ≡ Some state → StandsSome state
-        → IsRefused K.Sink sink.old sink.new result.ending × (source.new ≡ source.old)
+    ensures occupied { (state : DiskState) → D.told disk ≡ Some state → HasSomeFile state
+        → EndsUnopened K.Sink sink.old sink.new result.ending × (source.new ≡ source.old)
         × IsAsBefore D.Watched disk result.disk }
 {
     match Replayer::new(alloc, disk) {
@@ -136,7 +133,7 @@ pub fn replay<S: Source, K: Sink, D: Disk>(
 
 /// Ends a run whose store wasn't opened.
 fn finish_unopened<K: Sink>(sink: &mut K, why: Why) -> Ending
-    ensures { FinishesBy K.Sink sink.old sink.new (refusal_of why) result }
+    ensures { FinishesBy K.Sink sink.old sink.new (ending_unopened why) result }
 {
     match why {
         Why::NotAStore => finish(sink, NOT_A_STORE, Ending::NotAStore),
@@ -157,11 +154,11 @@ fn answer_lines<S: Source, K: Sink, D: Disk>(
         → EndsRun D.Watched ⊥ (DiskEndsFrom D.Watched IsStored Shown replayer.disk result.disk s)
         (script_of s 0 input) (outside S.Source K.Sink source.old sink.old replayer.disk)
         (outside S.Source K.Sink source.new sink.new result.disk) result.ending }
-    ensures source { Counts TheSource (Some result.ending) (S.faults source.old) (S.faults source.new) }
-    ensures sink { Counts TheSink (Some result.ending) (K.faults sink.old) (K.faults sink.new) }
-    ensures disk { Counts TheDisk (Some result.ending) (D.faults replayer.disk) (D.faults result.disk) }
-    ensures opened { result.ending ≢ Ending.NotAStore }
-    ensures words { result.ending ≢ Ending.BadWords }
+    ensures source_faults { CountsFaultsOf TheSource (Some result.ending) (S.faults source.old) (S.faults source.new) }
+    ensures sink_faults { CountsFaultsOf TheSink (Some result.ending) (K.faults sink.old) (K.faults sink.new) }
+    ensures disk_faults { CountsFaultsOf TheDisk (Some result.ending) (D.faults replayer.disk) (D.faults result.disk) }
+    ensures not_the_files { result.ending ≢ Ending.NotAStore }
+    ensures not_the_words { result.ending ≢ Ending.BadWords }
 {
     let Ok(buffer) = Buffer::new(alloc) else {
         return Ended {

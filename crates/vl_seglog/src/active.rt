@@ -45,7 +45,7 @@ impl ActiveLog {
         writes: &[(Key, Change)],
     ) -> Result<Staged, NoMemory>
         requires { log.IsCommit (record { number = number; writes = writes.now }) }
-        ensures bound { IfOk result (IsStagedFor self.now) }
+        ensures staged_for { IfOk result (IsStagedFor self.now) }
         ensures frame { IfOk result (λ staged. staged.frame.items ≡
             log.commit_frame self.now.number self.now.length (record { number = number; writes = writes.now })) }
         ensures pointers { IfOk result (λ staged.
@@ -67,7 +67,7 @@ impl ActiveLog {
     /// Hands a frame that was staged for this log's end to the disk, which isn't durable before `sync`. If it fails, the
     /// file has taken some first bytes of it, and the log is not to be appended to any more.
     pub fn append_commit<D: Disk>(&mut self, disk: &mut D, staged: &Staged) -> Result<(), Failed>
-        requires bound { IsStagedFor self.old staged.now }
+        requires staged_for { IsStagedFor self.old staged.now }
         requires stands { ForSome (D.told disk.old) (Stands (names.Log self.old.number)) }
         requires room { CanAppend (length staged.now.frame.items) (D.spare disk.old (names.Log self.old.number)) }
         ensures appended { Appends D.Watched (names.Log self.old.number) staged.now.frame.items disk.old disk.new result }

@@ -32,7 +32,7 @@ pub fn staged_commit(
     number: u64,
     writes: &[(Key, Change)],
 ) -> Result<Staged, AllocError>
-    ensures bound { IfOk result (λ s. (s.log ≡ file) × (s.place ≡ at)) }
+    ensures staged_for { IfOk result (λ s. (s.log ≡ file) × (s.place ≡ at)) }
     ensures frame { IfOk result (λ s. s.frame.items ≡
         log.commit_frame file at (record { number = number; writes = writes.now })) }
     ensures pointers { IfOk result (λ s. ArePointers file at writes.now s.pointers.items) }

@@ -7,10 +7,10 @@ ghost use Rattle.vl_disk.specs.Disk.{Stands};
 ghost use Rattle.vl_disk.specs.Faults.{HasCause};
 ghost use Rattle.vl_model.specs.History.{last_number, value_left};
 ghost use Rattle.vl_model.specs.Keys.{Writes};
-ghost use Rattle.vl_replay.specs.Sequential.{State, answer_to, state_after, opened, read, written, committed, frame_length, after_commit, dropped, found};
+ghost use Rattle.vl_replay.specs.Sequential.{State, answer_to, state_after, opened, read, written, committed, bytes_in_log, after_commit, dropped, found};
 ghost use Rattle.vl_replay.specs.Sequential as sequential;
-ghost use Rattle.vl_replay.specs.Represents.{Represents, Gives, StandsFor, HasOpen, CanCommit, Decides, handle_named, write_answer, writes_after, answer_of};
-ghost use Rattle.vl_replay.specs.Durable.{HoldsState, CarriesOut};
+ghost use Rattle.vl_replay.specs.Represents.{Represents, IsOutcome, StandsFor, HasOpen, CanCommit, Decides, handle_named, write_answer, writes_after, answer_of};
+ghost use Rattle.vl_replay.specs.Durable.{CarriesOut};
 ghost use Rattle.vl_replay.specs.Stored.{IsStored, Shown};
 ghost use Rattle.vl_replay.specs.Start.{empty_store};
 ghost use Rattle.vl_script.specs.declared.answer.Answer.TheVariants.{Number as NumberAnswer};
@@ -58,10 +58,9 @@ impl Store {
             → IfOk result (λ answer. answer ≡ answer_to s line) }
         ensures after { (s : State) → Represents self.old s
             → OnOk result (Represents self.new (state_after s line)) }
-        ensures unchanged { (s : State) → Represents self.old s
+        ensures kept { (s : State) → Represents self.old s
             → OnErr result (Represents self.new s) }
         ensures carries { (s : State) → Represents self.old s
-            → HoldsState D.Watched IsStored s disk.old
             → CarriesOut D.Watched IsStored Shown disk.old disk.new s (state_after s line) result }
         ensures stands { ForSome (D.told disk.new) (Stands (names.Log self.new.log.number)) }
         ensures no_memory { result ≡ Err Halt.NoMemory → D.told disk.new ≡ D.told disk.old }
@@ -80,7 +79,7 @@ impl Store {
 
     fn begin(&mut self, name: Ident) -> Answer
         ensures answer { (s : State) → Represents self.old s
-            → Gives result self.new (opened s name (sequential.OpenTransaction (last_number s.history) [] empty)) }
+            → IsOutcome result self.new (opened s name (sequential.OpenTransaction (last_number s.history) [] empty)) }
         ensures log { self.new.log ≡ self.old.log }
     {
         let handle = Handle::Transaction {
@@ -92,7 +91,7 @@ impl Store {
 
     fn view(&mut self, name: Ident) -> Answer
         ensures answer { (s : State) → Represents self.old s
-            → Gives result self.new (opened s name (sequential.OpenView (last_number s.history))) }
+            → IsOutcome result self.new (opened s name (sequential.OpenView (last_number s.history))) }
         ensures log { self.new.log ≡ self.old.log }
     {
         let handle = Handle::View { number: self.last };
@@ -102,7 +101,7 @@ impl Store {
     fn open(&mut self, name: Ident, handle: Handle) -> Answer
         ensures answer { (s : State) (opens : sequential.Handle) → Represents self.old s
             → StandsFor s.history handle opens
-            → Gives result self.new (opened s name opens) }
+            → IsOutcome result self.new (opened s name opens) }
         ensures log { self.new.log ≡ self.old.log }
     {
         if self.find(name.as_slice()).is_some() {
@@ -117,7 +116,7 @@ impl Store {
 
     fn get(&self, name: Ident, key: Key) -> Result<Answer, Halt>
         ensures answer { (s : State) → Represents self.now s
-            → IfOk result (λ answer. Gives answer self.now (read s name key (get s.handles name))) }
+            → IfOk result (λ answer. IsOutcome answer self.now (read s name key (get s.handles name))) }
         ensures halt { IfErr result (λ halt. halt ≡ Halt.NoMemory) }
     {
         let Some(handle) = self.find(name.as_slice()) else {
@@ -137,8 +136,8 @@ impl Store {
 
     fn write(&mut self, name: Ident, key: Key, change: Change) -> Result<Answer, Halt>
         ensures answer { (s : State) → Represents self.old s
-            → IfOk result (λ answer. Gives answer self.new (written s name key change (get s.handles name))) }
-        ensures unchanged { (s : State) → Represents self.old s
+            → IfOk result (λ answer. IsOutcome answer self.new (written s name key change (get s.handles name))) }
+        ensures kept { (s : State) → Represents self.old s
             → OnErr result (Represents self.new s) }
         ensures halt { IfErr result (λ halt. halt ≡ Halt.NoMemory) }
         ensures log { self.new.log ≡ self.old.log }
@@ -155,11 +154,10 @@ impl Store {
     fn commit<D: Disk>(&mut self, disk: &mut D, name: Ident) -> Result<Answer, Halt>
         requires { ForSome (D.told disk.old) (Stands (names.Log self.old.log.number)) }
         ensures answer { (s : State) → Represents self.old s
-            → IfOk result (λ answer. Gives answer self.new (committed s name (get s.handles name))) }
-        ensures unchanged { (s : State) → Represents self.old s
+            → IfOk result (λ answer. IsOutcome answer self.new (committed s name (get s.handles name))) }
+        ensures kept { (s : State) → Represents self.old s
             → OnErr result (Represents self.new s) }
         ensures carries { (s : State) → Represents self.old s
-            → HoldsState D.Watched IsStored s disk.old
             → CarriesOut D.Watched IsStored Shown disk.old disk.new s (committed s name (get s.handles name)).1 result }
         ensures stands { ForSome (D.told disk.new) (Stands (names.Log self.new.log.number)) }
         ensures no_memory { result ≡ Err Halt.NoMemory → D.told disk.new ≡ D.told disk.old }
@@ -171,7 +169,7 @@ impl Store {
                 self.in_use = None;
                 Ok(Answer::Nothing)
             }
-            Decision::Write => self.write_commit(disk),
+            Decision::Write => self.log_commit(disk),
         }
     }
 
@@ -194,24 +192,23 @@ impl Store {
                 counter: Counter::Commit,
             });
         }
-        if self.log.length.saturating_add(frame_length(writes)) > MAX_ROOM {
+        if self.log.length.saturating_add(bytes_in_log(writes)) > MAX_ROOM {
             return Decision::Refuse(Answer::Full);
         }
         Decision::Write
     }
 
     // Writes the open transaction's commit. All memory is taken before the first call that changes the disk.
-    fn write_commit<D: Disk>(&mut self, disk: &mut D) -> Result<Answer, Halt>
+    fn log_commit<D: Disk>(&mut self, disk: &mut D) -> Result<Answer, Halt>
         requires stands { ForSome (D.told disk.old) (Stands (names.Log self.old.log.number)) }
         requires can { CanCommit self.old }
         ensures answer { (s : State) (name : List ℕ) (writes : Writes) → Represents self.old s
             → HasOpen self.old name writes
-            → IfOk result (λ answer. Gives answer self.new (NumberAnswer (last_number s.history + 1), after_commit s name writes)) }
-        ensures unchanged { (s : State) → Represents self.old s
+            → IfOk result (λ answer. IsOutcome answer self.new (NumberAnswer (last_number s.history + 1), after_commit s name writes)) }
+        ensures kept { (s : State) → Represents self.old s
             → OnErr result (Represents self.new s) }
         ensures carries { (s : State) (name : List ℕ) (writes : Writes) → Represents self.old s
             → HasOpen self.old name writes
-            → HoldsState D.Watched IsStored s disk.old
             → CarriesOut D.Watched IsStored Shown disk.old disk.new s (after_commit s name writes) result }
         ensures stands { ForSome (D.told disk.new) (Stands (names.Log self.new.log.number)) }
         ensures no_memory { result ≡ Err Halt.NoMemory → D.told disk.new ≡ D.told disk.old }
@@ -250,7 +247,7 @@ impl Store {
     // Ends a transaction or a view. What a transaction has written goes with it.
     fn end(&mut self, name: Ident) -> Answer
         ensures answer { (s : State) → Represents self.old s
-            → Gives result self.new (dropped s name (get s.handles name)) }
+            → IsOutcome result self.new (dropped s name (get s.handles name)) }
         ensures log { self.new.log ≡ self.old.log }
     {
         if self.find(name.as_slice()).is_some() {
@@ -286,8 +283,8 @@ impl Store {
 }
 
 // How many bytes a commit of these writes takes in the log.
-fn frame_length(writes: &Writes) -> u64
-    ensures { result ≡ frame_length writes.now }
+fn bytes_in_log(writes: &Writes) -> u64
+    ensures { result ≡ bytes_in_log writes.now }
 {
     commit_length(writes.len(), writes.bytes())
 }

@@ -20,17 +20,17 @@ pub returns-then-are_plain-clause-explained : goal.returns-then-are_plain-clause
 returns-then-are_plain-clause-explained g c s input starts = all_explained g.D.Watched c.args.disk s (lines_of input) starts
 
 pub returns-then-are_plain-clause-no_usage_line : goal.returns-then-are_plain-clause-no_usage_line
-returns-then-are_plain-clause-no_usage_line g c plain two = c.replay-ending.ensures.words (is_bad_words c.replay-ending.result.ending (sym c.status-status.ensures ∙ two))
+returns-then-are_plain-clause-no_usage_line g c plain two = c.replay-ending.ensures.not_the_words (is_bad_words c.replay-ending.result.ending (sym c.status-status.ensures ∙ two))
 
 pub returns-then-are_plain-clause-not_plain : goal.returns-then-are_plain-clause-not_plain
 returns-then-are_plain-clause-not_plain g c other = absurd (not_both (sym c.if-are_plain.true ∙ c.are_plain.ensures ∙ other))
 
 pub returns-then-are_plain-clause-disk_fault : goal.returns-then-are_plain-clause-disk_fault
-returns-then-are_plain-clause-disk_fault g c is = rose_by TheDisk 3 disk_status c.replay-ending.result.ending _ _ c.replay-ending.ensures.disk (sym c.status-status.ensures ∙ is)
+returns-then-are_plain-clause-disk_fault g c is = rose_by TheDisk 3 disk_status c.replay-ending.result.ending _ _ c.replay-ending.ensures.disk_faults (sym c.status-status.ensures ∙ is)
 
 pub returns-then-are_plain-clause-no_disk_fault : goal.returns-then-are_plain-clause-no_disk_fault
 returns-then-are_plain-clause-no_disk_fault g c other whole =
-    steady_by TheDisk 3 disk_status c.replay-ending.result.ending _ _ c.replay-ending.ensures.disk (λ e. other (c.status-status.ensures ∙ e)) (λ e. whole (c.status-status.ensures ∙ e))
+    steady_by TheDisk 3 disk_status c.replay-ending.result.ending _ _ c.replay-ending.ensures.disk_faults (λ e. other (c.status-status.ensures ∙ e)) (λ e. whole (c.status-status.ensures ∙ e))
 
 pub returns-then-are_plain-clause-not_a_store : goal.returns-then-are_plain-clause-not_a_store
 returns-then-are_plain-clause-not_a_store g c is =
@@ -45,22 +45,22 @@ returns-then-are_plain-clause-occupied g c plain state is stands =
 pub returns-then-are_plain-clause-read_fault : goal.returns-then-are_plain-clause-read_fault
 returns-then-are_plain-clause-read_fault g c is =
     let six = sym c.status-status.ensures ∙ is in (
-      rose_by TheSource 6 source_status c.replay-ending.result.ending _ _ c.replay-ending.ensures.source six,
-      steady_by TheSink 7 sink_status c.replay-ending.result.ending _ _ c.replay-ending.ensures.sink (λ e. apart (sym six ∙ e)) (λ e. apart (sym six ∙ e)),
+      rose_by TheSource 6 source_status c.replay-ending.result.ending _ _ c.replay-ending.ensures.source_faults six,
+      steady_by TheSink 7 sink_status c.replay-ending.result.ending _ _ c.replay-ending.ensures.sink_faults (λ e. apart (sym six ∙ e)) (λ e. apart (sym six ∙ e)),
     )
   where
     apart : ◌≡◌ {A = ℕ} 6 7 → ⊥
     apart e = omega arith
 
 pub returns-then-are_plain-clause-write_fault : goal.returns-then-are_plain-clause-write_fault
-returns-then-are_plain-clause-write_fault g c is = rose_by TheSink 7 sink_status c.replay-ending.result.ending _ _ c.replay-ending.ensures.sink (sym c.status-status.ensures ∙ is)
+returns-then-are_plain-clause-write_fault g c is = rose_by TheSink 7 sink_status c.replay-ending.result.ending _ _ c.replay-ending.ensures.sink_faults (sym c.status-status.ensures ∙ is)
 
 pub returns-then-are_plain-clause-no_stream_fault : goal.returns-then-are_plain-clause-no_stream_fault
 returns-then-are_plain-clause-no_stream_fault g c less =
     let ending = c.replay-ending.result.ending in
     let small : status_of ending < 6 = subst (λ (n : ℕ). n < 6) c.status-status.ensures less in (
-      steady_by TheSource 6 source_status ending _ _ c.replay-ending.ensures.source (below (status_of ending) 6 small (omega arith)) (below (status_of ending) 7 small (omega arith)),
-      steady_by TheSink 7 sink_status ending _ _ c.replay-ending.ensures.sink (below (status_of ending) 7 small (omega arith)) (below (status_of ending) 7 small (omega arith)),
+      steady_by TheSource 6 source_status ending _ _ c.replay-ending.ensures.source_faults (below (status_of ending) 6 small (omega arith)) (below (status_of ending) 7 small (omega arith)),
+      steady_by TheSink 7 sink_status ending _ _ c.replay-ending.ensures.sink_faults (below (status_of ending) 7 small (omega arith)) (below (status_of ending) 7 small (omega arith)),
     )
 
 -- ---- other words

@@ -12,8 +12,8 @@ returns-in-Ok-clause-printed g c script stands count next =
     let made = rw c.in-Ok-Some.field-0-is at (c.in-Ok-Some.ensures.answers script.start stands) in
     (made.0, made.1, made.2, subst (λ (l : List ℕ). Takes (g.K.Sink.held c.args.sink.now) (g.K.Sink.held c.put.new.self) l) (c.deref.ensures.value ∙ made.3) c.in-Ok.ensures.taken)
 
-pub returns-in-Ok-clause-disk : goal.returns-in-Ok-clause-disk
-returns-in-Ok-clause-disk g c s stands held =
+pub returns-in-Ok-clause-moves : goal.returns-in-Ok-clause-moves
+returns-in-Ok-clause-moves g c s stands held =
     let carried = c.carry_out.ensures.carries s stands held in
     record { held = of_ok c.carry_out.result _ (ap is_ok c.in-Ok-Some.is) carried.answered; through = carried.through }
 
@@ -23,8 +23,8 @@ returns-in-Ok-Some-clause-printed g c script stands count next left =
     answer_cut _ script c.args.text.now left made.0 (g.K.Sink.held c.args.sink.now) (g.K.Sink.held c.put.new.self) next made.1
     (subst (λ (l : List ℕ). TakesPrefix (g.K.Sink.held c.args.sink.now) (g.K.Sink.held c.put.new.self) l) (c.deref.ensures.value ∙ made.3) c.in-Err.ensures.part)
 
-pub returns-in-Ok-Some-clause-disk : goal.returns-in-Ok-Some-clause-disk
-returns-in-Ok-Some-clause-disk g c s stands held =
+pub returns-in-Ok-Some-clause-moves : goal.returns-in-Ok-Some-clause-moves
+returns-in-Ok-Some-clause-moves g c s stands held =
     ends_cut g.D.Watched (record { only_now = g.met.D.Disk.only_now; counts_now = g.met.D.Disk.counts_now }) s c.args.text.now c.args.replayer.now.disk c.carry_out.new.replayer.disk c.carry_out.result (ap is_ok c.in-Ok-Some.is) (c.carry_out.ensures.carries s stands held)
 
 pub returns-in-Ok-None-clause-printed : goal.returns-in-Ok-None-clause-printed
@@ -32,8 +32,8 @@ returns-in-Ok-None-clause-printed g c script stands count next left =
     let bad = rw c.in-Ok-None.field-0-is at (c.in-Ok-None.ensures.answers script.start stands) in
     before_weaker _ script left c.end_at_bad_line.result _ _ (c.end_at_bad_line.ensures.printed script c.args.text.now left count next bad)
 
-pub returns-in-Ok-None-clause-disk : goal.returns-in-Ok-None-clause-disk
-returns-in-Ok-None-clause-disk g c s stands held =
+pub returns-in-Ok-None-clause-moves : goal.returns-in-Ok-None-clause-moves
+returns-in-Ok-None-clause-moves g c s stands held =
     let bad = rw c.in-Ok-None.field-0-is at (c.in-Ok-None.ensures.answers s stands) in
     ends_bad g.D.Watched (record { only_now = g.met.D.Disk.only_now; counts_now = g.met.D.Disk.counts_now }) s c.args.text.now c.args.replayer.now.disk c.carry_out.new.replayer.disk c.carry_out.result c.end_at_bad_line.result (ap is_ok c.in-Ok-None.is) bad (c.carry_out.ensures.carries s stands held)
 
@@ -41,23 +41,23 @@ pub returns-in-Err-NoMemory-clause-printed : goal.returns-in-Err-NoMemory-clause
 returns-in-Err-NoMemory-clause-printed g c script stands count next left =
     finished g.K.Sink c.args.sink.now c.finish.new.sink _ script left NoMemory c.finish.result no_memory_line refl tt c.finish.ensures
 
-pub returns-in-Err-NoMemory-clause-disk : goal.returns-in-Err-NoMemory-clause-disk
-returns-in-Err-NoMemory-clause-disk g c s stands held =
+pub returns-in-Err-NoMemory-clause-moves : goal.returns-in-Err-NoMemory-clause-moves
+returns-in-Err-NoMemory-clause-moves g c s stands held =
     ends_out g.D.Watched (record { only_now = g.met.D.Disk.only_now; counts_now = g.met.D.Disk.counts_now }) s c.args.text.now c.args.replayer.now.disk c.carry_out.new.replayer.disk g.K.Sink c.args.sink.now c.finish.new.sink no_memory_line c.carry_out.result c.finish.result
     (c.in-Err-NoMemory.is ∙ ap Err c.in-Err-NoMemory.field-0-is) c.finish.ensures (c.carry_out.ensures.carries s stands held)
 
-pub returns-in-Err-NoMemory-clause-sink : goal.returns-in-Err-NoMemory-clause-sink
-returns-in-Err-NoMemory-clause-sink g c = finish_counts g.K.Sink _ _ _ NoMemory c.finish.result (λ e. cc) c.finish.ensures
+pub returns-in-Err-NoMemory-clause-sink_faults : goal.returns-in-Err-NoMemory-clause-sink_faults
+returns-in-Err-NoMemory-clause-sink_faults g c = finish_counts g.K.Sink _ _ _ NoMemory c.finish.result (λ e. cc) c.finish.ensures
 
 pub returns-clause-printed : goal.returns-clause-printed
 returns-clause-printed g c script stands count next left =
     finished g.K.Sink c.args.sink.now c.finish-in-Err-Disk.new.sink _ script left DiskFault c.finish-in-Err-Disk.result disk_fault_line refl
     (c.carry_out.ensures.cause.rose (c.in-Err-Disk.is ∙ ap Err c.in-Err-Disk.field-0-is)) c.finish-in-Err-Disk.ensures
 
-pub returns-clause-disk : goal.returns-clause-disk
-returns-clause-disk g c s stands held =
+pub returns-clause-moves : goal.returns-clause-moves
+returns-clause-moves g c s stands held =
     ends_fault g.D.Watched (record { only_now = g.met.D.Disk.only_now; counts_now = g.met.D.Disk.counts_now }) s c.args.text.now c.args.replayer.now.disk c.carry_out.new.replayer.disk g.K.Sink c.args.sink.now c.finish-in-Err-Disk.new.sink disk_fault_line c.carry_out.result c.finish-in-Err-Disk.result
     (c.carry_out.ensures.cause.rose (c.in-Err-Disk.is ∙ ap Err c.in-Err-Disk.field-0-is)) c.finish-in-Err-Disk.ensures (c.carry_out.ensures.carries s stands held)
 
-pub returns-clause-sink : goal.returns-clause-sink
-returns-clause-sink g c = finish_counts g.K.Sink _ _ _ DiskFault c.finish-in-Err-Disk.result (λ e. cc) c.finish-in-Err-Disk.ensures
+pub returns-clause-sink_faults : goal.returns-clause-sink_faults
+returns-clause-sink_faults g c = finish_counts g.K.Sink _ _ _ DiskFault c.finish-in-Err-Disk.result (λ e. cc) c.finish-in-Err-Disk.ensures

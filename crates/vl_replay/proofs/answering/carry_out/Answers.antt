@@ -38,7 +38,7 @@ returns-in_err-answer-clause-carries g c s stands held =
     carries_line g.D.Watched (record { only_now = g.met.D.Disk.only_now; counts_now = g.met.D.Disk.counts_now }) s c.args.text.now c.args.replayer.now.disk c.line.new.self.disk c.in-Some.line c.line.result residual.result
     (sym c.in_ok-line.ensures ∙ c.in-Some.is) carried
     (λ ok. absurd (ok_not_err residual.result ok residual.ensures.0))
-    (λ out. carried.no_memory (c.in_err-answer.was ∙ ap Err (same_halt residual.result _ NoRoom out residual.ensures.1)))
+    (λ out. carried.no_commit (c.in_err-answer.was ∙ ap Err (same_halt residual.result _ NoRoom out residual.ensures.1)))
 
 pub returns-in_err-print_answer-clause-carries : goal.returns-in_err-print_answer-clause-carries
 returns-in_err-print_answer-clause-carries g c s stands held =

@@ -1,7 +1,7 @@
 use Rattle.std.proofs.Common.{◌≡◌, ◌+◌, ◌++◌, ◌∷◌, [], ◌∙◌, ℕ, List, refl, ap, subst}
 use Rattle.std.specs.Prelude.{codes}
 use Rattle.std.specs.Fmt.{decimal}
-use Rattle.vl_replay.specs.Endings.{Causes, bad_line, no_memory_line}
+use Rattle.vl_replay.specs.Endings.{Evidence, bad_line, no_memory_line}
 use Rattle.vl_replay.specs.Steps.{Finishes}
 use Rattle.vl_replay.specs.declared.ending.Ending.TheVariants.{BadLine, NoMemory}
 use Rattle.vl_replay.proofs.Ends.{finished, finish_counts, no_cut, bad_line_stops, bad_line_text}
@@ -12,19 +12,19 @@ returns-in-Ok-clause-printed g c script text left count next bad =
     let line : c.deref.result.now ≡ bad_line (script.before + 0 + 1) =
     c.deref.ensures.value ∙ bad_line_text c.args.answered script.before c.saturating_add.result c.print_bad_line.new.text.items count c.saturating_add.ensures
     (c.in-Ok.ensures ∙ ap (λ (l : List ℕ). ((l ++ codes "bad line ") ++ decimal c.saturating_add.result) ++ (10 ∷ [])) c.new-line.ensures.items) in
-    finished g.K.Sink c.args.sink.now c.finish.new.sink (Causes ⊥ ⊥ ⊥) script left BadLine c.finish.result (bad_line (script.before + 0 + 1)) refl
-    (bad_line_stops (Causes ⊥ ⊥ ⊥) script text left next bad)
+    finished g.K.Sink c.args.sink.now c.finish.new.sink (Evidence ⊥ ⊥ ⊥) script left BadLine c.finish.result (bad_line (script.before + 0 + 1)) refl
+    (bad_line_stops (Evidence ⊥ ⊥ ⊥) script text left next bad)
     (subst (λ (l : List ℕ). Finishes g.K.Sink c.args.sink.now c.finish.new.sink l BadLine c.finish.result) line c.finish.ensures)
 
-pub returns-in-Ok-clause-sink : goal.returns-in-Ok-clause-sink
-returns-in-Ok-clause-sink g c = finish_counts g.K.Sink _ _ _ BadLine c.finish.result (λ e. cc) c.finish.ensures
+pub returns-in-Ok-clause-sink_faults : goal.returns-in-Ok-clause-sink_faults
+returns-in-Ok-clause-sink_faults g c = finish_counts g.K.Sink _ _ _ BadLine c.finish.result (λ e. cc) c.finish.ensures
 
 pub returns-clause-printed : goal.returns-clause-printed
 returns-clause-printed g c script text left count next bad =
-    finished g.K.Sink c.args.sink.now c.finish-in-Err.new.sink (Causes ⊥ ⊥ ⊥) script left NoMemory c.finish-in-Err.result no_memory_line refl tt c.finish-in-Err.ensures
+    finished g.K.Sink c.args.sink.now c.finish-in-Err.new.sink (Evidence ⊥ ⊥ ⊥) script left NoMemory c.finish-in-Err.result no_memory_line refl tt c.finish-in-Err.ensures
 
-pub returns-clause-sink : goal.returns-clause-sink
-returns-clause-sink g c = finish_counts g.K.Sink _ _ _ NoMemory c.finish-in-Err.result (λ e. cc) c.finish-in-Err.ensures
+pub returns-clause-sink_faults : goal.returns-clause-sink_faults
+returns-clause-sink_faults g c = finish_counts g.K.Sink _ _ _ NoMemory c.finish-in-Err.result (λ e. cc) c.finish-in-Err.ensures
 
 pub returns-in-Ok-clause-whole : goal.returns-in-Ok-clause-whole
 returns-in-Ok-clause-whole g c = no_cut g.K.Sink _ _ _ BadLine c.finish.result (λ e. cc) c.finish.ensures

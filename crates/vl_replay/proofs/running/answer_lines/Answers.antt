@@ -1,7 +1,8 @@
 use Rattle.std.proofs.Common.{◌∙◌, ℕ, List, refl, arith, subst, sym}
-use Rattle.vl_replay.specs.Endings.{Causes, no_memory_line}
+use Rattle.vl_replay.specs.Endings.{Evidence, no_memory_line}
 use Rattle.vl_replay.specs.Laws.{keeps_up_at_first}
 use Rattle.vl_replay.specs.Runs.{script_of, outside}
+use Rattle.vl_replay.specs.Steps.{kept}
 use Rattle.vl_replay.specs.Stored.{IsStored, Shown}
 use Rattle.vl_replay.specs.declared.ending.Ending.TheVariants.{NoMemory}
 use Rattle.vl_replay.proofs.Ends.{finished, no_cut}
@@ -16,14 +17,14 @@ returns-in_default-clause-runs g c s input stands told =
     step_apart g.D.Watched (record { only_now = g.met.D.Disk.only_now; counts_now = g.met.D.Disk.counts_now }) IsStored Shown shown_stays stored_exactly script
     (outside g.S.Source g.K.Sink c.args.source.now c.args.sink.now c.args.replayer.disk) (outside g.S.Source g.K.Sink c.args.source.now c.finish.new.sink c.close.result)
     ⊥ (λ never. absurd never) c.finish.result (no_cut g.K.Sink _ _ _ NoMemory c.finish.result (λ e. cc) c.finish.ensures) c.close.ensures
-    (finished g.K.Sink c.args.sink.now c.finish.new.sink (Causes ⊥ ⊥ ⊥) script (g.S.Source.left c.args.source.now) NoMemory c.finish.result no_memory_line refl tt c.finish.ensures)
+    (finished g.K.Sink c.args.sink.now c.finish.new.sink (Evidence ⊥ ⊥ ⊥) script (g.S.Source.left c.args.source.now) NoMemory c.finish.result no_memory_line refl tt c.finish.ensures)
     (keeps_up_at_first input (g.S.Source.asked c.args.source.now) (g.met.S.Source.since_asked c.args.source.now input told))
 
 pub lines-init : goal.lines-init
 lines-init g c = record {
   under_way = λ s input stands told.
       let begin = outside g.S.Source g.K.Sink c.args.source.now c.args.sink.now c.args.replayer.disk in
-      subst (λ (b : List ℕ). UnderWay g.D.Watched IsStored Shown (script_of s 0 input) begin begin c.args.replayer.store 0 b) (sym c.in-Ok.ensures)
+      subst (λ (b : List ℕ). UnderWay g.D.Watched IsStored Shown (script_of s 0 input) begin begin (kept c.args.replayer.store b 0)) (sym c.in-Ok.ensures)
       (begun g.D.Watched (record { only_now = g.met.D.Disk.only_now; counts_now = g.met.D.Disk.counts_now }) IsStored Shown shown_stays stored_exactly s input begin c.args.replayer.store stands told (g.met.S.Source.since_asked c.args.source.now));
   source_steady = refl;
   sink_steady = refl;
@@ -36,11 +37,11 @@ lines-preserved g c = record {
       let u = c.lines.invariant.under_way s input stands told in
       further g.D.Watched (record { only_now = g.met.D.Disk.only_now; counts_now = g.met.D.Disk.counts_now }) IsStored Shown shown_stays stored_exactly s input
       (outside g.S.Source g.K.Sink c.args.source.now c.args.sink.now c.args.replayer.disk) (outside g.S.Source g.K.Sink c.lines.source c.lines.sink c.lines.progress.replayer.disk) (outside g.S.Source g.K.Sink c.step.new.source c.step.new.sink c.step.new.self.replayer.disk)
-      c.lines.progress.replayer.store c.step.new.self.replayer.store c.lines.progress.answered c.step.new.self.answered c.lines.progress.buffer c.step.new.self.buffer u
-      (c.in_default-step.ensures.runs u.state u.before u.had u.stands u.count u.left_is u.kept_up) (c.step.ensures.counted u.before u.count c.in_default-step.is);
-  source_steady = c.in_default-step.ensures.source.steady (λ e. cc) (λ e. cc) ∙ c.lines.invariant.source_steady;
-  sink_steady = c.in_default-step.ensures.sink.steady (λ e. cc) (λ e. cc) ∙ c.lines.invariant.sink_steady;
-  disk_steady = c.in_default-step.ensures.disk.steady (λ e. cc) (λ e. cc) ∙ c.lines.invariant.disk_steady;
+      (kept c.lines.progress.replayer.store c.lines.progress.buffer c.lines.progress.answered) (kept c.step.new.self.replayer.store c.step.new.self.buffer c.step.new.self.answered) u
+      (c.in_default-step.ensures.runs u.rest u.to_do);
+  source_steady = c.in_default-step.ensures.source_faults.steady (λ e. cc) (λ e. cc) ∙ c.lines.invariant.source_steady;
+  sink_steady = c.in_default-step.ensures.sink_faults.steady (λ e. cc) (λ e. cc) ∙ c.lines.invariant.sink_steady;
+  disk_steady = c.in_default-step.ensures.disk_faults.steady (λ e. cc) (λ e. cc) ∙ c.lines.invariant.disk_steady;
 }
 
 pub returns-in-Some-clause-runs : goal.returns-in-Some-clause-runs
@@ -50,5 +51,5 @@ returns-in-Some-clause-runs g c s input stands told =
     let same_disk = c.lines.invariant.disk_steady in
     rw c.close-in-Some.ensures (over g.D.Watched (record { only_now = g.met.D.Disk.only_now; counts_now = g.met.D.Disk.counts_now }) IsStored Shown shown_stays stored_exactly s input
     (outside g.S.Source g.K.Sink c.args.source.now c.args.sink.now c.args.replayer.disk) (outside g.S.Source g.K.Sink c.lines.source c.lines.sink c.lines.progress.replayer.disk) (outside g.S.Source g.K.Sink c.step.new.source c.step.new.sink c.step.new.self.replayer.disk)
-    c.lines.progress.replayer.store c.step.new.self.replayer.store c.lines.progress.answered c.step.new.self.answered c.lines.progress.buffer c.step.new.self.buffer u
-    c.in-Some.ending (omega arith) (omega arith) (c.in-Some.ensures.runs u.state u.before u.had u.stands u.count u.left_is u.kept_up))
+    (kept c.lines.progress.replayer.store c.lines.progress.buffer c.lines.progress.answered) (kept c.step.new.self.replayer.store c.step.new.self.buffer c.step.new.self.answered) u
+    c.in-Some.ending (omega arith) (omega arith) (c.in-Some.ensures.runs u.rest u.to_do))

@@ -2,6 +2,7 @@ use Rattle.std.proofs.Common.{◌≡◌, ◌+◌, ℕ, List, length, Some}
 use Rattle.vl_replay.specs.Represents.{Represents}
 use Rattle.vl_replay.specs.Runs.{script_of, outside}
 use Rattle.vl_replay.specs.Sequential.{State}
+use Rattle.vl_replay.specs.Steps.{kept}
 use Rattle.vl_replay.specs.Stored.{IsStored, Shown}
 use Rattle.vl_replay.proofs.UnderWay.{UnderWay}
 use Rattle.vl_replay.proofs.running.answer_lines.Given as goal
@@ -12,7 +13,7 @@ invariant-lines g l =
     let now = outside g.S.Source g.K.Sink l.source l.sink l.progress.replayer.disk in
     record {
       under_way : (s : State) (input : List ℕ) → Represents l.fn.replayer.store s → begin.left ≡ Some input
-          → UnderWay g.D.Watched IsStored Shown (script_of s 0 input) begin now l.progress.replayer.store l.progress.answered l.progress.buffer;
+          → UnderWay g.D.Watched IsStored Shown (script_of s 0 input) begin now (kept l.progress.replayer.store l.progress.buffer l.progress.answered);
       source_steady : g.S.Source.faults l.source ≡ g.S.Source.faults l.fn.source;
       sink_steady : g.K.Sink.faults l.sink ≡ g.K.Sink.faults l.fn.sink;
       disk_steady : g.D.Watched.faults l.progress.replayer.disk ≡ g.D.Watched.faults l.fn.replayer.disk;

@@ -1,77 +1,73 @@
 use Rattle.std.proofs.Common.{◌∙◌, ◌++◌, ℕ, List, refl, subst, sym, ap, Err}
 use Rattle.vl_disk.specs.Faults.{Rose}
-use Rattle.vl_replay.specs.Endings.{Causes, no_memory_line, read_fault_line}
-use Rattle.vl_replay.specs.Runs.{script_of, outside}
-use Rattle.vl_replay.specs.Steps.{Steps}
+use Rattle.vl_replay.specs.Endings.{Evidence, no_memory_line, read_fault_line}
+use Rattle.vl_replay.specs.Runs.{outside}
+use Rattle.vl_replay.specs.Steps.{kept, Steps}
 use Rattle.vl_replay.specs.Stored.{IsStored, Shown}
 use Rattle.vl_replay.specs.declared.ending.Ending.TheVariants.{NoMemory, ReadFault}
+use Rattle.vl_replay.specs.declared.input.lines.Next.TheVariants.{Line as WholeLine, LastLine, TooLong, End}
 use Rattle.vl_replay.proofs.Ends.{too_long_is_bad, finished, finish_counts, no_cut, ended_lines-none}
 use Rattle.vl_replay.proofs.Logged.{shown_stays, stored_exactly}
-use Rattle.vl_replay.proofs.Stepping.{next_line, next_last, step_line, step_last, step_apart, step_end}
+use Rattle.vl_replay.proofs.Stepping.{reads_script, still_keeps_up, next_line, next_last, step_line, step_last, step_apart, step_end}
 use Rattle.vl_replay.proofs.running.Progress.step.Goals as goal
 
 pub returns-in-Ok-Line-clause-runs : goal.returns-in-Ok-Line-clause-runs
-returns-in-Ok-Line-clause-runs g c s before had stands count told kept_up =
-    let reads = rw c.in-Ok-Line.field-0-is at (c.in-Ok-Line.ensures.line had told) in
-    let script = script_of s before (c.args.self.now.buffer ++ had) in
+returns-in-Ok-Line-clause-runs g c script to_do =
+    let reads = reads_script WholeLine script.bytes (c.args.self.now.buffer ++ to_do.rest) c.read_line.new.line.items c.read_line.new.buffer (g.S.Source.left c.read_line.new.source) to_do.bytes_are (rw c.in-Ok-Line.field-0-is at (c.in-Ok-Line.ensures.line to_do.rest to_do.left_is)) in
     let old = outside g.S.Source g.K.Sink c.args.source.now c.args.sink.now c.args.self.now.replayer.disk in
     let new = outside g.S.Source g.K.Sink c.read_line.new.source c.answer.new.sink c.answer.new.self.replayer.disk in
-    subst (λ (b : List ℕ). Steps g.D.Watched IsStored Shown script old new c.answer.new.self.replayer.store b c.answer.result) (sym c.answer.ensures.same)
-    (step_line g.D.Watched (record { only_now = g.met.D.Disk.only_now; counts_now = g.met.D.Disk.counts_now }) IsStored Shown shown_stays stored_exactly script old new c.read_line.new.line.items c.answer.new.self.replayer.store c.read_line.new.buffer c.answer.result reads
-    (c.answer.ensures.printed script stands count (next_line script c.read_line.new.line.items c.read_line.new.buffer (g.S.Source.left c.read_line.new.source) reads)) (c.answer.ensures.moves s stands) (c.read_line.ensures.keeps_up had told kept_up))
+    subst (λ (b : List ℕ). Steps g.D.Watched IsStored Shown script old new (kept c.answer.new.self.replayer.store b c.answer.new.self.answered) c.answer.result) (sym c.answer.ensures.same)
+    (step_line g.D.Watched (record { only_now = g.met.D.Disk.only_now; counts_now = g.met.D.Disk.counts_now }) IsStored Shown shown_stays stored_exactly script old new c.read_line.new.line.items c.answer.new.self.replayer.store c.read_line.new.buffer c.answer.new.self.answered c.answer.result (c.answer.ensures.counted script.before to_do.count) reads
+    (c.answer.ensures.printed script to_do.stands to_do.count (next_line script c.read_line.new.line.items c.read_line.new.buffer (g.S.Source.left c.read_line.new.source) reads)) (c.answer.ensures.moves script.start to_do.stands) (still_keeps_up script.bytes (c.args.self.now.buffer ++ to_do.rest) (g.S.Source.asked c.args.source.now) (g.S.Source.asked c.read_line.new.source) to_do.bytes_are (c.read_line.ensures.keeps_up to_do.rest to_do.left_is) to_do.kept_up))
 
 pub returns-in-Ok-LastLine-clause-runs : goal.returns-in-Ok-LastLine-clause-runs
-returns-in-Ok-LastLine-clause-runs g c s before had stands count told kept_up =
-    let reads = rw c.in-Ok-LastLine.field-0-is at (c.in-Ok-LastLine.ensures.line had told) in
+returns-in-Ok-LastLine-clause-runs g c script to_do =
+    let reads = reads_script LastLine script.bytes (c.args.self.now.buffer ++ to_do.rest) c.read_line.new.line.items c.read_line.new.buffer (g.S.Source.left c.read_line.new.source) to_do.bytes_are (rw c.in-Ok-LastLine.field-0-is at (c.in-Ok-LastLine.ensures.line to_do.rest to_do.left_is)) in
     let answered = c.answer-in-Ok-LastLine in
-    let script = script_of s before (c.args.self.now.buffer ++ had) in
     let old = outside g.S.Source g.K.Sink c.args.source.now c.args.sink.now c.args.self.now.replayer.disk in
     let new = outside g.S.Source g.K.Sink c.read_line.new.source answered.new.sink answered.new.self.replayer.disk in
     step_last g.D.Watched (record { only_now = g.met.D.Disk.only_now; counts_now = g.met.D.Disk.counts_now }) IsStored Shown shown_stays stored_exactly script old new c.read_line.new.line.items answered.new.self.replayer.store c.read_line.new.buffer answered.result c.unwrap_or.result c.unwrap_or.ensures reads
-    (answered.ensures.printed script stands count (next_last script c.read_line.new.line.items c.read_line.new.buffer (g.S.Source.left c.read_line.new.source) reads)) (answered.ensures.moves s stands) (c.read_line.ensures.keeps_up had told kept_up)
+    (answered.ensures.printed script to_do.stands to_do.count (next_last script c.read_line.new.line.items c.read_line.new.buffer (g.S.Source.left c.read_line.new.source) reads)) (answered.ensures.moves script.start to_do.stands) (still_keeps_up script.bytes (c.args.self.now.buffer ++ to_do.rest) (g.S.Source.asked c.args.source.now) (g.S.Source.asked c.read_line.new.source) to_do.bytes_are (c.read_line.ensures.keeps_up to_do.rest to_do.left_is) to_do.kept_up)
 
 pub returns-in-Ok-TooLong-clause-runs : goal.returns-in-Ok-TooLong-clause-runs
-returns-in-Ok-TooLong-clause-runs g c s before had stands count told kept_up =
-    let (text, texts, lines, long) = rw c.in-Ok-TooLong.field-0-is at (c.in-Ok-TooLong.ensures.line had told) in
-    let script = script_of s before (c.args.self.now.buffer ++ had) in
+returns-in-Ok-TooLong-clause-runs g c script to_do =
+    let (text, texts, lines, long) = reads_script TooLong script.bytes (c.args.self.now.buffer ++ to_do.rest) c.read_line.new.line.items c.read_line.new.buffer (g.S.Source.left c.read_line.new.source) to_do.bytes_are (rw c.in-Ok-TooLong.field-0-is at (c.in-Ok-TooLong.ensures.line to_do.rest to_do.left_is)) in
     let left = g.S.Source.left c.read_line.new.source in
     let ended = c.end_at_bad_line in
     step_apart g.D.Watched (record { only_now = g.met.D.Disk.only_now; counts_now = g.met.D.Disk.counts_now }) IsStored Shown shown_stays stored_exactly script
     (outside g.S.Source g.K.Sink c.args.source.now c.args.sink.now c.args.self.now.replayer.disk) (outside g.S.Source g.K.Sink c.read_line.new.source ended.new.sink c.args.self.now.replayer.disk)
-    ⊥ (λ never. absurd never) ended.result ended.ensures.whole refl (ended.ensures.printed script text left count (texts, lines) (too_long_is_bad s text long)) (c.read_line.ensures.keeps_up had told kept_up)
+    ⊥ (λ never. absurd never) ended.result ended.ensures.whole refl (ended.ensures.printed script text left to_do.count (texts, lines) (too_long_is_bad script.start text long)) (still_keeps_up script.bytes (c.args.self.now.buffer ++ to_do.rest) (g.S.Source.asked c.args.source.now) (g.S.Source.asked c.read_line.new.source) to_do.bytes_are (c.read_line.ensures.keeps_up to_do.rest to_do.left_is) to_do.kept_up)
 
 pub returns-in-Ok-End-clause-runs : goal.returns-in-Ok-End-clause-runs
-returns-in-Ok-End-clause-runs g c s before had stands count told kept_up =
-    let reads = rw c.in-Ok-End.field-0-is at (c.in-Ok-End.ensures.line had told) in
-    step_end g.D.Watched (record { only_now = g.met.D.Disk.only_now; counts_now = g.met.D.Disk.counts_now }) IsStored Shown shown_stays stored_exactly (script_of s before (c.args.self.now.buffer ++ had))
+returns-in-Ok-End-clause-runs g c script to_do =
+    let reads = reads_script End script.bytes (c.args.self.now.buffer ++ to_do.rest) c.read_line.new.line.items c.read_line.new.buffer (g.S.Source.left c.read_line.new.source) to_do.bytes_are (rw c.in-Ok-End.field-0-is at (c.in-Ok-End.ensures.line to_do.rest to_do.left_is)) in
+    step_end g.D.Watched (record { only_now = g.met.D.Disk.only_now; counts_now = g.met.D.Disk.counts_now }) IsStored Shown shown_stays stored_exactly script
     (outside g.S.Source g.K.Sink c.args.source.now c.args.sink.now c.args.self.now.replayer.disk) (outside g.S.Source g.K.Sink c.read_line.new.source c.args.sink.now c.args.self.now.replayer.disk)
-    reads.1 reads.0 refl refl (c.read_line.ensures.keeps_up had told kept_up)
+    reads.1 reads.0 refl refl (still_keeps_up script.bytes (c.args.self.now.buffer ++ to_do.rest) (g.S.Source.asked c.args.source.now) (g.S.Source.asked c.read_line.new.source) to_do.bytes_are (c.read_line.ensures.keeps_up to_do.rest to_do.left_is) to_do.kept_up)
 
 pub returns-in-Err-NoMemory-clause-runs : goal.returns-in-Err-NoMemory-clause-runs
-returns-in-Err-NoMemory-clause-runs g c s before had stands count told kept_up =
-    let script = script_of s before (c.args.self.now.buffer ++ had) in
+returns-in-Err-NoMemory-clause-runs g c script to_do =
     step_apart g.D.Watched (record { only_now = g.met.D.Disk.only_now; counts_now = g.met.D.Disk.counts_now }) IsStored Shown shown_stays stored_exactly script
     (outside g.S.Source g.K.Sink c.args.source.now c.args.sink.now c.args.self.now.replayer.disk) (outside g.S.Source g.K.Sink c.read_line.new.source c.finish.new.sink c.args.self.now.replayer.disk)
     ⊥ (λ never. absurd never) c.finish.result (no_cut g.K.Sink _ _ _ NoMemory c.finish.result (λ e. cc) c.finish.ensures) refl
-    (finished g.K.Sink c.args.sink.now c.finish.new.sink (Causes ⊥ ⊥ ⊥) script (g.S.Source.left c.read_line.new.source) NoMemory c.finish.result no_memory_line refl tt c.finish.ensures)
-    (c.read_line.ensures.keeps_up had told kept_up)
+    (finished g.K.Sink c.args.sink.now c.finish.new.sink (Evidence ⊥ ⊥ ⊥) script (g.S.Source.left c.read_line.new.source) NoMemory c.finish.result no_memory_line refl tt c.finish.ensures)
+    (still_keeps_up script.bytes (c.args.self.now.buffer ++ to_do.rest) (g.S.Source.asked c.args.source.now) (g.S.Source.asked c.read_line.new.source) to_do.bytes_are (c.read_line.ensures.keeps_up to_do.rest to_do.left_is) to_do.kept_up)
 
-pub returns-in-Err-NoMemory-clause-sink : goal.returns-in-Err-NoMemory-clause-sink
-returns-in-Err-NoMemory-clause-sink g c = finish_counts g.K.Sink _ _ _ NoMemory c.finish.result (λ e. cc) c.finish.ensures
+pub returns-in-Err-NoMemory-clause-sink_faults : goal.returns-in-Err-NoMemory-clause-sink_faults
+returns-in-Err-NoMemory-clause-sink_faults g c = finish_counts g.K.Sink _ _ _ NoMemory c.finish.result (λ e. cc) c.finish.ensures
 
 pub returns-in-Err-Fault-clause-runs : goal.returns-in-Err-Fault-clause-runs
-returns-in-Err-Fault-clause-runs g c s before had stands count told kept_up =
-    let script = script_of s before (c.args.self.now.buffer ++ had) in
+returns-in-Err-Fault-clause-runs g c script to_do =
     let ended = c.finish-in-Err-Fault in
     let fault = c.in-Err-Fault.is ∙ ap Err c.in-Err-Fault.field-0-is in
-    let (given, rest, left_is, parts, unended) = c.read_line.ensures.within fault had told in
+    let (given, rest, left_is, parts, unended) = c.read_line.ensures.within fault to_do.rest to_do.left_is in
     let rose = c.read_line.ensures.cause.rose fault in
     step_apart g.D.Watched (record { only_now = g.met.D.Disk.only_now; counts_now = g.met.D.Disk.counts_now }) IsStored Shown shown_stays stored_exactly script
     (outside g.S.Source g.K.Sink c.args.source.now c.args.sink.now c.args.self.now.replayer.disk) (outside g.S.Source g.K.Sink c.read_line.new.source ended.new.sink c.args.self.now.replayer.disk)
     (Rose (g.S.Source.faults c.args.source.now) (g.S.Source.faults c.read_line.new.source)) (λ rose. rose) ended.result (no_cut g.K.Sink _ _ _ ReadFault ended.result (λ e. cc) ended.ensures) refl
-    (finished g.K.Sink c.args.sink.now ended.new.sink (Causes (Rose (g.S.Source.faults c.args.source.now) (g.S.Source.faults c.read_line.new.source)) ⊥ ⊥) script (g.S.Source.left c.read_line.new.source) ReadFault ended.result read_fault_line refl
-    (rose, (given, rest, parts, left_is, sym (ended_lines-none given unended))) ended.ensures)
-    (c.read_line.ensures.keeps_up had told kept_up)
+    (finished g.K.Sink c.args.sink.now ended.new.sink (Evidence (Rose (g.S.Source.faults c.args.source.now) (g.S.Source.faults c.read_line.new.source)) ⊥ ⊥) script (g.S.Source.left c.read_line.new.source) ReadFault ended.result read_fault_line refl
+    (rose, (given, rest, to_do.bytes_are ∙ parts, left_is, sym (ended_lines-none given unended))) ended.ensures)
+    (still_keeps_up script.bytes (c.args.self.now.buffer ++ to_do.rest) (g.S.Source.asked c.args.source.now) (g.S.Source.asked c.read_line.new.source) to_do.bytes_are (c.read_line.ensures.keeps_up to_do.rest to_do.left_is) to_do.kept_up)
 
-pub returns-in-Err-Fault-clause-sink : goal.returns-in-Err-Fault-clause-sink
-returns-in-Err-Fault-clause-sink g c = finish_counts g.K.Sink _ _ _ ReadFault c.finish-in-Err-Fault.result (λ e. cc) c.finish-in-Err-Fault.ensures
+pub returns-in-Err-Fault-clause-sink_faults : goal.returns-in-Err-Fault-clause-sink_faults
+returns-in-Err-Fault-clause-sink_faults g c = finish_counts g.K.Sink _ _ _ ReadFault c.finish-in-Err-Fault.result (λ e. cc) c.finish-in-Err-Fault.ensures

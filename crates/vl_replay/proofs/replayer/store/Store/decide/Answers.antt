@@ -40,7 +40,7 @@ returns-then-saturating_add-gt-MAX_ROOM-clause-decides c s rep =
     let r = c.args.self.now in
     let is : option_copied c.find.result ≡ handle_named r.in_use c.args.name = c.find.ensures ∙ ap (handle_named r.in_use) c.as_slice.ensures in
     let there = sym is ∙ ap option_copied c.in-Some.is ∙ ap Some c.in-Transaction.is in
-    let longer = c.saturating_add.ensures ∙ ap (λ (n : ℕ). min (r.log.length + n) (2 ^ 64 - 1)) c.frame_length.ensures in
+    let longer = c.saturating_add.ensures ∙ ap (λ (n : ℕ). min (r.log.length + n) (2 ^ 64 - 1)) c.bytes_in_log.ensures in
     decides_full r s c.args.name c.in-Transaction.number c.in-Transaction.writes rep there (sym c.is_empty.ensures ∙ c.if-is_empty.false) c.if-self-ge-MAX_COMMIT_NUMBER.false
     (subst (λ (n : ℕ). max_room < n) longer c.if-saturating_add-gt-MAX_ROOM.true)
 
@@ -49,7 +49,7 @@ returns-clause-decides c s rep =
     let r = c.args.self.now in
     let is : option_copied c.find.result ≡ handle_named r.in_use c.args.name = c.find.ensures ∙ ap (handle_named r.in_use) c.as_slice.ensures in
     let there = sym is ∙ ap option_copied c.in-Some.is ∙ ap Some c.in-Transaction.is in
-    let longer = c.saturating_add.ensures ∙ ap (λ (n : ℕ). min (r.log.length + n) (2 ^ 64 - 1)) c.frame_length.ensures in
+    let longer = c.saturating_add.ensures ∙ ap (λ (n : ℕ). min (r.log.length + n) (2 ^ 64 - 1)) c.bytes_in_log.ensures in
     decides_write r s c.args.name c.in-Transaction.number c.in-Transaction.writes rep there (sym c.is_empty.ensures ∙ c.if-is_empty.false) c.if-self-ge-MAX_COMMIT_NUMBER.false
     (subst (λ (n : ℕ). n ≤ max_room) longer c.if-saturating_add-gt-MAX_ROOM.false)
 

@@ -2,7 +2,7 @@ use Rattle.std.proofs.Common.{◌≡◌, true, false, Some, None, refl, ap, ◌�
 use Rattle.std.specs.FinMap.{get}
 use Rattle.std.specs.Str.{bytes_eq}
 use Rattle.vl_replay.specs.Sequential.{written}
-use Rattle.vl_replay.specs.Represents.{IsOpen, Represents, Gives}
+use Rattle.vl_replay.specs.Represents.{IsOpen, Represents, IsOutcome}
 use Rattle.vl_script.specs.declared.answer.Answer.TheVariants.{Unknown}
 use Rattle.vl_replay.proofs.States.{IsInUse, held_in_use, other_in_use, none_in_use, gives_as, stands_kept, gives_write}
 use Rattle.vl_replay.proofs.replayer.store.Store.write.Goals as goal
@@ -27,7 +27,7 @@ returns-in-Some-clause-answer c s rep =
 pub returns-clause-answer : goal.returns-clause-answer
 returns-clause-answer c s rep =
     let r = c.args.self.now in
-    let unknown : get s.handles c.args.name ≡ None → Represents c.in_default.self s → Gives (Unknown c.args.name) c.in_default.self (written s c.args.name c.args.key c.args.change (get s.handles c.args.name)) =
+    let unknown : get s.handles c.args.name ≡ None → Represents c.in_default.self s → IsOutcome (Unknown c.args.name) c.in_default.self (written s c.args.name c.args.key c.args.change (get s.handles c.args.name)) =
     λ missing stands. gives_as _ (ap (written s c.args.name c.args.key c.args.change) missing) (record { answer_is = refl; stands = stands }) in
     elim c.in_default.branch [
       | in_default-via-in-Some+else-is_named w ↦

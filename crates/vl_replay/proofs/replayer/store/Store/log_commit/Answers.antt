@@ -3,7 +3,7 @@ use Rattle.std.specs.FinMap.{entries, len}
 use Rattle.vl_model.specs.History.{last_number}
 use Rattle.vl_model.specs.Keys.{Writes}
 use Rattle.vl_script.specs.declared.answer.Answer.TheVariants.{Number}
-use Rattle.vl_replay.specs.Represents.{Gives}
+use Rattle.vl_replay.specs.Represents.{IsOutcome}
 use Rattle.vl_replay.specs.Sequential.{after_commit}
 use Rattle.vl_replay.specs.Stored.{logged}
 use Rattle.vl_replay.proofs.Betweens.{extends_one}
@@ -11,7 +11,7 @@ use Rattle.vl_replay.proofs.Commits.{is_commit, next_frame, carries_no_memory, c
 use Rattle.vl_replay.proofs.Deciding.{open_is, same_writes, log_after, gives_commit}
 use Rattle.vl_replay.proofs.Logged.{next_commit}
 use Rattle.vl_replay.proofs.States.{Takes}
-use Rattle.vl_replay.proofs.replayer.store.Store.write_commit.Goals as goal
+use Rattle.vl_replay.proofs.replayer.store.Store.log_commit.Goals as goal
 
 pub stage_commit-requires : goal.stage_commit-requires
 stage_commit-requires g c =
@@ -59,7 +59,7 @@ returns-clause-answer g c s name writes rep there =
     subst (λ w. Takes r.memtable.entries.items new.entries.items w last) same_taken (subst (λ es. Takes es new.entries.items c.in-Transaction-handle.writes last) c.reserve.ensures.entries took) in
     let listed = c.as_slice.ensures.entries ∙ ap (λ (w : Writes). entries w) same in
     let log_is = log_after r s name writes c.as_slice.result.now c.in_ok-staged.staged.frame.items c.append_durably.new.log rep listed c.in_ok-staged.ensures.frame c.append_durably.ensures.number c.in_ok-append_durably.ensures.longer c.in_ok-staged.ensures.fits in
-    subst (λ o. Gives (Number last) (record { alloc = r.alloc; last = last; log = c.append_durably.new.log; memtable = new; in_use = o }) (Number (last_number s.history + 1), after_commit s name writes)) (sym c.take.ensures.after)
+    subst (λ o. IsOutcome (Number last) (record { alloc = r.alloc; last = last; log = c.append_durably.new.log; memtable = new; in_use = o }) (Number (last_number s.history + 1), after_commit s name writes)) (sym c.take.ensures.after)
     (gives_commit r s name writes c.append_durably.new.log new rep there log_is takes)
 
 pub returns-clause-carries : goal.returns-clause-carries
