@@ -1,4 +1,4 @@
--- What an opening gives, whether it was refused or not.
+-- What an opening gives, where a store was opened and where not.
 use Rattle.std.specs.Prelude.{Option, Some, None, Result, Ok, Err}
 use Rattle.vl_journal.specs.declared.fails.OpenFail.{OpenFail as Why}
 use Rattle.vl_journal.specs.declared.fails.OpenFail.TheVariants as why
@@ -11,7 +11,7 @@ abbrev pub disk_of : {R D : Type 0} → (R → D) → Result R (OpenFail D) → 
 disk_of in_store (Ok replayer) = in_store replayer
 disk_of in_store (Err fail) = fail.disk
 
--- why it was refused
+-- why none was opened
 abbrev pub why_of : {R D : Type 0} → Result R (OpenFail D) → Option Why
 why_of (Ok replayer) = None
 why_of (Err fail) = Some fail.why

@@ -30,7 +30,7 @@ use Rattle.vl_txn.specs.declared.set_fail.SetFail.TheVariants.{EmptyKey, KeyTooL
 abbrev pub IsReadable : History → ℕ → Type 0
 IsReadable h number = (h.first ≤ number) × (number ≤ last_number h)
 
--- the entries show the history: at each of its numbers they leave of each key what it has there
+-- the entries of a memtable show a history: at each of its numbers they leave of each key what it has there
 pub record ShowsHistory (entries : List Entry) (h : History) : Type 0 where
   pub values : (number : ℕ) (key : List ℕ) → IsReadable h number
       → value_left None (newest entries key number) ≡ value_at h number key
@@ -55,7 +55,7 @@ pub record Represents (r : Store) (s : State) : Type 0 where
   pub shows : ShowsHistory r.memtable.entries.items s.history
   pub in_use : IsOpen s.history r.in_use s.handles
 
--- the answer of an outcome, from a replayer that stands for its state
+-- this answer, and the state that the store stands for after it, are the outcome
 pub record IsOutcome (answer : Answer) (after : Store) (outcome : Outcome) : Type 0 where
   pub answer_is : answer ≡ outcome.0
   pub stands : Represents after outcome.1

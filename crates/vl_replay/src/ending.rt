@@ -21,7 +21,7 @@ pub enum Ending {
     BadWords,
     /// Status 3: the disk failed.
     DiskFault,
-    /// Status 4: something stands on the disk that is no store.
+    /// Status 4: something stands on the disk. For now that may also be a store.
     NotAStore,
     /// Status 5: memory ran out.
     NoMemory,

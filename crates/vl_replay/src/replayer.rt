@@ -57,8 +57,8 @@ impl<D: Disk> Replayer<D> {
         ensures tells { (state : DiskState) → D.told disk ≡ Some state
             → Tells D.Watched (disk_of (λ replayer. replayer.disk) result) (λ _. Unit {0}) }
 
-        // It isn't opened where anything stands, and is refused as no store only there. Then, and where memory ran out,
-        // nothing was changed.
+        // It isn't opened where anything stands, also a store, and is refused as no store only there. Then, and where
+        // memory ran out, nothing was changed.
         ensures not_a_store { why_of result ≡ Some why.NotAStore
             → ForSome (D.told disk) HasSomeFile }
         ensures occupied { (state : DiskState) → D.told disk ≡ Some state → HasSomeFile state
@@ -77,8 +77,8 @@ impl<D: Disk> Replayer<D> {
         }
     }
 
-    /// Answers a line. Want of memory leaves the store and the disk's bytes as they were, and so does a fault of the disk
-    /// the store. After such a fault the disk may hold less or more than the store, and no further line is to be answered.
+    /// Answers a line. Want of memory leaves the store and the disk's bytes as they were. A fault of the disk leaves the
+    /// store as it was. After such a fault the disk may hold less or more than the store, and no further line is to be answered.
     pub fn line(&mut self, line: Line) -> Result<Answer, Halt>
         ensures answer { (s : State) → Represents self.old.store s
             → IfOk result (λ answer. answer ≡ answer_to s line) }
