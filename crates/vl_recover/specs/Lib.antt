@@ -11,3 +11,4 @@ pub mod OpeningLaws
 pub mod StageLaws
 pub mod AlikeLaws
 pub mod HeldLaws
+pub mod TornLaws
