@@ -17,7 +17,7 @@ use Rattle.vl_seglog.specs.LogReading.{LogReading, ReadsLog}
 use Rattle.vl_seglog.specs.LogReadingLaws.{one_log_reading}
 use Rattle.vl_recover.specs.Opening.{Bare, Current, Headless, Heading, IsBare, IsHeaded, IsNextLog, Led, LogsFrom, Newest, NewerFormat, NotAStore, Opening, Opens, Refusal, Says, StandingLogs}
 use Rattle.vl_recover.specs.OpeningLaws.{IsOpened, OpensBy, one_heading, opened, opens_by, some_none, some_same}
-use Rattle.vl_recover.specs.StageLaws.{then_kept}
+use Rattle.vl_recover.specs.StageLaws.{ok_with, then_kept}
 use Rattle.vl_recover.specs.Stages.{on_ok}
 use Rattle.vl_recover.specs.Walk.{LogDamage, StandingLog, counted, counted_whole, filled, in_log, walked, with_frames}
 
@@ -74,11 +74,8 @@ like_by image other by o opens =
 
 -- ---- what leads
 
-log_manifest : (m n : ℕ) → Log m ≡ Manifest n → ⊥
+pub log_manifest : (m n : ℕ) → Log m ≡ Manifest n → ⊥
 log_manifest m n e = cc
-
-table_manifest : (m n : ℕ) → Table m ≡ Manifest n → ⊥
-table_manifest m n e = cc
 
 pub manifest_same : (m n : ℕ) → Manifest m ≡ Manifest n → m ≡ n
 manifest_same m n e = cc
@@ -196,14 +193,6 @@ walk_more k n number log r frames empty header whole e =
     stays (Ok m) = refl
     stays (Err damage) = refl
 
-then_ok : (f g : ℕ → Result ℕ LogDamage) → ((m number : ℕ) → f m ≡ Ok number → g m ≡ Ok number)
-    → (r : Result ℕ LogDamage) (number : ℕ) → on_ok f r ≡ Ok number → on_ok g r ≡ Ok number
-then_ok f g same (Ok m) number e = same m number e
-then_ok f g same (Err damage) number e = absurd (err_ok damage number e)
-  where
-    err_ok : (a : LogDamage) (b : ℕ) → ◌≡◌ {A = Result ℕ LogDamage} (Err a) (Ok b) → ⊥
-    err_ok a b e = cc
-
 -- a log with its length and reading, from its bytes
 abbrev pub standing_log : ℕ → List ℕ → LogReading → StandingLog
 standing_log number bytes reading = record { number = number; length = length bytes; reading = reading }
@@ -280,8 +269,8 @@ module _ (image other : Image) where
     behind = rest.first ∷ rest.behind;
     standing = (next_kept least q same next, rest.standing);
     logs = ap (with_frames q.number q.reading.frames) rest.logs;
-    walk = λ n number e. then_ok (λ m. walked m (p ∷ ps)) (λ m. walked m (rest.first ∷ rest.behind))
-        rest.walk (in_log q.number (counted_whole n q.reading)) number e;
+    walk = λ n number e. ok_with (λ m. walked m (p ∷ ps)) (λ m. walked m (rest.first ∷ rest.behind)) number number
+        (λ m. rest.walk m number) (in_log q.number (counted_whole n q.reading)) e;
   }
 
   module _ (k : ℕ) (same : SameBut (Log k) image other) (none_above : NoLogAbove k other) where

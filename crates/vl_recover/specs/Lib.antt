@@ -12,3 +12,4 @@ pub mod StageLaws
 pub mod AlikeLaws
 pub mod HeldLaws
 pub mod TornLaws
+pub mod AppendLaws
