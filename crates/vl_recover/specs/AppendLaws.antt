@@ -3,9 +3,9 @@ use Rattle.std.specs.Prelude.{◌≡◌, ◌≢◌, ◌⊎◌, ◌≤◌, ◌<�
 use Rattle.std.specs.FinMap.{get}
 use Rattle.std.specs.List.{AllByRecursion, sum_by}
 use Rattle.std.specs.Option.{option_map}
-use Rattle.std.proofs.Common.{sym, ap, subst, ◌∙◌, arith, inl, inr, ⊎_elim}
+use Rattle.std.proofs.Common.{sym, ap, subst, ◌∙◌, append_assoc, arith, inl, inr, ⊎_elim}
 use Rattle.std.proofs.lemmas.Bool.{true≢false}
-use Rattle.std.proofs.lemmas.List.{map-append, take_all}
+use Rattle.std.proofs.lemmas.List.{map-append, take_all, take_at}
 use Rattle.std.proofs.lemmas.List.Sums.{sum_by-cons}
 use Rattle.vl_disk.specs.Changes.{SameElsewhere, changed_elsewhere, changed_there}
 use Rattle.vl_disk.specs.Chance.{NoChanceOne, none_by_chance}
@@ -15,7 +15,7 @@ use Rattle.vl_disk.specs.Lawful.{appended_lawful, synced_lawful}
 use Rattle.vl_disk.specs.NameMap.{same_or_other}
 use Rattle.vl_disk.specs.declared.name.Name.{Name}
 use Rattle.vl_disk.specs.declared.name.Name.TheVariants.{Log, Manifest}
-use Rattle.vl_frame.specs.Runs.{HasFrame}
+use Rattle.vl_frame.specs.Runs.{HasFrame, run_bytes}
 use Rattle.vl_layout.specs.Logs.{log_length, new_segment}
 use Rattle.vl_layout.specs.declared.segment.Segment.{Segment}
 use Rattle.vl_manifest.specs.declared.state.ManifestState.{ManifestState}
@@ -32,9 +32,9 @@ use Rattle.vl_recover.specs.Starts.{MayOpen}
 use Rattle.vl_recover.specs.Stages.{on_ok}
 use Rattle.vl_recover.specs.TornLaws.{due_as_read, frame_behind, torn_log, torn_says}
 use Rattle.vl_recover.specs.Walk.{LogDamage, StandingLog, counted, counted_frame, counted_whole, filled, in_log, walked, walked_on, with_frames}
-use Rattle.vl_seglog.specs.FrameLaws.{log_bytes-more}
-use Rattle.vl_seglog.specs.Frames.{frames_grammar, log_bytes}
-use Rattle.vl_seglog.specs.LogReading.{LogReading, ReadsLog}
+use Rattle.vl_seglog.specs.FrameLaws.{length-log_header, log_bytes-more}
+use Rattle.vl_seglog.specs.Frames.{frames_grammar, log_bytes, log_header}
+use Rattle.vl_seglog.specs.LogReading.{HasHeader, LogReading, ReadsLog}
 use Rattle.vl_seglog.specs.LogReadingLaws.{SaysFrames, reads_written}
 
 -- ---- what is the same under the other names
@@ -353,4 +353,91 @@ module _ (state : ManifestState) (before : List Segment) (last : Segment) (f : L
         (λ (synced_now : now ≡ durable).
         inr (held_opens state (before ++ with_frame f last ∷ []) next durable append_holds goes_too image
         (subst (λ (d : DiskState). MayLeave d image) synced_now left.left)))
+        during
+
+  -- ---- the same disk is opened again
+
+  module _ (lawful : IsLawful disk) (all : AllSettled disk) where
+    -- the header of the log stands, so that none is wrong
+    torn_headed : (taken : ℕ) → HasHeader last.number (torn_log last.number last.frames f taken).bytes
+    torn_headed taken =
+        let run = run_bytes frames_grammar last.number 16 last.frames in
+        let part = take taken frame in
+        ap (take 16) (append_assoc (log_header last.number) run part)
+        ∙ take_at (log_header last.number) (run ++ part) 16 (length-log_header last.number)
+
+    torn_may_stand : (taken : ℕ) → MayStand name (torn_log last.number last.frames f taken)
+    torn_may_stand taken = record {
+      no_chance = λ grows torn_now. due_as_read last.number last.frames f has taken;
+      headless = λ m reading is reads wrong.
+          let headed = subst (λ (k : ℕ). HasHeader k file.bytes) (log_same last.number m is) (torn_headed taken) in
+          absurd (true≢false (sym (reads.header.1 headed) ∙ wrong));
+    }
+      where
+        file : File
+        file = torn_log last.number last.frames f taken
+
+    -- a file under another name is as it was
+    other_settled : (now : DiskState) → SameElsewhere name disk now → (q : Name) (file : File) → q ≢ name
+        → get now.standing q ≡ Some file → file ≡ settled file.bytes
+    other_settled now elsewhere q file apart stands = all q file (sym (elsewhere.standing q apart) ∙ stands)
+
+    torn_all_stand : (taken : ℕ) → AllMayStand (torn taken)
+    torn_all_stand taken q file stands = ⊎_elim
+        (λ (same : q ≡ name).
+        let is : torn_log last.number last.frames f taken ≡ file =
+        some_same (torn_log last.number last.frames f taken) file
+        (sym (torn_there taken) ∙ ap (get (torn taken).standing) (sym same) ∙ stands) in
+        subst (λ (n : Name). MayStand n file) (sym same) (subst (MayStand name) is (torn_may_stand taken)))
+        (λ (apart : q ≢ name).
+        subst (MayStand q) (sym (other_settled (torn taken) (torn_elsewhere taken) q file apart stands)) (settled_may_stand q file.bytes))
+        (same_or_other q name)
+
+    torn_sealed : (taken : ℕ) → AreSealed state.head (torn taken)
+    torn_sealed taken m k file from less there stands = ⊎_elim
+        (λ (same : Log m ≡ name).
+        let at : m ≡ last.number = log_same m last.number same in
+        let above = here.above k (omega (arith, less, at)) in
+        let gone = nowhere_kept name disk (torn taken) (torn_elsewhere taken) (Log k)
+        (other_log k last.number (λ e. omega (arith, less, at, e))) above in
+        absurd (there gone.free))
+        (λ (apart : Log m ≢ name).
+        let is = other_settled (torn taken) (torn_elsewhere taken) (Log m) file apart stands in
+        (ap (λ (x : File). x.wholly_synced) is, ap (λ (x : File). x.lasting) is))
+        (same_or_other (Log m) name)
+
+    torn_may_open : (taken : ℕ) → MayOpen (torn taken)
+    torn_may_open taken =
+        may_open_by state (torn taken) (appended_lawful disk lawful name frame taken)
+        (manifest_kept last.number state disk (torn taken) (torn_elsewhere taken) holds.manifest)
+        (none_removed state.head (before ++ last ∷ []) disk lawful holds.logs_are) (torn_all_stand taken) (torn_sealed taken)
+
+    -- The frame is durable, and so are the other files.
+    pub durable_settled : AllSettled durable
+    durable_settled q file stands = ⊎_elim
+        (λ (same : q ≡ name).
+        let bytes = log_bytes last.number (last.frames ++ f ∷ []) in
+        let is : settled bytes ≡ file = some_same (settled bytes) file
+        (sym durable_there ∙ ap (get durable.standing) (sym same) ∙ stands) in
+        sym is ∙ ap (λ (x : File). settled x.bytes) is)
+        (λ (apart : q ≢ name). other_settled durable durable_elsewhere q file apart stands)
+        (same_or_other q name)
+
+    -- Where the append failed, a store may be opened on the same disk again,
+    pub append_may_open : (now : DiskState) → WhileAppending name frame disk now → MayOpen now
+    append_may_open now during = ⊎_elim
+        (λ (same : now ≡ disk).
+        subst MayOpen (sym same) (held_may_open state (before ++ last ∷ []) disk lawful holds all))
+        (λ (part : (taken : ℕ) × (taken ≤ length frame) × (now ≡ torn taken)).
+        subst MayOpen (sym part.2) (torn_may_open part.0))
+        during
+
+    -- and so it may where the sync failed, or neither did.
+    pub sync_may_open : (now : DiskState) → WhileSyncing name (torn (length frame)) now → MayOpen now
+    sync_may_open now during = ⊎_elim
+        (λ (same : now ≡ torn (length frame)). subst MayOpen (sym same) (torn_may_open (length frame)))
+        (λ (synced_now : now ≡ durable). subst MayOpen (sym synced_now)
+        (held_may_open state (before ++ with_frame f last ∷ []) durable
+        (synced_lawful (torn (length frame)) (appended_lawful disk lawful name frame (length frame)) name)
+        append_holds durable_settled))
         during
