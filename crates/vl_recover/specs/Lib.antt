@@ -13,3 +13,4 @@ pub mod AlikeLaws
 pub mod HeldLaws
 pub mod TornLaws
 pub mod AppendLaws
+pub mod Rows
