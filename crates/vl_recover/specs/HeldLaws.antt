@@ -19,7 +19,7 @@ use Rattle.vl_manifest.specs.ManifestLaws.{says_readable}
 use Rattle.vl_manifest.specs.declared.state.ManifestState.{ManifestState}
 use Rattle.vl_recover.specs.Alike.{IsLeft, SameState, Spells}
 use Rattle.vl_recover.specs.AlikeLaws.{same_state, standing_log}
-use Rattle.vl_recover.specs.Held.{HoldsLogs, HoldsManifest, HoldsStore, IsNowhere, IsSettled}
+use Rattle.vl_recover.specs.Held.{AllSettled, HoldsLogs, HoldsManifest, HoldsStore, IsNowhere, IsSettled}
 use Rattle.vl_recover.specs.Opening.{Led, Opening, Opens, Refusal, Says, StandingLogs}
 use Rattle.vl_recover.specs.OpeningLaws.{IsOpened, OpensBy, opened, opens_by, single_opening, single_says, one_heading, some_none, some_same}
 use Rattle.vl_recover.specs.StageLaws.{ok_same}
@@ -219,10 +219,6 @@ may_open_by state disk lawful holds never may_stand sealed = record {
         (cases_lt holds.number m))))
         either
 
--- each file that stands is as a sync leaves it
-abbrev pub AllSettled : DiskState → Type 0
-AllSettled disk = (name : Name) (file : File) → get disk.standing name ≡ Some file → file ≡ settled file.bytes
-
 pub settled_may_all_stand : (disk : DiskState) → AllSettled disk → AllMayStand disk
 settled_may_all_stand disk all name file stands =
     subst (MayStand name) (sym (all name file stands)) (settled_may_stand name file.bytes)
@@ -232,12 +228,12 @@ settled_sealed least disk all m k file from less there stands =
     let is = all (Log m) file stands in
     (ap (λ (f : File). f.wholly_synced) is, ap (λ (f : File). f.lasting) is)
 
--- A store that is held may be opened again where all files are durable.
+-- A store that is held may be opened again.
 pub held_may_open : (state : ManifestState) (logs : List Segment) (disk : DiskState) → IsLawful disk
-    → HoldsStore state logs disk → AllSettled disk → MayOpen disk
-held_may_open state logs disk lawful holds all =
+    → HoldsStore state logs disk → MayOpen disk
+held_may_open state logs disk lawful holds =
     may_open_by state disk lawful holds.manifest (none_removed state.head logs disk lawful holds.logs_are)
-    (settled_may_all_stand disk all) (settled_sealed state.head disk all)
+    (settled_may_all_stand disk holds.durable) (settled_sealed state.head disk holds.durable)
 
 -- ---- a disk that was just started
 
