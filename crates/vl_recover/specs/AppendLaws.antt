@@ -1,10 +1,11 @@
 -- A held store whose last log takes one frame more: what a crash leaves meanwhile, and what the disk holds then.
-use Rattle.std.specs.Prelude.{◌≡◌, ◌≢◌, ◌⊎◌, ◌≤◌, ◌<◌, ℕ, ◌+◌, ◌==◌, List, [], ◌∷◌, ◌++◌, length, map, take, Option, None, Some, Result, Ok, Err, All, refl, true, false, if◌then◌else◌}
+use Rattle.std.specs.Prelude.{Bool, ◌≡◌, ◌≢◌, ◌⊎◌, ◌≤◌, ◌<◌, ℕ, ◌+◌, ◌==◌, List, [], ◌∷◌, ◌++◌, length, map, take, Option, None, Some, Result, Ok, Err, All, refl, true, false, if◌then◌else◌}
 use Rattle.std.specs.FinMap.{get}
 use Rattle.std.specs.List.{AllByRecursion, sum_by}
 use Rattle.std.specs.Option.{option_map}
 use Rattle.std.proofs.Common.{sym, ap, subst, ◌∙◌, append_assoc, arith, inl, inr, ⊎_elim}
 use Rattle.std.proofs.lemmas.Bool.{true≢false}
+use Rattle.std.proofs.lemmas.Bool.Decides.{nat_tests}
 use Rattle.std.proofs.lemmas.List.{map-append, take_all, take_at}
 use Rattle.std.proofs.lemmas.List.Sums.{sum_by-cons}
 use Rattle.vl_disk.specs.Changes.{SameElsewhere, changed_elsewhere, changed_there}
@@ -20,11 +21,13 @@ use Rattle.vl_layout.specs.Logs.{log_length, new_segment}
 use Rattle.vl_layout.specs.declared.segment.Segment.{Segment}
 use Rattle.vl_manifest.specs.declared.state.ManifestState.{ManifestState}
 use Rattle.vl_model.specs.Frames.{frame_length}
+use Rattle.vl_model.specs.declared.change.Change.{Change}
 use Rattle.vl_model.specs.declared.log_frame.LogFrame.{LogFrame}
+use Rattle.vl_model.specs.declared.log_frame.LogFrame.TheVariants.{Committed}
 use Rattle.vl_recover.specs.Alike.{IsLeft, Spells}
 use Rattle.vl_recover.specs.AlikeLaws.{log_manifest, log_same, standing_log}
-use Rattle.vl_recover.specs.Held.{HoldsLogs, HoldsManifest, HoldsStore, IsNowhere, IsSettled}
-use Rattle.vl_recover.specs.HeldLaws.{AllMayStand, AllSettled, AreSealed, GoOn, MayStand, held_current, held_may_open, held_opens, held_says, left_nowhere, left_settled, log_as_held, may_open_by, none_removed, opening_held, settled_may_stand}
+use Rattle.vl_recover.specs.Held.{AllSettled, HoldsLogs, HoldsManifest, HoldsStore, IsNowhere, IsSettled}
+use Rattle.vl_recover.specs.HeldLaws.{AllMayStand, AreSealed, GoOn, MayStand, held_current, held_may_open, held_opens, held_says, left_nowhere, left_settled, log_as_held, may_open_by, none_removed, opening_held, settled_may_stand}
 use Rattle.vl_recover.specs.Opening.{Led, Opens, StandingLogs}
 use Rattle.vl_recover.specs.OpeningLaws.{opens_by, some_none, some_same}
 use Rattle.vl_recover.specs.StageLaws.{err_ok, ok_same, ok_with}
@@ -159,6 +162,12 @@ counted_more n place (g ∷ fs) f m next e one =
     (λ k is. counted_more k after fs f m next is (subst (λ (p : ℕ). counted_frame m p f ≡ Ok next) there one))
     (counted_frame n place g) e
 
+-- a commit with the next number goes on
+pub commit_counts : (n place : ℕ) (writes : List (List ℕ × Change)) → counted_frame n place (Committed (n + 1) writes) ≡ Ok (n + 1)
+commit_counts n place writes =
+    let same : (n + 1 == n + 1) ≡ true = grind (arith, nat_tests) in
+    ap (λ (b : Bool). if b then Ok (n + 1) else Err place) same
+
 -- logs go on with the last of them
 pub walked_with : (a b : StandingLog) (number next : ℕ)
     → ((m : ℕ) → in_log a.number (counted m 16 a.reading.frames) ≡ Ok number → in_log b.number (counted m 16 b.reading.frames) ≡ Ok next)
@@ -258,12 +267,29 @@ module _ (state : ManifestState) (before : List Segment) (last : Segment) (f : L
   durable_elsewhere = elsewhere_then name disk (torn (length frame)) durable (torn_elsewhere (length frame))
       (changed_elsewhere name (torn (length frame)) synced_file)
 
+  -- a file under another name is as it was
+  other_settled : (now : DiskState) → SameElsewhere name disk now → (q : Name) (file : File) → q ≢ name
+      → get now.standing q ≡ Some file → file ≡ settled file.bytes
+  other_settled now elsewhere q file apart stands = holds.durable q file (sym (elsewhere.standing q apart) ∙ stands)
+
+  -- the frame is durable, and so are the other files
+  durable_settled : AllSettled durable
+  durable_settled q file stands = ⊎_elim
+      (λ (same : q ≡ name).
+      let bytes = log_bytes last.number (last.frames ++ f ∷ []) in
+      let is : settled bytes ≡ file = some_same (settled bytes) file
+      (sym durable_there ∙ ap (get durable.standing) (sym same) ∙ stands) in
+      sym is ∙ ap (λ (x : File). settled x.bytes) is)
+      (λ (apart : q ≢ name). other_settled durable durable_elsewhere q file apart stands)
+      (same_or_other q name)
+
   -- After both calls the disk holds the store with the frame.
   pub append_holds : HoldsStore state (before ++ with_frame f last ∷ []) durable
   append_holds = record {
     manifest = manifest_kept last.number state disk durable durable_elsewhere holds.manifest;
     logs_are = logs_with state.head before last (with_frame f last) disk durable refl durable_elsewhere
         (have_more last.frames f here.have has) durable_there holds.logs_are;
+    durable = durable_settled;
   }
 
   -- a log of some bytes is left, which say the frames before, or these and the new one
@@ -357,7 +383,7 @@ module _ (state : ManifestState) (before : List Segment) (last : Segment) (f : L
 
   -- ---- the same disk is opened again
 
-  module _ (lawful : IsLawful disk) (all : AllSettled disk) where
+  module _ (lawful : IsLawful disk) where
     -- the header of the log stands, so that none is wrong
     torn_headed : (taken : ℕ) → HasHeader last.number (torn_log last.number last.frames f taken).bytes
     torn_headed taken =
@@ -376,11 +402,6 @@ module _ (state : ManifestState) (before : List Segment) (last : Segment) (f : L
       where
         file : File
         file = torn_log last.number last.frames f taken
-
-    -- a file under another name is as it was
-    other_settled : (now : DiskState) → SameElsewhere name disk now → (q : Name) (file : File) → q ≢ name
-        → get now.standing q ≡ Some file → file ≡ settled file.bytes
-    other_settled now elsewhere q file apart stands = all q file (sym (elsewhere.standing q apart) ∙ stands)
 
     torn_all_stand : (taken : ℕ) → AllMayStand (torn taken)
     torn_all_stand taken q file stands = ⊎_elim
@@ -412,22 +433,11 @@ module _ (state : ManifestState) (before : List Segment) (last : Segment) (f : L
         (manifest_kept last.number state disk (torn taken) (torn_elsewhere taken) holds.manifest)
         (none_removed state.head (before ++ last ∷ []) disk lawful holds.logs_are) (torn_all_stand taken) (torn_sealed taken)
 
-    -- The frame is durable, and so are the other files.
-    pub durable_settled : AllSettled durable
-    durable_settled q file stands = ⊎_elim
-        (λ (same : q ≡ name).
-        let bytes = log_bytes last.number (last.frames ++ f ∷ []) in
-        let is : settled bytes ≡ file = some_same (settled bytes) file
-        (sym durable_there ∙ ap (get durable.standing) (sym same) ∙ stands) in
-        sym is ∙ ap (λ (x : File). settled x.bytes) is)
-        (λ (apart : q ≢ name). other_settled durable durable_elsewhere q file apart stands)
-        (same_or_other q name)
-
     -- Where the append failed, a store may be opened on the same disk again,
     pub append_may_open : (now : DiskState) → WhileAppending name frame disk now → MayOpen now
     append_may_open now during = ⊎_elim
         (λ (same : now ≡ disk).
-        subst MayOpen (sym same) (held_may_open state (before ++ last ∷ []) disk lawful holds all))
+        subst MayOpen (sym same) (held_may_open state (before ++ last ∷ []) disk lawful holds))
         (λ (part : (taken : ℕ) × (taken ≤ length frame) × (now ≡ torn taken)).
         subst MayOpen (sym part.2) (torn_may_open part.0))
         during
@@ -439,5 +449,5 @@ module _ (state : ManifestState) (before : List Segment) (last : Segment) (f : L
         (λ (synced_now : now ≡ durable). subst MayOpen (sym synced_now)
         (held_may_open state (before ++ with_frame f last ∷ []) durable
         (synced_lawful (torn (length frame)) (appended_lawful disk lawful name frame (length frame)) name)
-        append_holds durable_settled))
+        append_holds))
         during
