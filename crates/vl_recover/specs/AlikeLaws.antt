@@ -167,7 +167,7 @@ module _ (image other : Image) where
 -- ---- logs
 
 -- a log that is whole gives what its frames give
-whole_log : (n : ℕ) (r : LogReading) → r.header ≡ true → r.whole ≡ true
+pub whole_log : (n : ℕ) (r : LogReading) → r.header ≡ true → r.whole ≡ true
     → counted_whole n r ≡ counted n 16 r.frames
 whole_log n r header whole =
     ap (λ (b : Bool). if b
@@ -181,7 +181,7 @@ whole_log n r header whole =
     stays (Err place) = refl
 
 -- a log without frames behind a whole one gives no more
-walk_more : (k n number log : ℕ) (r : LogReading) (frames : List LogFrame) → frames ≡ []
+pub walk_more : (k n number log : ℕ) (r : LogReading) (frames : List LogFrame) → frames ≡ []
     → r.header ≡ true → r.whole ≡ true → in_log log (counted n 16 r.frames) ≡ Ok number
     → on_ok (λ m. in_log k (counted m 16 frames)) (in_log log (counted_whole n r)) ≡ Ok number
 walk_more k n number log r frames empty header whole e =

@@ -14,3 +14,5 @@ pub mod HeldLaws
 pub mod TornLaws
 pub mod AppendLaws
 pub mod Rows
+pub mod ReadImage
+pub mod RecoveredLaws
