@@ -1,6 +1,6 @@
 pub mod Bodies
 pub mod Framing
-pub mod Heads
+pub mod Headless
 pub mod Moving
 pub mod Options
 pub mod Order

@@ -55,11 +55,7 @@ pub fn read_log(alloc: Global, bytes: &[u8], number: u32) -> Result<LogRead, All
 }
 
 // The frames that these bytes begin with, which stand behind the header, and where they end in the file.
-fn read_frames(
-    alloc: Global,
-    bytes: &[u8],
-    number: u32,
-) -> Result<(Vec<Frame>, u64), AllocError>
+fn read_frames(alloc: Global, bytes: &[u8], number: u32) -> Result<(Vec<Frame>, u64), AllocError>
     ensures frames { IfOk result (λ r. ReadsAs frames_grammar number 16 bytes.now (map frame_of r.0.items)) }
     ensures end { IfOk result (λ r. r.1 ≡ frames_end (map frame_of r.0.items)) }
 {

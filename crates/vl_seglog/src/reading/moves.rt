@@ -33,11 +33,7 @@ pub fn read_moves(alloc: Global, body: &[u8]) -> Result<Option<Vec<Moved>>, Allo
 }
 
 // The moved records that these bytes are, so many, one behind the other.
-fn read_all_moved(
-    alloc: Global,
-    count: u32,
-    bytes: &[u8],
-) -> Result<Option<Vec<Moved>>, AllocError>
+fn read_all_moved(alloc: Global, count: u32, bytes: &[u8]) -> Result<Option<Vec<Moved>>, AllocError>
     ensures found { IfOk result (λ read. IfSome read (λ v. IsSeries moves_spelling bytes.now count v.items)) }
     ensures none { IfOk result (λ read. IfNone read
         ((records : List Moved) → IsSeries moves_spelling bytes.now count records → ⊥)) }
