@@ -12,14 +12,12 @@ pub record IsStagedFor (log : ActiveLog) (staged : Staged) : Type 0 where
   pub number : staged.log ≡ log.number
   pub place : staged.place ≡ log.length
 
--- It is the frame f, staged for this place of the log with this number.
+-- It is the frame f as it is spelled for this place of the log with this number.
 pub record IsStaged (number place : ℕ) (f : LogFrame) (staged : Staged) : Type 0 where
-  pub log : staged.log ≡ number
-  pub at : staged.place ≡ place
   pub frame : staged.frame.items ≡ frame_at number place f
   -- one pointer for each record, to where the record lies then
   pub pointers : staged.pointers.items ≡ frame_pointers number place f
   pub has : HasFrame frames_grammar f
   pub short : length staged.frame.items < 2 ^ 32
-  -- the log doesn't reach 2^64 bytes
+  -- the log stays below 2^64 bytes
   pub fits : place + length staged.frame.items < 2 ^ 64

@@ -1,7 +1,7 @@
 ghost use Rattle.std.specs.Prelude.{◌≡◌, ◌+◌, ◌-◌, ◌<◌, ◌^◌, length, min, IfOk, OnErr, OnOk};
 ghost use Rattle.std.specs.Option.{ForSome};
 ghost use Rattle.vl_disk.specs.declared.name.Name.TheVariants as names;
-ghost use Rattle.vl_disk.specs.Calls.{Appends, Looks, Syncs};
+ghost use Rattle.vl_disk.specs.Calls.{Appends, ChangesNothing, Syncs};
 ghost use Rattle.vl_disk.specs.Disk.{Stands};
 ghost use Rattle.vl_disk.specs.Spare.{CanAppend, SameSpare, SameSpareElsewhere};
 ghost use Rattle.vl_model.specs.declared.log_frame.LogFrame.TheVariants.{Committed, Relocated};
@@ -15,7 +15,7 @@ use std::alloc::Global;
 use vl_disk::{Disk, Failed, Name, NoMemory};
 use vl_model::{Change, Key, Moved};
 
-/// The log that commits are appended to. Its file is made, and opened, by others.
+/// The log that frames are appended to. Its file is made, and opened, by others.
 #[derive(Debug, Drop)]
 pub struct ActiveLog {
     /// Of its file, which is the segment of its records' pointers too.
@@ -47,12 +47,12 @@ impl ActiveLog {
     ) -> Result<Staged, NoMemory>
         requires { IsFrame (Committed number writes.now) }
         ensures staged { IfOk result (IsStaged self.now.number self.now.length (Committed number writes.now)) }
-        ensures bound { IfOk result (IsStagedFor self.now) }
+        ensures staged_for { IfOk result (IsStagedFor self.now) }
         ensures room { IfOk result (λ staged.
             CanAppend (length staged.frame.items) (D.spare disk.new (names.Log self.now.number))) }
         ensures elsewhere { SameSpareElsewhere (names.Log self.now.number) (D.spare disk.old) (D.spare disk.new) }
         ensures refused { OnErr result (SameSpare (D.spare disk.old) (D.spare disk.new)) }
-        ensures looks { Looks D.Watched disk.old disk.new ⊥ }
+        ensures no_change { ChangesNothing D.Watched disk.old disk.new ⊥ }
 
         // These say nothing new, and go when vl_journal does.
         ensures frame { IfOk result (λ staged. staged.frame.items ≡
@@ -74,12 +74,12 @@ impl ActiveLog {
     ) -> Result<Staged, NoMemory>
         requires { IsFrame (Relocated records.now) }
         ensures staged { IfOk result (IsStaged self.now.number self.now.length (Relocated records.now)) }
-        ensures bound { IfOk result (IsStagedFor self.now) }
+        ensures staged_for { IfOk result (IsStagedFor self.now) }
         ensures room { IfOk result (λ staged.
             CanAppend (length staged.frame.items) (D.spare disk.new (names.Log self.now.number))) }
         ensures elsewhere { SameSpareElsewhere (names.Log self.now.number) (D.spare disk.old) (D.spare disk.new) }
         ensures refused { OnErr result (SameSpare (D.spare disk.old) (D.spare disk.new)) }
-        ensures looks { Looks D.Watched disk.old disk.new ⊥ }
+        ensures no_change { ChangesNothing D.Watched disk.old disk.new ⊥ }
     {
         let staged = staged_move(alloc, self.number, self.length, records)?;
         disk.ready(Name::Log(self.number), staged.frame.len() as u64)?;
@@ -89,7 +89,7 @@ impl ActiveLog {
     /// Hands a frame that was staged for this log's end to the disk, which isn't durable before `sync`. If it fails, the
     /// file has taken some first bytes of it, and the log is not to be appended to any more.
     pub fn append<D: Disk>(&mut self, disk: &mut D, staged: &Staged) -> Result<(), Failed>
-        requires bound { IsStagedFor self.old staged.now }
+        requires staged_for { IsStagedFor self.old staged.now }
         requires stands { ForSome (D.told disk.old) (Stands (names.Log self.old.number)) }
         requires room { CanAppend (length staged.now.frame.items) (D.spare disk.old (names.Log self.old.number)) }
         ensures appended { Appends D.Watched (names.Log self.old.number) staged.now.frame.items disk.old disk.new result }
@@ -104,7 +104,7 @@ impl ActiveLog {
 
     /// The same. It goes with vl_journal.
     pub fn append_commit<D: Disk>(&mut self, disk: &mut D, staged: &Staged) -> Result<(), Failed>
-        requires bound { IsStagedFor self.old staged.now }
+        requires staged_for { IsStagedFor self.old staged.now }
         requires stands { ForSome (D.told disk.old) (Stands (names.Log self.old.number)) }
         requires room { CanAppend (length staged.now.frame.items) (D.spare disk.old (names.Log self.old.number)) }
         ensures appended { Appends D.Watched (names.Log self.old.number) staged.now.frame.items disk.old disk.new result }

@@ -44,7 +44,8 @@ pub fn staged_commit(
     writes: &[(Key, Change)],
 ) -> Result<Staged, AllocError>
     requires { IsFrame (Committed number writes.now) }
-    ensures { IfOk result (IsStaged log place (Committed number writes.now)) }
+    ensures staged { IfOk result (IsStaged log place (Committed number writes.now)) }
+    ensures staged_for { IfOk result (λ s. (s.log ≡ log) × (s.place ≡ place)) }
 {
     let mut frame = Vec::new(alloc);
     write_commit(alloc, &mut frame, log, place, number, writes)?;
@@ -68,7 +69,8 @@ pub fn staged_move(
     records: &[Moved],
 ) -> Result<Staged, AllocError>
     requires { IsFrame (Relocated records.now) }
-    ensures { IfOk result (IsStaged log place (Relocated records.now)) }
+    ensures staged { IfOk result (IsStaged log place (Relocated records.now)) }
+    ensures staged_for { IfOk result (λ s. (s.log ≡ log) × (s.place ≡ place)) }
 {
     let mut frame = Vec::new(alloc);
     write_move(alloc, &mut frame, log, place, records)?;
