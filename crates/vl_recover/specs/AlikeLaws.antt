@@ -318,7 +318,8 @@ module _ (image other : Image) where
         let not_less : k < q.number → ⊥ =
         λ less. some_none both.was (sym both.stood ∙ next.between k from less) in
         let not_here : k ≡ q.number → ⊥ =
-        λ e. (let up = after.from in some_none after.bytes (sym after.stands ∙ none_above p.number (omega (arith, e, up)))) in
+        λ e. (let up = after.from in some_none after.bytes
+        (sym after.stands ∙ none_above p.number (omega (arith, e, up)))) in
         let above : q.number < k = omega (arith, not_less, not_here) in
         behind_one least q p ps (λ m a b. same_log m (omega (arith, b, above))) next
         (last_alike both (q.number + 1) (p ∷ ps) (omega (arith, above)) (after, rest))
@@ -470,7 +471,8 @@ module _ (image other : Image) where
   pub like_logs : (n : ℕ) (bytes : List ℕ) → IsCurrent other n bytes → IsCurrent image n bytes
       → ((s : ManifestState) (logs : List StandingLog) → Says (Led n bytes) (Ok s)
       → StandingLogs other s.head logs → Alike image s.head logs) → OpensLike image other
-  like_logs n bytes was now alike = like_by image other (λ o is. by o is (alike o.state is.standing (says o is) is.by.standing))
+  like_logs n bytes was now alike = like_by image other
+      (λ o is. by o is (alike o.state is.standing (says o is) is.by.standing))
     where
       says : (o : Opening) → IsOpened other o → Says (Led n bytes) (Ok o.state)
       says o is = says_as n bytes was (Ok o.state) (is.heading, is.by.headed, is.by.says)
