@@ -11,12 +11,12 @@ use Rattle.vl_frame.specs.RunLaws.{frame_is_some, none_at_end, one_front}
 use Rattle.vl_frame.specs.Runs.{HasFrame, StandsAt, StandsNone, item_frame}
 use Rattle.vl_model.specs.declared.log_frame.LogFrame.{LogFrame}
 use Rattle.vl_seglog.specs.FrameLaws.{length-log_bytes}
-use Rattle.vl_seglog.specs.Frames.{frames_end, frames_grammar, log_bytes}
+use Rattle.vl_seglog.specs.Frames.{frame_at, frames_end, frames_grammar, log_bytes}
 use Rattle.vl_seglog.specs.LogReadingLaws.{SaysFrames, reads_torn}
 
 -- the frame of an item behind the frames of a log
 abbrev pub frame_behind : ℕ → List LogFrame → LogFrame → List ℕ
-frame_behind number frames f = item_frame frames_grammar number (frames_end frames) f
+frame_behind number frames f = frame_at number (frames_end frames) f
 
 -- the durable log of some frames, to which one more was handed over, and which took so many bytes of it
 abbrev pub torn_log : ℕ → List LogFrame → LogFrame → (taken : ℕ) → File
