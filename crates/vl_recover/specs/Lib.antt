@@ -2,6 +2,8 @@ pub mod Alike
 pub mod Answers
 pub mod Held
 pub mod LogReading
+pub mod Mending
+pub mod MendingLaws
 pub mod Opening
 pub mod Plans
 pub mod Stages
