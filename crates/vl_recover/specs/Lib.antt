@@ -1,9 +1,11 @@
 pub mod Alike
+pub mod AlikeLaws
 pub mod Answers
 pub mod Held
 pub mod LogReading
 pub mod Mending
 pub mod MendingLaws
+pub mod OneName
 pub mod Opening
 pub mod Plans
 pub mod Stages
