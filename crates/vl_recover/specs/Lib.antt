@@ -10,5 +10,6 @@ pub mod Opening
 pub mod Plans
 pub mod Stages
 pub mod Starts
+pub mod Torn
 pub mod Walk
 pub mod Results
