@@ -2,14 +2,15 @@ pub mod Alike
 pub mod AlikeLaws
 pub mod Answers
 pub mod Held
-pub mod LogReading
 pub mod Mending
 pub mod MendingLaws
 pub mod OneName
 pub mod Opening
+pub mod OpeningLaws
 pub mod Plans
+pub mod Results
+pub mod StageLaws
 pub mod Stages
 pub mod Starts
 pub mod Torn
 pub mod Walk
-pub mod Results
