@@ -2,6 +2,7 @@ pub mod Alike
 pub mod AlikeLaws
 pub mod Answers
 pub mod Held
+pub mod HeldLaws
 pub mod Mending
 pub mod MendingLaws
 pub mod OneName

@@ -1,22 +1,20 @@
 -- What a crash may leave where a disk changes under one name.
 use Rattle.std.specs.Prelude.{◌≡◌, ◌≢◌, ◌⊎◌, ℕ, List, Option, None, Some, refl, false, true}
 use Rattle.std.specs.FinMap.{get, insert, remove, same_map}
+use Rattle.std.specs.Option.{option_map}
 use Rattle.std.proofs.Common.{⊎_elim, sym, ◌∙◌, ap, subst}
-use Rattle.vl_disk.specs.Changes.{SameElsewhere}
+use Rattle.vl_disk.specs.Changes.{SameElsewhere, changed_elsewhere, changed_there, created_elsewhere, created_there}
 use Rattle.vl_disk.specs.Chance.{NoChanceOne}
 use Rattle.vl_disk.specs.Crash.{Image, MayLeaveOne, last_file}
-use Rattle.vl_disk.specs.DiskState.{DiskState, File, settled}
+use Rattle.vl_disk.specs.DiskState.{DiskState, File, appended, created, lengthened, new_file, settled}
+use Rattle.vl_disk.specs.MadeFile.{WhileMaking, durable, empty, in_part, made, not_there}
 use Rattle.vl_disk.specs.Name.{name_cmp_exact, name_cmp_total}
 use Rattle.vl_disk.specs.NameMap.{get_inserted, get_inserted_other, get_removed, get_removed_other, same_or_other}
 use Rattle.vl_disk.specs.declared.name.Name.{Name}
 use Rattle.vl_recover.specs.Alike.{IsLeft, OpensAsOf, OpensLike, Spells}
-use Rattle.vl_recover.specs.AlikeLaws.{like_same, like_then}
+use Rattle.vl_recover.specs.AlikeLaws.{SameBut, like_same, like_then}
 
 -- ---- images
-
--- the images have the same under the other names
-abbrev pub SameBut : Name → Image → Image → Type 0
-SameBut name image before = (other : Name) → other ≢ name → get image other ≡ get before other
 
 -- the image that has this under a name, and nothing there if it is none
 abbrev pub with_left : Name → Option (List ℕ) → Image → Image
@@ -116,3 +114,49 @@ as_of_then a b c p q image is =
     let (mid, mid_left, like) = q image is in
     let (low, low_left, like_mid) = p mid mid_left in
     (low, low_left, like_then image mid low like like_mid)
+
+-- ---- a file that is made
+
+-- a file that is being made of these bytes and isn't durable: empty, or with some first bytes
+pub data IsPart (piece : List ℕ) : File → Type 0 where
+  part_empty : IsPart piece new_file
+  part_some : (taken : ℕ) → IsPart piece (lengthened piece taken new_file)
+
+-- While a file is made nothing is changed yet, or it stands, durable or not, and nothing else is changed.
+pub data Making (name : Name) (piece : List ℕ) (old now : DiskState) : Type 0 where
+  waits : now ≡ old → Making name piece old now
+  torn : (file : File) → IsPart piece file → get now.standing name ≡ Some file → SameElsewhere name old now
+      → Making name piece old now
+  done : get now.standing name ≡ Some (settled piece) → SameElsewhere name old now
+      → Making name piece old now
+
+pub elsewhere_then : (name : Name) (a b c : DiskState) → SameElsewhere name a b → SameElsewhere name b c
+    → SameElsewhere name a c
+elsewhere_then name a b c p q = record {
+  standing = λ other apart. q.standing other apart ∙ p.standing other apart;
+  removed = λ other apart. q.removed other apart ∙ p.removed other apart;
+}
+
+pub made_elsewhere : (name : Name) (piece : List ℕ) (disk : DiskState)
+    → SameElsewhere name disk (made name piece disk)
+made_elsewhere name piece disk = record {
+  standing = get_inserted_other disk.standing name (settled piece);
+  removed = get_removed_other disk.removed name;
+}
+
+pub made_there : (name : Name) (piece : List ℕ) (disk : DiskState)
+    → get (made name piece disk).standing name ≡ Some (settled piece)
+made_there name piece disk = get_inserted disk.standing name (settled piece)
+
+pub making : (name : Name) (piece : List ℕ) (old now : DiskState) → WhileMaking name piece old now
+    → Making name piece old now
+making name piece old now (not_there is) = waits is
+making name piece old now (empty is) = subst (Making name piece old) (sym is)
+    (torn new_file part_empty (created_there name old) (created_elsewhere name old))
+making name piece old now (in_part taken le is) =
+    let here = changed_there name (created name old) (lengthened piece taken) ∙ ap (option_map (lengthened piece taken)) (created_there name old) in
+    let others = elsewhere_then name old (created name old) (appended name piece taken (created name old)) (created_elsewhere name old)
+    (changed_elsewhere name (created name old) (lengthened piece taken)) in
+    subst (Making name piece old) (sym is) (torn (lengthened piece taken new_file) (part_some taken) here others)
+making name piece old now (durable is) = subst (Making name piece old) (sym is)
+    (done (made_there name piece old) (made_elsewhere name piece old))

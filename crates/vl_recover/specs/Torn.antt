@@ -25,6 +25,7 @@ use Rattle.vl_manifest.specs.declared.format.TheConstants.{MANIFEST_FORMAT}
 use Rattle.vl_manifest.specs.declared.state.ManifestState.{ManifestState}
 use Rattle.vl_model.specs.declared.log_frame.LogFrame.{LogFrame}
 use Rattle.vl_recover.specs.Alike.{Spells}
+use Rattle.vl_recover.specs.OneName.{IsPart, part_empty, part_some}
 use Rattle.vl_seglog.specs.FrameLaws.{length-log_bytes}
 use Rattle.vl_seglog.specs.Frames.{frames_end, frames_grammar, log_bytes, log_header}
 use Rattle.vl_seglog.specs.LogReading.{HasHeader, LogReading, ReadsLog}
@@ -87,11 +88,6 @@ ended_no_chance name file bytes end grows loose = record {
 }
 
 -- ---- a file that is being made
-
--- a file that is being made of these bytes and isn't durable: empty, or with some first bytes
-pub data IsPart (piece : List ℕ) : File → Type 0 where
-  part_empty : IsPart piece new_file
-  part_some : (taken : ℕ) → IsPart piece (lengthened piece taken new_file)
 
 pub part_loose : (piece : List ℕ) (file : File) → IsPart piece file → file.wholly_synced ≡ false
 part_loose piece file part_empty = refl
