@@ -17,7 +17,7 @@ use Rattle.vl_manifest.specs.Manifest.{ManifestSays, SaysState}
 use Rattle.vl_manifest.specs.ManifestLaws.{says_readable}
 use Rattle.vl_manifest.specs.declared.state.ManifestState.{ManifestState}
 use Rattle.vl_recover.specs.Alike.{OpensLike}
-use Rattle.vl_recover.specs.AlikeLaws.{Alike, SameBut, like_logs, log_same, manifest_same}
+use Rattle.vl_recover.specs.AlikeLaws.{Alike, SameBut, SameLog, agree_opens, both, like_logs, log_same, neither, shows_same}
 use Rattle.vl_recover.specs.Held.{HoldsLogs, HoldsManifest, IsNowhere, IsSettled}
 use Rattle.vl_recover.specs.OneName.{made_elsewhere, made_there}
 use Rattle.vl_recover.specs.Opening.{Led, Says, StandingLogs}
@@ -123,6 +123,23 @@ led_like number bytes state image other says was now alike = like_logs image oth
     by : (s : ManifestState) (logs : List StandingLog) → s ≡ state → StandingLogs other s.head logs → Alike image s.head logs
     by s logs same standing = subst (λ (x : ManifestState). Alike image x.head logs) (sym same)
         (alike logs (subst (λ (x : ManifestState). StandingLogs other x.head logs) same standing))
+
+same_log : (image other : Image) (m : ℕ) (there : Option (List ℕ)) → get other (Log m) ≡ there
+    → get image (Log m) ≡ get other (Log m) → SameLog image other m
+same_log image other m None is same = neither (same ∙ is) is
+same_log image other m (Some bytes) is same = both bytes bytes (same ∙ is) is refl (λ r reads. reads)
+
+-- or that they are the same.
+pub led_same : (number : ℕ) (bytes : List ℕ) (state : ManifestState) (image other : Image) → SaysState number bytes state
+    → IsCurrent other number bytes → IsCurrent image number bytes
+    → ((m : ℕ) → state.head ≤ m → get image (Log m) ≡ get other (Log m)) → OpensLike image other
+led_same number bytes state image other says was now logs o opens = (
+  o,
+  agree_opens image other number bytes was now (λ s said m from. same_log image other m (get other (Log m)) refl
+      (logs m (subst (λ (x : ManifestState). x.head ≤ m) (ok_same s state (single_says (Led number bytes) (Ok s) (Ok state) said (Ok state, says, refl))) from)))
+      (Ok o) opens,
+  shows_same o,
+)
 
 -- ---- the logs that are held
 

@@ -5,6 +5,7 @@ pub mod Held
 pub mod HeldLaws
 pub mod Mending
 pub mod MendingLaws
+pub mod MendingSteps
 pub mod OneName
 pub mod Opening
 pub mod OpeningLaws
