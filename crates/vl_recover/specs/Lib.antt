@@ -3,6 +3,7 @@ pub mod AlikeLaws
 pub mod Answers
 pub mod Held
 pub mod HeldLaws
+pub mod LastLaws
 pub mod Mending
 pub mod MendingLaws
 pub mod MendingSteps
