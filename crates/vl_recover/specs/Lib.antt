@@ -4,6 +4,7 @@ pub mod Answers
 pub mod Held
 pub mod HeldLaws
 pub mod LastLaws
+pub mod LogsLaws
 pub mod Mending
 pub mod MendingLaws
 pub mod MendingSteps
