@@ -20,7 +20,7 @@ use Rattle.vl_manifest.specs.declared.state.ManifestState.{ManifestState}
 use Rattle.vl_recover.specs.Alike.{OpensAsOf, Spells}
 use Rattle.vl_recover.specs.AlikeLaws.{log_same}
 use Rattle.vl_recover.specs.Held.{IsSettled}
-use Rattle.vl_recover.specs.HeldLaws.{leads_kept, nowhere_kept}
+use Rattle.vl_recover.specs.LeadsLaws.{leads_kept, nowhere_kept}
 use Rattle.vl_recover.specs.Mending.{Cut, Headed, Kept, LastLog, Rewritten, WhileHeading, WhileLast, behind_last, headed, mending_of}
 use Rattle.vl_recover.specs.MendingSteps.{IsLast, change_step, manifest_log, sync_step}
 use Rattle.vl_recover.specs.OneName.{IsLeftOne, as_before, as_of_then}

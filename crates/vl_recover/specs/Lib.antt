@@ -2,7 +2,7 @@ pub mod Alike
 pub mod AlikeLaws
 pub mod Answers
 pub mod Held
-pub mod HeldLaws
+pub mod LeadsLaws
 pub mod LastLaws
 pub mod LogsLaws
 pub mod Mending
@@ -16,5 +16,6 @@ pub mod Results
 pub mod StageLaws
 pub mod Stages
 pub mod Starts
+pub mod StraysLaws
 pub mod Torn
 pub mod Walk

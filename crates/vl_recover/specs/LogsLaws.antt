@@ -18,7 +18,7 @@ use Rattle.vl_recover.specs.Alike.{IsLeft, Spells}
 use Rattle.vl_recover.specs.AlikeLaws.{LastIsWhole, log_same}
 use Rattle.vl_recover.specs.Answers.{as_segment}
 use Rattle.vl_recover.specs.Held.{HoldsLogs, IsNowhere, IsSettled}
-use Rattle.vl_recover.specs.HeldLaws.{left_nowhere, left_settled, nowhere_kept, settled_kept}
+use Rattle.vl_recover.specs.LeadsLaws.{left_nowhere, left_settled, nowhere_kept, settled_kept}
 use Rattle.vl_recover.specs.LastLaws.{IsWithinHeader, IsWritten, LastStands, MendsLast, whole_bytes}
 use Rattle.vl_recover.specs.Mending.{Cut, Headed, Kept, LastLog, NoLast, Rewritten, behind_last, headed, last_of, mending_of}
 use Rattle.vl_recover.specs.OneName.{elsewhere_then}

@@ -21,7 +21,7 @@ use Rattle.vl_manifest.specs.declared.state.ManifestState.{ManifestState}
 use Rattle.vl_recover.specs.Alike.{IsLeft, OpensAsOf, OpensLike, SameState, Spells}
 use Rattle.vl_recover.specs.AlikeLaws.{Alike, LastIsWhole, SameBut, last_alike, lead_over, led_anew, like_lead, like_new, log_same, one_more, standing_kept}
 use Rattle.vl_recover.specs.Held.{IsNowhere}
-use Rattle.vl_recover.specs.HeldLaws.{Leads, current_kept, leads_image, led_like, led_same, left_nowhere}
+use Rattle.vl_recover.specs.LeadsLaws.{Leads, current_kept, leads_image, led_like, led_same, left_nowhere}
 use Rattle.vl_recover.specs.OneName.{IsLeftOne, IsPart, Making, WasLeft, as_before, done, left_still, making, may_miss, one_name, part_empty, part_some, torn, waits}
 use Rattle.vl_recover.specs.Opening.{Opening, StandingLogs}
 use Rattle.vl_recover.specs.OpeningLaws.{IsOpened, some_none, some_same}
