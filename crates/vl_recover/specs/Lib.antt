@@ -2,8 +2,9 @@ pub mod Alike
 pub mod AlikeLaws
 pub mod Answers
 pub mod Held
-pub mod LeadsLaws
+pub mod HeldLaws
 pub mod LastLaws
+pub mod LeadsLaws
 pub mod LogsLaws
 pub mod Mending
 pub mod MendingLaws
