@@ -1,4 +1,4 @@
--- What durable files leave, and what of a disk stays when it changes under one name.
+-- The manifest that leads what a crash leaves, and what of a held store stays where a disk changes under one name.
 use Rattle.std.specs.Prelude.{◌≡◌, ◌≢◌, ◌⊎◌, ℕ, ◌+◌, ◌≤◌, ◌<◌, List, [], ◌∷◌, ◌++◌, Option, None, Some, Result, Ok, Err, true, false, refl}
 use Rattle.std.specs.FinMap.{get}
 use Rattle.std.proofs.Common.{ap, arith, subst, sym, ◌∙◌, ⊎_elim, inl, inr}
@@ -19,37 +19,13 @@ use Rattle.vl_manifest.specs.declared.state.ManifestState.{ManifestState}
 use Rattle.vl_recover.specs.Alike.{OpensLike}
 use Rattle.vl_recover.specs.AlikeLaws.{Alike, SameBut, SameLog, agree_opens, both, like_logs, log_same, neither, shows_same}
 use Rattle.vl_recover.specs.Held.{HoldsLogs, HoldsManifest, IsNowhere, IsSettled}
+use Rattle.vl_recover.specs.HeldLaws.{held_current}
 use Rattle.vl_recover.specs.OneName.{made_elsewhere, made_there}
 use Rattle.vl_recover.specs.Opening.{Led, Says, StandingLogs}
 use Rattle.vl_recover.specs.OpeningLaws.{single_says, some_none, some_same}
 use Rattle.vl_recover.specs.StageLaws.{ok_same}
 use Rattle.vl_recover.specs.Walk.{StandingLog}
 use Rattle.vl_seglog.specs.Frames.{log_header}
-
--- ---- what is left
-
-true_false : true ≡ false → ⊥
-true_false e = cc
-
-settled_one : (bytes : List ℕ) (removed : Option File) (left : Option (List ℕ))
-    → MayLeaveOne (Some (settled bytes)) removed left → left ≡ Some bytes
-settled_one bytes removed None may = absurd (true_false may)
-settled_one bytes removed (Some other) may = ap Some (may.whole refl)
-
-pub left_settled : (disk : DiskState) (image : Image) (name : Name) (bytes : List ℕ) → MayLeave disk image
-    → IsSettled disk name bytes → get image name ≡ Some bytes
-left_settled disk image name bytes may stands = settled_one bytes (get disk.removed name) (get image name)
-    (subst (λ (o : Option File). MayLeaveOne o (get disk.removed name) (get image name)) stands (may name))
-
-none_one : (left : Option (List ℕ)) → MayLeaveOne None None left → left ≡ None
-none_one None may = refl
-none_one (Some bytes) may = absurd may
-
-pub left_nowhere : (disk : DiskState) (image : Image) (name : Name) → MayLeave disk image → IsNowhere disk name
-    → get image name ≡ None
-left_nowhere disk image name may nowhere = none_one (get image name)
-    (subst (λ (o : Option File). MayLeaveOne None o (get image name)) nowhere.never
-    (subst (λ (o : Option File). MayLeaveOne o (get disk.removed name) (get image name)) nowhere.free (may name)))
 
 -- ---- what stays elsewhere
 
@@ -90,16 +66,8 @@ leads_kept number state name old now same apart leads = record {
 -- It is the current one of whatever a crash leaves.
 pub leads_image : (number : ℕ) (state : ManifestState) (disk : DiskState) (image : Image)
     → (leads : Leads number state disk) → MayLeave disk image → IsCurrent image number leads.bytes
-leads_image number state disk image leads may = record {
-  here = record {
-    stands = left_settled disk image (Manifest number) leads.bytes may leads.stands;
-    readable = says_readable number leads.bytes state leads.says;
-  };
-  greatest = λ m others r. ⊎_elim
-      (λ (less : number < m). absurd (some_none others (sym r.stands ∙ left_nowhere disk image (Manifest m) may (leads.above m less))))
-      (λ (le : m ≤ number). le)
-      (cases_lt number m);
-}
+unfolding leads_holds
+leads_image number state disk image leads may = held_current state disk (leads_holds number state disk leads) image may
 
 -- A current manifest stays current where a name changes that isn't its own, nor that of a greater one.
 pub current_kept : (number : ℕ) (name : Name) (image other : Image) (bytes : List ℕ) → SameBut name image other

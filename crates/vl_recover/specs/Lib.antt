@@ -8,6 +8,7 @@ pub mod LeadsLaws
 pub mod LogsLaws
 pub mod Mending
 pub mod MendingLaws
+pub mod MendingStart
 pub mod MendingSteps
 pub mod OneName
 pub mod Opening

@@ -18,7 +18,8 @@ use Rattle.vl_recover.specs.Alike.{IsLeft, Spells}
 use Rattle.vl_recover.specs.AlikeLaws.{LastIsWhole, log_same}
 use Rattle.vl_recover.specs.Answers.{as_segment}
 use Rattle.vl_recover.specs.Held.{HoldsLogs, IsNowhere, IsSettled}
-use Rattle.vl_recover.specs.LeadsLaws.{left_nowhere, left_settled, nowhere_kept, settled_kept}
+use Rattle.vl_recover.specs.HeldLaws.{left_nowhere, left_settled}
+use Rattle.vl_recover.specs.LeadsLaws.{nowhere_kept, settled_kept}
 use Rattle.vl_recover.specs.LastLaws.{IsWithinHeader, IsWritten, LastStands, MendsLast, whole_bytes}
 use Rattle.vl_recover.specs.Mending.{Cut, Headed, Kept, LastLog, NoLast, Rewritten, behind_last, headed, last_of, mending_of}
 use Rattle.vl_recover.specs.OneName.{elsewhere_then}
@@ -195,14 +196,14 @@ written_at least (q ∷ p ∷ ps) disk (next, written, rest) m from = ⊎_elim
 -- So in whatever a crash leaves each of them has its header and ends with its frames.
 pub written_whole : (least : ℕ) (logs : List StandingLog) (disk : DiskState) → StandUpTo IsWritten least logs disk → (image : Image) → MayLeave disk image → LastIsWhole least image
 written_whole least logs disk all image may number bytes reading from stands reads alone = ⊎_elim
-    (λ (nowhere : IsNowhere disk (Log number)). absurd (some_none bytes (sym stands ∙ left_nowhere disk image (Log number) may nowhere)))
+    (λ (nowhere : IsNowhere disk (Log number)). absurd (some_none bytes (sym stands ∙ left_nowhere disk image (Log number) nowhere may)))
     (λ (x : (q : StandingLog) × (q.number ≡ number) × IsWritten q disk). by x.0 x.1 x.2)
     (written_at least logs disk all number from)
   where
     by : (q : StandingLog) → q.number ≡ number → IsWritten q disk → (reading.header ≡ true) × (reading.whole ≡ true)
     by q at written =
         let there : bytes ≡ log_bytes q.number q.reading.frames =
-        some_same bytes (log_bytes q.number q.reading.frames) (sym stands ∙ ap (λ (n : ℕ). get image (Log n)) (sym at) ∙ left_settled disk image (Log q.number) (log_bytes q.number q.reading.frames) may written.stands) in
+        some_same bytes (log_bytes q.number q.reading.frames) (sym stands ∙ ap (λ (n : ℕ). get image (Log n)) (sym at) ∙ left_settled disk image (Log q.number) (log_bytes q.number q.reading.frames) written.stands may) in
         let same : reading ≡ record { header = true; frames = q.reading.frames; whole = true } =
         one_log_reading q.number (log_bytes q.number q.reading.frames) reading (record { header = true; frames = q.reading.frames; whole = true })
         (subst (λ (b : List ℕ). ReadsLog q.number b reading) there (subst (λ (n : ℕ). ReadsLog n bytes reading) (sym at) reads))

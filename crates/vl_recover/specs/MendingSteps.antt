@@ -21,7 +21,8 @@ use Rattle.vl_manifest.specs.declared.state.ManifestState.{ManifestState}
 use Rattle.vl_recover.specs.Alike.{IsLeft, OpensAsOf, OpensLike, SameState, Spells}
 use Rattle.vl_recover.specs.AlikeLaws.{Alike, LastIsWhole, SameBut, last_alike, lead_over, led_anew, like_lead, like_new, log_same, one_more, standing_kept}
 use Rattle.vl_recover.specs.Held.{IsNowhere}
-use Rattle.vl_recover.specs.LeadsLaws.{Leads, current_kept, leads_image, led_like, led_same, left_nowhere}
+use Rattle.vl_recover.specs.HeldLaws.{left_nowhere}
+use Rattle.vl_recover.specs.LeadsLaws.{Leads, current_kept, leads_image, led_like, led_same}
 use Rattle.vl_recover.specs.OneName.{IsLeftOne, IsPart, Making, WasLeft, as_before, done, left_still, making, may_miss, one_name, part_empty, part_some, torn, waits}
 use Rattle.vl_recover.specs.Opening.{Opening, StandingLogs}
 use Rattle.vl_recover.specs.OpeningLaws.{IsOpened, some_none, some_same}
@@ -135,7 +136,7 @@ last_like : (number : ℕ) (s : ManifestState) (k : ℕ) (disk : DiskState) → 
 last_like number s k disk last was now reading read reads image before low same stands stood =
     let led = leads_image number s disk before last.leads low.left in
     led_like number last.leads.bytes s image before last.leads.says led (current_kept number (Log k) image before last.leads.bytes same (λ m from. manifest_log m k) led)
-    (λ logs standing. last_alike image before k same (λ m less. left_nowhere disk before (Log m) low.left (last.above m less))
+    (λ logs standing. last_alike image before k same (λ m less. left_nowhere disk before (Log m) (last.above m less) low.left)
       (record { now = now; was = was; reads = reads.reading; read = reading; stands = stands; stood = stood; reads_now = reads.reads; read_was = read; frames = reads.same })
       s.head logs last.from standing)
 
@@ -192,7 +193,7 @@ module _ (number : ℕ) (s : ManifestState) (k : ℕ) (old now : DiskState) (lea
       new bytes reads image before low same is gone =
           let led = leads_image number s old before leads low.left in
           led_like number leads.bytes s image before leads.says led (current_kept number (Log k) image before leads.bytes same (λ m from. manifest_log m k) led)
-          (λ logs standing. one_more image before k same (λ m less. left_nowhere old before (Log m) low.left (nowhere m (omega (arith, less))))
+          (λ logs standing. one_more image before k same (λ m less. left_nowhere old before (Log m) (nowhere m (omega (arith, less))) low.left)
             (record { bytes = bytes; reading = reads.reading; stands = is; none = gone; reads = reads.reads; empty = reads.same })
             s.head logs from standing (whole before low.left))
 
