@@ -64,7 +64,7 @@ missing_file : (file : Option File) → option_map (λ (f : File). f.bytes) file
 missing_file None e = refl
 missing_file (Some file) e = absurd (some_none file.bytes e)
 
-some_file : (file : Option File) → (file ≡ None → ⊥) → (f : File) × (file ≡ Some f)
+pub some_file : (file : Option File) → (file ≡ None → ⊥) → (f : File) × (file ≡ Some f)
 some_file None not = absurd (not refl)
 some_file (Some file) not = (file, refl)
 
