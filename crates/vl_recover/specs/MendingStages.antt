@@ -203,9 +203,9 @@ held_settled least [] disk none m from file stands = absurd (some_none file (sym
 held_settled least (s ∷ ss) disk (first, between, have, here, rest) m from file stands = ⊎_elim
     (λ (less : m < s.number). absurd (some_none file (sym stands ∙ (between m from less).free)))
     (λ (above : s.number ≤ m). ⊎_elim
-        (λ (more : s.number < m). held_settled (s.number + 1) ss disk rest m (omega (arith, more)) file stands)
-        (λ (at : m ≤ s.number).
-            let same : m ≡ s.number = omega (arith, above, at) in
-            settled_is (log_bytes s.number s.frames) file (sym here ∙ ap (λ (n : ℕ). get disk.standing (Log n)) (sym same) ∙ stands))
-        (cases_lt s.number m))
+    (λ (more : s.number < m). held_settled (s.number + 1) ss disk rest m (omega (arith, more)) file stands)
+    (λ (at : m ≤ s.number).
+    let same : m ≡ s.number = omega (arith, above, at) in
+    settled_is (log_bytes s.number s.frames) file (sym here ∙ ap (λ (n : ℕ). get disk.standing (Log n)) (sym same) ∙ stands))
+    (cases_lt s.number m))
     (cases_lt m s.number)
