@@ -1,6 +1,7 @@
 pub mod Alike
 pub mod AlikeLaws
 pub mod Answers
+pub mod AppendLaws
 pub mod Held
 pub mod HeldLaws
 pub mod LastLaws
@@ -16,10 +17,14 @@ pub mod OneName
 pub mod Opening
 pub mod OpeningLaws
 pub mod Plans
+pub mod ReadImage
+pub mod RecoveredLaws
 pub mod Results
+pub mod Rows
 pub mod StageLaws
 pub mod Stages
 pub mod Starts
 pub mod StraysLaws
 pub mod Torn
+pub mod TornLaws
 pub mod Walk
