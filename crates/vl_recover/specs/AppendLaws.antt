@@ -28,12 +28,14 @@ use Rattle.vl_recover.specs.Alike.{IsLeft, Spells}
 use Rattle.vl_recover.specs.AlikeLaws.{log_manifest, log_same, standing_log}
 use Rattle.vl_recover.specs.Held.{AllSettled, HoldsLogs, HoldsManifest, HoldsStore, IsNowhere, IsSettled}
 use Rattle.vl_recover.specs.HeldLaws.{AllMayStand, AreSealed, GoOn, MayStand, held_current, held_may_open, held_opens, held_says, left_nowhere, left_settled, log_as_held, may_open_by, none_removed, opening_held, settled_may_stand}
+use Rattle.vl_recover.specs.LeadsLaws.{nowhere_kept}
+use Rattle.vl_recover.specs.OneName.{elsewhere_then}
 use Rattle.vl_recover.specs.Opening.{Led, Opens, StandingLogs}
 use Rattle.vl_recover.specs.OpeningLaws.{opens_by, some_same}
 use Rattle.vl_recover.specs.StageLaws.{err_ok, ok_same, ok_with}
 use Rattle.vl_recover.specs.Starts.{MayOpen}
 use Rattle.vl_recover.specs.Stages.{on_ok}
-use Rattle.vl_recover.specs.TornLaws.{due_as_read, frame_behind, torn_log, torn_says}
+use Rattle.vl_recover.specs.TornFrames.{due_as_read, frame_behind, torn_log, torn_says}
 use Rattle.vl_recover.specs.Walk.{LogDamage, StandingLog, counted, counted_frame, counted_whole, filled, in_log, walked, walked_on, with_frames}
 use Rattle.vl_seglog.specs.FrameLaws.{length-log_header, log_bytes-more}
 use Rattle.vl_seglog.specs.Frames.{frames_grammar, log_bytes, log_header}
@@ -41,13 +43,6 @@ use Rattle.vl_seglog.specs.LogReading.{HasHeader, LogReading, ReadsLog}
 use Rattle.vl_seglog.specs.LogReadingLaws.{SaysFrames, reads_written}
 
 -- ---- what is the same under the other names
-
-pub nowhere_kept : (name : Name) (disk now : DiskState) → SameElsewhere name disk now → (other : Name) → other ≢ name
-    → IsNowhere disk other → IsNowhere now other
-nowhere_kept name disk now same other apart nowhere = record {
-  free = same.standing other apart ∙ nowhere.free;
-  never = same.removed other apart ∙ nowhere.never;
-}
 
 pub manifest_kept : (log : ℕ) (state : ManifestState) (disk now : DiskState) → SameElsewhere (Log log) disk now
     → HoldsManifest state disk → HoldsManifest state now
@@ -232,13 +227,6 @@ have_more : (fs : List LogFrame) (f : LogFrame) → AllByRecursion (HasFrame fra
     → HasFrame frames_grammar f → AllByRecursion (HasFrame frames_grammar) (fs ++ f ∷ [])
 have_more [] f have has = (has, tt)
 have_more (g ∷ fs) f have has = (have.0, have_more fs f have.1 has)
-
-elsewhere_then : (name : Name) (a b c : DiskState) → SameElsewhere name a b → SameElsewhere name b c
-    → SameElsewhere name a c
-elsewhere_then name a b c p q = record {
-  standing = λ other apart. q.standing other apart ∙ p.standing other apart;
-  removed = λ other apart. q.removed other apart ∙ p.removed other apart;
-}
 
 -- of a disk that holds a store, and a frame for its last log
 module _ (state : ManifestState) (before : List Segment) (last : Segment) (f : LogFrame) (disk : DiskState)

@@ -26,5 +26,5 @@ pub mod Stages
 pub mod Starts
 pub mod StraysLaws
 pub mod Torn
-pub mod TornLaws
+pub mod TornFrames
 pub mod Walk
