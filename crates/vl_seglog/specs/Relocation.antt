@@ -39,7 +39,7 @@ pub record IsRelocation (records : List Moved) : Type 0 where
 abbrev pub moved_bytes : Moved → List ℕ
 moved_bytes moved = big_bytes 8 moved.version ++ record_bytes moved.key (Set moved.value)
 
--- Of two at the front of the same bytes neither is another.
+-- At the front of the same bytes stands one of them at most, and the same stands behind it.
 pub one_moved : (a b : Moved) (rest other : List ℕ) → IsMoved a → IsMoved b → moved_bytes a ++ rest ≡ moved_bytes b ++ other → (a ≡ b) × (rest ≡ other)
 one_moved a b rest other p q e =
     let bytes = record_bytes a.key (Set a.value) ++ rest in
@@ -50,7 +50,7 @@ one_moved a b rest other p q e =
     let value : a.value ≡ b.value = ap (λ (w : List ℕ × Change). value_bytes w.1) same.0 in
     ((λ i. record { key = key i; version = versions.0 i; value = value i }), same.1)
 
--- how they are spelled
+-- how moved records are spelled
 abbrev pub moves_spelling : Spelling Moved
 moves_spelling = record { bytes = moved_bytes; lawful = IsMoved; one = one_moved }
 

@@ -3,11 +3,12 @@ use Rattle.std.specs.Prelude.{◌≡◌, ℕ, List, [], ◌∷◌, ◌++◌, len
 use Rattle.std.specs.List.{AllByRecursion}
 use Rattle.std.proofs.Common.{ap, ◌∙◌, arith}
 
--- How an item is spelled. Of two lawful ones at the front of the same bytes neither is another.
+-- How an item is spelled. At the front of the same bytes stands one lawful item at most, and the same stands behind it.
 pub record Spelling (Item : Type 0) : Type 1 where
   pub bytes : Item → List ℕ
   pub lawful : Item → Type 0
-  pub one : (a b : Item) (rest other : List ℕ) → lawful a → lawful b → bytes a ++ rest ≡ bytes b ++ other → (a ≡ b) × (rest ≡ other)
+  pub one : (a b : Item) (rest other : List ℕ) → lawful a → lawful b
+      → bytes a ++ rest ≡ bytes b ++ other → (a ≡ b) × (rest ≡ other)
 
 module _ {Item : Type 0} (S : Spelling Item) where
   -- items, one behind the other
