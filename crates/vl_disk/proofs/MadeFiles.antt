@@ -12,7 +12,7 @@ use Rattle.vl_disk.specs.Calls.{Creates, Appends, Syncs}
 use Rattle.vl_disk.specs.Faults.{HasCause, one_more, after_calls}
 use Rattle.vl_disk.specs.Spare.{Spare}
 use Rattle.vl_disk.specs.Crash.{WhileCreating, WhileAppending, WhileSyncing}
-use Rattle.vl_disk.specs.Disk.{Turns}
+use Rattle.vl_disk.specs.Disk.{IsChangedBy}
 use Rattle.vl_disk.specs.Moments.{Elapses, While, passes_weaker, passes_then}
 use Rattle.vl_disk.specs.MadeFile.{made, WhileMaking, TellsPart, Makes, not_there, empty, in_part, durable}
 
@@ -40,7 +40,7 @@ module _ (name : Name) (bytes : List ℕ) where
   while_created : (told : Option DiskState) (now : DiskState) → While told (WhileCreating name) now → While told (WhileMaking name bytes) now
   while_created told now is disk there = ⊎_elim (λ (same : now ≡ disk). not_there same) (λ (same : now ≡ first disk). empty same) (is disk there)
 
-  module _ (told0 told1 : Option DiskState) (creates : Turns (created name) told0 told1) (now : DiskState) where
+  module _ (told0 told1 : Option DiskState) (creates : IsChangedBy (created name) told0 told1) (now : DiskState) where
     while_appended : While told1 (WhileAppending name bytes) now → While told0 (WhileMaking name bytes) now
     while_appended is disk told =
         let after : told1 ≡ Some (first disk) = cc in
@@ -49,7 +49,7 @@ module _ (name : Name) (bytes : List ℕ) where
         (λ (part : (taken : ℕ) × (taken ≤ length bytes) × (now ≡ appended name bytes taken (first disk))). in_part part.0 part.1 part.2)
         (is (first disk) after)
 
-    while_synced : (told2 : Option DiskState) → Turns (appended name bytes (length bytes)) told1 told2 → While told2 (WhileSyncing name) now → While told0 (WhileMaking name bytes) now
+    while_synced : (told2 : Option DiskState) → IsChangedBy (appended name bytes (length bytes)) told1 told2 → While told2 (WhileSyncing name) now → While told0 (WhileMaking name bytes) now
     while_synced told2 appends is disk told =
         let after : told1 ≡ Some (first disk) = cc in
         let later : told2 ≡ Some (second disk) = cc in
@@ -58,28 +58,28 @@ module _ (name : Name) (bytes : List ℕ) where
         (λ (same : now ≡ synced name (second disk)). durable (same ∙ is_made disk))
         (is (second disk) later)
 
-  told_made : (told0 told1 told2 told3 : Option DiskState) → Turns (created name) told0 told1 → Turns (appended name bytes (length bytes)) told1 told2 → Turns (synced name) told2 told3 → Turns (made name bytes) told0 told3
+  told_made : (told0 told1 told2 told3 : Option DiskState) → IsChangedBy (created name) told0 told1 → IsChangedBy (appended name bytes (length bytes)) told1 told2 → IsChangedBy (synced name) told2 told3 → IsChangedBy (made name bytes) told0 told3
   told_made None told1 told2 told3 a b c = cc
   told_made (Some disk) told1 told2 told3 a b c =
       let after : told3 ≡ Some (synced name (second disk)) = cc in
       after ∙ ap Some (is_made disk)
 
   -- what stands where the first call fails, the second, or the third
-  create_failed : (told0 told1 : Option DiskState) → (told1 ≡ told0) ⊎ Turns (created name) told0 told1 → TellsPart name bytes told0 told1
+  create_failed : (told0 told1 : Option DiskState) → (told1 ≡ told0) ⊎ IsChangedBy (created name) told0 told1 → TellsPart name bytes told0 told1
   create_failed None told1 failed = ⊎_elim (λ (same : told1 ≡ None). same) (λ (same : told1 ≡ None). same) failed
   create_failed (Some disk) told1 failed = ⊎_elim
       (λ (is : told1 ≡ Some disk). (disk, is, not_there refl))
       (λ (is : told1 ≡ Some (first disk)). (first disk, is, empty refl))
       failed
 
-  append_failed : (told0 told1 told2 : Option DiskState) → Turns (created name) told0 told1 → (taken : ℕ) × (taken ≤ length bytes) × Turns (appended name bytes taken) told1 told2 → TellsPart name bytes told0 told2
-  append_failed None told1 told2 a failed = let b : Turns (appended name bytes failed.0) told1 told2 = failed.2 in cc
+  append_failed : (told0 told1 told2 : Option DiskState) → IsChangedBy (created name) told0 told1 → (taken : ℕ) × (taken ≤ length bytes) × IsChangedBy (appended name bytes taken) told1 told2 → TellsPart name bytes told0 told2
+  append_failed None told1 told2 a failed = let b : IsChangedBy (appended name bytes failed.0) told1 told2 = failed.2 in cc
   append_failed (Some disk) told1 told2 a failed =
-      let b : Turns (appended name bytes failed.0) told1 told2 = failed.2 in
+      let b : IsChangedBy (appended name bytes failed.0) told1 told2 = failed.2 in
       let is : told2 ≡ Some (appended name bytes failed.0 (first disk)) = cc in
       (appended name bytes failed.0 (first disk), is, in_part failed.0 failed.1 refl)
 
-  sync_failed : (told0 told1 told2 told3 : Option DiskState) → Turns (created name) told0 told1 → Turns (appended name bytes (length bytes)) told1 told2 → told3 ≡ told2 → TellsPart name bytes told0 told3
+  sync_failed : (told0 told1 told2 told3 : Option DiskState) → IsChangedBy (created name) told0 told1 → IsChangedBy (appended name bytes (length bytes)) told1 told2 → told3 ≡ told2 → TellsPart name bytes told0 told3
   sync_failed None told1 told2 told3 a b failed = cc
   sync_failed (Some disk) told1 told2 told3 a b failed =
       let is : told3 ≡ Some (second disk) = cc in
@@ -101,9 +101,9 @@ module _ {D X E : Type 0} (g : Ghosts D) (name : Name) (bytes : List ℕ) (old o
     stands = tt;
     failed = create_failed name bytes (g.told old) (g.told one) call.failed;
     calls = tt;
-    stops = (1, omega arith, omega arith, call.works.calls);
-    time = passes_weaker _ _ _ _ _ _ call.works.time (while_created name bytes (g.told old));
-    cause = call.works.cause;
+    stops = (1, omega arith, omega arith, call.as_call.calls);
+    time = passes_weaker _ _ _ _ _ _ call.as_call.time (while_created name bytes (g.told old));
+    cause = call.as_call.cause;
     hold = call.spare.hold;
     spare = call.spare.elsewhere;
   }
@@ -111,7 +111,7 @@ module _ {D X E : Type 0} (g : Ghosts D) (name : Name) (bytes : List ℕ) (old o
   module _ (x : X) (creates : Creates {E = E} g name old one (Ok x)) (two : D) where
     -- time until behind the second call
     two_pass : Elapses g one two (WhileAppending name bytes) → Elapses g old two (WhileMaking name bytes)
-    two_pass time = passes_then _ _ _ _ _ _ _ _ _ creates.works.time time
+    two_pass time = passes_then _ _ _ _ _ _ _ _ _ creates.as_call.time time
         (while_created name bytes (g.told old)) (while_appended name bytes (g.told old) (g.told one) creates.created)
 
     pub ends_at_append : (e : E) (result : Result X E) → IsErr result → Appends {T = X} g name bytes one two (Err e) → Makes g name bytes old two result
@@ -121,9 +121,9 @@ module _ {D X E : Type 0} (g : Ghosts D) (name : Name) (bytes : List ℕ) (old o
       stands = tt;
       failed = append_failed name bytes (g.told old) (g.told one) (g.told two) creates.created call.failed;
       calls = tt;
-      stops = (2, omega arith, omega arith, call.works.calls ∙ ap one_more creates.works.calls);
-      time = two_pass call.works.time;
-      cause = cause_then _ _ _ _ _ creates.works.cause false_true call.works.cause;
+      stops = (2, omega arith, omega arith, call.as_call.calls ∙ ap one_more creates.as_call.calls);
+      time = two_pass call.as_call.time;
+      cause = cause_then _ _ _ _ _ creates.as_call.cause false_true call.as_call.cause;
       hold = call.spare.hold ∙ creates.spare.hold;
       spare = λ other apart. call.spare.elsewhere other apart ∙ creates.spare.elsewhere other apart;
     }
@@ -136,15 +136,15 @@ module _ {D X E : Type 0} (g : Ghosts D) (name : Name) (bytes : List ℕ) (old o
         failed = on_err_weaker result (sync_failed name bytes (g.told old) (g.told one) (g.told two) (g.told new) creates.created appends.appended) call.failed;
         calls = on_ok_always result counts;
         stops = on_err_always result (3, omega arith, omega arith, counts);
-        time = passes_then _ _ _ _ _ _ _ _ _ (two_pass appends.works.time) call.works.time
+        time = passes_then _ _ _ _ _ _ _ _ _ (two_pass appends.as_call.time) call.as_call.time
             (λ now is. is) (λ now. while_synced name bytes (g.told old) (g.told one) creates.created now (g.told two) appends.appended);
-        cause = cause_then _ _ _ _ _ creates.works.cause false_true (cause_then _ _ _ _ _ appends.works.cause false_true call.works.cause);
+        cause = cause_then _ _ _ _ _ creates.as_call.cause false_true (cause_then _ _ _ _ _ appends.as_call.cause false_true call.as_call.cause);
         hold = ap (λ (s : Spare). s.hold) (call.spare name) ∙ appends.spare.hold ∙ creates.spare.hold;
         spare = λ other apart. call.spare other ∙ appends.spare.elsewhere other apart ∙ creates.spare.elsewhere other apart;
       }
         where
           counts : g.calls new ≡ after_calls 3 (g.calls old)
-          counts = call.works.calls ∙ ap one_more (appends.works.calls ∙ ap one_more creates.works.calls)
+          counts = call.as_call.calls ∙ ap one_more (appends.as_call.calls ∙ ap one_more creates.as_call.calls)
 
           on_ok_always : {P : Type 0} (r : Result X E) → P → OnOk r P
           on_ok_always (Ok x) p = p

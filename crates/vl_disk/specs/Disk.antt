@@ -22,6 +22,6 @@ pub record Lists (names : List Name) (disk : DiskState) : Type 0 where
   pub all : (name : Name) → Contains names name ↔ Stands name disk
   pub once : AllPairs (λ a b. a ≢ b) names
 
--- A call did this to what is told. A disk that doesn't tell it still doesn't.
-abbrev pub Turns : (DiskState → DiskState) → Option DiskState → Option DiskState → Type 0
-Turns change old new = new ≡ option_map change old
+-- What is told was changed so. A disk that told nothing still doesn't.
+abbrev pub IsChangedBy : (DiskState → DiskState) → Option DiskState → Option DiskState → Type 0
+IsChangedBy change old new = new ≡ option_map change old

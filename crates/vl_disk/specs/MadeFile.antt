@@ -5,7 +5,7 @@ use Rattle.std.specs.FinMap.{insert, remove}
 use Rattle.vl_disk.specs.declared.name.Name.{Name}
 use Rattle.vl_disk.specs.declared.watched.Watched.{Ghosts}
 use Rattle.vl_disk.specs.DiskState.{DiskState, settled, created, appended}
-use Rattle.vl_disk.specs.Disk.{Stands, Turns}
+use Rattle.vl_disk.specs.Disk.{Stands, IsChangedBy}
 use Rattle.vl_disk.specs.Faults.{HasCause, after_calls}
 use Rattle.vl_disk.specs.Moments.{Elapses}
 use Rattle.vl_disk.specs.Spare.{SameSpareElsewhere}
@@ -32,7 +32,7 @@ TellsPart name bytes (Some old) new = (now : DiskState) × (new ≡ Some now) ×
 -- the making of a file
 pub record Makes {D T E : Type 0} (g : Ghosts D) (name : Name) (bytes : List ℕ) (old new : D)
     (result : Result T E) : Type 0 where
-  pub made : OnOk result (Turns (made name bytes) (g.told old) (g.told new))
+  pub made : OnOk result (IsChangedBy (made name bytes) (g.told old) (g.told new))
   pub stands : OnOk result (ForSome (g.told new) (Stands name))
   pub failed : OnErr result (TellsPart name bytes (g.told old) (g.told new))
   -- it takes three changing calls, or ends at the first that fails

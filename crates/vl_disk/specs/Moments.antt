@@ -20,14 +20,12 @@ abbrev pub Elapses : {D : Type 0} → Ghosts D → D → D → (DiskState → Di
 Elapses g old new during =
     Passes (g.moment old) (g.moment new) (g.states_since old) (g.states_since new) (While (g.told old) during)
 
--- at each moment from old to new the disk has P
+-- From old to new the disk has P.
 pub record HoldsThroughout {D : Type 0} (g : Ghosts D) (old new : D) (P : DiskState → Type 0) : Type 0 where
-  pub later : g.moment old ≤ g.moment new
+  -- at each moment from old to new it has P,
   pub each : (state : DiskState) → g.states_since new (g.moment old) state → P state
-  -- a state since an earlier moment is one that the old disk had since then, or has P
-  pub before : (t : ℕ) (state : DiskState) → t ≤ g.moment old → g.states_since new t state → g.states_since old t state ⊎ P state
-  -- what it was by then it was
-  pub keeps : (t : ℕ) (state : DiskState) → t ≤ g.moment old → g.states_since old t state → g.states_since new t state
+  -- so since an earlier moment it was what the old disk had been since then, or has P
+  pub time : Passes (g.moment old) (g.moment new) (g.states_since old) (g.states_since new) P
 
 -- what follows from what a call makes of it
 pub passes_weaker : (a b : ℕ) (past since : ℕ → DiskState → Type 0) (P Q : DiskState → Type 0)
@@ -52,11 +50,15 @@ passes_then a b c past between since P Q R first second here there = record {
   keeps = λ t state earlier was. second.keeps t state (omega (arith, earlier, first.later)) (first.keeps t state earlier was);
 }
 
+-- no call
+pub passes_none : (a : ℕ) (past : ℕ → DiskState → Type 0) (P : DiskState → Type 0) → Passes a a past past P
+passes_none a past P = record { later = omega arith; nothing_else = λ t state earlier was. inl was; keeps = λ t state earlier was. was }
+
 -- a run of calls, one after the other
 module _ {D : Type 0} (g : Ghosts D) (P : DiskState → Type 0) where
   -- before the first call
   pub begins : (disk : D) → ((state : DiskState) → g.states_since disk (g.moment disk) state → P state) → HoldsThroughout g disk disk P
-  begins disk here = record { later = omega arith; each = here; before = λ t state earlier left. inl left; keeps = λ t state earlier was. was }
+  begins disk here = record { each = here; time = passes_none (g.moment disk) (g.states_since disk) P }
 
   -- the same, by the law `only_now` of a disk
   pub waits : ((disk : D) (state other : DiskState) → g.told disk ≡ Some state → g.states_since disk (g.moment disk) other → other ≡ state)
@@ -67,10 +69,9 @@ module _ {D : Type 0} (g : Ghosts D) (P : DiskState → Type 0) where
   pub goes_on : (old mid new : D) (during : DiskState → DiskState → Type 0) → HoldsThroughout g old mid P
       → Elapses g mid new during → ((state : DiskState) → While (g.told mid) during state → P state) → HoldsThroughout g old new P
   goes_on old mid new during so_far time here = record {
-    later = omega (arith, so_far.later, time.later);
-    each = λ state left. ⊎_elim (so_far.each state) (here state) (time.nothing_else (g.moment old) state so_far.later left);
-    before = λ t state earlier left. ⊎_elim (so_far.before t state earlier) (λ now. inr (here state now)) (time.nothing_else t state (omega (arith, earlier, so_far.later)) left);
-    keeps = λ t state earlier was. time.keeps t state (omega (arith, earlier, so_far.later)) (so_far.keeps t state earlier was);
+    each = λ state was. ⊎_elim (so_far.each state) (here state) (time.nothing_else (g.moment old) state so_far.time.later was);
+    time = passes_then (g.moment old) (g.moment mid) (g.moment new) (g.states_since old) (g.states_since mid) (g.states_since new) P (While (g.told mid) during) P
+        so_far.time time (λ state now. now) here;
   }
 
   -- the same of a disk that tells its bytes
@@ -82,21 +83,15 @@ module _ {D : Type 0} (g : Ghosts D) (P : DiskState → Type 0) where
 pub holds_weaker : {D : Type 0} (g : Ghosts D) (P Q : DiskState → Type 0) (old new : D)
     → HoldsThroughout g old new P → ((state : DiskState) → P state → Q state) → HoldsThroughout g old new Q
 holds_weaker g P Q old new holds weaker = record {
-  later = holds.later;
-  each = λ state left. weaker state (holds.each state left);
-  before = λ t state earlier left. ⊎_elim (λ (long_ago : g.states_since old t state). inl long_ago) (λ (now : P state). inr (weaker state now)) (holds.before t state earlier left);
-  keeps = holds.keeps;
+  each = λ state was. weaker state (holds.each state was);
+  time = passes_weaker (g.moment old) (g.moment new) (g.states_since old) (g.states_since new) P Q holds.time weaker;
 }
 
 -- two runs, one after the other
 pub holds_then : {D : Type 0} (g : Ghosts D) (P : DiskState → Type 0) (old mid new : D)
     → HoldsThroughout g old mid P → HoldsThroughout g mid new P → HoldsThroughout g old new P
 holds_then g P old mid new first second = record {
-  later = omega (arith, first.later, second.later);
-  each = λ state left. ⊎_elim (λ (so_far : g.states_since mid (g.moment old) state). first.each state so_far) (λ (now : P state). now) (second.before (g.moment old) state first.later left);
-  before = λ t state earlier left. ⊎_elim
-      (λ (so_far : g.states_since mid t state). first.before t state earlier so_far)
-      (λ (now : P state). inr now)
-      (second.before t state (omega (arith, earlier, first.later)) left);
-  keeps = λ t state earlier was. second.keeps t state (omega (arith, earlier, first.later)) (first.keeps t state earlier was);
+  each = λ state was. ⊎_elim (first.each state) (λ (now : P state). now) (second.time.nothing_else (g.moment old) state first.time.later was);
+  time = passes_then (g.moment old) (g.moment mid) (g.moment new) (g.states_since old) (g.states_since mid) (g.states_since new) P P P
+      first.time second.time (λ state now. now) (λ state now. now);
 }

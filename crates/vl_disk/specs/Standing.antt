@@ -8,7 +8,7 @@ use Rattle.vl_disk.specs.Name.{name_cmp}
 use Rattle.vl_disk.specs.NameMap.{get_removed}
 use Rattle.vl_disk.specs.DiskState.{File, DiskState, empty_disk, with_file, created, without}
 use Rattle.vl_disk.specs.Changes.{created_there, changed_there}
-use Rattle.vl_disk.specs.Disk.{Stands, IsFree, Turns}
+use Rattle.vl_disk.specs.Disk.{Stands, IsFree, IsChangedBy}
 
 some_state : (a b : DiskState) → Some a ≡ Some b → a ≡ b
 some_state a b e = cc
@@ -16,32 +16,28 @@ some_state a b e = cc
 none_some : {X : Type 0} (x : X) → None ≡ Some x → ⊥
 none_some x e = cc
 
--- what a call makes of a fact of a disk that is told
-pub turned : (change : DiskState → DiskState) (old new : Option DiskState) (P Q : DiskState → Type 0)
-    → Turns change old new → ((disk : DiskState) → P disk → Q (change disk)) → ForSome old P → ForSome new Q
-turned change None new P Q turns keeps holds disk is = absurd (none_some disk (sym turns ∙ is))
-turned change (Some old) new P Q turns keeps holds disk is = subst Q (some_state (change old) disk (sym turns ∙ is)) (keeps old (holds old refl))
-
--- a call that changes nothing
-pub still : (old new : Option DiskState) (P : DiskState → Type 0) → new ≡ old → ForSome old P → ForSome new P
-still old new P same holds = subst (λ (told : Option DiskState). ForSome told P) (sym same) holds
+-- what holds after a call, by what held before it
+pub holds_after : (change : DiskState → DiskState) (old new : Option DiskState) (P Q : DiskState → Type 0)
+    → IsChangedBy change old new → ((disk : DiskState) → P disk → Q (change disk)) → ForSome old P → ForSome new Q
+holds_after change None new P Q changed keeps holds disk is = absurd (none_some disk (sym changed ∙ is))
+holds_after change (Some old) new P Q changed keeps holds disk is = subst Q (some_state (change old) disk (sym changed ∙ is)) (keeps old (holds old refl))
 
 -- on an empty disk each name is free
 pub empty_free : (name : Name) (told : Option DiskState) → told ≡ Some empty_disk → ForSome told (IsFree name)
 empty_free name told empty disk is = subst (IsFree name) (some_state empty_disk disk (sym empty ∙ is)) (get-empty name_cmp name)
 
 -- a file that is changed stands
-pub changed_stands : (name : Name) (change : File → File) (old new : Option DiskState) → Turns (with_file name change) old new → ForSome old (Stands name) → ForSome new (Stands name)
-changed_stands name change old new turns = turned (with_file name change) old new (Stands name) (Stands name) turns
+pub changed_stands : (name : Name) (change : File → File) (old new : Option DiskState) → IsChangedBy (with_file name change) old new → ForSome old (Stands name) → ForSome new (Stands name)
+changed_stands name change old new changed = holds_after (with_file name change) old new (Stands name) (Stands name) changed
     (λ disk stands. subst IsSome (sym (changed_there name disk change)) (of (get disk.standing name) stands))
   where
     of : (file : Option File) → IsSome file → IsSome (option_map change file)
     of None is = is
     of (Some file) is = refl
 
-pub created_stands : (name : Name) (old new : Option DiskState) → Turns (created name) old new → ForSome new (Stands name)
-created_stands name old new turns = turned (created name) old new (λ _. Unit {0}) (Stands name) turns
+pub created_stands : (name : Name) (old new : Option DiskState) → IsChangedBy (created name) old new → ForSome new (Stands name)
+created_stands name old new changed = holds_after (created name) old new (λ _. Unit {0}) (Stands name) changed
     (λ disk _. subst IsSome (sym (created_there name disk)) refl) (λ _ _. tt)
 
-pub removed_free : (name : Name) (old new : Option DiskState) → Turns (without name) old new → ForSome new (IsFree name)
-removed_free name old new turns = turned (without name) old new (λ _. Unit {0}) (IsFree name) turns (λ disk _. get_removed disk.standing name) (λ _ _. tt)
+pub removed_free : (name : Name) (old new : Option DiskState) → IsChangedBy (without name) old new → ForSome new (IsFree name)
+removed_free name old new changed = holds_after (without name) old new (λ _. Unit {0}) (IsFree name) changed (λ disk _. get_removed disk.standing name) (λ _ _. tt)

@@ -5,7 +5,7 @@ ghost use Rattle.vl_disk.specs.Name.{IsNumbered};
 ghost use Rattle.vl_disk.specs.DiskState.{DiskState, IsLawful, bytes_at, file_at};
 ghost use Rattle.vl_disk.specs.Disk.{Stands, IsFree, IsInside, Lists};
 ghost use Rattle.vl_disk.specs.Spare.{IsReady, CanAppend, SameSpare, SameSpareElsewhere, UsesHold};
-ghost use Rattle.vl_disk.specs.Calls.{Looks, Creates, Appends, Syncs, Cuts, Removes};
+ghost use Rattle.vl_disk.specs.Calls.{ChangesNothing, Creates, Appends, Syncs, Cuts, Removes};
 
 use crate::{Failed, HeldFile, HoldFail, ListFail, Name, NoMemory, Reader, Watched};
 use std::alloc::Global;
@@ -20,7 +20,7 @@ pub trait Disk: Watched {
     fn list(&mut self, alloc: Global) -> Result<Vec<Name>, ListFail>
         ensures names { IfOk result (λ names. ForSome (Self.told self.old) (Lists names.items)) }
         ensures numbered { IfOk result (λ names. All IsNumbered names.items) }
-        ensures looks { Looks Self.Watched self.old self.new (IsErrOf result ListFail.Failed) }
+        ensures no_change { ChangesNothing Self.Watched self.old self.new (IsErrOf result ListFail.Failed) }
         ensures spare { SameSpare (Self.spare self.old) (Self.spare self.new) };
 
     /// The length of a file in bytes.
@@ -28,7 +28,7 @@ pub trait Disk: Watched {
         requires { ForSome (Self.told self.old) (Stands name) }
         ensures size { IfOk result (λ size. ForSome (Self.told self.old)
             (λ disk. size ≡ length (file_at disk name).bytes)) }
-        ensures looks { Looks Self.Watched self.old self.new (IsErr result) }
+        ensures no_change { ChangesNothing Self.Watched self.old self.new (IsErr result) }
         ensures spare { SameSpare (Self.spare self.old) (Self.spare self.new) };
 
     /// Reads the bytes of a file from a place on, as many as fill `out`. If it fails, `out` may hold anything.
@@ -37,7 +37,7 @@ pub trait Disk: Watched {
         requires inside { ForSome (Self.told self.old) (IsInside name (place + length out.old)) }
         ensures bytes { OnOk result (ForSome (Self.told self.old)
             (λ disk. out.new ≡ bytes_at place (length out.old) (file_at disk name).bytes)) }
-        ensures looks { Looks Self.Watched self.old self.new (IsErr result) }
+        ensures no_change { ChangesNothing Self.Watched self.old self.new (IsErr result) }
         ensures spare { SameSpare (Self.spare self.old) (Self.spare self.new) };
 
     /// Makes room. Afterwards `create` or one `cut` of this name, one append to it of at most so many bytes, the syncs
@@ -47,7 +47,7 @@ pub trait Disk: Watched {
         ensures hold { OnOk result (IsTrue (Self.spare self.new name).hold) }
         ensures elsewhere { SameSpareElsewhere name (Self.spare self.old) (Self.spare self.new) }
         ensures refused { OnErr result (SameSpare (Self.spare self.old) (Self.spare self.new)) }
-        ensures looks { Looks Self.Watched self.old self.new ⊥ };
+        ensures no_change { ChangesNothing Self.Watched self.old self.new ⊥ };
 
     /// Makes an empty file. If it fails, the file may stand or not.
     fn create(&mut self, name: Name) -> Result<(), Failed>
@@ -85,7 +85,7 @@ pub trait Disk: Watched {
         requires { ForSome (Self.told self.old) (Stands name) }
         ensures held { IfOk result (λ held. ForSome (Self.told self.old)
             (λ disk. Self.Held.bytes held ≡ Some (file_at disk name).bytes)) }
-        ensures looks { Looks Self.Watched self.old self.new (IsErrOf result HoldFail.Failed) }
+        ensures no_change { ChangesNothing Self.Watched self.old self.new (IsErrOf result HoldFail.Failed) }
         ensures memory { IsTrue (Self.spare self.old name).hold → IsErrOf result HoldFail.NoMemory → ⊥ }
         ensures spare { UsesHold name (Self.spare self.old) (Self.spare self.new) };
 

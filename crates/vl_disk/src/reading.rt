@@ -2,7 +2,7 @@ ghost use Rattle.std.specs.Prelude.{◌≡◌, IfOk, IsErrOf};
 ghost use Rattle.std.specs.Option.{ForSome};
 ghost use Rattle.vl_disk.specs.DiskState.{file_at};
 ghost use Rattle.vl_disk.specs.Disk.{Stands};
-ghost use Rattle.vl_disk.specs.Calls.{Looks};
+ghost use Rattle.vl_disk.specs.Calls.{ChangesNothing};
 ghost use Rattle.vl_disk.specs.Spare.{SameSpare};
 
 use crate::{Disk, Name, ReadFail};
@@ -13,7 +13,7 @@ pub fn read_file<D: Disk>(alloc: Global, disk: &mut D, name: Name) -> Result<Vec
     requires { ForSome (D.told disk.old) (Stands name) }
     ensures bytes { IfOk result (λ bytes. ForSome (D.told disk.old)
         (λ state. bytes.items ≡ (file_at state name).bytes)) }
-    ensures looks { Looks D.Watched disk.old disk.new (IsErrOf result ReadFail.Failed) }
+    ensures no_change { ChangesNothing D.Watched disk.old disk.new (IsErrOf result ReadFail.Failed) }
     ensures spare { SameSpare (D.spare disk.old) (D.spare disk.new) }
 {
     let size = disk.size(name)?;

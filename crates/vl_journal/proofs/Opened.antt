@@ -4,7 +4,7 @@ use Rattle.std.specs.FinMap.{get}
 use Rattle.vl_disk.specs.declared.name.Name.{Name}
 use Rattle.vl_disk.specs.NameMap.{get_inserted_other}
 use Rattle.vl_disk.specs.DiskState.{DiskState, settled}
-use Rattle.vl_disk.specs.Disk.{Stands, IsFree, Lists, Turns}
+use Rattle.vl_disk.specs.Disk.{Stands, IsFree, Lists, IsChangedBy}
 use Rattle.vl_disk.specs.MadeFile.{made, WhileMaking}
 use Rattle.vl_seglog.specs.Log.{log_header}
 use Rattle.vl_journal.specs.declared.names.TheConstants.{NUMBER, MANIFEST, LOG}
@@ -35,7 +35,7 @@ one_stands (n ∷ names) disk lists some = (n, (lists.all n).0 (0, omega arith, 
 
 -- the log's name is free still
 pub log_free : (names : List Name) (bytes : List ℕ) (told0 told1 : Option DiskState) → ((disk : DiskState) → told0 ≡ Some disk → Lists names disk) → length names ≡ 0
-    → Turns (made MANIFEST bytes) told0 told1 → (disk : DiskState) → told1 ≡ Some disk → IsFree LOG disk
+    → IsChangedBy (made MANIFEST bytes) told0 told1 → (disk : DiskState) → told1 ≡ Some disk → IsFree LOG disk
 log_free names bytes None told1 lists none makes disk is = cc
 log_free names bytes (Some old) told1 lists none makes disk is =
     let same : made MANIFEST bytes old ≡ disk = cc in
@@ -66,10 +66,10 @@ module _ (state : DiskState) (is_empty : IsEmpty state) where
       (λ (makes : HasPart LOG (log_header NUMBER) between now). leaves_part makes.file now makes.part (with_log between now (settled first_manifest) makes.file has_manifest_alone makes.standing makes.removed))
       (making LOG (log_header NUMBER) between now meanwhile)
 
-  pub manifest_made : (told0 told1 : Option DiskState) → told0 ≡ Some state → Turns (made MANIFEST first_manifest) told0 told1 → told1 ≡ Some between
+  pub manifest_made : (told0 told1 : Option DiskState) → told0 ≡ Some state → IsChangedBy (made MANIFEST first_manifest) told0 told1 → told1 ≡ Some between
   manifest_made told0 told1 is makes = cc
 
-  pub opened : (told1 told2 : Option DiskState) → told1 ≡ Some between → Turns (made LOG (log_header NUMBER)) told1 told2
+  pub opened : (told1 told2 : Option DiskState) → told1 ≡ Some between → IsChangedBy (made LOG (log_header NUMBER)) told1 told2
       → (now : DiskState) × (told2 ≡ Some now) × Holds [] now
   opened told1 told2 is makes =
       let now = made LOG (log_header NUMBER) between in

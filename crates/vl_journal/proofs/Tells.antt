@@ -3,25 +3,25 @@ use Rattle.std.proofs.Common.{◌≡◌, ℕ, ◌≤◌, List, length, Option, N
 use Rattle.vl_disk.specs.declared.failed.Failed.{Failed}
 use Rattle.vl_disk.specs.declared.name.Name.{Name}
 use Rattle.vl_disk.specs.DiskState.{DiskState, appended, synced}
-use Rattle.vl_disk.specs.Disk.{Turns}
+use Rattle.vl_disk.specs.Disk.{IsChangedBy}
 use Rattle.vl_disk.specs.MadeFile.{TellsPart}
 
-pub turned : (change : DiskState → DiskState) (old new : Option DiskState) (state : DiskState) → old ≡ Some state → Turns change old new → new ≡ Some (change state)
-turned change old new state is turns = cc
+pub told_after : (change : DiskState → DiskState) (old new : Option DiskState) (state : DiskState) → old ≡ Some state → IsChangedBy change old new → new ≡ Some (change state)
+told_after change old new state is changed = cc
 
 pub tells_part_of : (name : Name) (piece : List ℕ) (old new : Option DiskState) (state : DiskState) → old ≡ Some state
-    → (taken : ℕ) × (taken ≤ length piece) × Turns (appended name piece taken) old new → (now : DiskState) × (new ≡ Some now)
-tells_part_of name piece old new state is (taken, le, turns) = (appended name piece taken state, turned (appended name piece taken) old new state is turns)
+    → (taken : ℕ) × (taken ≤ length piece) × IsChangedBy (appended name piece taken) old new → (now : DiskState) × (new ≡ Some now)
+tells_part_of name piece old new state is (taken, le, changed) = (appended name piece taken state, told_after (appended name piece taken) old new state is changed)
 
-pub tells_all_of : (name other : Name) (piece : List ℕ) (told0 told1 told2 : Option DiskState) (state : DiskState) → told0 ≡ Some state → Turns (appended name piece (length piece)) told0 told1
-    → (result : Result (Unit {0}) Failed) → OnOk result (Turns (synced other) told1 told2) → OnErr result (told2 ≡ told1) → (now : DiskState) × (told2 ≡ Some now)
+pub tells_all_of : (name other : Name) (piece : List ℕ) (told0 told1 told2 : Option DiskState) (state : DiskState) → told0 ≡ Some state → IsChangedBy (appended name piece (length piece)) told0 told1
+    → (result : Result (Unit {0}) Failed) → OnOk result (IsChangedBy (synced other) told1 told2) → OnErr result (told2 ≡ told1) → (now : DiskState) × (told2 ≡ Some now)
 tells_all_of name other piece told0 told1 told2 state is appends result ok err = of result ok err
   where
     between : told1 ≡ Some (appended name piece (length piece) state)
-    between = turned (appended name piece (length piece)) told0 told1 state is appends
+    between = told_after (appended name piece (length piece)) told0 told1 state is appends
 
-    of : (result : Result (Unit {0}) Failed) → OnOk result (Turns (synced other) told1 told2) → OnErr result (told2 ≡ told1) → (now : DiskState) × (told2 ≡ Some now)
-    of (Ok x) turns err = (synced other (appended name piece (length piece) state), turned (synced other) told1 told2 (appended name piece (length piece) state) between turns)
+    of : (result : Result (Unit {0}) Failed) → OnOk result (IsChangedBy (synced other) told1 told2) → OnErr result (told2 ≡ told1) → (now : DiskState) × (told2 ≡ Some now)
+    of (Ok x) changed err = (synced other (appended name piece (length piece) state), told_after (synced other) told1 told2 (appended name piece (length piece) state) between changed)
     of (Err e) ok same = (appended name piece (length piece) state, same ∙ between)
 
 pub tells_some : (name : Name) (bytes : List ℕ) (old new : Option DiskState) (state : DiskState) → old ≡ Some state → TellsPart name bytes old new → (now : DiskState) × (new ≡ Some now)

@@ -3,13 +3,13 @@ use Rattle.std.proofs.Common.{◌≡◌, inl, inr, ⊎_elim, ℕ, ◌≤◌, Lis
 use Rattle.std.proofs.lemmas.List.{take_all}
 use Rattle.std.specs.List.{AllByRecursion}
 use Rattle.vl_disk.specs.DiskState.{File, DiskState, settled, synced_file, lengthened, appended, synced}
-use Rattle.vl_disk.specs.Crash.{Image, WhileAppending, WhileSyncing}
-use Rattle.vl_disk.specs.Disk.{Turns}
+use Rattle.vl_disk.specs.Crash.{WhileAppending, WhileSyncing}
+use Rattle.vl_disk.specs.Disk.{IsChangedBy}
 use Rattle.vl_seglog.specs.Log.{Commit, HasFrame, log_bytes, commit_frame}
 use Rattle.vl_seglog.specs.Laws.{log_bytes-more}
 use Rattle.vl_journal.specs.declared.names.TheConstants.{NUMBER, LOG}
 use Rattle.vl_journal.specs.Files.{HasFiles, Holds, first_manifest}
-use Rattle.vl_journal.specs.Images.{Leaves, ImageShows, ShowsEither}
+use Rattle.vl_journal.specs.Images.{Leaves, ShowsEither}
 use Rattle.vl_journal.specs.StoreFiles.{log_changed}
 use Rattle.vl_journal.specs.StoreImages.{leaves_all, leaves_torn}
 
@@ -65,10 +65,10 @@ module _ (commits : List Commit) (c : Commit) (frame : List ℕ) (spelled : fram
       (λ (same : now ≡ synced LOG whole). λ image may chance. inr (leaves_all more now (holds_synced now same) image may chance))
       w
 
-  pub handed_over : (told1 told2 : Option DiskState) → told1 ≡ Some state → Turns (appended LOG frame (length frame)) told1 told2 → told2 ≡ Some whole
+  pub handed_over : (told1 told2 : Option DiskState) → told1 ≡ Some state → IsChangedBy (appended LOG frame (length frame)) told1 told2 → told2 ≡ Some whole
   handed_over told1 told2 is appends = cc
 
-  pub written : (told1 told2 told3 : Option DiskState) → told1 ≡ Some state → Turns (appended LOG frame (length frame)) told1 told2 → Turns (synced LOG) told2 told3
+  pub written : (told1 told2 told3 : Option DiskState) → told1 ≡ Some state → IsChangedBy (appended LOG frame (length frame)) told1 told2 → IsChangedBy (synced LOG) told2 told3
       → (now : DiskState) × (told3 ≡ Some now) × Holds more now
   written told1 told2 told3 is appends syncs =
       let after : told3 ≡ Some (synced LOG whole) = cc in

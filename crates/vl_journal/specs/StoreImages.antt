@@ -8,7 +8,7 @@ use Rattle.std.specs.FinMap.{get}
 use Rattle.vl_disk.specs.declared.name.Name.{Name}
 use Rattle.vl_disk.specs.DiskState.{File, DiskState, new_file, lengthened, settled}
 use Rattle.vl_disk.specs.Crash.{Image, Agrees, MayLeave, MayLeaveOne, last_file}
-use Rattle.vl_disk.specs.Chance.{NoChanceMatch, StandsIn, torn_from}
+use Rattle.vl_disk.specs.Chance.{HasOnlyHandedOver, NoChanceMatch, StandsIn, WasHandedOver, none_by_chance, torn_from}
 use Rattle.vl_seglog.specs.Log.{Commit, HasFrame, StandsAt, ReadsLog, log_bytes, log_header, commit_frame}
 use Rattle.vl_seglog.specs.Laws.{frame_is_some, header_length, one_front, reads_whole, reads_torn, nothing_in_header}
 use Rattle.vl_journal.specs.declared.names.TheConstants.{NUMBER, MANIFEST, LOG}
@@ -102,7 +102,7 @@ past_header frame header some short stands =
     take_none n xs none = ap (take n) none ∙ take_all n [] zero-le
 
 module _ (file : File) (disk : DiskState) (has : HasFiles (Some (settled first_manifest)) (Some file) disk) (unsynced : file.wholly_synced ≡ false) (begun : file.synced ≡ 0)
-    (nothing : (frame : List ℕ) → 1 ≤ length frame → Any (StandsIn 16 frame) file.due → ⊥) where
+    (nothing : (frame : List ℕ) → 1 ≤ length frame → WasHandedOver file 16 frame → ⊥) where
   from_16 : torn_from file ≡ 16
   from_16 = omega (arith, begun)
 
@@ -116,12 +116,15 @@ module _ (file : File) (disk : DiskState) (has : HasFiles (Some (settled first_m
       last : last_file (get disk.standing LOG) (get disk.removed LOG) ≡ Some file
       last = ap (λ (o : Option File). last_file o (get disk.removed LOG)) (has_log _ _ disk has)
 
+      handed_over : (bytes : List ℕ) → get image LOG ≡ Some bytes → HasOnlyHandedOver file (SpellsCommit LOG bytes)
+      handed_over bytes is = none_by_chance SpellsCommit LOG disk image chance file bytes last is tt unsynced
+
       no_frame : (bytes : List ℕ) → get image LOG ≡ Some bytes → (c : Commit) (rest : List ℕ) → StandsAt NUMBER 16 (drop 16 bytes) c rest → ⊥
       no_frame bytes is c rest stands =
           let spelled : SpellsCommit LOG bytes (torn_from file) (commit_frame NUMBER 16 c) =
           (c, rest, subst (λ (n : ℕ). StandsAt NUMBER n (drop n bytes) c rest) (sym from_16) stands, ap (λ (n : ℕ). commit_frame NUMBER n c) (sym from_16)) in
-          let due = (chance LOG file bytes (commit_frame NUMBER 16 c) tt last unsynced is spelled).0 in
-          nothing (commit_frame NUMBER 16 c) (frame_is_some NUMBER 16 c) (subst (λ (n : ℕ). Any (StandsIn n (commit_frame NUMBER 16 c)) file.due) from_16 due)
+          let due = (handed_over bytes is).first (commit_frame NUMBER 16 c) spelled in
+          nothing (commit_frame NUMBER 16 c) (frame_is_some NUMBER 16 c) (subst (λ (n : ℕ). WasHandedOver file n (commit_frame NUMBER 16 c)) from_16 due)
 
       shows : (left : Option (List ℕ)) → get image LOG ≡ left → LogShows left []
       shows None is = refl
@@ -165,21 +168,24 @@ module _ (commits : List Commit) (have : AllByRecursion HasFrame commits) (c : C
         sym (take-append-drop (length old) bytes) ∙ ap (λ (front : List ℕ). front ++ tail) (agrees.durable ∙ take_at old (take taken frame) (length old) refl)
 
     -- what is due at a place
-    due_at : (n : ℕ) (next : List ℕ) → Any (StandsIn n next) file.due → take (length next) (drop (n - length old) frame) ≡ next
+    due_at : (n : ℕ) (next : List ℕ) → WasHandedOver file n next → take (length next) (drop (n - length old) frame) ≡ next
     due_at n next due = (one_item (StandsIn n next) (record { place = length old; bytes = frame }) due).bytes_are
 
     module _ (d : Commit) (rest : List ℕ) (stands : StandsAt NUMBER (length old) tail d rest) where
       abbrev other : List ℕ
       other = commit_frame NUMBER (length old) d
 
-      matched : Any (StandsIn (torn_from file) other) file.due × ((next : List ℕ) → SpellsCommit LOG bytes (torn_from file + length other) next → Any (StandsIn (torn_from file + length other) next) file.due)
-      matched = chance LOG file bytes other tt last refl is
+      handed_over : HasOnlyHandedOver file (SpellsCommit LOG bytes)
+      handed_over = none_by_chance SpellsCommit LOG disk image chance file bytes last is tt refl
+
+      spelled_first : SpellsCommit LOG bytes (torn_from file) other
+      spelled_first =
           (d, rest, subst (λ (n : ℕ). StandsAt NUMBER n (drop n bytes) d rest) (sym from_end) stands, ap (λ (n : ℕ). commit_frame NUMBER n d) (sym from_end))
 
       front : take (length other) frame ≡ other
       front =
           let here : torn_from file - length old ≡ 0 = omega (arith, from_end) in
-          subst (λ (n : ℕ). take (length other) (drop n frame) ≡ other) here (due_at (torn_from file) other matched.0)
+          subst (λ (n : ℕ). take (length other) (drop n frame) ≡ other) here (due_at (torn_from file) other (handed_over.first other spelled_first))
 
       same : other ≡ frame
       same = one_front NUMBER (length old) c d lawful (record { lawful = stands.lawful; short = stands.short }) front
@@ -194,7 +200,7 @@ module _ (commits : List Commit) (have : AllByRecursion HasFrame commits) (c : C
           let at : torn_from file + length other ≡ length old + length other = ap (λ (n : ℕ). n + length other) from_end in
           let spelled = subst (λ (bs : List ℕ). StandsAt NUMBER (length old + length other) bs e after) (sym behind) next in
           let more = commit_frame NUMBER (length old + length other) e in
-          let due = matched.1 more (e, after, subst (λ (n : ℕ). StandsAt NUMBER n (drop n bytes) e after) (sym at) spelled, ap (λ (n : ℕ). commit_frame NUMBER n e) (sym at)) in
+          let due = handed_over.next other more spelled_first (e, after, subst (λ (n : ℕ). StandsAt NUMBER n (drop n bytes) e after) (sym at) spelled, ap (λ (n : ℕ). commit_frame NUMBER n e) (sym at)) in
           let past : torn_from file + length other - length old ≡ length frame = omega (arith, from_end, ap length same) in
           let none : more ≡ [] =
           sym (subst (λ (n : ℕ). take (length more) (drop n frame) ≡ more) past (due_at (torn_from file + length other) more due))

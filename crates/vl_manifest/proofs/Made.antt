@@ -5,7 +5,7 @@ use Rattle.std.specs.Option.{option_map}
 use Rattle.vl_disk.specs.declared.failed.Failed.{Failed}
 use Rattle.vl_disk.specs.declared.name.Name.TheVariants as names
 use Rattle.vl_disk.specs.declared.watched.Watched.{Ghosts}
-use Rattle.vl_disk.specs.Calls.{Looks}
+use Rattle.vl_disk.specs.Calls.{ChangesNothing}
 use Rattle.vl_disk.specs.Crash.{Unchanged}
 use Rattle.vl_disk.specs.Faults.{HasCause, after_calls}
 use Rattle.vl_disk.specs.MadeFile.{Makes, TellsPart, WhileMaking, made, not_there}
@@ -27,16 +27,16 @@ pub same_length : (len : ℕ) (items bytes : List ℕ) → len ≡ length items 
 same_length len items bytes is same = is ∙ ap length same
 
 module _ {D : Type 0} (g : Ghosts D) (number : ℕ) (edits : List Edit) (old mid new : D)
-    (looks : Looks g old mid ⊥) (room : SameSpareElsewhere (names.Manifest number) (g.spare old) (g.spare mid)) where
+    (no_change : ChangesNothing g old mid ⊥) (room : SameSpareElsewhere (names.Manifest number) (g.spare old) (g.spare mid)) where
   steady : g.faults mid ≡ g.faults old
-  steady = looks.cause.steady (λ no. no)
+  steady = no_change.cause.steady (λ no. no)
 
   time : Elapses g mid new (WhileMaking (names.Manifest number) (new_manifest number edits))
       → Elapses g old new (WhileMaking (names.Manifest number) (new_manifest number edits))
   time making = passes_then (g.moment old) (g.moment mid) (g.moment new) (g.states_since old) (g.states_since mid) (g.states_since new)
       (While (g.told old) Unchanged) (While (g.told mid) (WhileMaking (names.Manifest number) (new_manifest number edits)))
-      (While (g.told old) (WhileMaking (names.Manifest number) (new_manifest number edits))) looks.time making
-      (λ state before disk is. not_there (before disk is)) (λ state meanwhile disk is. meanwhile disk (looks.told ∙ is))
+      (While (g.told old) (WhileMaking (names.Manifest number) (new_manifest number edits))) no_change.time making
+      (λ state before disk is. not_there (before disk is)) (λ state meanwhile disk is. meanwhile disk (no_change.told ∙ is))
 
   -- it was made
   pub was_made : (result : Result Unit Failed) (len : ℕ) → is_err result ≡ false → len ≡ length (new_manifest number edits)
@@ -47,9 +47,9 @@ module _ {D : Type 0} (g : Ghosts D) (number : ℕ) (edits : List Edit) (old mid
     answer = record {
       log_is = ap (λ (n : ℕ). record { number = number; length = n }) e;
       reads = reads;
-      file = makes.made ∙ ap (option_map (made (names.Manifest number) (new_manifest number edits))) looks.told;
+      file = makes.made ∙ ap (option_map (made (names.Manifest number) (new_manifest number edits))) no_change.told;
       stands = makes.stands;
-      calls = makes.calls ∙ ap (after_calls 3) looks.calls;
+      calls = makes.calls ∙ ap (after_calls 3) no_change.calls;
     };
     time = time makes.time;
     cause = subst (λ (n : ℕ). HasCause n (g.faults new) ⊥) steady (record {
@@ -69,8 +69,8 @@ module _ {D : Type 0} (g : Ghosts D) (number : ℕ) (edits : List Edit) (old mid
   was_broken (Err fail) failed makes = record {
     answer = record {
       name_is = refl;
-      part = subst (λ told. TellsPart (names.Manifest number) (new_manifest number edits) told (g.told new)) looks.told makes.failed;
-      stops = (makes.stops.0, makes.stops.1, makes.stops.2, makes.stops.3 ∙ ap (after_calls makes.stops.0) looks.calls);
+      part = subst (λ told. TellsPart (names.Manifest number) (new_manifest number edits) told (g.told new)) no_change.told makes.failed;
+      stops = (makes.stops.0, makes.stops.1, makes.stops.2, makes.stops.3 ∙ ap (after_calls makes.stops.0) no_change.calls);
     };
     time = time makes.time;
     cause = subst (λ (n : ℕ). HasCause n (g.faults new) (Unit {0})) steady (record {

@@ -4,7 +4,7 @@ use Rattle.std.specs.Option.{ForSome}
 use Rattle.vl_disk.specs.declared.name.Name.{Name}
 use Rattle.vl_disk.specs.declared.name.Name.TheVariants as names
 use Rattle.vl_disk.specs.declared.watched.Watched.{Ghosts}
-use Rattle.vl_disk.specs.Disk.{Stands, Turns}
+use Rattle.vl_disk.specs.Disk.{Stands, IsChangedBy}
 use Rattle.vl_disk.specs.Faults.{HasCause, after_calls}
 use Rattle.vl_disk.specs.MadeFile.{TellsPart, WhileMaking, made}
 use Rattle.vl_disk.specs.Moments.{Elapses}
@@ -25,7 +25,7 @@ pub record HasMade {D : Type 0} (g : Ghosts D) (number : ℕ) (edits : List Edit
   pub log_is : log ≡ record { number = number; length = length (new_manifest number edits) }
   -- it reads as its one frame
   pub reads : ReadsManifest number (new_manifest number edits) (edits ∷ [])
-  pub file : Turns (made (names.Manifest number) (new_manifest number edits)) (g.told old) (g.told new)
+  pub file : IsChangedBy (made (names.Manifest number) (new_manifest number edits)) (g.told old) (g.told new)
   pub stands : ForSome (g.told new) (Stands (names.Manifest number))
   pub calls : g.calls new ≡ after_calls 3 (g.calls old)
 

@@ -1,14 +1,14 @@
 -- What the calls of a disk in memory do to what it tells.
-use Rattle.std.proofs.Common.{◌≡◌, ◌⊎◌, inl, inr, ⊎_elim, ℕ, ◌+◌, ◌-◌, ◌≤◌, Bool, true, false, List, [], ◌∷◌, ◌++◌, length, Option, None, Some, Ok, Err, refl, sym, ◌∙◌, ap, subst, arith, length-append, IsSome, IsTrue, unwrap_or}
+use Rattle.std.proofs.Common.{◌≡◌, ◌⊎◌, inl, inr, ⊎_elim, ℕ, ◌+◌, ◌≤◌, Bool, true, false, List, [], ◌∷◌, ◌++◌, length, Option, None, Some, Ok, Err, refl, sym, ◌∙◌, ap, subst, arith, length-append, IsSome, IsTrue, unwrap_or}
 use Rattle.std.proofs.lemmas.List.{take_all, take-append-le}
 use Rattle.std.specs.Option.{option_map}
 use Rattle.std.specs.FinMap.{get}
 use Rattle.vl_disk.specs.declared.name.Name.{Name}
 use Rattle.vl_disk.specs.declared.watched.Watched.{Ghosts}
 use Rattle.vl_disk.specs.DiskState.{File, DiskState, IsLawful, empty_disk, new_file, synced_file, lengthened, shortened, file_at, created, appended, synced, cut_to, without}
-use Rattle.vl_disk.specs.Calls.{Works, Creates, Appends, Syncs, Cuts, Removes}
+use Rattle.vl_disk.specs.Calls.{ChangingCall, Creates, Appends, Syncs, Cuts, Removes}
 use Rattle.vl_disk.specs.Crash.{WhileCreating, WhileAppending, WhileSyncing, WhileCutting, WhileRemoving}
-use Rattle.vl_disk.specs.Disk.{Stands, IsInside, Turns}
+use Rattle.vl_disk.specs.Disk.{Stands, IsInside, IsChangedBy}
 use Rattle.vl_disk.specs.FaultPlan.{Follows}
 use Rattle.vl_disk.specs.Faults.{HasCause}
 use Rattle.vl_disk.specs.Lawful.{synced_again}
@@ -83,11 +83,11 @@ module _ (old mid new : MemDisk) (failed : Bool) (counts : Counts old mid failed
     pushed : new.events.items ≡ old.events.items ++ goes.event ∷ []
     pushed = goes.events ∙ ap (λ es. es ++ goes.event ∷ []) counts.events
 
-    turns : Turns change (told_by old) (told_by new)
+    turns : IsChangedBy change (told_by old) (told_by new)
     turns = ap (λ es. Some (state_after es)) pushed ∙ ap Some (replayed-push old.events.items goes.event empty_disk ∙ goes.does now)
 
-    works : (during : DiskState → DiskState → Type 0) → ((next : DiskState) → next ≡ change now → during now next) → Works watched old new during (IsTrue failed)
-    works during meanwhile = record {
+    as_call : (during : DiskState → DiskState → Type 0) → ((next : DiskState) → next ≡ change now → during now next) → ChangingCall watched old new during (IsTrue failed)
+    as_call during meanwhile = record {
       calls = ap (λ p. p.calls) goes.changes ∙ counts.follows.calls;
       time = passes_push old.events.items new.events.items goes.event (While (told_by old) during) pushed
           (λ next is disk told. subst (λ d. during d next) (some_state now disk told) (meanwhile next (is ∙ goes.does now)));
@@ -103,7 +103,7 @@ module _ (name : Name) (old mid new : MemDisk) where
     stands = created_stands name (told_by old) (told_by new) (turns old mid new false counts (created name) goes);
     failed = tt;
     clean = λ _. tt;
-    works = works old mid new false counts (created name) goes (WhileCreating name) (λ next is. inr is);
+    as_call = as_call old mid new false counts (created name) goes (WhileCreating name) (λ next is. inr is);
     spare = spare;
   }
 
@@ -113,7 +113,7 @@ module _ (name : Name) (old mid new : MemDisk) where
     free = removed_free name (told_by old) (told_by new) (turns old mid new false counts (without name) goes);
     failed = tt;
     clean = λ _. tt;
-    works = works old mid new false counts (without name) goes (WhileRemoving name) (λ next is. inr is);
+    as_call = as_call old mid new false counts (without name) goes (WhileRemoving name) (λ next is. inr is);
     spare = spare;
   }
 
@@ -126,27 +126,27 @@ module _ (name : Name) (old mid new : MemDisk) where
       synced = turns old mid new false counts (synced name) goes;
       failed = tt;
       stands = changed_stands name synced_file (told_by old) (told_by new) (turns old mid new false counts (synced name) goes) told_stands;
-      works = works old mid new false counts (synced name) goes (WhileSyncing name) (λ next is. inr is);
+      as_call = as_call old mid new false counts (synced name) goes (WhileSyncing name) (λ next is. inr is);
       spare = spare;
     }
 
     module _ (piece : List ℕ) (failed : Bool) (taken : ℕ) (counts : Counts old mid failed) (goes : Goes mid new (appended name piece taken)) (within : taken ≤ length piece) where
-      hands : Turns (appended name piece taken) (told_by old) (told_by new)
+      hands : IsChangedBy (appended name piece taken) (told_by old) (told_by new)
       hands = turns old mid new failed counts (appended name piece taken) goes
 
       still_stands : (disk : DiskState) → told_by new ≡ Some disk → Stands name disk
       still_stands = changed_stands name (lengthened piece taken) (told_by old) (told_by new) hands told_stands
 
-      appending : Works watched old new (WhileAppending name piece) (IsTrue failed)
-      appending = works old mid new failed counts (appended name piece taken) goes (WhileAppending name piece) (λ next is. inr (taken, within, is))
+      appending : ChangingCall watched old new (WhileAppending name piece) (IsTrue failed)
+      appending = as_call old mid new failed counts (appended name piece taken) goes (WhileAppending name piece) (λ next is. inr (taken, within, is))
 
     pub appends : {X E : Type 0} (x : X) (piece : List ℕ) (taken : ℕ) → taken ≡ length piece → Counts old mid false → Goes mid new (appended name piece taken) → UsesAppend name (room_of old) (room_of new) → Appends {E = E} watched name piece old new (Ok x)
     appends x piece taken all counts goes spare = record {
-      appended = subst (λ n. Turns (appended name piece n) (told_by old) (told_by new)) all (hands piece false taken counts goes (omega (arith, all)));
+      appended = subst (λ n. IsChangedBy (appended name piece n) (told_by old) (told_by new)) all (hands piece false taken counts goes (omega (arith, all)));
       failed = tt;
       clean = λ _. tt;
       stands = still_stands piece false taken counts goes (omega (arith, all));
-      works = appending piece false taken counts goes (omega (arith, all));
+      as_call = appending piece false taken counts goes (omega (arith, all));
       spare = spare;
     }
 
@@ -156,19 +156,19 @@ module _ (name : Name) (old mid new : MemDisk) where
       failed = (0, omega arith, hands piece true 0 counts goes (omega arith));
       clean = λ _. hands piece true 0 counts goes (omega arith);
       stands = still_stands piece true 0 counts goes (omega arith);
-      works = appending piece true 0 counts goes (omega arith);
+      as_call = appending piece true 0 counts goes (omega arith);
       spare = spare;
     }
 
     module _ (len left : ℕ) (failed : Bool) (counts : Counts old mid failed) (goes : Goes mid new (cut_to name len left)) (short : len ≤ left) (inside : IsInside name left (state_of old)) where
-      shortens : Turns (cut_to name len left) (told_by old) (told_by new)
+      shortens : IsChangedBy (cut_to name len left) (told_by old) (told_by new)
       shortens = turns old mid new failed counts (cut_to name len left) goes
 
       stands_cut : (disk : DiskState) → told_by new ≡ Some disk → Stands name disk
       stands_cut = changed_stands name (shortened len left) (told_by old) (told_by new) shortens told_stands
 
-      cutting : Works watched old new (WhileCutting name len) (IsTrue failed)
-      cutting = works old mid new failed counts (cut_to name len left) goes (WhileCutting name len) (λ next is. inr (left, short, inside, is))
+      cutting : ChangingCall watched old new (WhileCutting name len) (IsTrue failed)
+      cutting = as_call old mid new failed counts (cut_to name len left) goes (WhileCutting name len) (λ next is. inr (left, short, inside, is))
 
     pub cuts : {X E : Type 0} (x : X) (len : ℕ) → Counts old mid false → Goes mid new (cut_to name len len) → IsInside name len (state_of old) → UsesChange name (room_of old) (room_of new) → Cuts {E = E} watched name len old new (Ok x)
     cuts x len counts goes inside spare = record {
@@ -176,7 +176,7 @@ module _ (name : Name) (old mid new : MemDisk) where
       failed = tt;
       clean = λ _. tt;
       stands = stands_cut len len false counts goes (omega arith) inside;
-      works = cutting len len false counts goes (omega arith) inside;
+      as_call = cutting len len false counts goes (omega arith) inside;
       spare = spare;
     }
 
@@ -189,9 +189,9 @@ module _ (name : Name) (old mid new : MemDisk) where
         record {
           cut = tt;
           failed = (whole, short, (λ disk told. subst (IsInside name whole) (some_state (state_of old) disk told) inside), turned);
-          clean = λ _ disk told. subst (λ n. Turns (cut_to name len n) (told_by old) (told_by new)) (is ∙ ap (λ d. length (file_at d name).bytes) (some_state (state_of old) disk told)) turned;
+          clean = λ _ disk told. subst (λ n. IsChangedBy (cut_to name len n) (told_by old) (told_by new)) (is ∙ ap (λ d. length (file_at d name).bytes) (some_state (state_of old) disk told)) turned;
           stands = stands_cut len whole true counts goes short inside;
-          works = cutting len whole true counts goes short inside;
+          as_call = cutting len whole true counts goes short inside;
           spare = spare;
         }
 
@@ -212,7 +212,7 @@ syncs_again name old new entry x stands counts found whole spare = record {
       (sym (ap (λ (f : File). f.wholly_synced) (shown name old.entries (state_of old) entry old.kept.files stands found)) ∙ whole)));
   failed = tt;
   stands = λ disk is. subst (Stands name) (some_state (state_of old) disk (sym (ap (λ es. Some (state_after es)) counts.events) ∙ is)) stands;
-  works = record {
+  as_call = record {
     calls = counts.follows.calls;
     time = subst (λ es. Passes (length old.events.items) (length es) (WasSince old.events.items) (WasSince es) (While (told_by old) (WhileSyncing name))) (sym counts.events)
         (passes_still old.events.items (While (told_by old) (WhileSyncing name)));

@@ -132,7 +132,7 @@ impl Disk for MemDisk {
     ghost use Rattle.vl_disk.specs.Name.{IsNumbered};
     ghost use Rattle.vl_disk.specs.DiskState.{bytes_at, file_at};
     ghost use Rattle.vl_disk.specs.Disk.{Stands, IsFree, IsInside, Lists};
-    ghost use Rattle.vl_disk.specs.Calls.{Looks, Creates, Appends, Syncs, Cuts, Removes};
+    ghost use Rattle.vl_disk.specs.Calls.{ChangesNothing, Creates, Appends, Syncs, Cuts, Removes};
     ghost use Rattle.vl_disk.specs.FaultPlan.{new_plan};
     ghost use Rattle.vl_disk.specs.Spare.{IsReady, CanAppend, SameSpare, SameSpareElsewhere, UsesHold};
     ghost use Rattle.vl_mem.specs.Event.{told_lawful, counts_present, only_present};
@@ -147,7 +147,7 @@ impl Disk for MemDisk {
     fn list(&mut self, alloc: Global) -> Result<Vec<Name>, ListFail>
         ensures names { IfOk result (λ names. ForSome (told_by self.old) (Lists names.items)) }
         ensures numbered { IfOk result (λ names. All IsNumbered names.items) }
-        ensures looks { Looks ⟦<MemDisk as Watched>⟧ self.old self.new (IsErrOf result ListFail.Failed) }
+        ensures no_change { ChangesNothing ⟦<MemDisk as Watched>⟧ self.old self.new (IsErrOf result ListFail.Failed) }
         ensures spare { SameSpare (room_of self.old) (room_of self.new) }
         ensures counts { CountsRead self.old self.new (IsErrOf result ListFail.Failed) }
     {
@@ -161,7 +161,7 @@ impl Disk for MemDisk {
         requires { ForSome (told_by self.old) (Stands name) }
         ensures size { IfOk result (λ size. ForSome (told_by self.old)
             (λ disk. size ≡ length (file_at disk name).bytes)) }
-        ensures looks { Looks ⟦<MemDisk as Watched>⟧ self.old self.new (IsErr result) }
+        ensures no_change { ChangesNothing ⟦<MemDisk as Watched>⟧ self.old self.new (IsErr result) }
         ensures spare { SameSpare (room_of self.old) (room_of self.new) }
         ensures counts { CountsRead self.old self.new (IsErr result) }
     {
@@ -176,7 +176,7 @@ impl Disk for MemDisk {
         requires inside { ForSome (told_by self.old) (IsInside name (place + length out.old)) }
         ensures bytes { OnOk result (ForSome (told_by self.old)
             (λ disk. out.new ≡ bytes_at place (length out.old) (file_at disk name).bytes)) }
-        ensures looks { Looks ⟦<MemDisk as Watched>⟧ self.old self.new (IsErr result) }
+        ensures no_change { ChangesNothing ⟦<MemDisk as Watched>⟧ self.old self.new (IsErr result) }
         ensures spare { SameSpare (room_of self.old) (room_of self.new) }
 
         // Where it fails, it reads nothing.
@@ -195,7 +195,7 @@ impl Disk for MemDisk {
         ensures hold { OnOk result (IsTrue (room_of self.new name).hold) }
         ensures elsewhere { SameSpareElsewhere name (room_of self.old) (room_of self.new) }
         ensures refused { OnErr result (SameSpare (room_of self.old) (room_of self.new)) }
-        ensures looks { Looks ⟦<MemDisk as Watched>⟧ self.old self.new ⊥ }
+        ensures no_change { ChangesNothing ⟦<MemDisk as Watched>⟧ self.old self.new ⊥ }
         ensures changes { changes_of self.new ≡ changes_of self.old }
         ensures reads { reads_of self.new ≡ reads_of self.old }
     {
@@ -280,7 +280,7 @@ impl Disk for MemDisk {
         requires { ForSome (told_by self.old) (Stands name) }
         ensures held { IfOk result (λ held. ForSome (told_by self.old)
             (λ disk. ⟦<MemHeld as HeldFile>⟧.bytes held ≡ Some (file_at disk name).bytes)) }
-        ensures looks { Looks ⟦<MemDisk as Watched>⟧ self.old self.new (IsErrOf result HoldFail.Failed) }
+        ensures no_change { ChangesNothing ⟦<MemDisk as Watched>⟧ self.old self.new (IsErrOf result HoldFail.Failed) }
         ensures memory { IsTrue (room_of self.old name).hold → IsErrOf result HoldFail.NoMemory → ⊥ }
         ensures spare { UsesHold name (room_of self.old) (room_of self.new) }
         ensures counts { CountsRead self.old self.new (IsErrOf result HoldFail.Failed) }

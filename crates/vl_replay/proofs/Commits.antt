@@ -9,7 +9,7 @@ use Rattle.vl_model.specs.History.{Extends, last_number}
 use Rattle.vl_model.specs.Keys.{Writes, key_cmp}
 use Rattle.vl_model.specs.Limits.{max_commit_number}
 use Rattle.vl_disk.specs.declared.watched.Watched.{Ghosts}
-use Rattle.vl_disk.specs.Calls.{Looks}
+use Rattle.vl_disk.specs.Calls.{ChangesNothing}
 use Rattle.vl_disk.specs.DiskState.{DiskState}
 use Rattle.vl_disk.specs.Crash.{Image, Unchanged}
 use Rattle.vl_disk.specs.Faults.{after_calls}
@@ -88,13 +88,13 @@ next_frame r s disk writes list frame rep stored is spelled has =
 
 module _ {D : Type 0} (g : Ghosts D) (watched : IsWatched g) where
   -- a call that changes nothing
-  pub looked : (s : State) (old new : D) (failed : Type 0) → Looks g old new failed → HoldsState g IsStored s old → HoldsState g IsStored s new × GoesFrom g Shown old new s.history s.history
-  looked s old new failed looks held =
+  pub looked : (s : State) (old new : D) (failed : Type 0) → ChangesNothing g old new failed → HoldsState g IsStored s old → HoldsState g IsStored s new × GoesFrom g Shown old new s.history s.history
+  looked s old new failed no_change held =
       let (state, is, here) = held.there in
       let P = Leaves (ShowsBetween Shown s.history s.history) in
       let start = rests g watched IsStored Shown shown_stays stored_exactly s old held in (
-        record { calls = looks.calls ∙ held.calls; there = (state, looks.told ∙ is, here) },
-        goes_by g P old old new state Unchanged is start looks.time (λ now same. subst P (sym same) (start.each state (watched.counts_now old state (g.moment old) is (omega arith)))),
+        record { calls = no_change.calls ∙ held.calls; there = (state, no_change.told ∙ is, here) },
+        goes_by g P old old new state Unchanged is start no_change.time (λ now same. subst P (sym same) (start.each state (watched.counts_now old state (g.moment old) is (omega arith)))),
       )
 
   -- the state has the same commits
@@ -111,10 +111,10 @@ module _ {D : Type 0} (g : Ghosts D) (watched : IsWatched g) where
   }
 
   -- memory ran out before anything was written
-  pub carries_no_memory : {T : Type 0} (s after : State) (old new : D) (failed : Type 0) (result : Result T Halt) → IsErr result → Extends s.history after.history → Looks g old new failed → HoldsState g IsStored s old
+  pub carries_no_memory : {T : Type 0} (s after : State) (old new : D) (failed : Type 0) (result : Result T Halt) → IsErr result → Extends s.history after.history → ChangesNothing g old new failed → HoldsState g IsStored s old
       → CarriesOut g IsStored Shown old new s after result
-  carries_no_memory s after old new failed result err extends looks held =
-      let (kept, goes) = looked s old new failed looks held in
+  carries_no_memory s after old new failed result err extends no_change held =
+      let (kept, goes) = looked s old new failed no_change held in
       record {
         answered = on_ok_at_err result _ err;
         no_memory = λ _. it_holds g watched IsStored Shown shown_stays stored_exactly s new kept;
@@ -122,7 +122,7 @@ module _ {D : Type 0} (g : Ghosts D) (watched : IsWatched g) where
         through = goes_wider g watched IsStored Shown shown_stays stored_exactly old new s.history s.history s.history after.history (extends_itself s.history) extends goes;
       }
 
-  module _ (s : State) (name : List ℕ) (writes : Writes) (old mid new : D) (failed : Type 0) (looks : Looks g old mid failed) (held : HoldsState g IsStored s old)
+  module _ (s : State) (name : List ℕ) (writes : Writes) (old mid new : D) (failed : Type 0) (no_change : ChangesNothing g old mid failed) (held : HoldsState g IsStored s old)
       (through : HoldsThroughout g mid new (Leaves (ShowsEither (logged s.history) (logged s.history ++ next_commit s writes ∷ [])))) where
     abbrev after : State
     after = after_commit s name writes
@@ -143,7 +143,7 @@ module _ {D : Type 0} (g : Ghosts D) (watched : IsWatched g) where
     written =
         let either = ShowsEither (logged s.history) (logged s.history ++ next_commit s writes ∷ []) in
         let between = ShowsBetween Shown s.history after.history in
-        goes_then g watched IsStored Shown shown_stays stored_exactly old mid new s.history s.history after.history (extends_itself s.history) extends (looked s old mid failed looks held).1
+        goes_then g watched IsStored Shown shown_stays stored_exactly old mid new s.history s.history after.history (extends_itself s.history) extends (looked s old mid failed no_change held).1
         (holds_weaker g (Leaves either) (Leaves between) mid new through (leaves_weaker either between shown_either))
 
     -- the disk failed while it was written
@@ -159,7 +159,7 @@ module _ {D : Type 0} (g : Ghosts D) (watched : IsWatched g) where
     pub carries_commit : {T : Type 0} (answer : T) → g.calls new ≡ after_calls 2 (g.calls mid) → (now : DiskState) × (g.told new ≡ Some now) × Holds (logged s.history ++ next_commit s writes ∷ []) now
         → CarriesOut g IsStored Shown old new s after (Ok answer)
     carries_commit answer calls (now, is, holds) = record {
-      answered = record { calls = calls ∙ ap (after_calls 2) (looks.calls ∙ held.calls); there = (now, is, stored_commit s name writes held.there.0 now held.there.2 holds) };
+      answered = record { calls = calls ∙ ap (after_calls 2) (no_change.calls ∙ held.calls); there = (now, is, stored_commit s name writes held.there.0 now held.there.2 holds) };
       no_memory = λ none. cc;
       tells = (now, is, tt);
       through = written;

@@ -107,7 +107,7 @@ module _ {D : Type 0} (g : Ghosts D) (watched : IsWatched g) (holds : Holding) (
 
   -- what a crash leaves in the end
   pub at_end : (old new : D) (least most : History) → GoesFrom g shows old new least most → Tells g new (λ _. Unit {0}) → Tells g new (Leaves (ShowsBetween shows least most))
-  at_end old new least most goes (state, is, nothing) = (state, is, goes.each state (watched.counts_now new state (g.moment old) is goes.later))
+  at_end old new least most goes (state, is, nothing) = (state, is, goes.each state (watched.counts_now new state (g.moment old) is goes.time.later))
 
   -- the run ended before a line was answered
   pub ends_within : (old new : D) (ending : Ending) (least most : State) → GoesFrom g shows old new least.history most.history → Tells g new (λ _. Unit {0})

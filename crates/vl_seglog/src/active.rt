@@ -1,7 +1,7 @@
 ghost use Rattle.std.specs.Prelude.{◌≡◌, ◌+◌, ◌-◌, ◌<◌, ◌^◌, length, min, IfOk, OnErr, OnOk};
 ghost use Rattle.std.specs.Option.{ForSome};
 ghost use Rattle.vl_disk.specs.declared.name.Name.TheVariants as names;
-ghost use Rattle.vl_disk.specs.Calls.{Appends, Looks, Syncs};
+ghost use Rattle.vl_disk.specs.Calls.{Appends, ChangesNothing, Syncs};
 ghost use Rattle.vl_disk.specs.Disk.{Stands};
 ghost use Rattle.vl_disk.specs.Spare.{CanAppend, SameSpare, SameSpareElsewhere};
 ghost use Rattle.vl_seglog.specs.Log as log;
@@ -57,7 +57,7 @@ impl ActiveLog {
             CanAppend (length staged.frame.items) (D.spare disk.new (names.Log self.now.number))) }
         ensures elsewhere { SameSpareElsewhere (names.Log self.now.number) (D.spare disk.old) (D.spare disk.new) }
         ensures refused { OnErr result (SameSpare (D.spare disk.old) (D.spare disk.new)) }
-        ensures looks { Looks D.Watched disk.old disk.new ⊥ }
+        ensures no_change { ChangesNothing D.Watched disk.old disk.new ⊥ }
     {
         let staged = staged_commit(alloc, self.number, self.length, number, writes)?;
         disk.ready(Name::Log(self.number), staged.frame.len() as u64)?;

@@ -3,7 +3,7 @@ use Rattle.std.proofs.lemmas.Result.{on_ok_weaker}
 use Rattle.vl_disk.specs.declared.name.Name.{Name}
 use Rattle.vl_disk.specs.declared.name.Name.TheVariants as names
 use Rattle.vl_disk.specs.Crash.{WhileAppending, WhileSyncing}
-use Rattle.vl_disk.specs.Disk.{Turns}
+use Rattle.vl_disk.specs.Disk.{IsChangedBy}
 use Rattle.vl_disk.specs.DiskState.{appended, synced}
 use Rattle.vl_disk.specs.Moments.{Elapses, waits, goes_by}
 use Rattle.vl_journal.specs.declared.names.TheConstants.{LOG}
@@ -26,7 +26,7 @@ returns-in_err-append_commit-clause-through g c state commits commit is holds ne
     let new = c.append_commit.new.disk in
     let frame = c.args.staged.now.frame.items in
     let start = waits g.D.Watched _ g.met.D.Disk.only_now old state is (leaves_waiting commits _ state holds) in
-    let time = subst (λ (n : Name). Elapses g.D.Watched old new (WhileAppending n frame)) (ap names.Log next.number) c.in_err-append_commit.ensures.appended.works.time in
+    let time = subst (λ (n : Name). Elapses g.D.Watched old new (WhileAppending n frame)) (ap names.Log next.number) c.in_err-append_commit.ensures.appended.as_call.time in
     goes_by g.D.Watched _ old old new state _ is start time (leaves_appending commits commit frame next.spelled next.has_frame state holds)
 
 pub returns-clause-through : goal.returns-clause-through
@@ -39,10 +39,10 @@ returns-clause-through g c state commits commit is holds next =
     let named : names.Log c.args.log.now.number ≡ LOG = ap names.Log next.number in
     let named_still : names.Log c.append_commit.new.self.number ≡ LOG = ap names.Log c.in_ok-append_commit.ensures.number ∙ named in
     let start = waits g.D.Watched _ g.met.D.Disk.only_now old state is (leaves_waiting commits _ state holds) in
-    let appending = subst (λ (n : Name). Elapses g.D.Watched old mid (WhileAppending n frame)) named c.in_ok-append_commit.ensures.appended.works.time in
-    let syncing = subst (λ (n : Name). Elapses g.D.Watched mid new (WhileSyncing n)) named_still c.sync.ensures.synced.works.time in
+    let appending = subst (λ (n : Name). Elapses g.D.Watched old mid (WhileAppending n frame)) named c.in_ok-append_commit.ensures.appended.as_call.time in
+    let syncing = subst (λ (n : Name). Elapses g.D.Watched mid new (WhileSyncing n)) named_still c.sync.ensures.synced.as_call.time in
     let handed = handed_over commits commit frame next.spelled next.has_frame state holds _ _ is
-    (subst (λ (n : Name). Turns (appended n frame (length frame)) (told old) (told mid)) named c.in_ok-append_commit.ensures.appended.appended) in
+    (subst (λ (n : Name). IsChangedBy (appended n frame (length frame)) (told old) (told mid)) named c.in_ok-append_commit.ensures.appended.appended) in
     goes_by g.D.Watched _ old mid new _ _ handed
     (goes_by g.D.Watched _ old old mid state _ is start appending (leaves_appending commits commit frame next.spelled next.has_frame state holds))
     syncing (leaves_syncing commits commit frame next.spelled next.has_frame state holds)
@@ -55,7 +55,7 @@ returns-clause-written g c state commits commit is holds next =
     let mid = c.append_commit.new.disk in
     let named : names.Log c.args.log.now.number ≡ LOG = ap names.Log next.number in
     let named_still : names.Log c.append_commit.new.self.number ≡ LOG = ap names.Log c.in_ok-append_commit.ensures.number ∙ named in
-    let appends = subst (λ (n : Name). Turns (appended n frame (length frame)) (told old) (told mid)) named c.in_ok-append_commit.ensures.appended.appended in
+    let appends = subst (λ (n : Name). IsChangedBy (appended n frame (length frame)) (told old) (told mid)) named c.in_ok-append_commit.ensures.appended.appended in
     on_ok_weaker c.sync.result
-    (λ syncs. written commits commit frame next.spelled next.has_frame state holds _ _ _ is appends (subst (λ (n : Name). Turns (synced n) (told mid) (told c.sync.new.disk)) named_still syncs))
+    (λ syncs. written commits commit frame next.spelled next.has_frame state holds _ _ _ is appends (subst (λ (n : Name). IsChangedBy (synced n) (told mid) (told c.sync.new.disk)) named_still syncs))
     c.sync.ensures.synced.synced

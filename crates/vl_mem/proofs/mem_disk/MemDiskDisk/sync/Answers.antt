@@ -1,4 +1,4 @@
-use Rattle.std.proofs.Common.{refl, true, false}
+use Rattle.std.proofs.Common.{refl, false}
 use Rattle.vl_mem.proofs.Calls.{counted, syncs, syncs_again}
 use Rattle.vl_mem.proofs.mem_disk.MemDiskDisk.sync.Goals as goal
 

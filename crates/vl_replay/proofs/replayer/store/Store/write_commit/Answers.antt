@@ -24,12 +24,12 @@ stage_commit-requires g c =
 pub returns-in_err-staged-clause-carries : goal.returns-in_err-staged-clause-carries
 returns-in_err-staged-clause-carries g c s name writes rep there held =
     carries_no_memory g.D.Watched (record { only_now = g.met.D.Disk.only_now; counts_now = g.met.D.Disk.counts_now }) s (after_commit s name writes) c.args.disk.now c.stage_commit.new.disk _
-    c.from_residual.result c.from_residual.ensures.0 (extends_one s.history (after_commit s name writes).history writes refl) c.in_err-staged.ensures.looks held
+    c.from_residual.result c.from_residual.ensures.0 (extends_one s.history (after_commit s name writes).history writes refl) c.in_err-staged.ensures.no_change held
 
 pub returns-in_err-reserve-clause-carries : goal.returns-in_err-reserve-clause-carries
 returns-in_err-reserve-clause-carries g c s name writes rep there held =
     carries_no_memory g.D.Watched (record { only_now = g.met.D.Disk.only_now; counts_now = g.met.D.Disk.counts_now }) s (after_commit s name writes) c.args.disk.now c.stage_commit.new.disk _
-    c.from_residual-in_err-reserve.result c.from_residual-in_err-reserve.ensures.0 (extends_one s.history (after_commit s name writes).history writes refl) c.in_ok-staged.ensures.looks held
+    c.from_residual-in_err-reserve.result c.from_residual-in_err-reserve.ensures.0 (extends_one s.history (after_commit s name writes).history writes refl) c.in_ok-staged.ensures.no_change held
 
 pub returns-in_err-append_durably-clause-carries : goal.returns-in_err-append_durably-clause-carries
 returns-in_err-append_durably-clause-carries g c s name writes rep there held =
@@ -39,9 +39,9 @@ returns-in_err-append_durably-clause-carries g c s name writes rep there held =
     let same : c.in-Transaction.writes ≡ writes = same_writes _ _ _ _ _ c.in-Transaction.is kept.1 in
     let listed = c.as_slice.ensures.entries ∙ ap (λ (w : Writes). entries w) same in
     let next = next_frame r s state writes c.as_slice.result.now c.in_ok-staged.staged.frame.items rep stored listed c.in_ok-staged.ensures.frame c.in_ok-staged.ensures.has_frame in
-    let told = c.in_ok-staged.ensures.looks.told ∙ is in
+    let told = c.in_ok-staged.ensures.no_change.told ∙ is in
     let residual = c.from_residual-in_err-append_durably in
-    carries_failed g.D.Watched (record { only_now = g.met.D.Disk.only_now; counts_now = g.met.D.Disk.counts_now }) s name writes c.args.disk.now c.stage_commit.new.disk c.append_durably.new.disk _ c.in_ok-staged.ensures.looks held
+    carries_failed g.D.Watched (record { only_now = g.met.D.Disk.only_now; counts_now = g.met.D.Disk.counts_now }) s name writes c.args.disk.now c.stage_commit.new.disk c.append_durably.new.disk _ c.in_ok-staged.ensures.no_change held
     (c.in_err-append_durably.ensures.through state (logged s.history) (next_commit s writes) told stored.commits next)
     residual.result residual.ensures.0 residual.ensures.1 (c.in_err-append_durably.ensures.tells state told)
 
@@ -70,7 +70,7 @@ returns-clause-carries g c s name writes rep there held =
     let same : c.in-Transaction.writes ≡ writes = same_writes _ _ _ _ _ c.in-Transaction.is kept.1 in
     let listed = c.as_slice.ensures.entries ∙ ap (λ (w : Writes). entries w) same in
     let next = next_frame r s state writes c.as_slice.result.now c.in_ok-staged.staged.frame.items rep stored listed c.in_ok-staged.ensures.frame c.in_ok-staged.ensures.has_frame in
-    let told = c.in_ok-staged.ensures.looks.told ∙ is in
-    carries_commit g.D.Watched (record { only_now = g.met.D.Disk.only_now; counts_now = g.met.D.Disk.counts_now }) s name writes c.args.disk.now c.stage_commit.new.disk c.append_durably.new.disk _ c.in_ok-staged.ensures.looks held
+    let told = c.in_ok-staged.ensures.no_change.told ∙ is in
+    carries_commit g.D.Watched (record { only_now = g.met.D.Disk.only_now; counts_now = g.met.D.Disk.counts_now }) s name writes c.args.disk.now c.stage_commit.new.disk c.append_durably.new.disk _ c.in_ok-staged.ensures.no_change held
     (c.in_ok-append_durably.ensures.through state (logged s.history) (next_commit s writes) told stored.commits next)
     (Number (r.last + 1)) c.in_ok-append_durably.ensures.calls (c.in_ok-append_durably.ensures.written state (logged s.history) (next_commit s writes) told stored.commits next)
