@@ -1,5 +1,6 @@
 pub mod Alike
 pub mod Answers
+pub mod Finding
 pub mod Held
 pub mod LogReading
 pub mod Mending

@@ -5,6 +5,8 @@
 #![tactic(auto)]
 
 mod fails;
+mod finding;
+mod found;
 mod parts;
 mod recovering;
 

