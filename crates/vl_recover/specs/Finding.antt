@@ -39,8 +39,14 @@ last_log q = record {
   length = q.length;
   header = q.reading.header;
   end = content_end q.reading;
+  whole = q.reading.whole;
   has_frames = has_some q.reading.frames;
 }
+
+-- the last log, where there is one, is no greater than the greatest
+abbrev pub IsUpTo : ℕ → Option LastLog → Type 0
+IsUpTo greatest None = Unit {0}
+IsUpTo greatest (Some last) = last.number ≤ greatest
 
 -- ---- all of it
 

@@ -3,7 +3,7 @@ ghost use Rattle.vl_disk.specs.Calls.{Looks};
 ghost use Rattle.vl_disk.specs.Crash.{Image};
 ghost use Rattle.vl_disk.specs.DiskState.{DiskState};
 ghost use Rattle.vl_disk.specs.Started.{IsRead};
-ghost use Rattle.vl_recover.specs.Finding.{AreFileNumbers, FindsSo, IsFault};
+ghost use Rattle.vl_recover.specs.Finding.{AreFileNumbers, FindsSo, IsFault, IsUpTo};
 
 use crate::found::Found;
 use crate::Why;
@@ -15,6 +15,7 @@ pub(crate) fn find<D: Disk>(alloc: Global, disk: &mut D) -> Result<Found, Why>
     ensures answer { (state : DiskState) (read : Image) → D.told disk.old ≡ Some state → IsRead read state
         → FindsSo read result }
     ensures numbers { IfOk result (λ found. AreFileNumbers found.greatest) }
+    ensures last { IfOk result (λ found. IsUpTo found.greatest.log found.last) }
     ensures no_change { Looks D.Watched disk.old disk.new (IsFault result) }
 {
     let _ = (alloc, disk);
