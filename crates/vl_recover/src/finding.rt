@@ -1,5 +1,5 @@
 ghost use Rattle.std.specs.Prelude.{◌≡◌, Some, IfOk};
-ghost use Rattle.vl_disk.specs.Calls.{Looks};
+ghost use Rattle.vl_disk.specs.Calls.{ChangesNothing};
 ghost use Rattle.vl_disk.specs.Crash.{Image};
 ghost use Rattle.vl_disk.specs.DiskState.{DiskState};
 ghost use Rattle.vl_disk.specs.Started.{IsRead};
@@ -15,8 +15,8 @@ pub(crate) fn find<D: Disk>(alloc: Global, disk: &mut D) -> Result<Found, Why>
     ensures answer { (state : DiskState) (read : Image) → D.told disk.old ≡ Some state → IsRead read state
         → FindsSo read result }
     ensures numbers { IfOk result (λ found. AreFileNumbers found.greatest) }
-    ensures no_change { Looks D.Watched disk.old disk.new (IsFault result) }
+    ensures no_change { ChangesNothing D.Watched disk.old disk.new (IsFault result) }
 {
-    let _ = (alloc, disk);
+    let _ = alloc;
     Err(Why::NoMemory)
 }
