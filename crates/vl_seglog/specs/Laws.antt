@@ -1,5 +1,5 @@
 -- What the definition of a log says: that its bytes hold one list of commits, what they are while commits are written behind one another, and what they hold
--- when a last write was cut.
+-- when a last write was cut. This file goes with vl_journal.
 use Rattle.std.specs.Prelude.{◌≡◌, ◌⊎◌, ℕ, ◌+◌, ◌-◌, ◌^◌, ◌<◌, ◌≤◌, min, List, [], ◌∷◌, ◌++◌, length, take, drop, refl}
 use Rattle.std.specs.List.{AllByRecursion}
 use Rattle.std.proofs.Common.{sym, ap, subst, ◌∙◌, append_assoc, length-append, arith, inl, inr, ⊎_elim}

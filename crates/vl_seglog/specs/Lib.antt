@@ -1,8 +1,16 @@
 pub mod Commit
 pub mod CommitLaws
+pub mod FrameLaws
+pub mod Frames
 pub mod Laws
 pub mod Log
+pub mod LogReading
+pub mod LogReadingLaws
 pub mod PointerLaws
 pub mod Pointers
 pub mod Reading
+pub mod Relocation
+pub mod RelocationLaws
 pub mod Staging
+pub mod Stored
+pub mod StoredLaws

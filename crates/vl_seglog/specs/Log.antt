@@ -1,14 +1,10 @@
--- How a log is spelled: the header of its file, and behind these 16 bytes commits, each in a frame of its own.
+-- A log of commits alone: the header of its file, and behind these 16 bytes commits, each in a frame of its own.
+-- This file goes with vl_journal.
 use Rattle.std.specs.Prelude.{ℕ, List, ◌++◌, drop}
-use Rattle.vl_frame.specs.Header.{header_bytes}
 use Rattle.vl_frame.specs.Runs as runs
-use Rattle.vl_frame.specs.declared.kinds.FileKind.TheVariants as files
 pub use Rattle.vl_seglog.specs.Commit.{AreRecords, Commit, IsCommit, commit_body, commit_frame, commit_length, head_bytes, records_bytes}
 use Rattle.vl_seglog.specs.CommitLaws.{commits_spelled}
-
--- the header of the log with this number, in format 1
-abbrev pub log_header : ℕ → List ℕ
-log_header number = header_bytes files.Log 1 number
+pub use Rattle.vl_seglog.specs.Frames.{log_header}
 
 -- a commit that a frame can hold
 abbrev pub HasFrame : Commit → Type 0

@@ -1,0 +1,47 @@
+-- A relocation, and how its frame is spelled.
+use Rattle.std.specs.Prelude.{◌≡◌, ◌≢◌, ◌<◌, ◌≤◌, ◌^◌, ℕ, List, [], ◌∷◌, ◌++◌, length}
+use Rattle.std.specs.List.{AllByRecursion}
+use Rattle.byteorder.specs.Endian.{big_bytes}
+use Rattle.vl_frame.specs.Frame.{frame_bytes}
+use Rattle.vl_frame.specs.declared.kinds.FrameKind.TheVariants as kinds
+use Rattle.vl_model.specs.declared.change.Change.TheVariants.{Set}
+use Rattle.vl_model.specs.declared.log_frame.Moved.{Moved}
+use Rattle.vl_record.specs.Record.{IsRecord, record_bytes}
+
+-- a record under a version, which any number of eight bytes may be
+pub record IsMoved (moved : Moved) : Type 0 where
+  pub version : moved.version < 2 ^ 64
+  pub lawful : IsRecord moved.key (Set moved.value)
+
+-- none of the others has its key and its version
+abbrev pub IsElsewhere : Moved → List Moved → Type 0
+IsElsewhere moved others =
+    AllByRecursion (λ (other : Moved). other.version ≡ moved.version → other.key ≢ moved.key) others
+
+-- no key and version is there twice
+abbrev pub AreOnce : List Moved → Type 0
+AreOnce [] = Unit {0}
+AreOnce (moved ∷ others) = IsElsewhere moved others × AreOnce others
+
+-- the relocations that a log may have, in any order
+pub record IsRelocation (records : List Moved) : Type 0 where
+  pub some : 1 ≤ length records
+  pub lawful : AllByRecursion IsMoved records
+  pub once : AreOnce records
+
+-- a record behind its version
+abbrev pub moved_bytes : Moved → List ℕ
+moved_bytes moved = big_bytes 8 moved.version ++ record_bytes moved.key (Set moved.value)
+
+-- such records, one behind the other
+abbrev pub moves_bytes : List Moved → List ℕ
+moves_bytes [] = []
+moves_bytes (moved ∷ others) = moved_bytes moved ++ moves_bytes others
+
+-- the one spelling of a relocation: the count of its records, and these
+unfoldable pub relocation_body : List Moved → List ℕ
+relocation_body records = big_bytes 4 (length records) ++ moves_bytes records
+
+-- its frame at a place of the log with this number
+abbrev pub relocation_frame : ℕ → ℕ → List Moved → List ℕ
+relocation_frame number at records = frame_bytes number at kinds.Move (relocation_body records)
