@@ -1,5 +1,5 @@
 ghost use Rattle.std.specs.Prelude.{◌≡◌, Some, IfOk};
-ghost use Rattle.vl_disk.specs.Calls.{Looks};
+ghost use Rattle.vl_disk.specs.Calls.{ChangesNothing};
 ghost use Rattle.vl_disk.specs.Crash.{Image};
 ghost use Rattle.vl_disk.specs.DiskState.{DiskState};
 ghost use Rattle.vl_disk.specs.Started.{IsRead};
@@ -16,8 +16,8 @@ pub(crate) fn find<D: Disk>(alloc: Global, disk: &mut D) -> Result<Found, Why>
         → FindsSo read result }
     ensures numbers { IfOk result (λ found. AreFileNumbers found.greatest) }
     ensures last { IfOk result (λ found. IsUpTo found.greatest.log found.last) }
-    ensures no_change { Looks D.Watched disk.old disk.new (IsFault result) }
+    ensures no_change { ChangesNothing D.Watched disk.old disk.new (IsFault result) }
 {
-    let _ = (alloc, disk);
+    let _ = alloc;
     Err(Why::NoMemory)
 }
