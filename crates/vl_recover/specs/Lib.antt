@@ -1,13 +1,16 @@
 pub mod Alike
 pub mod Answers
 pub mod Finding
+pub mod Fitting
 pub mod Held
 pub mod LogReading
 pub mod Mending
 pub mod MendingLaws
 pub mod Opening
+pub mod PlanViews
 pub mod Plans
 pub mod Stages
 pub mod Starts
+pub mod Steps
 pub mod Walk
 pub mod Results

@@ -7,7 +7,10 @@
 mod fails;
 mod finding;
 mod found;
+mod last;
+mod mending;
 mod parts;
+mod plan;
 mod recovering;
 
 pub use fails::{OpenFail, Why};
