@@ -52,7 +52,7 @@ removing_begins g start all = record { ends = λ new result step. step }
 
 module _ {D : Type 0} (g : Ghosts D) (start now new : D) (all : List Name) where
   -- none is left
-  pub removing_ends : (left : List Name) → left ≡ [] → Removing g start now all left → RemovesAll g all start now (Ok tt)
+  pub removing_ends : (left : List Name) → left ≡ [] → Removing g start now all left → RemovesAll {T = Unit {0}} {E = Name} g all start now (Ok tt)
   removing_ends left none so_far =
       so_far.ends now (Ok tt) (subst (λ (names : List Name). RemovesAll {T = Unit {0}} {E = Name} g names now now (Ok tt)) (sym none) (nothing_performed g now now tt (WhileStrays []) refl))
 

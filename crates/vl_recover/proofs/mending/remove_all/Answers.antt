@@ -12,7 +12,7 @@ returns-in_err-at g c =
 
 pub loop-name-preserved : goal.loop-name-preserved
 loop-name-preserved g c = record {
-  can = can_next c.args.names.now c.loop-name.name-index (omega arith) _ _ c.loop-name.invariant.can c.remove.result c.at.result _ c.at.ensures c.in_ok-at.was c.remove.ensures.removed;
+  can = can_next c.args.names.now c.loop-name.name-index (omega arith) _ c.loop-name.invariant.can _ c.remove.result c.at.result _ c.at.ensures c.in_ok-at.was c.remove.ensures.removed;
   so_far = removing_goes_on g.D.Watched _ _ _ _ _ _ _ (left_from c.args.names.now c.loop-name.name-index (omega arith)) c.loop-name.invariant.so_far c.at.result
       c.remove.result _ c.at.ensures c.in_ok-at.was c.remove.ensures;
 }
