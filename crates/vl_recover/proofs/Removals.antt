@@ -50,12 +50,12 @@ pub record Removing {D : Type 0} (g : Ghosts D) (start now : D) (all left : List
 pub removing_begins : {D : Type 0} (g : Ghosts D) (start : D) (all : List Name) → Removing g start start all all
 removing_begins g start all = record { ends = λ new result step. step }
 
-module _ {D : Type 0} (g : Ghosts D) (start now new : D) (all : List Name) where
-  -- none is left
-  pub removing_ends : (left : List Name) → left ≡ [] → Removing g start now all left → RemovesAll {T = Unit {0}} {E = Name} g all start now (Ok tt)
-  removing_ends left none so_far =
-      so_far.ends now (Ok tt) (subst (λ (names : List Name). RemovesAll {T = Unit {0}} {E = Name} g names now now (Ok tt)) (sym none) (nothing_performed g now now tt (WhileStrays []) refl))
+-- none is left
+pub removing_ends : {D : Type 0} (g : Ghosts D) (start now : D) (all left : List Name) → left ≡ [] → Removing g start now all left → RemovesAll {T = Unit {0}} {E = Name} g all start now (Ok tt)
+removing_ends g start now all left none so_far =
+    so_far.ends now (Ok tt) (subst (λ (names : List Name). RemovesAll {T = Unit {0}} {E = Name} g names now now (Ok tt)) (sym none) (nothing_performed g now now tt (WhileStrays []) refl))
 
+module _ {D : Type 0} (g : Ghosts D) (start now new : D) (all : List Name) where
   module _ (name : Name) (left rest : List Name) (is : left ≡ name ∷ rest) (so_far : Removing g start now all left) (answer : Result Unit Name) where
     -- one was removed
     pub removing_goes_on : (outcome : Result Unit Failed) (u : Unit {0}) → answer ≡ at_file name outcome → answer ≡ Ok u

@@ -2,13 +2,14 @@
 use Rattle.std.specs.Prelude.{◌≡◌, ℕ, ◌+◌, ◌≤◌, ◌<◌, List, [], ◌∷◌, None, Some, Ok}
 use Rattle.std.specs.FinMap.{get}
 use Rattle.std.specs.List.{AllByRecursion}
-use Rattle.vl_disk.specs.DiskState.{DiskState, settled}
+use Rattle.vl_disk.specs.DiskState.{DiskState, File, settled}
 use Rattle.vl_disk.specs.declared.name.Name.{Name}
 use Rattle.vl_disk.specs.declared.name.Name.TheVariants.{Log, Manifest}
 use Rattle.vl_layout.specs.declared.segment.Segment.{Segment}
 use Rattle.vl_manifest.specs.Manifest.{ManifestSays}
 use Rattle.vl_manifest.specs.declared.state.ManifestState.{ManifestState}
-use Rattle.vl_recover.specs.LogReading.{HasFrame, log_bytes}
+use Rattle.vl_frame.specs.Runs.{HasFrame}
+use Rattle.vl_seglog.specs.Frames.{frames_grammar, log_bytes}
 
 -- no file stands under this name, and none was removed since the disk was started
 pub record IsNowhere (disk : DiskState) (name : Name) : Type 0 where
@@ -33,11 +34,16 @@ HoldsLogs least [] disk = (m : ℕ) → least ≤ m → IsNowhere disk (Log m)
 HoldsLogs least (s ∷ ss) disk =
     (least ≤ s.number)
     × ((m : ℕ) → least ≤ m → m < s.number → IsNowhere disk (Log m))
-    × AllByRecursion HasFrame s.frames
+    × AllByRecursion (HasFrame frames_grammar) s.frames
     × IsSettled disk (Log s.number) (log_bytes s.number s.frames)
     × HoldsLogs (s.number + 1) ss disk
 
--- The disk holds a store: a manifest that says this state, and these logs from its head on.
+-- each file that stands is durable
+abbrev pub AllSettled : DiskState → Type 0
+AllSettled disk = (name : Name) (file : File) → get disk.standing name ≡ Some file → file ≡ settled file.bytes
+
+-- The disk holds a store: a manifest that says this state, these logs from its head on, and nothing that isn't durable.
 pub record HoldsStore (state : ManifestState) (logs : List Segment) (disk : DiskState) : Type 0 where
   pub manifest : HoldsManifest state disk
   pub logs_are : HoldsLogs state.head logs disk
+  pub durable : AllSettled disk

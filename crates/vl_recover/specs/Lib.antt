@@ -3,7 +3,6 @@ pub mod Answers
 pub mod Finding
 pub mod Fitting
 pub mod Held
-pub mod LogReading
 pub mod Mending
 pub mod MendingLaws
 pub mod Opening
@@ -14,3 +13,7 @@ pub mod Starts
 pub mod Steps
 pub mod Walk
 pub mod Results
+pub mod OpeningLaws
+pub mod StageLaws
+pub mod AlikeLaws
+pub mod HeldLaws

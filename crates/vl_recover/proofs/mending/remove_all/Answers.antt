@@ -18,4 +18,4 @@ loop-name-preserved g c = record {
 }
 
 pub returns : goal.returns
-returns g c = removing_ends g.D.Watched _ _ _ _ _ (none_left c.args.names.now c.loop-name.name-index (omega arith)) c.loop-name.invariant.so_far
+returns g c = removing_ends g.D.Watched _ _ _ _ (none_left c.args.names.now c.loop-name.name-index (omega arith)) c.loop-name.invariant.so_far
