@@ -1,5 +1,6 @@
 pub mod Alike
 pub mod Answers
+pub mod Deciding
 pub mod Finding
 pub mod Fitting
 pub mod Held

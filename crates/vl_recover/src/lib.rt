@@ -4,6 +4,7 @@
 //! Each file is read once. Beside the entries the bytes of one file at a time are in memory.
 #![tactic(auto)]
 
+mod deciding;
 mod fails;
 mod finding;
 mod found;
@@ -11,6 +12,7 @@ mod last;
 mod mending;
 mod parts;
 mod plan;
+mod prepared;
 mod recovering;
 
 pub use fails::{OpenFail, Why};
