@@ -80,3 +80,12 @@ pub record HasRoomFor (plan : Plan) (spare : Name → Spare) : Type 0 where
 -- the room of all files but the last log is as it was
 abbrev pub SameSpareBeside : LastLog → (Name → Spare) → (Name → Spare) → Type 0
 SameSpareBeside last old new = (name : Name) → IsBeside last name → new name ≡ old name
+
+-- this is not the new log's file
+abbrev pub IsOtherLog : Option ℕ → Name → Type 0
+IsOtherLog None name = Unit {0}
+IsOtherLog (Some log) name = name ≢ Log log
+
+-- the room of all files but the new log is as it was
+abbrev pub SameSpareBesideLog : Option ℕ → (Name → Spare) → (Name → Spare) → Type 0
+SameSpareBesideLog log old new = (name : Name) → IsOtherLog log name → new name ≡ old name

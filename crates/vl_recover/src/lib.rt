@@ -13,6 +13,7 @@ mod mending;
 mod parts;
 mod plan;
 mod prepared;
+mod preparing;
 mod recovering;
 
 pub use fails::{OpenFail, Why};
