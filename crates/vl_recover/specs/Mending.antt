@@ -12,7 +12,7 @@ use Rattle.vl_manifest.specs.declared.state.ManifestState.{ManifestState}
 use Rattle.vl_recover.specs.Answers.{AreStrayNames, Finds}
 use Rattle.vl_recover.specs.Plans.{Greatest, calls_to_make, log_made, new_state}
 use Rattle.vl_recover.specs.Walk.{StandingLog, content_end}
-use Rattle.vl_seglog.specs.Log.{log_header}
+use Rattle.vl_seglog.specs.Frames.{log_header}
 
 -- ---- what is to be done
 
