@@ -1,6 +1,6 @@
 -- What was decided by what was found is what is to be done by what reads give.
 use Rattle.std.proofs.Common.{◌≡◌, ℕ, ◌+◌, List, [], ◌∷◌, map, refl, sym, ap, subst, ◌∙◌}
-use Rattle.std.specs.Prelude.{Option, None, Some, Result, Ok, Err}
+use Rattle.std.specs.Prelude.{true, false, Option, None, Some, Result, Ok, Err, IsErr, IsErrAnd}
 use Rattle.std.specs.Option.{option_map}
 use Rattle.vl_disk.specs.Crash.{Image}
 use Rattle.vl_disk.specs.declared.name.Name.{Name}
@@ -10,7 +10,7 @@ use Rattle.vl_manifest.specs.declared.state.ManifestState.{ManifestState}
 use Rattle.vl_model.specs.declared.counter.Counter.{Counter}
 use Rattle.vl_model.specs.declared.log_frame.LogFrame.{LogFrame}
 use Rattle.vl_recover.specs.Answers.{AnswersBy, AreStrayNames, Finds, held_log, used_up}
-use Rattle.vl_recover.specs.Deciding.{DecidesSo, IsDecided, IsPrepared, active_by, log_for, log_of, plan_for, state_for, step_for, used_up_for, used_up_of}
+use Rattle.vl_recover.specs.Deciding.{DecidesSo, IsDecided, IsPrepared, PreparesSo, active_by, log_for, log_of, plan_for, state_for, step_for, used_up_for, used_up_of}
 use Rattle.vl_recover.specs.Finding.{IsFault, IsFound, last_log, last_of}
 use Rattle.vl_recover.specs.Mending.{IsPlan, Plan, plan_of}
 use Rattle.vl_recover.specs.Mending as mending
@@ -24,6 +24,9 @@ use Rattle.vl_recover.specs.declared.found.Found.{Found}
 use Rattle.vl_recover.specs.declared.found.LastLog.{LastLog}
 use Rattle.vl_recover.specs.declared.parts.FrozenLog.{FrozenLog}
 use Rattle.vl_recover.specs.declared.prepared.Prepared.{Prepared}
+
+false_true : false ≡ true → ⊥
+false_true e = cc
 
 -- what is decided by the last log is decided by all
 abbrev end_of : List StandingLog → Option LastLog
@@ -136,3 +139,8 @@ decided_fine found why.NotAStore used failed = failed
 decided_fine found (why.NewerFormat format) used failed = failed
 decided_fine found (why.Damaged name place) used failed = failed
 decided_fine found (why.Disk name) used failed = used
+
+pub answer_by : (image : Image) (result : Result Prepared Why) (reason : Why) → IsErr result → IsErrAnd result (λ e. e ≡ reason)
+    → AnswersBy image (came_by reason) → PreparesSo image result
+answer_by image (Ok prepared) reason failed is answer = absurd (false_true failed)
+answer_by image (Err e) reason failed is answer = subst (λ (w : Why). AnswersBy image (came_by w)) (sym is) answer

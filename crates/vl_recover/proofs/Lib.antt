@@ -1,5 +1,7 @@
 pub mod Decided
+pub mod Fitted
 pub mod Mended
+pub mod OneFinding
 pub mod Removals
 pub mod Stepping
 pub mod Unchanged
