@@ -200,8 +200,11 @@ may_open_by state disk lawful holds never may_stand sealed = record {
   as_read = read_is_left disk may_stand;
   says = λ read before o p is opens left opens_too.
       held_same state disk holds read before o p (read_left read disk is) opens left.left opens_too;
-  manifests = λ m gone. (holds.number, below m gone (cases_lt m holds.number),
-      λ none. some_none (settled holds.bytes) (sym holds.stands ∙ none));
+  manifests = λ m gone. (
+    holds.number,
+    below m gone (cases_lt m holds.number),
+    λ none. some_none (settled holds.bytes) (sym holds.stands ∙ none),
+  );
   logs = λ read o is opens m from.
       never m (subst (λ (s : ManifestState). s.head ≤ m) (held_state state disk holds read o (read_left read disk is) opens) from);
   headless = λ m file reading stands reads header. (may_stand (Log m) file stands).headless m reading refl reads header;

@@ -128,8 +128,8 @@ module _ (number : ℕ) (s : ManifestState) (k : ℕ) where
     headed_step : (taken : ℕ) → OpensAsOf disk (appended (Log k) (log_header k) taken disk)
     headed_step taken = change_step number s k disk file last stands empty_chance (record { header = false; frames = []; whole = false }) reads_empty (lengthened (log_header k) taken) refl
         (λ bytes agrees chance. inl (torn_header k (lengthened (log_header k) taken file) bytes refl (omega (arith, none))
-            (All-push (λ (piece : Piece). piece.place + length piece.bytes ≤ 16) file.due (record { place = length file.bytes; bytes = log_header k }) within (omega (arith, ap length empty, length-log_header k)))
-            chance))
+        (All-push (λ (piece : Piece). piece.place + length piece.bytes ≤ 16) file.due (record { place = length file.bytes; bytes = log_header k }) within (omega (arith, ap length empty, length-log_header k)))
+        chance))
 
     with_header : File
     with_header = lengthened (log_header k) (length (log_header k)) file
@@ -150,11 +150,11 @@ module _ (number : ℕ) (s : ManifestState) (k : ℕ) where
     heading_law : (now : DiskState) → WhileHeading k disk now → OpensAsOf disk now
     heading_law now during = ⊎_elim
         (λ (w : WhileAppending (Log k) (log_header k) disk now). ⊎_elim
-            (λ (same : now ≡ disk). subst (OpensAsOf disk) (sym same) (as_before disk))
-            (λ (x : (taken : ℕ) × (taken ≤ length (log_header k)) × (now ≡ appended (Log k) (log_header k) taken disk)). subst (OpensAsOf disk) (sym x.2) (headed_step x.0))
-            w)
+        (λ (same : now ≡ disk). subst (OpensAsOf disk) (sym same) (as_before disk))
+        (λ (x : (taken : ℕ) × (taken ≤ length (log_header k)) × (now ≡ appended (Log k) (log_header k) taken disk)). subst (OpensAsOf disk) (sym x.2) (headed_step x.0))
+        w)
         (λ (w : WhileSyncing (Log k) (headed k disk) now). as_of_then disk (headed k disk) now (headed_step (length (log_header k)))
-            (sync_law (headed k disk) (lengthened (log_header k) (length (log_header k)) file) headed_last headed_stands headed_chance now w))
+        (sync_law (headed k disk) (lengthened (log_header k) (length (log_header k)) file) headed_last headed_stands headed_chance now w))
         during
 
     headed_after : OpensAsOf disk (synced (Log k) (headed k disk))
@@ -196,12 +196,12 @@ module _ (number : ℕ) (s : ManifestState) (q : StandingLog) (disk : DiskState)
     cut_step : (left : ℕ) → frames_end q.reading.frames ≤ left → OpensAsOf disk (cut_to (Log q.number) (frames_end q.reading.frames) left disk)
     cut_step left short = change_step number s k disk is.file last is.stands is.no_chance q.reading is.reads (shortened end left) refl
         (λ bytes agrees chance. ⊎_elim
-            (λ (deep : end < is.file.synced). inl (torn_cut k is.file q.reading is.lawful is.reads header left short deep bytes agrees chance))
-            (λ (flat : is.file.synced ≤ end). inr (record {
-              may = uncut k end is.file left short flat bytes (loose flat) agrees;
-              no_chance = uncut_chance k end is.file left short flat bytes (Log k) chance;
-            }))
-            (cases_lt end is.file.synced))
+        (λ (deep : end < is.file.synced). inl (torn_cut k is.file q.reading is.lawful is.reads header left short deep bytes agrees chance))
+        (λ (flat : is.file.synced ≤ end). inr (record {
+          may = uncut k end is.file left short flat bytes (loose flat) agrees;
+          no_chance = uncut_chance k end is.file left short flat bytes (Log k) chance;
+        }))
+        (cases_lt end is.file.synced))
 
     cut_disk : DiskState
     cut_disk = cut_to (Log q.number) (frames_end q.reading.frames) (frames_end q.reading.frames) disk
@@ -218,9 +218,9 @@ module _ (number : ℕ) (s : ManifestState) (q : StandingLog) (disk : DiskState)
     cut_law = record {
       meanwhile = λ now during. ⊎_elim
           (λ (w : WhileCutting (Log k) end disk now). ⊎_elim
-              (λ (same : now ≡ disk). subst (OpensAsOf disk) (sym same) (as_before disk))
-              (λ (x : (left : ℕ) × (end ≤ left) × IsInside (Log k) left disk × (now ≡ cut_to (Log k) end left disk)). subst (OpensAsOf disk) (sym x.3) (cut_step x.0 x.1))
-              w)
+          (λ (same : now ≡ disk). subst (OpensAsOf disk) (sym same) (as_before disk))
+          (λ (x : (left : ℕ) × (end ≤ left) × IsInside (Log k) left disk × (now ≡ cut_to (Log k) end left disk)). subst (OpensAsOf disk) (sym x.3) (cut_step x.0 x.1))
+          w)
           (λ (w : WhileSyncing (Log k) (cut_to (Log k) end end disk) now). sync_cut now w)
           during;
       after = sync_cut (synced (Log k) (cut_to (Log k) end end disk)) (inr refl);
@@ -256,7 +256,7 @@ module _ (number : ℕ) (s : ManifestState) (q : StandingLog) (disk : DiskState)
     emptied_step : (left : ℕ) → OpensAsOf disk (cut_to (Log q.number) 0 left disk)
     emptied_step left = change_step number s k disk is.file last is.stands is.no_chance q.reading is.reads (shortened 0 left) refl
         (λ bytes agrees chance. inl (subst (ReadsFrames k bytes) (sym none)
-            (torn_header k (shortened 0 left is.file) bytes refl (omega arith) (is.headless header) chance)))
+        (torn_header k (shortened 0 left is.file) bytes refl (omega arith) (is.headless header) chance)))
 
     emptied_stands : get (cut_to (Log q.number) 0 0 disk).standing (Log q.number) ≡ Some (shortened 0 0 is.file)
     emptied_stands = changed_file number s k disk (shortened 0 0) is.file is.stands
@@ -268,11 +268,11 @@ module _ (number : ℕ) (s : ManifestState) (q : StandingLog) (disk : DiskState)
     rewritten_law = record {
       meanwhile = λ now during. ⊎_elim
           (λ (w : WhileCutting (Log k) 0 disk now). ⊎_elim
-              (λ (same : now ≡ disk). subst (OpensAsOf disk) (sym same) (as_before disk))
-              (λ (x : (left : ℕ) × (0 ≤ left) × IsInside (Log k) left disk × (now ≡ cut_to (Log k) 0 left disk)). subst (OpensAsOf disk) (sym x.3) (emptied_step x.0))
-              w)
+          (λ (same : now ≡ disk). subst (OpensAsOf disk) (sym same) (as_before disk))
+          (λ (x : (left : ℕ) × (0 ≤ left) × IsInside (Log k) left disk × (now ≡ cut_to (Log k) 0 left disk)). subst (OpensAsOf disk) (sym x.3) (emptied_step x.0))
+          w)
           (λ (w : WhileHeading k (cut_to (Log k) 0 0 disk) now). as_of_then disk (cut_to (Log k) 0 0 disk) now (emptied_step 0)
-              (heading_law number s k (cut_to (Log k) 0 0 disk) (shortened 0 0 is.file) emptied_last emptied_stands refl (omega arith) (is.headless header) now w))
+          (heading_law number s k (cut_to (Log k) 0 0 disk) (shortened 0 0 is.file) emptied_last emptied_stands refl (omega arith) (is.headless header) now w))
           during;
       after = as_of_then disk (cut_to (Log k) 0 0 disk) (synced (Log k) (headed k (cut_to (Log k) 0 0 disk))) (emptied_step 0)
           (headed_after number s k (cut_to (Log k) 0 0 disk) (shortened 0 0 is.file) emptied_last emptied_stands refl (omega arith) (is.headless header));

@@ -76,7 +76,7 @@ current_kept number name image other bytes same apart current = record {
   here = record { stands = same (Manifest number) (apart number (omega arith)) ∙ current.here.stands; readable = current.here.readable };
   greatest = λ m others r. ⊎_elim
       (λ (less : number < m). current.greatest m others
-          (record { stands = sym (same (Manifest m) (apart m (omega (arith, less)))) ∙ r.stands; readable = r.readable }))
+      (record { stands = sym (same (Manifest m) (apart m (omega (arith, less)))) ∙ r.stands; readable = r.readable }))
       (λ (le : m ≤ number). le)
       (cases_lt number m);
 }

@@ -12,6 +12,8 @@ pub mod LeadsLaws
 pub mod LogsLaws
 pub mod Mending
 pub mod MendingLaws
+pub mod MendingOpens
+pub mod MendingStages
 pub mod MendingStart
 pub mod MendingSteps
 pub mod OneName

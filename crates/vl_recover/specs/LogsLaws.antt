@@ -157,7 +157,7 @@ all_written least (q ∷ p ∷ ps) disk mends (next, written, rest) = (
   next_kept (Log last) disk now same least q (λ m above less e. omega (arith, less, up, log_same m last e)) next,
   written_kept (Log last) disk now same q (λ e. omega (arith, up, log_same q.number last e)) written,
   all_written (q.number + 1) (p ∷ ps) disk
-    (λ x is. mends x (record { from = (let a = is.from in let b = next.from in omega (arith, a, b)); holds = is.holds; above = is.above })) rest,
+      (λ x is. mends x (record { from = (let a = is.from in let b = next.from in omega (arith, a, b)); holds = is.holds; above = is.above })) rest,
 )
   where
     last : ℕ
@@ -181,16 +181,16 @@ written_at least [] disk none m from = inl (none m from)
 written_at least (q ∷ []) disk (next, written, none) m from = ⊎_elim
     (λ (less : m < q.number). inl (next.between m from less))
     (λ (above : q.number ≤ m). ⊎_elim
-        (λ (more : q.number < m). inl (none m more))
-        (λ (below : m ≤ q.number). inr (q, omega (arith, above, below), written))
-        (cases_lt q.number m))
+    (λ (more : q.number < m). inl (none m more))
+    (λ (below : m ≤ q.number). inr (q, omega (arith, above, below), written))
+    (cases_lt q.number m))
     (cases_lt m q.number)
 written_at least (q ∷ p ∷ ps) disk (next, written, rest) m from = ⊎_elim
     (λ (less : m < q.number). inl (next.between m from less))
     (λ (above : q.number ≤ m). ⊎_elim
-        (λ (more : q.number < m). written_at (q.number + 1) (p ∷ ps) disk rest m (omega (arith, more)))
-        (λ (below : m ≤ q.number). inr (q, omega (arith, above, below), written))
-        (cases_lt q.number m))
+    (λ (more : q.number < m). written_at (q.number + 1) (p ∷ ps) disk rest m (omega (arith, more)))
+    (λ (below : m ≤ q.number). inr (q, omega (arith, above, below), written))
+    (cases_lt q.number m))
     (cases_lt m q.number)
 
 -- So in whatever a crash leaves each of them has its header and ends with its frames.

@@ -64,7 +64,7 @@ missing_file : (file : Option File) → option_map (λ (f : File). f.bytes) file
 missing_file None e = refl
 missing_file (Some file) e = absurd (some_none file.bytes e)
 
-some_file : (file : Option File) → (file ≡ None → ⊥) → (f : File) × (file ≡ Some f)
+pub some_file : (file : Option File) → (file ≡ None → ⊥) → (f : File) × (file ≡ Some f)
 some_file None not = absurd (not refl)
 some_file (Some file) not = (file, refl)
 
@@ -85,9 +85,9 @@ module _ (read : Image) (start : DiskState) (is_read : IsRead read start) where
   greatest_fits kind greatest number lawful is = ⊎_elim
       (λ (zero : greatest < 1). omega (arith, zero))
       (λ (some : 1 ≤ greatest).
-          let (file, stands) = some_file (get start.standing (kind greatest)) (λ none. is.stands some (free_unread (kind greatest) none)) in
-          let fits = (lawful.numbered (kind greatest) file stands).1 in
-          omega (arith, fits, number greatest))
+      let (file, stands) = some_file (get start.standing (kind greatest)) (λ none. is.stands some (free_unread (kind greatest) none)) in
+      let fits = (lawful.numbered (kind greatest) file stands).1 in
+      omega (arith, fits, number greatest))
       (cases_lt greatest 1)
 
 -- ---- numbers that are used up
@@ -145,8 +145,8 @@ module _ {read : Image} (found : Finds read) (start : DiskState) (lawful : IsLaw
       never = ⊎_elim
           (λ (gone : get start.removed (Manifest m) ≡ None). gone)
           (λ (was : get start.removed (Manifest m) ≢ None).
-              let (higher, more, stands) = may.manifests m was in
-              absurd (stands (free higher (omega (arith, above, more)))))
+          let (higher, more, stands) = may.manifests m was in
+          absurd (stands (free higher (omega (arith, above, more)))))
           (stands_or_not (get start.removed (Manifest m)))
 
   -- Whatever a crash leaves says what the new manifest says, but for the next numbers.

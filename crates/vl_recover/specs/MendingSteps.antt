@@ -108,7 +108,7 @@ module _ (number : ℕ) (s : ManifestState) (fits : number < 2 ^ 32) (range : Is
             is_left = missing;
             like = λ image before low same is gone. ⊎_elim
                 (λ (not : IsReadable number bytes → ⊥). unread image before same gone
-                    (λ others r. not (subst (IsReadable number) (some_same others bytes (sym r.stands ∙ is)) r.readable)))
+                (λ others r. not (subst (IsReadable number) (some_same others bytes (sym r.stands ∙ is)) r.readable)))
                 (λ (says : SaysState number bytes s). reads image before same gone bytes is says low)
                 (torn_manifest number s fits range file part bytes one.no_chance);
           }
@@ -137,8 +137,8 @@ last_like number s k disk last was now reading read reads image before low same 
     let led = leads_image number s disk before last.leads low.left in
     led_like number last.leads.bytes s image before last.leads.says led (current_kept number (Log k) image before last.leads.bytes same (λ m from. manifest_log m k) led)
     (λ logs standing. last_alike image before k same (λ m less. left_nowhere disk before (Log m) (last.above m less) low.left)
-      (record { now = now; was = was; reads = reads.reading; read = reading; stands = stands; stood = stood; reads_now = reads.reads; read_was = read; frames = reads.same })
-      s.head logs last.from standing)
+    (record { now = now; was = was; reads = reads.reading; read = reading; stands = stands; stood = stood; reads_now = reads.reads; read_was = read; frames = reads.same })
+    s.head logs last.from standing)
 
 module _ (number : ℕ) (s : ManifestState) (k : ℕ) (old : DiskState) (file : File) (last : IsLast number s k old) (stands : get old.standing (Log k) ≡ Some file)
     (as_read : NoChanceOne Spells (Log k) (Some file) (Some file.bytes)) where
@@ -148,7 +148,7 @@ module _ (number : ℕ) (s : ManifestState) (k : ℕ) (old : DiskState) (file : 
   -- It may be changed where what is left of it has the frames that were read, or could have been left before.
   pub change_step : (reading : LogReading) → ReadsLog k file.bytes reading → (change : File → File) → (change file).lasting ≡ file.lasting
       → ((bytes : List ℕ) → Agrees (change file) bytes → NoChanceOne Spells (Log k) (Some (change file)) (Some bytes)
-          → ReadsFrames k bytes reading.frames ⊎ IsLeftOne (Log k) (Some file) (get old.removed (Log k)) (Some bytes))
+      → ReadsFrames k bytes reading.frames ⊎ IsLeftOne (Log k) (Some file) (get old.removed (Log k)) (Some bytes))
       → OpensAsOf old (with_file (Log k) change old)
   change_step reading read change lasting left_as = one_name (Log k) old (with_file (Log k) change old) (changed_elsewhere (Log k) old change)
       (λ left one. there left (subst (λ (o : Option File). IsLeftOne (Log k) o (get old.removed (Log k)) left) now_there one))
@@ -194,8 +194,8 @@ module _ (number : ℕ) (s : ManifestState) (k : ℕ) (old now : DiskState) (lea
           let led = leads_image number s old before leads low.left in
           led_like number leads.bytes s image before leads.says led (current_kept number (Log k) image before leads.bytes same (λ m from. manifest_log m k) led)
           (λ logs standing. one_more image before k same (λ m less. left_nowhere old before (Log m) (nowhere m (omega (arith, less))) low.left)
-            (record { bytes = bytes; reading = reads.reading; stands = is; none = gone; reads = reads.reads; empty = reads.same })
-            s.head logs from standing (whole before low.left))
+          (record { bytes = bytes; reading = reads.reading; stands = is; none = gone; reads = reads.reads; empty = reads.same })
+          s.head logs from standing (whole before low.left))
 
       by : Making (Log k) (log_header k) old now → OpensAsOf old now
       by (waits is) = subst (OpensAsOf old) (sym is) (as_before old)
@@ -239,7 +239,7 @@ module _ (number : ℕ) (s : ManifestState) (name : Name) (old : DiskState) (fil
       gone : (left : Option (List ℕ)) → IsLeftOne name (get (without name old).standing name) (get (without name old).removed name) left → IsLeftOne name None (Some file) left
       gone left one = subst (λ (o : Option File). IsLeftOne name o (Some file) left) (get_removed old.standing name)
           (subst (λ (o : Option File). IsLeftOne name (get (without name old).standing name) o left)
-            (without_removed name old ∙ ap (λ (o : Option File). last_file o (get old.removed name)) stands) one)
+          (without_removed name old ∙ ap (λ (o : Option File). last_file o (get old.removed name)) stands) one)
 
       there : (left : Option (List ℕ)) → IsLeftOne name None (Some file) left → WasLeft old name left
       there None one = record {

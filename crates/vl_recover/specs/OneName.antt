@@ -70,8 +70,8 @@ pub left_before : (name : Name) (old now : DiskState) (image before : Image) →
 left_before name old now image before elsewhere same here is = left_each old before (λ q. ⊎_elim
     (λ (e : q ≡ name). subst (λ (n : Name). IsLeftOne n (get old.standing n) (get old.removed n) (get before n)) (sym e) here)
     (λ (n : q ≢ name). subst (λ (o : Option File). IsLeftOne q o (get old.removed q) (get before q)) (elsewhere.standing q n)
-        (subst (λ (o : Option File). IsLeftOne q (get now.standing q) o (get before q)) (elsewhere.removed q n)
-        (subst (IsLeftOne q (get now.standing q) (get now.removed q)) (same q n) (left_one now image is q))))
+    (subst (λ (o : Option File). IsLeftOne q (get now.standing q) o (get before q)) (elsewhere.removed q n)
+    (subst (IsLeftOne q (get now.standing q) (get now.removed q)) (same q n) (left_one now image is q))))
     (same_or_other q name))
 
 -- ---- one step

@@ -58,9 +58,9 @@ first_and : (number : ℕ) (s : ManifestState) (name : Name) (names : List Name)
 first_and number s name names disk leads first rest = record {
   meanwhile = λ now during. ⊎_elim
       (λ (w : WhileRemoving name disk now). ⊎_elim
-          (λ (same : now ≡ disk). subst (OpensAsOf disk) (sym same) (as_before disk))
-          (λ (turns : now ≡ without name disk). subst (OpensAsOf disk) (sym turns) gone)
-          w)
+      (λ (same : now ≡ disk). subst (OpensAsOf disk) (sym same) (as_before disk))
+      (λ (turns : now ≡ without name disk). subst (OpensAsOf disk) (sym turns) gone)
+      w)
       (λ (w : WhileStrays names (without name disk) now). as_of_then disk (without name disk) now gone (rest.meanwhile now w))
       during;
   leads = rest.leads;
@@ -76,7 +76,7 @@ strays_law number s [] disk leads spare once =
     record { meanwhile = λ now during. absurd during; leads = leads; logs = λ logs held. held }
 strays_law number s (name ∷ names) disk leads spare once = first_and number s name names disk leads (spare name (0, omega arith, refl))
     (strays_law number s names (without name disk)
-      (leads_kept number s name disk (without name disk) (without_elsewhere name disk) (spare name (0, omega arith, refl)).lower leads)
-      (λ other (k, less, is). spare_kept number s.head name disk (without name disk) (without_elsewhere name disk) other (rest_apart name names once other (k, less, is))
-        (spare other (suc k, omega (arith, less), is)))
-      (rest_once name names once))
+    (leads_kept number s name disk (without name disk) (without_elsewhere name disk) (spare name (0, omega arith, refl)).lower leads)
+    (λ other (k, less, is). spare_kept number s.head name disk (without name disk) (without_elsewhere name disk) other (rest_apart name names once other (k, less, is))
+    (spare other (suc k, omega (arith, less), is)))
+    (rest_once name names once))

@@ -115,9 +115,9 @@ part_frames : (name : Name) (piece : List ℕ) (file : File) → IsPart piece fi
 part_frames name piece file part bytes only =
     let from : torn_from file ≡ 16 = omega (arith, part_synced piece file part) in (
       λ frame here. part_handed piece file part 16 frame (subst (λ (n : ℕ). WasHandedOver file n frame) from
-        (only.first frame (subst (λ (n : ℕ). Spells name bytes n frame) (sym from) here))),
+          (only.first frame (subst (λ (n : ℕ). Spells name bytes n frame) (sym from) here))),
       λ frame next here behind. part_handed piece file part (16 + length frame) next (subst (λ (n : ℕ). WasHandedOver file (n + length frame) next) from
-        (only.next frame next (subst (λ (n : ℕ). Spells name bytes n frame) (sym from) here) (subst (λ (n : ℕ). Spells name bytes (n + length frame) next) (sym from) behind))),
+          (only.next frame next (subst (λ (n : ℕ). Spells name bytes n frame) (sym from) here) (subst (λ (n : ℕ). Spells name bytes (n + length frame) next) (sym from) behind))),
     )
 
 -- ---- the new manifest
@@ -261,18 +261,23 @@ module _ (number len : ℕ) (file : File) where
 
   -- what is spelled in first bytes is spelled in all of them
   spelled_longer : (bytes : List ℕ) (at : ℕ) (frame : List ℕ) → Spells (Log number) (take len bytes) at frame → Spells (Log number) bytes at frame
-  spelled_longer bytes at frame (item, rest, stands, is) = (item, rest ++ drop len bytes, record {
-    lawful = stands.lawful;
-    short = stands.short;
-    spelled = ap (drop at) (sym (take-append-drop len bytes)) ∙ drop-append-le at (take len bytes) (drop len bytes) within
-        ∙ ap (λ (b : List ℕ). b ++ drop len bytes) stands.spelled ∙ append_assoc (item_frame frames_grammar number at item) rest (drop len bytes);
-  }, is)
+  spelled_longer bytes at frame (item, rest, stands, is) = (
+    item,
+    rest ++ drop len bytes,
+    record {
+      lawful = stands.lawful;
+      short = stands.short;
+      spelled = ap (drop at) (sym (take-append-drop len bytes)) ∙ drop-append-le at (take len bytes) (drop len bytes) within
+          ∙ ap (λ (b : List ℕ). b ++ drop len bytes) stands.spelled ∙ append_assoc (item_frame frames_grammar number at item) rest (drop len bytes);
+    },
+    is,
+  )
     where
       within : at ≤ length (take len bytes)
       within = ⊎_elim
           (λ (less : length (take len bytes) < at).
-              let none : [] ≡ item_frame frames_grammar number at item ++ rest = sym (drop_all at (take len bytes) (omega (arith, less))) ∙ stands.spelled in
-              absurd (omega (arith, ap length none, length-append (item_frame frames_grammar number at item) rest, frame_is_some frames_grammar number at item)))
+          let none : [] ≡ item_frame frames_grammar number at item ++ rest = sym (drop_all at (take len bytes) (omega (arith, less))) ∙ stands.spelled in
+          absurd (omega (arith, ap length none, length-append (item_frame frames_grammar number at item) rest, frame_is_some frames_grammar number at item)))
           (λ (le : at ≤ length (take len bytes)). le)
           (cases_lt (length (take len bytes)) at)
 
