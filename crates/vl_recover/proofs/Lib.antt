@@ -2,6 +2,7 @@ pub mod Decided
 pub mod Fitted
 pub mod Mended
 pub mod OneFinding
+pub mod Recovered
 pub mod Removals
 pub mod Stepping
 pub mod Unchanged

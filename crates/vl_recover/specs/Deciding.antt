@@ -8,7 +8,7 @@ use Rattle.vl_model.specs.declared.counter.Counter.TheVariants as counters
 use Rattle.vl_manifest.specs.Manifest.{manifest_bytes}
 use Rattle.vl_manifest.specs.States.{opened_state, whole_edits}
 use Rattle.vl_manifest.specs.declared.state.ManifestState.{ManifestState}
-use Rattle.vl_recover.specs.Answers.{AnswersBy, Finds, held_log, used_up}
+use Rattle.vl_recover.specs.Answers.{AnswersBy, Finds, Opened, held_log, used_up}
 use Rattle.vl_recover.specs.Mending.{Cut, Headed, IsPlan, Kept, NoLast, Plan, Rewritten}
 use Rattle.vl_recover.specs.Mending as mending
 use Rattle.vl_recover.specs.PlanViews.{plan_view}
@@ -95,6 +95,16 @@ pub record IsPrepared (image : Image) (prepared : Prepared) : Type 0 where
   pub frozen : map frozen_log prepared.frozen.items ≡ map held_log finds.opening.logs
   pub plan : IsPlan finds (plan_view prepared.plan)
   pub active : prepared.active ≡ active_log finds.greatest finds.opening.state finds.logs
+
+-- the store that is opened then
+abbrev pub opened_by : Prepared → Opened
+opened_by prepared = record {
+  number = prepared.number;
+  state = prepared.state;
+  manifest = prepared.plan.manifest;
+  frozen = map frozen_log prepared.frozen.items;
+  active = prepared.active;
+}
 
 -- It is ready, or that is the answer.
 abbrev pub PreparesSo : Image → Result Prepared Why → Type 0
