@@ -59,7 +59,7 @@ changed_stands name change other disk stands = ⊎_elim
     mapped None is = is
     mapped (Some file) is = refl
 
-made_stands : (name : Name) (bytes : List ℕ) (other : Name) (disk : DiskState) → Stands other disk → Stands other (made name bytes disk)
+pub made_stands : (name : Name) (bytes : List ℕ) (other : Name) (disk : DiskState) → Stands other disk → Stands other (made name bytes disk)
 made_stands name bytes other disk stands = ⊎_elim
     (λ (same : other ≡ name).
         subst (λ (n : Name). IsSome (get (made name bytes disk).standing n)) (sym same)
@@ -85,7 +85,7 @@ head_stands k name disk stands =
     changed_stands (Log k) synced_file name (headed k disk)
     (changed_stands (Log k) (lengthened (log_header k) (length (log_header k))) name disk stands)
 
-last_stands : (last : LastLog) (name : Name) (disk : DiskState) → Stands name disk → Stands name (behind_last last disk)
+pub last_stands : (last : LastLog) (name : Name) (disk : DiskState) → Stands name disk → Stands name (behind_last last disk)
 last_stands NoLast name disk stands = stands
 last_stands (Kept k) name disk stands = changed_stands (Log k) synced_file name disk stands
 last_stands (Cut k len) name disk stands =
@@ -93,7 +93,7 @@ last_stands (Cut k len) name disk stands =
 last_stands (Headed k) name disk stands = head_stands k name disk stands
 last_stands (Rewritten k) name disk stands = head_stands k name (cut_to (Log k) 0 0 disk) (changed_stands (Log k) (shortened 0 0) name disk stands)
 
-log_stands : (log : Option ℕ) (name : Name) (disk : DiskState) → Stands name disk → Stands name (behind_log log disk)
+pub log_stands : (log : Option ℕ) (name : Name) (disk : DiskState) → Stands name disk → Stands name (behind_log log disk)
 log_stands None name disk stands = stands
 log_stands (Some k) name disk stands = made_stands (Log k) _ name disk stands
 
@@ -144,7 +144,7 @@ module _ (read : Image) (start : DiskState) (is_read : IsRead read start) (manif
 
 -- ---- the new log
 
-above_all : (s : ManifestState) (logs : List StandingLog) (k : ℕ) → log_made s logs ≡ Some k → s.next_log ≤ k
+pub above_all : (s : ManifestState) (logs : List StandingLog) (k : ℕ) → log_made s logs ≡ Some k → s.next_log ≤ k
 above_all s [] k is = let e : max s.head s.next_log ≡ k = some_same _ k is in omega (arith, e)
 above_all s (q ∷ []) k is = by q.reading.frames is
   where
@@ -172,6 +172,13 @@ all_can (name ∷ names) disk stand once = (
   (rest_once name names once),
 )
 
+pub stands_read : (read : Image) (start : DiskState) → IsRead read start → (name : Name) → IsSome (get read name) → Stands name start
+stands_read read start is_read name some = by (get start.standing name) (is_read.each name)
+  where
+    by : (file : Option File) → get read name ≡ option_map (λ (f : File). f.bytes) file → IsSome file
+    by None is = subst IsSome is some
+    by (Some file) is = refl
+
 -- ---- all of it
 
 module _ {read : Image} (found : Finds read) (start : DiskState) (is_read : IsRead read start) where
@@ -186,13 +193,6 @@ module _ {read : Image} (found : Finds read) (start : DiskState) (is_read : IsRe
       let above = above_all new found.logs k is in
       unread_free read start is_read (Log k) (found.are_greatest.log.none_above k (omega (arith, above)))
 
-  stands_read : (name : Name) → IsSome (get read name) → Stands name start
-  stands_read name some = by (get start.standing name) (is_read.each name)
-    where
-      by : (file : Option File) → get read name ≡ option_map (λ (f : File). f.bytes) file → IsSome file
-      by None is = subst IsSome is some
-      by (Some file) is = refl
-
   -- It fits.
   pub found_fits : (plan : Plan) → IsPlan found plan → Fits plan start
   found_fits plan is = subst (λ (p : Plan). Fits p start) (sym is.is) (record {
@@ -201,7 +201,7 @@ module _ {read : Image} (found : Finds read) (start : DiskState) (is_read : IsRe
     log = log_can (log_made new found.logs) refl;
     strays = all_can plan.strays (with_log the_plan start)
         (λ name among. log_stands the_plan.log name (with_last the_plan start) (last_stands the_plan.last name (with_manifest the_plan start)
-          (made_stands (Manifest manifest_number) the_plan.piece name start (stands_read name (((is.strays.all name).0 among).0)))))
+          (made_stands (Manifest manifest_number) the_plan.piece name start (stands_read read start is_read name (((is.strays.all name).0 among).0)))))
         is.strays.once;
   })
     where

@@ -1,3 +1,4 @@
+pub mod ActiveStands
 pub mod Decided
 pub mod Fitted
 pub mod Mended
@@ -5,4 +6,3 @@ pub mod OneFinding
 pub mod Recovered
 pub mod Removals
 pub mod Stepping
-pub mod Unchanged

@@ -1,14 +1,16 @@
 -- What an opening gives, by what was prepared and how the mending went.
 use Rattle.std.proofs.Common.{◌≡◌, ℕ, ◌+◌, List, length, map, refl, sym, ap, subst, ◌∙◌}
 use Rattle.std.specs.Prelude.{Option, None, Some, Result, Ok, Err}
-use Rattle.std.specs.Option.{option_map}
+use Rattle.std.specs.Option.{ForSome, option_map}
 use Rattle.vl_disk.specs.Calls.{ChangesNothing}
 use Rattle.vl_disk.specs.Crash.{Image, Unchanged}
+use Rattle.vl_disk.specs.Disk.{Stands}
 use Rattle.vl_disk.specs.DiskState.{DiskState, IsLawful}
 use Rattle.vl_disk.specs.Faults.{after_calls}
 use Rattle.vl_disk.specs.Moments.{HoldsThroughout, goes_by, waits}
 use Rattle.vl_disk.specs.Started.{IsRead}
 use Rattle.vl_disk.specs.declared.name.Name.{Name}
+use Rattle.vl_disk.specs.declared.name.Name.TheVariants.{Log}
 use Rattle.vl_disk.specs.declared.watched.Watched.{Ghosts}
 use Rattle.vl_layout.specs.declared.segment.Segment.{Segment}
 use Rattle.vl_manifest.specs.declared.state.ManifestState.{ManifestState}
@@ -28,6 +30,7 @@ use Rattle.vl_recover.specs.Results.{frozen_log}
 use Rattle.vl_recover.specs.Starts.{MayOpen}
 use Rattle.vl_recover.specs.Steps.{Mends}
 use Rattle.vl_recover.specs.declared.prepared.Prepared.{Prepared}
+use Rattle.vl_recover.proofs.ActiveStands.{active_stands}
 use Rattle.vl_recover.proofs.OneFinding.{as_many, same_calls, same_logs_then, same_opening}
 
 some_same : (a b : DiskState) → Some a ≡ Some b → a ≡ b
@@ -96,3 +99,24 @@ module _ {D : Type 0} (g : Ghosts D) (only_now : (disk : D) (state other : DiskS
         mends.calls
         ∙ ap (λ (n : ℕ). after_calls n (g.calls mid)) (plan_calls is.finds done is.plan ∙ ap (calls_to_open is.finds) many ∙ same_calls read is.finds found (length strays))
         ∙ ap (after_calls (calls_to_open found (length strays))) no_change.calls
+
+-- the log that takes commits stands
+pub active_stays : {D T E : Type 0} (g : Ghosts D) (old mid new : D) {failed : Type 0} → ChangesNothing g old mid failed → (prepared : Prepared) (x : T)
+    → Mends {E = E} g (plan_view prepared.plan) mid new (Ok x)
+    → ((state : DiskState) (read : Image) → g.told old ≡ Some state → IsRead read state → IsPrepared read prepared)
+    → (active : ℕ) → active ≡ prepared.active → ForSome (g.told new) (Stands (Log active))
+active_stays g old mid new no_change prepared x mends ready active same now ends = by (g.told old) refl
+  where
+    none_some : (d : DiskState) → None ≡ Some d → ⊥
+    none_some d e = cc
+
+    by : (told : Option DiskState) → g.told old ≡ told → Stands (Log active) now
+    by None told = absurd (none_some now (sym (mends.done ∙ ap (option_map (mended (plan_view prepared.plan))) (no_change.told ∙ told)) ∙ ends))
+    by (Some state) told =
+        let (read, is_read) = read_image state in
+        let is = ready state read told is_read in
+        let now_is : mended (plan_view prepared.plan) state ≡ now = some_same (mended (plan_view prepared.plan) state) now
+        (sym (mends.done ∙ ap (option_map (mended (plan_view prepared.plan))) (no_change.told ∙ told)) ∙ ends) in
+        subst (Stands (Log active)) now_is
+        (subst (λ (k : ℕ). Stands (Log k) (mended (plan_view prepared.plan) state)) (sym (same ∙ is.active))
+        (active_stands is.finds state is_read (plan_view prepared.plan) is.plan))

@@ -1,10 +1,13 @@
 ghost use Rattle.std.specs.Prelude.{◌≡◌, ℕ, List, length, Some, IfOk};
 ghost use Rattle.vl_disk.specs.Crash.{Image};
+ghost use Rattle.std.specs.Option.{ForSome};
+ghost use Rattle.vl_disk.specs.Disk.{Stands};
 ghost use Rattle.vl_disk.specs.DiskState.{DiskState};
 ghost use Rattle.vl_disk.specs.Faults.{HasCause, after_calls};
 ghost use Rattle.vl_disk.specs.Moments.{HoldsThroughout};
 ghost use Rattle.vl_disk.specs.Started.{IsRead};
 ghost use Rattle.vl_disk.specs.declared.name.Name.{Name};
+ghost use Rattle.vl_disk.specs.declared.name.Name.TheVariants.{Log};
 ghost use Rattle.vl_recover.specs.Alike.{OpensAsOf};
 ghost use Rattle.vl_recover.specs.Answers.{AnswersBy, AreStrayNames, Finds, IsNotOpened, calls_to_open, logs_then};
 ghost use Rattle.vl_recover.specs.Deciding.{opened_by};
@@ -53,6 +56,8 @@ pub fn recover<D: Disk>(alloc: Global, disk: D, room: u64) -> Result<Parts<D>, O
         → (now : DiskState) × (D.told (disk_of result) ≡ Some now) }
     ensures cause { HasCause (D.faults disk) (D.faults (disk_of result)) (HasFailed (came result)) }
     ensures room { IfOk result (λ parts. parts.room ≡ room) }
+    // The log that takes commits stands, and has only its header.
+    ensures stands { IfOk result (λ parts. ForSome (D.told parts.disk) (Stands (Log parts.active.number))) }
     ensures active { IfOk result (λ parts. parts.active.length ≡ 16) }
 {
     let mut disk = disk;
@@ -75,7 +80,7 @@ fn opened<D: Disk>(disk: D, room: u64, prepared: Prepared) -> Parts<D>
     ensures opened { opened_of result ≡ opened_by prepared }
     ensures state { result.state ≡ prepared.state }
     ensures room { result.room ≡ room }
-    ensures active { result.active.length ≡ 16 }
+    ensures active { result.active ≡ record { number = prepared.active; length = 16 } }
 {
     let Prepared {
         number,

@@ -1,6 +1,7 @@
-use Rattle.std.proofs.Common.{◌∙◌}
+use Rattle.std.proofs.Common.{ap, ◌∙◌}
 use Rattle.vl_recover.proofs.OneFinding.{opened_not}
-use Rattle.vl_recover.proofs.Recovered.{calls_counted, mended_tells, mended_through, opened_same, still_tells, store_held, unchanged_through}
+use Rattle.vl_recover.proofs.Recovered.{active_stays, calls_counted, mended_tells, mended_through, opened_same, still_tells, store_held, unchanged_through}
+use Rattle.vl_seglog.specs.declared.active.ActiveLog.{ActiveLog}
 use Rattle.vl_recover.proofs.recovering.recover.Goals as goal
 
 pub returns-in-Err-clause-through : goal.returns-in-Err-clause-through
@@ -58,3 +59,9 @@ pub returns-in-Ok-mend-clause-tells : goal.returns-in-Ok-mend-clause-tells
 returns-in-Ok-mend-clause-tells g c state told =
     rw c.opened.ensures.disk
     (mended_tells g.D.Watched g.met.D.Disk.only_now _ _ c.in-Ok.ensures.no_change state told _ c.in-Ok.prepared c.mend.result c.mend.ensures)
+
+pub returns-in-Ok-mend-clause-stands : goal.returns-in-Ok-mend-clause-stands
+returns-in-Ok-mend-clause-stands g c =
+    rw c.opened.ensures.disk
+    (active_stays g.D.Watched _ _ _ c.in-Ok.ensures.no_change c.in-Ok.prepared _ c.in-Ok-mend.ensures c.in-Ok.ensures.answer
+    c.opened.result.active.number (ap (λ (a : ActiveLog). a.number) c.opened.ensures.active))
