@@ -58,7 +58,7 @@ pub record MendsLast (q : StandingLog) (disk : DiskState) (l : LastLog) : Type 0
 
 -- ---- what it says
 
-number_same : (m n : ℕ) → (m == n) ≡ true → m ≡ n
+pub number_same : (m n : ℕ) → (m == n) ≡ true → m ≡ n
 number_same m n e = grind (arith, nat_tests)
 
 number_other : (m n : ℕ) → (m == n) ≡ false → m ≢ n
@@ -91,7 +91,7 @@ module _ (number : ℕ) (bytes : List ℕ) (reading : LogReading) (reads : Reads
       omega (arith, other, within)
 
 -- A wholly synced file is durable to its end.
-loose_below : (file : File) (len : ℕ) → IsLawfulFile file → len < length file.bytes → file.synced ≤ len → file.wholly_synced ≡ false
+pub loose_below : (file : File) (len : ℕ) → IsLawfulFile file → len < length file.bytes → file.synced ≤ len → file.wholly_synced ≡ false
 loose_below file len lawful past flat = ⊎_elim
     (λ (whole : file.wholly_synced ≡ true). let all : file.synced ≡ length file.bytes = ap (λ (x : File). x.synced) (lawful.as_synced whole) in absurd (omega (arith, all, past, flat)))
     (λ (loose : file.wholly_synced ≡ false). loose)

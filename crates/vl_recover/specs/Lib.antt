@@ -4,10 +4,12 @@ pub mod Answers
 pub mod AppendLaws
 pub mod Held
 pub mod HeldLaws
+pub mod LastFiles
 pub mod LastLaws
 pub mod LeadsLaws
 pub mod LogsLaws
 pub mod Mending
+pub mod MendingAgain
 pub mod MendingLaws
 pub mod MendingOpens
 pub mod MendingStages

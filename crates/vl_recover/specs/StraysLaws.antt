@@ -45,11 +45,11 @@ pub record MendsStrays (number : ℕ) (s : ManifestState) (disk : DiskState) (na
   pub leads : Leads number s (behind_strays names disk)
   pub logs : (logs : List Segment) → HoldsLogs s.head logs disk → HoldsLogs s.head logs (behind_strays names disk)
 
-rest_apart : (name : Name) (names : List Name) → AllPairs (λ a b. a ≢ b) (name ∷ names) → (other : Name) → Contains names other → other ≢ name
+pub rest_apart : (name : Name) (names : List Name) → AllPairs (λ a b. a ≢ b) (name ∷ names) → (other : Name) → Contains names other → other ≢ name
 rest_apart name names once other (k, less, is) same =
     once 0 (suc k) other (omega arith) (omega (arith, less)) (sym same ∙ sym is)
 
-rest_once : (name : Name) (names : List Name) → AllPairs (λ a b. a ≢ b) (name ∷ names) → AllPairs (λ a b. a ≢ b) names
+pub rest_once : (name : Name) (names : List Name) → AllPairs (λ a b. a ≢ b) (name ∷ names) → AllPairs (λ a b. a ≢ b) names
 rest_once name names once i j d below within = once (suc i) (suc j) d (omega (arith, below)) (omega (arith, within))
 
 -- one goes, and then the others

@@ -287,7 +287,7 @@ stand_leaves (Manifest number) file stand = leaves_read (Manifest number) file (
 -- ---- a log that is cut
 
 -- what is asked of a file is asked of one that is torn from the same place and has the same pieces due
-same_handed : (file other : File) (spells : ℕ → List ℕ → Type 0) → torn_from file ≡ torn_from other → file.due ≡ other.due
+pub same_handed : (file other : File) (spells : ℕ → List ℕ → Type 0) → torn_from file ≡ torn_from other → file.due ≡ other.due
     → HasOnlyHandedOver file spells → HasOnlyHandedOver other spells
 same_handed file other spells from due only = record {
   first = λ frame here. subst (λ (n : ℕ). WasHandedOver other n frame) from (moved (torn_from file) frame
@@ -319,7 +319,7 @@ module _ (number len : ℕ) (file : File) where
         same_handed (shortened len left file) file (Spells name bytes) from refl (chance grows refl)
 
   -- what is spelled in first bytes is spelled in all of them
-  spelled_longer : (bytes : List ℕ) (at : ℕ) (frame : List ℕ) → Spells (Log number) (take len bytes) at frame → Spells (Log number) bytes at frame
+  pub spelled_longer : (bytes : List ℕ) (at : ℕ) (frame : List ℕ) → Spells (Log number) (take len bytes) at frame → Spells (Log number) bytes at frame
   spelled_longer bytes at frame (item, rest, stands, is) = (
     item,
     rest ++ drop len bytes,
