@@ -24,7 +24,7 @@ use Rattle.vl_recover.specs.LeadsLaws.{leads_kept, nowhere_kept}
 use Rattle.vl_recover.specs.Mending.{Cut, Headed, Kept, LastLog, Rewritten, WhileHeading, WhileLast, behind_last, headed, mending_of}
 use Rattle.vl_recover.specs.MendingSteps.{IsLast, change_step, manifest_log, sync_step}
 use Rattle.vl_recover.specs.OneName.{IsLeftOne, as_before, as_of_then}
-use Rattle.vl_recover.specs.Torn.{ReadsFrames, cut_no_chance, ended_no_chance, torn_cut, torn_header, uncut, uncut_chance}
+use Rattle.vl_recover.specs.Torn.{LeavesNone, ReadsFrames, cut_no_chance, leaves_none, leaves_read, ended_no_chance, torn_cut, torn_header, uncut, uncut_chance}
 use Rattle.vl_recover.specs.Walk.{StandingLog, content_end}
 use Rattle.vl_seglog.specs.FrameLaws.{length-log_header}
 use Rattle.vl_seglog.specs.Frames.{frames_end, frames_grammar, log_bytes, log_header}
@@ -42,7 +42,7 @@ pub record LastStands (q : StandingLog) (disk : DiskState) : Type 0 where
   pub lawful : IsLawfulFile file
   pub length_is : q.length ≡ length file.bytes
   pub reads : ReadsLog q.number file.bytes q.reading
-  pub no_chance : NoChanceOne Spells (Log q.number) (Some file) (Some file.bytes)
+  pub no_chance : q.reading.header ≡ true → NoChanceOne Spells (Log q.number) (Some file) (Some file.bytes)
   pub headless : q.reading.header ≡ false → IsWithinHeader file
 
 -- The log is durable with its frames and nothing else.
@@ -58,7 +58,7 @@ pub record MendsLast (q : StandingLog) (disk : DiskState) (l : LastLog) : Type 0
 
 -- ---- what it says
 
-number_same : (m n : ℕ) → (m == n) ≡ true → m ≡ n
+pub number_same : (m n : ℕ) → (m == n) ≡ true → m ≡ n
 number_same m n e = grind (arith, nat_tests)
 
 number_other : (m n : ℕ) → (m == n) ≡ false → m ≢ n
@@ -66,6 +66,12 @@ number_other m n e = grind (arith, nat_tests)
 
 pub none_without : (number : ℕ) (bytes : List ℕ) (reading : LogReading) → ReadsLog number bytes reading → reading.header ≡ false → reading.frames ≡ []
 none_without number bytes reading reads header = subst (λ (b : Bool). AreBehind b number bytes reading.frames) header reads.frames
+
+pub wrong_header : (number : ℕ) (bytes : List ℕ) (reading : LogReading) → ReadsLog number bytes reading → reading.header ≡ false → HasHeader number bytes → ⊥
+wrong_header number bytes reading reads header right = true_false (sym (reads.header.1 right) ∙ header)
+  where
+    true_false : true ≡ false → ⊥
+    true_false e = cc
 
 module _ (number : ℕ) (bytes : List ℕ) (reading : LogReading) (reads : ReadsLog number bytes reading) (header : reading.header ≡ true) where
   by_length : (w : Bool) → reading.whole ≡ w → (length bytes == frames_end reading.frames) ≡ w
@@ -85,7 +91,7 @@ module _ (number : ℕ) (bytes : List ℕ) (reading : LogReading) (reads : Reads
       omega (arith, other, within)
 
 -- A wholly synced file is durable to its end.
-loose_below : (file : File) (len : ℕ) → IsLawfulFile file → len < length file.bytes → file.synced ≤ len → file.wholly_synced ≡ false
+pub loose_below : (file : File) (len : ℕ) → IsLawfulFile file → len < length file.bytes → file.synced ≤ len → file.wholly_synced ≡ false
 loose_below file len lawful past flat = ⊎_elim
     (λ (whole : file.wholly_synced ≡ true). let all : file.synced ≡ length file.bytes = ap (λ (x : File). x.synced) (lawful.as_synced whole) in absurd (omega (arith, all, past, flat)))
     (λ (loose : file.wholly_synced ≡ false). loose)
@@ -126,7 +132,7 @@ module _ (number : ℕ) (s : ManifestState) (k : ℕ) where
     empty_chance = ended_no_chance (Log k) file file.bytes (omega (arith, ap length empty))
 
     headed_step : (taken : ℕ) → OpensAsOf disk (appended (Log k) (log_header k) taken disk)
-    headed_step taken = change_step number s k disk file last stands empty_chance (record { header = false; frames = []; whole = false }) reads_empty (lengthened (log_header k) taken) refl
+    headed_step taken = change_step number s k disk file last stands (leaves_read (Log k) file empty_chance) (record { header = false; frames = []; whole = false }) reads_empty (lengthened (log_header k) taken) refl
         (λ bytes agrees chance. inl (torn_header k (lengthened (log_header k) taken file) bytes refl (omega (arith, none))
         (All-push (λ (piece : Piece). piece.place + length piece.bytes ≤ 16) file.due (record { place = length file.bytes; bytes = log_header k }) within (omega (arith, ap length empty, length-log_header k)))
         chance))
@@ -181,8 +187,8 @@ module _ (number : ℕ) (s : ManifestState) (q : StandingLog) (disk : DiskState)
 
   kept_law : q.reading.header ≡ true → q.reading.whole ≡ true → MendsLast q disk (Kept q.number)
   kept_law header whole = record {
-    meanwhile = sync_law number s k disk is.file last is.stands is.no_chance;
-    after = sync_law number s k disk is.file last is.stands is.no_chance (synced (Log k) disk) (inr refl);
+    meanwhile = sync_law number s k disk is.file last is.stands (is.no_chance header);
+    after = sync_law number s k disk is.file last is.stands (is.no_chance header) (synced (Log k) disk) (inr refl);
     written = record {
       have = (log_apart k is.file.bytes q.reading is.reads header).have;
       stands = changed_file number s k disk synced_file is.file is.stands ∙ ap (λ (b : List ℕ). Some (settled b)) (whole_bytes k is.file.bytes q.reading is.reads header whole);
@@ -194,7 +200,7 @@ module _ (number : ℕ) (s : ManifestState) (q : StandingLog) (disk : DiskState)
     loose = loose_below is.file end is.lawful (goes_past k is.file.bytes q.reading is.reads header goes_on)
 
     cut_step : (left : ℕ) → frames_end q.reading.frames ≤ left → OpensAsOf disk (cut_to (Log q.number) (frames_end q.reading.frames) left disk)
-    cut_step left short = change_step number s k disk is.file last is.stands is.no_chance q.reading is.reads (shortened end left) refl
+    cut_step left short = change_step number s k disk is.file last is.stands (leaves_read (Log k) is.file (is.no_chance header)) q.reading is.reads (shortened end left) refl
         (λ bytes agrees chance. ⊎_elim
         (λ (deep : end < is.file.synced). inl (torn_cut k is.file q.reading is.lawful is.reads header left short deep bytes agrees chance))
         (λ (flat : is.file.synced ≤ end). inr (record {
@@ -212,7 +218,7 @@ module _ (number : ℕ) (s : ManifestState) (q : StandingLog) (disk : DiskState)
     sync_cut : (now : DiskState) → WhileSyncing (Log q.number) (cut_to (Log q.number) (frames_end q.reading.frames) (frames_end q.reading.frames) disk) now → OpensAsOf disk now
     sync_cut now during = as_of_then disk (cut_to (Log k) end end disk) now (cut_step end (omega arith))
         (sync_law number s k (cut_to (Log k) end end disk) (shortened end end is.file) (still_last number s k disk (shortened end end) last) cut_stands
-        (cut_no_chance k end is.file loose is.no_chance) now during)
+        (cut_no_chance k end is.file loose (is.no_chance header)) now during)
 
     cut_law : MendsLast q disk (Cut q.number (frames_end q.reading.frames))
     cut_law = record {
@@ -254,9 +260,11 @@ module _ (number : ℕ) (s : ManifestState) (q : StandingLog) (disk : DiskState)
         none_synced file lawful short = omega (arith, lawful.within, short)
 
     emptied_step : (left : ℕ) → OpensAsOf disk (cut_to (Log q.number) 0 left disk)
-    emptied_step left = change_step number s k disk is.file last is.stands is.no_chance q.reading is.reads (shortened 0 left) refl
-        (λ bytes agrees chance. inl (subst (ReadsFrames k bytes) (sym none)
-        (torn_header k (shortened 0 left is.file) bytes refl (omega arith) (is.headless header) chance)))
+    emptied_step left = change_step number s k disk is.file last is.stands before.leaves (record { header = false; frames = []; whole = false }) before.reads (shortened 0 left) refl
+        (λ bytes agrees chance. inl (torn_header k (shortened 0 left is.file) bytes refl (omega arith) (is.headless header) chance))
+      where
+        before : LeavesNone q.number is.file
+        before = leaves_none k is.file (wrong_header k is.file.bytes q.reading is.reads header)
 
     emptied_stands : get (cut_to (Log q.number) 0 0 disk).standing (Log q.number) ≡ Some (shortened 0 0 is.file)
     emptied_stands = changed_file number s k disk (shortened 0 0) is.file is.stands

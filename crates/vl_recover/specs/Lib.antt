@@ -7,10 +7,12 @@ pub mod Finding
 pub mod Fitting
 pub mod Held
 pub mod HeldLaws
+pub mod LastFiles
 pub mod LastLaws
 pub mod LeadsLaws
 pub mod LogsLaws
 pub mod Mending
+pub mod MendingAgain
 pub mod MendingLaws
 pub mod MendingOpens
 pub mod MendingStages

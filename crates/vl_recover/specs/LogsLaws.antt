@@ -14,19 +14,19 @@ use Rattle.vl_disk.specs.declared.name.Name.{Name}
 use Rattle.vl_disk.specs.declared.name.Name.TheVariants.{Log, Manifest}
 use Rattle.vl_layout.specs.Logs.{log_length}
 use Rattle.vl_manifest.specs.declared.state.ManifestState.{ManifestState}
-use Rattle.vl_recover.specs.Alike.{IsLeft, Spells}
 use Rattle.vl_recover.specs.AlikeLaws.{LastIsWhole, log_same}
 use Rattle.vl_recover.specs.Answers.{as_segment}
 use Rattle.vl_recover.specs.Held.{HoldsLogs, IsNowhere, IsSettled}
 use Rattle.vl_recover.specs.HeldLaws.{left_nowhere, left_settled}
 use Rattle.vl_recover.specs.LeadsLaws.{nowhere_kept, settled_kept}
-use Rattle.vl_recover.specs.LastLaws.{IsWithinHeader, IsWritten, LastStands, MendsLast, whole_bytes}
+use Rattle.vl_recover.specs.LastLaws.{IsWithinHeader, IsWritten, LastStands, MendsLast, whole_bytes, wrong_header}
 use Rattle.vl_recover.specs.Mending.{Cut, Headed, Kept, LastLog, NoLast, Rewritten, behind_last, headed, last_of, mending_of}
 use Rattle.vl_recover.specs.OneName.{elsewhere_then}
 use Rattle.vl_recover.specs.Opening.{IsNextLog, StandingLogs}
 use Rattle.vl_recover.specs.OpeningLaws.{some_none, some_same}
 use Rattle.vl_recover.specs.Plans.{log_behind, log_made}
 use Rattle.vl_recover.specs.Stages.{on_ok}
+use Rattle.vl_recover.specs.Starts.{AllMayStand}
 use Rattle.vl_recover.specs.Walk.{LogDamage, StandingLog, counted, counted_whole, in_log, walked, walked_on}
 use Rattle.vl_seglog.specs.Frames.{frames_end, log_bytes, log_header}
 use Rattle.vl_seglog.specs.LogReading.{LogReading, ReadsLog}
@@ -266,9 +266,8 @@ bytes_some bytes (Some file) e = (file, refl, sym (some_same bytes file.bytes e)
 pub record MayMend (head : ℕ) (read : Image) (disk : DiskState) : Type 0 where
   pub lawful : IsLawful disk
   pub is_read : IsRead read disk
-  pub as_read : IsLeft disk read
+  pub files : AllMayStand disk
   pub kept : (m : ℕ) → head ≤ m → get disk.removed (Log m) ≡ None
-  pub headless : (m : ℕ) (file : File) (reading : LogReading) → get disk.standing (Log m) ≡ Some file → ReadsLog m file.bytes reading → reading.header ≡ false → IsWithinHeader file
   pub sealed : (m k : ℕ) (file : File) → head ≤ m → m < k → get disk.standing (Log k) ≢ None → get disk.standing (Log m) ≡ Some file
       → (file.wholly_synced ≡ true) × (file.lasting ≡ true)
 
@@ -299,9 +298,8 @@ module _ (head : ℕ) (read : Image) (disk : DiskState) (may : MayMend head read
         lawful = may.lawful.standing (Log q.number) file stands;
         length_is = next.length_is ∙ ap length (sym bytes);
         reads = reads;
-        no_chance = subst (λ (o : Option (List ℕ)). NoChanceOne Spells (Log q.number) (Some file) o) (next.stands ∙ ap Some (sym bytes))
-            (subst (λ (o : Option File). NoChanceOne Spells (Log q.number) (last_file o (get disk.removed (Log q.number))) (get read (Log q.number))) stands (may.as_read.no_chance (Log q.number)));
-        headless = may.headless q.number file q.reading stands reads;
+        no_chance = λ header. (may.files (Log q.number) file stands).no_chance (λ wrong. wrong (reads.header.0 header));
+        headless = λ header. (may.files (Log q.number) file stands).headless (wrong_header q.number file.bytes q.reading reads header);
       }
 
   -- a log that another follows

@@ -32,6 +32,7 @@ use Rattle.vl_recover.specs.OpeningLaws.{some_none, some_same}
 use Rattle.vl_recover.specs.Plans.{log_made, new_state}
 use Rattle.vl_recover.specs.Starts.{MayOpen}
 use Rattle.vl_recover.specs.StraysLaws.{AreSpare, IsSpare, MendsStrays, spare_kept, strays_law}
+use Rattle.vl_recover.specs.Torn.{stand_leaves}
 use Rattle.vl_recover.specs.Walk.{StandingLog}
 
 log_table : (m n : ℕ) → Log m ≡ Table n → ⊥
@@ -93,9 +94,8 @@ module _ {read : Image} (found : Finds read) (start : DiskState) (lawful : IsLaw
   may_mend = record {
     lawful = lawful;
     is_read = is_read;
-    as_read = may.as_read read is_read;
+    files = may.files;
     kept = may.logs read found.opening is_read found.opens;
-    headless = may.headless;
     sealed = may.sealed read found.opening is_read found.opens;
   }
 
@@ -138,8 +138,7 @@ module _ {read : Image} (found : Finds read) (start : DiskState) (lawful : IsLaw
         record {
           file = file;
           stands = stands;
-          no_chance = subst (λ (o : Option (List ℕ)). NoChanceOne Spells name (Some file) o) bytes
-              (subst (λ (o : Option File). NoChanceOne Spells name (last_file o (get start.removed name)) (get read name)) stands ((may.as_read read is_read).no_chance name));
+          leaves = stand_leaves name file (may.files name file stands);
           lower = λ m from e. missing (get read name) there (ap (get read) (sym e) ∙ found.are_greatest.manifest.none_above m (omega (arith, from)));
           below = λ m from e. not_low m from (subst (IsStrayName head) (sym e) stray);
         }

@@ -61,7 +61,7 @@ pub spare_below : (number head : ℕ) (old now : DiskState) → SameBelow head o
 spare_below number head old now same name spare = record {
   file = spare.file;
   stands = same.standing name spare.below ∙ spare.stands;
-  no_chance = spare.no_chance;
+  leaves = spare.leaves;
   lower = spare.lower;
   below = spare.below;
 }

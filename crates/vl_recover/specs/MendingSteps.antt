@@ -26,7 +26,7 @@ use Rattle.vl_recover.specs.LeadsLaws.{Leads, current_kept, leads_image, led_lik
 use Rattle.vl_recover.specs.OneName.{IsLeftOne, IsPart, Making, WasLeft, as_before, done, left_still, making, may_miss, one_name, part_empty, part_some, torn, waits}
 use Rattle.vl_recover.specs.Opening.{Opening, StandingLogs}
 use Rattle.vl_recover.specs.OpeningLaws.{IsOpened, some_none, some_same}
-use Rattle.vl_recover.specs.Torn.{ReadsFrames, header_reads, part_loose, part_synced, torn_header, torn_manifest}
+use Rattle.vl_recover.specs.Torn.{Leaves, ReadsFrames, header_reads, leaves_read, part_loose, part_synced, torn_header, torn_manifest}
 use Rattle.vl_recover.specs.Walk.{StandingLog}
 use Rattle.vl_seglog.specs.Frames.{log_header}
 use Rattle.vl_seglog.specs.LogReading.{LogReading, ReadsLog}
@@ -140,17 +140,16 @@ last_like number s k disk last was now reading read reads image before low same 
     (record { now = now; was = was; reads = reads.reading; read = reading; stands = stands; stood = stood; reads_now = reads.reads; read_was = read; frames = reads.same })
     s.head logs last.from standing)
 
-module _ (number : ℕ) (s : ManifestState) (k : ℕ) (old : DiskState) (file : File) (last : IsLast number s k old) (stands : get old.standing (Log k) ≡ Some file)
-    (as_read : NoChanceOne Spells (Log k) (Some file) (Some file.bytes)) where
-  read_one : IsLeftOne (Log k) (Some file) (get old.removed (Log k)) (Some file.bytes)
-  read_one = record { may = record { durable = refl; whole = λ _. refl }; no_chance = as_read }
+module _ (number : ℕ) (s : ManifestState) (k : ℕ) (old : DiskState) (file : File) (last : IsLast number s k old) (stands : get old.standing (Log k) ≡ Some file) where
+  leaves_one : (leaves : Leaves (Log k) file) → IsLeftOne (Log k) (get old.standing (Log k)) (get old.removed (Log k)) (Some leaves.bytes)
+  leaves_one leaves = left_standing (Log k) old (Some file) (Some leaves.bytes) stands (record { may = leaves.may; no_chance = leaves.no_chance })
 
-  -- It may be changed where what is left of it has the frames that were read, or could have been left before.
-  pub change_step : (reading : LogReading) → ReadsLog k file.bytes reading → (change : File → File) → (change file).lasting ≡ file.lasting
+  -- It may be changed where what is left of it has the same frames as something that could have been left before, or could itself have been left.
+  pub change_step : (leaves : Leaves (Log k) file) (reading : LogReading) → ReadsLog k leaves.bytes reading → (change : File → File) → (change file).lasting ≡ file.lasting
       → ((bytes : List ℕ) → Agrees (change file) bytes → NoChanceOne Spells (Log k) (Some (change file)) (Some bytes)
       → ReadsFrames k bytes reading.frames ⊎ IsLeftOne (Log k) (Some file) (get old.removed (Log k)) (Some bytes))
       → OpensAsOf old (with_file (Log k) change old)
-  change_step reading read change lasting left_as = one_name (Log k) old (with_file (Log k) change old) (changed_elsewhere (Log k) old change)
+  change_step leaves reading read change lasting left_as = one_name (Log k) old (with_file (Log k) change old) (changed_elsewhere (Log k) old change)
       (λ left one. there left (subst (λ (o : Option File). IsLeftOne (Log k) o (get old.removed (Log k)) left) now_there one))
     where
       now_there : get (with_file (Log k) change old).standing (Log k) ≡ Some (change file)
@@ -160,23 +159,23 @@ module _ (number : ℕ) (s : ManifestState) (k : ℕ) (old : DiskState) (file : 
       there None one = left_still old (Log k) None (left_standing (Log k) old (Some file) None stands (record { may = sym lasting ∙ one.may; no_chance = tt }))
       there (Some bytes) one = ⊎_elim
           (λ (same : ReadsFrames k bytes reading.frames). record {
-            was = Some file.bytes;
-            is_left = left_standing (Log k) old (Some file) (Some file.bytes) stands read_one;
-            like = λ image before low but is was. last_like number s k old last file.bytes bytes reading read same image before low but is was;
+            was = Some leaves.bytes;
+            is_left = leaves_one leaves;
+            like = λ image before low but is was. last_like number s k old last leaves.bytes bytes reading read same image before low but is was;
           })
           (λ (still : IsLeftOne (Log k) (Some file) (get old.removed (Log k)) (Some bytes)). left_still old (Log k) (Some bytes) (left_standing (Log k) old (Some file) (Some bytes) stands still))
           (left_as bytes one.may one.no_chance)
 
   -- It may be synced.
-  pub sync_step : OpensAsOf old (synced (Log k) old)
-  sync_step = one_name (Log k) old (synced (Log k) old) (changed_elsewhere (Log k) old synced_file)
+  pub sync_step : NoChanceOne Spells (Log k) (Some file) (Some file.bytes) → OpensAsOf old (synced (Log k) old)
+  sync_step as_read = one_name (Log k) old (synced (Log k) old) (changed_elsewhere (Log k) old synced_file)
       (λ left one. there left (settled_left file.bytes (get old.removed (Log k)) left (subst (λ (o : Option File). IsLeftOne (Log k) o (get old.removed (Log k)) left) now_there one).may))
     where
       now_there : get (synced (Log k) old).standing (Log k) ≡ Some (settled file.bytes)
       now_there = changed_there (Log k) old synced_file ∙ ap (option_map synced_file) stands
 
       there : (left : Option (List ℕ)) → left ≡ Some file.bytes → WasLeft old (Log k) left
-      there left is = left_still old (Log k) left (subst (IsLeftOne (Log k) (get old.standing (Log k)) (get old.removed (Log k))) (sym is) (left_standing (Log k) old (Some file) (Some file.bytes) stands read_one))
+      there left is = left_still old (Log k) left (subst (IsLeftOne (Log k) (get old.standing (Log k)) (get old.removed (Log k))) (sym is) (leaves_one (leaves_read (Log k) file as_read)))
 
 -- ---- the new log is made
 
@@ -226,7 +225,7 @@ module _ (number : ℕ) (s : ManifestState) (k : ℕ) (old now : DiskState) (lea
 -- ---- a stray is removed
 
 module _ (number : ℕ) (s : ManifestState) (name : Name) (old : DiskState) (file : File) (leads : Leads number s old) (stands : get old.standing name ≡ Some file)
-    (as_read : NoChanceOne Spells name (Some file) (Some file.bytes)) (lower : (m : ℕ) → number ≤ m → Manifest m ≢ name) (below : (m : ℕ) → s.head ≤ m → Log m ≢ name) where
+    (leaves : Leaves name file) (lower : (m : ℕ) → number ≤ m → Manifest m ≢ name) (below : (m : ℕ) → s.head ≤ m → Log m ≢ name) where
   without_like : (image before : Image) → IsLeft old before → SameBut name image before → OpensLike image before
   without_like image before low same =
       let led = leads_image number s old before leads low.left in
@@ -243,8 +242,8 @@ module _ (number : ℕ) (s : ManifestState) (name : Name) (old : DiskState) (fil
 
       there : (left : Option (List ℕ)) → IsLeftOne name None (Some file) left → WasLeft old name left
       there None one = record {
-        was = Some file.bytes;
-        is_left = left_standing name old (Some file) (Some file.bytes) stands (record { may = record { durable = refl; whole = λ _. refl }; no_chance = as_read });
+        was = Some leaves.bytes;
+        is_left = left_standing name old (Some file) (Some leaves.bytes) stands (record { may = leaves.may; no_chance = leaves.no_chance });
         like = λ image before low same is was. without_like image before low same;
       }
       there (Some bytes) one = left_still old name (Some bytes) (left_standing name old (Some file) (Some bytes) stands (record { may = one.may; no_chance = one.no_chance }))

@@ -26,6 +26,7 @@ use Rattle.vl_manifest.specs.declared.state.ManifestState.{ManifestState}
 use Rattle.vl_model.specs.declared.log_frame.LogFrame.{LogFrame}
 use Rattle.vl_recover.specs.Alike.{Spells}
 use Rattle.vl_recover.specs.OneName.{IsPart, part_empty, part_some}
+use Rattle.vl_recover.specs.Starts.{HasWrongHeader, MayStand}
 use Rattle.vl_seglog.specs.FrameLaws.{length-log_bytes}
 use Rattle.vl_seglog.specs.Frames.{frames_end, frames_grammar, log_bytes, log_header}
 use Rattle.vl_seglog.specs.LogReading.{HasHeader, LogReading, ReadsLog}
@@ -225,10 +226,68 @@ torn_header number file bytes loose short within chance = reads_none number byte
 pub header_reads : (number : ℕ) → ReadsLog number (log_header number) (record { header = true; frames = []; whole = true })
 header_reads number = reads_with_tail number [] tt [] (none_at_end frames_grammar number 16)
 
+-- ---- what is left of a file as it stands
+
+-- bytes that a crash may leave of a file, without a frame by chance
+pub record Leaves (name : Name) (file : File) : Type 0 where
+  pub bytes : List ℕ
+  pub may : Agrees file bytes
+  pub no_chance : NoChanceOne Spells name (Some file) (Some bytes)
+
+-- the bytes that are read
+abbrev pub leaves_read : (name : Name) (file : File) → NoChanceOne Spells name (Some file) (Some file.bytes) → Leaves name file
+leaves_read name file chance = record { bytes = file.bytes; may = record { durable = refl; whole = λ _. refl }; no_chance = chance }
+
+-- those of them that can't be torn
+leaves_front : (name : Name) (file : File) → file.wholly_synced ≡ false → Leaves name file
+leaves_front name file loose = record {
+  bytes = take (torn_from file) file.bytes;
+  may = record {
+    durable = take-take file.synced (torn_from file) file.bytes (omega arith);
+    whole = λ whole. absurd (false_true (sym loose ∙ whole));
+  };
+  no_chance = ended_no_chance name file (take (torn_from file) file.bytes) (omega (arith, length-take (torn_from file) file.bytes));
+}
+  where
+    false_true : false ≡ true → ⊥
+    false_true e = cc
+
+-- Of a log with a wrong header bytes may be left that have no frames.
+pub record LeavesNone (number : ℕ) (file : File) : Type 0 where
+  pub leaves : Leaves (Log number) file
+  pub reads : ReadsLog number leaves.bytes (record { header = false; frames = []; whole = false })
+
+pub leaves_none : (number : ℕ) (file : File) → HasWrongHeader (Log number) file → LeavesNone number file
+unfolding leaves_front
+leaves_none number file wrong = ⊎_elim
+    (λ (whole : file.wholly_synced ≡ true). record {
+      leaves = leaves_read (Log number) file (λ grows loose. absurd (true_false (sym whole ∙ loose)));
+      reads = reads_no_header number file.bytes wrong;
+    })
+    (λ (loose : file.wholly_synced ≡ false).
+    let front : take 16 (take (torn_from file) file.bytes) ≡ take 16 file.bytes = take-take 16 (torn_from file) file.bytes (omega arith) in
+    record {
+      leaves = leaves_front (Log number) file loose;
+      reads = reads_no_header number (take (torn_from file) file.bytes) (λ header. wrong (sym front ∙ header));
+    })
+    (cases_Bool file.wholly_synced)
+  where
+    true_false : true ≡ false → ⊥
+    true_false e = cc
+
+-- Of each file that may stand some bytes may be left.
+pub stand_leaves : (name : Name) (file : File) → MayStand name file → Leaves name file
+stand_leaves (Log number) file stand = ⊎_elim
+    (λ (header : HasHeader number file.bytes). leaves_read (Log number) file (stand.no_chance (λ wrong. wrong header)))
+    (λ (wrong : HasHeader number file.bytes → ⊥). (leaves_none number file wrong).leaves)
+    (header_or_not number file.bytes)
+stand_leaves (Table number) file stand = leaves_read (Table number) file (stand.no_chance (λ wrong. wrong))
+stand_leaves (Manifest number) file stand = leaves_read (Manifest number) file (stand.no_chance (λ wrong. wrong))
+
 -- ---- a log that is cut
 
 -- what is asked of a file is asked of one that is torn from the same place and has the same pieces due
-same_handed : (file other : File) (spells : ℕ → List ℕ → Type 0) → torn_from file ≡ torn_from other → file.due ≡ other.due
+pub same_handed : (file other : File) (spells : ℕ → List ℕ → Type 0) → torn_from file ≡ torn_from other → file.due ≡ other.due
     → HasOnlyHandedOver file spells → HasOnlyHandedOver other spells
 same_handed file other spells from due only = record {
   first = λ frame here. subst (λ (n : ℕ). WasHandedOver other n frame) from (moved (torn_from file) frame
@@ -260,7 +319,7 @@ module _ (number len : ℕ) (file : File) where
         same_handed (shortened len left file) file (Spells name bytes) from refl (chance grows refl)
 
   -- what is spelled in first bytes is spelled in all of them
-  spelled_longer : (bytes : List ℕ) (at : ℕ) (frame : List ℕ) → Spells (Log number) (take len bytes) at frame → Spells (Log number) bytes at frame
+  pub spelled_longer : (bytes : List ℕ) (at : ℕ) (frame : List ℕ) → Spells (Log number) (take len bytes) at frame → Spells (Log number) bytes at frame
   spelled_longer bytes at frame (item, rest, stands, is) = (
     item,
     rest ++ drop len bytes,
