@@ -1,18 +1,17 @@
 -- The log that takes commits stands behind the mending.
-use Rattle.std.proofs.Common.{◌≡◌, ℕ, ◌+◌, ◌≤◌, List, [], ◌∷◌, refl, sym, ap, subst, ◌∙◌, arith}
+use Rattle.std.proofs.Common.{◌≡◌, ℕ, ◌+◌, ◌≤◌, List, [], ◌∷◌, refl, sym, subst, arith}
 use Rattle.std.specs.Prelude.{◌≢◌, suc, Option, None, Some, IsSome, Contains}
-use Rattle.std.specs.Option.{option_map}
 use Rattle.std.specs.FinMap.{get}
 use Rattle.vl_disk.specs.Crash.{Image}
 use Rattle.vl_disk.specs.Disk.{Stands}
-use Rattle.vl_disk.specs.DiskState.{DiskState, File, settled, without}
+use Rattle.vl_disk.specs.DiskState.{DiskState, settled, without}
 use Rattle.vl_disk.specs.NameMap.{get_inserted, get_removed_other}
 use Rattle.vl_disk.specs.Started.{IsRead}
 use Rattle.vl_disk.specs.declared.name.Name.{Name}
 use Rattle.vl_disk.specs.declared.name.Name.TheVariants.{Log, Manifest}
 use Rattle.vl_manifest.specs.declared.state.ManifestState.{ManifestState}
 use Rattle.vl_recover.specs.Answers.{Finds, IsStrayName}
-use Rattle.vl_recover.specs.Mending.{IsPlan, LastLog, Plan, behind_last, behind_log, behind_strays, mended, plan_of, with_last, with_log, with_manifest}
+use Rattle.vl_recover.specs.Mending.{IsPlan, Plan, behind_log, behind_strays, mended, plan_of, with_last, with_log, with_manifest}
 use Rattle.vl_recover.specs.Opening.{StandingLogs}
 use Rattle.vl_recover.specs.Plans.{active_log, active_of, last_number, log_made, new_state}
 use Rattle.vl_recover.specs.Walk.{StandingLog}

@@ -7,15 +7,13 @@ use Rattle.vl_disk.specs.declared.name.Name.{Name}
 use Rattle.vl_manifest.specs.Manifest.{manifest_bytes}
 use Rattle.vl_manifest.specs.States.{opened_state, whole_edits}
 use Rattle.vl_manifest.specs.declared.state.ManifestState.{ManifestState}
-use Rattle.vl_model.specs.declared.counter.Counter.{Counter}
 use Rattle.vl_model.specs.declared.log_frame.LogFrame.{LogFrame}
-use Rattle.vl_recover.specs.Answers.{AnswersBy, AreStrayNames, Finds, held_log, used_up}
+use Rattle.vl_recover.specs.Answers.{AnswersBy, AreStrayNames, used_up}
 use Rattle.vl_recover.specs.Deciding.{DecidesSo, IsDecided, IsPrepared, PreparesSo, active_by, log_for, log_of, plan_for, state_for, step_for, used_up_for, used_up_of}
-use Rattle.vl_recover.specs.Finding.{IsFault, IsFound, last_log, last_of}
+use Rattle.vl_recover.specs.Finding.{IsFound, last_log, last_of}
 use Rattle.vl_recover.specs.Mending.{IsPlan, Plan, plan_of}
 use Rattle.vl_recover.specs.Mending as mending
-use Rattle.vl_recover.specs.PlanViews.{plan_view}
-use Rattle.vl_recover.specs.Plans.{Greatest, active_log, active_of, last_number, log_behind, log_made, new_state}
+use Rattle.vl_recover.specs.Plans.{Greatest, active_of, last_number, log_behind, log_made, new_state}
 use Rattle.vl_recover.specs.Results.{HasFailed, came_by, frozen_log}
 use Rattle.vl_recover.specs.Walk.{StandingLog}
 use Rattle.vl_recover.specs.declared.fails.Why.{Why}

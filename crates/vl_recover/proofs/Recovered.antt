@@ -1,6 +1,6 @@
 -- What an opening gives, by what was prepared and how the mending went.
 use Rattle.std.proofs.Common.{◌≡◌, ℕ, ◌+◌, List, length, map, refl, sym, ap, subst, ◌∙◌}
-use Rattle.std.specs.Prelude.{Option, None, Some, Result, Ok, Err}
+use Rattle.std.specs.Prelude.{Option, None, Some, Result, Ok}
 use Rattle.std.specs.Option.{ForSome, option_map}
 use Rattle.vl_disk.specs.Calls.{ChangesNothing}
 use Rattle.vl_disk.specs.Crash.{Image, Unchanged}
@@ -15,10 +15,10 @@ use Rattle.vl_disk.specs.declared.watched.Watched.{Ghosts}
 use Rattle.vl_layout.specs.declared.segment.Segment.{Segment}
 use Rattle.vl_manifest.specs.declared.state.ManifestState.{ManifestState}
 use Rattle.vl_recover.specs.Alike.{OpensAsOf}
-use Rattle.vl_recover.specs.Answers.{AreStrayNames, Finds, HeldLog, Opened, calls_to_open, held_log, logs_then, opened_from, used_up}
+use Rattle.vl_recover.specs.Answers.{AreStrayNames, Finds, HeldLog, Opened, calls_to_open, held_log, logs_then, opened_from}
 use Rattle.vl_recover.specs.Deciding.{IsPrepared, opened_by}
 use Rattle.vl_recover.specs.Held.{HoldsStore}
-use Rattle.vl_recover.specs.Mending.{Plan, WhileMending, calls_of_plan, mended}
+use Rattle.vl_recover.specs.Mending.{Plan, WhileMending, mended}
 use Rattle.vl_recover.specs.MendingLaws.{plan_calls}
 use Rattle.vl_recover.specs.MendingOpens.{mended_holds, mending_opens}
 use Rattle.vl_recover.specs.OneName.{as_before}

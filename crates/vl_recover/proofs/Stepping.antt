@@ -1,5 +1,5 @@
 -- Steps of a mending: each call is one, and one behind another is one.
-use Rattle.std.proofs.Common.{◌≡◌, ◌⊎◌, ⊎_elim, inl, inr, ℕ, ◌+◌, ◌≤◌, List, length, refl, sym, ap, subst, ◌∙◌, arith}
+use Rattle.std.proofs.Common.{◌≡◌, ◌⊎◌, ⊎_elim, inl, inr, ℕ, ◌+◌, List, length, refl, sym, ap, subst, ◌∙◌, arith}
 use Rattle.std.specs.Prelude.{zero, suc, true, false, Option, None, Some, Result, Ok, Err, IsErr, OnOk}
 use Rattle.std.specs.Option.{option_map}
 use Rattle.vl_disk.specs.Calls.{Appends, Cuts, Removes, Syncs}
@@ -8,7 +8,7 @@ use Rattle.vl_disk.specs.Disk.{IsChangedBy}
 use Rattle.vl_disk.specs.DiskState.{DiskState, appended, cut_to, synced, without}
 use Rattle.vl_disk.specs.Faults.{HasCause, after_calls, one_more}
 use Rattle.vl_disk.specs.MadeFile.{Makes, TellsPart, WhileMaking, made}
-use Rattle.vl_disk.specs.Moments.{Elapses, While, passes_none, passes_then, passes_weaker}
+use Rattle.vl_disk.specs.Moments.{While, passes_none, passes_then, passes_weaker}
 use Rattle.vl_disk.specs.declared.failed.Failed.{Failed}
 use Rattle.vl_disk.specs.declared.name.Name.{Name}
 use Rattle.vl_disk.specs.declared.name.Name.TheVariants.{Log}

@@ -1,9 +1,8 @@
 -- What a step of a mending does: some changing calls, one behind the other, of which one that fails is the last.
 use Rattle.std.specs.Prelude.{◌≡◌, ℕ, length, List, Option, Some, Result, OnOk, IsErr}
 use Rattle.vl_disk.specs.Disk.{IsChangedBy}
-use Rattle.vl_disk.specs.DiskState.{DiskState, without}
+use Rattle.vl_disk.specs.DiskState.{DiskState}
 use Rattle.vl_disk.specs.Faults.{HasCause, after_calls}
-use Rattle.vl_disk.specs.MadeFile.{WhileMaking, made}
 use Rattle.vl_disk.specs.Moments.{Elapses}
 use Rattle.vl_disk.specs.declared.name.Name.{Name}
 use Rattle.vl_disk.specs.declared.watched.Watched.{Ghosts}

@@ -1,7 +1,7 @@
 use vl_disk::Name;
 
 /// What becomes of the last log from head on.
-#[derive(Clone, Copy, Debug, Drop)]
+#[derive(Clone, Copy)]
 pub(crate) enum LastStep {
     /// There is none.
     Nothing,

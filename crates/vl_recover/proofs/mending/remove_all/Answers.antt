@@ -1,5 +1,5 @@
-use Rattle.std.proofs.Common.{ap, arith}
-use Rattle.vl_recover.proofs.Removals.{can_here, can_next, left_from, none_left, removing_begins, removing_ends, removing_goes_on, removing_stops}
+use Rattle.std.proofs.Common.{arith}
+use Rattle.vl_recover.proofs.Removals.{can_here, can_next, left_from, none_left, removing_ends, removing_goes_on, removing_stops}
 use Rattle.vl_recover.proofs.mending.remove_all.Goals as goal
 
 pub remove-requires : goal.remove-requires

@@ -2,7 +2,6 @@ use Rattle.std.proofs.Common.{◌∙◌, sym}
 use Rattle.vl_recover.specs.ReadImage.{read_image}
 use Rattle.vl_recover.proofs.Decided.{answer_by, decided_answer, decided_prepared}
 use Rattle.vl_recover.proofs.Fitted.{found_fits}
-use Rattle.vl_recover.proofs.OneFinding.{as_many}
 use Rattle.vl_recover.proofs.preparing.prepare.Goals as goal
 
 pub returns-in_err-prepared-clause-answer : goal.returns-in_err-prepared-clause-answer
