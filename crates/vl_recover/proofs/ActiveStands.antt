@@ -65,14 +65,14 @@ module _ {read : Image} (found : Finds read) (start : DiskState) (is_read : IsRe
       × ((other : Name) → Contains plan.strays other → Log (active_of log found.logs) ≢ other)
   by_log (Some k) made_is log_is = (
     subst (λ (l : Option ℕ). Stands (Log k) (behind_log l (with_last planned start))) (sym log_is)
-    (subst IsSome (sym (get_inserted (with_last planned start).standing (Log k) (settled (log_header k)))) refl),
+        (subst IsSome (sym (get_inserted (with_last planned start).standing (Log k) (settled (log_header k)))) refl),
     nor_new k (found.are_greatest.log.none_above k (let above = above_all new found.logs k made_is in omega (arith, above))),
   )
   by_log None made_is log_is =
       let (there, above) = last_there read start is_read new 0 found.opening.state.head found.logs found.standing made_is in (
         log_stands planned.log (Log (last_number 0 found.logs)) (with_last planned start)
-          (last_stands planned.last (Log (last_number 0 found.logs)) (with_manifest planned start)
-          (made_stands (Manifest planned.manifest) planned.piece (Log (last_number 0 found.logs)) start there)),
+            (last_stands planned.last (Log (last_number 0 found.logs)) (with_manifest planned start)
+            (made_stands (Manifest planned.manifest) planned.piece (Log (last_number 0 found.logs)) start there)),
         no_stray (last_number 0 found.logs) above,
       )
 

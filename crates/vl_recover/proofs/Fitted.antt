@@ -42,16 +42,16 @@ log_manifest k m e = cc
 changed_free : (name : Name) (change : File → File) (other : Name) (disk : DiskState) → IsFree other disk → IsFree other (with_file name change disk)
 changed_free name change other disk free = ⊎_elim
     (λ (same : other ≡ name).
-        subst (λ (n : Name). get (with_file name change disk).standing n ≡ None) (sym same)
-        (changed_there name disk change ∙ ap (option_map change) (subst (λ (n : Name). get disk.standing n ≡ None) same free)))
+    subst (λ (n : Name). get (with_file name change disk).standing n ≡ None) (sym same)
+    (changed_there name disk change ∙ ap (option_map change) (subst (λ (n : Name). get disk.standing n ≡ None) same free)))
     (λ (apart : other ≢ name). (changed_elsewhere name disk change).standing other apart ∙ free)
     (same_or_other other name)
 
 changed_stands : (name : Name) (change : File → File) (other : Name) (disk : DiskState) → Stands other disk → Stands other (with_file name change disk)
 changed_stands name change other disk stands = ⊎_elim
     (λ (same : other ≡ name).
-        subst (λ (n : Name). IsSome (get (with_file name change disk).standing n)) (sym same)
-        (subst IsSome (sym (changed_there name disk change)) (mapped (get disk.standing name) (subst (λ (n : Name). IsSome (get disk.standing n)) same stands))))
+    subst (λ (n : Name). IsSome (get (with_file name change disk).standing n)) (sym same)
+    (subst IsSome (sym (changed_there name disk change)) (mapped (get disk.standing name) (subst (λ (n : Name). IsSome (get disk.standing n)) same stands))))
     (λ (apart : other ≢ name). subst IsSome (sym ((changed_elsewhere name disk change).standing other apart)) stands)
     (same_or_other other name)
   where
@@ -62,8 +62,8 @@ changed_stands name change other disk stands = ⊎_elim
 pub made_stands : (name : Name) (bytes : List ℕ) (other : Name) (disk : DiskState) → Stands other disk → Stands other (made name bytes disk)
 made_stands name bytes other disk stands = ⊎_elim
     (λ (same : other ≡ name).
-        subst (λ (n : Name). IsSome (get (made name bytes disk).standing n)) (sym same)
-        (subst IsSome (sym (get_inserted disk.standing name (settled bytes))) refl))
+    subst (λ (n : Name). IsSome (get (made name bytes disk).standing n)) (sym same)
+    (subst IsSome (sym (get_inserted disk.standing name (settled bytes))) refl))
     (λ (apart : other ≢ name). subst IsSome (sym (get_inserted_other disk.standing name (settled bytes) other apart)) stands)
     (same_or_other other name)
 
@@ -167,9 +167,9 @@ all_can [] disk stand once = tt
 all_can (name ∷ names) disk stand once = (
   stand name (0, omega arith, refl),
   all_can names (without name disk)
-  (λ other (k, less, is). subst IsSome (sym (get_removed_other disk.standing name other (rest_apart name names once other (k, less, is))))
-    (stand other (suc k, omega (arith, less), is)))
-  (rest_once name names once),
+      (λ other (k, less, is). subst IsSome (sym (get_removed_other disk.standing name other (rest_apart name names once other (k, less, is))))
+      (stand other (suc k, omega (arith, less), is)))
+      (rest_once name names once),
 )
 
 pub stands_read : (read : Image) (start : DiskState) → IsRead read start → (name : Name) → IsSome (get read name) → Stands name start
@@ -201,7 +201,7 @@ module _ {read : Image} (found : Finds read) (start : DiskState) (is_read : IsRe
     log = log_can (log_made new found.logs) refl;
     strays = all_can plan.strays (with_log the_plan start)
         (λ name among. log_stands the_plan.log name (with_last the_plan start) (last_stands the_plan.last name (with_manifest the_plan start)
-          (made_stands (Manifest manifest_number) the_plan.piece name start (stands_read read start is_read name (((is.strays.all name).0 among).0)))))
+        (made_stands (Manifest manifest_number) the_plan.piece name start (stands_read read start is_read name (((is.strays.all name).0 among).0)))))
         is.strays.once;
   })
     where

@@ -21,9 +21,9 @@ module _ (image : Image) where
   one_greatest kind a b is_a is_b = ⊎_elim
       (λ (less : a < b). absurd (is_b.stands (omega (arith, less)) (is_a.none_above b less)))
       (λ (le : b ≤ a). ⊎_elim
-        (λ (less : b < a). absurd (is_a.stands (omega (arith, less)) (is_b.none_above a less)))
-        (λ (ge : a ≤ b). omega (arith, le, ge))
-        (cases_lt b a))
+      (λ (less : b < a). absurd (is_a.stands (omega (arith, less)) (is_b.none_above a less)))
+      (λ (ge : a ≤ b). omega (arith, le, ge))
+      (cases_lt b a))
       (cases_lt a b)
 
   all_greatest : (a b : Greatest) → AreGreatest image a → AreGreatest image b → a ≡ b
@@ -95,12 +95,12 @@ no_more (name ∷ names) many once all =
     let rest = no_more names (cut_out k many)
     (λ i j d below within. once (suc i) (suc j) d (omega (arith, below)) (omega (arith, within)))
     (λ other (i, within, at).
-        let (j, inside, there) = all other (suc i, omega (arith, within), at) in
-        cut_has k j many other
-        (λ (same : j ≡ k).
-            once 0 (suc i) other (omega arith) (omega (arith, within))
-            (sym is ∙ first_of many k name other less (subst (λ (n : ℕ). slice_index_or many n other ≡ other) same there) ∙ sym at))
-        inside there) in
+    let (j, inside, there) = all other (suc i, omega (arith, within), at) in
+    cut_has k j many other
+    (λ (same : j ≡ k).
+    once 0 (suc i) other (omega arith) (omega (arith, within))
+    (sym is ∙ first_of many k name other less (subst (λ (n : ℕ). slice_index_or many n other ≡ other) same there) ∙ sym at))
+    inside there) in
     omega (arith, rest, cut_length k many less)
   where
     first_of : (many : List Name) (k : ℕ) (a b : Name) → k < length many → slice_index_or many k b ≡ b → slice_index_or many k a ≡ b
@@ -118,6 +118,6 @@ as_many image head a b is_a is_b =
 pub opened_not : (image : Image) (found : Finds image) → used_up found ≡ None → IsNotOpened image → ⊥
 opened_not image found unused not = ⊎_elim
     (λ (refused : (why : Refusal) × Opens image (Err why)).
-        err_ok refused.0 found.opening (single_opening image (Err refused.0) (Ok found.opening) refused.1 found.opens))
+    err_ok refused.0 found.opening (single_opening image (Err refused.0) (Ok found.opening) refused.1 found.opens))
     (λ (other : (f : Finds image) × (used_up f ≢ None)). other.1 (same_used_up image other.0 found ∙ unused))
     not

@@ -15,10 +15,10 @@ ghost use Rattle.vl_recover.specs.Held.{HoldsStore};
 ghost use Rattle.vl_recover.specs.Results.{HasFailed, IsRefused, came, disk_of, opened_of};
 ghost use Rattle.vl_recover.specs.Starts.{MayOpen};
 
-use crate::{OpenFail, Parts, Why};
 use crate::mending::mend;
 use crate::prepared::Prepared;
 use crate::preparing::prepare;
+use crate::{OpenFail, Parts, Why};
 use std::alloc::Global;
 use vl_disk::Disk;
 use vl_manifest::ManifestLog;
