@@ -1,9 +1,10 @@
 -- What was decided by what was found is what is to be done by what reads give.
-use Rattle.std.proofs.Common.{◌≡◌, ℕ, ◌+◌, List, [], ◌∷◌, map, refl, sym, ap, subst, ◌∙◌}
-use Rattle.std.specs.Prelude.{true, false, Option, None, Some, Result, Ok, Err, IsErr, IsErrAnd}
+use Rattle.std.proofs.Common.{◌≡◌, ℕ, ◌+◌, List, [], ◌∷◌, length, map, refl, sym, ap, subst, ◌∙◌}
+use Rattle.std.specs.Prelude.{Bool, true, false, ◌&&◌, ◌==◌, if◌then◌else◌, Option, None, Some, Result, Ok, Err, IsErr, IsErrAnd}
 use Rattle.std.specs.Option.{option_map}
 use Rattle.vl_disk.specs.Crash.{Image}
 use Rattle.vl_disk.specs.declared.name.Name.{Name}
+use Rattle.vl_layout.specs.Logs.{log_length}
 use Rattle.vl_manifest.specs.Manifest.{manifest_bytes}
 use Rattle.vl_manifest.specs.States.{opened_state, whole_edits}
 use Rattle.vl_manifest.specs.declared.state.ManifestState.{ManifestState}
@@ -11,11 +12,13 @@ use Rattle.vl_model.specs.declared.log_frame.LogFrame.{LogFrame}
 use Rattle.vl_recover.specs.Answers.{AnswersBy, AreStrayNames, used_up}
 use Rattle.vl_recover.specs.Deciding.{DecidesSo, IsDecided, IsPrepared, PreparesSo, active_by, log_for, log_of, plan_for, state_for, step_for, used_up_for, used_up_of}
 use Rattle.vl_recover.specs.Finding.{IsFound, last_log, last_of}
-use Rattle.vl_recover.specs.Mending.{IsPlan, Plan, plan_of}
+use Rattle.vl_recover.specs.Mending.{Cut, Headed, IsPlan, Kept, Plan, Rewritten, plan_of}
 use Rattle.vl_recover.specs.Mending as mending
+use Rattle.vl_recover.specs.Opening.{IsNextLog, StandingLogs}
 use Rattle.vl_recover.specs.Plans.{Greatest, active_of, last_number, log_behind, log_made, new_state}
 use Rattle.vl_recover.specs.Results.{HasFailed, came_by, frozen_log}
-use Rattle.vl_recover.specs.Walk.{StandingLog}
+use Rattle.vl_recover.specs.Walk.{StandingLog, content_end}
+use Rattle.vl_seglog.specs.Frames.{frames_end}
 use Rattle.vl_recover.specs.declared.fails.Why.{Why}
 use Rattle.vl_recover.specs.declared.fails.Why.TheVariants as why
 use Rattle.vl_recover.specs.declared.found.Found.{Found}
@@ -39,10 +42,24 @@ log_is s (q ∷ []) = by q.reading.frames refl
     by (f ∷ fs) is = rw is refl
 log_is s (q ∷ p ∷ ps) = log_is s (p ∷ ps)
 
-step_is : (logs : List StandingLog) → step_for (end_of logs) ≡ mending.last_of logs
-step_is [] = refl
-step_is (q ∷ []) = refl
-step_is (q ∷ p ∷ ps) = step_is (p ∷ ps)
+-- a log with its header is whole where it ends with its content
+whole_is : (image : Image) (least : ℕ) (q : StandingLog) → IsNextLog image least q → q.reading.header ≡ true
+    → q.reading.whole ≡ (q.length == content_end q.reading)
+whole_is image least q next header =
+    next.reads.whole ∙ ap (λ (b : Bool). b && (length next.bytes == frames_end q.reading.frames)) header
+    ∙ ap (λ (n : ℕ). n == frames_end q.reading.frames) (sym next.length_is)
+    ∙ ap (λ (b : Bool). q.length == (if b then log_length q.reading.frames else 0)) (sym header)
+
+step_is : (image : Image) (least : ℕ) (logs : List StandingLog) → StandingLogs image least logs → step_for (end_of logs) ≡ mending.last_of logs
+step_is image least [] standing = refl
+step_is image least (q ∷ []) (next, rest) = by q.reading.header refl
+  where
+    by : (header : Bool) → q.reading.header ≡ header
+        → (if header then (if q.length == content_end q.reading then Kept q.number else Cut q.number (content_end q.reading)) else (if q.length == 0 then Headed q.number else Rewritten q.number))
+        ≡ (if header then (if q.reading.whole then Kept q.number else Cut q.number (content_end q.reading)) else (if q.length == 0 then Headed q.number else Rewritten q.number))
+    by true is = ap (λ (whole : Bool). if whole then Kept q.number else Cut q.number (content_end q.reading)) (sym (whole_is image least q next is))
+    by false is = refl
+step_is image least (q ∷ p ∷ ps) (next, rest) = step_is image (q.number + 1) (p ∷ ps) rest
 
 abbrev number_or : ℕ → Option LastLog → ℕ
 number_or none None = none
@@ -92,7 +109,7 @@ module _ (image : Image) (found : Found) (is : IsFound image found) where
   plan_same =
       ap (λ (g : Greatest). of g.manifest (state_for found) (step_for found.last) (log_for found)) is.greatest
       ∙ ap (λ (s : ManifestState). of is.finds.greatest.manifest s (step_for found.last) (log_for found)) state_same
-      ∙ ap (λ (l : mending.LastLog). of is.finds.greatest.manifest new l (log_for found)) (ap step_for is.last ∙ step_is is.finds.logs)
+      ∙ ap (λ (l : mending.LastLog). of is.finds.greatest.manifest new l (log_for found)) (ap step_for is.last ∙ step_is image is.finds.opening.state.head is.finds.logs is.finds.standing)
       ∙ ap (of is.finds.greatest.manifest new (mending.last_of is.finds.logs)) log_same
     where
       of : ℕ → ManifestState → mending.LastLog → Option ℕ → Plan

@@ -30,7 +30,7 @@ abbrev pub step_for : Option LastLog → mending.LastLog
 step_for None = NoLast
 step_for (Some last) =
     if last.header
-    then (if last.whole then Kept last.number else Cut last.number last.end)
+    then (if last.length == last.end then Kept last.number else Cut last.number last.end)
     else (if last.length == 0 then Headed last.number else Rewritten last.number)
 
 -- which number is used up, by the log that would be made and the greatest manifest's number

@@ -39,7 +39,6 @@ last_log q = record {
   length = q.length;
   header = q.reading.header;
   end = content_end q.reading;
-  whole = q.reading.whole;
   has_frames = has_some q.reading.frames;
 }
 

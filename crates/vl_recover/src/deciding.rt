@@ -109,7 +109,7 @@ fn step_of_log(last: LastLog) -> LastStep
     ensures { step_of result ≡ step_for (Some last) }
 {
     if last.header {
-        if last.whole {
+        if last.length == last.end {
             LastStep::Keep(last.number)
         } else {
             LastStep::Cut {

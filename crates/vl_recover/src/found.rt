@@ -20,8 +20,6 @@ pub(crate) struct LastLog {
     pub header: bool,
     /// Where its content ends, in bytes: 0 without a header.
     pub end: u64,
-    /// Whether it has its header, and ends where its content does.
-    pub whole: bool,
     pub has_frames: bool,
 }
 
