@@ -6,3 +6,4 @@ pub mod OneFinding
 pub mod Recovered
 pub mod Removals
 pub mod Stepping
+pub mod Unchanged

@@ -1,6 +1,6 @@
 ghost use Rattle.std.specs.Prelude.{◌≡◌, ℕ, List, length, Some, IfOk};
-ghost use Rattle.vl_disk.specs.Crash.{Image};
 ghost use Rattle.std.specs.Option.{ForSome};
+ghost use Rattle.vl_disk.specs.Crash.{Image};
 ghost use Rattle.vl_disk.specs.Disk.{Stands};
 ghost use Rattle.vl_disk.specs.DiskState.{DiskState};
 ghost use Rattle.vl_disk.specs.Faults.{HasCause, after_calls};
@@ -56,6 +56,7 @@ pub fn recover<D: Disk>(alloc: Global, disk: D, room: u64) -> Result<Parts<D>, O
         → (now : DiskState) × (D.told (disk_of result) ≡ Some now) }
     ensures cause { HasCause (D.faults disk) (D.faults (disk_of result)) (HasFailed (came result)) }
     ensures room { IfOk result (λ parts. parts.room ≡ room) }
+
     // The log that takes commits stands, and has only its header.
     ensures stands { IfOk result (λ parts. ForSome (D.told parts.disk) (Stands (Log parts.active.number))) }
     ensures active { IfOk result (λ parts. parts.active.length ≡ 16) }

@@ -2,6 +2,7 @@ use Rattle.std.proofs.Common.{◌∙◌, sym}
 use Rattle.vl_recover.specs.ReadImage.{read_image}
 use Rattle.vl_recover.proofs.Decided.{answer_by, decided_answer, decided_prepared}
 use Rattle.vl_recover.proofs.Fitted.{found_fits}
+use Rattle.vl_recover.proofs.Unchanged.{nothing_then}
 use Rattle.vl_recover.proofs.preparing.prepare.Goals as goal
 
 pub returns-in_err-prepared-clause-answer : goal.returns-in_err-prepared-clause-answer
@@ -19,3 +20,9 @@ returns-clause-fits g c state told =
     let before = sym (c.take_room.ensures.no_change.told ∙ c.in_ok-found.ensures.no_change.told) ∙ told in
     let prepared = decided_prepared read c.in_ok-found.found (c.in_ok-found.ensures.answer state read before is) c.in_ok-prepared.prepared c.in_ok-prepared.ensures.decided in
     found_fits prepared.finds state is _ prepared.plan
+
+pub returns-then-is_err-clause-no_change : goal.returns-then-is_err-clause-no_change
+returns-then-is_err-clause-no_change g c = nothing_then g.D.Watched _ _ _ ⊥ c.in_ok-found.ensures.no_change c.take_room.ensures.no_change
+
+pub returns-clause-no_change : goal.returns-clause-no_change
+returns-clause-no_change g c = nothing_then g.D.Watched _ _ _ ⊥ c.in_ok-found.ensures.no_change c.take_room.ensures.no_change
