@@ -197,12 +197,14 @@ module _ {read : Image} (found : Finds read) (start : DiskState) (is_read : IsRe
   pub found_fits : (plan : Plan) → IsPlan found plan → Fits plan start
   found_fits plan is = subst (λ (p : Plan). Fits p start) (sym is.is) (record {
     manifest = unread_free read start is_read (Manifest manifest_number) (found.are_greatest.manifest.none_above manifest_number (omega arith));
-    last = last_can read start is_read manifest_number (the_plan.piece) found.opening.state.head found.logs found.standing;
-    log = log_can (log_made new found.logs) refl;
-    strays = all_can plan.strays (with_log the_plan start)
-        (λ name among. log_stands the_plan.log name (with_last the_plan start) (last_stands the_plan.last name (with_manifest the_plan start)
-        (made_stands (Manifest manifest_number) the_plan.piece name start (stands_read read start is_read name (((is.strays.all name).0 among).0)))))
-        is.strays.once;
+    behind = record {
+      last = last_can read start is_read manifest_number (the_plan.piece) found.opening.state.head found.logs found.standing;
+      log = log_can (log_made new found.logs) refl;
+      strays = all_can plan.strays (with_log the_plan start)
+          (λ name among. log_stands the_plan.log name (with_last the_plan start) (last_stands the_plan.last name (with_manifest the_plan start)
+          (made_stands (Manifest manifest_number) the_plan.piece name start (stands_read read start is_read name (((is.strays.all name).0 among).0)))))
+          is.strays.once;
+    };
   })
     where
       the_plan : Plan

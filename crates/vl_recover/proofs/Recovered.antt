@@ -13,6 +13,8 @@ use Rattle.vl_disk.specs.declared.name.Name.{Name}
 use Rattle.vl_disk.specs.declared.name.Name.TheVariants.{Log}
 use Rattle.vl_disk.specs.declared.watched.Watched.{Ghosts}
 use Rattle.vl_layout.specs.declared.segment.Segment.{Segment}
+use Rattle.vl_manifest.specs.declared.fails.IoFail.{IoFail}
+use Rattle.vl_manifest.specs.declared.manifest_log.ManifestLog.{ManifestLog}
 use Rattle.vl_manifest.specs.declared.state.ManifestState.{ManifestState}
 use Rattle.vl_recover.specs.Alike.{OpensAsOf}
 use Rattle.vl_recover.specs.Answers.{AreStrayNames, Finds, HeldLog, Opened, calls_to_open, held_log, logs_then, opened_from}
@@ -63,7 +65,7 @@ module _ {D : Type 0} (g : Ghosts D) (only_now : (disk : D) (state other : DiskS
       (λ now same. subst (OpensAsOf state) (sym same) (as_before state))
 
   -- and then the store was mended
-  module _ (new : D) {T E : Type 0} (prepared : Prepared) (result : Result T E) (mends : Mends g (plan_view prepared.plan) mid new result) where
+  module _ (new : D) (prepared : Prepared) (result : Result ManifestLog IoFail) (mends : Mends g (plan_view prepared.plan) mid new result) where
     abbrev plan : Plan
     plan = plan_view prepared.plan
 
@@ -79,7 +81,7 @@ module _ {D : Type 0} (g : Ghosts D) (only_now : (disk : D) (state other : DiskS
           (λ now during. mending_opens state now is.finds plan lawful may is_read is.unused is.plan during)
 
   -- to the end
-  module _ (new : D) {T E : Type 0} (prepared : Prepared) (x : T) (mends : Mends {E = E} g (plan_view prepared.plan) mid new (Ok x))
+  module _ (new : D) (prepared : Prepared) (x : ManifestLog) (mends : Mends g (plan_view prepared.plan) mid new (Ok x))
       (read : Image) (is_read : IsRead read state) (is : IsPrepared read prepared) (found : Finds read) where
     abbrev done : Plan
     done = plan_view prepared.plan
@@ -101,8 +103,8 @@ module _ {D : Type 0} (g : Ghosts D) (only_now : (disk : D) (state other : DiskS
         ∙ ap (after_calls (calls_to_open found (length strays))) no_change.calls
 
 -- the log that takes commits stands
-pub active_stays : {D T E : Type 0} (g : Ghosts D) (old mid new : D) {failed : Type 0} → ChangesNothing g old mid failed → (prepared : Prepared) (x : T)
-    → Mends {E = E} g (plan_view prepared.plan) mid new (Ok x)
+pub active_stays : {D : Type 0} (g : Ghosts D) (old mid new : D) {failed : Type 0} → ChangesNothing g old mid failed → (prepared : Prepared) (x : ManifestLog)
+    → Mends g (plan_view prepared.plan) mid new (Ok x)
     → ((state : DiskState) (read : Image) → g.told old ≡ Some state → IsRead read state → IsPrepared read prepared)
     → (active : ℕ) → active ≡ prepared.active → ForSome (g.told new) (Stands (Log active))
 active_stays g old mid new no_change prepared x mends ready active same now ends = by (g.told old) refl

@@ -29,11 +29,18 @@ calls_then (suc m) n count =
     ∙ ap one_more (calls_then m n count)
 
 -- what a call made of the disk, and goes on telling
-changed_tells : (change : DiskState → DiskState) (old new : Option DiskState) → IsChangedBy change old new → GoesOnTelling old new
+pub changed_tells : (change : DiskState → DiskState) (old new : Option DiskState) → IsChangedBy change old new → GoesOnTelling old new
 changed_tells change old new changed state is = (change state, changed ∙ ap (option_map change) is)
 
-same_tells : (old new : Option DiskState) → new ≡ old → GoesOnTelling old new
+pub same_tells : (old new : Option DiskState) → new ≡ old → GoesOnTelling old new
 same_tells old new same state is = (state, same ∙ is)
+
+pub part_tells : (name : Name) (bytes : List ℕ) (old new : Option DiskState) → TellsPart name bytes old new → GoesOnTelling old new
+part_tells name bytes None new tells state is = absurd (none_some state is)
+  where
+    none_some : (a : DiskState) → None ≡ Some a → ⊥
+    none_some a e = cc
+part_tells name bytes (Some disk) new tells state is = (tells.0, tells.1)
 
 module _ {D T E : Type 0} (g : Ghosts D) (old new : D) where
   -- the single calls
@@ -127,21 +134,10 @@ module _ {D T E : Type 0} (g : Ghosts D) (old new : D) where
   make_performs name bytes (Err e) call = record {
     done = tt;
     calls = tt;
-    tells = part (g.told old) (g.told new) call.failed;
+    tells = part_tells name bytes (g.told old) (g.told new) call.failed;
     time = call.time;
     cause = call.cause;
   }
-    where
-      some_same : (a b : DiskState) → Some a ≡ Some b → a ≡ b
-      some_same a b e = cc
-
-      none_some : (a : DiskState) → None ≡ Some a → ⊥
-      none_some a e = cc
-
-      part : (before after : Option DiskState) → TellsPart name bytes before after → GoesOnTelling before after
-      part None after tells state is = absurd (none_some state is)
-      part (Some disk) after tells state is = (tells.0, tells.1)
-
   -- no call at all
   pub nothing_performed : (x : T) (during : DiskState → DiskState → Type 0) → new ≡ old
       → Performs {T = T} {E = E} g (λ disk. disk) during 0 old new (Ok x)

@@ -6,7 +6,7 @@ use Rattle.vl_disk.specs.Name.{IsNumbered}
 use Rattle.vl_disk.specs.Spare.{CanAppend, IsReady, Spare}
 use Rattle.vl_disk.specs.declared.name.Name.{Name}
 use Rattle.vl_disk.specs.declared.name.Name.TheVariants.{Log, Manifest}
-use Rattle.vl_recover.specs.Mending.{Cut, Headed, Kept, LastLog, NoLast, Plan, Rewritten, with_last, with_log, with_manifest}
+use Rattle.vl_recover.specs.Mending.{Cut, Headed, Kept, LastLog, NoLast, Plan, Rewritten, behind_last, behind_log, with_manifest}
 
 -- ---- what stands
 
@@ -28,12 +28,16 @@ abbrev pub CanRemove : List Name → DiskState → Type 0
 CanRemove [] disk = Unit {0}
 CanRemove (name ∷ names) disk = Stands name disk × CanRemove names (without name disk)
 
--- each stage of the plan fits the disk that the ones before it leave
+-- each stage of the plan behind the new manifest fits the disk that the ones before it leave
+pub record FitsBehind (plan : Plan) (disk : DiskState) : Type 0 where
+  pub last : CanMend plan.last disk
+  pub log : CanMake plan.log (behind_last plan.last disk)
+  pub strays : CanRemove plan.strays (behind_log plan.log (behind_last plan.last disk))
+
+-- and so does the manifest's
 pub record Fits (plan : Plan) (disk : DiskState) : Type 0 where
   pub manifest : IsFree (Manifest plan.manifest) disk
-  pub last : CanMend plan.last (with_manifest plan disk)
-  pub log : CanMake plan.log (with_last plan disk)
-  pub strays : CanRemove plan.strays (with_log plan disk)
+  pub behind : FitsBehind plan (with_manifest plan disk)
 
 -- ---- numbers
 
@@ -59,7 +63,7 @@ pub record HasNumbers (plan : Plan) : Type 0 where
   pub log : IsNumberedLog plan.log
   pub beside : IsLogBeside plan.last plan.log
 
--- ---- room, so that no call wants memory
+-- ---- room, so that no call behind the new manifest's wants memory
 
 abbrev pub HasRoomToMend : LastLog → (Name → Spare) → Type 0
 HasRoomToMend NoLast spare = Unit {0}
@@ -73,7 +77,6 @@ HasRoomToMake None spare = Unit {0}
 HasRoomToMake (Some log) spare = IsReady 16 (spare (Log log))
 
 pub record HasRoomFor (plan : Plan) (spare : Name → Spare) : Type 0 where
-  pub manifest : IsReady (length plan.piece) (spare (Manifest plan.manifest))
   pub last : HasRoomToMend plan.last spare
   pub log : HasRoomToMake plan.log spare
 

@@ -1,7 +1,8 @@
 -- The plan of a mending as its definitions see it.
-use Rattle.std.specs.Prelude.{Result, Ok, Err}
+use Rattle.std.specs.Prelude.{[], ◌∷◌, Result, Ok, Err}
 use Rattle.vl_disk.specs.declared.failed.Failed.{Failed}
 use Rattle.vl_disk.specs.declared.name.Name.{Name}
+use Rattle.vl_manifest.specs.Manifest.{manifest_bytes}
 use Rattle.vl_recover.specs.Mending.{Cut, Headed, Kept, LastLog, NoLast, Plan, Rewritten}
 use Rattle.vl_recover.specs.declared.plan.LastStep.{LastStep}
 use Rattle.vl_recover.specs.declared.plan.LastStep.TheVariants as steps
@@ -17,7 +18,7 @@ step_of (steps.Head number) = Headed number
 abbrev pub plan_view : MendingPlan → Plan
 plan_view plan = record {
   manifest = plan.manifest;
-  piece = plan.piece.items;
+  piece = manifest_bytes plan.manifest (plan.edits.items ∷ []);
   last = step_of plan.last;
   log = plan.log;
   strays = plan.strays.items;

@@ -1,11 +1,15 @@
 -- What a step of a mending does: some changing calls, one behind the other, of which one that fails is the last.
-use Rattle.std.specs.Prelude.{◌≡◌, ℕ, length, List, Option, Some, Result, OnOk, IsErr}
+use Rattle.std.specs.Prelude.{◌≡◌, ◌⊎◌, ℕ, ◌+◌, length, List, Option, Some, Result, Err, IfOk, OnOk, IsErr}
 use Rattle.vl_disk.specs.Disk.{IsChangedBy}
 use Rattle.vl_disk.specs.DiskState.{DiskState}
 use Rattle.vl_disk.specs.Faults.{HasCause, after_calls}
 use Rattle.vl_disk.specs.Moments.{Elapses}
 use Rattle.vl_disk.specs.declared.name.Name.{Name}
 use Rattle.vl_disk.specs.declared.watched.Watched.{Ghosts}
+use Rattle.vl_manifest.specs.Making.{HasChangedNothing, HasFailed}
+use Rattle.vl_manifest.specs.declared.fails.IoFail.{IoFail}
+use Rattle.vl_manifest.specs.declared.fails.IoFail.TheVariants.{NoMemory}
+use Rattle.vl_manifest.specs.declared.manifest_log.ManifestLog.{ManifestLog}
 use Rattle.vl_recover.specs.Mending.{LastLog, Plan, WhileLast, WhileLog, WhileMending, WhileStrays, behind_last, behind_log, behind_strays, calls_of_plan, calls_to_mend, mended}
 use Rattle.vl_recover.specs.Plans.{calls_to_make}
 
@@ -40,7 +44,33 @@ abbrev pub RemovesAll : {D T E : Type 0} → Ghosts D → List Name → D → D 
 RemovesAll g names old new result =
     Performs g (behind_strays names) (WhileStrays names) (length names) old new result
 
--- a store is mended by a plan
-abbrev pub Mends : {D T E : Type 0} → Ghosts D → Plan → D → D → Result T E → Type 0
-Mends g plan old new result =
-    Performs g (mended plan) (WhileMending plan) (calls_of_plan plan) old new result
+-- ---- all of a plan
+
+-- behind the new manifest: what becomes of the disk, and what it may be meanwhile
+abbrev pub behind_manifest : Plan → DiskState → DiskState
+behind_manifest plan disk =
+    behind_strays plan.strays (behind_log plan.log (behind_last plan.last disk))
+
+abbrev pub WhileBehind : Plan → DiskState → DiskState → Type 0
+WhileBehind plan disk now =
+    WhileLast plan.last disk now ⊎ (WhileLog plan.log (behind_last plan.last disk) now
+    ⊎ WhileStrays plan.strays (behind_log plan.log (behind_last plan.last disk)) now)
+
+abbrev pub calls_behind : Plan → ℕ
+calls_behind plan = calls_to_mend plan.last + calls_to_make plan.log + length plan.strays
+
+abbrev pub MendsBehind : {D T E : Type 0} → Ghosts D → Plan → D → D → Result T E → Type 0
+MendsBehind g plan old new result =
+    Performs g (behind_manifest plan) (WhileBehind plan) (calls_behind plan) old new result
+
+-- A store is mended by a plan.
+pub record Mends {D : Type 0} (g : Ghosts D) (plan : Plan) (old new : D)
+    (result : Result ManifestLog IoFail) : Type 0 where
+  pub manifest : IfOk result (λ log. log ≡ record { number = plan.manifest; length = length plan.piece })
+  pub done : OnOk result (IsChangedBy (mended plan) (g.told old) (g.told new))
+  pub calls : OnOk result (g.calls new ≡ after_calls (calls_of_plan plan) (g.calls old))
+  -- for want of memory it does nothing
+  pub no_room : result ≡ Err NoMemory → HasChangedNothing g old new
+  pub tells : GoesOnTelling (g.told old) (g.told new)
+  pub time : Elapses g old new (WhileMending plan)
+  pub cause : HasCause (g.faults old) (g.faults new) (HasFailed result)

@@ -1,8 +1,6 @@
 //! What an opening decides by what it found.
 
-ghost use Rattle.std.specs.Prelude.{◌≡◌, ◌+◌, ◌≤◌, ◌∷◌, [], IfOk};
-ghost use Rattle.vl_manifest.specs.Manifest as manifests;
-ghost use Rattle.vl_manifest.specs.States.{whole_edits};
+ghost use Rattle.std.specs.Prelude.{◌≡◌, ◌≤◌, Some, IfOk};
 ghost use Rattle.vl_model.specs.Limits.{max_file_number};
 ghost use Rattle.vl_recover.specs.Deciding.{DecidesSo, active_by, log_of, step_for, used_up_of};
 ghost use Rattle.vl_recover.specs.Finding.{AreFileNumbers, IsUpTo};
@@ -14,8 +12,8 @@ use crate::Why;
 use crate::found::{Found, LastLog};
 use crate::plan::{LastStep, MendingPlan};
 use crate::prepared::Prepared;
-use std::alloc::{AllocError, Global};
-use vl_manifest::{ManifestState, manifest_bytes};
+use std::alloc::Global;
+use vl_manifest::ManifestState;
 use vl_model::{Counter, MAX_FILE_NUMBER};
 
 /// Decides how a store is mended and gone on with. A number that is used up is found before memory is asked for.
@@ -39,7 +37,7 @@ pub(crate) fn decide(alloc: Global, found: Found) -> Result<Prepared, Why>
         return Err(Why::Exhausted(counter));
     }
     let manifest = greatest.manifest + 1;
-    let Ok(piece) = manifest_of(alloc, manifest, &state) else {
+    let Ok(edits) = state.whole_edits(alloc) else {
         return Err(Why::NoMemory);
     };
     Ok(Prepared {
@@ -48,7 +46,7 @@ pub(crate) fn decide(alloc: Global, found: Found) -> Result<Prepared, Why>
         frozen,
         plan: MendingPlan {
             manifest,
-            piece,
+            edits,
             last: last_step(last),
             log,
             strays,
@@ -135,12 +133,4 @@ fn active_log(log: Option<u32>, last: Option<LastLog>) -> u32
             None => 0,
         },
     }
-}
-
-// The bytes of the manifest that says a state.
-fn manifest_of(alloc: Global, number: u32, state: &ManifestState) -> Result<Vec<u8>, AllocError>
-    ensures { IfOk result (λ bytes.
-        bytes.items ≡ manifests.manifest_bytes number (whole_edits state.now ∷ [])) }
-{
-    manifest_bytes(alloc, number, &state.whole_edits(alloc)?)
 }

@@ -2,27 +2,44 @@
 
 ghost use Rattle.std.specs.Prelude.{◌≡◌};
 ghost use Rattle.std.specs.Option.{ForSome};
-ghost use Rattle.vl_disk.specs.Spare.{SameSpare};
-ghost use Rattle.vl_recover.specs.Fitting.{CanMake, CanRemove, Fits, HasNumbers, HasRoomFor, HasRoomToMake, IsNumberedLog};
+ghost use Rattle.vl_recover.specs.Fitting.{CanMake, CanRemove, Fits, FitsBehind, HasNumbers, HasRoomFor, HasRoomToMake, IsNumberedLog};
 ghost use Rattle.vl_recover.specs.PlanViews.{plan_view};
-ghost use Rattle.vl_recover.specs.Steps.{MakesLog, Mends, RemovesAll};
+ghost use Rattle.vl_recover.specs.Steps.{MakesLog, Mends, MendsBehind, RemovesAll};
 
 use crate::last::{at, mend_last};
 use crate::plan::MendingPlan;
+use std::alloc::Global;
 use vl_disk::{Disk, Name, make_file};
+use vl_manifest::{IoFail, ManifestLog};
 use vl_seglog::log_header;
 
 /// Mends a store: makes the new manifest, mends the last log, makes the new log and removes the files that aren't
-/// needed any more. Each is durable before the next is begun. It wants no memory. Where it fails the answer is the
-/// name of the file at which it did.
-pub(crate) fn mend<D: Disk>(disk: &mut D, plan: &MendingPlan) -> Result<(), Name>
+/// needed any more. Each is durable before the next is begun. For want of memory nothing was changed. Where the disk
+/// fails the answer has the name of the file at which it did.
+pub(crate) fn mend<D: Disk>(
+    alloc: Global,
+    disk: &mut D,
+    plan: &MendingPlan,
+) -> Result<ManifestLog, IoFail>
     requires fits { ForSome (D.told disk.old) (Fits (plan_view plan.now)) }
     requires numbers { HasNumbers (plan_view plan.now) }
     requires room { HasRoomFor (plan_view plan.now) (D.spare disk.old) }
     ensures { Mends D.Watched (plan_view plan.now) disk.old disk.new result }
 {
-    let manifest = Name::Manifest(plan.manifest);
-    at(manifest, make_file(disk, manifest, &plan.piece))?;
+    let manifest = ManifestLog::create(alloc, disk, plan.manifest, &plan.edits)?;
+    match mend_behind(disk, plan) {
+        Ok(()) => Ok(manifest),
+        Err(name) => Err(IoFail::Disk { name }),
+    }
+}
+
+// All that comes behind the new manifest.
+fn mend_behind<D: Disk>(disk: &mut D, plan: &MendingPlan) -> Result<(), Name>
+    requires fits { ForSome (D.told disk.old) (FitsBehind (plan_view plan.now)) }
+    requires numbers { HasNumbers (plan_view plan.now) }
+    requires room { HasRoomFor (plan_view plan.now) (D.spare disk.old) }
+    ensures { MendsBehind D.Watched (plan_view plan.now) disk.old disk.new result }
+{
     mend_last(disk, plan.last)?;
     make_log(disk, plan.log)?;
     remove_all(disk, &plan.strays)

@@ -1,4 +1,5 @@
 use vl_disk::Name;
+use vl_manifest::Edit;
 
 /// What becomes of the last log from head on.
 #[derive(Clone, Copy)]
@@ -20,8 +21,8 @@ pub(crate) enum LastStep {
 pub(crate) struct MendingPlan {
     /// The number of the new manifest.
     pub manifest: u32,
-    /// Its bytes.
-    pub piece: Vec<u8>,
+    /// What its first frame says.
+    pub edits: Vec<Edit>,
     pub last: LastStep,
     /// The log that is made.
     pub log: Option<u32>,

@@ -20,8 +20,8 @@ use std::alloc::Global;
 use vl_disk::{Disk, Name, NoMemory};
 use vl_seglog::LOG_HEADER_BYTES;
 
-/// Finds out what stands on a disk, decides how it is mended, and takes all memory that mending wants. It changes
-/// nothing.
+/// Finds out what stands on a disk, decides how it is mended, and takes all memory that mending wants behind the new
+/// manifest. It changes nothing.
 pub(crate) fn prepare<D: Disk>(alloc: Global, disk: &mut D) -> Result<Prepared, Why>
     ensures answer { (state : DiskState) (read : Image) → D.told disk.old ≡ Some state → IsRead read state
         → PreparesSo read result }
@@ -38,13 +38,12 @@ pub(crate) fn prepare<D: Disk>(alloc: Global, disk: &mut D) -> Result<Prepared, 
     Ok(prepared)
 }
 
-// Makes room on the disk for all calls of a plan.
+// Makes room on the disk for all calls of a plan behind the new manifest's.
 fn take_room<D: Disk>(disk: &mut D, plan: &MendingPlan) -> Result<(), NoMemory>
     requires { HasNumbers (plan_view plan.now) }
     ensures room { OnOk result (HasRoomFor (plan_view plan.now) (D.spare disk.new)) }
     ensures no_change { ChangesNothing D.Watched disk.old disk.new ⊥ }
 {
-    disk.ready(Name::Manifest(plan.manifest), plan.piece.len() as u64)?;
     ready_last(disk, plan.last)?;
     ready_log(disk, plan.log)
 }

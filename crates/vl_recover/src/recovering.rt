@@ -21,7 +21,7 @@ use crate::preparing::prepare;
 use crate::{OpenFail, Parts, Why};
 use std::alloc::Global;
 use vl_disk::Disk;
-use vl_manifest::ManifestLog;
+use vl_manifest::{IoFail, ManifestLog};
 use vl_seglog::ActiveLog;
 
 /// Opens the store on a disk, whose logs may have so many bytes. All is read first, then all memory is taken, and only then
@@ -66,9 +66,13 @@ pub fn recover<D: Disk>(alloc: Global, disk: D, room: u64) -> Result<Parts<D>, O
         Ok(prepared) => prepared,
         Err(why) => return Err(OpenFail { why, disk }),
     };
-    match mend(&mut disk, &prepared.plan) {
-        Ok(()) => Ok(opened(disk, room, prepared)),
-        Err(name) => Err(OpenFail {
+    match mend(alloc, &mut disk, &prepared.plan) {
+        Ok(manifest) => Ok(opened(disk, room, manifest, prepared)),
+        Err(IoFail::NoMemory) => Err(OpenFail {
+            why: Why::NoMemory,
+            disk,
+        }),
+        Err(IoFail::Disk { name }) => Err(OpenFail {
             why: Why::Disk { name: Some(name) },
             disk,
         }),
@@ -76,7 +80,8 @@ pub fn recover<D: Disk>(alloc: Global, disk: D, room: u64) -> Result<Parts<D>, O
 }
 
 // The store as it is opened, behind its mending.
-fn opened<D: Disk>(disk: D, room: u64, prepared: Prepared) -> Parts<D>
+fn opened<D: Disk>(disk: D, room: u64, manifest: ManifestLog, prepared: Prepared) -> Parts<D>
+    requires { manifest.number ≡ prepared.plan.manifest }
     ensures disk { result.disk ≡ disk }
     ensures opened { opened_of result ≡ opened_by prepared }
     ensures state { result.state ≡ prepared.state }
@@ -87,18 +92,15 @@ fn opened<D: Disk>(disk: D, room: u64, prepared: Prepared) -> Parts<D>
         number,
         state,
         frozen,
-        plan,
         active,
+        ..
     } = prepared;
     Parts {
         disk,
         room,
         number,
         state,
-        manifest: ManifestLog {
-            number: plan.manifest,
-            length: plan.piece.len() as u64,
-        },
+        manifest,
         frozen,
         active: ActiveLog::new(active),
     }

@@ -10,19 +10,29 @@ returns-in-Err-clause-through g c state told may = unchanged_through g.D.Watched
 pub returns-in-Err-clause-tells : goal.returns-in-Err-clause-tells
 returns-in-Err-clause-tells g c state told = still_tells g.D.Watched g.met.D.Disk.only_now _ _ c.in-Err.ensures.no_change state told
 
--- the disk failed
-pub returns-in-Err-mend-clause-kept : goal.returns-in-Err-mend-clause-kept
-returns-in-Err-mend-clause-kept g c state read told is_read not =
-    let is = c.in-Ok.ensures.answer state read told is_read in
-    absurd (opened_not read is.finds is.unused not)
-
-pub returns-in-Err-mend-clause-through : goal.returns-in-Err-mend-clause-through
-returns-in-Err-mend-clause-through g c state told may =
+-- there was no memory for the manifest
+pub returns-in-Err-NoMemory-clause-through : goal.returns-in-Err-NoMemory-clause-through
+returns-in-Err-NoMemory-clause-through g c state told may =
     mended_through g.D.Watched g.met.D.Disk.only_now _ _ c.in-Ok.ensures.no_change state told _ c.in-Ok.prepared c.mend.result c.mend.ensures
     (g.met.D.Disk.lawful _ state told) may (λ read is_read. c.in-Ok.ensures.answer state read told is_read)
 
-pub returns-in-Err-mend-clause-tells : goal.returns-in-Err-mend-clause-tells
-returns-in-Err-mend-clause-tells g c state told =
+pub returns-in-Err-NoMemory-clause-tells : goal.returns-in-Err-NoMemory-clause-tells
+returns-in-Err-NoMemory-clause-tells g c state told =
+    mended_tells g.D.Watched g.met.D.Disk.only_now _ _ c.in-Ok.ensures.no_change state told _ c.in-Ok.prepared c.mend.result c.mend.ensures
+
+-- the disk failed
+pub returns-clause-kept : goal.returns-clause-kept
+returns-clause-kept g c state read told is_read not =
+    let is = c.in-Ok.ensures.answer state read told is_read in
+    absurd (opened_not read is.finds is.unused not)
+
+pub returns-clause-through : goal.returns-clause-through
+returns-clause-through g c state told may =
+    mended_through g.D.Watched g.met.D.Disk.only_now _ _ c.in-Ok.ensures.no_change state told _ c.in-Ok.prepared c.mend.result c.mend.ensures
+    (g.met.D.Disk.lawful _ state told) may (λ read is_read. c.in-Ok.ensures.answer state read told is_read)
+
+pub returns-clause-tells : goal.returns-clause-tells
+returns-clause-tells g c state told =
     mended_tells g.D.Watched g.met.D.Disk.only_now _ _ c.in-Ok.ensures.no_change state told _ c.in-Ok.prepared c.mend.result c.mend.ensures
 
 -- it was opened
