@@ -2,6 +2,7 @@ pub mod ActiveStands
 pub mod Decided
 pub mod Fitted
 pub mod Mended
+pub mod Numbers
 pub mod OneFinding
 pub mod Recovered
 pub mod Removals

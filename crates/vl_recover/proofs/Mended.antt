@@ -55,9 +55,9 @@ module _ {D : Type 0} (g : Ghosts D) (plan : Plan) where
       (calls_to_mend plan.last) (length plan.strays + calls_to_make plan.log) old mid new x result
       (subst (λ (r : Result T E). MendsLast g plan.last old mid r) went last)
       (performs_then g (behind_log plan.log) (behind_strays plan.strays) (WhileLog plan.log) (WhileStrays plan.strays)
-        (calls_to_make plan.log) (length plan.strays) mid end new y result
-        (subst (λ (r : Result U F). MakesLog g plan.log mid end r) then log)
-        (subst (λ (ns : List Name). RemovesAll g ns end new result) same strays)))
+      (calls_to_make plan.log) (length plan.strays) mid end new y result
+      (subst (λ (r : Result U F). MakesLog g plan.log mid end r) then log)
+      (subst (λ (ns : List Name). RemovesAll g ns end new result) same strays)))
 
 -- ---- with the new manifest
 
@@ -138,13 +138,13 @@ module _ {D : Type 0} (g : Ghosts D) (plan : MendingPlan) (edits : List Edit) (s
           into disk now during = ⊎_elim
               (λ (w : WhileMaking (Manifest plan.manifest) view.piece disk now). at_manifest w)
               (λ (w : WhileBehind view (with_manifest view disk) now). ⊎_elim
-                (λ (v : WhileLast view.last (with_manifest view disk) now). at_last v)
-                (λ (v : WhileLog view.log (behind_last view.last (with_manifest view disk)) now
-                  ⊎ WhileStrays view.strays (behind_log view.log (behind_last view.last (with_manifest view disk))) now). ⊎_elim
-                  (λ (u : WhileLog view.log (behind_last view.last (with_manifest view disk)) now). at_log u)
-                  (λ (u : WhileStrays view.strays (behind_log view.log (behind_last view.last (with_manifest view disk))) now). at_strays u)
-                  v)
-                w)
+              (λ (v : WhileLast view.last (with_manifest view disk) now). at_last v)
+              (λ (v : WhileLog view.log (behind_last view.last (with_manifest view disk)) now
+              ⊎ WhileStrays view.strays (behind_log view.log (behind_last view.last (with_manifest view disk))) now). ⊎_elim
+              (λ (u : WhileLog view.log (behind_last view.last (with_manifest view disk)) now). at_log u)
+              (λ (u : WhileStrays view.strays (behind_log view.log (behind_last view.last (with_manifest view disk))) now). at_strays u)
+              v)
+              w)
               during
 
       -- it was mended

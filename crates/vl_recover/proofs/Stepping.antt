@@ -138,6 +138,7 @@ module _ {D T E : Type 0} (g : Ghosts D) (old new : D) where
     time = call.time;
     cause = call.cause;
   }
+
   -- no call at all
   pub nothing_performed : (x : T) (during : DiskState → DiskState → Type 0) → new ≡ old
       → Performs {T = T} {E = E} g (λ disk. disk) during 0 old new (Ok x)

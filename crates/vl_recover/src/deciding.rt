@@ -1,11 +1,9 @@
 //! What an opening decides by what it found.
 
-ghost use Rattle.std.specs.Prelude.{◌≡◌, ◌≤◌, Some, IfOk};
-ghost use Rattle.vl_model.specs.Limits.{max_file_number};
+ghost use Rattle.std.specs.Prelude.{◌≡◌, Some};
 ghost use Rattle.vl_recover.specs.Deciding.{DecidesSo, active_by, log_of, step_for, used_up_of};
-ghost use Rattle.vl_recover.specs.Finding.{AreFileNumbers, IsUpTo};
-ghost use Rattle.vl_recover.specs.Fitting.{HasNumbers};
-ghost use Rattle.vl_recover.specs.PlanViews.{plan_view, step_of};
+ghost use Rattle.vl_recover.specs.Finding.{AreFileNumbers};
+ghost use Rattle.vl_recover.specs.PlanViews.{step_of};
 ghost use Rattle.vl_recover.specs.Plans as plans;
 
 use crate::Why;
@@ -18,10 +16,8 @@ use vl_model::{Counter, MAX_FILE_NUMBER};
 
 /// Decides how a store is mended and gone on with. A number that is used up is found before memory is asked for.
 pub(crate) fn decide(alloc: Global, found: Found) -> Result<Prepared, Why>
-    requires numbers { AreFileNumbers found.greatest }
-    requires last { IsUpTo found.greatest.log found.last }
-    ensures decided { DecidesSo found result }
-    ensures numbers { IfOk result (λ prepared. HasNumbers (plan_view prepared.plan)) }
+    requires { AreFileNumbers found.greatest }
+    ensures { DecidesSo found result }
 {
     let Found {
         state,
