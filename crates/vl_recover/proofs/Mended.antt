@@ -1,6 +1,6 @@
 -- A store is mended, stage by stage.
-use Rattle.std.proofs.Common.{◌≡◌, ◌⊎◌, ⊎_elim, inl, inr, ℕ, ◌+◌, List, [], ◌∷◌, length, refl, sym, ap, subst, ◌∙◌, arith}
-use Rattle.std.specs.Prelude.{true, false, Option, Result, Ok, Err, IsErr, IsErrAnd}
+use Rattle.std.proofs.Common.{◌≡◌, ◌⊎◌, ⊎_elim, inl, inr, ◌+◌, List, length, refl, sym, ap, subst, arith}
+use Rattle.std.specs.Prelude.{true, false, Result, Ok, Err, IsErr, IsErrAnd}
 use Rattle.std.specs.Option.{ForSome}
 use Rattle.vl_disk.specs.DiskState.{DiskState}
 use Rattle.vl_disk.specs.MadeFile.{WhileMaking}

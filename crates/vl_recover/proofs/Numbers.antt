@@ -1,15 +1,12 @@
 -- The numbers that an opening gives out.
-use Rattle.std.proofs.Common.{◌≡◌, ℕ, ◌+◌, ◌≤◌, max, refl, sym, subst, ◌∙◌, arith}
+use Rattle.std.proofs.Common.{◌≡◌, ℕ, ◌+◌, ◌≤◌, max, refl, sym, subst, arith}
 use Rattle.std.specs.Prelude.{◌≢◌, ◌==◌, if◌then◌else◌, nat_le, Bool, true, false, Option, None, Some}
 use Rattle.std.proofs.lemmas.Bool.Decides.{nat_tests}
-use Rattle.vl_disk.specs.declared.name.Name.{Name}
 use Rattle.vl_disk.specs.declared.name.Name.TheVariants.{Log}
 use Rattle.vl_model.specs.Limits.{max_file_number}
 use Rattle.vl_model.specs.declared.counter.Counter.{Counter}
 use Rattle.vl_model.specs.declared.counter.Counter.TheVariants as counters
-use Rattle.vl_manifest.specs.States.{opened_state}
-use Rattle.vl_manifest.specs.declared.state.ManifestState.{ManifestState}
-use Rattle.vl_recover.specs.Deciding.{log_for, log_of, plan_for, state_for, step_for, used_up_for, used_up_of}
+use Rattle.vl_recover.specs.Deciding.{log_for, log_of, plan_for, state_for, step_for, used_up_for}
 use Rattle.vl_recover.specs.Finding.{AreFileNumbers, IsUpTo}
 use Rattle.vl_recover.specs.Fitting.{HasNumbers, IsBeside, IsLogBeside, IsNumberedLog}
 use Rattle.vl_recover.specs.Mending.{Cut, Headed, Kept, Plan, Rewritten}

@@ -1,5 +1,5 @@
 -- When a plan of mending fits a disk: what must stand and be free, and the room that its calls want.
-use Rattle.std.specs.Prelude.{◌≡◌, ◌≢◌, ℕ, List, [], ◌∷◌, length, Option, None, Some, IsTrue}
+use Rattle.std.specs.Prelude.{◌≡◌, ◌≢◌, ℕ, List, [], ◌∷◌, Option, None, Some, IsTrue}
 use Rattle.vl_disk.specs.Disk.{IsFree, IsInside, Stands}
 use Rattle.vl_disk.specs.DiskState.{DiskState, without}
 use Rattle.vl_disk.specs.Name.{IsNumbered}
