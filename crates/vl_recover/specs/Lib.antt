@@ -3,8 +3,10 @@ pub mod Answers
 pub mod Finding
 pub mod Held
 pub mod LogReading
+pub mod Named
 pub mod Opening
 pub mod Plans
+pub mod ReadLogs
 pub mod Stages
 pub mod Starts
 pub mod Walk

@@ -7,6 +7,9 @@
 mod fails;
 mod finding;
 mod found;
+mod log_frame;
+mod log_read;
+mod names;
 mod parts;
 mod recovering;
 

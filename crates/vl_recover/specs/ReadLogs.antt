@@ -1,0 +1,18 @@
+-- A log that was read, without where it lies in memory.
+use Rattle.std.specs.Prelude.{ℕ, List, map}
+use Rattle.vl_model.specs.declared.log_frame.LogFrame.{LogFrame}
+use Rattle.vl_model.specs.declared.log_frame.LogFrame.TheVariants.{Committed, Relocated}
+use Rattle.vl_recover.specs.declared.log_frame.Frame.{Frame}
+use Rattle.vl_recover.specs.declared.log_frame.Frame.TheVariants.{Commit, Moves}
+use Rattle.vl_recover.specs.declared.log_frame.LogRead.{LogRead}
+use Rattle.vl_recover.specs.LogReading.{LogReading}
+
+abbrev pub frame_of : Frame → LogFrame
+frame_of (Commit c) = Committed c.number c.writes.items
+frame_of (Moves moves) = Relocated moves.items
+
+abbrev pub frames_of : List Frame → List LogFrame
+frames_of frames = map frame_of frames
+
+abbrev pub reading_of : LogRead → LogReading
+reading_of log = record { header = log.header; frames = frames_of log.frames.items; whole = log.whole }
