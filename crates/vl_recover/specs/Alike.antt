@@ -9,7 +9,7 @@ use Rattle.vl_disk.specs.declared.name.Name.TheVariants.{Log, Table, Manifest}
 use Rattle.vl_frame.specs.Begins.{SpellsAt}
 use Rattle.vl_manifest.specs.EditLaws.{edits_grammar}
 use Rattle.vl_manifest.specs.declared.state.ManifestState.{ManifestState}
-use Rattle.vl_recover.specs.LogReading.{SpellsFrame}
+use Rattle.vl_seglog.specs.Frames.{frames_grammar}
 use Rattle.vl_recover.specs.Opening.{Opening, Opens}
 
 -- two manifests say the same, but for the numbers that may still be given
@@ -31,7 +31,7 @@ OpensLike image other =
 
 -- the frames that are looked for when a crash has left torn bytes: those of logs and manifests
 abbrev pub Spells : Name → List ℕ → ℕ → List ℕ → Type 0
-Spells (Log number) bytes at frame = SpellsFrame number bytes at frame
+Spells (Log number) bytes at frame = SpellsAt frames_grammar number bytes at frame
 Spells (Table number) bytes at frame = ⊥
 Spells (Manifest number) bytes at frame = SpellsAt edits_grammar number bytes at frame
 

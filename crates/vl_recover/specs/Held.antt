@@ -8,7 +8,8 @@ use Rattle.vl_disk.specs.declared.name.Name.TheVariants.{Log, Manifest}
 use Rattle.vl_layout.specs.declared.segment.Segment.{Segment}
 use Rattle.vl_manifest.specs.Manifest.{ManifestSays}
 use Rattle.vl_manifest.specs.declared.state.ManifestState.{ManifestState}
-use Rattle.vl_recover.specs.LogReading.{HasFrame, log_bytes}
+use Rattle.vl_frame.specs.Runs.{HasFrame}
+use Rattle.vl_seglog.specs.Frames.{frames_grammar, log_bytes}
 
 -- no file stands under this name, and none was removed since the disk was started
 pub record IsNowhere (disk : DiskState) (name : Name) : Type 0 where
@@ -33,7 +34,7 @@ HoldsLogs least [] disk = (m : ℕ) → least ≤ m → IsNowhere disk (Log m)
 HoldsLogs least (s ∷ ss) disk =
     (least ≤ s.number)
     × ((m : ℕ) → least ≤ m → m < s.number → IsNowhere disk (Log m))
-    × AllByRecursion HasFrame s.frames
+    × AllByRecursion (HasFrame frames_grammar) s.frames
     × IsSettled disk (Log s.number) (log_bytes s.number s.frames)
     × HoldsLogs (s.number + 1) ss disk
 

@@ -2,7 +2,6 @@ pub mod Alike
 pub mod Answers
 pub mod Finding
 pub mod Held
-pub mod LogReading
 pub mod Named
 pub mod Opening
 pub mod Plans

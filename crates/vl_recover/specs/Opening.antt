@@ -9,7 +9,7 @@ use Rattle.vl_manifest.specs.Current.{IsCurrent, IsNewest, NoneCurrent, StandsNe
 use Rattle.vl_manifest.specs.Manifest.{ManifestSays}
 use Rattle.vl_manifest.specs.States.{fresh_state}
 use Rattle.vl_manifest.specs.declared.state.ManifestState.{ManifestState}
-use Rattle.vl_recover.specs.LogReading.{ReadsLog}
+use Rattle.vl_seglog.specs.LogReading.{ReadsLog}
 use Rattle.vl_recover.specs.Stages.{AndThen}
 use Rattle.vl_recover.specs.Walk.{LogDamage, StandingLog, filled, walked}
 

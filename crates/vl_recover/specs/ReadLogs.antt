@@ -5,7 +5,7 @@ use Rattle.vl_model.specs.declared.log_frame.LogFrame.TheVariants.{Committed, Re
 use Rattle.vl_recover.specs.declared.log_frame.Frame.{Frame}
 use Rattle.vl_recover.specs.declared.log_frame.Frame.TheVariants.{Commit, Moves}
 use Rattle.vl_recover.specs.declared.log_frame.LogRead.{LogRead}
-use Rattle.vl_recover.specs.LogReading.{LogReading}
+use Rattle.vl_seglog.specs.LogReading.{LogReading}
 
 abbrev pub frame_of : Frame → LogFrame
 frame_of (Commit c) = Committed c.number c.writes.items

@@ -5,7 +5,7 @@ use Rattle.vl_disk.specs.Crash.{Image, MayLeave}
 use Rattle.vl_disk.specs.DiskState.{DiskState, File}
 use Rattle.vl_disk.specs.Started.{IsRead}
 use Rattle.vl_disk.specs.declared.name.Name.TheVariants.{Log, Manifest}
-use Rattle.vl_recover.specs.LogReading.{LogReading, ReadsLog}
+use Rattle.vl_seglog.specs.LogReading.{LogReading, ReadsLog}
 use Rattle.vl_recover.specs.Opening.{Opening, Opens}
 use Rattle.vl_recover.specs.Alike.{IsLeft, SameState}
 

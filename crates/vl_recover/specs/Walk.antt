@@ -5,7 +5,7 @@ use Rattle.vl_model.specs.declared.log_frame.LogFrame.{LogFrame}
 use Rattle.vl_model.specs.declared.log_frame.LogFrame.TheVariants.{Committed, Relocated}
 use Rattle.vl_layout.specs.Logs.{log_length, new_segment}
 use Rattle.vl_layout.specs.declared.segment.Segment.{Segment}
-use Rattle.vl_recover.specs.LogReading.{LogReading}
+use Rattle.vl_seglog.specs.LogReading.{LogReading}
 use Rattle.vl_recover.specs.Stages.{on_ok}
 
 -- a log that stands: its number, its length in bytes, and how it reads

@@ -1,6 +1,6 @@
 // Stands here until vl_seglog reads relocations.
 ghost use Rattle.std.specs.Prelude.{◌≡◌, IfOk};
-ghost use Rattle.vl_recover.specs.LogReading.{ReadsLog};
+ghost use Rattle.vl_seglog.specs.LogReading.{ReadsLog};
 ghost use Rattle.vl_recover.specs.Walk.{content_end};
 ghost use Rattle.vl_recover.specs.ReadLogs.{reading_of};
 
