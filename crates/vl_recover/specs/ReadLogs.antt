@@ -1,5 +1,7 @@
 -- A log that was read, without where it lies in memory.
 use Rattle.std.specs.Prelude.{ℕ, List, map}
+use Rattle.vl_model.specs.Frames.{record_length}
+use Rattle.vl_model.specs.declared.change.Change.{Change}
 use Rattle.vl_model.specs.declared.log_frame.LogFrame.{LogFrame}
 use Rattle.vl_model.specs.declared.log_frame.LogFrame.TheVariants.{Committed, Relocated}
 use Rattle.vl_recover.specs.declared.log_frame.Frame.{Frame}
@@ -16,3 +18,6 @@ frames_of frames = map frame_of frames
 
 abbrev pub reading_of : LogRead → LogReading
 reading_of log = record { header = log.header; frames = frames_of log.frames.items; whole = log.whole }
+
+abbrev pub write_length : List ℕ × Change → ℕ
+write_length write = record_length write.0 write.1

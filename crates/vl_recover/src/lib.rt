@@ -7,6 +7,7 @@
 mod fails;
 mod finding;
 mod found;
+mod frame_length;
 mod log_frame;
 mod log_read;
 mod names;
