@@ -8,9 +8,13 @@ use Rattle.vl_recover.specs.declared.log_frame.Frame.{Frame}
 use Rattle.vl_recover.specs.declared.log_frame.Frame.TheVariants.{Commit, Moves}
 use Rattle.vl_recover.specs.declared.log_frame.LogRead.{LogRead}
 use Rattle.vl_seglog.specs.LogReading.{LogReading}
+use Rattle.vl_seglog.specs.declared.commit.Commit.{Commit as ReadCommit}
+
+abbrev pub commit_of : ReadCommit → LogFrame
+commit_of c = Committed c.number c.writes.items
 
 abbrev pub frame_of : Frame → LogFrame
-frame_of (Commit c) = Committed c.number c.writes.items
+frame_of (Commit c) = commit_of c
 frame_of (Moves moves) = Relocated moves.items
 
 abbrev pub frames_of : List Frame → List LogFrame

@@ -13,7 +13,7 @@ const COMMIT_BYTES: u64 = 25;
 const MOVES_BYTES: u64 = 17;
 
 // Of the version before a moved record.
-const VERSION_BYTES: u64 = 8;
+pub const VERSION_BYTES: u64 = 8;
 
 /// How many bytes a frame has.
 pub fn frame_length(frame: &Frame) -> u64

@@ -4,12 +4,14 @@
 //! Each file is read once. Beside the entries the bytes of one file at a time are in memory.
 #![tactic(auto)]
 
+mod entries;
 mod fails;
 mod finding;
 mod found;
 mod frame_length;
 mod log_frame;
 mod log_read;
+mod memtables;
 mod names;
 mod parts;
 mod recovering;
