@@ -2,7 +2,7 @@
 use Rattle.std.specs.Prelude.{◌≡◌, ℕ, ◌+◌, ◌≤◌, ◌<◌, List, [], ◌∷◌, None, Some, Ok}
 use Rattle.std.specs.FinMap.{get}
 use Rattle.std.specs.List.{AllByRecursion}
-use Rattle.vl_disk.specs.DiskState.{DiskState, settled}
+use Rattle.vl_disk.specs.DiskState.{DiskState, File, settled}
 use Rattle.vl_disk.specs.declared.name.Name.{Name}
 use Rattle.vl_disk.specs.declared.name.Name.TheVariants.{Log, Manifest}
 use Rattle.vl_layout.specs.declared.segment.Segment.{Segment}
@@ -38,7 +38,12 @@ HoldsLogs least (s ∷ ss) disk =
     × IsSettled disk (Log s.number) (log_bytes s.number s.frames)
     × HoldsLogs (s.number + 1) ss disk
 
--- The disk holds a store: a manifest that says this state, and these logs from its head on.
+-- each file that stands is durable
+abbrev pub AllSettled : DiskState → Type 0
+AllSettled disk = (name : Name) (file : File) → get disk.standing name ≡ Some file → file ≡ settled file.bytes
+
+-- The disk holds a store: a manifest that says this state, these logs from its head on, and nothing that isn't durable.
 pub record HoldsStore (state : ManifestState) (logs : List Segment) (disk : DiskState) : Type 0 where
   pub manifest : HoldsManifest state disk
   pub logs_are : HoldsLogs state.head logs disk
+  pub durable : AllSettled disk

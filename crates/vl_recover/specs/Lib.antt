@@ -10,3 +10,7 @@ pub mod Stages
 pub mod Starts
 pub mod Walk
 pub mod Results
+pub mod OpeningLaws
+pub mod StageLaws
+pub mod AlikeLaws
+pub mod HeldLaws
