@@ -1,5 +1,6 @@
 pub mod Alike
 pub mod Answers
+pub mod Counting
 pub mod Finding
 pub mod Held
 pub mod Named

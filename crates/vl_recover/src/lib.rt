@@ -4,6 +4,7 @@
 //! Each file is read once. Beside the entries the bytes of one file at a time are in memory.
 #![tactic(auto)]
 
+mod counting;
 mod entries;
 mod fails;
 mod finding;
