@@ -1,3 +1,4 @@
 mod Entering
 mod Filling
 mod Naming
+mod ReadingLogs

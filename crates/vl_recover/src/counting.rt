@@ -5,7 +5,7 @@ ghost use Rattle.vl_frame.specs.Runs.{HasFrame};
 ghost use Rattle.vl_layout.specs.Logs.{log_length};
 ghost use Rattle.vl_model.specs.Frames as frames;
 ghost use Rattle.vl_recover.specs.Counting.{counted_log};
-ghost use Rattle.vl_recover.specs.ReadLogs.{frame_of, frames_of, reading_of};
+ghost use Rattle.vl_recover.specs.ReadLogs.{IsLogRead, frame_of, frames_of, reading_of};
 ghost use Rattle.vl_recover.specs.Walk as walk;
 ghost use Rattle.vl_seglog.specs.Frames.{frames_grammar};
 
@@ -16,9 +16,7 @@ use vl_seglog::LOG_HEADER_BYTES;
 /// The number of the last commit behind a log, which others follow or not, by the one before it; or the place of the first
 /// damage in it.
 pub fn count_log(before: u64, log: &LogRead, followed: bool) -> Result<u64, u64>
-    requires frames { AllByRecursion (HasFrame frames_grammar) (frames_of log.now.frames.items) }
-    requires fits { log_length (frames_of log.now.frames.items) < 2 ^ 63 }
-    requires end { log.now.end ≡ walk.content_end (reading_of log.now) }
+    requires { IsLogRead log.now }
     ensures { result ≡ counted_log followed before (reading_of log.now) }
 {
     if followed && !log.header {

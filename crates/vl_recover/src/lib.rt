@@ -12,9 +12,11 @@ mod found;
 mod frame_length;
 mod log_frame;
 mod log_read;
+mod logs;
 mod memtables;
 mod names;
 mod parts;
+mod reading;
 mod recovering;
 
 pub use fails::{OpenFail, Why};
