@@ -2,3 +2,4 @@ mod Entering
 mod Filling
 mod Naming
 mod ReadingLogs
+mod Unmoved
