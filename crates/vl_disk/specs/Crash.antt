@@ -36,10 +36,6 @@ MayLeaveOne None None None = Unit {0}
 abbrev pub MayLeave : DiskState → Image → Type 0
 MayLeave disk image = (name : Name) → MayLeaveOne (get disk.standing name) (get disk.removed name) (get image name)
 
--- what a crash since then may have left, by the states that the disk had since then
-abbrev pub ImagesSince : (ℕ → DiskState → Type 0) → ℕ → Image → Type 0
-ImagesSince since t image = (state : DiskState) × since t state × MayLeave state image
-
 -- What a disk may be while a call is under way: the call has done nothing yet, or its work in whole or in part.
 
 abbrev pub WhileCreating : Name → DiskState → DiskState → Type 0
