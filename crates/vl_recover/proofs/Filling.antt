@@ -20,8 +20,9 @@ use Rattle.vl_model.specs.declared.entry.Entry.{Entry}
 use Rattle.vl_model.specs.declared.log_frame.LogFrame.{LogFrame}
 use Rattle.vl_model.specs.declared.log_frame.LogFrame.TheVariants.{Committed, Relocated}
 use Rattle.vl_model.specs.declared.log_frame.Moved.{Moved}
-use Rattle.vl_recover.specs.ReadLogs.{frame_of, frames_of, write_length}
-use Rattle.vl_recover.specs.declared.log_frame.Frame.{Frame}
+use Rattle.vl_recover.specs.ReadLogs.{frames_of, write_length}
+use Rattle.vl_seglog.specs.Reading.{frame_of}
+use Rattle.vl_seglog.specs.declared.frame.Frame.{Frame}
 use Rattle.vl_run.specs.Order.{IsInOrder}
 use Rattle.vl_run.specs.OrderLaws.{IsBefore, IsRising, in_order-again, in_order-back, in_order-front, in_order-rising}
 use Rattle.vl_seglog.specs.FrameLaws.{length-frame_body}

@@ -23,14 +23,15 @@ use Rattle.vl_recover.specs.Finding.{last_log, last_of}
 use Rattle.vl_recover.specs.LogsSoFar.{AreLogsRead, AreReadSoFar, IsReadOn, IsWith, walk_of}
 use Rattle.vl_recover.specs.Named.{IsLeastOf, IsLogFrom}
 use Rattle.vl_recover.specs.Opening.{IsNextLog, StandingLogs}
-use Rattle.vl_recover.specs.ReadLogs.{IsLogRead, frame_of, frames_of, reading_of}
+use Rattle.vl_recover.specs.ReadLogs.{IsLogRead, frames_of}
+use Rattle.vl_seglog.specs.Reading.{frame_of, reading_of}
 use Rattle.vl_recover.specs.Results.{frozen_log}
 use Rattle.vl_recover.specs.Stages.{on_ok}
 use Rattle.vl_recover.specs.Walk.{LogDamage, StandingLog, content_end, counted_whole, filled, in_log, walked_on, with_frames}
 use Rattle.vl_recover.specs.declared.found.LastLog.{LastLog}
 use Rattle.vl_recover.specs.declared.found.LogsRead.{LogsRead}
-use Rattle.vl_recover.specs.declared.log_frame.Frame.{Frame}
-use Rattle.vl_recover.specs.declared.log_frame.LogRead.{LogRead}
+use Rattle.vl_seglog.specs.declared.frame.Frame.{Frame}
+use Rattle.vl_seglog.specs.declared.reading.LogRead.{LogRead}
 use Rattle.vl_seglog.specs.Frames.{frames_grammar}
 use Rattle.vl_seglog.specs.LogReading.{AreBehind, ReadsLog}
 use Rattle.vl_seglog.specs.LogReadingLaws.{frames_within, log_apart}

@@ -1,17 +1,14 @@
 // The commit numbers that logs give.
 ghost use Rattle.std.specs.Prelude.{◌≡◌, ◌+◌, ◌<◌, ◌^◌};
-ghost use Rattle.std.specs.List.{AllByRecursion, sum_by};
-ghost use Rattle.vl_frame.specs.Runs.{HasFrame};
 ghost use Rattle.vl_layout.specs.Logs.{log_length};
 ghost use Rattle.vl_model.specs.Frames as frames;
 ghost use Rattle.vl_recover.specs.Counting.{counted_log};
-ghost use Rattle.vl_recover.specs.ReadLogs.{IsLogRead, frame_of, frames_of, reading_of};
+ghost use Rattle.vl_recover.specs.ReadLogs.{IsLogRead, frames_of};
 ghost use Rattle.vl_recover.specs.Walk as walk;
-ghost use Rattle.vl_seglog.specs.Frames.{frames_grammar};
+ghost use Rattle.vl_seglog.specs.Reading.{frame_of, reading_of};
 
 use crate::frame_length::frame_length;
-use crate::log_frame::{Frame, LogRead};
-use vl_seglog::LOG_HEADER_BYTES;
+use vl_seglog::{Frame, LOG_HEADER_BYTES, LogRead};
 
 /// The number of the last commit behind a log, which others follow or not, by the one before it; or the place of the first
 /// damage in it.

@@ -2,11 +2,12 @@
 ghost use Rattle.std.specs.Prelude.{◌≡◌, ◌+◌, ◌<◌, ◌^◌, length};
 ghost use Rattle.std.specs.List.{sum_by};
 ghost use Rattle.vl_model.specs.Frames as frames;
-ghost use Rattle.vl_recover.specs.ReadLogs.{frame_of, write_length};
+ghost use Rattle.vl_recover.specs.ReadLogs.{write_length};
+ghost use Rattle.vl_seglog.specs.Reading.{frame_of};
 
-use crate::log_frame::Frame;
 use vl_model::{Change, Key, Moved};
 use vl_record::RECORD_HEAD_BYTES;
+use vl_seglog::Frame;
 
 // Of a commit's frame beside its records, and of a relocation's.
 const COMMIT_BYTES: u64 = 25;

@@ -10,8 +10,6 @@ mod fails;
 mod finding;
 mod found;
 mod frame_length;
-mod log_frame;
-mod log_read;
 mod logs;
 mod memtables;
 mod names;

@@ -18,14 +18,13 @@ ghost use Rattle.vl_recover.specs.Results.{frozen_log};
 
 use crate::counting::count_log;
 use crate::found::{DamagePlace, LastLog, LogsRead};
-use crate::log_frame::LogRead;
-use crate::log_read::read_log;
 use crate::memtables::memtable_of;
 use crate::names::next_log;
 use crate::reading::read_whole;
 use crate::{FrozenLog, Why};
 use std::alloc::{AllocError, Global};
 use vl_disk::{Disk, Name};
+use vl_seglog::{LogRead, read_log};
 
 /// Reads the logs from head on, rising, each once. The commits before them have numbers up to this one.
 pub fn read_logs<D: Disk>(

@@ -6,18 +6,18 @@ ghost use Rattle.vl_layout.specs.Logs as layout;
 ghost use Rattle.vl_memtable.specs.Contents.{IsNewTo};
 ghost use Rattle.vl_model.specs.Entries.{in_order};
 ghost use Rattle.vl_model.specs.Frames as frames;
-ghost use Rattle.vl_recover.specs.ReadLogs.{commit_of, frame_of, frames_of};
+ghost use Rattle.vl_recover.specs.ReadLogs.{committed, frames_of};
 ghost use Rattle.vl_run.specs.Order.{IsInOrder};
 ghost use Rattle.vl_seglog.specs.Frames.{frames_grammar};
+ghost use Rattle.vl_seglog.specs.Reading.{frame_of};
 
 use crate::entries::{commit_entries, moved_entries};
 use crate::frame_length::frame_length;
-use crate::log_frame::Frame;
 use std::alloc::{AllocError, Global};
 use vl_memtable::Memtable;
 use vl_model::{Entry, Moved};
 use vl_run::Run;
-use vl_seglog::{Commit, LOG_HEADER_BYTES};
+use vl_seglog::{Commit, Frame, LOG_HEADER_BYTES};
 
 // Where the first record of a commit's frame lies, and the first version of a relocation's.
 const BEFORE_RECORDS: u64 = 17;
@@ -67,10 +67,10 @@ fn with_commit(
     place: u64,
     commit: &Commit,
 ) -> Result<Memtable, AllocError>
-    requires frame { HasFrame frames_grammar (commit_of commit.now) }
-    requires fits { place + frames.frame_length (commit_of commit.now) < 2 ^ 63 }
+    requires frame { HasFrame frames_grammar (committed commit.now) }
+    requires fits { place + frames.frame_length (committed commit.now) < 2 ^ 63 }
     ensures { IfOk result (λ with. with.entries ≡
-        in_order (layout.frame_entries log place (commit_of commit.now) ++ memtable.now.entries)) }
+        in_order (layout.frame_entries log place (committed commit.now) ++ memtable.now.entries)) }
 {
     let entries = commit_entries(alloc, log, place + BEFORE_RECORDS, commit.number, &commit.writes)?;
     with_run(memtable, Run::from_writes(entries)?)

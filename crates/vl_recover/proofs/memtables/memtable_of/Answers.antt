@@ -2,8 +2,9 @@ use Rattle.std.proofs.Common.{◌≡◌, ◌+◌, ◌∷◌, drop, sym, subst, a
 use Rattle.std.specs.Prelude.{List}
 use Rattle.vl_model.specs.declared.log_frame.LogFrame.{LogFrame}
 use Rattle.vl_model.specs.Frames.{frame_length}
-use Rattle.vl_recover.specs.ReadLogs.{frame_of, frames_of}
-use Rattle.vl_recover.specs.declared.log_frame.Frame.{Frame}
+use Rattle.vl_recover.specs.ReadLogs.{frames_of}
+use Rattle.vl_seglog.specs.Reading.{frame_of}
+use Rattle.vl_seglog.specs.declared.frame.Frame.{Frame}
 use Rattle.vl_recover.proofs.Filling.{AreFilled, next_frame, one_filled}
 use Rattle.vl_recover.proofs.memtables.memtable_of.Goals as goal
 

@@ -1,7 +1,7 @@
 use Rattle.std.proofs.Common.{sym, subst}
 use Rattle.vl_frame.specs.Runs.{HasFrame}
-use Rattle.vl_recover.specs.ReadLogs.{frame_of}
-use Rattle.vl_recover.specs.declared.log_frame.Frame.{Frame}
+use Rattle.vl_seglog.specs.Reading.{frame_of}
+use Rattle.vl_seglog.specs.declared.frame.Frame.{Frame}
 use Rattle.vl_recover.proofs.Filling.{moves_short}
 use Rattle.vl_seglog.specs.Frames.{frames_grammar}
 use Rattle.vl_recover.proofs.memtables.with_frame.Goals as goal
