@@ -1,5 +1,6 @@
 mod Entering
 mod Filling
+mod Looking
 mod Naming
 mod ReadingLogs
 mod Unmoved

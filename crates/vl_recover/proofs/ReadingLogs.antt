@@ -144,7 +144,7 @@ pub record AreReadUpTo (image : Image) (names : List Name) (head covered least :
   pub so_far : (followed : Bool) → IsFollowed names least followed → AreReadSoFar covered followed logs read
 
 module _ (image : Image) (names : List Name) (named : (name : Name) → IsSome (get image name) → Contains names name) where
-  not_named : (name : Name) → (Contains names name → ⊥) → get image name ≡ None
+  pub not_named : (name : Name) → (Contains names name → ⊥) → get image name ≡ None
   not_named name none = by (get image name) refl
     where
       by : (left : Option (List ℕ)) → get image name ≡ left → left ≡ None

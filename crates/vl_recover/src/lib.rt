@@ -5,6 +5,7 @@
 #![tactic(auto)]
 
 mod counting;
+mod current;
 mod entries;
 mod fails;
 mod finding;
