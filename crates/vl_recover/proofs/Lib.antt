@@ -1,3 +1,4 @@
+mod Composing
 mod Entering
 mod Filling
 mod Looking
