@@ -1,31 +1,24 @@
 -- What was found, put together.
-use Rattle.std.proofs.Common.{◌≡◌, ℕ, ◌+◌, ◌<◌, ◌≤◌, Bool, true, false, List, [], ◌∷◌, ◌++◌, length, map, refl, sym, ap, ◌∙◌, subst, arith, inl, inr, ⊎_elim, ◌⊎◌}
-use Rattle.std.specs.Prelude.{◌≢◌, ◌↔◌, All, AllPairs, Contains, IfSome, IsSome, filter, if◌then◌else◌, Option, None, Some, Result, Ok, Err, nat_lt}
+use Rattle.std.proofs.Common.{◌≡◌, ℕ, ◌≤◌, Bool, true, false, List, [], ◌∷◌, refl, sym, ap, ◌∙◌, subst, arith, inl, inr, ⊎_elim, ◌⊎◌}
+use Rattle.std.specs.Prelude.{◌≢◌, ◌↔◌, AllPairs, Contains, IfSome, IsSome, filter, if◌then◌else◌, Option, None, Some, Result, Ok}
 use Rattle.std.specs.FinMap.{get}
-use Rattle.std.specs.Option.{option_map}
 use Rattle.std.proofs.lemmas.Bool.Decides.{nat_tests}
 use Rattle.std.proofs.lemmas.List.Elements.{All-contains, All-contains_itself, All-filter, Contains-append_cases, Contains-append_right, Contains-push_cases, filter_passes}
 use Rattle.std.proofs.lemmas.List.Kept.{AllPairs-filter}
 use Rattle.vl_disk.specs.Crash.{Image}
 use Rattle.vl_disk.specs.Disk.{Lists}
 use Rattle.vl_disk.specs.DiskState.{DiskState}
-use Rattle.vl_disk.specs.Name.{IsNumbered}
 use Rattle.vl_disk.specs.Started.{IsRead}
 use Rattle.vl_disk.specs.declared.name.Name.{Name}
 use Rattle.vl_disk.specs.declared.name.Name.TheVariants.{Log, Table, Manifest}
 use Rattle.vl_manifest.specs.declared.state.ManifestState.{ManifestState}
-use Rattle.vl_recover.specs.Answers.{AnswersBy, AreStrayNames, Finds, IsStrayName, held_log}
-use Rattle.vl_recover.specs.Finding.{AreFileNumbers, IsFound, greatest_of, last_log, last_of}
-use Rattle.vl_recover.specs.Leading.{AnswersStage}
-use Rattle.vl_recover.specs.LogsSoFar.{AreLogsRead, AreReadSoFar, IsExcused, damage_of, walk_of}
+use Rattle.vl_recover.specs.Answers.{AreStrayNames, IsStrayName}
+use Rattle.vl_recover.specs.Finding.{IsFound, greatest_of}
+use Rattle.vl_recover.specs.LogsSoFar.{AreLogsRead, walk_of}
 use Rattle.vl_recover.specs.Named.{AreGreatestIn, IsGreatestIn, is_stray}
-use Rattle.vl_recover.specs.Opening.{Current, Damaged, LogsFrom, Opening, Opens, Refusal, opening_of}
+use Rattle.vl_recover.specs.Opening.{Current, LogsFrom, Opening, Refusal, opening_of}
 use Rattle.vl_recover.specs.Plans.{AreGreatest, Greatest, IsGreatest}
-use Rattle.vl_recover.specs.Results.{came_by, frozen_log}
-use Rattle.vl_recover.specs.Walk.{LogDamage, StandingLog, filled, walked}
-use Rattle.vl_recover.specs.declared.fails.Why.{Why}
-use Rattle.vl_recover.specs.declared.fails.Why.TheVariants as why
-use Rattle.vl_recover.specs.declared.found.DamagePlace.{DamagePlace}
+use Rattle.vl_recover.specs.Walk.{LogDamage, filled}
 use Rattle.vl_recover.specs.declared.found.Found.{Found}
 use Rattle.vl_recover.specs.declared.found.GreatestNumbers.{GreatestNumbers}
 use Rattle.vl_recover.specs.declared.found.LastLog.{LastLog}

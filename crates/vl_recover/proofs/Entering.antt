@@ -1,15 +1,9 @@
 -- Entries are made of records, one after the other.
-use Rattle.std.proofs.Common.{◌≡◌, ℕ, ◌+◌, ◌<◌, ◌≤◌, ◌^◌, List, [], ◌∷◌, ◌++◌, map, refl, sym, ap, ◌∙◌, subst, arith, append_assoc}
+use Rattle.std.proofs.Common.{◌≡◌, ℕ, ◌+◌, ◌<◌, ◌≤◌, List, [], ◌∷◌, ◌++◌, map, refl, sym, ap, ◌∙◌, arith, append_assoc}
 use Rattle.std.specs.List.{sum_by}
-use Rattle.std.proofs.lemmas.List.{append-nil}
 use Rattle.std.proofs.lemmas.List.Sums.{sum_by-cons}
-use Rattle.vl_layout.specs.Logs.{LogRecord, committed_records, record_entry, relocated_records}
-use Rattle.vl_model.specs.Frames.{moved_length, record_length}
-use Rattle.vl_model.specs.declared.change.Change.{Change}
-use Rattle.vl_model.specs.declared.change.Change.TheVariants.{Set}
+use Rattle.vl_layout.specs.Logs.{LogRecord, record_entry}
 use Rattle.vl_model.specs.declared.entry.Entry.{Entry}
-use Rattle.vl_model.specs.declared.log_frame.Moved.{Moved}
-use Rattle.vl_recover.specs.ReadLogs.{write_length}
 
 -- Of so many items the entries were made, up to the rest: `records` gives those from a place on, `size` how long an item is.
 module _ {Item : Type 0} (log : ℕ) (records : ℕ → List Item → List LogRecord) (size : Item → ℕ) where

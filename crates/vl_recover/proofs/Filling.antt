@@ -1,6 +1,5 @@
 -- A memtable takes the entries of frames, one behind the other.
-use Rattle.std.proofs.Common.{◌≡◌, ℕ, ◌+◌, ◌<◌, ◌≤◌, ◌^◌, Bool, true, false, List, [], ◌∷◌, ◌++◌, length, map, drop, get_or, refl, sym, ap, ◌∙◌, subst, arith, append_assoc}
-use Rattle.std.specs.Prelude.{IsTrue}
+use Rattle.std.proofs.Common.{◌≡◌, ℕ, ◌+◌, ◌<◌, ◌≤◌, ◌^◌, true, List, [], ◌∷◌, ◌++◌, length, map, drop, get_or, refl, sym, ap, ◌∙◌, arith, append_assoc}
 use Rattle.std.specs.List.{AllByRecursion, sum_by}
 use Rattle.std.specs.FinMap.{is_sorted}
 use Rattle.std.specs.FinMap.Entries.{below_all}
@@ -12,7 +11,7 @@ use Rattle.std.proofs.lemmas.List.{drop_all, drop_more}
 use Rattle.std.proofs.lemmas.List.Sums.{sum_by-cons}
 use Rattle.vl_frame.specs.Runs.{HasFrame}
 use Rattle.vl_layout.specs.Logs.{committed_records, frame_entries, log_length, logged_entries, record_entry}
-use Rattle.vl_model.specs.Entries.{entry_cmp, in_order}
+use Rattle.vl_model.specs.Entries.{in_order}
 use Rattle.vl_model.specs.Frames.{frame_length, moved_length, record_length}
 use Rattle.vl_model.specs.Keys.{key_cmp}
 use Rattle.vl_model.specs.declared.change.Change.{Change}
@@ -24,7 +23,7 @@ use Rattle.vl_recover.specs.ReadLogs.{frames_of, write_length}
 use Rattle.vl_seglog.specs.Reading.{frame_of}
 use Rattle.vl_seglog.specs.declared.frame.Frame.{Frame}
 use Rattle.vl_run.specs.Order.{IsInOrder}
-use Rattle.vl_run.specs.OrderLaws.{IsBefore, IsRising, in_order-again, in_order-back, in_order-front, in_order-rising}
+use Rattle.vl_run.specs.OrderLaws.{IsBefore, IsRising, in_order-again, in_order-back, in_order-rising}
 use Rattle.vl_seglog.specs.FrameLaws.{length-frame_body}
 use Rattle.vl_seglog.specs.Frames.{frames_grammar}
 

@@ -1,9 +1,9 @@
 -- Manifests are looked at from the greatest down.
-use Rattle.std.proofs.Common.{◌≡◌, ◌⊎◌, ℕ, ◌+◌, ◌-◌, ◌<◌, ◌≤◌, ◌^◌, Bool, true, false, ◌&&◌, List, [], ◌∷◌, refl, sym, ap, ◌∙◌, subst, arith, inl, inr, ⊎_elim}
-use Rattle.std.specs.Prelude.{All, Contains, IsSome, ◌==◌, if◌then◌else◌, Option, None, Some, Result, Ok, Err, unwrap_or}
+use Rattle.std.proofs.Common.{◌≡◌, ◌⊎◌, ℕ, ◌-◌, ◌<◌, ◌≤◌, ◌^◌, Bool, true, false, ◌&&◌, List, refl, sym, ap, ◌∙◌, subst, arith, inl, inr, ⊎_elim}
+use Rattle.std.specs.Prelude.{Contains, IsSome, ◌==◌, if◌then◌else◌, Option, None, Some, Result, Ok, Err, unwrap_or}
 use Rattle.std.specs.FinMap.{get}
 use Rattle.std.specs.Option.{option_map}
-use Rattle.std.proofs.lemmas.Bool.{and_parts, cases_eq}
+use Rattle.std.proofs.lemmas.Bool.{cases_eq}
 use Rattle.std.proofs.lemmas.Bool.Decides.{nat_tests}
 use Rattle.vl_disk.specs.Crash.{Image}
 use Rattle.vl_disk.specs.Disk.{Lists, Stands}
@@ -12,17 +12,17 @@ use Rattle.vl_disk.specs.Name.{IsNumbered}
 use Rattle.vl_disk.specs.Started.{IsRead}
 use Rattle.vl_disk.specs.declared.name.Name.{Name}
 use Rattle.vl_disk.specs.declared.name.Name.TheVariants.{Log, Table, Manifest}
-use Rattle.vl_manifest.specs.Current.{IsCurrent, StandsNewer, StandsReadable}
+use Rattle.vl_manifest.specs.Current.{IsCurrent, StandsReadable}
 use Rattle.vl_manifest.specs.Manifest.{IsNewer, IsReadable}
 use Rattle.vl_manifest.specs.declared.state.ManifestState.{ManifestState}
 use Rattle.vl_recover.specs.declared.fails.Why.{Why}
 use Rattle.vl_recover.specs.declared.fails.Why.TheVariants as why
-use Rattle.vl_recover.specs.Leading.{AnswersStage, ArePassed, HasNewer, IsNewestDownTo, IsNewestWith, headed_by, heading_without}
+use Rattle.vl_recover.specs.Leading.{AnswersStage, ArePassed, IsNewestDownTo, IsNewestWith, headed_by, heading_without}
 use Rattle.vl_recover.specs.LogsSoFar.{IsExcused}
 use Rattle.vl_recover.specs.Named.{AreGreatestIn, IsGreatestOf, IsManifestBelow}
-use Rattle.vl_recover.specs.Opening.{Bare, Current, Headless, Heading, IsHeaded, Led, Newest, Refusal, Says}
+use Rattle.vl_recover.specs.Opening.{Bare, Current, Heading, IsHeaded, Refusal, Says}
 use Rattle.vl_recover.specs.Plans.{Greatest}
-use Rattle.vl_recover.proofs.ReadingLogs.{listed, not_named}
+use Rattle.vl_recover.proofs.ReadingLogs.{not_named}
 
 some_bytes : (a b : List ℕ) → Some a ≡ Some b → a ≡ b
 some_bytes a b e = cc

@@ -1,5 +1,5 @@
 -- Logs are read, one after the other.
-use Rattle.std.proofs.Common.{◌≡◌, ℕ, ◌+◌, ◌<◌, ◌≤◌, ◌^◌, Bool, true, false, List, [], ◌∷◌, ◌++◌, length, map, refl, sym, ap, ◌∙◌, subst, arith}
+use Rattle.std.proofs.Common.{◌≡◌, ℕ, ◌+◌, ◌<◌, ◌^◌, Bool, true, false, List, [], ◌∷◌, ◌++◌, length, map, refl, sym, ap, ◌∙◌, subst, arith}
 use Rattle.std.specs.List.{AllByRecursion}
 use Rattle.std.proofs.lemmas.Bool.{true≢false}
 use Rattle.std.specs.Prelude.{Contains, IfSome, IsSome, Option, None, Some, Result, Ok, Err, is_some}
@@ -24,7 +24,7 @@ use Rattle.vl_recover.specs.LogsSoFar.{AreLogsRead, AreReadSoFar, IsReadOn, IsWi
 use Rattle.vl_recover.specs.Named.{IsLeastOf, IsLogFrom}
 use Rattle.vl_recover.specs.Opening.{IsNextLog, StandingLogs}
 use Rattle.vl_recover.specs.ReadLogs.{IsLogRead, frames_of}
-use Rattle.vl_seglog.specs.Reading.{frame_of, reading_of}
+use Rattle.vl_seglog.specs.Reading.{reading_of}
 use Rattle.vl_recover.specs.Results.{frozen_log}
 use Rattle.vl_recover.specs.Stages.{on_ok}
 use Rattle.vl_recover.specs.Walk.{LogDamage, StandingLog, content_end, counted_whole, filled, in_log, walked_on, with_frames}

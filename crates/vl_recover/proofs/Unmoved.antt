@@ -1,12 +1,11 @@
 -- Calls that change nothing, one behind the other.
-use Rattle.std.proofs.Common.{◌≡◌, ℕ, ◌≤◌, refl, sym, ap, ◌∙◌, subst, arith, inl, inr}
-use Rattle.std.specs.Prelude.{Option, Some}
+use Rattle.std.proofs.Common.{◌≡◌, ℕ, refl, sym, ◌∙◌, subst, arith, inl}
 use Rattle.std.specs.Option.{ForSome}
 use Rattle.vl_disk.specs.declared.watched.Watched.{Ghosts}
 use Rattle.vl_disk.specs.Calls.{ChangesNothing}
 use Rattle.vl_disk.specs.Crash.{Unchanged}
 use Rattle.vl_disk.specs.DiskState.{DiskState}
-use Rattle.vl_disk.specs.Faults.{HasCause, Rose, one_more}
+use Rattle.vl_disk.specs.Faults.{Rose}
 use Rattle.vl_disk.specs.Moments.{While, passes_then}
 
 module _ {D : Type 0} (g : Ghosts D) where

@@ -1,5 +1,5 @@
 -- The walk over the logs, a log at a time.
-use Rattle.std.specs.Prelude.{ℕ, Bool, true, false, List, [], ◌∷◌, Result, Ok, Err}
+use Rattle.std.specs.Prelude.{ℕ, Bool, true, false, List, [], ◌∷◌, Result, Ok}
 use Rattle.vl_seglog.specs.LogReading.{LogReading}
 use Rattle.vl_recover.specs.Stages.{on_ok}
 use Rattle.vl_recover.specs.Walk.{LogDamage, StandingLog, counted, counted_whole, in_log, walked}

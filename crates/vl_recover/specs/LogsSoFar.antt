@@ -1,9 +1,8 @@
 -- What logs come to that were read so far.
-use Rattle.std.specs.Prelude.{◌≡◌, ℕ, ◌≤◌, Bool, true, false, List, [], ◌∷◌, ◌++◌, map, length, Some, Result, Ok, Err, Contains}
+use Rattle.std.specs.Prelude.{◌≡◌, ℕ, Bool, false, List, [], ◌∷◌, ◌++◌, map, length, Some, Result, Ok, Err}
 use Rattle.std.specs.Option.{option_map}
 use Rattle.std.specs.FinMap.{get}
 use Rattle.vl_disk.specs.Crash.{Image}
-use Rattle.vl_disk.specs.declared.name.Name.{Name}
 use Rattle.vl_disk.specs.declared.name.Name.TheVariants.{Log}
 use Rattle.vl_seglog.specs.LogReading.{ReadsLog}
 use Rattle.vl_recover.specs.declared.fails.Why.{Why}

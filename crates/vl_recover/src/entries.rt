@@ -83,7 +83,11 @@ pub fn moved_entries(
 fn moved_entry(log: u32, place: u64, moved: &Moved) -> Result<Entry, AllocError>
     requires { record_length moved.now.key (Set moved.now.value) < 2 ^ 32 }
     ensures { IfOk result (λ entry. entry ≡ layout.record_entry log (record {
-        key = moved.now.key; version = moved.now.version; change = Set moved.now.value; place = place })) }
+      key = moved.now.key;
+      version = moved.now.version;
+      change = Set moved.now.value;
+      place = place;
+    })) }
 {
     let pointer = Pointer {
         segment: log,

@@ -11,12 +11,12 @@ ghost use Rattle.vl_recover.specs.LogsSoFar.{AreLogsRead};
 ghost use Rattle.vl_recover.specs.Named.{AreGreatestIn};
 ghost use Rattle.vl_recover.specs.Opening.{Current};
 
+use crate::Why;
 use crate::current::current_state;
 use crate::found::{Found, GreatestNumbers, LogsRead};
 use crate::logs::read_logs;
 use crate::names::{greatest_numbers, strays};
 use crate::reading::list_names;
-use crate::Why;
 use std::alloc::Global;
 use vl_disk::{Disk, Name};
 use vl_manifest::ManifestState;

@@ -11,6 +11,7 @@ use vl_seglog::Frame;
 
 // Of a commit's frame beside its records, and of a relocation's.
 const COMMIT_BYTES: u64 = 25;
+
 const MOVES_BYTES: u64 = 17;
 
 // Of the version before a moved record.

@@ -90,7 +90,11 @@ fn with_log(
 {
     let count = count_on(so_far.number, number, log, followed);
     let has_frames = !log.frames.is_empty();
-    let frozen = if has_frames { with_frozen(alloc, so_far.frozen, number, log)? } else { so_far.frozen };
+    let frozen = if has_frames {
+        with_frozen(alloc, so_far.frozen, number, log)?
+    } else {
+        so_far.frozen
+    };
     Ok(LogsRead {
         number: count,
         frozen,

@@ -21,6 +21,7 @@ use vl_seglog::{Commit, Frame, LOG_HEADER_BYTES};
 
 // Where the first record of a commit's frame lies, and the first version of a relocation's.
 const BEFORE_RECORDS: u64 = 17;
+
 const BEFORE_MOVES: u64 = 9;
 
 /// The entries of the frames of the log with this number.
@@ -72,7 +73,13 @@ fn with_commit(
     ensures { IfOk result (λ with. with.entries ≡
         in_order (layout.frame_entries log place (committed commit.now) ++ memtable.now.entries)) }
 {
-    let entries = commit_entries(alloc, log, place + BEFORE_RECORDS, commit.number, &commit.writes)?;
+    let entries = commit_entries(
+        alloc,
+        log,
+        place + BEFORE_RECORDS,
+        commit.number,
+        &commit.writes,
+    )?;
     with_run(memtable, Run::from_writes(entries)?)
 }
 
@@ -122,7 +129,10 @@ fn is_new_to(memtable: &Memtable, run: &Run) -> bool
     ensures { IsTrue result → IsNewTo memtable.now.entries run.now }
 {
     for entry in run.as_slice() {
-        if memtable.exact(entry.key.as_slice(), entry.version).is_some() {
+        if memtable
+            .exact(entry.key.as_slice(), entry.version)
+            .is_some()
+        {
             return false;
         }
     }

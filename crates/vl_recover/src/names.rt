@@ -61,7 +61,11 @@ fn next_log_with(least: u32, name: Name, next: Option<u32>) -> Option<u32>
     ensures { result ≡ named.next_log_with least name next }
 {
     match name {
-        Name::Log(number) => if least <= number { lesser(number, next) } else { next },
+        Name::Log(number) => if least <= number {
+            lesser(number, next)
+        } else {
+            next
+        },
         _ => next,
     }
 }
@@ -90,7 +94,11 @@ fn next_manifest_with(above: u32, name: Name, next: Option<u32>) -> Option<u32>
     ensures { result ≡ named.next_manifest_with above name next }
 {
     match name {
-        Name::Manifest(number) => if number < above { later(number, next) } else { next },
+        Name::Manifest(number) => if number < above {
+            later(number, next)
+        } else {
+            next
+        },
         _ => next,
     }
 }

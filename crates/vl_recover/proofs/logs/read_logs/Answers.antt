@@ -1,5 +1,4 @@
-use Rattle.std.proofs.Common.{◌≡◌, refl, sym, ◌∙◌}
-use Rattle.std.specs.Prelude.{ℕ}
+use Rattle.std.proofs.Common.{refl, ◌∙◌}
 use Rattle.vl_recover.proofs.ReadingLogs.{all_read, last_named, listed, none_read, one_read}
 use Rattle.vl_recover.proofs.Unmoved.{no_call, then_call}
 use Rattle.vl_recover.proofs.logs.read_logs.Goals as goal

@@ -1,7 +1,4 @@
 use Rattle.std.proofs.Common.{◌≡◌, ◌+◌, ◌∷◌, drop, sym, subst, ap, ◌∙◌}
-use Rattle.std.specs.Prelude.{List}
-use Rattle.vl_model.specs.declared.log_frame.LogFrame.{LogFrame}
-use Rattle.vl_model.specs.Frames.{frame_length}
 use Rattle.vl_recover.specs.ReadLogs.{frames_of}
 use Rattle.vl_seglog.specs.Reading.{frame_of}
 use Rattle.vl_seglog.specs.declared.frame.Frame.{Frame}

@@ -1,5 +1,4 @@
-use Rattle.std.proofs.Common.{◌≡◌, ◌<◌, ◌+◌, List, length, map, sym, ap, ◌∙◌, subst}
-use Rattle.vl_layout.specs.Logs.{committed_records, record_entry}
+use Rattle.std.proofs.Common.{◌<◌, ◌+◌, List, length, sym, ◌∙◌, subst}
 use Rattle.vl_model.specs.declared.entry.Entry.{Entry}
 use Rattle.vl_recover.proofs.Filling.{commit_in_order, commit_short, commit_some}
 use Rattle.vl_run.specs.Order.{IsInOrder}

@@ -1,4 +1,4 @@
-use Rattle.std.proofs.Common.{sym, subst}
+use Rattle.std.proofs.Common.{subst}
 use Rattle.vl_frame.specs.Runs.{HasFrame}
 use Rattle.vl_seglog.specs.Reading.{frame_of}
 use Rattle.vl_seglog.specs.declared.frame.Frame.{Frame}

@@ -1,4 +1,4 @@
-use Rattle.std.proofs.Common.{◌+◌, ◌++◌, ◌∷◌, [], List, map, sym, subst, ap, ◌∙◌}
+use Rattle.std.proofs.Common.{◌+◌, ◌++◌, List, map, subst, ap, ◌∙◌}
 use Rattle.vl_layout.specs.Logs.{record_entry, relocated_records}
 use Rattle.vl_model.specs.Entries.{in_order}
 use Rattle.vl_model.specs.declared.entry.Entry.{Entry}

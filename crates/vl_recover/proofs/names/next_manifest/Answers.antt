@@ -1,4 +1,4 @@
-use Rattle.std.proofs.Common.{take, get_or, subst, List, ◌≡◌, length}
+use Rattle.std.proofs.Common.{take, get_or, subst, List}
 use Rattle.std.proofs.lemmas.List.{take_all, take_more}
 use Rattle.vl_disk.specs.declared.name.Name.{Name}
 use Rattle.vl_disk.specs.declared.name.Name.TheVariants.{Log}
