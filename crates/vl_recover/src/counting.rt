@@ -10,8 +10,8 @@ ghost use Rattle.vl_seglog.specs.Reading.{frame_of, reading_of};
 use crate::frame_length::frame_length;
 use vl_seglog::{Frame, LOG_HEADER_BYTES, LogRead};
 
-/// The number of the last commit behind a log, which others follow or not, by the one before it; or the place of the first
-/// damage in it.
+/// The number of the last commit behind a log, by the one before it; or the place of the log's first damage. Of a log that
+/// another follows the header and the end must be right too.
 pub fn count_log(before: u64, log: &LogRead, followed: bool) -> Result<u64, u64>
     requires { IsLogRead log.now }
     ensures { result ≡ counted_log followed before (reading_of log.now) }

@@ -20,8 +20,8 @@ use std::alloc::Global;
 use vl_disk::{Disk, Name};
 use vl_manifest::{ManifestLog, ManifestState, StateFail, newer_format};
 
-/// What the current manifest says: of those that can be read the one with the greatest number. Each is read once, down to
-/// that one.
+/// What the current manifest says: of those that can be read the one with the greatest number. Down to that one each is
+/// read, once.
 pub fn current_state<D: Disk>(
     alloc: Global,
     disk: &mut D,

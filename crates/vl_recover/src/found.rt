@@ -49,7 +49,7 @@ pub(crate) struct DamagePlace {
 /// What logs come to that were read one after the other.
 #[derive(Drop)]
 pub(crate) struct LogsRead {
-    /// Of the last commit; or where they are damaged first.
+    /// Of the last commit; or the first damage, behind which they were read all the same.
     pub number: Result<u64, DamagePlace>,
     pub frozen: Vec<FrozenLog>,
     pub last: Option<LastLog>,

@@ -26,7 +26,8 @@ use std::alloc::{AllocError, Global};
 use vl_disk::{Disk, Name};
 use vl_seglog::{LogRead, read_log};
 
-/// Reads the logs from head on, rising, each once. The commits before them have numbers up to this one.
+/// Reads the logs from head on, rising, each once, also behind a damage. The commits before them have numbers up to this
+/// one.
 pub fn read_logs<D: Disk>(
     alloc: Global,
     disk: &mut D,
@@ -56,7 +57,7 @@ pub fn read_logs<D: Disk>(
     Ok(so_far)
 }
 
-// With the log of this number, which another follows or not.
+// With the log of this number more, which another follows or not. Its bytes go as soon as they are read.
 fn with_next<D: Disk>(
     alloc: Global,
     disk: &mut D,
@@ -72,11 +73,13 @@ fn with_next<D: Disk>(
     ensures no_change { ChangesNothing D.Watched disk.old disk.new (IsFault result) }
 {
     let bytes = read_whole(alloc, disk, Name::Log(number))?;
+    let length = bytes.len() as u64;
     let log = read_log(alloc, &bytes, number)?;
-    Ok(with_log(alloc, so_far, number, bytes.len() as u64, &log, followed)?)
+    drop(bytes);
+    Ok(with_log(alloc, so_far, number, length, &log, followed)?)
 }
 
-// With a log of this number and length that was read.
+// With a log more, of this number and length.
 fn with_log(
     alloc: Global,
     so_far: LogsRead,
@@ -116,7 +119,8 @@ fn count_on(
     followed: bool,
 ) -> Result<u64, DamagePlace>
     requires { IsLogRead log.now }
-    ensures { (length : ℕ) → walk_of result ≡ walked_log followed (walk_of so_far) (standing_log number length log.now) }
+    ensures { (length : ℕ) → walk_of result ≡
+        walked_log followed (walk_of so_far) (standing_log number length log.now) }
 {
     let before = so_far?;
     match count_log(before, log, followed) {

@@ -1,11 +1,12 @@
 // The memtable of a log that was read.
-ghost use Rattle.std.specs.Prelude.{◌≡◌, ◌+◌, ◌++◌, ◌<◌, ◌^◌, [], ◌∷◌, length, map, IfOk, IsTrue};
+ghost use Rattle.std.specs.Prelude.{◌≡◌, ◌+◌, ◌++◌, ◌<◌, ◌^◌, [], ◌∷◌, length, IfOk, IsTrue};
 ghost use Rattle.std.specs.List.{AllByRecursion, sum_by};
 ghost use Rattle.vl_frame.specs.Runs.{HasFrame};
 ghost use Rattle.vl_layout.specs.Logs as layout;
 ghost use Rattle.vl_memtable.specs.Contents.{IsNewTo};
 ghost use Rattle.vl_model.specs.Entries.{in_order};
 ghost use Rattle.vl_model.specs.Frames as frames;
+ghost use Rattle.vl_model.specs.declared.log_frame.LogFrame.TheVariants.{Relocated};
 ghost use Rattle.vl_recover.specs.ReadLogs.{committed, frames_of};
 ghost use Rattle.vl_run.specs.Order.{IsInOrder};
 ghost use Rattle.vl_seglog.specs.Frames.{frames_grammar};
@@ -19,9 +20,10 @@ use vl_model::{Entry, Moved};
 use vl_run::Run;
 use vl_seglog::{Commit, Frame, LOG_HEADER_BYTES};
 
-// Where the first record of a commit's frame lies, and the first version of a relocation's.
+// How many bytes of a commit's frame stand before its first record.
 const BEFORE_RECORDS: u64 = 17;
 
+// How many bytes of a relocation's frame stand before its first version.
 const BEFORE_MOVES: u64 = 9;
 
 /// The entries of the frames of the log with this number.
@@ -94,8 +96,8 @@ fn with_moves(
     requires short { sum_by frames.moved_length moves.now < 2 ^ 32 }
     requires fits { place + 17 + sum_by frames.moved_length moves.now < 2 ^ 63 }
     requires in_order { IsInOrder memtable.now.entries }
-    ensures { IfOk result (λ with. with.entries ≡
-        in_order (map (layout.record_entry log) (layout.relocated_records (place + 9) moves.now) ++ memtable.now.entries)) }
+    ensures { IfOk result (λ with. with.entries ≡ in_order
+        (layout.frame_entries log place (Relocated moves.now) ++ memtable.now.entries)) }
 {
     let mut entries = moved_entries(alloc, log, place + BEFORE_MOVES, moves)?;
     let mut with = memtable.share()?;
@@ -113,7 +115,7 @@ fn run_of_one(alloc: Global, entry: Entry) -> Result<Run, AllocError>
     Run::from_writes(entries)
 }
 
-// A memtable with a run, which has its keys and versions only where a log was made by others.
+// A memtable with a run. Only where others made the log may the run have keys and versions that the memtable has.
 fn with_run(memtable: &Memtable, run: Run) -> Result<Memtable, AllocError>
     requires { 0 < length run }
     ensures { IfOk result (λ with. with.entries ≡ in_order (run ++ memtable.now.entries)) }
@@ -125,6 +127,7 @@ fn with_run(memtable: &Memtable, run: Run) -> Result<Memtable, AllocError>
     }
 }
 
+// Whether a memtable has none of a run's keys and versions.
 fn is_new_to(memtable: &Memtable, run: &Run) -> bool
     ensures { IsTrue result → IsNewTo memtable.now.entries run.now }
 {
