@@ -13,7 +13,7 @@ use Rattle.vl_disk.specs.declared.name.Name.{Name}
 use Rattle.vl_disk.specs.declared.name.Name.TheVariants.{Log, Table, Manifest}
 use Rattle.vl_manifest.specs.declared.state.ManifestState.{ManifestState}
 use Rattle.vl_recover.specs.Answers.{AreStrayNames, IsStrayName}
-use Rattle.vl_recover.specs.Finding.{IsFound, greatest_of}
+use Rattle.vl_recover.specs.Finding.{IsFound, IsUpTo, greatest_of}
 use Rattle.vl_recover.specs.LogsSoFar.{AreLogsRead, walk_of}
 use Rattle.vl_recover.specs.Named.{AreGreatestIn, IsGreatestIn, is_stray}
 use Rattle.vl_recover.specs.Opening.{Current, LogsFrom, Opening, Refusal, opening_of}
@@ -125,6 +125,6 @@ module _ (image : Image) (state : ManifestState) (current : Current image (Ok st
       }
 
 pub numbered_last : (names : List Name) (greatest : GreatestNumbers) → AreGreatestIn names (greatest_of greatest) → (last : Option LastLog)
-    → IfSome last (λ q. Contains names (Log q.number)) → IfSome last (λ q. q.number ≤ greatest.log)
+    → IfSome last (λ q. Contains names (Log q.number)) → IsUpTo greatest.log last
 numbered_last names greatest are None named = tt
 numbered_last names greatest are (Some q) named = are.log.above q.number named

@@ -42,6 +42,11 @@ last_log q = record {
   has_frames = has_some q.reading.frames;
 }
 
+-- the last log, where there is one, is no greater than the greatest
+abbrev pub IsUpTo : ℕ → Option LastLog → Type 0
+IsUpTo greatest None = Unit {0}
+IsUpTo greatest (Some last) = last.number ≤ greatest
+
 -- ---- all of it
 
 -- what was found is what the image has

@@ -6,15 +6,21 @@
 
 mod counting;
 mod current;
+mod deciding;
 mod entries;
 mod fails;
 mod finding;
 mod found;
 mod frame_length;
+mod last;
 mod logs;
 mod memtables;
+mod mending;
 mod names;
 mod parts;
+mod plan;
+mod prepared;
+mod preparing;
 mod reading;
 mod recovering;
 
