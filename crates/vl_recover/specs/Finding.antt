@@ -1,5 +1,5 @@
 -- What the reading half of an opening gives to the half that mends.
-use Rattle.std.specs.Prelude.{◌≡◌, ◌≤◌, Bool, true, false, List, [], ◌∷◌, map, Option, None, Some, Result, Ok, Err}
+use Rattle.std.specs.Prelude.{◌≡◌, ◌≤◌, ℕ, Bool, true, false, List, [], ◌∷◌, map, Option, None, Some, Result, Ok, Err}
 use Rattle.std.specs.Option.{option_map}
 use Rattle.vl_disk.specs.Crash.{Image}
 use Rattle.vl_model.specs.Limits.{max_file_number}
