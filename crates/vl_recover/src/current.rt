@@ -1,5 +1,5 @@
 // The current manifest, or what stands in its place.
-ghost use Rattle.std.specs.Prelude.{◌≡◌, All, Some};
+ghost use Rattle.std.specs.Prelude.{◌≡◌, All, Some, IfErr};
 ghost use Rattle.std.specs.Option.{ForSome};
 ghost use Rattle.vl_disk.specs.Calls.{ChangesNothing};
 ghost use Rattle.vl_disk.specs.Crash.{Image};
@@ -7,7 +7,7 @@ ghost use Rattle.vl_disk.specs.Disk.{Lists};
 ghost use Rattle.vl_disk.specs.DiskState.{DiskState};
 ghost use Rattle.vl_disk.specs.Name.{IsNumbered};
 ghost use Rattle.vl_disk.specs.Started.{IsRead};
-ghost use Rattle.vl_recover.specs.Finding.{IsFault, greatest_of};
+ghost use Rattle.vl_recover.specs.Finding.{IsFault, IsFaultAt, greatest_of};
 ghost use Rattle.vl_recover.specs.Leading.{AnswersStage, IsNewestWith, heading_without};
 ghost use Rattle.vl_recover.specs.Named.{AreGreatestIn};
 ghost use Rattle.vl_recover.specs.Opening.{Current, Led, Says};
@@ -33,6 +33,7 @@ pub fn current_state<D: Disk>(
     requires greatest { AreGreatestIn names.now (greatest_of greatest) }
     ensures says { (state : DiskState) (read : Image) → D.told disk.old ≡ Some state → IsRead read state
         → AnswersStage (Current read) result }
+    ensures at { IfErr result (IsFaultAt (D.told disk.old)) }
     ensures no_change { ChangesNothing D.Watched disk.old disk.new (IsFault result) }
 {
     let mut above = u32::MAX;

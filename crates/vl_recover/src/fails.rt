@@ -15,8 +15,8 @@ pub enum Why {
     Exhausted(Counter),
     /// Memory ran out. Nothing was changed.
     NoMemory,
-    /// The disk failed at this file, or where there is none at listing the files.
-    Disk { name: Option<Name> },
+    /// The disk failed at this file; at listing the files, where it is the manifest with number 0, which is none.
+    Disk { name: Name },
 }
 
 impl From<AllocError> for Why {

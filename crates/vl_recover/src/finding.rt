@@ -1,4 +1,4 @@
-ghost use Rattle.std.specs.Prelude.{◌≡◌, All, Contains, Ok, Some, IfOk, IfSome};
+ghost use Rattle.std.specs.Prelude.{◌≡◌, All, Contains, Ok, Some, IfErr, IfOk, IfSome};
 ghost use Rattle.vl_disk.specs.Calls.{ChangesNothing};
 ghost use Rattle.vl_disk.specs.Crash.{Image};
 ghost use Rattle.vl_disk.specs.Disk.{Lists};
@@ -6,7 +6,7 @@ ghost use Rattle.vl_disk.specs.DiskState.{DiskState};
 ghost use Rattle.vl_disk.specs.Name.{IsNumbered};
 ghost use Rattle.vl_disk.specs.Started.{IsRead};
 ghost use Rattle.vl_disk.specs.declared.name.Name.TheVariants as kinds;
-ghost use Rattle.vl_recover.specs.Finding.{AreFileNumbers, FindsSo, IsFault, IsUpTo, greatest_of};
+ghost use Rattle.vl_recover.specs.Finding.{AreFileNumbers, FindsSo, IsFault, IsFaultAt, IsUpTo, greatest_of};
 ghost use Rattle.vl_recover.specs.LogsSoFar.{AreLogsRead};
 ghost use Rattle.vl_recover.specs.Named.{AreGreatestIn};
 ghost use Rattle.vl_recover.specs.Opening.{Current};
@@ -27,6 +27,7 @@ pub(crate) fn find<D: Disk>(alloc: Global, disk: &mut D) -> Result<Found, Why>
         → FindsSo read result }
     ensures numbers { IfOk result (λ found. AreFileNumbers found.greatest) }
     ensures last { IfOk result (λ found. IsUpTo found.greatest.log found.last) }
+    ensures at { IfErr result (IsFaultAt (D.told disk.old)) }
     ensures no_change { ChangesNothing D.Watched disk.old disk.new (IsFault result) }
 {
     let names = list_names(alloc, disk)?;

@@ -11,7 +11,7 @@ ghost use Rattle.vl_disk.specs.declared.name.Name.TheVariants as kinds;
 ghost use Rattle.vl_layout.specs.Logs.{new_segment};
 ghost use Rattle.vl_recover.specs.Answers.{held_log};
 ghost use Rattle.vl_recover.specs.Counting.{walked_log};
-ghost use Rattle.vl_recover.specs.Finding.{IsFault};
+ghost use Rattle.vl_recover.specs.Finding.{IsFault, IsFaultAt};
 ghost use Rattle.vl_recover.specs.LogsSoFar.{AreLogsRead, IsExcused, IsReadOn, IsWith, walk_of};
 ghost use Rattle.vl_recover.specs.ReadLogs.{IsLogRead, frames_of, standing_log};
 ghost use Rattle.vl_recover.specs.Results.{frozen_log};
@@ -41,6 +41,7 @@ pub fn read_logs<D: Disk>(
         → IfOk result (AreLogsRead read head covered) }
     ensures last { IfOk result (λ logs. IfSome logs.last (λ q. Contains names.now (kinds.Log q.number))) }
     ensures excused { IfErr result IsExcused }
+    ensures at { IfErr result (IsFaultAt (D.told disk.old)) }
     ensures no_change { ChangesNothing D.Watched disk.old disk.new (IsFault result) }
 {
     let mut so_far = LogsRead {
@@ -70,6 +71,7 @@ fn with_next<D: Disk>(
         → IfOk result (IsReadOn read number followed so_far) }
     ensures last { IfOk result (λ logs. IfSome logs.last (λ q. q.number ≡ number)) }
     ensures excused { IfErr result IsExcused }
+    ensures at { IfErr result (IsFaultAt (D.told disk.old)) }
     ensures no_change { ChangesNothing D.Watched disk.old disk.new (IsFault result) }
 {
     let bytes = read_whole(alloc, disk, Name::Log(number))?;
