@@ -14,7 +14,7 @@ use Rattle.vl_disk.specs.declared.name.Name.TheVariants.{Log, Table, Manifest}
 use Rattle.vl_manifest.specs.declared.state.ManifestState.{ManifestState}
 use Rattle.vl_recover.specs.Answers.{AreStrayNames, IsStrayName}
 use Rattle.vl_recover.specs.Finding.{IsFound, IsUpTo, greatest_of}
-use Rattle.vl_recover.specs.LogsSoFar.{AreLogsRead, walk_of}
+use Rattle.vl_recover.specs.LogsSoFar.{AreLogsFound, walk_of}
 use Rattle.vl_recover.specs.Named.{AreGreatestIn, IsGreatestIn, is_stray}
 use Rattle.vl_recover.specs.Opening.{Current, LogsFrom, Opening, Refusal, opening_of}
 use Rattle.vl_recover.specs.Plans.{AreGreatest, Greatest, IsGreatest}
@@ -22,7 +22,7 @@ use Rattle.vl_recover.specs.Walk.{LogDamage, filled}
 use Rattle.vl_recover.specs.declared.found.Found.{Found}
 use Rattle.vl_recover.specs.declared.found.GreatestNumbers.{GreatestNumbers}
 use Rattle.vl_recover.specs.declared.found.LastLog.{LastLog}
-use Rattle.vl_recover.specs.declared.found.LogsRead.{LogsRead}
+use Rattle.vl_recover.specs.declared.found.LogsFound.{LogsFound}
 use Rattle.vl_recover.proofs.Looking.{given}
 use Rattle.vl_recover.proofs.ReadingLogs.{listed, not_named}
 
@@ -96,7 +96,7 @@ module _ (image : Image) (names : List Name) (named : (name : Name) → IsSome (
 
 -- ---- the two stages together
 
-module _ (image : Image) (state : ManifestState) (current : Current image (Ok state)) (logs : LogsRead) (read : AreLogsRead image state.head state.covered logs) where
+module _ (image : Image) (state : ManifestState) (current : Current image (Ok state)) (logs : LogsFound) (read : AreLogsFound image state.head state.covered logs) where
   opens_so : (r : Result ℕ LogDamage) → walk_of logs.number ≡ r → (o : Result Opening Refusal) → o ≡ opening_of state read.logs r → LogsFrom image state o
   opens_so r is o opening = (read.logs, read.standing, opening ∙ ap (opening_of state read.logs) (sym is ∙ read.are_read.number))
 

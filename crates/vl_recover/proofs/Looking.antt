@@ -18,7 +18,7 @@ use Rattle.vl_manifest.specs.declared.state.ManifestState.{ManifestState}
 use Rattle.vl_recover.specs.declared.fails.Why.{Why}
 use Rattle.vl_recover.specs.declared.fails.Why.TheVariants as why
 use Rattle.vl_recover.specs.Leading.{AnswersStage, ArePassed, IsNewestDownTo, IsNewestWith, headed_by, heading_without}
-use Rattle.vl_recover.specs.LogsSoFar.{IsExcused}
+use Rattle.vl_recover.specs.Finding.{IsExcused}
 use Rattle.vl_recover.specs.Named.{AreGreatestIn, IsGreatestOf, IsManifestBelow}
 use Rattle.vl_recover.specs.Opening.{Bare, Current, Heading, IsHeaded, Refusal, Says}
 use Rattle.vl_recover.specs.Plans.{Greatest}

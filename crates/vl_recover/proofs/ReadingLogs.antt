@@ -20,7 +20,7 @@ use Rattle.vl_model.specs.declared.log_frame.LogFrame.{LogFrame}
 use Rattle.vl_recover.specs.Answers.{HeldLog, held_log}
 use Rattle.vl_recover.specs.Counting.{walked_before, walked_by, walked_log}
 use Rattle.vl_recover.specs.Finding.{last_log, last_of}
-use Rattle.vl_recover.specs.LogsSoFar.{AreLogsRead, AreReadSoFar, IsReadOn, IsWith, walk_of}
+use Rattle.vl_recover.specs.LogsSoFar.{AreLogsFound, AreReadSoFar, FindsOneMore, HasOneMore, walk_of}
 use Rattle.vl_recover.specs.Named.{IsLeastOf, IsLogFrom}
 use Rattle.vl_recover.specs.Opening.{IsNextLog, StandingLogs}
 use Rattle.vl_recover.specs.ReadLogs.{IsLogRead, frames_of}
@@ -29,7 +29,7 @@ use Rattle.vl_recover.specs.Results.{frozen_log}
 use Rattle.vl_recover.specs.Stages.{on_ok}
 use Rattle.vl_recover.specs.Walk.{LogDamage, StandingLog, content_end, counted_whole, filled, in_log, walked_on, with_frames}
 use Rattle.vl_recover.specs.declared.found.LastLog.{LastLog}
-use Rattle.vl_recover.specs.declared.found.LogsRead.{LogsRead}
+use Rattle.vl_recover.specs.declared.found.LogsFound.{LogsFound}
 use Rattle.vl_seglog.specs.declared.frame.Frame.{Frame}
 use Rattle.vl_seglog.specs.declared.reading.LogRead.{LogRead}
 use Rattle.vl_seglog.specs.Frames.{frames_grammar}
@@ -111,13 +111,13 @@ last_of-push [] q = refl
 last_of-push (p ∷ []) q = refl
 last_of-push (p ∷ r ∷ rs) q = last_of-push (r ∷ rs) q
 
-so_far_more : (covered : ℕ) (followed : Bool) (logs : List StandingLog) (log : StandingLog) (old new : LogsRead)
-    → AreReadSoFar covered true logs old → IsWith log followed old new → AreReadSoFar covered followed (logs ++ log ∷ []) new
-so_far_more covered followed logs log old new so with_it = record {
-  number = with_it.number ∙ ap (λ (x : Result ℕ LogDamage). walked_log followed x log) so.number ∙ sym (walked_more followed covered logs log);
-  frozen = with_it.frozen ∙ ap (λ (hs : List HeldLog). hs ++ map held_log (filled (log ∷ []))) so.frozen
+so_far_more : (covered : ℕ) (followed : Bool) (logs : List StandingLog) (log : StandingLog) (old new : LogsFound)
+    → AreReadSoFar covered true logs old → HasOneMore log followed old new → AreReadSoFar covered followed (logs ++ log ∷ []) new
+so_far_more covered followed logs log old new so one_more = record {
+  number = one_more.number ∙ ap (λ (x : Result ℕ LogDamage). walked_log followed x log) so.number ∙ sym (walked_more followed covered logs log);
+  frozen = one_more.frozen ∙ ap (λ (hs : List HeldLog). hs ++ map held_log (filled (log ∷ []))) so.frozen
       ∙ sym (map-append held_log (filled logs) (filled (log ∷ []))) ∙ ap (map held_log) (sym (filled-append logs (log ∷ [])));
-  last = with_it.last ∙ ap (option_map last_log) (sym (last_of-push logs log));
+  last = one_more.last ∙ ap (option_map last_log) (sym (last_of-push logs log));
 }
 
 -- ---- the logs of an image, a log at a time
@@ -138,7 +138,7 @@ follows names least None none = none
 follows names least (Some n) is = (n, is.0)
 
 -- the logs before a number were read
-pub record AreReadUpTo (image : Image) (names : List Name) (head covered least : ℕ) (read : LogsRead) : Type 0 where
+pub record AreReadUpTo (image : Image) (names : List Name) (head covered least : ℕ) (read : LogsFound) : Type 0 where
   pub logs : List StandingLog
   pub standing : (rest : List StandingLog) → StandingLogs image least rest → StandingLogs image head (logs ++ rest)
   pub so_far : (followed : Bool) → IsFollowed names least followed → AreReadSoFar covered followed logs read
@@ -151,7 +151,7 @@ module _ (image : Image) (names : List Name) (named : (name : Name) → IsSome (
       by None is = refl
       by (Some bytes) is = absurd (none (named name (subst IsSome (sym is) refl)))
 
-  pub none_read : (head covered : ℕ) (read : LogsRead) → read.number ≡ Ok covered → read.frozen.items ≡ [] → read.last ≡ None → AreReadUpTo image names head covered head read
+  pub none_read : (head covered : ℕ) (read : LogsFound) → read.number ≡ Ok covered → read.frozen.items ≡ [] → read.last ≡ None → AreReadUpTo image names head covered head read
   none_read head covered read number frozen last = record {
     logs = [];
     standing = λ rest standing. standing;
@@ -162,16 +162,16 @@ module _ (image : Image) (names : List Name) (named : (name : Name) → IsSome (
     };
   }
 
-  pub one_read : (head covered least number : ℕ) (next : Option ℕ) (followed : Bool) (old new : LogsRead) → AreReadUpTo image names head covered least old
+  pub one_read : (head covered least number : ℕ) (next : Option ℕ) (followed : Bool) (old new : LogsFound) → AreReadUpTo image names head covered least old
       → IsLeastOf (IsLogFrom names least) (Some number) → IsLeastOf (IsLogFrom names (number + 1)) next → followed ≡ is_some next
-      → IsReadOn image number followed old new → AreReadUpTo image names head covered (number + 1) new
+      → FindsOneMore image number followed old new → AreReadUpTo image names head covered (number + 1) new
   one_read head covered least number next followed old new so first second is on = record {
     logs = so.logs ++ on.log ∷ [];
     standing = λ rest standing. subst (StandingLogs image head) (sym (append_assoc so.logs (on.log ∷ []) rest))
         (so.standing (on.log ∷ rest) (here, subst (λ (n : ℕ). StandingLogs image (n + 1) rest) (sym on.number_is) standing));
     so_far = λ other is_other. subst (λ (b : Bool). AreReadSoFar covered b (so.logs ++ on.log ∷ []) new)
         (is ∙ one_or_none names (number + 1) (is_some next) other (follows names (number + 1) next second) is_other)
-        (so_far_more covered followed so.logs on.log old new (so.so_far true (number, first.0)) on.with_it);
+        (so_far_more covered followed so.logs on.log old new (so.so_far true (number, first.0)) on.one_more);
   }
     where
       here : IsNextLog image least on.log
@@ -184,7 +184,7 @@ module _ (image : Image) (names : List Name) (named : (name : Name) → IsSome (
         reads = subst (λ (n : ℕ). ReadsLog n on.bytes on.log.reading) (sym on.number_is) on.reads;
       }
 
-  pub all_read : (head covered least : ℕ) (read : LogsRead) → AreReadUpTo image names head covered least read → IsLeastOf (IsLogFrom names least) None → AreLogsRead image head covered read
+  pub all_read : (head covered least : ℕ) (read : LogsFound) → AreReadUpTo image names head covered least read → IsLeastOf (IsLogFrom names least) None → AreLogsFound image head covered read
   all_read head covered least read so none = record {
     logs = so.logs;
     standing = subst (StandingLogs image head) (append-nil so.logs) (so.standing [] (λ m above. not_named (Log m) (λ c. none m (c, above))));

@@ -73,6 +73,15 @@ abbrev pub IsFault : {A : Type 0} → Result A Why → Type 0
 IsFault (Ok a) = ⊥
 IsFault (Err why) = HasFailed (came_by why)
 
+-- memory ran out, or the disk failed
+abbrev pub IsExcused : Why → Type 0
+IsExcused why.NotAStore = ⊥
+IsExcused (why.NewerFormat format) = ⊥
+IsExcused (why.Damaged name place) = ⊥
+IsExcused (why.Exhausted counter) = ⊥
+IsExcused why.NoMemory = Unit {0}
+IsExcused (why.Disk name) = Unit {0}
+
 -- where the disk failed while it was only read: at a file that stands, or at listing the files
 abbrev pub IsFaultAt : Option DiskState → Why → Type 0
 IsFaultAt told why.NotAStore = Unit {0}

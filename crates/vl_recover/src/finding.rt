@@ -7,13 +7,13 @@ ghost use Rattle.vl_disk.specs.Name.{IsNumbered};
 ghost use Rattle.vl_disk.specs.Started.{IsRead};
 ghost use Rattle.vl_disk.specs.declared.name.Name.TheVariants as kinds;
 ghost use Rattle.vl_recover.specs.Finding.{AreFileNumbers, FindsSo, IsFault, IsFaultAt, IsUpTo, greatest_of};
-ghost use Rattle.vl_recover.specs.LogsSoFar.{AreLogsRead};
+ghost use Rattle.vl_recover.specs.LogsSoFar.{AreLogsFound};
 ghost use Rattle.vl_recover.specs.Named.{AreGreatestIn};
 ghost use Rattle.vl_recover.specs.Opening.{Current};
 
 use crate::Why;
 use crate::current::current_state;
-use crate::found::{Found, GreatestNumbers, LogsRead};
+use crate::found::{Found, GreatestNumbers, LogsFound};
 use crate::logs::read_logs;
 use crate::names::{greatest_numbers, strays};
 use crate::reading::list_names;
@@ -42,13 +42,13 @@ fn found(
     names: Vec<Name>,
     greatest: GreatestNumbers,
     state: ManifestState,
-    logs: LogsRead,
+    logs: LogsFound,
 ) -> Result<Found, Why>
     requires greatest { AreGreatestIn names.items (greatest_of greatest) }
     requires numbered { All IsNumbered names.items }
     requires last { IfSome logs.last (λ q. Contains names.items (kinds.Log q.number)) }
     ensures answer { (disk : DiskState) (read : Image) → IsRead read disk → Lists names.items disk
-        → Current read (Ok state) → AreLogsRead read state.head state.covered logs → FindsSo read result }
+        → Current read (Ok state) → AreLogsFound read state.head state.covered logs → FindsSo read result }
     ensures numbers { IfOk result (λ found. AreFileNumbers found.greatest) }
     ensures last { IfOk result (λ found. IsUpTo found.greatest.log found.last) }
     ensures no_fault { IsFault result → ⊥ }

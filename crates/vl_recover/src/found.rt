@@ -48,7 +48,7 @@ pub(crate) struct DamagePlace {
 
 /// What logs come to that were read one after the other.
 #[derive(Drop)]
-pub(crate) struct LogsRead {
+pub(crate) struct LogsFound {
     /// Of the last commit; or the first damage, behind which they were read all the same.
     pub number: Result<u64, DamagePlace>,
     pub frozen: Vec<FrozenLog>,

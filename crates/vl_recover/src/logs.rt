@@ -11,13 +11,13 @@ ghost use Rattle.vl_disk.specs.declared.name.Name.TheVariants as kinds;
 ghost use Rattle.vl_layout.specs.Logs.{new_segment};
 ghost use Rattle.vl_recover.specs.Answers.{held_log};
 ghost use Rattle.vl_recover.specs.Counting.{walked_log};
-ghost use Rattle.vl_recover.specs.Finding.{IsFault, IsFaultAt};
-ghost use Rattle.vl_recover.specs.LogsSoFar.{AreLogsRead, IsExcused, IsReadOn, IsWith, walk_of};
+ghost use Rattle.vl_recover.specs.Finding.{IsExcused, IsFault, IsFaultAt};
+ghost use Rattle.vl_recover.specs.LogsSoFar.{AreLogsFound, FindsOneMore, HasOneMore, walk_of};
 ghost use Rattle.vl_recover.specs.ReadLogs.{IsLogRead, frames_of, standing_log};
 ghost use Rattle.vl_recover.specs.Results.{frozen_log};
 
 use crate::counting::count_log;
-use crate::found::{DamagePlace, LastLog, LogsRead};
+use crate::found::{DamagePlace, LastLog, LogsFound};
 use crate::memtables::memtable_of;
 use crate::names::next_log;
 use crate::reading::read_whole;
@@ -34,17 +34,17 @@ pub fn read_logs<D: Disk>(
     names: &[Name],
     head: u32,
     covered: u64,
-) -> Result<LogsRead, Why>
+) -> Result<LogsFound, Why>
     requires lists { ForSome (D.told disk.old) (Lists names.now) }
     requires numbered { All IsNumbered names.now }
     ensures reads { (state : DiskState) (read : Image) → D.told disk.old ≡ Some state → IsRead read state
-        → IfOk result (AreLogsRead read head covered) }
+        → IfOk result (AreLogsFound read head covered) }
     ensures last { IfOk result (λ logs. IfSome logs.last (λ q. Contains names.now (kinds.Log q.number))) }
     ensures excused { IfErr result IsExcused }
     ensures at { IfErr result (IsFaultAt (D.told disk.old)) }
     ensures no_change { ChangesNothing D.Watched disk.old disk.new (IsFault result) }
 {
-    let mut so_far = LogsRead {
+    let mut so_far = LogsFound {
         number: Ok(covered),
         frozen: Vec::new(alloc),
         last: None,
@@ -62,13 +62,13 @@ pub fn read_logs<D: Disk>(
 fn with_next<D: Disk>(
     alloc: Global,
     disk: &mut D,
-    so_far: LogsRead,
+    so_far: LogsFound,
     number: u32,
     followed: bool,
-) -> Result<LogsRead, Why>
+) -> Result<LogsFound, Why>
     requires { ForSome (D.told disk.old) (Stands (kinds.Log number)) }
     ensures reads { (state : DiskState) (read : Image) → D.told disk.old ≡ Some state → IsRead read state
-        → IfOk result (IsReadOn read number followed so_far) }
+        → IfOk result (FindsOneMore read number followed so_far) }
     ensures last { IfOk result (λ logs. IfSome logs.last (λ q. q.number ≡ number)) }
     ensures excused { IfErr result IsExcused }
     ensures at { IfErr result (IsFaultAt (D.told disk.old)) }
@@ -84,14 +84,14 @@ fn with_next<D: Disk>(
 // With a log more, of this number and length.
 fn with_log(
     alloc: Global,
-    so_far: LogsRead,
+    so_far: LogsFound,
     number: u32,
     length: u64,
     log: &LogRead,
     followed: bool,
-) -> Result<LogsRead, AllocError>
+) -> Result<LogsFound, AllocError>
     requires { IsLogRead log.now }
-    ensures { IfOk result (IsWith (standing_log number length log.now) followed so_far) }
+    ensures { IfOk result (HasOneMore (standing_log number length log.now) followed so_far) }
 {
     let count = count_on(so_far.number, number, log, followed);
     let has_frames = !log.frames.is_empty();
@@ -100,7 +100,7 @@ fn with_log(
     } else {
         so_far.frozen
     };
-    Ok(LogsRead {
+    Ok(LogsFound {
         number: count,
         frozen,
         last: Some(LastLog {

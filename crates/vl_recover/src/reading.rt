@@ -5,8 +5,7 @@ ghost use Rattle.vl_disk.specs.Calls.{ChangesNothing};
 ghost use Rattle.vl_disk.specs.Disk.{Lists, Stands};
 ghost use Rattle.vl_disk.specs.DiskState.{file_at};
 ghost use Rattle.vl_disk.specs.Name.{IsNumbered};
-ghost use Rattle.vl_recover.specs.Finding.{IsFault, IsFaultAt};
-ghost use Rattle.vl_recover.specs.LogsSoFar.{IsExcused};
+ghost use Rattle.vl_recover.specs.Finding.{IsExcused, IsFault, IsFaultAt};
 
 use crate::Why;
 use std::alloc::Global;
