@@ -29,4 +29,5 @@ pub mod Starts
 pub mod StraysLaws
 pub mod Torn
 pub mod TornLaws
+pub mod TornManifest
 pub mod Walk

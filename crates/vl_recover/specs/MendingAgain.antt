@@ -43,6 +43,11 @@ pub record StandsWell (head : ℕ) (disk : DiskState) : Type 0 where
 pub leads_may_open : (number : ℕ) (s : ManifestState) (disk : DiskState) → IsLawful disk → Leads number s disk → StandsWell s.head disk → MayOpen disk
 leads_may_open number s disk lawful leads well = may_open_by s disk lawful (leads_holds number s disk leads) well.kept well.files well.sealed
 
+-- a mending is under way behind the new manifest
+pub record GoesWell (number : ℕ) (s : ManifestState) (disk : DiskState) : Type 0 where
+  pub leads : Leads number s disk
+  pub well : StandsWell s.head disk
+
 -- where one name changes, the files under the others may stand as before
 files_kept : (name : Name) (old now : DiskState) → SameElsewhere name old now → AllMayStand old → ((file : File) → get now.standing name ≡ Some file → MayStand name file) → AllMayStand now
 files_kept name old now same files there other file stands = ⊎_elim
@@ -84,17 +89,21 @@ top_well head k old now same above below never there well = record {
 
 -- ---- the last log
 
-pub last_well : (s : ManifestState) (logs : List StandingLog) (disk now : DiskState) → StandsWell s.head disk → StandUpTo LastStands s.head logs disk
-    → WhileLast (last_of logs) disk now → StandsWell s.head now
-last_well s [] disk now well stand during = absurd during
-last_well s (q ∷ qs) disk now well stand during =
+pub last_well : (number : ℕ) (s : ManifestState) (logs : List StandingLog) (disk now : DiskState) → GoesWell number s disk → StandUpTo LastStands s.head logs disk
+    → WhileLast (last_of logs) disk now → GoesWell number s now
+last_well number s [] disk now goes stand during = absurd during
+last_well number s (q ∷ qs) disk now goes stand during =
     let k = (the_last q qs).number in
     let last = last_stands LastStands s.head q qs disk stand in
     let here = as_mending (the_last q qs) disk last.holds now (subst (λ (l : LastLog). WhileLast l disk now) (last_is q qs) during) in
     let there = last.holds.stands in
-    top_well s.head k disk now here.elsewhere last.above (λ m file from less stands. well.sealed m k file from less (λ none. some_none last.holds.file (sym there ∙ none)) stands)
-    (here.removed ∙ well.kept k last.from)
-    (λ file stands. subst (MayStand (Log k)) (some_same here.file file (sym here.stands ∙ stands)) here.may) well
+    record {
+      leads = leads_kept number s (Log k) disk now here.elsewhere (λ m from. manifest_log m k) goes.leads;
+      well = top_well s.head k disk now here.elsewhere last.above
+          (λ m file from less stands. goes.well.sealed m k file from less (λ none. some_none last.holds.file (sym there ∙ none)) stands)
+          (here.removed ∙ goes.well.kept k last.from)
+          (λ file stands. subst (MayStand (Log k)) (some_same here.file file (sym here.stands ∙ stands)) here.may) goes.well;
+    }
 
 -- ---- the new log
 
@@ -109,15 +118,12 @@ header_part k file (part_some taken) = record {
   headless = λ wrong. All-cons (λ (piece : Piece). piece.place + length piece.bytes ≤ 16) (record { place = 0; bytes = log_header k }) [] (omega arith) (All-nil (λ (piece : Piece). piece.place + length piece.bytes ≤ 16));
 }
 
--- of a file that stands none was removed
-never_there : (name : Name) (disk : DiskState) (file : File) → IsLawful disk → get disk.standing name ≡ Some file → get disk.removed name ≡ None
-never_there name disk file lawful stands = lawful.apart name file stands
-
-pub log_well : (s : ManifestState) (new : Option ℕ) (disk now : DiskState) → IsLawful now → ((k : ℕ) → new ≡ Some k → IsFreeFrom s.head k disk)
-    → ((m : ℕ) (file : File) → s.head ≤ m → get disk.standing (Log m) ≡ Some file → file ≡ settled file.bytes) → StandsWell s.head disk
-    → WhileLog new disk now → StandsWell s.head now
-log_well s None disk now lawful free all well during = absurd during
-log_well s (Some k) disk now lawful free all well during = by (making (Log k) (log_header k) disk now during)
+pub log_well : (number : ℕ) (s : ManifestState) (new : Option ℕ) (disk now : DiskState)
+    → ((k : ℕ) (file : File) → new ≡ Some k → get now.standing (Log k) ≡ Some file → get now.removed (Log k) ≡ None) → ((k : ℕ) → new ≡ Some k → IsFreeFrom s.head k disk)
+    → ((m : ℕ) (file : File) → s.head ≤ m → get disk.standing (Log m) ≡ Some file → file ≡ settled file.bytes) → GoesWell number s disk
+    → WhileLog new disk now → GoesWell number s now
+log_well number s None disk now never free all goes during = absurd during
+log_well number s (Some k) disk now never free all goes during = by (making (Log k) (log_header k) disk now during)
   where
     below : AreSealedBelow s.head k disk
     below m file from less stands = (let is = all m file from stands in (ap (λ (f : File). f.wholly_synced) is, ap (λ (f : File). f.lasting) is))
@@ -125,33 +131,40 @@ log_well s (Some k) disk now lawful free all well during = by (making (Log k) (l
     above : (m : ℕ) → k < m → IsNowhere disk (Log m)
     above m less = (free k refl).nowhere m (omega (arith, less))
 
-    with_file_there : (file : File) → get now.standing (Log k) ≡ Some file → MayStand (Log k) file → SameElsewhere (Log k) disk now → StandsWell s.head now
-    with_file_there file stands may same = top_well s.head k disk now same above below (never_there (Log k) now file lawful stands)
-        (λ other is. subst (MayStand (Log k)) (some_same file other (sym stands ∙ is)) may) well
+    with_file_there : (file : File) → get now.standing (Log k) ≡ Some file → MayStand (Log k) file → SameElsewhere (Log k) disk now → GoesWell number s now
+    with_file_there file stands may same = record {
+      leads = leads_kept number s (Log k) disk now same (λ m from. manifest_log m k) goes.leads;
+      well = top_well s.head k disk now same above below (never k file refl stands)
+          (λ other is. subst (MayStand (Log k)) (some_same file other (sym stands ∙ is)) may) goes.well;
+    }
 
-    by : Making (Log k) (log_header k) disk now → StandsWell s.head now
-    by (waits same) = subst (StandsWell s.head) (sym same) well
+    by : Making (Log k) (log_header k) disk now → GoesWell number s now
+    by (waits same) = subst (GoesWell number s) (sym same) goes
     by (torn file part stands same) = with_file_there file stands (header_part k file part) same
     by (done stands same) = with_file_there (settled (log_header k)) stands (settled_may_stand (Log k) (log_header k)) same
 
 -- ---- the strays
 
-pub strays_well : (number : ℕ) (s : ManifestState) (names : List Name) (disk now : DiskState) → Leads number s disk → AreSpare number s.head disk names
-    → AllPairs (λ a b. a ≢ b) names → StandsWell s.head disk → WhileStrays names disk now → Leads number s now × StandsWell s.head now
-strays_well number s [] disk now leads spare once well during = absurd during
-strays_well number s (name ∷ names) disk now leads spare once well during =
-    let first = spare name (0, omega arith, refl) in
-    let same = without_elsewhere name disk in
-    let leads_less = leads_kept number s name disk (without name disk) same first.lower leads in
-    let gone : (file : File) → get (without name disk).standing name ≡ Some file → MayStand name file = λ file stands. absurd (some_none file (sym stands ∙ get_removed disk.standing name)) in
-    let less = below_well s.head name disk (without name disk) same first.below gone well in
+-- a stray is gone
+without_well : (number : ℕ) (s : ManifestState) (name : Name) (disk : DiskState) → IsSpare number s.head disk name → GoesWell number s disk → GoesWell number s (without name disk)
+without_well number s name disk spare goes = record {
+  leads = leads_kept number s name disk (without name disk) (without_elsewhere name disk) spare.lower goes.leads;
+  well = below_well s.head name disk (without name disk) (without_elsewhere name disk) spare.below
+      (λ file stands. absurd (some_none file (sym stands ∙ get_removed disk.standing name))) goes.well;
+}
+
+pub strays_well : (number : ℕ) (s : ManifestState) (names : List Name) (disk now : DiskState) → AreSpare number s.head disk names
+    → AllPairs (λ a b. a ≢ b) names → GoesWell number s disk → WhileStrays names disk now → GoesWell number s now
+strays_well number s [] disk now spare once goes during = absurd during
+strays_well number s (name ∷ names) disk now spare once goes during =
+    let less = without_well number s name disk (spare name (0, omega arith, refl)) goes in
     ⊎_elim
     (λ (w : WhileRemoving name disk now). ⊎_elim
-        (λ (waits : now ≡ disk). subst (λ (d : DiskState). Leads number s d × StandsWell s.head d) (sym waits) (leads, well))
-        (λ (turns : now ≡ without name disk). subst (λ (d : DiskState). Leads number s d × StandsWell s.head d) (sym turns) (leads_less, less))
+        (λ (waits : now ≡ disk). subst (GoesWell number s) (sym waits) goes)
+        (λ (turns : now ≡ without name disk). subst (GoesWell number s) (sym turns) less)
         w)
-    (λ (w : WhileStrays names (without name disk) now). strays_well number s names (without name disk) now leads_less
-        (λ other (k, within, is). spare_kept number s.head name disk (without name disk) same other (rest_apart name names once other (k, within, is))
+    (λ (w : WhileStrays names (without name disk) now). strays_well number s names (without name disk) now
+        (λ other (k, within, is). spare_kept number s.head name disk (without name disk) (without_elsewhere name disk) other (rest_apart name names once other (k, within, is))
           (spare other (suc k, omega (arith, within), is)))
         (rest_once name names once) less w)
     during

@@ -24,7 +24,7 @@ use Rattle.vl_recover.specs.LastLaws.{IsWritten, LastStands}
 use Rattle.vl_recover.specs.LeadsLaws.{Leads, leads_holds, nowhere_kept}
 use Rattle.vl_recover.specs.LogsLaws.{IsTheLast, MayMend, StandUpTo, last_kept, last_stands, stand_kept, stand_read, the_last, written_held, written_whole}
 use Rattle.vl_recover.specs.Mending.{IsPlan, Plan, WhileMending, at_last, at_log, at_manifest, at_strays, last_of, mended, plan_of, with_last, with_log, with_manifest}
-use Rattle.vl_recover.specs.MendingStages.{IsBelow, held_settled, settled_is, LastStage, LogStage, SameBelow, below_then, last_stage, log_stage, made_free, spare_below, still_stands}
+use Rattle.vl_recover.specs.MendingStages.{IsBelow, IsFreeFrom, held_settled, settled_is, LastStage, LogStage, SameBelow, below_then, last_stage, log_stage, made_free, spare_below, still_stands}
 use Rattle.vl_recover.specs.MendingStart.{all_say, found_walk, free_unread, log_below, manifest_fits, manifests_nowhere, new_range, some_file, unread_free}
 use Rattle.vl_recover.specs.MendingSteps.{manifest_log, manifest_step}
 use Rattle.vl_recover.specs.OneName.{as_of_then, made_elsewhere, made_there}
@@ -45,41 +45,41 @@ log_manifest : (m n : ℕ) → Log m ≡ Manifest n → ⊥
 log_manifest m n e = cc
 
 module _ {read : Image} (found : Finds read) (start : DiskState) (lawful : IsLawful start) (may : MayOpen start) (is_read : IsRead read start) (left : used_up found ≡ None) (strays : List Name) where
-  abbrev number : ℕ
+  abbrev pub number : ℕ
   number = found.greatest.manifest + 1
 
-  abbrev s : ManifestState
+  abbrev pub s : ManifestState
   s = new_state found.greatest found.opening.state
 
-  abbrev head : ℕ
+  abbrev pub head : ℕ
   head = found.opening.state.head
 
-  abbrev piece : List ℕ
+  abbrev pub piece : List ℕ
   piece = manifest_bytes number (whole_edits s ∷ [])
 
-  abbrev plan : Plan
+  abbrev pub plan : Plan
   plan = plan_of found strays
 
   -- the disk with the new manifest, with the last log mended, and with the new log
-  abbrev first : DiskState
+  abbrev pub first : DiskState
   first = with_manifest plan start
 
-  abbrev second : DiskState
+  abbrev pub second : DiskState
   second = with_last plan start
 
-  abbrev third : DiskState
+  abbrev pub third : DiskState
   third = with_log plan start
 
   -- ---- the new manifest
 
-  fits : found.greatest.manifest + 1 < 2 ^ 32
+  pub fits : found.greatest.manifest + 1 < 2 ^ 32
   fits = (let below = manifest_fits found start lawful may is_read left in omega (arith, below))
 
   manifest_law : (now : DiskState) → WhileMaking (Manifest number) piece start now → OpensAsOf start now
   manifest_law now during = manifest_step number s fits (new_range found start lawful may is_read) start now
       (manifests_nowhere found start lawful may is_read number (omega arith)).free (all_say found start lawful may is_read) during
 
-  first_leads : Leads number s first
+  pub first_leads : Leads number s first
   first_leads = record {
     bytes = piece;
     stands = made_there (Manifest number) piece start;
@@ -99,14 +99,14 @@ module _ {read : Image} (found : Finds read) (start : DiskState) (lawful : IsLaw
     sealed = may.sealed read found.opening is_read found.opens;
   }
 
-  start_stand : StandUpTo LastStands head found.logs start
+  pub start_stand : StandUpTo LastStands head found.logs start
   start_stand = stand_read head read start may_mend head found.opening.state.covered found.opening.number found.logs (omega arith) found.standing (found_walk found start lawful may is_read)
 
-  first_stand : StandUpTo LastStands head found.logs first
+  pub first_stand : StandUpTo LastStands head found.logs first
   first_stand = stand_kept LastStands (Manifest number) start first (made_elsewhere (Manifest number) piece start)
       (last_kept (Manifest number) start first (made_elsewhere (Manifest number) piece start)) head found.logs (λ m from. log_manifest m number) start_stand
 
-  last : LastStage number s found.logs first
+  pub last : LastStage number s found.logs first
   last = last_stage number s found.logs first first_leads first_stand
 
   -- ---- the new log
@@ -117,10 +117,13 @@ module _ {read : Image} (found : Finds read) (start : DiskState) (lawful : IsLaw
       let below = log_below found start lawful may is_read (the_last q qs).number end.holds.file end.holds.stands in
       omega (arith, below)
 
-  log : LogStage number s (log_made s found.logs) (map as_segment found.logs) second
+  pub log_free : (k : ℕ) → log_made s found.logs ≡ Some k → IsFreeFrom head k second
+  log_free = made_free s found.logs second last.written (last_below found.logs start_stand)
+
+  pub log : LogStage number s (log_made s found.logs) (map as_segment found.logs) second
   log = log_stage number s (log_made s found.logs) (map as_segment found.logs) second last.leads
       (written_whole head found.logs second last.written)
-      (made_free s found.logs second last.written (last_below found.logs start_stand))
+      log_free
       (written_held head found.logs second last.written)
 
   same_below : SameBelow head first third
@@ -153,7 +156,7 @@ module _ {read : Image} (found : Finds read) (start : DiskState) (lawful : IsLaw
         not_low : (m : ℕ) → head ≤ m → IsStrayName head (Log m) → ⊥
         not_low m from low = omega (arith, from, low)
 
-    third_spare : AreSpare number head third strays
+    pub third_spare : AreSpare number head third strays
     third_spare name inside =
         let spare = start_spare name inside in
         spare_below number head first third same_below name

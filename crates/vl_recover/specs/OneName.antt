@@ -21,12 +21,12 @@ abbrev pub with_left : Name → Option (List ℕ) → Image → Image
 with_left name None image = remove image name
 with_left name (Some bytes) image = insert image name bytes
 
-left_there : (name : Name) (left : Option (List ℕ)) (image : Image)
+pub left_there : (name : Name) (left : Option (List ℕ)) (image : Image)
     → get (with_left name left image) name ≡ left
 left_there name None image = get_removed image name
 left_there name (Some bytes) image = get_inserted image name bytes
 
-left_elsewhere : (name : Name) (left : Option (List ℕ)) (image : Image)
+pub left_elsewhere : (name : Name) (left : Option (List ℕ)) (image : Image)
     → SameBut name image (with_left name left image)
 left_elsewhere name None image other apart = sym (get_removed_other image name other apart)
 left_elsewhere name (Some bytes) image other apart =
