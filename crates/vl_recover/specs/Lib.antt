@@ -11,6 +11,7 @@ pub mod LogsLaws
 pub mod Mending
 pub mod MendingAgain
 pub mod MendingLaws
+pub mod MendingMayOpen
 pub mod MendingOpens
 pub mod MendingStages
 pub mod MendingStart

@@ -49,7 +49,7 @@ pub record GoesWell (number : ℕ) (s : ManifestState) (disk : DiskState) : Type
   pub well : StandsWell s.head disk
 
 -- where one name changes, the files under the others may stand as before
-files_kept : (name : Name) (old now : DiskState) → SameElsewhere name old now → AllMayStand old → ((file : File) → get now.standing name ≡ Some file → MayStand name file) → AllMayStand now
+pub files_kept : (name : Name) (old now : DiskState) → SameElsewhere name old now → AllMayStand old → ((file : File) → get now.standing name ≡ Some file → MayStand name file) → AllMayStand now
 files_kept name old now same files there other file stands = ⊎_elim
     (λ (e : other ≡ name). subst (λ (n : Name). MayStand n file) (sym e) (there file (ap (get now.standing) (sym e) ∙ stands)))
     (λ (apart : other ≢ name). files other file (sym (same.standing other apart) ∙ stands))

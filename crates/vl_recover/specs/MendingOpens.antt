@@ -25,7 +25,7 @@ use Rattle.vl_recover.specs.LeadsLaws.{Leads, leads_holds, nowhere_kept}
 use Rattle.vl_recover.specs.LogsLaws.{IsTheLast, MayMend, StandUpTo, last_kept, last_stands, stand_kept, stand_read, the_last, written_held, written_whole}
 use Rattle.vl_recover.specs.Mending.{IsPlan, Plan, WhileMending, at_last, at_log, at_manifest, at_strays, last_of, mended, plan_of, with_last, with_log, with_manifest}
 use Rattle.vl_recover.specs.MendingStages.{IsBelow, IsFreeFrom, held_settled, settled_is, LastStage, LogStage, SameBelow, below_then, last_stage, log_stage, made_free, spare_below, still_stands}
-use Rattle.vl_recover.specs.MendingStart.{all_say, found_walk, free_unread, log_below, manifest_fits, manifests_nowhere, new_range, some_file, unread_free}
+use Rattle.vl_recover.specs.MendingStart.{Begins, all_say, found_walk, free_unread, log_below, manifest_fits, manifests_nowhere, new_range, some_file, unread_free}
 use Rattle.vl_recover.specs.MendingSteps.{manifest_log, manifest_step}
 use Rattle.vl_recover.specs.OneName.{as_of_then, made_elsewhere, made_there}
 use Rattle.vl_recover.specs.OpeningLaws.{some_none, some_same}
@@ -44,7 +44,7 @@ table_manifest m n e = cc
 log_manifest : (m n : ℕ) → Log m ≡ Manifest n → ⊥
 log_manifest m n e = cc
 
-module _ {read : Image} (found : Finds read) (start : DiskState) (lawful : IsLawful start) (may : MayOpen start) (is_read : IsRead read start) (left : used_up found ≡ None) (strays : List Name) where
+module _ {read : Image} (found : Finds read) (start : DiskState) (begins : Begins found start) (strays : List Name) where
   abbrev pub number : ℕ
   number = found.greatest.manifest + 1
 
@@ -73,34 +73,34 @@ module _ {read : Image} (found : Finds read) (start : DiskState) (lawful : IsLaw
   -- ---- the new manifest
 
   pub fits : found.greatest.manifest + 1 < 2 ^ 32
-  fits = (let below = manifest_fits found start lawful may is_read left in omega (arith, below))
+  fits = (let below = manifest_fits found start begins in omega (arith, below))
 
   manifest_law : (now : DiskState) → WhileMaking (Manifest number) piece start now → OpensAsOf start now
-  manifest_law now during = manifest_step number s fits (new_range found start lawful may is_read) start now
-      (manifests_nowhere found start lawful may is_read number (omega arith)).free (all_say found start lawful may is_read) during
+  manifest_law now during = manifest_step number s fits (new_range found start begins) start now
+      (manifests_nowhere found start begins number (omega arith)).free (all_say found start begins) during
 
   pub first_leads : Leads number s first
   first_leads = record {
     bytes = piece;
     stands = made_there (Manifest number) piece start;
-    says = whole_manifest number s fits (new_range found start lawful may is_read);
+    says = whole_manifest number s fits (new_range found start begins);
     above = λ m less. nowhere_kept (Manifest number) start first (made_elsewhere (Manifest number) piece start) (Manifest m)
-        (λ e. omega (arith, less, manifest_same m number e)) (manifests_nowhere found start lawful may is_read m (omega (arith, less)));
+        (λ e. omega (arith, less, manifest_same m number e)) (manifests_nowhere found start begins m (omega (arith, less)));
   }
 
   -- ---- the last log
 
   may_mend : MayMend head read start
   may_mend = record {
-    lawful = lawful;
-    is_read = is_read;
-    files = may.files;
-    kept = may.logs read found.opening is_read found.opens;
-    sealed = may.sealed read found.opening is_read found.opens;
+    lawful = begins.lawful;
+    is_read = begins.is_read;
+    files = begins.may.files;
+    kept = begins.may.logs read found.opening begins.is_read found.opens;
+    sealed = begins.may.sealed read found.opening begins.is_read found.opens;
   }
 
   pub start_stand : StandUpTo LastStands head found.logs start
-  start_stand = stand_read head read start may_mend head found.opening.state.covered found.opening.number found.logs (omega arith) found.standing (found_walk found start lawful may is_read)
+  start_stand = stand_read head read start may_mend head found.opening.state.covered found.opening.number found.logs (omega arith) found.standing (found_walk found start begins)
 
   pub first_stand : StandUpTo LastStands head found.logs first
   first_stand = stand_kept LastStands (Manifest number) start first (made_elsewhere (Manifest number) piece start)
@@ -114,7 +114,7 @@ module _ {read : Image} (found : Finds read) (start : DiskState) (lawful : IsLaw
   last_below : (logs : List StandingLog) → StandUpTo LastStands head logs start → (q : StandingLog) (qs : List StandingLog) → logs ≡ q ∷ qs → (the_last q qs).number < s.next_log
   last_below logs stand q qs is =
       let end = last_stands LastStands head q qs start (subst (λ (l : List StandingLog). StandUpTo LastStands head l start) is stand) in
-      let below = log_below found start lawful may is_read (the_last q qs).number end.holds.file end.holds.stands in
+      let below = log_below found start begins (the_last q qs).number end.holds.file end.holds.stands in
       omega (arith, below)
 
   pub log_free : (k : ℕ) → log_made s found.logs ≡ Some k → IsFreeFrom head k second
@@ -136,12 +136,12 @@ module _ {read : Image} (found : Finds read) (start : DiskState) (lawful : IsLaw
     start_spare : AreSpare number head start strays
     start_spare name inside =
         let (there, stray) = (names.all name).0 inside in
-        let (file, stands) = some_file (get start.standing name) (λ none. missing (get read name) there (free_unread read start is_read name none)) in
-        let bytes : get read name ≡ Some file.bytes = is_read.each name ∙ ap (option_map (λ (f : File). f.bytes)) stands in
+        let (file, stands) = some_file (get start.standing name) (λ none. missing (get read name) there (free_unread read start begins.is_read name none)) in
+        let bytes : get read name ≡ Some file.bytes = begins.is_read.each name ∙ ap (option_map (λ (f : File). f.bytes)) stands in
         record {
           file = file;
           stands = stands;
-          leaves = stand_leaves name file (may.files name file stands);
+          leaves = stand_leaves name file (begins.may.files name file stands);
           lower = λ m from e. missing (get read name) there (ap (get read) (sym e) ∙ found.are_greatest.manifest.none_above m (omega (arith, from)));
           below = λ m from e. not_low m from (subst (IsStrayName head) (sym e) stray);
         }
@@ -187,7 +187,7 @@ module _ {read : Image} (found : Finds read) (start : DiskState) (lawful : IsLaw
     was_stray name file below other stray stands =
         let stood : get start.standing name ≡ Some file =
         sym ((made_elsewhere (Manifest number) piece start).standing name other) ∙ sym (same_below.standing name below) ∙ stands in
-        let read_as : get read name ≡ Some file.bytes = is_read.each name ∙ ap (option_map (λ (f : File). f.bytes)) stood in
+        let read_as : get read name ≡ Some file.bytes = begins.is_read.each name ∙ ap (option_map (λ (f : File). f.bytes)) stood in
         (names.all name).1 (subst IsSome (sym read_as) refl, stray)
 
     -- What stands besides the strays is durable.
@@ -214,11 +214,11 @@ module _ {read : Image} (found : Finds read) (start : DiskState) (lawful : IsLaw
 pub mending_opens : {read : Image} (start now : DiskState) (found : Finds read) (plan : Plan) → IsLawful start → MayOpen start → IsRead read start
     → used_up found ≡ None → IsPlan found plan → WhileMending plan start now → OpensAsOf start now
 mending_opens start now found plan lawful may is_read left is during =
-    opens_meanwhile found start lawful may is_read left plan.strays is.strays now (subst (λ (p : Plan). WhileMending p start now) is.is during)
+    opens_meanwhile found start (record { lawful = lawful; may = may; is_read = is_read; left = left }) plan.strays is.strays now (subst (λ (p : Plan). WhileMending p start now) is.is during)
 
 -- A disk on which a store was mended holds it.
 pub mended_holds : {read : Image} (start : DiskState) (found : Finds read) (plan : Plan) → IsLawful start → MayOpen start → IsRead read start
     → used_up found ≡ None → IsPlan found plan → HoldsStore (new_state found.greatest found.opening.state) (logs_then found) (mended plan start)
 mended_holds start found plan lawful may is_read left is =
     subst (λ (p : Plan). HoldsStore (new_state found.greatest found.opening.state) (logs_then found) (mended p start)) (sym is.is)
-    (holds found start lawful may is_read left plan.strays is.strays)
+    (holds found start (record { lawful = lawful; may = may; is_read = is_read; left = left }) plan.strays is.strays)

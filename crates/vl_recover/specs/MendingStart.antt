@@ -108,7 +108,14 @@ not_last false false e = refl
 
 -- ---- of what an opening finds on a disk that may be opened
 
-module _ {read : Image} (found : Finds read) (start : DiskState) (lawful : IsLawful start) (may : MayOpen start) (is_read : IsRead read start) where
+-- An opening that found this mends the disk: a store may be opened on it, it reads as the image, and no number is used up.
+pub record Begins {read : Image} (found : Finds read) (start : DiskState) : Type 0 where
+  pub lawful : IsLawful start
+  pub may : MayOpen start
+  pub is_read : IsRead read start
+  pub left : used_up found ≡ None
+
+module _ {read : Image} (found : Finds read) (start : DiskState) (begins : Begins found start) where
   abbrev state : ManifestState
   state = found.opening.state
 
@@ -122,16 +129,16 @@ module _ {read : Image} (found : Finds read) (start : DiskState) (lawful : IsLaw
   -- what the new manifest says is in range
   pub new_range : IsInRange (new_state found.greatest found.opening.state)
   new_range = opened_in_range found.greatest.log found.greatest.table state
-      (greatest_fits read start is_read Log found.greatest.log (λ n. refl) lawful found.are_greatest.log)
-      (greatest_fits read start is_read Table found.greatest.table (λ n. refl) lawful found.are_greatest.table)
+      (greatest_fits read start begins.is_read Log found.greatest.log (λ n. refl) begins.lawful found.are_greatest.log)
+      (greatest_fits read start begins.is_read Table found.greatest.table (λ n. refl) begins.lawful found.are_greatest.table)
       (says_range opened_read.heading state opened_read.by.says)
 
   -- and its number is one that a manifest may have.
-  pub manifest_fits : used_up found ≡ None → found.greatest.manifest + 1 ≤ max_file_number
-  manifest_fits none =
-      let fits = greatest_fits read start is_read Manifest found.greatest.manifest (λ n. refl) lawful found.are_greatest.manifest in
+  pub manifest_fits : found.greatest.manifest + 1 ≤ max_file_number
+  manifest_fits =
+      let fits = greatest_fits read start begins.is_read Manifest found.greatest.manifest (λ n. refl) begins.lawful found.are_greatest.manifest in
       let other = number_other found.greatest.manifest max_file_number
-      (not_last (passes (log_made (new_state found.greatest state) found.logs)) (found.greatest.manifest == max_file_number) none) in
+      (not_last (passes (log_made (new_state found.greatest state) found.logs)) (found.greatest.manifest == max_file_number) begins.left) in
       omega (arith, fits, other)
 
   -- No manifest stands, or was removed, from that number on.
@@ -139,20 +146,20 @@ module _ {read : Image} (found : Finds read) (start : DiskState) (lawful : IsLaw
   manifests_nowhere m above = record { free = free m above; never = never }
     where
       free : (m : ℕ) → found.greatest.manifest < m → get start.standing (Manifest m) ≡ None
-      free m above = unread_free read start is_read (Manifest m) (found.are_greatest.manifest.none_above m above)
+      free m above = unread_free read start begins.is_read (Manifest m) (found.are_greatest.manifest.none_above m above)
 
       never : get start.removed (Manifest m) ≡ None
       never = ⊎_elim
           (λ (gone : get start.removed (Manifest m) ≡ None). gone)
           (λ (was : get start.removed (Manifest m) ≢ None).
-          let (higher, more, stands) = may.manifests m was in
+          let (higher, more, stands) = begins.may.manifests m was in
           absurd (stands (free higher (omega (arith, above, more)))))
           (stands_or_not (get start.removed (Manifest m)))
 
   -- Whatever a crash leaves says what the new manifest says, but for the next numbers.
   pub all_say : AllSay start (found.greatest.manifest + 1) (new_state found.greatest found.opening.state)
   all_say = record {
-    same = λ image o left is. (let same = may.says read image found.opening o is_read found.opens left (is_opened image o is) in
+    same = λ image o left is. (let same = begins.may.says read image found.opening o begins.is_read found.opens left (is_opened image o is) in
         record { levels = same.levels; head = same.head; covered = same.covered });
     above = λ image m bytes left r. ⊎_elim
         (λ (less : found.greatest.manifest < m). absurd (some_none bytes (sym r.stands ∙ left_nowhere start image (Manifest m) (manifests_nowhere m less) left.left)))
@@ -163,6 +170,6 @@ module _ {read : Image} (found : Finds read) (start : DiskState) (lawful : IsLaw
   -- A log that stands has at most the greatest number.
   pub log_below : (m : ℕ) (file : File) → get start.standing (Log m) ≡ Some file → m ≤ found.greatest.log
   log_below m file stands = ⊎_elim
-      (λ (less : found.greatest.log < m). absurd (some_none file (sym stands ∙ unread_free read start is_read (Log m) (found.are_greatest.log.none_above m less))))
+      (λ (less : found.greatest.log < m). absurd (some_none file (sym stands ∙ unread_free read start begins.is_read (Log m) (found.are_greatest.log.none_above m less))))
       (λ (le : m ≤ found.greatest.log). le)
       (cases_lt found.greatest.log m)
