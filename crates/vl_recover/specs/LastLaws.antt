@@ -137,9 +137,6 @@ module _ (number : ℕ) (s : ManifestState) (k : ℕ) where
         (All-push (λ (piece : Piece). piece.place + length piece.bytes ≤ 16) file.due (record { place = length file.bytes; bytes = log_header k }) within (omega (arith, ap length empty, length-log_header k)))
         chance))
 
-    with_header : File
-    with_header = lengthened (log_header k) (length (log_header k)) file
-
     header_bytes_are : (lengthened (log_header k) (length (log_header k)) file).bytes ≡ log_header k
     header_bytes_are = ap (λ (b : List ℕ). b ++ take (length (log_header k)) (log_header k)) empty ∙ take_all (length (log_header k)) (log_header k) (omega arith)
 
@@ -208,9 +205,6 @@ module _ (number : ℕ) (s : ManifestState) (q : StandingLog) (disk : DiskState)
           no_chance = uncut_chance k end is.file left short flat bytes (Log k) chance;
         }))
         (cases_lt end is.file.synced))
-
-    cut_disk : DiskState
-    cut_disk = cut_to (Log q.number) (frames_end q.reading.frames) (frames_end q.reading.frames) disk
 
     cut_stands : get (cut_to (Log q.number) (frames_end q.reading.frames) (frames_end q.reading.frames) disk).standing (Log q.number) ≡ Some (shortened (frames_end q.reading.frames) (frames_end q.reading.frames) is.file)
     cut_stands = changed_file number s k disk (shortened end end) is.file is.stands

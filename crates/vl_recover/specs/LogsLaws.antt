@@ -116,9 +116,6 @@ last_stands P least q (p ∷ ps) disk (next, written, rest) =
 
 -- ---- it is mended
 
-elsewhere_same : (name : Name) (disk : DiskState) → SameElsewhere name disk disk
-elsewhere_same name disk = record { standing = λ other apart. refl; removed = λ other apart. refl }
-
 headed_elsewhere : (k : ℕ) (disk : DiskState) → SameElsewhere (Log k) disk (with_file (Log k) synced_file (headed k disk))
 headed_elsewhere k disk = elsewhere_then (Log k) disk (headed k disk) (with_file (Log k) synced_file (headed k disk))
     (changed_elsewhere (Log k) disk (lengthened (log_header k) (length (log_header k)))) (changed_elsewhere (Log k) (headed k disk) synced_file)

@@ -57,9 +57,6 @@ says_range (Newest format) s says = absurd (no_state s (NewerFormat format) says
 
 -- ---- numbers that stand
 
-none_not_some : {X : Type 0} (x : X) → None ≡ Some x → ⊥
-none_not_some x e = cc
-
 missing_file : (file : Option File) → option_map (λ (f : File). f.bytes) file ≡ None → file ≡ None
 missing_file None e = refl
 missing_file (Some file) e = absurd (some_none file.bytes e)
