@@ -29,6 +29,6 @@ pub mod Stages
 pub mod Starts
 pub mod StraysLaws
 pub mod Torn
-pub mod TornLaws
+pub mod TornFrames
 pub mod TornManifest
 pub mod Walk

@@ -24,7 +24,7 @@ use Rattle.vl_manifest.specs.StateLaws.{IsInRange}
 use Rattle.vl_manifest.specs.States.{whole_edits}
 use Rattle.vl_manifest.specs.declared.state.ManifestState.{ManifestState}
 use Rattle.vl_recover.specs.Alike.{IsLeft, OpensLike, SameState, Spells}
-use Rattle.vl_recover.specs.AlikeLaws.{SameBut, lead_over, led_anew, like_lead, same_state, state_back, state_then}
+use Rattle.vl_recover.specs.AlikeLaws.{SameBut, lead_over, led_anew, like_lead, same_state, state_then}
 use Rattle.vl_recover.specs.Opening.{Heading, Led, Opening, Opens, Refusal, Says}
 use Rattle.vl_recover.specs.OpeningLaws.{IsOpened, one_heading, opened, single_says, some_none, some_same}
 use Rattle.vl_recover.specs.StageLaws.{ok_same}
