@@ -25,6 +25,7 @@ use Rattle.vl_recover.specs.OneName.{elsewhere_then}
 use Rattle.vl_recover.specs.Opening.{IsNextLog, StandingLogs}
 use Rattle.vl_recover.specs.OpeningLaws.{some_none, some_same}
 use Rattle.vl_recover.specs.Plans.{log_behind, log_made}
+use Rattle.vl_recover.specs.StageLaws.{err_ok, ok_apart}
 use Rattle.vl_recover.specs.Stages.{on_ok}
 use Rattle.vl_recover.specs.Starts.{AllMayStand}
 use Rattle.vl_recover.specs.Walk.{LogDamage, StandingLog, counted, counted_whole, in_log, walked, walked_on}
@@ -214,22 +215,9 @@ written_held least (q ∷ p ∷ ps) disk (next, written, rest) = (next.from, nex
 
 -- ---- how they stand on a disk that may be opened
 
-on_ok_apart : {A B E : Type 0} (f : A → Result B E) (r : Result A E) (b : B) → on_ok f r ≡ Ok b → (a : A) × (r ≡ Ok a) × (f a ≡ Ok b)
-on_ok_apart f (Ok a) b e = (a, refl, e)
-on_ok_apart {A} {B} {E} f (Err x) b e = absurd (err_ok x b e)
-  where
-    err_ok : (x : E) (b : B) → ◌≡◌ {A = Result B E} (Err x) (Ok b) → ⊥
-    err_ok x b e = cc
-
 in_log_apart : (log : ℕ) (r : Result ℕ ℕ) (n : ℕ) → in_log log r ≡ Ok n → (m : ℕ) × (r ≡ Ok m)
 in_log_apart log (Ok m) n e = (m, refl)
 in_log_apart log (Err place) n e = absurd (err_ok (record { log = log; place = place }) n e)
-  where
-    err_ok : (d : LogDamage) (n : ℕ) → ◌≡◌ {A = Result ℕ LogDamage} (Err d) (Ok n) → ⊥
-    err_ok d n e = cc
-
-err_ok : (place n : ℕ) → ◌≡◌ {A = Result ℕ ℕ} (Err place) (Ok n) → ⊥
-err_ok place n e = cc
 
 counted_whole_is : (n m : ℕ) (r : LogReading) → counted_whole n r ≡ Ok m → (r.header ≡ true) × (r.whole ≡ true)
 counted_whole_is n m r e = by r.header r.whole refl refl e
@@ -238,7 +226,7 @@ counted_whole_is n m r e = by r.header r.whole refl refl e
         → (if header then on_ok (λ m. if whole then Ok m else Err (log_length r.frames)) (counted n 16 r.frames) else Err 0) ≡ Ok m → (r.header ≡ true) × (r.whole ≡ true)
     by true true h w e = (h, w)
     by true false h w e =
-        let apart = on_ok_apart (λ (m : ℕ). if false then Ok m else Err (log_length r.frames)) (counted n 16 r.frames) m e in
+        let apart = ok_apart (λ (m : ℕ). if false then Ok m else Err (log_length r.frames)) (counted n 16 r.frames) m e in
         absurd (err_ok (log_length r.frames) m apart.2)
     by false whole h w e = absurd (err_ok 0 m e)
 
@@ -246,7 +234,7 @@ counted_whole_is n m r e = by r.header r.whole refl refl e
 followed_whole : (n number : ℕ) (q p : StandingLog) (ps : List StandingLog) → walked n (q ∷ p ∷ ps) ≡ Ok number
     → (q.reading.header ≡ true) × (q.reading.whole ≡ true) × ((m : ℕ) × (walked m (p ∷ ps) ≡ Ok number))
 followed_whole n number q p ps e =
-    let apart = on_ok_apart (λ (m : ℕ). walked_on m p ps) (in_log q.number (counted_whole n q.reading)) number e in
+    let apart = ok_apart (λ (m : ℕ). walked_on m p ps) (in_log q.number (counted_whole n q.reading)) number e in
     let inside = in_log_apart q.number (counted_whole n q.reading) apart.0 apart.1 in
     let both = counted_whole_is n inside.0 q.reading inside.1 in
     (both.0, both.1, (apart.0, apart.2))

@@ -27,6 +27,7 @@ use Rattle.vl_model.specs.declared.log_frame.LogFrame.{LogFrame}
 use Rattle.vl_recover.specs.Alike.{Spells}
 use Rattle.vl_recover.specs.OneName.{IsPart, part_empty, part_some}
 use Rattle.vl_recover.specs.Starts.{HasWrongHeader, MayStand}
+use Rattle.vl_recover.specs.TornFrames.{one_due}
 use Rattle.vl_seglog.specs.FrameLaws.{length-log_bytes}
 use Rattle.vl_seglog.specs.Frames.{frames_end, frames_grammar, log_bytes, log_header}
 use Rattle.vl_seglog.specs.LogReading.{HasHeader, LogReading, ReadsLog}
@@ -36,11 +37,6 @@ use Rattle.vl_seglog.specs.LogReadingLaws.{LogApart, log_apart, reads_no_header,
 
 any_all : {X : Type 0} (P Q : X → Type 0) (xs : List X) → Any P xs → All Q xs → (x : X) × P x × Q x
 any_all P Q xs (k, x, less, is, holds) all = (x, holds, subst Q is (all k x less))
-
-any_one : {X : Type 0} (P : X → Type 0) (y : X) → Any P (y ∷ []) → P y
-any_one P y (k, x, less, is, holds) =
-    let first : k ≡ 0 = omega (arith, less) in
-    subst P (sym (subst (λ (n : ℕ). slice_index_or (y ∷ []) n x ≡ x) first is)) holds
 
 any_none : {X : Type 0} (P : X → Type 0) → Any P [] → ⊥
 any_none P (k, x, less, is, holds) = omega (arith, less)
@@ -105,7 +101,7 @@ part_handed piece file part_empty at frame handed = absurd (any_none (StandsIn a
 part_handed piece file (part_some taken) at frame handed =
     let whole : at - 0 ≡ at = omega arith in
     subst (λ (n : ℕ). take (length frame) (drop n piece) ≡ frame) whole
-    (any_one (StandsIn at frame) (record { place = 0; bytes = piece }) handed).bytes_are
+    (one_due (StandsIn at frame) (record { place = 0; bytes = piece }) handed).bytes_are
 
 -- it has no frame by chance where each at 16, and each right behind one, stands there in the piece
 part_frames : (name : Name) (piece : List ℕ) (file : File) → IsPart piece file → (bytes : List ℕ)
