@@ -4,7 +4,7 @@ use Rattle.std.specs.FinMap.{get}
 use Rattle.std.specs.List.{AllByRecursion}
 use Rattle.std.specs.Option.{option_map}
 use Rattle.std.proofs.Common.{ap, arith, inl, inr, length-append, subst, sym, ◌∙◌, ⊎_elim}
-use Rattle.std.proofs.lemmas.Bool.{cases_Bool, cases_lt}
+use Rattle.std.proofs.lemmas.Bool.{cases_Bool, cases_lt, true≢false}
 use Rattle.std.proofs.lemmas.Bool.Decides.{nat_tests}
 use Rattle.std.proofs.lemmas.List.{length-take, take_all}
 use Rattle.std.proofs.lemmas.List.Elements.{All-push}
@@ -68,10 +68,7 @@ pub none_without : (number : ℕ) (bytes : List ℕ) (reading : LogReading) → 
 none_without number bytes reading reads header = subst (λ (b : Bool). AreBehind b number bytes reading.frames) header reads.frames
 
 pub wrong_header : (number : ℕ) (bytes : List ℕ) (reading : LogReading) → ReadsLog number bytes reading → reading.header ≡ false → HasHeader number bytes → ⊥
-wrong_header number bytes reading reads header right = true_false (sym (reads.header.1 right) ∙ header)
-  where
-    true_false : true ≡ false → ⊥
-    true_false e = cc
+wrong_header number bytes reading reads header right = true≢false (sym (reads.header.1 right) ∙ header)
 
 module _ (number : ℕ) (bytes : List ℕ) (reading : LogReading) (reads : ReadsLog number bytes reading) (header : reading.header ≡ true) where
   by_length : (w : Bool) → reading.whole ≡ w → (length bytes == frames_end reading.frames) ≡ w

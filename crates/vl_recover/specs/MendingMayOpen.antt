@@ -18,7 +18,7 @@ use Rattle.vl_manifest.specs.Manifest.{IsReadable, SaysState}
 use Rattle.vl_manifest.specs.ManifestLaws.{whole_manifest}
 use Rattle.vl_manifest.specs.declared.state.ManifestState.{ManifestState}
 use Rattle.vl_recover.specs.Alike.{IsLeft, SameState}
-use Rattle.vl_recover.specs.AlikeLaws.{SameBut, log_same, manifest_same, state_back, state_then}
+use Rattle.vl_recover.specs.AlikeLaws.{SameBut, log_manifest, log_same, manifest_same, state_back, state_then}
 use Rattle.vl_recover.specs.Answers.{AreStrayNames, Finds, as_segment, used_up}
 use Rattle.vl_recover.specs.Held.{IsNowhere}
 use Rattle.vl_recover.specs.HeldLaws.{settled_may_stand}
@@ -38,9 +38,6 @@ use Rattle.vl_recover.specs.Starts.{MayOpen, MayStand}
 use Rattle.vl_recover.specs.Torn.{torn_manifest}
 use Rattle.vl_recover.specs.TornManifest.{IsTorn, missing, part_no_chance, says, torn_says, unread}
 
-log_manifest : (m n : ℕ) → Log m ≡ Manifest n → ⊥
-log_manifest m n e = cc
-
 -- what becomes of the last log is the last moment of it
 last_ends : (l : LastLog) (disk : DiskState) → (behind_last l disk ≡ disk) ⊎ WhileLast l disk (behind_last l disk)
 last_ends NoLast disk = inl refl
@@ -53,15 +50,9 @@ log_ends : (new : Option ℕ) (disk : DiskState) → (behind_log new disk ≡ di
 log_ends None disk = inl refl
 log_ends (Some k) disk = inr (durable refl)
 
-none_number : (k : ℕ) → None ≡ Some k → ⊥
-none_number k e = cc
-
-some_number : (j k : ℕ) → Some j ≡ Some k → j ≡ k
-some_number j k e = cc
-
 made_never : (new : Option ℕ) (disk : DiskState) (k : ℕ) → new ≡ Some k → get (behind_log new disk).removed (Log k) ≡ None
-made_never None disk k e = absurd (none_number k e)
-made_never (Some j) disk k e = ap (λ (n : ℕ). get (behind_log (Some j) disk).removed (Log n)) (sym (some_number j k e)) ∙ get_removed disk.removed (Log j)
+made_never None disk k e = absurd (some_none k (sym e))
+made_never (Some j) disk k e = ap (λ (n : ℕ). get (behind_log (Some j) disk).removed (Log n)) (sym (some_same j k e)) ∙ get_removed disk.removed (Log j)
 
 module _ {read : Image} (found : Finds read) (start : DiskState) (begins : Begins found start) (strays : List Name) where
   abbrev n : ℕ

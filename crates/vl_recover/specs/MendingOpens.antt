@@ -17,7 +17,7 @@ use Rattle.vl_manifest.specs.ManifestLaws.{whole_manifest}
 use Rattle.vl_manifest.specs.States.{whole_edits}
 use Rattle.vl_manifest.specs.declared.state.ManifestState.{ManifestState}
 use Rattle.vl_recover.specs.Alike.{OpensAsOf, Spells}
-use Rattle.vl_recover.specs.AlikeLaws.{log_same, manifest_same}
+use Rattle.vl_recover.specs.AlikeLaws.{log_manifest, log_same, manifest_same}
 use Rattle.vl_recover.specs.Answers.{AreStrayNames, Finds, IsStrayName, and_made, as_segment, logs_then, used_up}
 use Rattle.vl_recover.specs.Held.{AllSettled, HoldsLogs, HoldsStore, IsNowhere, IsSettled}
 use Rattle.vl_recover.specs.LastLaws.{IsWritten, LastStands}
@@ -26,7 +26,7 @@ use Rattle.vl_recover.specs.LogsLaws.{IsTheLast, MayMend, StandUpTo, last_kept, 
 use Rattle.vl_recover.specs.Mending.{IsPlan, Plan, WhileMending, at_last, at_log, at_manifest, at_strays, last_of, mended, plan_of, with_last, with_log, with_manifest}
 use Rattle.vl_recover.specs.MendingStages.{IsBelow, IsFreeFrom, held_settled, settled_is, LastStage, LogStage, SameBelow, below_then, last_stage, log_stage, made_free, spare_below, still_stands}
 use Rattle.vl_recover.specs.MendingStart.{Begins, all_say, found_walk, free_unread, log_below, manifest_fits, manifests_nowhere, new_range, some_file, unread_free}
-use Rattle.vl_recover.specs.MendingSteps.{manifest_log, manifest_step}
+use Rattle.vl_recover.specs.MendingSteps.{manifest_step, table_manifest}
 use Rattle.vl_recover.specs.OneName.{as_of_then, made_elsewhere, made_there}
 use Rattle.vl_recover.specs.OpeningLaws.{some_none, some_same}
 use Rattle.vl_recover.specs.Plans.{log_made, new_state}
@@ -37,12 +37,6 @@ use Rattle.vl_recover.specs.Walk.{StandingLog}
 
 log_table : (m n : ℕ) → Log m ≡ Table n → ⊥
 log_table m n e = cc
-
-table_manifest : (m n : ℕ) → Table m ≡ Manifest n → ⊥
-table_manifest m n e = cc
-
-log_manifest : (m n : ℕ) → Log m ≡ Manifest n → ⊥
-log_manifest m n e = cc
 
 module _ {read : Image} (found : Finds read) (start : DiskState) (begins : Begins found start) (strays : List Name) where
   abbrev pub number : ℕ

@@ -114,22 +114,16 @@ pub record IsFreeFrom (head k : ℕ) (disk : DiskState) : Type 0 where
   pub from : head ≤ k
   pub nowhere : (m : ℕ) → k ≤ m → IsNowhere disk (Log m)
 
-some_number : (a b : ℕ) → Some a ≡ Some b → a ≡ b
-some_number a b e = cc
-
-none_number : (a : ℕ) → None ≡ Some a → ⊥
-none_number a e = cc
-
 behind_some : (s : ManifestState) (frames : List LogFrame) (k : ℕ) → log_behind s frames ≡ Some k → s.next_log ≡ k
-behind_some s [] k e = absurd (none_number k e)
-behind_some s (f ∷ fs) k e = some_number s.next_log k e
+behind_some s [] k e = absurd (some_none k (sym e))
+behind_some s (f ∷ fs) k e = some_same s.next_log k e
 
 -- So it is of the log that is made, where the logs that stand have lower numbers than the next.
 pub made_free : (s : ManifestState) (logs : List StandingLog) (disk : DiskState) → StandUpTo IsWritten s.head logs disk
     → ((q : StandingLog) (qs : List StandingLog) → logs ≡ q ∷ qs → (the_last q qs).number < s.next_log)
     → (k : ℕ) → log_made s logs ≡ Some k → IsFreeFrom s.head k disk
 made_free s [] disk none below k made =
-    let same : max s.head s.next_log ≡ k = some_number (max s.head s.next_log) k made in
+    let same : max s.head s.next_log ≡ k = some_same (max s.head s.next_log) k made in
     let from : s.head ≤ k = omega (arith, same) in
     record { from = from; nowhere = λ m above. none m (omega (arith, from, above)) }
 made_free s (q ∷ qs) disk stand below k made =
@@ -190,11 +184,8 @@ still_stands (q ∷ qs) disk name file stands =
 -- A file that is durable is as a sync leaves it.
 pub settled_is : (bytes : List ℕ) (file : File) → Some (settled bytes) ≡ Some file → file ≡ settled file.bytes
 settled_is bytes file is =
-    let same : settled bytes ≡ file = some_same_file (settled bytes) file is in
+    let same : settled bytes ≡ file = some_same (settled bytes) file is in
     sym same ∙ ap (λ (f : File). settled f.bytes) same
-  where
-    some_same_file : (a b : File) → Some a ≡ Some b → a ≡ b
-    some_same_file a b e = cc
 
 -- Logs that are held are durable.
 pub held_settled : (least : ℕ) (logs : List Segment) (disk : DiskState) → HoldsLogs least logs disk → (m : ℕ) → least ≤ m

@@ -3,6 +3,7 @@ use Rattle.std.specs.Prelude.{◌≡◌, ◌≢◌, ◌⊎◌, ℕ, ◌+◌, ◌
 use Rattle.std.specs.FinMap.{get}
 use Rattle.std.specs.Option.{option_map}
 use Rattle.std.proofs.Common.{ap, arith, inl, inr, subst, sym, ◌∙◌, ⊎_elim}
+use Rattle.std.proofs.lemmas.Bool.{true≢false}
 use Rattle.std.proofs.lemmas.List.Elements.{All-cons, All-nil, All-push}
 use Rattle.vl_disk.specs.Chance.{NoChanceOne}
 use Rattle.vl_disk.specs.Changes.{SameElsewhere, changed_elsewhere, changed_there, without_elsewhere, without_removed}
@@ -19,7 +20,7 @@ use Rattle.vl_manifest.specs.StateLaws.{IsInRange}
 use Rattle.vl_manifest.specs.States.{whole_edits}
 use Rattle.vl_manifest.specs.declared.state.ManifestState.{ManifestState}
 use Rattle.vl_recover.specs.Alike.{IsLeft, OpensAsOf, OpensLike, SameState, Spells}
-use Rattle.vl_recover.specs.AlikeLaws.{Alike, LastIsWhole, SameBut, last_alike, lead_over, led_anew, like_lead, like_new, log_same, one_more, standing_kept}
+use Rattle.vl_recover.specs.AlikeLaws.{Alike, LastIsWhole, SameBut, last_alike, lead_over, led_anew, like_lead, like_new, log_manifest, log_same, one_more, standing_kept}
 use Rattle.vl_recover.specs.Held.{IsNowhere}
 use Rattle.vl_recover.specs.HeldLaws.{left_nowhere}
 use Rattle.vl_recover.specs.LeadsLaws.{Leads, current_kept, leads_image, led_like, led_same}
@@ -31,20 +32,14 @@ use Rattle.vl_recover.specs.Walk.{StandingLog}
 use Rattle.vl_seglog.specs.Frames.{log_header}
 use Rattle.vl_seglog.specs.LogReading.{LogReading, ReadsLog}
 
-log_manifest : (m n : ℕ) → Log m ≡ Manifest n → ⊥
-log_manifest m n e = cc
-
-table_manifest : (m n : ℕ) → Table m ≡ Manifest n → ⊥
+pub table_manifest : (m n : ℕ) → Table m ≡ Manifest n → ⊥
 table_manifest m n e = cc
 
 pub manifest_log : (m n : ℕ) → Manifest m ≡ Log n → ⊥
 manifest_log m n e = cc
 
-true_false : true ≡ false → ⊥
-true_false e = cc
-
 settled_left : (piece : List ℕ) (removed : Option File) (left : Option (List ℕ)) → MayLeaveOne (Some (settled piece)) removed left → left ≡ Some piece
-settled_left piece removed None may = absurd (true_false may)
+settled_left piece removed None may = absurd (true≢false may)
 settled_left piece removed (Some bytes) may = ap Some (may.whole refl)
 
 -- what is left where this stands

@@ -1,7 +1,7 @@
 -- What bytes say that a crash left of a file that isn't durable.
 use Rattle.std.specs.Prelude.{◌≡◌, ◌≢◌, ◌⊎◌, ◌↔◌, ℕ, ◌+◌, ◌-◌, ◌^◌, ◌<◌, ◌≤◌, ◌==◌, min, max, Bool, true, false, bytes_eq, List, [], ◌∷◌, ◌++◌, length, take, drop, slice_index_or, All, Any, Some, refl}
 use Rattle.std.proofs.Common.{append_assoc, ap, arith, inl, inr, length-append, subst, sym, zero-le, ◌∙◌, ⊎_elim}
-use Rattle.std.proofs.lemmas.Bool.{cases_Bool, cases_lt}
+use Rattle.std.proofs.lemmas.Bool.{cases_Bool, cases_lt, true≢false}
 use Rattle.std.proofs.lemmas.Bool.Decides.{not_from_Decides}
 use Rattle.std.proofs.lemmas.List.{append-nil, drop-append-le, drop-drop, drop_all, drop_at, length-take, take-append-drop, take-take, take_all, take_at}
 use Rattle.std.proofs.lemmas.Slice.Eq.{bytes_eq-Decides}
@@ -240,13 +240,10 @@ leaves_front name file loose = record {
   bytes = take (torn_from file) file.bytes;
   may = record {
     durable = take-take file.synced (torn_from file) file.bytes (omega arith);
-    whole = λ whole. absurd (false_true (sym loose ∙ whole));
+    whole = λ whole. absurd (true≢false (sym whole ∙ loose));
   };
   no_chance = ended_no_chance name file (take (torn_from file) file.bytes) (omega (arith, length-take (torn_from file) file.bytes));
 }
-  where
-    false_true : false ≡ true → ⊥
-    false_true e = cc
 
 -- Of a log with a wrong header bytes may be left that have no frames.
 pub record LeavesNone (number : ℕ) (file : File) : Type 0 where
@@ -257,7 +254,7 @@ pub leaves_none : (number : ℕ) (file : File) → HasWrongHeader (Log number) f
 unfolding leaves_front
 leaves_none number file wrong = ⊎_elim
     (λ (whole : file.wholly_synced ≡ true). record {
-      leaves = leaves_read (Log number) file (λ grows loose. absurd (true_false (sym whole ∙ loose)));
+      leaves = leaves_read (Log number) file (λ grows loose. absurd (true≢false (sym whole ∙ loose)));
       reads = reads_no_header number file.bytes wrong;
     })
     (λ (loose : file.wholly_synced ≡ false).
@@ -267,9 +264,6 @@ leaves_none number file wrong = ⊎_elim
       reads = reads_no_header number (take (torn_from file) file.bytes) (λ header. wrong (sym front ∙ header));
     })
     (cases_Bool file.wholly_synced)
-  where
-    true_false : true ≡ false → ⊥
-    true_false e = cc
 
 -- Of each file that may stand some bytes may be left.
 pub stand_leaves : (name : Name) (file : File) → MayStand name file → Leaves name file
@@ -303,11 +297,8 @@ module _ (number len : ℕ) (file : File) where
         let all : min len file.synced ≡ file.synced = omega (arith, flat) in
         record {
           durable = ap (λ (n : ℕ). take n bytes) (sym all) ∙ agrees.durable ∙ ap (λ (n : ℕ). take n (take left file.bytes)) all ∙ take-take file.synced left file.bytes (omega (arith, short, flat));
-          whole = λ whole. absurd (false_true (sym loose ∙ whole));
+          whole = λ whole. absurd (true≢false (sym whole ∙ loose));
         }
-      where
-        false_true : false ≡ true → ⊥
-        false_true e = cc
 
     pub uncut_chance : (name : Name) → NoChanceOne Spells name (Some (shortened len left file)) (Some bytes) → NoChanceOne Spells name (Some file) (Some bytes)
     uncut_chance name chance grows loose =

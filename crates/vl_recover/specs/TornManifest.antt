@@ -24,7 +24,8 @@ use Rattle.vl_manifest.specs.StateLaws.{IsInRange}
 use Rattle.vl_manifest.specs.States.{whole_edits}
 use Rattle.vl_manifest.specs.declared.state.ManifestState.{ManifestState}
 use Rattle.vl_recover.specs.Alike.{IsLeft, OpensLike, SameState, Spells}
-use Rattle.vl_recover.specs.AlikeLaws.{SameBut, lead_over, led_anew, like_lead, same_state, state_then}
+use Rattle.vl_recover.specs.AlikeLaws.{SameBut, lead_over, led_anew, like_lead, log_manifest, same_state, state_then}
+use Rattle.vl_recover.specs.MendingSteps.{table_manifest}
 use Rattle.vl_recover.specs.Opening.{Heading, Led, Opening, Opens, Refusal, Says}
 use Rattle.vl_recover.specs.OpeningLaws.{IsOpened, one_heading, opened, single_says, some_none, some_same}
 use Rattle.vl_recover.specs.StageLaws.{ok_same}
@@ -76,12 +77,6 @@ part_no_chance name piece file (part_some taken) = λ grows loose. record {
         })
 
 -- ---- what is said meanwhile
-
-log_manifest : (m n : ℕ) → Log m ≡ Manifest n → ⊥
-log_manifest m n e = cc
-
-table_manifest : (m n : ℕ) → Table m ≡ Manifest n → ⊥
-table_manifest m n e = cc
 
 -- the new manifest isn't there, can't be read, or says its state
 pub data IsTorn (number : ℕ) (s : ManifestState) (image : Image) : Type 0 where
