@@ -1,13 +1,12 @@
 -- What a crash leaves of a disk that holds a store opens as that store, which may be opened again on the same
 -- disk.
-use Rattle.std.specs.Prelude.{◌≡◌, ◌≢◌, ◌⊎◌, ◌≤◌, ◌<◌, ℕ, ◌+◌, List, [], ◌∷◌, length, map, Option, None, Some, Ok, All, refl, true, false}
+use Rattle.std.specs.Prelude.{◌≡◌, ◌≢◌, ◌⊎◌, ◌≤◌, ◌<◌, ℕ, ◌+◌, List, [], ◌∷◌, length, map, Option, None, Some, Ok, refl, true}
 use Rattle.std.specs.FinMap.{get}
 use Rattle.std.specs.Option.{option_map}
 use Rattle.std.proofs.Common.{sym, ap, subst, ◌∙◌, arith, ⊎_elim}
 use Rattle.std.proofs.lemmas.Bool.{cases_lt, true≢false}
 use Rattle.std.proofs.lemmas.List.Elements.{All-nil}
-use Rattle.vl_disk.specs.Chance.{NoChanceOne}
-use Rattle.vl_disk.specs.Crash.{Image, MayLeave, MayLeaveOne, last_file}
+use Rattle.vl_disk.specs.Crash.{Image, MayLeave, MayLeaveOne}
 use Rattle.vl_disk.specs.DiskState.{DiskState, File, IsLawful, Piece, settled}
 use Rattle.vl_disk.specs.Started.{IsRead, Started, read_left, started_left}
 use Rattle.vl_disk.specs.declared.name.Name.{Name}
@@ -16,7 +15,7 @@ use Rattle.vl_layout.specs.declared.segment.Segment.{Segment}
 use Rattle.vl_manifest.specs.Current.{IsCurrent, StandsReadable}
 use Rattle.vl_manifest.specs.ManifestLaws.{says_readable}
 use Rattle.vl_manifest.specs.declared.state.ManifestState.{ManifestState}
-use Rattle.vl_recover.specs.Alike.{IsLeft, SameState, Spells}
+use Rattle.vl_recover.specs.Alike.{SameState}
 use Rattle.vl_recover.specs.AlikeLaws.{same_state, standing_log}
 use Rattle.vl_recover.specs.Held.{AllSettled, HoldsLogs, HoldsManifest, HoldsStore, IsNowhere, IsSettled}
 use Rattle.vl_recover.specs.Opening.{Led, Opening, Opens, Refusal, Says, StandingLogs}
@@ -25,7 +24,6 @@ use Rattle.vl_recover.specs.StageLaws.{ok_same}
 use Rattle.vl_recover.specs.Starts.{AllMayStand, MayOpen, MayStand}
 use Rattle.vl_recover.specs.Walk.{StandingLog, filled, walked}
 use Rattle.vl_seglog.specs.Frames.{log_bytes}
-use Rattle.vl_seglog.specs.LogReading.{LogReading, ReadsLog}
 use Rattle.vl_seglog.specs.LogReadingLaws.{reads_written}
 
 -- ---- what is left of one name

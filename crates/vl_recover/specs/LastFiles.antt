@@ -1,31 +1,30 @@
 -- While the last log is mended it stands at each moment as a file may stand on a disk that is opened.
-use Rattle.std.specs.Prelude.{◌≡◌, ◌⊎◌, ℕ, ◌+◌, ◌≤◌, ◌<◌, ◌==◌, min, max, Bool, List, [], ◌∷◌, ◌++◌, length, take, drop, All, Option, None, Some, if◌then◌else◌, false, true, refl}
+use Rattle.std.specs.Prelude.{◌≡◌, ℕ, ◌+◌, ◌≤◌, ◌<◌, ◌==◌, min, max, Bool, List, [], ◌∷◌, ◌++◌, length, take, drop, Some, if◌then◌else◌, false, true, refl}
 use Rattle.std.specs.FinMap.{get}
 use Rattle.std.specs.Option.{option_map}
-use Rattle.std.proofs.Common.{ap, arith, inl, inr, length-append, subst, sym, ◌∙◌, ⊎_elim}
-use Rattle.std.proofs.lemmas.Bool.{cases_Bool, cases_lt}
+use Rattle.std.proofs.Common.{ap, arith, length-append, subst, sym, ◌∙◌, ⊎_elim}
+use Rattle.std.proofs.lemmas.Bool.{cases_lt}
 use Rattle.std.proofs.lemmas.List.{drop_at, length-take, take-take}
 use Rattle.std.proofs.lemmas.List.Elements.{All-push}
-use Rattle.vl_disk.specs.Chance.{HasOnlyHandedOver, NoChanceOne, torn_from}
+use Rattle.vl_disk.specs.Chance.{NoChanceOne, torn_from}
 use Rattle.vl_disk.specs.Changes.{SameElsewhere, changed_elsewhere, changed_there}
 use Rattle.vl_disk.specs.Crash.{WhileAppending, WhileCutting, WhileSyncing}
 use Rattle.vl_disk.specs.Disk.{IsInside}
-use Rattle.vl_disk.specs.DiskState.{DiskState, File, IsLawfulFile, Piece, appended, cut_to, lengthened, shortened, synced, synced_file, with_file}
+use Rattle.vl_disk.specs.DiskState.{DiskState, File, Piece, appended, cut_to, lengthened, shortened, synced, synced_file, with_file}
 use Rattle.vl_disk.specs.declared.name.Name.TheVariants.{Log}
 use Rattle.vl_frame.specs.Runs.{StandsAt}
-use Rattle.vl_layout.specs.Logs.{log_length}
 use Rattle.vl_recover.specs.Alike.{Spells}
 use Rattle.vl_recover.specs.HeldLaws.{settled_may_stand}
 use Rattle.vl_recover.specs.LastLaws.{IsWithinHeader, LastStands, goes_past, loose_below, number_same, wrong_header}
-use Rattle.vl_recover.specs.Mending.{Cut, Headed, Kept, LastLog, Rewritten, WhileHeading, WhileLast, headed, mending_of}
+use Rattle.vl_recover.specs.Mending.{Cut, Headed, Kept, Rewritten, WhileHeading, WhileLast, headed, mending_of}
 use Rattle.vl_recover.specs.OneName.{elsewhere_then}
 use Rattle.vl_recover.specs.Starts.{MayStand}
 use Rattle.vl_recover.specs.Torn.{ended_no_chance, same_handed, spelled_longer}
 use Rattle.vl_recover.specs.Walk.{StandingLog}
 use Rattle.vl_seglog.specs.FrameLaws.{length-log_bytes, length-log_header}
 use Rattle.vl_seglog.specs.Frames.{frames_end, frames_grammar, log_bytes, log_header}
-use Rattle.vl_seglog.specs.LogReading.{HasHeader, LogReading, ReadsLog}
-use Rattle.vl_seglog.specs.LogReadingLaws.{LogApart, frames_within, log_apart}
+use Rattle.vl_seglog.specs.LogReading.{HasHeader}
+use Rattle.vl_seglog.specs.LogReadingLaws.{LogApart, log_apart}
 
 -- The log of this number stands, as it may, and nothing else is changed.
 pub record StandsAs (k : ℕ) (disk now : DiskState) : Type 0 where
@@ -88,14 +87,14 @@ module _ (k : ℕ) (disk : DiskState) (file : File) (stands : get disk.standing 
   as_headed : (now : DiskState) → WhileHeading k disk now → StandsAs k disk now
   as_headed now during = ⊎_elim
       (λ (w : WhileAppending (Log k) (log_header k) disk now). ⊎_elim
-          (λ (same : now ≡ disk). subst (StandsAs k disk) (sym same) (as_self k disk file stands empty_stand))
-          (λ (x : (taken : ℕ) × (taken ≤ length (log_header k)) × (now ≡ appended (Log k) (log_header k) taken disk)).
-              subst (StandsAs k disk) (sym x.2) (as_changed k disk file (lengthened (log_header k) x.0) stands (headed_stand x.0)))
-          w)
+      (λ (same : now ≡ disk). subst (StandsAs k disk) (sym same) (as_self k disk file stands empty_stand))
+      (λ (x : (taken : ℕ) × (taken ≤ length (log_header k)) × (now ≡ appended (Log k) (log_header k) taken disk)).
+      subst (StandsAs k disk) (sym x.2) (as_changed k disk file (lengthened (log_header k) x.0) stands (headed_stand x.0)))
+      w)
       (λ (w : WhileSyncing (Log k) (headed k disk) now).
-          let change = lengthened (log_header k) (length (log_header k)) in
-          let first = as_changed k disk file change stands (headed_stand (length (log_header k))) in
-          as_then k disk (headed k disk) now first (as_synced k (headed k disk) now (change file) first.stands first.may w))
+      let change = lengthened (log_header k) (length (log_header k)) in
+      let first = as_changed k disk file change stands (headed_stand (length (log_header k))) in
+      as_then k disk (headed k disk) now first (as_synced k (headed k disk) now (change file) first.stands first.may w))
       during
 
 -- ---- the last log
@@ -178,25 +177,25 @@ module _ (q : StandingLog) (disk : DiskState) (is : LastStands q disk) where
   as_cut : q.reading.header ≡ true → q.reading.whole ≡ false → (now : DiskState) → WhileLast (Cut q.number (frames_end q.reading.frames)) disk now → StandsAs q.number disk now
   as_cut header goes_on now during = ⊎_elim
       (λ (w : WhileCutting (Log k) end disk now). ⊎_elim
-          (λ (same : now ≡ disk). subst (StandsAs k disk) (sym same) (as_self k disk is.file is.stands stood))
-          (λ (x : (left : ℕ) × (end ≤ left) × IsInside (Log k) left disk × (now ≡ cut_to (Log k) end left disk)).
-              subst (StandsAs k disk) (sym x.3) (as_changed k disk is.file (shortened end x.0) is.stands (cut_stand header goes_on x.0 x.1)))
-          w)
+      (λ (same : now ≡ disk). subst (StandsAs k disk) (sym same) (as_self k disk is.file is.stands stood))
+      (λ (x : (left : ℕ) × (end ≤ left) × IsInside (Log k) left disk × (now ≡ cut_to (Log k) end left disk)).
+      subst (StandsAs k disk) (sym x.3) (as_changed k disk is.file (shortened end x.0) is.stands (cut_stand header goes_on x.0 x.1)))
+      w)
       (λ (w : WhileSyncing (Log k) (cut_to (Log k) end end disk) now).
-          let first = as_changed k disk is.file (shortened end end) is.stands (cut_stand header goes_on end (omega arith)) in
-          as_then k disk (cut_to (Log k) end end disk) now first (as_synced k (cut_to (Log k) end end disk) now (shortened end end is.file) first.stands first.may w))
+      let first = as_changed k disk is.file (shortened end end) is.stands (cut_stand header goes_on end (omega arith)) in
+      as_then k disk (cut_to (Log k) end end disk) now first (as_synced k (cut_to (Log k) end end disk) now (shortened end end is.file) first.stands first.may w))
       during
 
   as_rewritten : q.reading.header ≡ false → (now : DiskState) → WhileLast (Rewritten q.number) disk now → StandsAs q.number disk now
   as_rewritten header now during = ⊎_elim
       (λ (w : WhileCutting (Log k) 0 disk now). ⊎_elim
-          (λ (same : now ≡ disk). subst (StandsAs k disk) (sym same) (as_self k disk is.file is.stands stood))
-          (λ (x : (left : ℕ) × (0 ≤ left) × IsInside (Log k) left disk × (now ≡ cut_to (Log k) 0 left disk)).
-              subst (StandsAs k disk) (sym x.3) (as_changed k disk is.file (shortened 0 x.0) is.stands (emptied_stand header x.0)))
-          w)
+      (λ (same : now ≡ disk). subst (StandsAs k disk) (sym same) (as_self k disk is.file is.stands stood))
+      (λ (x : (left : ℕ) × (0 ≤ left) × IsInside (Log k) left disk × (now ≡ cut_to (Log k) 0 left disk)).
+      subst (StandsAs k disk) (sym x.3) (as_changed k disk is.file (shortened 0 x.0) is.stands (emptied_stand header x.0)))
+      w)
       (λ (w : WhileHeading k (cut_to (Log k) 0 0 disk) now).
-          let first = as_changed k disk is.file (shortened 0 0) is.stands (emptied_stand header 0) in
-          as_then k disk (cut_to (Log k) 0 0 disk) now first (as_headed k (cut_to (Log k) 0 0 disk) (shortened 0 0 is.file) first.stands refl (is.headless header) now w))
+      let first = as_changed k disk is.file (shortened 0 0) is.stands (emptied_stand header 0) in
+      as_then k disk (cut_to (Log k) 0 0 disk) now first (as_headed k (cut_to (Log k) 0 0 disk) (shortened 0 0 is.file) first.stands refl (is.headless header) now w))
       during
 
   -- At each moment of its mending it stands as it may.

@@ -1,20 +1,19 @@
 -- What becomes of the last log: what a crash leaves meanwhile opens as before, and then it is durable with its frames and nothing else.
-use Rattle.std.specs.Prelude.{◌≡◌, ◌≢◌, ◌⊎◌, ℕ, ◌+◌, ◌≤◌, ◌<◌, ◌==◌, ◌&&◌, min, Bool, List, [], ◌∷◌, ◌++◌, length, take, All, Option, None, Some, IsTrue, if◌then◌else◌, false, true, refl}
+use Rattle.std.specs.Prelude.{◌≡◌, ◌≢◌, ℕ, ◌+◌, ◌≤◌, ◌<◌, ◌==◌, ◌&&◌, Bool, List, [], ◌∷◌, ◌++◌, length, take, All, Some, if◌then◌else◌, false, true, refl}
 use Rattle.std.specs.FinMap.{get}
 use Rattle.std.specs.List.{AllByRecursion}
 use Rattle.std.specs.Option.{option_map}
-use Rattle.std.proofs.Common.{ap, arith, inl, inr, length-append, subst, sym, ◌∙◌, ⊎_elim}
+use Rattle.std.proofs.Common.{ap, arith, inl, inr, subst, sym, ◌∙◌, ⊎_elim}
 use Rattle.std.proofs.lemmas.Bool.{cases_Bool, cases_lt, true≢false}
 use Rattle.std.proofs.lemmas.Bool.Decides.{nat_tests}
-use Rattle.std.proofs.lemmas.List.{length-take, take_all}
+use Rattle.std.proofs.lemmas.List.{take_all}
 use Rattle.std.proofs.lemmas.List.Elements.{All-push}
 use Rattle.vl_disk.specs.Chance.{NoChanceOne}
-use Rattle.vl_disk.specs.Changes.{SameElsewhere, changed_elsewhere, changed_there}
-use Rattle.vl_disk.specs.Crash.{Agrees, WhileAppending, WhileCutting, WhileSyncing}
+use Rattle.vl_disk.specs.Changes.{changed_elsewhere, changed_there}
+use Rattle.vl_disk.specs.Crash.{WhileAppending, WhileCutting, WhileSyncing}
 use Rattle.vl_disk.specs.Disk.{IsInside}
 use Rattle.vl_disk.specs.DiskState.{DiskState, File, IsLawfulFile, Piece, appended, cut_to, lengthened, settled, shortened, synced, synced_file, with_file}
-use Rattle.vl_disk.specs.declared.name.Name.{Name}
-use Rattle.vl_disk.specs.declared.name.Name.TheVariants.{Log, Manifest}
+use Rattle.vl_disk.specs.declared.name.Name.TheVariants.{Log}
 use Rattle.vl_frame.specs.Runs.{HasFrame}
 use Rattle.vl_manifest.specs.declared.state.ManifestState.{ManifestState}
 use Rattle.vl_recover.specs.Alike.{OpensAsOf, Spells}
@@ -23,9 +22,9 @@ use Rattle.vl_recover.specs.Held.{IsSettled}
 use Rattle.vl_recover.specs.LeadsLaws.{leads_kept, nowhere_kept}
 use Rattle.vl_recover.specs.Mending.{Cut, Headed, Kept, LastLog, Rewritten, WhileHeading, WhileLast, behind_last, headed, mending_of}
 use Rattle.vl_recover.specs.MendingSteps.{IsLast, change_step, manifest_log, sync_step}
-use Rattle.vl_recover.specs.OneName.{IsLeftOne, as_before, as_of_then}
-use Rattle.vl_recover.specs.Torn.{LeavesNone, ReadsFrames, cut_no_chance, leaves_none, leaves_read, ended_no_chance, torn_cut, torn_header, uncut, uncut_chance}
-use Rattle.vl_recover.specs.Walk.{StandingLog, content_end}
+use Rattle.vl_recover.specs.OneName.{as_before, as_of_then}
+use Rattle.vl_recover.specs.Torn.{LeavesNone, cut_no_chance, leaves_none, leaves_read, ended_no_chance, torn_cut, torn_header, uncut, uncut_chance}
+use Rattle.vl_recover.specs.Walk.{StandingLog}
 use Rattle.vl_seglog.specs.FrameLaws.{length-log_header}
 use Rattle.vl_seglog.specs.Frames.{frames_end, frames_grammar, log_bytes, log_header}
 use Rattle.vl_seglog.specs.LogReading.{AreBehind, HasHeader, LogReading, ReadsLog}

@@ -1,28 +1,26 @@
 -- The manifest that leads what a crash leaves, and what of a held store stays where a disk changes under one name.
-use Rattle.std.specs.Prelude.{◌≡◌, ◌≢◌, ◌⊎◌, ℕ, ◌+◌, ◌≤◌, ◌<◌, List, [], ◌∷◌, ◌++◌, Option, None, Some, Result, Ok, Err, true, false, refl}
+use Rattle.std.specs.Prelude.{◌≡◌, ◌≢◌, ℕ, ◌+◌, ◌≤◌, ◌<◌, List, [], ◌∷◌, ◌++◌, Option, None, Some, Ok, refl}
 use Rattle.std.specs.FinMap.{get}
-use Rattle.std.proofs.Common.{ap, arith, subst, sym, ◌∙◌, ⊎_elim, inl, inr}
-use Rattle.std.proofs.lemmas.Bool.{cases_eq, cases_lt}
+use Rattle.std.proofs.Common.{arith, subst, sym, ◌∙◌, ⊎_elim}
+use Rattle.std.proofs.lemmas.Bool.{cases_lt}
 use Rattle.vl_disk.specs.Changes.{SameElsewhere}
-use Rattle.vl_disk.specs.Crash.{Image, MayLeave, MayLeaveOne}
-use Rattle.vl_disk.specs.DiskState.{DiskState, File, settled}
+use Rattle.vl_disk.specs.Crash.{Image, MayLeave}
+use Rattle.vl_disk.specs.DiskState.{DiskState}
 use Rattle.vl_disk.specs.MadeFile.{made}
-use Rattle.vl_disk.specs.NameMap.{same_or_other}
 use Rattle.vl_disk.specs.declared.name.Name.{Name}
-use Rattle.vl_disk.specs.declared.name.Name.TheVariants.{Log, Manifest, Table}
+use Rattle.vl_disk.specs.declared.name.Name.TheVariants.{Log, Manifest}
 use Rattle.vl_layout.specs.Logs.{new_segment}
 use Rattle.vl_layout.specs.declared.segment.Segment.{Segment}
-use Rattle.vl_manifest.specs.Current.{IsCurrent, StandsReadable}
-use Rattle.vl_manifest.specs.Manifest.{ManifestSays, SaysState}
-use Rattle.vl_manifest.specs.ManifestLaws.{says_readable}
+use Rattle.vl_manifest.specs.Current.{IsCurrent}
+use Rattle.vl_manifest.specs.Manifest.{SaysState}
 use Rattle.vl_manifest.specs.declared.state.ManifestState.{ManifestState}
 use Rattle.vl_recover.specs.Alike.{OpensLike}
 use Rattle.vl_recover.specs.AlikeLaws.{Alike, SameBut, SameLog, agree_opens, both, like_logs, log_same, neither, shows_same}
 use Rattle.vl_recover.specs.Held.{HoldsLogs, HoldsManifest, IsNowhere, IsSettled}
 use Rattle.vl_recover.specs.HeldLaws.{held_current}
 use Rattle.vl_recover.specs.OneName.{made_elsewhere, made_there}
-use Rattle.vl_recover.specs.Opening.{Led, Says, StandingLogs}
-use Rattle.vl_recover.specs.OpeningLaws.{single_says, some_none, some_same}
+use Rattle.vl_recover.specs.Opening.{Led, StandingLogs}
+use Rattle.vl_recover.specs.OpeningLaws.{single_says, some_none}
 use Rattle.vl_recover.specs.StageLaws.{ok_same}
 use Rattle.vl_recover.specs.Walk.{StandingLog}
 use Rattle.vl_seglog.specs.Frames.{log_header}

@@ -1,26 +1,24 @@
 -- The logs from head on as they stand on a disk, before and after the last one is mended.
-use Rattle.std.specs.Prelude.{◌≡◌, ◌≢◌, ◌⊎◌, ℕ, ◌+◌, ◌≤◌, ◌<◌, ◌==◌, Bool, List, [], ◌∷◌, length, map, All, Option, None, Some, Result, Ok, Err, IsTrue, if◌then◌else◌, false, true, refl}
+use Rattle.std.specs.Prelude.{◌≡◌, ◌≢◌, ◌⊎◌, ℕ, ◌+◌, ◌≤◌, ◌<◌, ◌==◌, Bool, List, [], ◌∷◌, length, map, Option, None, Some, Result, Ok, Err, if◌then◌else◌, false, true, refl}
 use Rattle.std.specs.FinMap.{get}
-use Rattle.std.specs.List.{AllByRecursion}
 use Rattle.std.specs.Option.{option_map}
 use Rattle.std.proofs.Common.{ap, arith, inl, inr, subst, sym, ◌∙◌, ⊎_elim}
 use Rattle.std.proofs.lemmas.Bool.{cases_lt}
-use Rattle.vl_disk.specs.Chance.{NoChanceOne}
 use Rattle.vl_disk.specs.Changes.{SameElsewhere, changed_elsewhere}
-use Rattle.vl_disk.specs.Crash.{Image, MayLeave, last_file}
+use Rattle.vl_disk.specs.Crash.{Image, MayLeave}
 use Rattle.vl_disk.specs.DiskState.{DiskState, File, IsLawful, lengthened, settled, shortened, synced_file, with_file}
 use Rattle.vl_disk.specs.Started.{IsRead}
 use Rattle.vl_disk.specs.declared.name.Name.{Name}
-use Rattle.vl_disk.specs.declared.name.Name.TheVariants.{Log, Manifest}
+use Rattle.vl_disk.specs.declared.name.Name.TheVariants.{Log}
 use Rattle.vl_layout.specs.Logs.{log_length}
 use Rattle.vl_manifest.specs.declared.state.ManifestState.{ManifestState}
 use Rattle.vl_recover.specs.AlikeLaws.{LastIsWhole, log_same}
 use Rattle.vl_recover.specs.Answers.{as_segment}
-use Rattle.vl_recover.specs.Held.{HoldsLogs, IsNowhere, IsSettled}
+use Rattle.vl_recover.specs.Held.{HoldsLogs, IsNowhere}
 use Rattle.vl_recover.specs.HeldLaws.{left_nowhere, left_settled}
 use Rattle.vl_recover.specs.LeadsLaws.{nowhere_kept, settled_kept}
-use Rattle.vl_recover.specs.LastLaws.{IsWithinHeader, IsWritten, LastStands, MendsLast, whole_bytes, wrong_header}
-use Rattle.vl_recover.specs.Mending.{Cut, Headed, Kept, LastLog, NoLast, Rewritten, behind_last, headed, last_of, mending_of}
+use Rattle.vl_recover.specs.LastLaws.{IsWritten, LastStands, MendsLast, whole_bytes, wrong_header}
+use Rattle.vl_recover.specs.Mending.{Cut, Headed, Kept, LastLog, Rewritten, behind_last, headed, last_of, mending_of}
 use Rattle.vl_recover.specs.OneName.{elsewhere_then}
 use Rattle.vl_recover.specs.Opening.{IsNextLog, StandingLogs}
 use Rattle.vl_recover.specs.OpeningLaws.{some_none, some_same}
@@ -28,8 +26,8 @@ use Rattle.vl_recover.specs.Plans.{log_behind, log_made}
 use Rattle.vl_recover.specs.StageLaws.{err_ok, ok_apart}
 use Rattle.vl_recover.specs.Stages.{on_ok}
 use Rattle.vl_recover.specs.Starts.{AllMayStand}
-use Rattle.vl_recover.specs.Walk.{LogDamage, StandingLog, counted, counted_whole, in_log, walked, walked_on}
-use Rattle.vl_seglog.specs.Frames.{frames_end, log_bytes, log_header}
+use Rattle.vl_recover.specs.Walk.{StandingLog, counted, counted_whole, in_log, walked, walked_on}
+use Rattle.vl_seglog.specs.Frames.{log_bytes, log_header}
 use Rattle.vl_seglog.specs.LogReading.{LogReading, ReadsLog}
 use Rattle.vl_seglog.specs.LogReadingLaws.{log_apart, one_log_reading, reads_written}
 

@@ -1,37 +1,35 @@
 -- A disk that an opening left when it failed: a store may be opened on it again.
-use Rattle.std.specs.Prelude.{◌≡◌, ◌≢◌, ◌⊎◌, ℕ, ◌+◌, ◌-◌, ◌^◌, ◌≤◌, ◌<◌, max, List, [], ◌∷◌, ◌++◌, length, take, drop, map, All, AllPairs, Contains, Option, None, Some, Result, Ok, suc, false, true, refl}
+use Rattle.std.specs.Prelude.{◌≡◌, ◌≢◌, ℕ, ◌+◌, ◌≤◌, ◌<◌, List, [], ◌∷◌, length, take, AllPairs, Option, None, Some, suc, true, refl}
 use Rattle.std.specs.FinMap.{get}
-use Rattle.std.specs.Option.{option_map}
-use Rattle.std.proofs.Common.{append_assoc, ap, arith, inl, inr, length-append, subst, sym, ◌∙◌, ⊎_elim}
+use Rattle.std.proofs.Common.{ap, arith, subst, sym, ◌∙◌, ⊎_elim}
 use Rattle.std.proofs.lemmas.Bool.{cases_eq, cases_lt}
 use Rattle.std.proofs.lemmas.List.{length-take}
 use Rattle.std.proofs.lemmas.List.Elements.{All-cons, All-nil}
 use Rattle.vl_disk.specs.Changes.{SameElsewhere, without_elsewhere}
-use Rattle.vl_disk.specs.Crash.{Image, WhileRemoving}
+use Rattle.vl_disk.specs.Crash.{WhileRemoving}
 use Rattle.vl_disk.specs.DiskState.{DiskState, File, IsLawful, Piece, lengthened, new_file, settled, without}
-use Rattle.vl_disk.specs.MadeFile.{WhileMaking, made}
 use Rattle.vl_disk.specs.NameMap.{get_removed, same_or_other}
 use Rattle.vl_disk.specs.declared.name.Name.{Name}
-use Rattle.vl_disk.specs.declared.name.Name.TheVariants.{Log, Manifest}
+use Rattle.vl_disk.specs.declared.name.Name.TheVariants.{Log}
 use Rattle.vl_manifest.specs.declared.state.ManifestState.{ManifestState}
 use Rattle.vl_recover.specs.AlikeLaws.{log_same}
-use Rattle.vl_recover.specs.Held.{HoldsLogs, IsNowhere}
+use Rattle.vl_recover.specs.Held.{IsNowhere}
 use Rattle.vl_recover.specs.HeldLaws.{AreSealed, may_open_by, settled_may_stand}
-use Rattle.vl_recover.specs.LastFiles.{StandsAs, as_mending}
-use Rattle.vl_recover.specs.LastLaws.{IsWithinHeader, IsWritten, LastStands}
+use Rattle.vl_recover.specs.LastFiles.{as_mending}
+use Rattle.vl_recover.specs.LastLaws.{LastStands}
 use Rattle.vl_recover.specs.LeadsLaws.{Leads, leads_holds, leads_kept}
-use Rattle.vl_recover.specs.LogsLaws.{IsTheLast, StandUpTo, last_is, last_stands, the_last, written_at}
-use Rattle.vl_recover.specs.Mending.{LastLog, WhileLast, WhileLog, WhileStrays, behind_last, behind_log, last_of, mending_of}
-use Rattle.vl_recover.specs.MendingStages.{IsFreeFrom, held_settled}
+use Rattle.vl_recover.specs.LogsLaws.{StandUpTo, last_is, last_stands, the_last}
+use Rattle.vl_recover.specs.Mending.{LastLog, WhileLast, WhileLog, WhileStrays, last_of}
+use Rattle.vl_recover.specs.MendingStages.{IsFreeFrom}
 use Rattle.vl_recover.specs.MendingSteps.{manifest_log}
-use Rattle.vl_recover.specs.OneName.{IsPart, Making, done, made_elsewhere, made_there, making, part_empty, part_some, torn, waits}
+use Rattle.vl_recover.specs.OneName.{IsPart, Making, done, making, part_empty, part_some, torn, waits}
 use Rattle.vl_recover.specs.OpeningLaws.{some_none, some_same}
 use Rattle.vl_recover.specs.Starts.{AllMayStand, MayOpen, MayStand}
 use Rattle.vl_recover.specs.StraysLaws.{AreSpare, IsSpare, rest_apart, rest_once, spare_kept}
 use Rattle.vl_recover.specs.Torn.{ended_no_chance}
 use Rattle.vl_recover.specs.Walk.{StandingLog}
 use Rattle.vl_seglog.specs.FrameLaws.{length-log_header}
-use Rattle.vl_seglog.specs.Frames.{log_bytes, log_header}
+use Rattle.vl_seglog.specs.Frames.{log_header}
 
 -- What stands may stand, and from a number on each log that another follows is durable, and none was removed.
 pub record StandsWell (head : ℕ) (disk : DiskState) : Type 0 where
@@ -160,11 +158,11 @@ strays_well number s (name ∷ names) disk now spare once goes during =
     let less = without_well number s name disk (spare name (0, omega arith, refl)) goes in
     ⊎_elim
     (λ (w : WhileRemoving name disk now). ⊎_elim
-        (λ (waits : now ≡ disk). subst (GoesWell number s) (sym waits) goes)
-        (λ (turns : now ≡ without name disk). subst (GoesWell number s) (sym turns) less)
-        w)
+    (λ (waits : now ≡ disk). subst (GoesWell number s) (sym waits) goes)
+    (λ (turns : now ≡ without name disk). subst (GoesWell number s) (sym turns) less)
+    w)
     (λ (w : WhileStrays names (without name disk) now). strays_well number s names (without name disk) now
-        (λ other (k, within, is). spare_kept number s.head name disk (without name disk) (without_elsewhere name disk) other (rest_apart name names once other (k, within, is))
-          (spare other (suc k, omega (arith, within), is)))
-        (rest_once name names once) less w)
+    (λ other (k, within, is). spare_kept number s.head name disk (without name disk) (without_elsewhere name disk) other (rest_apart name names once other (k, within, is))
+    (spare other (suc k, omega (arith, within), is)))
+    (rest_once name names once) less w)
     during

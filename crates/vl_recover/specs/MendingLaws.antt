@@ -3,7 +3,7 @@ use Rattle.std.specs.Prelude.{◌≡◌, ℕ, ◌+◌, ◌==◌, Bool, true, fal
 use Rattle.std.proofs.Common.{ap, ◌∙◌}
 use Rattle.vl_disk.specs.Crash.{Image}
 use Rattle.vl_recover.specs.Answers.{Finds, calls_to_open}
-use Rattle.vl_recover.specs.Mending.{Cut, Headed, IsPlan, Kept, LastLog, Plan, Rewritten, calls_of_plan, calls_to_mend, last_of, mending_of}
+use Rattle.vl_recover.specs.Mending.{Cut, Headed, IsPlan, Kept, Plan, Rewritten, calls_of_plan, calls_to_mend, last_of, mending_of}
 use Rattle.vl_recover.specs.Plans.{calls_of_last, calls_to_make, log_made, new_state}
 use Rattle.vl_recover.specs.Walk.{StandingLog, content_end}
 

@@ -1,5 +1,5 @@
 -- Where an opening failed while it mended a store, the store may be opened again on the same disk.
-use Rattle.std.specs.Prelude.{◌≡◌, ◌≢◌, ◌⊎◌, ℕ, ◌+◌, ◌^◌, ◌≤◌, ◌<◌, List, [], ◌∷◌, map, Option, None, Some, Result, Ok, refl}
+use Rattle.std.specs.Prelude.{◌≡◌, ◌≢◌, ◌⊎◌, ℕ, ◌+◌, ◌≤◌, ◌<◌, List, map, Option, None, Some, Ok, refl}
 use Rattle.std.specs.FinMap.{get, remove, same_map}
 use Rattle.std.specs.Option.{option_map}
 use Rattle.std.proofs.Common.{ap, arith, inl, inr, subst, sym, ◌∙◌, ⊎_elim}
@@ -7,7 +7,7 @@ use Rattle.std.proofs.lemmas.Bool.{cases_eq, cases_lt}
 use Rattle.vl_disk.specs.Changes.{SameElsewhere}
 use Rattle.vl_disk.specs.Crash.{Image}
 use Rattle.vl_disk.specs.DiskState.{DiskState, File, IsLawful, settled}
-use Rattle.vl_disk.specs.MadeFile.{WhileMaking, durable, made}
+use Rattle.vl_disk.specs.MadeFile.{WhileMaking, durable}
 use Rattle.vl_disk.specs.Name.{name_cmp_exact, name_cmp_total}
 use Rattle.vl_disk.specs.NameMap.{get_removed, get_removed_other, same_or_other}
 use Rattle.vl_disk.specs.Started.{IsRead}
@@ -18,17 +18,16 @@ use Rattle.vl_manifest.specs.Manifest.{IsReadable, SaysState}
 use Rattle.vl_manifest.specs.ManifestLaws.{whole_manifest}
 use Rattle.vl_manifest.specs.declared.state.ManifestState.{ManifestState}
 use Rattle.vl_recover.specs.Alike.{IsLeft, SameState}
-use Rattle.vl_recover.specs.AlikeLaws.{SameBut, log_manifest, log_same, manifest_same, state_back, state_then}
+use Rattle.vl_recover.specs.AlikeLaws.{log_manifest, manifest_same, state_back, state_then}
 use Rattle.vl_recover.specs.Answers.{AreStrayNames, Finds, as_segment, used_up}
-use Rattle.vl_recover.specs.Held.{IsNowhere}
 use Rattle.vl_recover.specs.HeldLaws.{settled_may_stand}
-use Rattle.vl_recover.specs.LeadsLaws.{Leads, nowhere_kept}
+use Rattle.vl_recover.specs.LeadsLaws.{nowhere_kept}
 use Rattle.vl_recover.specs.LogsLaws.{written_held}
 use Rattle.vl_recover.specs.Mending.{Cut, Headed, IsPlan, Kept, LastLog, NoLast, Plan, Rewritten, WhileLast, WhileLog, WhileMending, at_last, at_log, at_manifest, at_strays, behind_last, behind_log, last_of}
-use Rattle.vl_recover.specs.MendingAgain.{GoesWell, StandsWell, below_well, files_kept, last_well, leads_may_open, log_well, strays_well}
-use Rattle.vl_recover.specs.MendingOpens.{first, first_leads, first_stand, fits, head, last, log, log_free, number, piece, plan, s, second, third, third_spare}
+use Rattle.vl_recover.specs.MendingAgain.{GoesWell, StandsWell, below_well, last_well, leads_may_open, log_well, strays_well}
+use Rattle.vl_recover.specs.MendingOpens.{first, first_stand, fits, last, log_free, piece, plan, s, second, third, third_spare}
 use Rattle.vl_recover.specs.MendingStages.{held_settled}
-use Rattle.vl_recover.specs.MendingStart.{Begins, all_say, free_unread, manifests_nowhere, new_range, unread_free}
+use Rattle.vl_recover.specs.MendingStart.{Begins, all_say, free_unread, manifests_nowhere, new_range}
 use Rattle.vl_recover.specs.OneName.{IsLeftOne, IsPart, Making, done, left_before, left_elsewhere, left_one, left_there, made_elsewhere, made_there, making, may_miss, torn, waits}
 use Rattle.vl_recover.specs.Opening.{Opening, Opens, Refusal}
 use Rattle.vl_recover.specs.OpeningLaws.{opened, single_opening, some_none, some_same}
@@ -57,6 +56,16 @@ made_never (Some j) disk k e = ap (λ (n : ℕ). get (behind_log (Some j) disk).
 module _ {read : Image} (found : Finds read) (start : DiskState) (begins : Begins found start) (strays : List Name) where
   abbrev n : ℕ
   n = found.greatest.manifest + 1
+
+  -- the disk with the new manifest, with the last log mended, and with the new log
+  abbrev disk1 : DiskState
+  disk1 = first found start begins strays
+
+  abbrev disk2 : DiskState
+  disk2 = second found start begins strays
+
+  abbrev disk3 : DiskState
+  disk3 = third found start begins strays
 
   start_well : StandsWell found.opening.state.head start
   start_well = record {
@@ -112,7 +121,7 @@ module _ {read : Image} (found : Finds read) (start : DiskState) (begins : Begin
         by None is = missing is
         by (Some bytes) is = torn_by bytes image is (torn_manifest n new_s (fits found start begins strays) (new_range found start begins) file part bytes
             (subst (λ (x : Option (List ℕ)). IsLeftOne (Manifest n) (Some file) (get now.removed (Manifest n)) x) is
-              (subst (λ (x : Option File). IsLeftOne (Manifest n) x (get now.removed (Manifest n)) (get image (Manifest n))) stands (left_one now image low (Manifest n)))).no_chance)
+            (subst (λ (x : Option File). IsLeftOne (Manifest n) x (get now.removed (Manifest n)) (get image (Manifest n))) stands (left_one now image low (Manifest n)))).no_chance)
 
     -- and so does what is read.
     read_says : (image : Image) (o : Opening) → IsRead image now → Opens image (Ok o) → SameState new_s o.state
@@ -129,7 +138,7 @@ module _ {read : Image} (found : Finds read) (start : DiskState) (begins : Begin
         each name = ⊎_elim
             (λ (e : name ≡ Manifest n). ap (get before) e ∙ get_removed image (Manifest n) ∙ sym (ap (get read) e ∙ free_unread read start begins.is_read (Manifest n) free))
             (λ (other : name ≢ Manifest n). get_removed_other image (Manifest n) name other ∙ is_read.each name
-                ∙ ap (option_map (λ (f : File). f.bytes)) (same.standing name other) ∙ sym (begins.is_read.each name))
+            ∙ ap (option_map (λ (f : File). f.bytes)) (same.standing name other) ∙ sym (begins.is_read.each name))
             (same_or_other name (Manifest n))
 
         is_before : remove image (Manifest n) ≡ read
@@ -155,8 +164,8 @@ module _ {read : Image} (found : Finds read) (start : DiskState) (begins : Begin
     removed_below m was = ⊎_elim
         (λ (e : m ≡ n). absurd (was (ap (λ (k : ℕ). get now.removed (Manifest k)) e ∙ lawful_now.apart (Manifest n) file stands)))
         (λ (other : m ≢ n).
-            let (k, more, there) = begins.may.manifests m (λ none. was (same.removed (Manifest m) (λ e. other (manifest_same m n e)) ∙ none)) in
-            (k, more, λ none. there (not_there k none)))
+        let (k, more, there) = begins.may.manifests m (λ none. was (same.removed (Manifest m) (λ e. other (manifest_same m n e)) ∙ none)) in
+        (k, more, λ none. there (not_there k none)))
         (cases_eq m n)
       where
         not_there : (k : ℕ) → get now.standing (Manifest k) ≡ None → get start.standing (Manifest k) ≡ None
@@ -184,31 +193,31 @@ module _ {read : Image} (found : Finds read) (start : DiskState) (begins : Begin
 
   -- ---- behind it
 
-  first_goes : GoesWell n new_s (first found start begins strays)
-  first_goes = done_goes (first found start begins strays) (made_there (Manifest n) new_piece start) (made_elsewhere (Manifest n) new_piece start)
+  first_goes : GoesWell n new_s disk1
+  first_goes = done_goes disk1 (made_there (Manifest n) new_piece start) (made_elsewhere (Manifest n) new_piece start)
 
-  last_goes : (now : DiskState) → WhileLast (last_of found.logs) (first found start begins strays) now → GoesWell n new_s now
-  last_goes now during = last_well n new_s found.logs (first found start begins strays) now first_goes (first_stand found start begins strays) during
+  last_goes : (now : DiskState) → WhileLast (last_of found.logs) disk1 now → GoesWell n new_s now
+  last_goes now during = last_well n new_s found.logs disk1 now first_goes (first_stand found start begins strays) during
 
-  second_goes : GoesWell n new_s (second found start begins strays)
+  second_goes : GoesWell n new_s disk2
   second_goes = ⊎_elim
-      (λ (same : second found start begins strays ≡ first found start begins strays). subst (GoesWell n new_s) (sym same) first_goes)
-      (λ (during : WhileLast (last_of found.logs) (first found start begins strays) (second found start begins strays)). last_goes (second found start begins strays) during)
-      (last_ends (last_of found.logs) (first found start begins strays))
+      (λ (same : disk2 ≡ disk1). subst (GoesWell n new_s) (sym same) first_goes)
+      (λ (during : WhileLast (last_of found.logs) disk1 disk2). last_goes disk2 during)
+      (last_ends (last_of found.logs) disk1)
 
   log_goes : (now : DiskState) → ((k : ℕ) (file : File) → log_made new_s found.logs ≡ Some k → get now.standing (Log k) ≡ Some file → get now.removed (Log k) ≡ None)
-      → WhileLog (log_made new_s found.logs) (second found start begins strays) now → GoesWell n new_s now
-  log_goes now never during = log_well n new_s (log_made new_s found.logs) (second found start begins strays) now never (log_free found start begins strays)
-      (λ m file from. held_settled found.opening.state.head (map as_segment found.logs) (second found start begins strays)
-        (written_held found.opening.state.head found.logs (second found start begins strays) (last found start begins strays).written) m from file)
+      → WhileLog (log_made new_s found.logs) disk2 now → GoesWell n new_s now
+  log_goes now never during = log_well n new_s (log_made new_s found.logs) disk2 now never (log_free found start begins strays)
+      (λ m file from. held_settled found.opening.state.head (map as_segment found.logs) disk2
+      (written_held found.opening.state.head found.logs disk2 (last found start begins strays).written) m from file)
       second_goes during
 
-  third_goes : GoesWell n new_s (third found start begins strays)
+  third_goes : GoesWell n new_s disk3
   third_goes = ⊎_elim
-      (λ (same : third found start begins strays ≡ second found start begins strays). subst (GoesWell n new_s) (sym same) second_goes)
-      (λ (during : WhileLog (log_made new_s found.logs) (second found start begins strays) (third found start begins strays)).
-          log_goes (third found start begins strays) (λ k file is stands. made_never (log_made new_s found.logs) (second found start begins strays) k is) during)
-      (log_ends (log_made new_s found.logs) (second found start begins strays))
+      (λ (same : disk3 ≡ disk2). subst (GoesWell n new_s) (sym same) second_goes)
+      (λ (during : WhileLog (log_made new_s found.logs) disk2 disk3).
+      log_goes disk3 (λ k file is stands. made_never (log_made new_s found.logs) disk2 k is) during)
+      (log_ends (log_made new_s found.logs) disk2)
 
   may_open_meanwhile : AreStrayNames read found.opening.state.head strays → (now : DiskState) → IsLawful now → WhileMending (plan found start begins strays) start now → MayOpen now
   may_open_meanwhile names now lawful_now (at_manifest during) = manifest_may_open now lawful_now during
@@ -216,7 +225,7 @@ module _ {read : Image} (found : Finds read) (start : DiskState) (begins : Begin
   may_open_meanwhile names now lawful_now (at_log during) =
       (let goes = log_goes now (λ k file is stands. lawful_now.apart (Log k) file stands) during in leads_may_open n new_s now lawful_now goes.leads goes.well)
   may_open_meanwhile names now lawful_now (at_strays during) =
-      (let goes = strays_well n new_s strays (third found start begins strays) now (third_spare found start begins strays names) names.once third_goes during in
+      (let goes = strays_well n new_s strays disk3 now (third_spare found start begins strays names) names.once third_goes during in
       leads_may_open n new_s now lawful_now goes.leads goes.well)
 
 -- At each moment of a mending a store may be opened on the disk, if it stops there.

@@ -1,37 +1,35 @@
 -- An opening's mending: whatever a crash leaves meanwhile opens as something that it could have left before, and then the disk holds the store.
-use Rattle.std.specs.Prelude.{◌≡◌, ◌≢◌, ◌⊎◌, ℕ, ◌+◌, ◌^◌, ◌≤◌, ◌<◌, max, List, [], ◌∷◌, ◌++◌, map, Option, None, Some, IsSome, Contains, false, true, refl}
+use Rattle.std.specs.Prelude.{◌≡◌, ◌≢◌, ℕ, ◌+◌, ◌^◌, ◌≤◌, ◌<◌, List, [], ◌∷◌, map, Option, None, Some, IsSome, Contains, false, true, refl}
 use Rattle.std.specs.FinMap.{get}
 use Rattle.std.specs.Option.{option_map}
-use Rattle.std.proofs.Common.{ap, arith, inl, inr, subst, sym, ◌∙◌, ⊎_elim}
+use Rattle.std.proofs.Common.{ap, arith, subst, sym, ◌∙◌, ⊎_elim}
 use Rattle.std.proofs.lemmas.Bool.{cases_eq, cases_lt}
-use Rattle.vl_disk.specs.Chance.{NoChanceOne}
-use Rattle.vl_disk.specs.Crash.{Image, last_file}
+use Rattle.vl_disk.specs.Crash.{Image}
 use Rattle.vl_disk.specs.DiskState.{DiskState, File, IsLawful, settled}
-use Rattle.vl_disk.specs.MadeFile.{WhileMaking, durable, made}
+use Rattle.vl_disk.specs.MadeFile.{WhileMaking, durable}
 use Rattle.vl_disk.specs.Started.{IsRead}
 use Rattle.vl_disk.specs.declared.name.Name.{Name}
 use Rattle.vl_disk.specs.declared.name.Name.TheVariants.{Log, Manifest, Table}
-use Rattle.vl_layout.specs.declared.segment.Segment.{Segment}
 use Rattle.vl_manifest.specs.Manifest.{manifest_bytes}
 use Rattle.vl_manifest.specs.ManifestLaws.{whole_manifest}
 use Rattle.vl_manifest.specs.States.{whole_edits}
 use Rattle.vl_manifest.specs.declared.state.ManifestState.{ManifestState}
-use Rattle.vl_recover.specs.Alike.{OpensAsOf, Spells}
+use Rattle.vl_recover.specs.Alike.{OpensAsOf}
 use Rattle.vl_recover.specs.AlikeLaws.{log_manifest, log_same, manifest_same}
-use Rattle.vl_recover.specs.Answers.{AreStrayNames, Finds, IsStrayName, and_made, as_segment, logs_then, used_up}
-use Rattle.vl_recover.specs.Held.{AllSettled, HoldsLogs, HoldsStore, IsNowhere, IsSettled}
-use Rattle.vl_recover.specs.LastLaws.{IsWritten, LastStands}
+use Rattle.vl_recover.specs.Answers.{AreStrayNames, Finds, IsStrayName, as_segment, logs_then, used_up}
+use Rattle.vl_recover.specs.Held.{HoldsStore}
+use Rattle.vl_recover.specs.LastLaws.{LastStands}
 use Rattle.vl_recover.specs.LeadsLaws.{Leads, leads_holds, nowhere_kept}
-use Rattle.vl_recover.specs.LogsLaws.{IsTheLast, MayMend, StandUpTo, last_kept, last_stands, stand_kept, stand_read, the_last, written_held, written_whole}
-use Rattle.vl_recover.specs.Mending.{IsPlan, Plan, WhileMending, at_last, at_log, at_manifest, at_strays, last_of, mended, plan_of, with_last, with_log, with_manifest}
+use Rattle.vl_recover.specs.LogsLaws.{MayMend, StandUpTo, last_kept, last_stands, stand_kept, stand_read, the_last, written_held, written_whole}
+use Rattle.vl_recover.specs.Mending.{IsPlan, Plan, WhileMending, at_last, at_log, at_manifest, at_strays, mended, plan_of, with_last, with_log, with_manifest}
 use Rattle.vl_recover.specs.MendingStages.{IsBelow, IsFreeFrom, held_settled, settled_is, LastStage, LogStage, SameBelow, below_then, last_stage, log_stage, made_free, spare_below, still_stands}
-use Rattle.vl_recover.specs.MendingStart.{Begins, all_say, found_walk, free_unread, log_below, manifest_fits, manifests_nowhere, new_range, some_file, unread_free}
+use Rattle.vl_recover.specs.MendingStart.{Begins, all_say, found_walk, free_unread, log_below, manifest_fits, manifests_nowhere, new_range, some_file}
 use Rattle.vl_recover.specs.MendingSteps.{manifest_step, table_manifest}
 use Rattle.vl_recover.specs.OneName.{as_of_then, made_elsewhere, made_there}
-use Rattle.vl_recover.specs.OpeningLaws.{some_none, some_same}
+use Rattle.vl_recover.specs.OpeningLaws.{some_none}
 use Rattle.vl_recover.specs.Plans.{log_made, new_state}
 use Rattle.vl_recover.specs.Starts.{MayOpen}
-use Rattle.vl_recover.specs.StraysLaws.{AreSpare, IsSpare, MendsStrays, spare_kept, strays_law}
+use Rattle.vl_recover.specs.StraysLaws.{AreSpare, MendsStrays, spare_kept, strays_law}
 use Rattle.vl_recover.specs.Torn.{stand_leaves}
 use Rattle.vl_recover.specs.Walk.{StandingLog}
 

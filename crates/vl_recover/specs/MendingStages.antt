@@ -1,26 +1,26 @@
 -- The stages of a mending behind the new manifest, which leads: what a crash leaves while they are under way opens as before, and what then stands.
-use Rattle.std.specs.Prelude.{◌≡◌, ◌≢◌, ◌⊎◌, ℕ, ◌+◌, ◌≤◌, ◌<◌, max, List, [], ◌∷◌, ◌++◌, suc, zero, length, map, Option, None, Some, Contains, refl}
+use Rattle.std.specs.Prelude.{◌≡◌, ◌≢◌, ℕ, ◌+◌, ◌≤◌, ◌<◌, max, List, [], ◌∷◌, ◌++◌, suc, zero, Option, None, Some, Contains, refl}
 use Rattle.std.specs.FinMap.{get}
-use Rattle.std.proofs.Common.{ap, arith, inl, inr, subst, sym, ◌∙◌, ⊎_elim}
+use Rattle.std.proofs.Common.{ap, arith, subst, sym, ◌∙◌, ⊎_elim}
 use Rattle.std.proofs.lemmas.Bool.{cases_lt}
 use Rattle.std.proofs.lemmas.List.{append-nil}
-use Rattle.vl_disk.specs.Changes.{SameElsewhere, without_elsewhere}
+use Rattle.vl_disk.specs.Changes.{SameElsewhere}
 use Rattle.vl_disk.specs.Crash.{Image, MayLeave}
 use Rattle.vl_disk.specs.DiskState.{DiskState, File, settled, without}
 use Rattle.vl_disk.specs.MadeFile.{durable, made}
 use Rattle.vl_disk.specs.NameMap.{get_removed, get_removed_other, same_or_other}
 use Rattle.vl_disk.specs.declared.name.Name.{Name}
-use Rattle.vl_disk.specs.declared.name.Name.TheVariants.{Log, Manifest}
+use Rattle.vl_disk.specs.declared.name.Name.TheVariants.{Log}
 use Rattle.vl_layout.specs.declared.segment.Segment.{Segment}
 use Rattle.vl_manifest.specs.declared.state.ManifestState.{ManifestState}
 use Rattle.vl_model.specs.declared.log_frame.LogFrame.{LogFrame}
 use Rattle.vl_recover.specs.Alike.{OpensAsOf}
 use Rattle.vl_recover.specs.AlikeLaws.{LastIsWhole}
-use Rattle.vl_recover.specs.Answers.{and_made, as_segment}
+use Rattle.vl_recover.specs.Answers.{and_made}
 use Rattle.vl_recover.specs.Held.{HoldsLogs, IsNowhere}
 use Rattle.vl_recover.specs.LastLaws.{IsWritten, LastStands, MendsLast, last_law}
 use Rattle.vl_recover.specs.LeadsLaws.{Leads, leads_kept, log_added}
-use Rattle.vl_recover.specs.LogsLaws.{IsTheLast, StandUpTo, all_written, last_is, last_stands, made_is, mending_elsewhere, the_last, written_held, written_whole}
+use Rattle.vl_recover.specs.LogsLaws.{IsTheLast, StandUpTo, all_written, last_is, last_stands, made_is, mending_elsewhere, the_last}
 use Rattle.vl_recover.specs.Mending.{LastLog, WhileLast, WhileLog, behind_last, behind_log, behind_strays, last_of, mending_of}
 use Rattle.vl_recover.specs.MendingSteps.{log_step, manifest_log}
 use Rattle.vl_recover.specs.OneName.{as_before, made_elsewhere}

@@ -1,17 +1,17 @@
 -- What is so of the disk on which a mending begins: its new manifest is above all others, and whatever a crash leaves says what the new one says.
-use Rattle.std.specs.Prelude.{◌≡◌, ◌≢◌, ◌⊎◌, ℕ, ◌+◌, ◌^◌, ◌≤◌, ◌<◌, ◌==◌, Bool, List, [], ◌∷◌, Option, None, Some, Result, Ok, Err, if◌then◌else◌, false, true, refl}
+use Rattle.std.specs.Prelude.{◌≡◌, ◌≢◌, ◌⊎◌, ℕ, ◌+◌, ◌≤◌, ◌<◌, ◌==◌, Bool, Option, None, Some, Result, Ok, Err, if◌then◌else◌, false, true, refl}
 use Rattle.std.specs.FinMap.{get}
 use Rattle.std.specs.Option.{option_map}
 use Rattle.std.proofs.Common.{ap, arith, inl, inr, subst, sym, ◌∙◌, ⊎_elim}
-use Rattle.std.proofs.lemmas.Bool.{cases_Bool, cases_lt}
+use Rattle.std.proofs.lemmas.Bool.{cases_lt}
 use Rattle.std.proofs.lemmas.Bool.Decides.{nat_tests}
 use Rattle.vl_disk.specs.Crash.{Image}
 use Rattle.vl_disk.specs.DiskState.{DiskState, File, IsLawful}
-use Rattle.vl_disk.specs.Name.{IsNumbered, file_number}
+use Rattle.vl_disk.specs.Name.{file_number}
 use Rattle.vl_disk.specs.Started.{IsRead}
 use Rattle.vl_disk.specs.declared.name.Name.{Name}
 use Rattle.vl_disk.specs.declared.name.Name.TheVariants.{Log, Manifest, Table}
-use Rattle.vl_manifest.specs.Manifest.{ManifestSays, SaysState}
+use Rattle.vl_manifest.specs.Manifest.{ManifestSays}
 use Rattle.vl_manifest.specs.ManifestLaws.{says_in_range}
 use Rattle.vl_manifest.specs.StateLaws.{IsInRange, opened_in_range}
 use Rattle.vl_manifest.specs.States.{fresh_state}
@@ -23,13 +23,13 @@ use Rattle.vl_recover.specs.Answers.{Finds, used_up}
 use Rattle.vl_recover.specs.Held.{IsNowhere}
 use Rattle.vl_recover.specs.HeldLaws.{left_nowhere}
 use Rattle.vl_recover.specs.MendingSteps.{AllSay}
-use Rattle.vl_recover.specs.Opening.{Bare, Headless, Heading, Led, Newest, NewerFormat, NotAStore, Opening, Opens, Refusal, Says, of_manifest}
+use Rattle.vl_recover.specs.Opening.{Bare, Headless, Heading, Led, Newest, NewerFormat, NotAStore, Refusal, Says, of_manifest}
 use Rattle.vl_recover.specs.OpeningLaws.{IsOpened, is_opened, one_standing, opened, some_none}
 use Rattle.vl_recover.specs.AlikeLaws.{no_state}
 use Rattle.vl_recover.specs.Plans.{IsGreatest, log_made, new_state, passes}
 use Rattle.vl_recover.specs.StageLaws.{ok_same}
 use Rattle.vl_recover.specs.Starts.{MayOpen}
-use Rattle.vl_recover.specs.Walk.{StandingLog, walked}
+use Rattle.vl_recover.specs.Walk.{walked}
 
 -- ---- what a heading says is in range
 

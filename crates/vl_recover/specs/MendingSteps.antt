@@ -1,14 +1,14 @@
 -- Each call of a mending: what a crash leaves while it is under way opens as something that it could have left before it.
-use Rattle.std.specs.Prelude.{◌≡◌, ◌≢◌, ◌⊎◌, ℕ, ◌+◌, ◌^◌, ◌≤◌, ◌<◌, List, [], ◌∷◌, length, All, Option, None, Some, Result, Ok, false, true, refl}
+use Rattle.std.specs.Prelude.{◌≡◌, ◌≢◌, ◌⊎◌, ℕ, ◌+◌, ◌^◌, ◌≤◌, ◌<◌, List, [], ◌∷◌, length, All, Option, None, Some, true, refl}
 use Rattle.std.specs.FinMap.{get}
 use Rattle.std.specs.Option.{option_map}
-use Rattle.std.proofs.Common.{ap, arith, inl, inr, subst, sym, ◌∙◌, ⊎_elim}
+use Rattle.std.proofs.Common.{ap, arith, subst, sym, ◌∙◌, ⊎_elim}
 use Rattle.std.proofs.lemmas.Bool.{true≢false}
-use Rattle.std.proofs.lemmas.List.Elements.{All-cons, All-nil, All-push}
+use Rattle.std.proofs.lemmas.List.Elements.{All-cons, All-nil}
 use Rattle.vl_disk.specs.Chance.{NoChanceOne}
-use Rattle.vl_disk.specs.Changes.{SameElsewhere, changed_elsewhere, changed_there, without_elsewhere, without_removed}
-use Rattle.vl_disk.specs.Crash.{Agrees, Image, MayLeave, MayLeaveOne, WhileRemoving, WhileSyncing, last_file}
-use Rattle.vl_disk.specs.DiskState.{DiskState, File, Piece, lengthened, new_file, settled, synced, synced_file, with_file, without}
+use Rattle.vl_disk.specs.Changes.{changed_elsewhere, changed_there, without_elsewhere, without_removed}
+use Rattle.vl_disk.specs.Crash.{Agrees, Image, MayLeave, MayLeaveOne, last_file}
+use Rattle.vl_disk.specs.DiskState.{DiskState, File, Piece, settled, synced, synced_file, with_file, without}
 use Rattle.vl_disk.specs.MadeFile.{WhileMaking}
 use Rattle.vl_disk.specs.NameMap.{get_removed}
 use Rattle.vl_disk.specs.declared.name.Name.{Name}
@@ -20,15 +20,14 @@ use Rattle.vl_manifest.specs.StateLaws.{IsInRange}
 use Rattle.vl_manifest.specs.States.{whole_edits}
 use Rattle.vl_manifest.specs.declared.state.ManifestState.{ManifestState}
 use Rattle.vl_recover.specs.Alike.{IsLeft, OpensAsOf, OpensLike, SameState, Spells}
-use Rattle.vl_recover.specs.AlikeLaws.{Alike, LastIsWhole, SameBut, last_alike, lead_over, led_anew, like_lead, like_new, log_manifest, log_same, one_more, standing_kept}
+use Rattle.vl_recover.specs.AlikeLaws.{LastIsWhole, SameBut, last_alike, lead_over, led_anew, like_lead, like_new, log_manifest, one_more}
 use Rattle.vl_recover.specs.Held.{IsNowhere}
 use Rattle.vl_recover.specs.HeldLaws.{left_nowhere}
 use Rattle.vl_recover.specs.LeadsLaws.{Leads, current_kept, leads_image, led_like, led_same}
 use Rattle.vl_recover.specs.OneName.{IsLeftOne, IsPart, Making, WasLeft, as_before, done, left_still, making, may_miss, one_name, part_empty, part_some, torn, waits}
-use Rattle.vl_recover.specs.Opening.{Opening, StandingLogs}
+use Rattle.vl_recover.specs.Opening.{Opening}
 use Rattle.vl_recover.specs.OpeningLaws.{IsOpened, some_none, some_same}
 use Rattle.vl_recover.specs.Torn.{Leaves, ReadsFrames, header_reads, leaves_read, part_loose, part_synced, torn_header, torn_manifest}
-use Rattle.vl_recover.specs.Walk.{StandingLog}
 use Rattle.vl_seglog.specs.Frames.{log_header}
 use Rattle.vl_seglog.specs.LogReading.{LogReading, ReadsLog}
 

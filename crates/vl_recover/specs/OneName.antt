@@ -1,5 +1,5 @@
 -- What a crash may leave where a disk changes under one name.
-use Rattle.std.specs.Prelude.{◌≡◌, ◌≢◌, ◌⊎◌, ℕ, List, Option, None, Some, refl, false, true}
+use Rattle.std.specs.Prelude.{◌≡◌, ◌≢◌, ℕ, List, Option, None, Some, refl}
 use Rattle.std.specs.FinMap.{get, insert, remove, same_map}
 use Rattle.std.specs.Option.{option_map}
 use Rattle.std.proofs.Common.{⊎_elim, sym, ◌∙◌, ap, subst}

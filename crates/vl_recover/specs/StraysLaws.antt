@@ -1,7 +1,7 @@
 -- The files that the new manifest doesn't need are removed, in any order.
-use Rattle.std.specs.Prelude.{◌≡◌, ◌≢◌, ◌⊎◌, ℕ, ◌+◌, ◌≤◌, ◌<◌, suc, List, [], ◌∷◌, length, Option, Some, AllPairs, Contains, refl}
+use Rattle.std.specs.Prelude.{◌≡◌, ◌≢◌, ℕ, ◌≤◌, suc, List, [], ◌∷◌, Some, AllPairs, Contains, refl}
 use Rattle.std.specs.FinMap.{get}
-use Rattle.std.proofs.Common.{arith, inl, inr, subst, sym, ◌∙◌, ⊎_elim}
+use Rattle.std.proofs.Common.{arith, subst, sym, ◌∙◌, ⊎_elim}
 use Rattle.vl_disk.specs.Changes.{SameElsewhere, without_elsewhere}
 use Rattle.vl_disk.specs.Crash.{WhileRemoving}
 use Rattle.vl_disk.specs.DiskState.{DiskState, File, without}

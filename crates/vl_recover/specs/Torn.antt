@@ -1,5 +1,5 @@
 -- What bytes say that a crash left of a file that isn't durable.
-use Rattle.std.specs.Prelude.{◌≡◌, ◌≢◌, ◌⊎◌, ◌↔◌, ℕ, ◌+◌, ◌-◌, ◌^◌, ◌<◌, ◌≤◌, ◌==◌, min, max, Bool, true, false, bytes_eq, List, [], ◌∷◌, ◌++◌, length, take, drop, slice_index_or, All, Any, Some, refl}
+use Rattle.std.specs.Prelude.{◌≡◌, ◌⊎◌, ℕ, ◌+◌, ◌-◌, ◌^◌, ◌<◌, ◌≤◌, ◌==◌, min, max, true, false, bytes_eq, List, [], ◌∷◌, ◌++◌, length, take, drop, All, Any, Some, refl}
 use Rattle.std.proofs.Common.{append_assoc, ap, arith, inl, inr, length-append, subst, sym, zero-le, ◌∙◌, ⊎_elim}
 use Rattle.std.proofs.lemmas.Bool.{cases_Bool, cases_lt, true≢false}
 use Rattle.std.proofs.lemmas.Bool.Decides.{not_from_Decides}
@@ -7,13 +7,12 @@ use Rattle.std.proofs.lemmas.List.{append-nil, drop-append-le, drop-drop, drop_a
 use Rattle.std.proofs.lemmas.Slice.Eq.{bytes_eq-Decides}
 use Rattle.vl_disk.specs.Chance.{HasOnlyHandedOver, NoChanceOne, StandsIn, WasHandedOver, torn_from}
 use Rattle.vl_disk.specs.Crash.{Agrees}
-use Rattle.vl_disk.specs.DiskState.{File, IsLawfulFile, Piece, lengthened, new_file, shortened}
+use Rattle.vl_disk.specs.DiskState.{File, IsLawfulFile, Piece, shortened}
 use Rattle.vl_disk.specs.declared.name.Name.{Name}
 use Rattle.vl_disk.specs.declared.name.Name.TheVariants.{Log, Manifest, Table}
-use Rattle.vl_frame.specs.Begins.{SpellsAt}
 use Rattle.vl_frame.specs.HeaderLaws.{length-header_bytes}
 use Rattle.vl_frame.specs.RunLaws.{frame_is_some, none_at_end, one_front}
-use Rattle.vl_frame.specs.Runs.{Grammar, HasFrame, StandsAt, StandsNone, item_frame}
+use Rattle.vl_frame.specs.Runs.{StandsAt, StandsNone, item_frame}
 use Rattle.vl_frame.specs.declared.kinds.FileKind.TheVariants as files
 use Rattle.vl_manifest.specs.EditLaws.{edits_grammar}
 use Rattle.vl_manifest.specs.Manifest.{IsReadable, SaysState, manifest_bytes, manifest_header}

@@ -1,37 +1,29 @@
 -- A disk on which the new manifest was being made: what it leaves says the new manifest's state, and a store may be opened on it again.
-use Rattle.std.specs.Prelude.{◌≡◌, ◌≢◌, ◌⊎◌, ℕ, ◌+◌, ◌-◌, ◌^◌, ◌≤◌, ◌<◌, List, [], ◌∷◌, ◌++◌, length, take, drop, Option, None, Some, Result, Ok, refl}
-use Rattle.std.specs.FinMap.{get, remove}
-use Rattle.std.specs.Option.{option_map}
-use Rattle.std.proofs.Common.{append_assoc, ap, arith, inl, inr, length-append, subst, sym, ◌∙◌, ⊎_elim}
-use Rattle.std.proofs.lemmas.Bool.{cases_eq, cases_lt}
+use Rattle.std.specs.Prelude.{◌≡◌, ℕ, ◌+◌, ◌-◌, ◌≤◌, ◌<◌, List, [], ◌++◌, length, take, drop, None, Some, Ok, refl}
+use Rattle.std.specs.FinMap.{get}
+use Rattle.std.proofs.Common.{append_assoc, ap, arith, length-append, subst, sym, ◌∙◌, ⊎_elim}
+use Rattle.std.proofs.lemmas.Bool.{cases_lt}
 use Rattle.std.proofs.lemmas.List.{drop-append-le, drop_all, take-append-drop, take_at}
-use Rattle.vl_disk.specs.Chance.{NoChanceOne, StandsIn, WasHandedOver, torn_from}
-use Rattle.vl_disk.specs.Changes.{SameElsewhere}
+use Rattle.vl_disk.specs.Chance.{NoChanceOne, WasHandedOver}
 use Rattle.vl_disk.specs.Crash.{Image}
-use Rattle.vl_disk.specs.DiskState.{DiskState, File, IsLawful, lengthened, new_file, settled}
-use Rattle.vl_disk.specs.MadeFile.{WhileMaking}
-use Rattle.vl_disk.specs.NameMap.{get_removed, get_removed_other}
-use Rattle.vl_disk.specs.Started.{IsRead}
+use Rattle.vl_disk.specs.DiskState.{File, lengthened, new_file}
 use Rattle.vl_disk.specs.declared.name.Name.{Name}
 use Rattle.vl_disk.specs.declared.name.Name.TheVariants.{Log, Manifest, Table}
 use Rattle.vl_frame.specs.RunLaws.{frame_is_some}
 use Rattle.vl_frame.specs.Runs.{item_frame}
-use Rattle.vl_manifest.specs.Current.{IsCurrent, StandsReadable}
+use Rattle.vl_manifest.specs.Current.{StandsReadable}
 use Rattle.vl_manifest.specs.EditLaws.{edits_grammar}
-use Rattle.vl_manifest.specs.Manifest.{IsReadable, SaysState, manifest_bytes}
+use Rattle.vl_manifest.specs.Manifest.{IsReadable, SaysState}
 use Rattle.vl_manifest.specs.ManifestLaws.{says_readable}
-use Rattle.vl_manifest.specs.StateLaws.{IsInRange}
-use Rattle.vl_manifest.specs.States.{whole_edits}
 use Rattle.vl_manifest.specs.declared.state.ManifestState.{ManifestState}
-use Rattle.vl_recover.specs.Alike.{IsLeft, OpensLike, SameState, Spells}
+use Rattle.vl_recover.specs.Alike.{OpensLike, SameState, Spells}
 use Rattle.vl_recover.specs.AlikeLaws.{SameBut, lead_over, led_anew, like_lead, log_manifest, same_state, state_then}
 use Rattle.vl_recover.specs.MendingSteps.{table_manifest}
 use Rattle.vl_recover.specs.Opening.{Heading, Led, Opening, Opens, Refusal, Says}
-use Rattle.vl_recover.specs.OpeningLaws.{IsOpened, one_heading, opened, single_says, some_none, some_same}
+use Rattle.vl_recover.specs.OpeningLaws.{one_heading, opened, single_says, some_none, some_same}
 use Rattle.vl_recover.specs.StageLaws.{ok_same}
 use Rattle.vl_recover.specs.OneName.{IsPart, part_empty, part_some}
-use Rattle.vl_recover.specs.Starts.{MayStand}
-use Rattle.vl_recover.specs.Torn.{ended_no_chance, torn_manifest}
+use Rattle.vl_recover.specs.Torn.{ended_no_chance}
 use Rattle.vl_seglog.specs.Frames.{frames_grammar}
 
 -- ---- first bytes of a piece that was handed over
@@ -70,11 +62,16 @@ part_no_chance name piece file (part_some taken) = λ grows loose. record {
   where
     handed : (at : ℕ) (frame : List ℕ) → Spells name (take taken piece) at frame → WasHandedOver (lengthened piece taken new_file) at frame
     handed at frame here =
-        let same : at ≡ at - 0 = omega arith in
-        (0, record { place = 0; bytes = piece }, omega arith, refl, record {
-          from = omega arith;
-          bytes_are = subst (λ (n : ℕ). take (length frame) (drop n piece) ≡ frame) same (spelled_in name taken at piece frame here);
-        })
+        let same : at ≡ at - 0 = omega arith in (
+          0,
+          record { place = 0; bytes = piece },
+          omega arith,
+          refl,
+          record {
+            from = omega arith;
+            bytes_are = subst (λ (n : ℕ). take (length frame) (drop n piece) ≡ frame) same (spelled_in name taken at piece frame here);
+          },
+        )
 
 -- ---- what is said meanwhile
 
