@@ -11,7 +11,8 @@ mending_calls : (q : StandingLog) → calls_to_mend (mending_of q) ≡ calls_of_
 mending_calls q = by q.reading.header q.reading.whole (q.length == 0)
   where
     by : (header whole empty : Bool)
-        → calls_to_mend (if header then (if whole then Kept q.number else Cut q.number (content_end q.reading)) else (if empty then Headed q.number else Rewritten q.number))
+        → calls_to_mend (if header then (if whole then Kept q.number else Cut q.number
+        (content_end q.reading)) else (if empty then Headed q.number else Rewritten q.number))
         ≡ (if header then (if whole then 1 else 2) else (if empty then 2 else 3))
     by true true empty = refl
     by true false empty = refl
@@ -28,4 +29,6 @@ pub plan_calls : {image : Image} (found : Finds image) (plan : Plan) → IsPlan 
     → calls_of_plan plan ≡ calls_to_open found (length plan.strays)
 plan_calls found plan is =
     ap calls_of_plan is.is
-    ∙ ap (λ (n : ℕ). 3 + n + calls_to_make (log_made (new_state found.greatest found.opening.state) found.logs) + length plan.strays) (last_calls found.logs)
+    ∙ ap (λ (n : ℕ). 3 + n + calls_to_make (log_made
+    (new_state found.greatest found.opening.state) found.logs) + length plan.strays)
+    (last_calls found.logs)
