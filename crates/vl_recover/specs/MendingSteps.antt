@@ -204,7 +204,8 @@ module _ (number : ℕ) (s : ManifestState) (k : ℕ) (old : DiskState) (file : 
           (λ (same : ReadsFrames k bytes reading.frames). record {
             was = Some leaves.bytes;
             is_left = leaves_one leaves;
-            like = λ image before low but is was. last_like number s k old last leaves.bytes bytes reading read same image before low but is was;
+            like = λ image before low but is was.
+                last_like number s k old last leaves.bytes bytes reading read same image before low but is was;
           })
           (λ (still : IsLeftOne (Log k) (Some file) (get old.removed (Log k)) (Some bytes)). left_still old
           (Log k) (Some bytes) (left_standing (Log k) old (Some file) (Some bytes) stands still))
