@@ -2,12 +2,12 @@
 use Rattle.std.specs.Prelude.{◌≡◌, ◌≢◌, ◌⊎◌, ℕ, ◌+◌, ◌≤◌, ◌<◌, List, map, Option, None, Some, Ok, refl}
 use Rattle.std.specs.FinMap.{get, remove, same_map}
 use Rattle.std.specs.Option.{option_map}
-use Rattle.std.proofs.Common.{ap, arith, inl, inr, subst, sym, ◌∙◌, ⊎_elim}
+use Rattle.std.proofs.Common.{ap, arith, subst, sym, ◌∙◌, ⊎_elim}
 use Rattle.std.proofs.lemmas.Bool.{cases_eq, cases_lt}
 use Rattle.vl_disk.specs.Changes.{SameElsewhere}
 use Rattle.vl_disk.specs.Crash.{Image}
 use Rattle.vl_disk.specs.DiskState.{DiskState, File, IsLawful, settled}
-use Rattle.vl_disk.specs.MadeFile.{WhileMaking, durable}
+use Rattle.vl_disk.specs.MadeFile.{WhileMaking}
 use Rattle.vl_disk.specs.Name.{name_cmp_exact, name_cmp_total}
 use Rattle.vl_disk.specs.NameMap.{get_removed, get_removed_other, same_or_other}
 use Rattle.vl_disk.specs.Started.{IsRead}
