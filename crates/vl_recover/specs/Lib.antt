@@ -17,6 +17,7 @@ pub mod LogsSoFar
 pub mod Mending
 pub mod MendingAgain
 pub mod MendingLaws
+pub mod MendingMayOpen
 pub mod MendingOpens
 pub mod MendingStages
 pub mod MendingStart
@@ -38,5 +39,6 @@ pub mod Starts
 pub mod Steps
 pub mod StraysLaws
 pub mod Torn
-pub mod TornLaws
+pub mod TornFrames
+pub mod TornManifest
 pub mod Walk
