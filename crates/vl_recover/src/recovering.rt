@@ -73,7 +73,7 @@ pub fn recover<D: Disk>(alloc: Global, disk: D, room: u64) -> Result<Parts<D>, O
             disk,
         }),
         Err(IoFail::Disk { name }) => Err(OpenFail {
-            why: Why::Disk { name: Some(name) },
+            why: Why::Disk { name },
             disk,
         }),
     }
