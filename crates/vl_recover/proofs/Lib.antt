@@ -7,7 +7,6 @@ pub mod Fitted
 mod Looking
 pub mod Mended
 mod Naming
-pub mod OneFinding
 mod ReadingLogs
 pub mod Recovered
 pub mod Removals

@@ -24,6 +24,7 @@ pub mod MendingStart
 pub mod MendingSteps
 pub mod Named
 pub mod OneName
+pub mod OneFinding
 pub mod Opening
 pub mod OpeningLaws
 pub mod PlanViews
