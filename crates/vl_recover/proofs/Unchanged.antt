@@ -16,3 +16,12 @@ nothing_then g old mid new failed first second = record {
       (λ now is. is) (λ now is disk told. is disk (first.told ∙ told));
   cause = subst (λ (k : ℕ). HasCause k (g.faults new) failed) (first.cause.steady (λ no. no)) second.cause;
 }
+
+-- the same, where it didn't fail
+pub nothing_as : {D : Type 0} (g : Ghosts D) (old new : D) (failed : Type 0) → (failed → ⊥) → ChangesNothing g old new failed → ChangesNothing g old new ⊥
+nothing_as g old new failed fine call = record {
+  told = call.told;
+  calls = call.calls;
+  time = call.time;
+  cause = record { later = call.cause.later; rose = λ no. absurd no; steady = λ _. call.cause.steady fine };
+}

@@ -72,6 +72,7 @@ pub record IsDecided (found : Found) (prepared : Prepared) : Type 0 where
   pub state : prepared.state ≡ state_for found
   pub frozen : prepared.frozen.items ≡ found.frozen.items
   pub plan : plan_view prepared.plan ≡ plan_for found
+  pub edits : prepared.plan.edits.items ≡ whole_edits prepared.state
   pub active : prepared.active ≡ active_by (log_for found) found.last
 
 -- it was decided, or a number is used up, or memory ran out

@@ -14,6 +14,7 @@ pub mod Leading
 pub mod LeadsLaws
 pub mod LogsLaws
 pub mod LogsSoFar
+pub mod Meanwhile
 pub mod Mending
 pub mod MendingAgain
 pub mod MendingLaws

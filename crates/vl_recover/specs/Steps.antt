@@ -1,12 +1,13 @@
 -- What a step of a mending does: some changing calls, one behind the other, of which one that fails is the last.
 use Rattle.std.specs.Prelude.{◌≡◌, ◌⊎◌, ℕ, ◌+◌, length, List, Option, Some, Result, Err, IfOk, OnOk, IsErr}
+use Rattle.vl_disk.specs.Calls.{ChangesNothing}
 use Rattle.vl_disk.specs.Disk.{IsChangedBy}
 use Rattle.vl_disk.specs.DiskState.{DiskState}
 use Rattle.vl_disk.specs.Faults.{HasCause, after_calls}
 use Rattle.vl_disk.specs.Moments.{Elapses}
 use Rattle.vl_disk.specs.declared.name.Name.{Name}
 use Rattle.vl_disk.specs.declared.watched.Watched.{Ghosts}
-use Rattle.vl_manifest.specs.Making.{HasChangedNothing, HasFailed}
+use Rattle.vl_manifest.specs.Making.{HasFailed}
 use Rattle.vl_manifest.specs.declared.fails.IoFail.{IoFail}
 use Rattle.vl_manifest.specs.declared.fails.IoFail.TheVariants.{NoMemory}
 use Rattle.vl_manifest.specs.declared.manifest_log.ManifestLog.{ManifestLog}
@@ -70,7 +71,7 @@ pub record Mends {D : Type 0} (g : Ghosts D) (plan : Plan) (old new : D)
   pub done : OnOk result (IsChangedBy (mended plan) (g.told old) (g.told new))
   pub calls : OnOk result (g.calls new ≡ after_calls (calls_of_plan plan) (g.calls old))
   -- for want of memory it does nothing
-  pub no_room : result ≡ Err NoMemory → HasChangedNothing g old new
+  pub no_room : result ≡ Err NoMemory → ChangesNothing g old new ⊥
   pub tells : GoesOnTelling (g.told old) (g.told new)
   pub time : Elapses g old new (WhileMending plan)
   pub cause : HasCause (g.faults old) (g.faults new) (HasFailed result)

@@ -6,6 +6,7 @@ ghost use Rattle.vl_disk.specs.Calls.{ChangesNothing};
 ghost use Rattle.vl_disk.specs.Crash.{Image};
 ghost use Rattle.vl_disk.specs.DiskState.{DiskState};
 ghost use Rattle.vl_disk.specs.Started.{IsRead};
+ghost use Rattle.vl_manifest.specs.States.{whole_edits};
 ghost use Rattle.vl_recover.specs.Deciding.{PreparesSo};
 ghost use Rattle.vl_recover.specs.Finding.{IsFault};
 ghost use Rattle.vl_recover.specs.Fitting.{Fits, HasNumbers, HasRoomFor, HasRoomToMake, HasRoomToMend, SameSpareBeside, SameSpareBesideLog};
@@ -26,6 +27,7 @@ pub(crate) fn prepare<D: Disk>(alloc: Global, disk: &mut D) -> Result<Prepared, 
     ensures answer { (state : DiskState) (read : Image) → D.told disk.old ≡ Some state → IsRead read state
         → PreparesSo read result }
     ensures fits { IfOk result (λ prepared. ForSome (D.told disk.new) (Fits (plan_view prepared.plan))) }
+    ensures edits { IfOk result (λ prepared. prepared.plan.edits.items ≡ whole_edits prepared.state) }
     ensures numbers { IfOk result (λ prepared. HasNumbers (plan_view prepared.plan)) }
     ensures room { IfOk result (λ prepared. HasRoomFor (plan_view prepared.plan) (D.spare disk.new)) }
     ensures no_change { ChangesNothing D.Watched disk.old disk.new (IsFault result) }

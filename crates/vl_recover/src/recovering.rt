@@ -1,5 +1,6 @@
 ghost use Rattle.std.specs.Prelude.{◌≡◌, ℕ, List, length, Some, IfOk};
 ghost use Rattle.std.specs.Option.{ForSome};
+ghost use Rattle.vl_disk.specs.Calls.{ChangesNothing};
 ghost use Rattle.vl_disk.specs.Crash.{Image};
 ghost use Rattle.vl_disk.specs.Disk.{Stands};
 ghost use Rattle.vl_disk.specs.DiskState.{DiskState};
@@ -12,6 +13,7 @@ ghost use Rattle.vl_recover.specs.Alike.{OpensAsOf};
 ghost use Rattle.vl_recover.specs.Answers.{AnswersBy, AreStrayNames, Finds, IsNotOpened, calls_to_open, logs_then};
 ghost use Rattle.vl_recover.specs.Deciding.{opened_by};
 ghost use Rattle.vl_recover.specs.Held.{HoldsStore};
+ghost use Rattle.vl_recover.specs.Meanwhile.{IsAsLong, IsMeanwhile, IsMended};
 ghost use Rattle.vl_recover.specs.Results.{HasFailed, IsRefused, came, disk_of, opened_of};
 ghost use Rattle.vl_recover.specs.Starts.{MayOpen};
 
@@ -32,15 +34,19 @@ pub fn recover<D: Disk>(alloc: Global, disk: D, room: u64) -> Result<Parts<D>, O
     ensures answer { (state : DiskState) (read : Image) → D.told disk ≡ Some state → IsRead read state
         → AnswersBy read (came result) }
 
-    // A refusal, and want of memory, changed nothing.
-    ensures refused { IsRefused (came result)
-        → (D.told (disk_of result) ≡ D.told disk) × (D.calls (disk_of result) ≡ D.calls disk) }
+    // A refusal, and want of memory, changed nothing, at no moment.
+    ensures refused { IsRefused (came result) → ChangesNothing D.Watched disk (disk_of result) ⊥ }
 
     // Where what reads give is refused, nothing is changed, whatever is answered.
     ensures kept { (state : DiskState) (read : Image) → D.told disk ≡ Some state → IsRead read state → IsNotOpened read
         → (D.told (disk_of result) ≡ D.told disk) × (D.calls (disk_of result) ≡ D.calls disk) }
 
-    // Then the disk holds the store, all of it durable, after just so many changing calls.
+    // Then the store was mended by a plan of what reads gave, and nothing else was done.
+    ensures mended { (state : DiskState) (read : Image) → D.told disk ≡ Some state → IsRead read state
+        → IfOk result (λ parts. IsMended read state (D.told parts.disk)) }
+    ensures manifest { IfOk result (λ parts. IsAsLong parts.state parts.manifest) }
+
+    // So the disk holds the store, all of it durable, after just so many changing calls.
     ensures held { (state now : DiskState) (read : Image) (found : Finds read) → D.told disk ≡ Some state
         → MayOpen state → IsRead read state → D.told (disk_of result) ≡ Some now
         → IfOk result (λ parts. HoldsStore parts.state (logs_then found) now) }
@@ -49,9 +55,17 @@ pub fn recover<D: Disk>(alloc: Global, disk: D, room: u64) -> Result<Parts<D>, O
         → AreStrayNames read found.opening.state.head strays
         → IfOk result (λ parts. D.calls parts.disk ≡ after_calls (calls_to_open found (length strays)) (D.calls disk)) }
 
-    // Whatever a crash leaves meanwhile opens as something that it could have left before.
+    // Meanwhile the disk is as it was, or is being mended by such a plan, whatever is answered.
+    ensures meanwhile { (state : DiskState) (read : Image) → D.told disk ≡ Some state → IsRead read state
+        → HoldsThroughout D.Watched disk (disk_of result) (IsMeanwhile read state) }
+
+    // So whatever a crash leaves meanwhile opens as something that it could have left before.
     ensures through { (state : DiskState) → D.told disk ≡ Some state → MayOpen state
         → HoldsThroughout D.Watched disk (disk_of result) (OpensAsOf state) }
+
+    // And a store may be opened on it again.
+    ensures again { (state now : DiskState) → D.told disk ≡ Some state → MayOpen state
+        → D.told (disk_of result) ≡ Some now → MayOpen now }
     ensures tells { (state : DiskState) → D.told disk ≡ Some state
         → (now : DiskState) × (D.told (disk_of result) ≡ Some now) }
     ensures cause { HasCause (D.faults disk) (D.faults (disk_of result)) (HasFailed (came result)) }
@@ -85,6 +99,7 @@ fn opened<D: Disk>(disk: D, room: u64, manifest: ManifestLog, prepared: Prepared
     ensures disk { result.disk ≡ disk }
     ensures opened { opened_of result ≡ opened_by prepared }
     ensures state { result.state ≡ prepared.state }
+    ensures manifest { result.manifest ≡ manifest }
     ensures room { result.room ≡ room }
     ensures active { result.active ≡ record { number = prepared.active; length = 16 } }
 {
