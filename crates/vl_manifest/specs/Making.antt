@@ -4,6 +4,7 @@ use Rattle.std.specs.Option.{ForSome}
 use Rattle.vl_disk.specs.declared.name.Name.{Name}
 use Rattle.vl_disk.specs.declared.name.Name.TheVariants as names
 use Rattle.vl_disk.specs.declared.watched.Watched.{Ghosts}
+use Rattle.vl_disk.specs.Calls.{ChangesNothing}
 use Rattle.vl_disk.specs.Disk.{Stands, IsChangedBy}
 use Rattle.vl_disk.specs.Faults.{HasCause, after_calls}
 use Rattle.vl_disk.specs.MadeFile.{TellsPart, WhileMaking, made}
@@ -29,11 +30,6 @@ pub record HasMade {D : Type 0} (g : Ghosts D) (number : ℕ) (edits : List Edit
   pub stands : ForSome (g.told new) (Stands (names.Manifest number))
   pub calls : g.calls new ≡ after_calls 3 (g.calls old)
 
--- there was no memory, and nothing was changed
-pub record HasChangedNothing {D : Type 0} (g : Ghosts D) (old new : D) : Type 0 where
-  pub told : g.told new ≡ g.told old
-  pub calls : g.calls new ≡ g.calls old
-
 -- the disk failed at the manifest's file, of which a part may stand
 pub record HasMadePart {D : Type 0} (g : Ghosts D) (number : ℕ) (edits : List Edit) (old new : D)
     (name : Name) : Type 0 where
@@ -41,11 +37,11 @@ pub record HasMadePart {D : Type 0} (g : Ghosts D) (number : ℕ) (edits : List 
   pub part : TellsPart (names.Manifest number) (new_manifest number edits) (g.told old) (g.told new)
   pub stops : (n : ℕ) × (1 ≤ n) × (n ≤ 3) × (g.calls new ≡ after_calls n (g.calls old))
 
--- what each answer says
+-- what each answer says; for want of memory nothing was changed
 abbrev pub MakeAnswers :
     {D : Type 0} → Ghosts D → ℕ → List Edit → D → D → Result ManifestLog IoFail → Type 0
 MakeAnswers g number edits old new (Ok log) = HasMade g number edits old new log
-MakeAnswers g number edits old new (Err NoMemory) = HasChangedNothing g old new
+MakeAnswers g number edits old new (Err NoMemory) = ChangesNothing g old new ⊥
 MakeAnswers g number edits old new (Err (Disk name)) = HasMadePart g number edits old new name
 
 -- the disk failed

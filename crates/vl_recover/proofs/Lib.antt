@@ -1,0 +1,16 @@
+pub mod ActiveStands
+mod Composing
+pub mod Decided
+mod Entering
+mod Filling
+pub mod Fitted
+mod Looking
+pub mod Mended
+mod Naming
+pub mod Numbers
+mod ReadingLogs
+pub mod Recovered
+pub mod Removals
+pub mod Stepping
+pub mod Unchanged
+mod Unmoved

@@ -1,10 +1,143 @@
-use Rattle.std.proofs.Common.{rules, ◌≡◌, refl}
-use Rattle.std.specs.Prelude.{Ok}
-use Rattle.vl_disk.specs.Moments.{waits}
-use Rattle.vl_recover.specs.Alike.{OpensAsOf}
+use Rattle.std.proofs.Common.{List, [], ◌∷◌, ap, ◌∙◌}
+use Rattle.vl_manifest.specs.declared.edit.Edit.{Edit}
+use Rattle.vl_manifest.specs.Manifest.{manifest_bytes}
+use Rattle.vl_recover.specs.OneFinding.{opened_not}
+use Rattle.vl_recover.specs.PlanViews.{plan_view}
+use Rattle.vl_recover.specs.Results.{HasFailed, came_by}
+use Rattle.vl_recover.proofs.Recovered.{active_stays, as_long, calls_counted, disk_mended, mended_again, mended_meanwhile, mended_tells, mended_through, opened_same, refused_fine, still_tells, store_held, unchanged_again, unchanged_meanwhile, unchanged_through}
+use Rattle.vl_recover.proofs.Unchanged.{nothing_as, nothing_then}
+use Rattle.vl_seglog.specs.declared.active.ActiveLog.{ActiveLog}
 use Rattle.vl_recover.proofs.recovering.recover.Goals as goal
+
+-- it was refused, or there was no memory
+pub returns-in-Err-clause-refused : goal.returns-in-Err-clause-refused
+returns-in-Err-clause-refused g c refused =
+    nothing_as g.D.Watched _ _ (HasFailed (came_by c.in-Err.why)) (refused_fine (came_by c.in-Err.why) refused) c.in-Err.ensures.no_change
+
+pub returns-in-Err-clause-meanwhile : goal.returns-in-Err-clause-meanwhile
+returns-in-Err-clause-meanwhile g c state read told is_read = unchanged_meanwhile g.D.Watched g.met.D.Disk.only_now _ _ c.in-Err.ensures.no_change state told read
+
+pub returns-in-Err-clause-through : goal.returns-in-Err-clause-through
+returns-in-Err-clause-through g c state told may = unchanged_through g.D.Watched g.met.D.Disk.only_now _ _ c.in-Err.ensures.no_change state told
+
+pub returns-in-Err-clause-again : goal.returns-in-Err-clause-again
+returns-in-Err-clause-again g c state now told may ends = unchanged_again g.D.Watched g.met.D.Disk.only_now _ _ c.in-Err.ensures.no_change state told may now ends
+
+pub returns-in-Err-clause-tells : goal.returns-in-Err-clause-tells
+returns-in-Err-clause-tells g c state told = still_tells g.D.Watched g.met.D.Disk.only_now _ _ c.in-Err.ensures.no_change state told
+
+-- there was no memory for the manifest
+pub returns-in-Err-NoMemory-clause-refused : goal.returns-in-Err-NoMemory-clause-refused
+returns-in-Err-NoMemory-clause-refused g c refused =
+    let failed = rw c.in-Err-NoMemory.field-0-is at c.in-Err-NoMemory.is in
+    nothing_then g.D.Watched _ _ _ ⊥ c.in-Ok.ensures.no_change (c.mend.ensures.no_room failed)
+
+pub returns-in-Err-NoMemory-clause-meanwhile : goal.returns-in-Err-NoMemory-clause-meanwhile
+returns-in-Err-NoMemory-clause-meanwhile g c state read told is_read =
+    mended_meanwhile g.D.Watched g.met.D.Disk.only_now _ _ c.in-Ok.ensures.no_change state told _ c.in-Ok.prepared c.mend.result c.mend.ensures
+    read (c.in-Ok.ensures.answer state read told is_read)
+
+pub returns-in-Err-NoMemory-clause-through : goal.returns-in-Err-NoMemory-clause-through
+returns-in-Err-NoMemory-clause-through g c state told may =
+    mended_through g.D.Watched g.met.D.Disk.only_now _ _ c.in-Ok.ensures.no_change state told _ c.in-Ok.prepared c.mend.result c.mend.ensures
+    g.met.D.Disk.lawful may (λ read is_read. c.in-Ok.ensures.answer state read told is_read)
+
+pub returns-in-Err-NoMemory-clause-again : goal.returns-in-Err-NoMemory-clause-again
+returns-in-Err-NoMemory-clause-again g c state now told may ends =
+    mended_again g.D.Watched g.met.D.Disk.only_now _ _ c.in-Ok.ensures.no_change state told _ c.in-Ok.prepared c.mend.result c.mend.ensures
+    g.met.D.Disk.lawful may (λ read is_read. c.in-Ok.ensures.answer state read told is_read) g.met.D.Disk.counts_now now ends
+
+pub returns-in-Err-NoMemory-clause-tells : goal.returns-in-Err-NoMemory-clause-tells
+returns-in-Err-NoMemory-clause-tells g c state told =
+    mended_tells g.D.Watched g.met.D.Disk.only_now _ _ c.in-Ok.ensures.no_change state told _ c.in-Ok.prepared c.mend.result c.mend.ensures
+
+-- the disk failed
+pub returns-clause-kept : goal.returns-clause-kept
+returns-clause-kept g c state read told is_read not =
+    let is = c.in-Ok.ensures.answer state read told is_read in
+    absurd (opened_not read is.finds is.unused not)
+
+pub returns-clause-meanwhile : goal.returns-clause-meanwhile
+returns-clause-meanwhile g c state read told is_read =
+    mended_meanwhile g.D.Watched g.met.D.Disk.only_now _ _ c.in-Ok.ensures.no_change state told _ c.in-Ok.prepared c.mend.result c.mend.ensures
+    read (c.in-Ok.ensures.answer state read told is_read)
 
 pub returns-clause-through : goal.returns-clause-through
 returns-clause-through g c state told may =
-    waits g.D.Watched (OpensAsOf state) (λ disk now other. g.met.D.Disk.only_now disk now other) c.args.disk state told
-    (λ image left. (image, left, λ o opens. (o, opens, record { state = record { levels = refl; head = refl; covered = refl }; logs = refl; number = refl })))
+    mended_through g.D.Watched g.met.D.Disk.only_now _ _ c.in-Ok.ensures.no_change state told _ c.in-Ok.prepared c.mend.result c.mend.ensures
+    g.met.D.Disk.lawful may (λ read is_read. c.in-Ok.ensures.answer state read told is_read)
+
+pub returns-clause-again : goal.returns-clause-again
+returns-clause-again g c state now told may ends =
+    mended_again g.D.Watched g.met.D.Disk.only_now _ _ c.in-Ok.ensures.no_change state told _ c.in-Ok.prepared c.mend.result c.mend.ensures
+    g.met.D.Disk.lawful may (λ read is_read. c.in-Ok.ensures.answer state read told is_read) g.met.D.Disk.counts_now now ends
+
+pub returns-clause-tells : goal.returns-clause-tells
+returns-clause-tells g c state told =
+    mended_tells g.D.Watched g.met.D.Disk.only_now _ _ c.in-Ok.ensures.no_change state told _ c.in-Ok.prepared c.mend.result c.mend.ensures
+
+-- it was opened
+pub returns-in-Ok-mend-clause-answer : goal.returns-in-Ok-mend-clause-answer
+returns-in-Ok-mend-clause-answer g c state read told is_read =
+    let is = c.in-Ok.ensures.answer state read told is_read in
+    (is.finds, is.unused, c.opened.ensures.opened ∙ opened_same read c.in-Ok.prepared is)
+
+pub returns-in-Ok-mend-clause-kept : goal.returns-in-Ok-mend-clause-kept
+returns-in-Ok-mend-clause-kept g c state read told is_read not =
+    let is = c.in-Ok.ensures.answer state read told is_read in
+    absurd (opened_not read is.finds is.unused not)
+
+pub returns-in-Ok-mend-clause-mended : goal.returns-in-Ok-mend-clause-mended
+returns-in-Ok-mend-clause-mended g c state read told is_read =
+    let is = c.in-Ok.ensures.answer state read told is_read in
+    rw c.opened.ensures.disk
+    (disk_mended g.D.Watched g.met.D.Disk.only_now _ _ c.in-Ok.ensures.no_change state told _ c.in-Ok.prepared _ c.in-Ok-mend.ensures
+    read is_read is is.finds)
+
+pub returns-in-Ok-mend-clause-manifest : goal.returns-in-Ok-mend-clause-manifest
+returns-in-Ok-mend-clause-manifest g c =
+    as_long (plan_view c.in-Ok.prepared.plan) c.in-Ok.prepared.state c.opened.result.state _ c.opened.result.manifest
+    (ap (λ (es : List Edit). manifest_bytes c.in-Ok.prepared.plan.manifest (es ∷ [])) c.in-Ok.ensures.edits)
+    c.in-Ok-mend.ensures.manifest c.opened.ensures.manifest c.opened.ensures.state
+
+pub returns-in-Ok-mend-clause-held : goal.returns-in-Ok-mend-clause-held
+returns-in-Ok-mend-clause-held g c state now read found told may is_read ends =
+    let ended = rw c.opened.ensures.disk at ends in
+    store_held g.D.Watched g.met.D.Disk.only_now _ _ c.in-Ok.ensures.no_change state told _ c.in-Ok.prepared _ c.in-Ok-mend.ensures
+    read is_read (c.in-Ok.ensures.answer state read told is_read) found (g.met.D.Disk.lawful _ state told) may now ended
+    c.opened.result.state c.opened.ensures.state
+
+pub returns-in-Ok-mend-clause-calls : goal.returns-in-Ok-mend-clause-calls
+returns-in-Ok-mend-clause-calls g c state read found strays told is_read are =
+    rw c.opened.ensures.disk
+    (calls_counted g.D.Watched g.met.D.Disk.only_now _ _ c.in-Ok.ensures.no_change state told _ c.in-Ok.prepared _ c.in-Ok-mend.ensures
+    read is_read (c.in-Ok.ensures.answer state read told is_read) found strays are)
+
+pub returns-in-Ok-mend-clause-meanwhile : goal.returns-in-Ok-mend-clause-meanwhile
+returns-in-Ok-mend-clause-meanwhile g c state read told is_read =
+    rw c.opened.ensures.disk
+    (mended_meanwhile g.D.Watched g.met.D.Disk.only_now _ _ c.in-Ok.ensures.no_change state told _ c.in-Ok.prepared c.mend.result c.mend.ensures
+    read (c.in-Ok.ensures.answer state read told is_read))
+
+pub returns-in-Ok-mend-clause-through : goal.returns-in-Ok-mend-clause-through
+returns-in-Ok-mend-clause-through g c state told may =
+    rw c.opened.ensures.disk
+    (mended_through g.D.Watched g.met.D.Disk.only_now _ _ c.in-Ok.ensures.no_change state told _ c.in-Ok.prepared c.mend.result c.mend.ensures
+    g.met.D.Disk.lawful may (λ read is_read. c.in-Ok.ensures.answer state read told is_read))
+
+pub returns-in-Ok-mend-clause-again : goal.returns-in-Ok-mend-clause-again
+returns-in-Ok-mend-clause-again g c state now told may ends =
+    let ended = rw c.opened.ensures.disk at ends in
+    mended_again g.D.Watched g.met.D.Disk.only_now _ _ c.in-Ok.ensures.no_change state told _ c.in-Ok.prepared c.mend.result c.mend.ensures
+    g.met.D.Disk.lawful may (λ read is_read. c.in-Ok.ensures.answer state read told is_read) g.met.D.Disk.counts_now now ended
+
+pub returns-in-Ok-mend-clause-tells : goal.returns-in-Ok-mend-clause-tells
+returns-in-Ok-mend-clause-tells g c state told =
+    rw c.opened.ensures.disk
+    (mended_tells g.D.Watched g.met.D.Disk.only_now _ _ c.in-Ok.ensures.no_change state told _ c.in-Ok.prepared c.mend.result c.mend.ensures)
+
+pub returns-in-Ok-mend-clause-stands : goal.returns-in-Ok-mend-clause-stands
+returns-in-Ok-mend-clause-stands g c =
+    rw c.opened.ensures.disk
+    (active_stays g.D.Watched _ _ _ c.in-Ok.ensures.no_change c.in-Ok.prepared _ c.in-Ok-mend.ensures c.in-Ok.ensures.answer
+    c.opened.result.active.number (ap (λ (a : ActiveLog). a.number) c.opened.ensures.active))

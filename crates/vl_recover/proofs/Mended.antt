@@ -1,0 +1,179 @@
+-- A store is mended, stage by stage.
+use Rattle.std.proofs.Common.{◌≡◌, ◌⊎◌, ⊎_elim, inl, inr, ◌+◌, List, length, refl, sym, ap, subst, arith}
+use Rattle.std.specs.Prelude.{true, false, Result, Ok, Err, IsErr, IsErrAnd}
+use Rattle.std.specs.Option.{ForSome}
+use Rattle.vl_disk.specs.DiskState.{DiskState}
+use Rattle.vl_disk.specs.MadeFile.{WhileMaking}
+use Rattle.vl_disk.specs.Moments.{While, passes_weaker}
+use Rattle.vl_disk.specs.Standing.{holds_after}
+use Rattle.vl_disk.specs.declared.name.Name.{Name}
+use Rattle.vl_disk.specs.declared.name.Name.TheVariants.{Manifest}
+use Rattle.vl_disk.specs.declared.watched.Watched.{Ghosts}
+use Rattle.vl_manifest.specs.Making.{MakesManifest}
+use Rattle.vl_manifest.specs.declared.edit.Edit.{Edit}
+use Rattle.vl_manifest.specs.declared.fails.IoFail.{IoFail}
+use Rattle.vl_manifest.specs.declared.fails.IoFail.TheVariants as fails
+use Rattle.vl_manifest.specs.declared.manifest_log.ManifestLog.{ManifestLog}
+use Rattle.vl_recover.specs.Fitting.{Fits, FitsBehind}
+use Rattle.vl_recover.specs.Mending.{Plan, WhileLast, WhileLog, WhileMending, WhileStrays, at_last, at_log, at_manifest, at_strays, behind_last, behind_log, behind_strays, calls_of_plan, calls_to_mend, mended, with_manifest}
+use Rattle.vl_recover.specs.PlanViews.{plan_view}
+use Rattle.vl_recover.specs.Plans.{calls_to_make}
+use Rattle.vl_recover.specs.Steps.{MakesLog, Mends, MendsBehind, MendsLast, Performs, RemovesAll, WhileBehind, behind_manifest, calls_behind}
+use Rattle.vl_recover.specs.declared.plan.MendingPlan.{MendingPlan}
+use Rattle.vl_recover.proofs.Stepping.{changed_tells, part_tells, performs_as, performs_stop, performs_then, same_tells}
+
+false_true : false ≡ true → ⊥
+false_true e = cc
+
+-- ---- behind the new manifest
+
+module _ {D : Type 0} (g : Ghosts D) (plan : Plan) where
+  -- the log's stage failed
+  pub log_stops : {T U E F : Type 0} (old mid new : D) (first : Result T E) (x : T) (second : Result U F) (e : F) (result : Result Unit Name)
+      → first ≡ Ok x → second ≡ Err e → IsErr result → MendsLast g plan.last old mid first → MakesLog g plan.log mid new second → MendsBehind g plan old new result
+  log_stops {T = T} {U = U} {E = E} {F = F} old mid new first x second e result went failed stopped last log =
+      performs_stop g old new (λ disk. behind_log plan.log (behind_last plan.last disk))
+      (λ disk now. WhileLast plan.last disk now ⊎ WhileLog plan.log (behind_last plan.last disk) now) (WhileBehind plan)
+      (calls_to_make plan.log + calls_to_mend plan.last) (calls_behind plan)
+      (λ disk now during. ⊎_elim (λ (w : WhileLast plan.last disk now). inl w) (λ (w : WhileLog plan.log (behind_last plan.last disk) now). inr (inl w)) during)
+      (behind_manifest plan) e result stopped
+      (performs_then g (behind_last plan.last) (behind_log plan.log) (WhileLast plan.last) (WhileLog plan.log) (calls_to_mend plan.last) (calls_to_make plan.log) old mid new x (Err e)
+      (subst (λ (r : Result T E). MendsLast g plan.last old mid r) went last)
+      (subst (λ (r : Result U F). MakesLog g plan.log mid new r) failed log))
+
+  -- all stages
+  pub all_behind : {T U E F : Type 0} (old mid end new : D) (first : Result T E) (x : T) (second : Result U F) (y : U) (names : List Name) (result : Result Unit Name)
+      → first ≡ Ok x → second ≡ Ok y → names ≡ plan.strays
+      → MendsLast g plan.last old mid first → MakesLog g plan.log mid end second → RemovesAll g names end new result → MendsBehind g plan old new result
+  all_behind {T = T} {U = U} {E = E} {F = F} old mid end new first x second y names result went then same last log strays =
+      performs_as g old new (behind_manifest plan)
+      (λ disk now. WhileLast plan.last disk now ⊎ (WhileLog plan.log (behind_last plan.last disk) now ⊎ WhileStrays plan.strays (behind_log plan.log (behind_last plan.last disk)) now))
+      (WhileBehind plan) ((length plan.strays + calls_to_make plan.log) + calls_to_mend plan.last) (calls_behind plan)
+      (λ disk now during. during) result (omega arith)
+      (performs_then g (behind_last plan.last) (λ disk. behind_strays plan.strays (behind_log plan.log disk)) (WhileLast plan.last)
+      (λ disk now. WhileLog plan.log disk now ⊎ WhileStrays plan.strays (behind_log plan.log disk) now)
+      (calls_to_mend plan.last) (length plan.strays + calls_to_make plan.log) old mid new x result
+      (subst (λ (r : Result T E). MendsLast g plan.last old mid r) went last)
+      (performs_then g (behind_log plan.log) (behind_strays plan.strays) (WhileLog plan.log) (WhileStrays plan.strays)
+      (calls_to_make plan.log) (length plan.strays) mid end new y result
+      (subst (λ (r : Result U F). MakesLog g plan.log mid end r) then log)
+      (subst (λ (ns : List Name). RemovesAll g ns end new result) same strays)))
+
+-- ---- with the new manifest
+
+pub err_is : {A E : Type 0} (result : Result A E) (e : E) → IsErr result → IsErrAnd result (λ f. f ≡ e) → result ≡ Err e
+err_is (Ok a) e failed is = absurd (false_true failed)
+err_is (Err f) e failed is = ap (λ x. Err x) is
+
+disk_room : (name : Name) → ◌≡◌ {A = Result ManifestLog IoFail} (Err (fails.Disk name)) (Err fails.NoMemory) → ⊥
+disk_room name e = cc
+
+module _ {D : Type 0} (g : Ghosts D) (plan : MendingPlan) (edits : List Edit) (same : edits ≡ plan.edits.items) (old mid : D) where
+  abbrev view : Plan
+  view = plan_view plan
+
+  abbrev Created : Result ManifestLog IoFail → Type 0
+  Created result = MakesManifest g plan.manifest plan.edits.items old mid result
+
+  created : (result : Result ManifestLog IoFail) → MakesManifest g plan.manifest edits old mid result → Created result
+  created result makes = subst (λ (es : List Edit). MakesManifest g plan.manifest es old mid result) same makes
+
+  -- it wasn't made
+  pub create_stops : (made : Result ManifestLog IoFail) (e : IoFail) (result : Result ManifestLog IoFail) → made ≡ Err e → result ≡ Err e
+      → MakesManifest g plan.manifest edits old mid made → Mends g view old mid result
+  create_stops made e result failed is makes =
+      subst (λ (r : Result ManifestLog IoFail). Mends g view old mid r) (sym is)
+      (by e (created (Err e) (subst (λ (r : Result ManifestLog IoFail). MakesManifest g plan.manifest edits old mid r) failed makes)))
+    where
+      by : (e : IoFail) → Created (Err e) → Mends g view old mid (Err e)
+      by fails.NoMemory makes = record {
+        manifest = tt;
+        done = tt;
+        calls = tt;
+        no_room = λ _. makes.answer;
+        tells = same_tells (g.told old) (g.told mid) makes.answer.told;
+        time = passes_weaker (g.moment old) (g.moment mid) (g.states_since old) (g.states_since mid)
+            (While (g.told old) (WhileMaking (Manifest plan.manifest) view.piece)) (While (g.told old) (WhileMending view)) makes.time
+            (λ now is disk told. at_manifest (is disk told));
+        cause = makes.cause;
+      }
+      by (fails.Disk name) makes = record {
+        manifest = tt;
+        done = tt;
+        calls = tt;
+        no_room = λ e. absurd (disk_room name e);
+        tells = part_tells (Manifest plan.manifest) view.piece (g.told old) (g.told mid) makes.answer.part;
+        time = passes_weaker (g.moment old) (g.moment mid) (g.states_since old) (g.states_since mid)
+            (While (g.told old) (WhileMaking (Manifest plan.manifest) view.piece)) (While (g.told old) (WhileMending view)) makes.time
+            (λ now is disk told. at_manifest (is disk told));
+        cause = makes.cause;
+      }
+
+  module _ (log : ManifestLog) (made : Result ManifestLog IoFail) (went : made ≡ Ok log) (makes : MakesManifest g plan.manifest edits old mid made) where
+    done_so : Created (Ok log)
+    done_so = created (Ok log) (subst (λ (r : Result ManifestLog IoFail). MakesManifest g plan.manifest edits old mid r) went makes)
+
+    -- the rest of the plan fits what stands then
+    pub behind_fits : ForSome (g.told old) (Fits view) → ForSome (g.told mid) (FitsBehind view)
+    behind_fits fits = holds_after (with_manifest view) (g.told old) (g.told mid) (Fits view) (FitsBehind view) done_so.answer.file (λ disk f. f.behind) fits
+
+    first_step : Performs {E = Name} g (with_manifest view) (WhileMaking (Manifest plan.manifest) view.piece) 3 old mid (Ok log)
+    first_step = record {
+      done = done_so.answer.file;
+      calls = done_so.answer.calls;
+      tells = changed_tells (with_manifest view) (g.told old) (g.told mid) done_so.answer.file;
+      time = done_so.time;
+      cause = record { later = done_so.cause.later; rose = λ fault. absurd (false_true fault); steady = λ _. done_so.cause.steady (λ no. no) };
+    }
+
+    module _ (new : D) where
+      both : (result : Result Unit Name) → MendsBehind g view mid new result → Performs g (mended view) (WhileMending view) (calls_of_plan view) old new result
+      both result behind =
+          performs_as g old new (mended view) (λ disk now. WhileMaking (Manifest plan.manifest) view.piece disk now ⊎ WhileBehind view (with_manifest view disk) now) (WhileMending view)
+          (calls_behind view + 3) (calls_of_plan view) into result (omega arith)
+          (performs_then g (with_manifest view) (behind_manifest view) (WhileMaking (Manifest plan.manifest) view.piece) (WhileBehind view) 3 (calls_behind view)
+          old mid new log result first_step behind)
+        where
+          into : (disk now : DiskState) → WhileMaking (Manifest plan.manifest) view.piece disk now ⊎ WhileBehind view (with_manifest view disk) now → WhileMending view disk now
+          into disk now during = ⊎_elim
+              (λ (w : WhileMaking (Manifest plan.manifest) view.piece disk now). at_manifest w)
+              (λ (w : WhileBehind view (with_manifest view disk) now). ⊎_elim
+              (λ (v : WhileLast view.last (with_manifest view disk) now). at_last v)
+              (λ (v : WhileLog view.log (behind_last view.last (with_manifest view disk)) now
+              ⊎ WhileStrays view.strays (behind_log view.log (behind_last view.last (with_manifest view disk))) now). ⊎_elim
+              (λ (u : WhileLog view.log (behind_last view.last (with_manifest view disk)) now). at_log u)
+              (λ (u : WhileStrays view.strays (behind_log view.log (behind_last view.last (with_manifest view disk))) now). at_strays u)
+              v)
+              w)
+              during
+
+      -- it was mended
+      pub all_mended : (u : Unit {0}) → MendsBehind {E = Name} g view mid new (Ok u) → Mends g view old new (Ok log)
+      all_mended u behind =
+          let step = both (Ok u) behind in
+          record {
+            manifest = done_so.answer.log_is;
+            done = step.done;
+            calls = step.calls;
+            no_room = λ e. absurd (ok_err log fails.NoMemory e);
+            tells = step.tells;
+            time = step.time;
+            cause = record { later = step.cause.later; rose = λ fault. absurd fault; steady = λ _. step.cause.steady false_true };
+          }
+        where
+          ok_err : (l : ManifestLog) (e : IoFail) → Ok l ≡ Err e → ⊥
+          ok_err l e is = cc
+
+      -- the disk failed
+      pub mending_fails : (name : Name) → MendsBehind {T = Unit {0}} g view mid new (Err name) → Mends g view old new (Err (fails.Disk name))
+      mending_fails name behind =
+          let step = both (Err name) behind in
+          record {
+            manifest = tt;
+            done = tt;
+            calls = tt;
+            no_room = λ e. absurd (disk_room name e);
+            tells = step.tells;
+            time = step.time;
+            cause = record { later = step.cause.later; rose = λ _. step.cause.rose refl; steady = λ fine. absurd (fine tt) };
+          }
