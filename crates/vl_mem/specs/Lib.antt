@@ -1,3 +1,6 @@
+pub mod ChangePlan
+pub mod CrashChance
+pub mod CrashImage
 pub mod Entry
 pub mod Event
 pub mod Held

@@ -5,6 +5,7 @@ ghost use Rattle.vl_mem.specs.Kept.{IsKept};
 ghost use Rattle.std.proofs.Props.{props};
 ghost use Rattle.vl_mem.specs.Event.{sound_prop};
 
+use crate::change_plan::ChangePlan;
 use crate::entry::Entry;
 use crate::event::{Event, make_room};
 use crate::found::found;
@@ -25,7 +26,7 @@ mod steps;
 pub struct MemDisk {
     alloc: Global,
     // of the changing calls
-    changes: FaultPlan,
+    changes: ChangePlan,
     // of the other calls that can fail
     reads: FaultPlan,
     entries: BTreeMap<Name, Entry, Global>,
@@ -41,20 +42,21 @@ impl MemDisk {
     ghost use Rattle.vl_disk.specs.FaultPlan.{new_plan};
     ghost use Rattle.vl_disk.specs.Name.{IsNumbered};
     ghost use Rattle.vl_disk.specs.Started.{Started};
+    ghost use Rattle.vl_mem.specs.ChangePlan.{new_changes, stopping_after};
     ghost use Rattle.vl_mem.specs.Kept.{image_of};
-    ghost use Rattle.vl_mem.specs.MemDisk.{told_by, moment_of, changes_of, reads_of};
+    ghost use Rattle.vl_mem.specs.MemDisk.{told_by, moment_of, changes_of, reads_of, KeepsFiles};
 
     /// An empty disk. Of its changing calls exactly those fail that `faults` lists, by their numbers from 1, and of its
     /// other calls that can fail those that `read_faults` lists.
     pub fn new(alloc: Global, faults: Vec<u64>, read_faults: Vec<u64>) -> Self
         ensures told { told_by result ≡ Some empty_disk }
         ensures moment { moment_of result ≡ 0 }
-        ensures changes { changes_of result ≡ new_plan faults.items }
+        ensures changes { changes_of result ≡ new_changes faults.items }
         ensures reads { reads_of result ≡ new_plan read_faults.items }
     {
         MemDisk {
             alloc,
-            changes: FaultPlan::new(faults),
+            changes: ChangePlan::new(faults),
             reads: FaultPlan::new(read_faults),
             entries: BTreeMap::new(alloc),
             events: Vec::new(alloc),
@@ -70,7 +72,7 @@ impl MemDisk {
     ) -> Result<Self, NoMemory>
         requires { All (λ file. IsNumbered file.0) files.items }
         ensures started { IfOk result (λ disk. ForSome (told_by disk) (Started (image_of files.items))) }
-        ensures changes { IfOk result (λ disk. changes_of disk ≡ new_plan faults.items) }
+        ensures changes { IfOk result (λ disk. changes_of disk ≡ new_changes faults.items) }
         ensures reads { IfOk result (λ disk. reads_of disk ≡ new_plan read_faults.items) }
     {
         let mut entries = BTreeMap::new(alloc);
@@ -80,11 +82,20 @@ impl MemDisk {
         }
         Ok(MemDisk {
             alloc,
-            changes: FaultPlan::new(faults),
+            changes: ChangePlan::new(faults),
             reads: FaultPlan::new(read_faults),
             entries,
             events,
         })
+    }
+
+    /// Lets so many changing calls pass, and fails each later one. It counts creates, appends, syncs, cuts and removes;
+    /// those that are listed fail all the same. Of two stops the later one counts.
+    pub fn stop_after(&mut self, calls: u64)
+        ensures changes { changes_of self.new ≡ stopping_after calls (changes_of self.old) }
+        ensures keeps { KeepsFiles self.old self.new }
+    {
+        self.changes.stop_after(calls);
     }
 
     /// The bytes of a file, if it stands.
@@ -113,7 +124,7 @@ impl Watched for MemDisk {
 
     ghost states_since = { was_since };
 
-    ghost calls = { λ disk. (changes_of disk).calls };
+    ghost calls = { λ disk. (changes_of disk).listed.calls };
 
     ghost faults = { faults_of };
 
