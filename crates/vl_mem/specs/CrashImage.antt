@@ -34,7 +34,7 @@ left_of Kept standing removed = option_map (λ file. file.bytes) standing
 left_of Halved standing removed = option_map half_torn_bytes standing
 
 -- the image with these bytes under this name, if there are any
-abbrev with_bytes : Name → Option (List ℕ) → Image → Image
+abbrev pub with_bytes : Name → Option (List ℕ) → Image → Image
 with_bytes name None image = image
 with_bytes name (Some bytes) image = insert image name bytes
 
@@ -50,17 +50,24 @@ crash_image outcome disk =
 
 -- ---- the image name by name
 
+module _ (q : Name) (image : Image) (bytes : Option (List ℕ)) where
+  pub with_there : (get image q ≡ None) ⊎ (get image q ≡ bytes) → get (with_bytes q bytes image) q ≡ bytes
+  with_there is = of bytes is
+    where
+      of : (b : Option (List ℕ)) → (get image q ≡ None) ⊎ (get image q ≡ b) → get (with_bytes q b image) q ≡ b
+      of None is = ⊎_elim (λ (e : get image q ≡ None). e) (λ (e : get image q ≡ None). e) is
+      of (Some b) is = get_inserted image q b
+
+  pub with_other : (name : Name) → q ≢ name → get (with_bytes name bytes image) q ≡ get image q
+  with_other name apart = of bytes
+    where
+      of : (b : Option (List ℕ)) → get (with_bytes name b image) q ≡ get image q
+      of None = refl
+      of (Some b) = get_inserted_other image name b q apart
+
 module _ (left : Name → Option (List ℕ)) (q : Name) where
   abbrev tied : Name → Bool
   tied = eq_by_cmp name_cmp q
-
-  with_there : (image : Image) (bytes : Option (List ℕ)) → get image q ≡ None ⊎ get image q ≡ bytes → get (with_bytes q bytes image) q ≡ bytes
-  with_there image None is = ⊎_elim (λ e. e) (λ e. e) is
-  with_there image (Some bytes) is = get_inserted image q bytes
-
-  with_other : (name : Name) (image : Image) (bytes : Option (List ℕ)) → q ≢ name → get (with_bytes name bytes image) q ≡ get image q
-  with_other name image None apart = refl
-  with_other name image (Some bytes) apart = get_inserted_other image name bytes q apart
 
   none_or : (b : Bool) (found : Option (List ℕ)) → found ≡ cond b (left q) None → (found ≡ None) ⊎ (found ≡ left q)
   none_or true found is = inr is
@@ -70,13 +77,13 @@ module _ (left : Name → Option (List ℕ)) (q : Name) where
   at_names [] = get-empty name_cmp q
   at_names (name ∷ names) = ⊎_elim
       (λ (same : q ≡ name). subst (λ (n : Name). get (with_bytes n (left n) (image_at left names)) q ≡ cond (tied n || list_any tied names) (left q) None) same
-      (with_there (image_at left names) (left q) (none_or (list_any tied names) (get (image_at left names) q) (at_names names))
+      (with_there q (image_at left names) (left q) (none_or (list_any tied names) (get (image_at left names) q) (at_names names))
       ∙ sym (ap (λ (b : Bool). cond (b || list_any tied names) (left q) None) (tied_same q))))
-      (λ (other : q ≢ name). with_other name (image_at left names) (left name) other ∙ at_names names
+      (λ (other : q ≢ name). with_other q (image_at left names) (left name) name other ∙ at_names names
       ∙ sym (ap (λ (b : Bool). cond (b || list_any tied names) (left q) None) (tied_other q name other)))
       (same_or_other q name)
 
-left_none : (outcome : Outcome) → left_of outcome None None ≡ None
+pub left_none : (outcome : Outcome) → left_of outcome None None ≡ None
 left_none Lost = refl
 left_none Kept = refl
 left_none Halved = refl

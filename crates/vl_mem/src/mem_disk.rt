@@ -8,10 +8,12 @@ ghost use Rattle.vl_mem.specs.Event.{sound_prop};
 use crate::change_plan::ChangePlan;
 use crate::entry::Entry;
 use crate::event::{Event, make_room};
+use crate::files_left::files_left;
 use crate::found::found;
 use crate::held::MemHeld;
 use crate::mem_reader::MemReader;
 use crate::names::names_of;
+use crate::outcome::Outcome;
 use crate::reading::read_bytes;
 use std::alloc::Global;
 use std::collections::BTreeMap;
@@ -35,16 +37,18 @@ pub struct MemDisk {
 }
 
 impl MemDisk {
-    ghost use Rattle.std.specs.Prelude.{◌≡◌, Some, IfOk, All};
+    ghost use Rattle.std.specs.Prelude.{◌≡◌, [], Some, IfOk, All};
     ghost use Rattle.std.specs.FinMap.{get};
     ghost use Rattle.std.specs.Option.{ForSome, option_copied, option_map};
+    ghost use Rattle.vl_disk.specs.Crash.{MayLeave};
     ghost use Rattle.vl_disk.specs.DiskState.{empty_disk};
     ghost use Rattle.vl_disk.specs.FaultPlan.{new_plan};
     ghost use Rattle.vl_disk.specs.Name.{IsNumbered};
     ghost use Rattle.vl_disk.specs.Started.{Started};
     ghost use Rattle.vl_mem.specs.ChangePlan.{new_changes, stopping_after};
+    ghost use Rattle.vl_mem.specs.CrashImage.{crash_image};
     ghost use Rattle.vl_mem.specs.Kept.{image_of};
-    ghost use Rattle.vl_mem.specs.MemDisk.{told_by, moment_of, changes_of, reads_of, KeepsFiles};
+    ghost use Rattle.vl_mem.specs.MemDisk.{state_of, told_by, moment_of, changes_of, reads_of, KeepsFiles};
 
     /// An empty disk. Of its changing calls exactly those fail that `faults` lists, by their numbers from 1, and of its
     /// other calls that can fail those that `read_faults` lists.
@@ -96,6 +100,19 @@ impl MemDisk {
         ensures keeps { KeepsFiles self.old self.new }
     {
         self.changes.stop_after(calls);
+    }
+
+    /// A disk that was just started from what a crash of this one leaves. Nothing is held of it and none of its calls is
+    /// to fail.
+    pub fn crash(self, outcome: Outcome) -> Result<MemDisk, NoMemory>
+        ensures started { IfOk result (λ disk. Started (crash_image outcome (state_of self)) (state_of disk)) }
+        ensures left { MayLeave (state_of self) (crash_image outcome (state_of self)) }
+        ensures changes { IfOk result (λ disk. changes_of disk ≡ new_changes []) }
+        ensures reads { IfOk result (λ disk. reads_of disk ≡ new_plan []) }
+    {
+        let MemDisk { alloc, entries, .. } = self;
+        let files = files_left(alloc, entries, outcome)?;
+        MemDisk::started(alloc, files, Vec::new(alloc), Vec::new(alloc))
     }
 
     /// The bytes of a file, if it stands.
