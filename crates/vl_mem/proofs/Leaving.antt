@@ -1,11 +1,11 @@
 -- The files that a crash of a disk in memory leaves.
-use Rattle.std.proofs.Common.{◌≡◌, ◌≢◌, inl, ⊎_elim, ℕ, zero, suc, List, [], ◌∷◌, ◌++◌, length, get_or, All, IsSome, Option, None, Some, Vec, Global, refl, sym, ◌∙◌, ap, subst, arith, false, true}
+use Rattle.std.proofs.Common.{◌≡◌, ◌≢◌, inl, ⊎_elim, ℕ, zero, suc, List, [], ◌∷◌, ◌++◌, get_or, All, IsSome, Option, None, Some, Vec, Global, refl, sym, ◌∙◌, ap, subst, arith, false, true}
 use Rattle.std.specs.Option.{option_and_then, option_map}
 use Rattle.std.specs.BTreeMap as tree
 use Rattle.std.specs.FinMap.{get, empty, insert, get-empty, same_map}
 use Rattle.std.specs.List.{AllByRecursion}
 use Rattle.std.specs.List.Sorted.{IsStrictlySortedBy}
-use Rattle.std.specs.Map.{keys_of, lookup}
+use Rattle.std.specs.Map.{keys_of}
 use Rattle.std.specs.declared.cmp.Ordering.TheVariants.{Less}
 use Rattle.vl_disk.specs.declared.name.Name.{Name}
 use Rattle.vl_disk.specs.Name.{IsNumbered, name_cmp, name_cmp_total, name_cmp_exact}
@@ -16,7 +16,7 @@ use Rattle.vl_mem.specs.declared.entry.Entry.{Entry}
 use Rattle.vl_mem.specs.declared.outcome.Outcome.{Outcome}
 use Rattle.vl_mem.specs.declared.outcome.Outcome.TheVariants.{Lost, Kept, Halved}
 use Rattle.vl_mem.specs.CrashImage.{crash_image, image_left, left_none, left_of, with_bytes, with_there, with_other}
-use Rattle.vl_mem.specs.Entry.{Entries, HasFiles, Matches, entry_of, plain, removed_in, standing_in}
+use Rattle.vl_mem.specs.Entry.{Entries, HasFiles, entry_of, plain, removed_in, standing_in}
 use Rattle.vl_mem.specs.Kept.{image_of, with_files}
 use Rattle.vl_mem.proofs.Listed.{at, at_head, at_rest, less_apart}
 

@@ -1,8 +1,7 @@
 -- The image that a crash of a disk in memory leaves has no chance match.
-use Rattle.std.specs.Prelude.{◌≡◌, ◌⊎◌, Bool, true, ℕ, ◌+◌, ◌-◌, ◌/◌, ◌≤◌, ◌<◌, max, false, List, [], ◌∷◌, ◌++◌, length, take, drop, Option, None, Some, Any, if◌then◌else◌}
-use Rattle.std.specs.Option.{option_map}
+use Rattle.std.specs.Prelude.{◌≡◌, ◌⊎◌, Bool, true, ℕ, ◌+◌, ◌-◌, ◌/◌, ◌≤◌, ◌<◌, false, List, [], ◌++◌, length, take, drop, Option, None, Some, if◌then◌else◌}
 use Rattle.std.specs.FinMap.{get}
-use Rattle.std.proofs.Common.{inl, inr, ⊎_elim, refl, sym, ◌∙◌, ap, subst, arith, length-append}
+use Rattle.std.proofs.Common.{inl, inr, ⊎_elim, refl, sym, ◌∙◌, ap, subst, arith}
 use Rattle.std.proofs.lemmas.List.{take-take, take_all, drop-take, drop_all, drop_at, drop-drop, length-take, length-drop}
 use Rattle.std.proofs.lemmas.List.Quantifiers.{Any-push}
 use Rattle.vl_disk.specs.declared.name.Name.{Name}
@@ -11,7 +10,7 @@ use Rattle.vl_disk.specs.Crash.{last_file}
 use Rattle.vl_disk.specs.DiskState.{Piece, File, DiskState, lengthened}
 use Rattle.vl_mem.specs.declared.outcome.Outcome.{Outcome}
 use Rattle.vl_mem.specs.declared.outcome.Outcome.TheVariants.{Lost, Kept, Halved}
-use Rattle.vl_mem.specs.CrashImage.{crash_image, durable_bytes, half_torn_bytes, image_left, lasting_bytes, left_of}
+use Rattle.vl_mem.specs.CrashImage.{crash_image, durable_bytes, half_torn_bytes, image_left, left_of}
 
 -- What spells frames: bytes that stand where it says, and at least one.
 -- `spells name bytes place frame` says that the bytes of a file of this name have at this place a frame with these bytes.
