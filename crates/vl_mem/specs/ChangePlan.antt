@@ -32,3 +32,5 @@ pub record FollowsPlan (old new : ChangePlan) (failed : Type 0) : Type 0 where
   pub failing : new.listed.failing ≡ old.listed.failing
   pub stop : new.stop ≡ old.stop
   pub calls : new.listed.calls ≡ one_more old.listed.calls
+  pub fault : failed → new.listed.faults ≡ one_more old.listed.faults
+  pub no_fault : (failed → ⊥) → new.listed.faults ≡ old.listed.faults

@@ -6,3 +6,4 @@ pub mod Event
 pub mod Held
 pub mod Kept
 pub mod MemDisk
+pub mod StopsAt
