@@ -39,6 +39,13 @@ impl FaultPlan {
         Ok(FaultPlan::new(Vec::from_slice(alloc, &self.failing)?))
     }
 
+    /// The calls so far. The count stands still at its last value.
+    pub fn calls(&self) -> u64
+        ensures { result ≡ self.now.calls }
+    {
+        self.calls
+    }
+
     /// Whether the next call is to fail.
     pub fn is_due(&self) -> bool
         ensures { IsTrue result ↔ IsDue self.now }

@@ -9,7 +9,6 @@ use Rattle.vl_disk.specs.DiskState.{File, DiskState, IsLawful, empty_disk, new_f
 use Rattle.vl_disk.specs.Calls.{ChangingCall, Creates, Appends, Syncs, Cuts, Removes}
 use Rattle.vl_disk.specs.Crash.{WhileCreating, WhileAppending, WhileSyncing, WhileCutting, WhileRemoving}
 use Rattle.vl_disk.specs.Disk.{Stands, IsInside, IsChangedBy}
-use Rattle.vl_disk.specs.FaultPlan.{Follows}
 use Rattle.vl_disk.specs.Faults.{HasCause}
 use Rattle.vl_disk.specs.Lawful.{synced_again}
 use Rattle.vl_disk.specs.Moments.{Passes, While}
@@ -19,6 +18,7 @@ use Rattle.vl_mem.specs.contracts.mem_disk.MemDiskWatched.TheImpl as memory
 use Rattle.vl_mem.specs.declared.entry.Entry.{Entry}
 use Rattle.vl_mem.specs.declared.event.Event.{Event}
 use Rattle.vl_mem.specs.declared.mem_disk.MemDisk.{MemDisk}
+use Rattle.vl_mem.specs.ChangePlan.{FollowsPlan}
 use Rattle.vl_mem.specs.Entry.{Entries, HasFiles, entry_of, file_of, plain, standing_in}
 use Rattle.vl_mem.specs.Event.{after_event, replayed-push, state_after, told_lawful, WasSince}
 use Rattle.vl_mem.specs.MemDisk.{state_of, told_by, room_of, Goes}
@@ -61,11 +61,11 @@ passes_still events P = record { later = omega arith; nothing_else = λ t now le
 pub record Counts (old mid : MemDisk) (failed : Bool) : Type 0 where
   pub events : mid.events.items ≡ old.events.items
   pub reads : mid.reads ≡ old.reads
-  pub follows : Follows old.changes mid.changes (IsTrue failed)
-  pub cause : HasCause old.changes.faults mid.changes.faults (IsTrue failed)
+  pub follows : FollowsPlan old.changes mid.changes (IsTrue failed)
+  pub cause : HasCause old.changes.listed.faults mid.changes.listed.faults (IsTrue failed)
 
 pub counted : (old mid : MemDisk) (fails failed : Bool) → fails ≡ failed → mid.events.items ≡ old.events.items → mid.reads ≡ old.reads
-    → Follows old.changes mid.changes (IsTrue fails) → HasCause old.changes.faults mid.changes.faults (IsTrue fails) → Counts old mid failed
+    → FollowsPlan old.changes mid.changes (IsTrue fails) → HasCause old.changes.listed.faults mid.changes.listed.faults (IsTrue fails) → Counts old mid failed
 counted old mid fails failed is events reads follows cause = subst (Counts old mid) is (record { events = events; reads = reads; follows = follows; cause = cause })
 
 cause_of : (a b rest : ℕ) (failed : Bool) → HasCause a b (IsTrue failed) → HasCause (a + rest) (b + rest) (IsTrue failed)
@@ -88,12 +88,12 @@ module _ (old mid new : MemDisk) (failed : Bool) (counts : Counts old mid failed
 
     as_call : (during : DiskState → DiskState → Type 0) → ((next : DiskState) → next ≡ change now → during now next) → ChangingCall watched old new during (IsTrue failed)
     as_call during meanwhile = record {
-      calls = ap (λ p. p.calls) goes.changes ∙ counts.follows.calls;
+      calls = ap (λ p. p.listed.calls) goes.changes ∙ counts.follows.calls;
       time = passes_push old.events.items new.events.items goes.event (While (told_by old) during) pushed
           (λ next is disk told. subst (λ d. during d next) (some_state now disk told) (meanwhile next (is ∙ goes.does now)));
-      cause = subst (λ n. HasCause (old.changes.faults + old.reads.faults) n (IsTrue failed))
-          (sym (ap (λ p. p.faults + new.reads.faults) goes.changes ∙ ap (λ p. mid.changes.faults + p.faults) (goes.reads ∙ counts.reads)))
-          (cause_of old.changes.faults mid.changes.faults old.reads.faults failed counts.cause);
+      cause = subst (λ n. HasCause (old.changes.listed.faults + old.reads.faults) n (IsTrue failed))
+          (sym (ap (λ p. p.listed.faults + new.reads.faults) goes.changes ∙ ap (λ p. mid.changes.listed.faults + p.faults) (goes.reads ∙ counts.reads)))
+          (cause_of old.changes.listed.faults mid.changes.listed.faults old.reads.faults failed counts.cause);
     }
 
 module _ (name : Name) (old mid new : MemDisk) where
@@ -216,8 +216,8 @@ syncs_again name old new entry x stands counts found whole spare = record {
     calls = counts.follows.calls;
     time = subst (λ es. Passes (length old.events.items) (length es) (WasSince old.events.items) (WasSince es) (While (told_by old) (WhileSyncing name))) (sym counts.events)
         (passes_still old.events.items (While (told_by old) (WhileSyncing name)));
-    cause = subst (λ n. HasCause (old.changes.faults + old.reads.faults) n (IsTrue false)) (ap (λ p. new.changes.faults + p.faults) (sym counts.reads))
-        (cause_of old.changes.faults new.changes.faults old.reads.faults false counts.cause);
+    cause = subst (λ n. HasCause (old.changes.listed.faults + old.reads.faults) n (IsTrue false)) (ap (λ p. new.changes.listed.faults + p.faults) (sym counts.reads))
+        (cause_of old.changes.listed.faults new.changes.listed.faults old.reads.faults false counts.cause);
   };
   spare = spare;
 }

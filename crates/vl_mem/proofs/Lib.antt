@@ -1,3 +1,4 @@
 pub mod Calls
+pub mod Leaving
 pub mod Listed
 pub mod Steps

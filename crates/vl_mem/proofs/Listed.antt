@@ -25,13 +25,13 @@ false_true : false ≡ true → ⊥
 false_true e = cc
 
 -- the entry of a name
-abbrev at : Name → List (Name × Entry) → Option Entry
+abbrev pub at : Name → List (Name × Entry) → Option Entry
 at name es = lookup (tree.is_at (name_cmp name)) es
 
-at_head : (name : Name) (e : Name × Entry) (es : List (Name × Entry)) → name ≡ e.0 → at name (e ∷ es) ≡ Some e.1
+pub at_head : (name : Name) (e : Name × Entry) (es : List (Name × Entry)) → name ≡ e.0 → at name (e ∷ es) ≡ Some e.1
 at_head name e es same = ap (λ b. cond b (Some e.1) (at name es)) (ap (λ n. is_eq (name_cmp name n)) (sym same) ∙ tied_same name)
 
-at_rest : (name : Name) (e : Name × Entry) (es : List (Name × Entry)) → name ≢ e.0 → at name (e ∷ es) ≡ at name es
+pub at_rest : (name : Name) (e : Name × Entry) (es : List (Name × Entry)) → name ≢ e.0 → at name (e ∷ es) ≡ at name es
 at_rest name e es other = ap (λ b. cond b (Some e.1) (at name es)) (tied_other name e.0 other)
 
 some_standing : (presence : Presence) (file : File) → IsSome (if_standing presence file) → is_standing presence ≡ true
@@ -74,7 +74,7 @@ of_listed P (e ∷ es) name all has = by (of_listed P es name all.1) (is_standin
     by rest false has = rest has
     by rest true has = ⊎_elim (λ (same : e.0 ≡ name). subst P same all.0) rest (listed_head name e.0 (standing_names es) has)
 
-less_apart : (a b : Name) → name_cmp a b ≡ Less → a ≢ b
+pub less_apart : (a b : Name) → name_cmp a b ≡ Less → a ≢ b
 less_apart a b less same = tie (name_cmp a b) less (ap (λ n. is_eq (name_cmp a n)) (sym same) ∙ tied_same a)
   where
     tie : (o : Ordering) → o ≡ Less → is_eq o ≡ true → ⊥

@@ -1,9 +1,10 @@
 -- A disk in memory as its callers see it.
-use Rattle.std.specs.Prelude.{◌≡◌, ℕ, ◌+◌, [], ◌∷◌, ◌++◌, length, Option, Some}
+use Rattle.std.specs.Prelude.{◌≡◌, ◌↔◌, ℕ, ◌+◌, [], ◌∷◌, ◌++◌, length, Option, Some}
 use Rattle.vl_disk.specs.declared.name.Name.{Name}
 use Rattle.vl_disk.specs.DiskState.{DiskState}
 use Rattle.vl_disk.specs.FaultPlan.{Follows, Plan}
-use Rattle.vl_disk.specs.Spare.{Spare}
+use Rattle.vl_disk.specs.Spare.{SameSpare, Spare}
+use Rattle.vl_mem.specs.ChangePlan.{ChangePlan, FollowsPlan}
 use Rattle.vl_mem.specs.declared.event.Event.{Event}
 use Rattle.vl_mem.specs.declared.mem_disk.MemDisk.{MemDisk}
 use Rattle.vl_mem.specs.declared.mem_reader.MemReader.{MemReader}
@@ -23,13 +24,13 @@ abbrev pub was_since : MemDisk → ℕ → DiskState → Type 0
 was_since disk = WasSince disk.events.items
 
 abbrev pub faults_of : MemDisk → ℕ
-faults_of disk = disk.changes.faults + disk.reads.faults
+faults_of disk = disk.changes.listed.faults + disk.reads.faults
 
 abbrev pub room_of : MemDisk → Name → Spare
 room_of disk name = spare_of (entry_of disk.entries name)
 
 -- which of its changing calls are to fail, and how many came
-abbrev pub changes_of : MemDisk → Plan
+abbrev pub changes_of : MemDisk → ChangePlan
 changes_of disk = disk.changes
 
 -- the same of its other calls that can fail
@@ -42,13 +43,21 @@ reads_by reader = reader.plan
 
 -- a changing call was asked for, and failed exactly if it was due
 pub record CountsChange (old new : MemDisk) (failed : Type 0) : Type 0 where
-  pub changes : Follows (changes_of old) (changes_of new) failed
+  pub changes : FollowsPlan (changes_of old) (changes_of new) failed
   pub reads : reads_of new ≡ reads_of old
 
 -- another call that can fail was
 pub record CountsRead (old new : MemDisk) (failed : Type 0) : Type 0 where
   pub changes : changes_of new ≡ changes_of old
   pub reads : Follows (reads_of old) (reads_of new) failed
+
+-- its files, its past and its room are as they were, and which of the other calls fail
+pub record KeepsFiles (old new : MemDisk) : Type 0 where
+  pub told : told_by new ≡ told_by old
+  pub moment : moment_of new ≡ moment_of old
+  pub since : (t : ℕ) (state : DiskState) → was_since new t state ↔ was_since old t state
+  pub spare : SameSpare (room_of old) (room_of new)
+  pub reads : reads_of new ≡ reads_of old
 
 -- a call left one event, which did this to the disk
 pub record Goes (old new : MemDisk) (change : DiskState → DiskState) : Type 0 where

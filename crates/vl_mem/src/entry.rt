@@ -1,6 +1,7 @@
 // What a disk in memory keeps under one name.
 ghost use Rattle.std.specs.Prelude.{◌≡◌, ◌≤◌, length, Some, Ok, true, false, OnOk, OnErr};
 
+use crate::outcome::Outcome;
 use std::alloc::Global;
 use std::mem;
 use vl_disk::NoMemory;
@@ -37,7 +38,9 @@ impl Entry {
     ghost use Rattle.vl_disk.specs.Spare.{CanAppend, IsReady};
     ghost use Rattle.vl_disk.specs.DiskState.{new_file, settled, synced_file, lengthened, shortened};
     ghost use Rattle.vl_mem.specs.declared.entry.Presence.TheVariants.{Standing, Removed};
-    ghost use Rattle.vl_mem.specs.Entry.{Fits, IsBlank, Becomes, KeepsFile, file_of, is_standing, plain, slots, spare_of};
+    ghost use Rattle.std.specs.Option.{option_map};
+    ghost use Rattle.vl_mem.specs.CrashImage.{left_of};
+    ghost use Rattle.vl_mem.specs.Entry.{Fits, IsBlank, Becomes, KeepsFile, file_of, is_standing, plain, removed_in, slots, spare_of, standing_in};
 
     /// An entry of a name of which nothing is known.
     pub fn blank(alloc: Global) -> Self
@@ -206,5 +209,23 @@ impl Entry {
         let _ = copy.extend_from_slice(&self.bytes);
         self.hold = false;
         copy
+    }
+
+    /// What a crash leaves of the file.
+    pub fn left(self, outcome: Outcome) -> Option<Vec<u8>>
+        ensures { option_map (λ bytes. bytes.items) result
+            ≡ left_of outcome (standing_in (Some self)) (removed_in (Some self)) }
+    {
+        let len = match (self.presence, outcome) {
+            (Presence::Standing, Outcome::Kept) => self.bytes.len(),
+            (Presence::Standing, Outcome::Halved) => {
+                self.synced + self.bytes.len().saturating_sub(self.synced) / 2
+            }
+            (Presence::Standing | Presence::Removed, Outcome::Lost) if self.lasting => self.synced,
+            _ => return None,
+        };
+        let mut bytes = self.bytes;
+        bytes.truncate(len);
+        Some(bytes)
     }
 }

@@ -1,18 +1,22 @@
 //! A disk in memory, which tells its bytes and fails at the calls that are listed.
 #![tactic(auto)]
 
+mod change_plan;
 mod entry;
 mod event;
+mod files_left;
 mod found;
 mod held;
 mod mem_disk;
 mod mem_reader;
 mod names;
+mod outcome;
 mod reading;
 
 pub use held::MemHeld;
 pub use mem_disk::MemDisk;
 pub use mem_reader::MemReader;
+pub use outcome::Outcome;
 
 #[cfg(test)]
 mod tests;

@@ -5,12 +5,15 @@ ghost use Rattle.vl_mem.specs.Kept.{IsKept};
 ghost use Rattle.std.proofs.Props.{props};
 ghost use Rattle.vl_mem.specs.Event.{sound_prop};
 
+use crate::change_plan::ChangePlan;
 use crate::entry::Entry;
 use crate::event::{Event, make_room};
+use crate::files_left::files_left;
 use crate::found::found;
 use crate::held::MemHeld;
 use crate::mem_reader::MemReader;
 use crate::names::names_of;
+use crate::outcome::Outcome;
 use crate::reading::read_bytes;
 use std::alloc::Global;
 use std::collections::BTreeMap;
@@ -25,7 +28,7 @@ mod steps;
 pub struct MemDisk {
     alloc: Global,
     // of the changing calls
-    changes: FaultPlan,
+    changes: ChangePlan,
     // of the other calls that can fail
     reads: FaultPlan,
     entries: BTreeMap<Name, Entry, Global>,
@@ -34,27 +37,30 @@ pub struct MemDisk {
 }
 
 impl MemDisk {
-    ghost use Rattle.std.specs.Prelude.{◌≡◌, Some, IfOk, All};
+    ghost use Rattle.std.specs.Prelude.{◌≡◌, [], Some, IfOk, All};
     ghost use Rattle.std.specs.FinMap.{get};
     ghost use Rattle.std.specs.Option.{ForSome, option_copied, option_map};
+    ghost use Rattle.vl_disk.specs.Crash.{MayLeave};
     ghost use Rattle.vl_disk.specs.DiskState.{empty_disk};
     ghost use Rattle.vl_disk.specs.FaultPlan.{new_plan};
     ghost use Rattle.vl_disk.specs.Name.{IsNumbered};
     ghost use Rattle.vl_disk.specs.Started.{Started};
+    ghost use Rattle.vl_mem.specs.ChangePlan.{new_changes, stopping_after};
+    ghost use Rattle.vl_mem.specs.CrashImage.{crash_image};
     ghost use Rattle.vl_mem.specs.Kept.{image_of};
-    ghost use Rattle.vl_mem.specs.MemDisk.{told_by, moment_of, changes_of, reads_of};
+    ghost use Rattle.vl_mem.specs.MemDisk.{state_of, told_by, moment_of, changes_of, reads_of, KeepsFiles};
 
     /// An empty disk. Of its changing calls exactly those fail that `faults` lists, by their numbers from 1, and of its
     /// other calls that can fail those that `read_faults` lists.
     pub fn new(alloc: Global, faults: Vec<u64>, read_faults: Vec<u64>) -> Self
         ensures told { told_by result ≡ Some empty_disk }
         ensures moment { moment_of result ≡ 0 }
-        ensures changes { changes_of result ≡ new_plan faults.items }
+        ensures changes { changes_of result ≡ new_changes faults.items }
         ensures reads { reads_of result ≡ new_plan read_faults.items }
     {
         MemDisk {
             alloc,
-            changes: FaultPlan::new(faults),
+            changes: ChangePlan::new(faults),
             reads: FaultPlan::new(read_faults),
             entries: BTreeMap::new(alloc),
             events: Vec::new(alloc),
@@ -70,7 +76,7 @@ impl MemDisk {
     ) -> Result<Self, NoMemory>
         requires { All (λ file. IsNumbered file.0) files.items }
         ensures started { IfOk result (λ disk. ForSome (told_by disk) (Started (image_of files.items))) }
-        ensures changes { IfOk result (λ disk. changes_of disk ≡ new_plan faults.items) }
+        ensures changes { IfOk result (λ disk. changes_of disk ≡ new_changes faults.items) }
         ensures reads { IfOk result (λ disk. reads_of disk ≡ new_plan read_faults.items) }
     {
         let mut entries = BTreeMap::new(alloc);
@@ -80,11 +86,33 @@ impl MemDisk {
         }
         Ok(MemDisk {
             alloc,
-            changes: FaultPlan::new(faults),
+            changes: ChangePlan::new(faults),
             reads: FaultPlan::new(read_faults),
             entries,
             events,
         })
+    }
+
+    /// Lets so many changing calls pass, and fails each later one. It counts creates, appends, syncs, cuts and removes;
+    /// those that are listed fail all the same. Of two stops the later one counts.
+    pub fn stop_after(&mut self, calls: u64)
+        ensures changes { changes_of self.new ≡ stopping_after calls (changes_of self.old) }
+        ensures keeps { KeepsFiles self.old self.new }
+    {
+        self.changes.stop_after(calls);
+    }
+
+    /// A disk that was just started from what a crash of this one leaves. Nothing is held of it and none of its calls is
+    /// to fail.
+    pub fn crash(self, outcome: Outcome) -> Result<MemDisk, NoMemory>
+        ensures started { IfOk result (λ disk. Started (crash_image outcome (state_of self)) (state_of disk)) }
+        ensures left { MayLeave (state_of self) (crash_image outcome (state_of self)) }
+        ensures changes { IfOk result (λ disk. changes_of disk ≡ new_changes []) }
+        ensures reads { IfOk result (λ disk. reads_of disk ≡ new_plan []) }
+    {
+        let MemDisk { alloc, entries, .. } = self;
+        let files = files_left(alloc, entries, outcome)?;
+        MemDisk::started(alloc, files, Vec::new(alloc), Vec::new(alloc))
     }
 
     /// The bytes of a file, if it stands.
@@ -113,7 +141,7 @@ impl Watched for MemDisk {
 
     ghost states_since = { was_since };
 
-    ghost calls = { λ disk. (changes_of disk).calls };
+    ghost calls = { λ disk. (changes_of disk).listed.calls };
 
     ghost faults = { faults_of };
 
