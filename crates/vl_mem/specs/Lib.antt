@@ -1,6 +1,7 @@
 pub mod ChangePlan
 pub mod CrashChance
 pub mod CrashImage
+pub mod CrashLaws
 pub mod Entry
 pub mod Event
 pub mod Held

@@ -1,19 +1,22 @@
 -- A disk in memory of which nothing fails but its changing calls past a stop.
-use Rattle.std.specs.Prelude.{◌≡◌, ◌⊎◌, ℕ, ◌+◌, ◌-◌, ◌^◌, ◌<◌, ◌≤◌, List, [], Contains, Option, None, Some, IsSomeAnd, refl}
-use Rattle.std.proofs.Common.{inl, inr, ⊎_elim, sym, ◌∙◌, ap, subst, arith}
+use Rattle.std.specs.Prelude.{◌≡◌, ◌⊎◌, ℕ, ◌+◌, ◌-◌, ◌^◌, ◌<◌, ◌≤◌, List, [], Contains, Option, Some, IsSomeAnd}
+use Rattle.std.proofs.Common.{inr, ⊎_elim, sym, ◌∙◌, ap, subst, arith}
 use Rattle.vl_disk.specs.FaultPlan as listed
 use Rattle.vl_disk.specs.FaultPlan.{Plan, new_plan}
-use Rattle.vl_disk.specs.Faults.{HasCause, one_more}
-use Rattle.vl_mem.specs.ChangePlan.{ChangePlan, FollowsPlan, HasStopped, IsDue, new_changes, stopping_after}
+use Rattle.vl_disk.specs.Faults.{HasCause}
+use Rattle.vl_mem.specs.ChangePlan.{ChangePlan, HasStopped, IsDue, new_changes, stopping_after}
 use Rattle.vl_mem.specs.declared.mem_disk.MemDisk.{MemDisk}
 use Rattle.vl_mem.specs.MemDisk.{CountsChange, CountsRead, changes_of, faults_of, reads_of}
+
+-- while the count of calls goes on, a fault was counted for each call past the stop
+abbrev FaultsArePast : ℕ → ChangePlan → Type 0
+FaultsArePast stop plan = plan.listed.calls < 2 ^ 64 - 1 → plan.listed.faults ≡ plan.listed.calls - stop
 
 -- So many changing calls pass, and each later one fails; nothing else does.
 pub record StopsAt (stop : ℕ) (disk : MemDisk) : Type 0 where
   pub listed : (changes_of disk).listed.failing ≡ []
   pub stops : (changes_of disk).stop ≡ Some stop
-  -- while the count of calls goes on, the faults are the calls past the stop
-  pub faults : (changes_of disk).listed.calls < 2 ^ 64 - 1 → (changes_of disk).listed.faults ≡ (changes_of disk).listed.calls - stop
+  pub faults : FaultsArePast stop (changes_of disk)
   pub listed_reads : (reads_of disk).failing ≡ []
   pub read_faults : (reads_of disk).faults ≡ 0
 
@@ -64,11 +67,15 @@ module _ (stop : ℕ) (old : MemDisk) (stops : StopsAt stop old) where
     change_stops counts = record {
       listed = counts.changes.failing ∙ stops.listed;
       stops = counts.changes.stop ∙ stops.stops;
-      faults = λ more. ⊎_elim
-          (λ (past : stop ≤ plan.listed.calls). omega (arith, past, more, counts.changes.calls,
-          counts.changes.fault (counts.changes.exactly.1 (past_due past)), stops.faults (omega (arith, more, counts.changes.calls))))
-          (λ (before : plan.listed.calls < stop). omega (arith, before, more, counts.changes.calls,
-          counts.changes.no_fault (λ f. absurd (omega (arith, before, due_past (counts.changes.exactly.0 f)))), stops.faults (omega (arith, more, counts.changes.calls))))
+      faults = λ more.
+          let before : plan.listed.faults ≡ plan.listed.calls - stop = stops.faults (omega (arith, more, counts.changes.calls)) in
+          ⊎_elim
+          (λ (past : stop ≤ plan.listed.calls).
+          let failed = counts.changes.fault (counts.changes.exactly.1 (past_due past)) in
+          omega (arith, past, more, before, counts.changes.calls, failed))
+          (λ (ahead : plan.listed.calls < stop).
+          let passed = counts.changes.no_fault (λ f. omega (arith, ahead, due_past (counts.changes.exactly.0 f))) in
+          omega (arith, ahead, more, before, counts.changes.calls, passed))
           (le_or_past stop plan.listed.calls);
       listed_reads = ap (λ (p : Plan). p.failing) counts.reads ∙ stops.listed_reads;
       read_faults = ap (λ (p : Plan). p.faults) counts.reads ∙ stops.read_faults;
@@ -78,8 +85,12 @@ module _ (stop : ℕ) (old : MemDisk) (stops : StopsAt stop old) where
     read_stops counts cause = record {
       listed = ap (λ (p : ChangePlan). p.listed.failing) counts.changes ∙ stops.listed;
       stops = ap (λ (p : ChangePlan). p.stop) counts.changes ∙ stops.stops;
-      faults = λ more. subst (λ (p : ChangePlan). p.listed.calls < 2 ^ 64 - 1 → p.listed.faults ≡ p.listed.calls - stop) (sym counts.changes) stops.faults more;
+      faults = subst (FaultsArePast stop) (sym counts.changes) stops.faults;
       listed_reads = counts.reads.failing ∙ stops.listed_reads;
-      read_faults = omega (arith, stops.read_faults, ap (λ (p : ChangePlan). p.listed.faults) counts.changes,
-          cause.steady (λ f. none_listed (reads_of old) stops.listed_reads (counts.reads.exactly.0 f)));
+      read_faults = omega (
+        arith,
+        stops.read_faults,
+        ap (λ (p : ChangePlan). p.listed.faults) counts.changes,
+        cause.steady (λ f. none_listed (reads_of old) stops.listed_reads (counts.reads.exactly.0 f)),
+      );
     }

@@ -102,8 +102,8 @@ impl MemDisk {
         self.changes.stop_after(calls);
     }
 
-    /// A disk that was just started from what a crash of this one leaves. Nothing is held of it and none of its calls is
-    /// to fail.
+    /// A disk that was just started from what a crash of this one leaves. Its counts begin anew, and none of its calls is
+    /// to fail. Where memory runs out, nothing is left of either.
     pub fn crash(self, outcome: Outcome) -> Result<MemDisk, NoMemory>
         ensures started { IfOk result (λ disk. Started (crash_image outcome (state_of self)) (state_of disk)) }
         ensures left { MayLeave (state_of self) (crash_image outcome (state_of self)) }
