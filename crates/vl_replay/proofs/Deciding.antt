@@ -49,7 +49,7 @@ module _ (r : Store) (s : State) (name : List ℕ) (number : ℕ) (writes : Writ
   asked : committed s name (get s.handles name) ≡ committed s name (Some (OpenTransaction number holds.stands.1.0 writes))
   asked = ap (committed s name) (holds.found_is ∙ ap Some holds.stands.1.1)
 
-  room_is : r.log.length ≡ s.log_length
+  room_is : r.log.length ≡ s.log.length
   room_is = ap (λ (log : ActiveLog). log.length) rep.log
 
   pub decides_empty : (len writes == 0) ≡ true → (committed s name (get s.handles name) ≡ (Nothing, without_handle s name)) × (remove s.handles name ≡ empty)
@@ -60,19 +60,19 @@ module _ (r : Store) (s : State) (name : List ℕ) (number : ℕ) (writes : Writ
     decides_exhausted past = asked ∙ cond-false _ _ _ some ∙ cond-true _ _ _ (ap (nat_le max_commit_number) (sym rep.last) ∙ le-leb _ _ past)
 
     module _ (left : r.last < max_commit_number) where
-      numbered : committed s name (get s.handles name) ≡ cond (nat_le (s.log_length + bytes_in_log writes) max_room) (Number (last_number s.history + 1), after_commit s name writes) (Full, s)
+      numbered : committed s name (get s.handles name) ≡ cond (nat_le (s.log.length + bytes_in_log writes) max_room) (Number (last_number s.history + 1), after_commit s name writes) (Full, s)
       numbered = asked ∙ cond-false _ _ _ some ∙ cond-false _ _ _ (ap (nat_le max_commit_number) (sym rep.last) ∙ lt-leb _ _ left)
 
       -- adding up to the last value of a number doesn't change whether the log has room
       pub decides_full : max_room < min (r.log.length + bytes_in_log writes) (2 ^ 64 - 1) → committed s name (get s.handles name) ≡ (Full, s)
       decides_full full =
-          let past : max_room < s.log_length + bytes_in_log writes = omega (arith, room_is, full) in
+          let past : max_room < s.log.length + bytes_in_log writes = omega (arith, room_is, full) in
           numbered ∙ cond-false _ _ _ (lt-leb _ _ past)
 
       pub decides_write : min (r.log.length + bytes_in_log writes) (2 ^ 64 - 1) ≤ max_room
           → (written : Writes) × HasOpen r name written × (committed s name (get s.handles name) ≡ (Number (last_number s.history + 1), after_commit s name written))
       decides_write fits =
-          let within : s.log_length + bytes_in_log writes ≤ max_room = omega (arith, room_is, fits) in
+          let within : s.log.length + bytes_in_log writes ≤ max_room = omega (arith, room_is, fits) in
           (writes, (number, open_named r.in_use name (Transaction number writes) is), numbered ∙ cond-true _ _ _ (le-leb _ _ within))
 
 pub can_commit : (r : Store) (name : List ℕ) (number : ℕ) (writes : Writes) → handle_named r.in_use name ≡ Some (Transaction number writes) → (len writes == 0) ≡ false → r.last < max_commit_number → CanCommit r
@@ -111,10 +111,10 @@ pub log_after : (r : Store) (s : State) (name : List ℕ) (writes : Writes) (lis
     → log ≡ record { number = NUMBER; length = (after_commit s name writes).log_length }
 log_after r s name writes list frame log rep listed spelled number_is length_is fits =
     let number : r.log.number ≡ NUMBER = ap (λ (l : ActiveLog). l.number) rep.log in
-    let place : r.log.length ≡ s.log_length = ap (λ (l : ActiveLog). l.length) rep.log in
+    let place : r.log.length ≡ s.log.length = ap (λ (l : ActiveLog). l.length) rep.log in
     let frame_is : length frame ≡ bytes_in_log writes =
     ap length (spelled ∙ ap (λ (es : List (List ℕ × Change)). commit_frame r.log.number r.log.length (record { number = r.last + 1; writes = es })) listed ∙ ap (λ (n : ℕ). commit_frame n r.log.length (record { number = r.last + 1; writes = entries writes })) number) ∙ frame-length r.log.length (r.last + 1) writes in
-    same_log log NUMBER (s.log_length + bytes_in_log writes) (number_is ∙ number) (omega (arith, longer_is r.log.length (length frame) log.length length_is fits, place, frame_is))
+    same_log log NUMBER (s.log.length + bytes_in_log writes) (number_is ∙ number) (omega (arith, longer_is r.log.length (length frame) log.length length_is fits, place, frame_is))
 
 pub gives_commit : (r : Store) (s : State) (name : List ℕ) (writes : Writes) (log : ActiveLog) (memtable : Memtable) → Represents r s → HasOpen r name writes
     → log ≡ record { number = NUMBER; length = (after_commit s name writes).log_length } → Takes r.memtable.entries.items memtable.entries.items writes (r.last + 1)

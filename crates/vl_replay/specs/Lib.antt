@@ -2,10 +2,12 @@ pub mod Between
 pub mod Durable
 pub mod Endings
 pub mod Exchanges
+pub mod Halts
 pub mod Input
 pub mod Laws
 pub mod Limits
 pub mod Memtable
+pub mod Opened
 pub mod Opening
 pub mod Represents
 pub mod Runs

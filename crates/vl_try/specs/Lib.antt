@@ -1,4 +1,0 @@
-pub mod Stored
-pub mod Start
-pub mod StoredLaws
-pub mod StartLaws

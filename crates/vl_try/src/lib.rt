@@ -1,2 +1,0 @@
-//! x
-#![tactic(auto)]
