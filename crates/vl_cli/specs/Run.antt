@@ -1,5 +1,5 @@
 -- Whole runs of the command line: what is done for its words and its input.
-use Rattle.std.specs.Prelude.{◌≡◌, ℕ, Bool, false, not, ◌==◌, ◌&&◌, List, [], ◌∷◌, codes}
+use Rattle.std.specs.Prelude.{◌≡◌, ℕ, Bool, false, not, ◌==◌, ◌&&◌, List, [], ◌∷◌, codes, Some}
 use Rattle.std.specs.Option.{ForSome}
 use Rattle.std.specs.Str.{bytes_eq}
 use Rattle.vl_disk.specs.declared.watched.Watched.{Ghosts}
@@ -8,7 +8,7 @@ use Rattle.vl_journal.specs.Files.{HasSomeFile}
 use Rattle.vl_replay.specs.Sequential.{State}
 use Rattle.vl_replay.specs.Endings.{status_of}
 use Rattle.vl_replay.specs.Runs.{Outside, EndsRun, script_of}
-use Rattle.vl_replay.specs.Start.{DiskEndsFromStart}
+use Rattle.vl_replay.specs.Start.{StartsIn, DiskEndsFromStart}
 use Rattle.vl_replay.specs.Steps.{FinishesBy}
 use Rattle.vl_replay.specs.declared.ending.Ending.{Ending}
 
@@ -22,8 +22,8 @@ abbrev pub is_plain : List (List ℕ) → Bool
 is_plain (command ∷ folder ∷ []) = bytes_eq command (codes "replay") && is_plain_word folder
 is_plain words = false
 
--- A run of an input from a state on ended with this status.
-pub record Answers {D : Type 0} (g : Ghosts D) (start : State) (input : List ℕ)
+-- A run answered the lines of an input as the sequential store does from this state on, and ended with this status.
+pub record AnswersFrom {D : Type 0} (g : Ghosts D) (start : State) (input : List ℕ)
     (old new : Outside D) (status : ℕ) : Type 0 where
   -- how it ended: the table of endings says the status, the culprit and the last line of each
   pub ending : Ending
@@ -33,8 +33,12 @@ pub record Answers {D : Type 0} (g : Ghosts D) (start : State) (input : List ℕ
   pub run : EndsRun g (ForSome (g.told old.disk) HasSomeFile)
       (DiskEndsFromStart g old.disk new.disk) (script_of start 0 input) old new ending
 
--- a run that wasn't begun: it put the line of this ending, whole or a front of it, and has that ending's status, or that of
--- a line that couldn't be put
+-- So it did with the input that its source had left, from the state in which a run over its disk begins.
+abbrev pub AnswersInput : {D : Type 0} → Ghosts D → (old new : Outside D) → (status : ℕ) → Type 0
+AnswersInput g old new status = (start : State) (input : List ℕ)
+    → StartsIn g old.disk start → old.left ≡ Some input → AnswersFrom g start input old new status
+
+-- a run that wasn't begun put the line of this ending and has its status, or put a front of it and has the sink's
 abbrev pub EndsBy : {K : Type 0} → sink.Ghosts K → (old new : K) → Ending → (status : ℕ) → Type 0
 EndsBy g old new why status =
     (ending : Ending) × (status ≡ status_of ending) × FinishesBy g old new why ending

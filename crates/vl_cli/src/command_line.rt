@@ -17,7 +17,7 @@ ghost use Rattle.vl_replay.specs.Runs.{outside};
 ghost use Rattle.vl_replay.specs.Start.{StartsIn};
 ghost use Rattle.vl_replay.specs.Steps.{EndsUnopened};
 ghost use Rattle.vl_replay.specs.declared.ending.Ending.{Ending as HowEnded};
-ghost use Rattle.vl_cli.specs.Run.{Answers, EndsBy, is_plain};
+ghost use Rattle.vl_cli.specs.Run.{AnswersInput, EndsBy, is_plain};
 
 use crate::command_line::words::are_plain;
 use std::alloc::Global;
@@ -46,14 +46,14 @@ pub fn run<S: Source, K: Sink, D: Disk>(
     sink: &mut K,
     disk: D,
 ) -> Ended<D>
-    // What is printed, how the run ends, and what it does to the disk are those of the sequential store over the lines of
-    // the input, where the words are plain.
-    ensures answers { (s : State) (input : List ℕ) → is_plain (map string_bytes words.now) ≡ true
-        → StartsIn D.Watched disk s → S.left source.old ≡ Some input
-        → Answers D.Watched s input (outside S.Source K.Sink source.old sink.old disk)
+    // Where the words are plain, the lines of the input are answered as the sequential store does: so it is of what is
+    // printed, of how the run ends, and of what the disk holds in the end.
+    ensures answers { is_plain (map string_bytes words.now) ≡ true
+        → AnswersInput D.Watched (outside S.Source K.Sink source.old sink.old disk)
         (outside S.Source K.Sink source.new sink.new result.disk) result.status }
 
-    // What was read is explained by the history at the reader's number: a law of the exchanges that `answers` speaks of.
+    // What was read is explained by the history at the reader's number. This is a law of the sequential store's answers,
+    // and says nothing of the body. It stands here so that this contract has the whole headline.
     ensures explained { (s : State) (input : List ℕ) → StartsIn D.Watched disk s
         → AreExplained (exchanges_from s (lines_of input)) }
 
@@ -69,8 +69,9 @@ pub fn run<S: Source, K: Sink, D: Disk>(
     ensures no_disk_fault { result.status ≢ 3 → result.status ≢ 7
         → D.faults result.disk ≡ D.faults disk }
 
-    // Where the words are plain, status 4 comes exactly where anything stands on the disk, unless the disk failed, memory
-    // ran out, or the last line couldn't be put. Then nothing was changed or read, and the last line is all that is printed.
+    // Where the words are plain, status 4 comes exactly where anything stands on the disk, also a store, which isn't opened
+    // again yet; but not where the disk failed, memory ran out, or the last line couldn't be put. Then nothing was changed
+    // or read, and the last line is all that is printed.
     ensures not_a_store { result.status ≡ 4
         → ForSome (D.told disk) HasSomeFile × IsAsBefore D.Watched disk result.disk
         × (source.new ≡ source.old)

@@ -39,7 +39,7 @@ pub record HasFiles (manifest log : Option File) (disk : DiskState) : Type 0 whe
 abbrev pub IsAsBefore : {D : Type 0} → Ghosts D → (old new : D) → Type 0
 IsAsBefore g old new = (g.told new ≡ g.told old) × (g.calls new ≡ g.calls old)
 
--- no file stands or was removed
+-- No file stands, and none was removed since the disk was started: so no crash leaves any.
 abbrev pub IsBlank : DiskState → Type 0
 IsBlank disk = HasFiles None None disk
 

@@ -7,7 +7,7 @@ use vl_disk::{Failed, ListFail, NoMemory};
 /// Why a store wasn't opened.
 #[derive(Clone, Copy, Debug, PartialEq, Eq, Error)]
 pub enum OpenFail {
-    /// Something stands on the disk. Nothing was changed.
+    /// Something stands on the disk: for now also where it is a store. Nothing was changed.
     #[error("not a store")]
     NotAStore,
     /// Memory ran out. Nothing was changed.

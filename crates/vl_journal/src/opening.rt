@@ -14,7 +14,8 @@ use std::alloc::Global;
 use vl_disk::{Disk, make_file};
 use vl_seglog::log_header;
 
-/// Opens a store without commits on an empty disk. A disk on which anything stands is no store, for now.
+/// Makes a store without commits on an empty disk, and opens it. A disk on which anything stands is refused as no store:
+/// for now also one that has a store.
 pub fn open_store<D: Disk>(alloc: Global, disk: &mut D) -> Result<(), OpenFail>
     // The manifest and the log are made by six changing calls.
     ensures opened { (state : DiskState) → D.told disk.old ≡ Some state → IsBlank state
@@ -22,8 +23,8 @@ pub fn open_store<D: Disk>(alloc: Global, disk: &mut D) -> Result<(), OpenFail>
     ensures calls { OnOk result (D.calls disk.new ≡ after_calls 6 (D.calls disk.old)) }
     ensures stands { OnOk result (ForSome (D.told disk.new) (Stands LOG)) }
 
-    // It isn't opened where anything stands, and is refused as no store only there. Then, and where memory ran out, nothing
-    // was changed.
+    // It isn't opened where anything stands, and is refused as no store only there. Then, and where memory ran out,
+    // nothing was changed.
     ensures free { OnOk result (ForSome (D.told disk.old) HasNoFile) }
     ensures not_a_store { result ≡ Err OpenFail.NotAStore → ForSome (D.told disk.old) HasSomeFile }
     ensures occupied { (state : DiskState) → D.told disk.old ≡ Some state → HasSomeFile state

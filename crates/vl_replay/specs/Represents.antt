@@ -55,7 +55,7 @@ pub record Represents (r : Store) (s : State) : Type 0 where
   pub shows : ShowsHistory (opened_value r.frozen.items) r.memtable.entries.items s.history
   pub in_use : IsOpen s.history r.in_use s.handles
 
--- the answer of an outcome, from a replayer that stands for its state
+-- this answer, and the state that the store stands for after it, are the outcome
 pub record IsOutcome (answer : Answer) (after : Store) (outcome : Outcome) : Type 0 where
   pub answer_is : answer ≡ outcome.0
   pub stands : Represents after outcome.1

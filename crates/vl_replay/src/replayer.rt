@@ -70,7 +70,7 @@ impl<D: Disk> Replayer<D> {
         ensures refused { (state : DiskState) (read : Image) (refusal : Refusal) → D.told disk ≡ Some state
             → IsRead read state → IsRefused read refusal
             → IsErr result × IsAsBefore D.Watched disk (disk_of (λ replayer. replayer.disk) result) }
-        ensures unchanged { (IsFault (why_of result) → ⊥) → IsErr result
+        ensures left_alone { (IsFault (why_of result) → ⊥) → IsErr result
             → IsAsBefore D.Watched disk (disk_of (λ replayer. replayer.disk) result) }
         ensures cause { HasCause (D.faults disk) (D.faults (disk_of (λ replayer. replayer.disk) result)) (IsFault (why_of result)) }
     {
@@ -81,8 +81,8 @@ impl<D: Disk> Replayer<D> {
         })
     }
 
-    /// Answers a line. Want of memory leaves the store and the disk's bytes as they were, and so does a fault of the disk
-    /// the store. After such a fault the disk may hold less or more than the store, and no further line is to be answered.
+    /// Answers a line. Want of memory leaves the store and the disk's bytes as they were. A fault of the disk leaves the
+    /// store as it was. After such a fault the disk may hold less or more than the store, and no further line is to be answered.
     pub fn line(&mut self, line: Line) -> Result<Answer, Halt>
         ensures answer { (s : State) → Represents self.old.store s
             → IfOk result (λ answer. answer ≡ answer_to s line) }

@@ -112,8 +112,8 @@ pub fn replay<S: Source, K: Sink, D: Disk>(
     ensures disk_faults { CountsFaultsOf TheDisk (Some result.ending) (D.faults disk) (D.faults result.disk) }
     ensures not_the_words { result.ending ≢ Ending.BadWords }
 
-    // The run ends as no store only where anything stands, and there always, unless a fault or want of memory comes
-    // first. Then nothing was changed or read, and the last line is all that is printed.
+    // The run ends as no store only where anything stands, also a store, and there always, unless a fault or want of
+    // memory comes first. Then nothing was changed or read, and the last line is all that is printed.
     ensures not_a_store { result.ending ≡ Ending.NotAStore
         → ForSome (D.told disk) HasSomeFile × IsAsBefore D.Watched disk result.disk
         × (source.new ≡ source.old)
