@@ -17,7 +17,7 @@ use Rattle.vl_seglog.specs.LogReading.{LogReading, ReadsLog}
 use Rattle.vl_seglog.specs.LogReadingLaws.{one_log_reading}
 use Rattle.vl_recover.specs.Opening.{Bare, Current, Headless, Heading, IsBare, IsHeaded, IsNextLog, Led, LogsFrom, Newest, NewerFormat, NotAStore, Opening, Opens, Refusal, Says, StandingLogs}
 use Rattle.vl_recover.specs.OpeningLaws.{IsOpened, OpensBy, one_heading, opened, opens_by, some_none, some_same}
-use Rattle.vl_recover.specs.StageLaws.{then_kept}
+use Rattle.vl_recover.specs.StageLaws.{ok_with, then_kept}
 use Rattle.vl_recover.specs.Stages.{on_ok}
 use Rattle.vl_recover.specs.Walk.{LogDamage, StandingLog, counted, counted_whole, filled, in_log, walked, with_frames}
 
@@ -74,11 +74,8 @@ like_by image other by o opens =
 
 -- ---- what leads
 
-log_manifest : (m n : ℕ) → Log m ≡ Manifest n → ⊥
+pub log_manifest : (m n : ℕ) → Log m ≡ Manifest n → ⊥
 log_manifest m n e = cc
-
-table_manifest : (m n : ℕ) → Table m ≡ Manifest n → ⊥
-table_manifest m n e = cc
 
 pub manifest_same : (m n : ℕ) → Manifest m ≡ Manifest n → m ≡ n
 manifest_same m n e = cc
@@ -170,7 +167,7 @@ module _ (image other : Image) where
 -- ---- logs
 
 -- a log that is whole gives what its frames give
-whole_log : (n : ℕ) (r : LogReading) → r.header ≡ true → r.whole ≡ true
+pub whole_log : (n : ℕ) (r : LogReading) → r.header ≡ true → r.whole ≡ true
     → counted_whole n r ≡ counted n 16 r.frames
 whole_log n r header whole =
     ap (λ (b : Bool). if b
@@ -184,7 +181,7 @@ whole_log n r header whole =
     stays (Err place) = refl
 
 -- a log without frames behind a whole one gives no more
-walk_more : (k n number log : ℕ) (r : LogReading) (frames : List LogFrame) → frames ≡ []
+pub walk_more : (k n number log : ℕ) (r : LogReading) (frames : List LogFrame) → frames ≡ []
     → r.header ≡ true → r.whole ≡ true → in_log log (counted n 16 r.frames) ≡ Ok number
     → on_ok (λ m. in_log k (counted m 16 frames)) (in_log log (counted_whole n r)) ≡ Ok number
 walk_more k n number log r frames empty header whole e =
@@ -195,14 +192,6 @@ walk_more k n number log r frames empty header whole e =
     stays : (w : Result ℕ LogDamage) → on_ok (λ m. Ok m) w ≡ w
     stays (Ok m) = refl
     stays (Err damage) = refl
-
-then_ok : (f g : ℕ → Result ℕ LogDamage) → ((m number : ℕ) → f m ≡ Ok number → g m ≡ Ok number)
-    → (r : Result ℕ LogDamage) (number : ℕ) → on_ok f r ≡ Ok number → on_ok g r ≡ Ok number
-then_ok f g same (Ok m) number e = same m number e
-then_ok f g same (Err damage) number e = absurd (err_ok damage number e)
-  where
-    err_ok : (a : LogDamage) (b : ℕ) → ◌≡◌ {A = Result ℕ LogDamage} (Err a) (Ok b) → ⊥
-    err_ok a b e = cc
 
 -- a log with its length and reading, from its bytes
 abbrev pub standing_log : ℕ → List ℕ → LogReading → StandingLog
@@ -280,8 +269,8 @@ module _ (image other : Image) where
     behind = rest.first ∷ rest.behind;
     standing = (next_kept least q same next, rest.standing);
     logs = ap (with_frames q.number q.reading.frames) rest.logs;
-    walk = λ n number e. then_ok (λ m. walked m (p ∷ ps)) (λ m. walked m (rest.first ∷ rest.behind))
-        rest.walk (in_log q.number (counted_whole n q.reading)) number e;
+    walk = λ n number e. ok_with (λ m. walked m (p ∷ ps)) (λ m. walked m (rest.first ∷ rest.behind)) number number
+        (λ m. rest.walk m number) (in_log q.number (counted_whole n q.reading)) e;
   }
 
   module _ (k : ℕ) (same : SameBut (Log k) image other) (none_above : NoLogAbove k other) where

@@ -11,3 +11,8 @@ pub mod OpeningLaws
 pub mod StageLaws
 pub mod AlikeLaws
 pub mod HeldLaws
+pub mod TornLaws
+pub mod AppendLaws
+pub mod Rows
+pub mod ReadImage
+pub mod RecoveredLaws

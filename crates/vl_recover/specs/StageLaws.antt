@@ -1,13 +1,28 @@
 -- Stages that have one outcome each have one together.
-use Rattle.std.specs.Prelude.{◌≡◌, Result, Ok, Err}
+use Rattle.std.specs.Prelude.{refl, ◌≡◌, Result, Ok, Err}
 use Rattle.std.proofs.Common.{ap, subst, inl, inr, ⊎_elim}
-use Rattle.vl_recover.specs.Stages.{AndThen, IsSingle}
+use Rattle.vl_recover.specs.Stages.{AndThen, IsSingle, on_ok}
 
 pub ok_same : {A E : Type 0} (a b : A) → ◌≡◌ {A = Result A E} (Ok a) (Ok b) → a ≡ b
 ok_same a b e = cc
 
 pub ok_err : {A E : Type 0} (a : A) (e : E) → ◌≡◌ {A = Result A E} (Ok a) (Err e) → ⊥
 ok_err a e same = cc
+
+pub err_ok : {A E : Type 0} (e : E) (a : A) → ◌≡◌ {A = Result A E} (Err e) (Ok a) → ⊥
+err_ok e a same = cc
+
+-- what is made of a result is there where something else is
+pub ok_with : {A B E : Type 0} (f g : A → Result B E) (b c : B) → ((a : A) → f a ≡ Ok b → g a ≡ Ok c)
+    → (r : Result A E) → on_ok f r ≡ Ok b → on_ok g r ≡ Ok c
+ok_with f g b c same (Ok a) e = same a e
+ok_with f g b c same (Err damage) e = absurd (err_ok damage b e)
+
+-- where something is made of a result, the result was there
+pub ok_apart : {A B E : Type 0} (f : A → Result B E) (r : Result A E) (b : B) → on_ok f r ≡ Ok b
+    → (a : A) × (r ≡ Ok a) × (f a ≡ Ok b)
+ok_apart f (Ok a) b e = (a, refl, e)
+ok_apart f (Err damage) b e = absurd (err_ok damage b e)
 
 module _ {A B E : Type 0} (first : Result A E → Type 0) (behind : A → Result B E → Type 0)
     (one : IsSingle first) (each : (a : A) → IsSingle (behind a)) where

@@ -1,4 +1,4 @@
--- A commit's body: its head, and the run of its records.
+-- The bodies of commits and relocations: what stands before the records, and the series of these.
 use Rattle.std.proofs.Common.{◌≡◌, ℕ, ◌<◌, ◌≤◌, ◌^◌, List, ◌++◌, length, sym, ap, subst, ◌∙◌, arith}
 use Rattle.std.specs.Prelude.{IsTrue}
 use Rattle.std.specs.FinMap.{is_sorted}
@@ -8,14 +8,14 @@ use Rattle.vl_model.specs.declared.change.Change.{Change}
 use Rattle.vl_model.specs.Limits.{max_commit_number}
 use Rattle.vl_frame.specs.Numbers.{one_number}
 use Rattle.vl_seglog.specs.CommitLaws.{few_records}
-use Rattle.vl_seglog.specs.Commit.{Commit, IsCommit, commit_body, head_bytes, records_bytes}
-use Rattle.vl_seglog.specs.Reading.{IsRun}
+use Rattle.vl_seglog.specs.Commit.{Commit, IsCommit, commit_body, head_bytes, records_bytes, records_spelling}
+use Rattle.vl_seglog.specs.Series.{IsSeries}
 
--- a commit that the body spells has the head's number, and the run behind the head
+-- a commit that the body spells has the head's number, and the series behind the head
 pub record Agrees (c : Commit) (n k : ℕ) (rest : List ℕ) : Type 0 where
   pub number : n ≡ c.number
   pub count : k ≡ length c.writes
-  pub run : IsRun rest k c.writes
+  pub series : IsSeries records_spelling rest k c.writes
 
 -- too few bytes for a head
 pub no_head : (body : List ℕ) (c : Commit) → length body < 12 → body ≡ commit_body c → ⊥
@@ -29,13 +29,13 @@ agrees body number count rest c number_fits count_fits e short lawful spelled =
     let a = one_number 8 number c.number _ _ number_fits (omega (arith, lawful.last)) both in
     let few = few_records c (subst (λ (bytes : List ℕ). length bytes < 2 ^ 32) spelled short) in
     let b = one_number 4 count (length c.writes) _ _ count_fits few a.1 in
-    record { number = a.0; count = b.0; run = record { counted = sym b.0; lawful = lawful.lawful; spelled = b.1 } }
+    record { number = a.0; count = b.0; series = record { counted = sym b.0; lawful = lawful.lawful; spelled = b.1 } }
 
--- a head and a run behind it
+-- a head and a series behind it
 pub is_body : (body : List ℕ) (number count : ℕ) (rest : List ℕ) (writes : List (List ℕ × Change)) → body ≡ head_bytes number count ++ rest → 1 ≤ number → number ≤ max_commit_number → 1 ≤ count
-    → IsRun rest count writes → IsTrue (is_sorted key_cmp writes) → IsCommit (record { number = number; writes = writes }) × (body ≡ commit_body (record { number = number; writes = writes }))
+    → IsSeries records_spelling rest count writes → IsTrue (is_sorted key_cmp writes) → IsCommit (record { number = number; writes = writes }) × (body ≡ commit_body (record { number = number; writes = writes }))
 unfolding commit_body
-is_body body number count rest writes e first last some run rising = (
-  record { first = first; last = last; some = omega (arith, run.counted); rising = rising; lawful = run.lawful },
-  e ∙ ap (λ (r : List ℕ). head_bytes number count ++ r) run.spelled ∙ ap (λ (n : ℕ). head_bytes number n ++ records_bytes writes) (sym run.counted),
+is_body body number count rest writes e first last some series rising = (
+  record { first = first; last = last; some = omega (arith, series.counted); rising = rising; lawful = series.lawful },
+  e ∙ ap (λ (r : List ℕ). head_bytes number count ++ r) series.spelled ∙ ap (λ (n : ℕ). head_bytes number n ++ records_bytes writes) (sym series.counted),
 )

@@ -1,6 +1,10 @@
 pub mod Bodies
-pub mod Frames
+pub mod Framing
+pub mod Headless
+pub mod Moving
 pub mod Options
 pub mod Order
 pub mod Placing
+pub mod Records
 pub mod Runs
+pub mod Staging

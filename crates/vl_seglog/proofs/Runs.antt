@@ -1,100 +1,78 @@
--- Records one behind the other, as they are read from the left.
-use Rattle.std.proofs.Common.{◌≡◌, ℕ, ◌+◌, ◌-◌, ◌<◌, ◌≤◌, List, [], ◌∷◌, ◌++◌, length, take, drop, refl, sym, ap, ◌∙◌, append_assoc, length-append, arith}
-use Rattle.std.proofs.lemmas.List.{append-nil, drop_at, take_all, length-drop}
-use Rattle.vl_model.specs.declared.change.Change.{Change}
-use Rattle.vl_model.specs.Frames.{record_length}
-use Rattle.vl_record.specs.Record.{IsRecord, IsSpelled, record_bytes}
-use Rattle.vl_record.specs.Laws.{length-record_bytes, one_record}
-use Rattle.vl_seglog.specs.Commit.{AreRecords, records_bytes}
-use Rattle.vl_seglog.specs.Reading.{IsRun}
+-- Items one behind the other, as they are read from the left.
+use Rattle.std.proofs.Common.{◌≡◌, ℕ, ◌+◌, ◌<◌, ◌≤◌, List, [], ◌∷◌, ◌++◌, length, refl, sym, ap, ◌∙◌, append_assoc, length-append, arith}
+use Rattle.std.specs.List.{AllByRecursion}
+use Rattle.std.proofs.lemmas.List.{append-nil}
+use Rattle.vl_seglog.specs.Series.{IsSeries, Spelling, series_bytes}
 
--- ---- the record at the front
+module _ {Item : Type 0} (S : Spelling Item) where
+  -- so many items were read, and the rest is still to be read
+  pub record SoFar (bytes : List ℕ) (count : ℕ) (read : List Item) (rest : List ℕ) : Type 0 where
+    pub counted : length read ≡ count
+    pub lawful : AllByRecursion S.lawful read
+    pub spelled : bytes ≡ series_bytes S read ++ rest
 
-pub record TookOne (bytes : List ℕ) (n : ℕ) (key : List ℕ) (change : Change) : Type 0 where
-  pub within : n ≤ length bytes
-  pub lawful : IsRecord key change
-  pub spelled : bytes ≡ record_bytes key change ++ take (length bytes - n) (drop n bytes)
+  -- no item stands at the front
+  abbrev pub NoItem : List ℕ → Type 0
+  NoItem bytes = (item : Item) (rest : List ℕ) → S.lawful item → bytes ≡ S.bytes item ++ rest → ⊥
 
-pub took_one : (bytes : List ℕ) (n : ℕ) (key copy : List ℕ) (change copied : Change) → IsSpelled bytes key change → n ≡ record_length key change → copy ≡ key → copied ≡ change → TookOne bytes n copy copied
-took_one bytes n key copy change copied s size same_key same_change =
-    let len = length-record_bytes key change in
-    let whole : length bytes ≡ length (record_bytes key change) + length s.rest = ap length s.parts ∙ length-append (record_bytes key change) s.rest in
-    let behind : drop n bytes ≡ s.rest = ap (drop n) s.parts ∙ drop_at (record_bytes key change) s.rest n (len ∙ sym size) in
-    let all : take (length bytes - n) (drop n bytes) ≡ s.rest = take_all (length bytes - n) (drop n bytes) (omega (arith, length-drop n bytes)) ∙ behind in
-    rw (same_key, same_change) (record { within = omega arith; lawful = s.lawful; spelled = s.parts ∙ ap (λ (r : List ℕ). record_bytes key change ++ r) (sym all) })
+  series_bytes-append : (a b : List Item) → series_bytes S (a ++ b) ≡ series_bytes S a ++ series_bytes S b
+  series_bytes-append [] b = refl
+  series_bytes-append (x ∷ a) b = ap (λ (r : List ℕ). S.bytes x ++ r) (series_bytes-append a b) ∙ sym (append_assoc (S.bytes x) (series_bytes S a) (series_bytes S b))
 
--- ---- a run
+  lawful-append : (a b : List Item) → AllByRecursion S.lawful a → AllByRecursion S.lawful b → AllByRecursion S.lawful (a ++ b)
+  lawful-append [] b p q = q
+  lawful-append (x ∷ a) b p q = (p.0, lawful-append a b p.1 q)
 
-records_bytes-append : (a b : List (List ℕ × Change)) → records_bytes (a ++ b) ≡ records_bytes a ++ records_bytes b
-records_bytes-append [] b = refl
-records_bytes-append (w ∷ a) b = ap (λ (r : List ℕ). record_bytes w.0 w.1 ++ r) (records_bytes-append a b) ∙ sym (append_assoc (record_bytes w.0 w.1) (records_bytes a) (records_bytes b))
+  pub read_one : (bytes : List ℕ) (count : ℕ) (read : List Item) (rest : List ℕ) (item : Item) (after : List ℕ) → SoFar bytes count read rest → S.lawful item → rest ≡ S.bytes item ++ after
+      → SoFar bytes (count + 1) (read ++ item ∷ []) after
+  read_one bytes count read rest item after so_far lawful e =
+      let one : series_bytes S (item ∷ []) ≡ S.bytes item = append-nil (S.bytes item) in
+      record {
+        counted = length-append read (item ∷ []) ∙ ap (λ (n : ℕ). n + 1) so_far.counted;
+        lawful = lawful-append read (item ∷ []) so_far.lawful (lawful, tt);
+        spelled = so_far.spelled ∙ ap (λ (r : List ℕ). series_bytes S read ++ r) e ∙ sym (append_assoc (series_bytes S read) (S.bytes item) after)
+            ∙ ap (λ (r : List ℕ). (series_bytes S read ++ r) ++ after) (sym one) ∙ ap (λ (r : List ℕ). r ++ after) (sym (series_bytes-append read (item ∷ [])));
+      }
 
-AreRecords-append : (a b : List (List ℕ × Change)) → AreRecords a → AreRecords b → AreRecords (a ++ b)
-AreRecords-append [] b p q = q
-AreRecords-append (w ∷ a) b p q = (p.0, AreRecords-append a b p.1 q)
+  -- what a series has behind the items that were read
+  record Behind (read items : List Item) (rest : List ℕ) : Type 0 where
+    later : List Item
+    split : items ≡ read ++ later
+    lawful : AllByRecursion S.lawful later
+    spelled : rest ≡ series_bytes S later
 
--- so many records were read, and the rest is still to be read
-pub record SoFar (bytes : List ℕ) (count : ℕ) (read : List (List ℕ × Change)) (rest : List ℕ) : Type 0 where
-  pub counted : length read ≡ count
-  pub lawful : AreRecords read
-  pub spelled : bytes ≡ records_bytes read ++ rest
+  behind : (read items : List Item) (rest : List ℕ) → AllByRecursion S.lawful read → AllByRecursion S.lawful items → length read ≤ length items → series_bytes S read ++ rest ≡ series_bytes S items → Behind read items rest
+  behind [] items rest p q le e = record { later = items; split = refl; lawful = q; spelled = e }
+  behind (r ∷ read) [] rest p q le e = absurd (omega arith)
+  behind (r ∷ read) (x ∷ items) rest p q le e =
+      let same = S.one r x (series_bytes S read ++ rest) (series_bytes S items) p.0 q.0 (sym (append_assoc (S.bytes r) (series_bytes S read) rest) ∙ e) in
+      let b = behind read items rest p.1 q.1 (omega arith) same.1 in
+      record { later = b.later; split = ap (λ (y : Item). y ∷ items) (sym same.0) ∙ ap (λ (ys : List Item). r ∷ ys) b.split; lawful = b.lawful; spelled = b.spelled }
 
-pub read_one : (bytes : List ℕ) (count : ℕ) (read : List (List ℕ × Change)) (rest key : List ℕ) (change : Change) (after : List ℕ) → SoFar bytes count read rest → IsRecord key change → rest ≡ record_bytes key change ++ after
-    → SoFar bytes (count + 1) (read ++ (key, change) ∷ []) after
-read_one bytes count read rest key change after so_far lawful e =
-    let one : records_bytes ((key, change) ∷ []) ≡ record_bytes key change = append-nil (record_bytes key change) in
-    record {
-      counted = length-append read ((key, change) ∷ []) ∙ ap (λ (n : ℕ). n + 1) so_far.counted;
-      lawful = AreRecords-append read ((key, change) ∷ []) so_far.lawful (lawful, tt);
-      spelled = so_far.spelled ∙ ap (λ (r : List ℕ). records_bytes read ++ r) e ∙ sym (append_assoc (records_bytes read) (record_bytes key change) after)
-          ∙ ap (λ (r : List ℕ). (records_bytes read ++ r) ++ after) (sym one) ∙ ap (λ (r : List ℕ). r ++ after) (sym (records_bytes-append read ((key, change) ∷ [])));
-    }
+  behind_so_far : (bytes : List ℕ) (count total : ℕ) (read items : List Item) (rest : List ℕ) → SoFar bytes count read rest → count ≤ total → IsSeries S bytes total items → Behind read items rest
+  behind_so_far bytes count total read items rest so_far le series =
+      behind read items rest so_far.lawful series.lawful (omega (arith, so_far.counted, series.counted)) (sym so_far.spelled ∙ series.spelled)
 
--- what a run has behind the records that were read
-record Behind (read writes : List (List ℕ × Change)) (rest : List ℕ) : Type 0 where
-  later : List (List ℕ × Change)
-  split : writes ≡ read ++ later
-  lawful : AreRecords later
-  spelled : rest ≡ records_bytes later
+  none_later : (later : List Item) (rest : List ℕ) → 0 < length later → AllByRecursion S.lawful later → rest ≡ series_bytes S later → NoItem rest → ⊥
+  none_later [] rest some lawful e none = omega arith
+  none_later (x ∷ later) rest some lawful e none = none x (series_bytes S later) lawful.0 e
 
-behind : (read writes : List (List ℕ × Change)) (rest : List ℕ) → AreRecords read → AreRecords writes → length read ≤ length writes → records_bytes read ++ rest ≡ records_bytes writes → Behind read writes rest
-behind [] writes rest p q le e = record { later = writes; split = refl; lawful = q; spelled = e }
-behind (r ∷ read) [] rest p q le e = absurd (omega arith)
-behind (r ∷ read) (w ∷ writes) rest p q le e =
-    let regrouped : record_bytes r.0 r.1 ++ (records_bytes read ++ rest) ≡ record_bytes w.0 w.1 ++ records_bytes writes = sym (append_assoc (record_bytes r.0 r.1) (records_bytes read) rest) ∙ e in
-    let one : IsSpelled (record_bytes r.0 r.1 ++ (records_bytes read ++ rest)) r.0 r.1 = record { lawful = p.0; rest = records_bytes read ++ rest; parts = refl } in
-    let other : IsSpelled (record_bytes r.0 r.1 ++ (records_bytes read ++ rest)) w.0 w.1 = record { lawful = q.0; rest = records_bytes writes; parts = regrouped } in
-    let same = one_record (record_bytes r.0 r.1 ++ (records_bytes read ++ rest)) r.0 w.0 r.1 w.1 one other in
-    let b = behind read writes rest p.1 q.1 (omega arith) same.2 in
-    let front : w ≡ r = λ i. (sym same.0 i, sym same.1 i) in
-    record { later = b.later; split = ap (λ (x : List ℕ × Change). x ∷ writes) front ∙ ap (λ (ws : List (List ℕ × Change)). r ∷ ws) b.split; lawful = b.lawful; spelled = b.spelled }
+  -- an item is missing
+  pub no_series_cut : (bytes : List ℕ) (count total : ℕ) (read : List Item) (rest : List ℕ) → SoFar bytes count read rest → count < total → NoItem rest → (items : List Item) → IsSeries S bytes total items → ⊥
+  no_series_cut bytes count total read rest so_far lt none items series =
+      let b = behind_so_far bytes count total read items rest so_far (omega arith) series in
+      none_later b.later rest (omega (arith, so_far.counted, series.counted, ap length b.split, length-append read b.later)) b.lawful b.spelled none
 
-behind_so_far : (bytes : List ℕ) (count total : ℕ) (read writes : List (List ℕ × Change)) (rest : List ℕ) → SoFar bytes count read rest → count ≤ total → IsRun bytes total writes → Behind read writes rest
-behind_so_far bytes count total read writes rest so_far le run =
-    behind read writes rest so_far.lawful run.lawful (omega (arith, so_far.counted, run.counted)) (sym so_far.spelled ∙ run.spelled)
+  none_left : (later : List Item) (rest : List ℕ) → length later ≡ 0 → rest ≡ series_bytes S later → length rest ≡ 0
+  none_left [] rest none e = ap length e
+  none_left (x ∷ later) rest none e = absurd (omega arith)
 
-none_later : (later : List (List ℕ × Change)) (rest : List ℕ) → 0 < length later → AreRecords later → rest ≡ records_bytes later → ((key : List ℕ) (change : Change) → IsSpelled rest key change → ⊥) → ⊥
-none_later [] rest some lawful e none = omega arith
-none_later (w ∷ later) rest some lawful e none = none w.0 w.1 (record { lawful = lawful.0; rest = records_bytes later; parts = e })
+  -- bytes are left over
+  pub no_series_over : (bytes : List ℕ) (count total : ℕ) (read : List Item) (rest : List ℕ) → SoFar bytes count read rest → count ≡ total → 0 < length rest → (items : List Item) → IsSeries S bytes total items → ⊥
+  no_series_over bytes count total read rest so_far eq some items series =
+      let b = behind_so_far bytes count total read items rest so_far (omega arith) series in
+      omega (arith, none_left b.later rest (omega (arith, so_far.counted, series.counted, ap length b.split, length-append read b.later)) b.spelled)
 
--- a record is missing
-pub no_run_cut : (bytes : List ℕ) (count total : ℕ) (read : List (List ℕ × Change)) (rest : List ℕ) → SoFar bytes count read rest → count < total → ((key : List ℕ) (change : Change) → IsSpelled rest key change → ⊥)
-    → (writes : List (List ℕ × Change)) → IsRun bytes total writes → ⊥
-no_run_cut bytes count total read rest so_far lt none writes run =
-    let b = behind_so_far bytes count total read writes rest so_far (omega arith) run in
-    none_later b.later rest (omega (arith, so_far.counted, run.counted, ap length b.split, length-append read b.later)) b.lawful b.spelled none
-
-none_left : (later : List (List ℕ × Change)) (rest : List ℕ) → length later ≡ 0 → rest ≡ records_bytes later → length rest ≡ 0
-none_left [] rest none e = ap length e
-none_left (w ∷ later) rest none e = absurd (omega arith)
-
--- bytes are left over
-pub no_run_over : (bytes : List ℕ) (count total : ℕ) (read : List (List ℕ × Change)) (rest : List ℕ) → SoFar bytes count read rest → count ≡ total → 0 < length rest
-    → (writes : List (List ℕ × Change)) → IsRun bytes total writes → ⊥
-no_run_over bytes count total read rest so_far eq some writes run =
-    let b = behind_so_far bytes count total read writes rest so_far (omega arith) run in
-    omega (arith, none_left b.later rest (omega (arith, so_far.counted, run.counted, ap length b.split, length-append read b.later)) b.spelled)
-
-pub run_done : (bytes : List ℕ) (count total : ℕ) (read : List (List ℕ × Change)) (rest : List ℕ) → SoFar bytes count read rest → count ≡ total → rest ≡ [] → IsRun bytes total read
-run_done bytes count total read rest so_far eq empty =
-    record { counted = so_far.counted ∙ eq; lawful = so_far.lawful; spelled = so_far.spelled ∙ ap (λ (r : List ℕ). records_bytes read ++ r) empty ∙ append-nil (records_bytes read) }
+  pub series_done : (bytes : List ℕ) (count total : ℕ) (read : List Item) (rest : List ℕ) → SoFar bytes count read rest → count ≡ total → rest ≡ [] → IsSeries S bytes total read
+  series_done bytes count total read rest so_far eq empty =
+      record { counted = so_far.counted ∙ eq; lawful = so_far.lawful; spelled = so_far.spelled ∙ ap (λ (r : List ℕ). series_bytes S read ++ r) empty ∙ append-nil (series_bytes S read) }

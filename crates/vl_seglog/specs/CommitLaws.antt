@@ -13,9 +13,10 @@ use Rattle.vl_model.specs.Frames.{frame_length, record_length}
 use Rattle.vl_model.specs.Keys.{value_bytes}
 use Rattle.vl_model.specs.declared.change.Change.{Change}
 use Rattle.vl_model.specs.declared.log_frame.LogFrame.TheVariants.{Committed}
-use Rattle.vl_record.specs.Laws.{length-record_bytes, one_record}
-use Rattle.vl_record.specs.Record.{IsSpelled as IsRecordSpelled, record_bytes}
-use Rattle.vl_seglog.specs.Commit.{AreRecords, Commit, IsCommit, commit_body, commit_frame, commit_length, records_bytes}
+use Rattle.vl_record.specs.Laws.{length-record_bytes}
+use Rattle.vl_record.specs.Record.{record_bytes}
+use Rattle.vl_seglog.specs.Commit.{Commit, IsCommit, commit_body, commit_frame, commit_length, records_bytes, records_spelling}
+use Rattle.vl_seglog.specs.Series.{one_series}
 
 -- ---- lengths
 
@@ -54,19 +55,6 @@ few_records c short = omega (arith, short, body_length c, parts_length c.writes)
 
 -- ---- one spelling
 
--- So many records one behind the other are spelled in one way.
-pub one_records : (writes others : List (List ℕ × Change)) → AreRecords writes → AreRecords others → length writes ≡ length others → records_bytes writes ≡ records_bytes others → writes ≡ others
-one_records [] [] p q counts e = refl
-one_records [] (o ∷ others) p q counts e = absurd (omega arith)
-one_records (w ∷ writes) [] p q counts e = absurd (omega arith)
-one_records (w ∷ writes) (o ∷ others) p q counts e =
-    let bytes = records_bytes (w ∷ writes) in
-    let one : IsRecordSpelled bytes w.0 w.1 = record { lawful = p.0; rest = records_bytes writes; parts = refl } in
-    let other : IsRecordSpelled bytes o.0 o.1 = record { lawful = q.0; rest = records_bytes others; parts = e } in
-    let same = one_record bytes w.0 o.0 w.1 o.1 one other in
-    let first : w ≡ o = λ i. (same.0 i, same.1 i) in
-    ap (λ (x : List ℕ × Change). x ∷ writes) first ∙ ap (λ (l : List (List ℕ × Change)). o ∷ l) (one_records writes others p.1 q.1 (omega arith) same.2)
-
 pub one_body : (c d : Commit) → IsCommit c → IsCommit d → length (commit_body c) < 2 ^ 32 → commit_body c ≡ commit_body d → c ≡ d
 unfolding commit_body
 one_body c d p q short e =
@@ -74,7 +62,7 @@ one_body c d p q short e =
     let a = one_number 8 c.number d.number _ _ (omega (arith, p.last)) (omega (arith, q.last)) bytes in
     let other_short : length (commit_body d) < 2 ^ 32 = subst (λ (body : List ℕ). length body < 2 ^ 32) e short in
     let b = one_number 4 (length c.writes) (length d.writes) _ _ (few_records c short) (few_records d other_short) a.1 in
-    let writes = one_records c.writes d.writes p.lawful q.lawful b.0 b.1 in
+    let writes = one_series records_spelling c.writes d.writes p.lawful q.lawful b.0 b.1 in
     λ i. record { number = a.0 i; writes = writes i }
 
 -- how commits are spelled in the frames of logs

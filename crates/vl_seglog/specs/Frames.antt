@@ -4,7 +4,7 @@ use Rattle.std.specs.List.{sum_by}
 use Rattle.std.proofs.Common.{ap, sym}
 use Rattle.vl_frame.specs.Frame.{file_of}
 use Rattle.vl_frame.specs.Header.{header_bytes}
-use Rattle.vl_frame.specs.Runs.{Grammar, run_bytes}
+use Rattle.vl_frame.specs.Runs.{Grammar, item_frame, run_bytes}
 use Rattle.vl_frame.specs.declared.kinds.FileKind.TheVariants as files
 use Rattle.vl_frame.specs.declared.kinds.FrameKind.{FrameKind}
 use Rattle.vl_frame.specs.declared.kinds.FrameKind.TheVariants as kinds
@@ -55,6 +55,10 @@ frames_grammar = record {
   in_file = in_log;
   one = one_spelling;
 }
+
+-- the frame at a place of the log with this number
+abbrev pub frame_at : ℕ → ℕ → LogFrame → List ℕ
+frame_at number at f = item_frame frames_grammar number at f
 
 -- the header of the log with this number, in format 1
 abbrev pub log_header : ℕ → List ℕ

@@ -6,11 +6,10 @@ pub mod Laws
 pub mod Log
 pub mod LogReading
 pub mod LogReadingLaws
-pub mod PointerLaws
-pub mod Pointers
 pub mod Reading
 pub mod Relocation
 pub mod RelocationLaws
+pub mod Series
 pub mod Staging
 pub mod Stored
 pub mod StoredLaws

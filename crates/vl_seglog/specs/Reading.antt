@@ -1,15 +1,34 @@
 -- What reading meets on its way.
-use Rattle.std.specs.Prelude.{◌≡◌, ℕ, List, length}
-use Rattle.vl_model.specs.declared.change.Change.{Change}
-use Rattle.vl_seglog.specs.declared.commit.Commit.{Commit as ReadCommit}
-use Rattle.vl_seglog.specs.Commit.{Commit, AreRecords, records_bytes}
+use Rattle.std.specs.Prelude.{◌≡◌, ℕ, List, if◌then◌else◌, map}
+use Rattle.vl_frame.specs.declared.kinds.FrameKind.{FrameKind}
+use Rattle.vl_model.specs.declared.log_frame.LogFrame.{LogFrame}
+use Rattle.vl_model.specs.declared.log_frame.LogFrame.TheVariants.{Committed, Relocated}
+use Rattle.vl_seglog.specs.declared.frame.Commit.{Commit as ReadCommit}
+use Rattle.vl_seglog.specs.declared.frame.Frame.{Frame}
+use Rattle.vl_seglog.specs.declared.frame.Frame.TheVariants as read
+use Rattle.vl_seglog.specs.declared.reading.LogRead.{LogRead}
+use Rattle.vl_seglog.specs.Commit.{Commit}
+use Rattle.vl_seglog.specs.Frames.{IsFrame, frame_body, frame_kind, frames_end}
+use Rattle.vl_seglog.specs.LogReading.{LogReading}
 
 -- a commit that was read, without where it lies in memory
 abbrev pub commit_of : ReadCommit → Commit
 commit_of c = record { number = c.number; writes = c.writes.items }
 
--- so many records, one behind the other, are the bytes
-pub record IsRun (bytes : List ℕ) (count : ℕ) (writes : List (List ℕ × Change)) : Type 0 where
-  pub counted : length writes ≡ count
-  pub lawful : AreRecords writes
-  pub spelled : bytes ≡ records_bytes writes
+-- a frame likewise
+abbrev pub frame_of : Frame → LogFrame
+frame_of (read.Commit c) = Committed c.number c.writes.items
+frame_of (read.Moves records) = Relocated records.items
+
+abbrev pub reading_of : LogRead → LogReading
+reading_of r = record { header = r.header; frames = map frame_of r.frames.items; whole = r.whole }
+
+-- where the frames end that were read
+abbrev pub reading_end : LogReading → ℕ
+reading_end r = if r.header then frames_end r.frames else 0
+
+-- A frame of this kind and body says this.
+pub record Says (kind : FrameKind) (body : List ℕ) (f : LogFrame) : Type 0 where
+  pub lawful : IsFrame f
+  pub kind_is : kind ≡ frame_kind f
+  pub body_is : body ≡ frame_body f

@@ -1,5 +1,9 @@
--- Where a staged frame belongs.
-use Rattle.std.specs.Prelude.{◌≡◌}
+-- What a staged frame is, and where it belongs.
+use Rattle.std.specs.Prelude.{◌≡◌, ◌+◌, ◌<◌, ◌^◌, ℕ, length}
+use Rattle.vl_frame.specs.Runs.{HasFrame}
+use Rattle.vl_model.specs.declared.log_frame.LogFrame.{LogFrame}
+use Rattle.vl_seglog.specs.Frames.{frame_at, frames_grammar}
+use Rattle.vl_seglog.specs.Stored.{frame_pointers}
 use Rattle.vl_seglog.specs.declared.active.ActiveLog.{ActiveLog}
 use Rattle.vl_seglog.specs.declared.staged.Staged.{Staged}
 
@@ -7,3 +11,13 @@ use Rattle.vl_seglog.specs.declared.staged.Staged.{Staged}
 pub record IsStagedFor (log : ActiveLog) (staged : Staged) : Type 0 where
   pub number : staged.log ≡ log.number
   pub place : staged.place ≡ log.length
+
+-- It is the frame f as it is spelled for this place of the log with this number.
+pub record IsStaged (number place : ℕ) (f : LogFrame) (staged : Staged) : Type 0 where
+  pub frame : staged.frame.items ≡ frame_at number place f
+  -- one pointer for each record, to where the record lies then
+  pub pointers : staged.pointers.items ≡ frame_pointers number place f
+  pub has : HasFrame frames_grammar f
+  pub short : length staged.frame.items < 2 ^ 32
+  -- the log stays below 2^64 bytes
+  pub fits : place + length staged.frame.items < 2 ^ 64

@@ -143,6 +143,6 @@ reads_lead log at bytes rest (f ∷ frames) here (after, stands, reads) =
 pub reading_leads : (number : ℕ) (bytes : List ℕ) (reading : LogReading) → ReadsLog number bytes reading → AllLead number bytes 16 reading.frames
 reading_leads number bytes reading reads = by_header reading.header reads.frames
   where
-  by_header : (header : Bool) → AreBehind header number bytes reading.frames → AllLead number bytes 16 reading.frames
-  by_header true behind = reads_lead number 16 bytes (drop 16 bytes) reading.frames refl behind
-  by_header false none = subst (λ (fs : List LogFrame). AllLead number bytes 16 fs) (sym none) tt
+    by_header : (header : Bool) → AreBehind header number bytes reading.frames → AllLead number bytes 16 reading.frames
+    by_header true behind = reads_lead number 16 bytes (drop 16 bytes) reading.frames refl behind
+    by_header false none = subst (λ (fs : List LogFrame). AllLead number bytes 16 fs) (sym none) tt

@@ -4,17 +4,18 @@ ghost use Rattle.vl_disk.specs.declared.name.Name.TheVariants as names;
 ghost use Rattle.vl_disk.specs.Calls.{Appends, ChangesNothing, Syncs};
 ghost use Rattle.vl_disk.specs.Disk.{Stands};
 ghost use Rattle.vl_disk.specs.Spare.{CanAppend, SameSpare, SameSpareElsewhere};
+ghost use Rattle.vl_model.specs.declared.log_frame.LogFrame.TheVariants.{Committed, Relocated};
+ghost use Rattle.vl_seglog.specs.Frames.{IsFrame};
 ghost use Rattle.vl_seglog.specs.Log as log;
-ghost use Rattle.vl_seglog.specs.Pointers.{ArePointers};
-ghost use Rattle.vl_seglog.specs.Staging.{IsStagedFor};
+ghost use Rattle.vl_seglog.specs.Staging.{IsStaged, IsStagedFor};
 
-use crate::staged::{Staged, staged_commit};
+use crate::staged::{Staged, staged_commit, staged_move};
 use crate::write::LOG_HEADER_BYTES;
 use std::alloc::Global;
 use vl_disk::{Disk, Failed, Name, NoMemory};
-use vl_model::{Change, Key};
+use vl_model::{Change, Key, Moved};
 
-/// The log that commits are appended to. Its file is made, and opened, by others.
+/// The log that frames are appended to. Its file is made, and opened, by others.
 #[derive(Debug, Drop)]
 pub struct ActiveLog {
     /// Of its file, which is the segment of its records' pointers too.
@@ -44,29 +45,50 @@ impl ActiveLog {
         number: u64,
         writes: &[(Key, Change)],
     ) -> Result<Staged, NoMemory>
-        requires { log.IsCommit (record { number = number; writes = writes.now }) }
+        requires { IsFrame (Committed number writes.now) }
+        ensures staged { IfOk result (IsStaged self.now.number self.now.length (Committed number writes.now)) }
         ensures staged_for { IfOk result (IsStagedFor self.now) }
-        ensures frame { IfOk result (λ staged. staged.frame.items ≡
-            log.commit_frame self.now.number self.now.length (record { number = number; writes = writes.now })) }
-        ensures pointers { IfOk result (λ staged.
-            ArePointers self.now.number self.now.length writes.now staged.pointers.items) }
-        ensures has_frame { OnOk result (log.HasFrame (record { number = number; writes = writes.now })) }
-        ensures short { IfOk result (λ staged. length staged.frame.items < 2 ^ 32) }
-        ensures fits { IfOk result (λ staged. self.now.length + length staged.frame.items < 2 ^ 64) }
         ensures room { IfOk result (λ staged.
             CanAppend (length staged.frame.items) (D.spare disk.new (names.Log self.now.number))) }
         ensures elsewhere { SameSpareElsewhere (names.Log self.now.number) (D.spare disk.old) (D.spare disk.new) }
         ensures refused { OnErr result (SameSpare (D.spare disk.old) (D.spare disk.new)) }
         ensures no_change { ChangesNothing D.Watched disk.old disk.new ⊥ }
+
+        // These say nothing new, and go when vl_journal does.
+        ensures frame { IfOk result (λ staged. staged.frame.items ≡
+            log.commit_frame self.now.number self.now.length (record { number = number; writes = writes.now })) }
+        ensures has_frame { OnOk result (log.HasFrame (record { number = number; writes = writes.now })) }
+        ensures fits { IfOk result (λ staged. self.now.length + length staged.frame.items < 2 ^ 64) }
     {
         let staged = staged_commit(alloc, self.number, self.length, number, writes)?;
         disk.ready(Name::Log(self.number), staged.frame.len() as u64)?;
         Ok(staged)
     }
 
+    /// Spells that of a relocation likewise.
+    pub fn stage_move<D: Disk>(
+        &self,
+        alloc: Global,
+        disk: &mut D,
+        records: &[Moved],
+    ) -> Result<Staged, NoMemory>
+        requires { IsFrame (Relocated records.now) }
+        ensures staged { IfOk result (IsStaged self.now.number self.now.length (Relocated records.now)) }
+        ensures staged_for { IfOk result (IsStagedFor self.now) }
+        ensures room { IfOk result (λ staged.
+            CanAppend (length staged.frame.items) (D.spare disk.new (names.Log self.now.number))) }
+        ensures elsewhere { SameSpareElsewhere (names.Log self.now.number) (D.spare disk.old) (D.spare disk.new) }
+        ensures refused { OnErr result (SameSpare (D.spare disk.old) (D.spare disk.new)) }
+        ensures no_change { ChangesNothing D.Watched disk.old disk.new ⊥ }
+    {
+        let staged = staged_move(alloc, self.number, self.length, records)?;
+        disk.ready(Name::Log(self.number), staged.frame.len() as u64)?;
+        Ok(staged)
+    }
+
     /// Hands a frame that was staged for this log's end to the disk, which isn't durable before `sync`. If it fails, the
     /// file has taken some first bytes of it, and the log is not to be appended to any more.
-    pub fn append_commit<D: Disk>(&mut self, disk: &mut D, staged: &Staged) -> Result<(), Failed>
+    pub fn append<D: Disk>(&mut self, disk: &mut D, staged: &Staged) -> Result<(), Failed>
         requires staged_for { IsStagedFor self.old staged.now }
         requires stands { ForSome (D.told disk.old) (Stands (names.Log self.old.number)) }
         requires room { CanAppend (length staged.now.frame.items) (D.spare disk.old (names.Log self.old.number)) }
@@ -78,6 +100,19 @@ impl ActiveLog {
         disk.append(Name::Log(self.number), &staged.frame)?;
         self.length = self.length.saturating_add(staged.frame.len() as u64);
         Ok(())
+    }
+
+    /// The same. It goes with vl_journal.
+    pub fn append_commit<D: Disk>(&mut self, disk: &mut D, staged: &Staged) -> Result<(), Failed>
+        requires staged_for { IsStagedFor self.old staged.now }
+        requires stands { ForSome (D.told disk.old) (Stands (names.Log self.old.number)) }
+        requires room { CanAppend (length staged.now.frame.items) (D.spare disk.old (names.Log self.old.number)) }
+        ensures appended { Appends D.Watched (names.Log self.old.number) staged.now.frame.items disk.old disk.new result }
+        ensures number { self.new.number ≡ self.old.number }
+        ensures longer { OnOk result (self.new.length ≡ min (self.old.length + length staged.now.frame.items) (2 ^ 64 - 1)) }
+        ensures kept { OnErr result (self.new.length ≡ self.old.length) }
+    {
+        self.append(disk, staged)
     }
 
     /// Makes all that was appended durable. If it fails, nothing more is durable, and the log is not to be appended to any

@@ -1,17 +1,28 @@
 ghost use Rattle.std.specs.Prelude.{◌≡◌, ◌+◌, ◌<◌, ◌^◌, length, IfOk, OnOk};
 ghost use Rattle.vl_model.specs.Frames.{record_length};
-ghost use Rattle.vl_seglog.specs.Log as log;
-ghost use Rattle.vl_seglog.specs.Pointers.{ArePointers};
+ghost use Rattle.vl_model.specs.declared.change.Change.TheVariants.{Set};
+ghost use Rattle.vl_model.specs.declared.log_frame.LogFrame.TheVariants.{Committed, Relocated};
+ghost use Rattle.vl_seglog.specs.Commit.{records_bytes};
+ghost use Rattle.vl_seglog.specs.Frames.{IsFrame};
+ghost use Rattle.vl_seglog.specs.Relocation.{moves_bytes};
+ghost use Rattle.vl_seglog.specs.Staging.{IsStaged};
+ghost use Rattle.vl_seglog.specs.Stored.{moved_pointers, pointer_at, pointers_from};
 
-use crate::write::write_commit;
+use crate::write::{write_commit, write_move};
 use std::alloc::{AllocError, Global};
-use vl_model::{Change, Key, Pointer};
+use vl_model::{Change, Key, Moved, Pointer, Value};
 use vl_record::RECORD_HEAD_BYTES;
 
-// How many bytes of a commit's frame stand before its records: five of the frame's, and its number and count.
+// How many bytes of a frame stand before its first record: five of the frame's, and of a commit its number and count.
 const BEFORE_RECORDS: u64 = 17;
 
-/// A frame that is to be appended to a log, and where its records stand then.
+// The same of a relocation, which has a count alone.
+const BEFORE_MOVED: u64 = 9;
+
+// How many bytes a version has.
+const VERSION_BYTES: u64 = 8;
+
+/// A frame that is to be appended to a log, and where its records lie then.
 #[derive(Drop)]
 pub struct Staged {
     /// The number of the log that it was staged for.
@@ -23,66 +34,108 @@ pub struct Staged {
     pub pointers: Vec<Pointer>,
 }
 
-/// The frame of a commit that is to stand at the place `at` of the log with the number `file`. Where there is none, or it
-/// would end beyond 2^64 bytes, want of memory is the answer.
+/// The frame of a commit that is to stand at a place of the log with the number `log`. Where there is none, or it would end
+/// beyond 2^64 bytes, want of memory is the answer.
 pub fn staged_commit(
     alloc: Global,
-    file: u32,
-    at: u64,
+    log: u32,
+    place: u64,
     number: u64,
     writes: &[(Key, Change)],
 ) -> Result<Staged, AllocError>
-    ensures staged_for { IfOk result (λ s. (s.log ≡ file) × (s.place ≡ at)) }
-    ensures frame { IfOk result (λ s. s.frame.items ≡
-        log.commit_frame file at (record { number = number; writes = writes.now })) }
-    ensures pointers { IfOk result (λ s. ArePointers file at writes.now s.pointers.items) }
-    ensures body { OnOk result (length (log.commit_body (record { number = number; writes = writes.now })) < 2 ^ 32) }
-    ensures short { IfOk result (λ s. length s.frame.items < 2 ^ 32) }
-    ensures fits { IfOk result (λ s. at + length s.frame.items < 2 ^ 64) }
+    requires { IsFrame (Committed number writes.now) }
+    ensures staged { IfOk result (IsStaged log place (Committed number writes.now)) }
+    ensures staged_for { IfOk result (λ s. (s.log ≡ log) × (s.place ≡ place)) }
 {
     let mut frame = Vec::new(alloc);
-    write_commit(alloc, &mut frame, file, at, number, writes)?;
-    if frame.len() as u64 > u64::MAX - at {
+    write_commit(alloc, &mut frame, log, place, number, writes)?;
+    if frame.len() as u64 > u64::MAX - place {
         return Err(AllocError);
     }
-    let pointers = pointers(alloc, file, at, writes)?;
+    let pointers = record_pointers(alloc, log, place + BEFORE_RECORDS, writes)?;
     Ok(Staged {
-        log: file,
-        place: at,
+        log,
+        place,
         frame,
         pointers,
     })
 }
 
-// The pointers to the records of a commit whose frame is to stand at this place.
-fn pointers(
+/// That of a relocation likewise.
+pub fn staged_move(
     alloc: Global,
-    segment: u32,
-    at: u64,
+    log: u32,
+    place: u64,
+    records: &[Moved],
+) -> Result<Staged, AllocError>
+    requires { IsFrame (Relocated records.now) }
+    ensures staged { IfOk result (IsStaged log place (Relocated records.now)) }
+    ensures staged_for { IfOk result (λ s. (s.log ≡ log) × (s.place ≡ place)) }
+{
+    let mut frame = Vec::new(alloc);
+    write_move(alloc, &mut frame, log, place, records)?;
+    if frame.len() as u64 > u64::MAX - place {
+        return Err(AllocError);
+    }
+    let pointers = moved_pointers(alloc, log, place + BEFORE_MOVED, records)?;
+    Ok(Staged {
+        log,
+        place,
+        frame,
+        pointers,
+    })
+}
+
+// The pointers to the records of a commit, of which the first lies at this place.
+fn record_pointers(
+    alloc: Global,
+    log: u32,
+    from: u64,
     writes: &[(Key, Change)],
 ) -> Result<Vec<Pointer>, AllocError>
-    requires short { length (log.records_bytes writes.now) < 2 ^ 32 }
-    requires fits { at + 17 + length (log.records_bytes writes.now) < 2 ^ 64 }
-    ensures { IfOk result (λ pointers. ArePointers segment at writes.now pointers.items) }
+    requires short { length (records_bytes writes.now) < 2 ^ 32 }
+    requires fits { from + length (records_bytes writes.now) < 2 ^ 64 }
+    ensures { IfOk result (λ pointers. pointers.items ≡ pointers_from log from writes.now) }
 {
     let mut pointers = Vec::new(alloc);
-    let mut place = at + BEFORE_RECORDS;
+    let mut place = from;
     for (key, change) in writes {
-        let length = length_of(key, change);
-        pointers.push(Pointer {
-            segment,
-            place,
-            length,
-        })?;
-        place += length as u64;
+        let pointer = pointer_to(log, place, key, change.value_len());
+        pointers.push(pointer)?;
+        place += pointer.length as u64;
     }
     Ok(pointers)
 }
 
-// How many bytes a record has.
-fn length_of(key: &Key, change: &Change) -> u32
-    requires { record_length key.now change.now < 2 ^ 32 }
-    ensures { result ≡ record_length key.now change.now }
+// Those to the records of a relocation, whose first version lies at this place.
+fn moved_pointers(
+    alloc: Global,
+    log: u32,
+    from: u64,
+    records: &[Moved],
+) -> Result<Vec<Pointer>, AllocError>
+    requires short { length (moves_bytes records.now) < 2 ^ 32 }
+    requires fits { from + length (moves_bytes records.now) < 2 ^ 64 }
+    ensures { IfOk result (λ pointers. pointers.items ≡ moved_pointers log from records.now) }
 {
-    (RECORD_HEAD_BYTES + key.len() + change.value_len()) as u32
+    let mut pointers = Vec::new(alloc);
+    let mut place = from;
+    for moved in records {
+        let pointer = pointer_to(log, place + VERSION_BYTES, &moved.key, moved.value.len());
+        pointers.push(pointer)?;
+        place += VERSION_BYTES + pointer.length as u64;
+    }
+    Ok(pointers)
+}
+
+// The pointer to a record of this key and a value of so many bytes.
+fn pointer_to(segment: u32, place: u64, key: &Key, value_len: usize) -> Pointer
+    requires { 7 + length key.now + value_len < 2 ^ 32 }
+    ensures { result ≡ record { segment = segment; place = place; length = 7 + length key.now + value_len } }
+{
+    Pointer {
+        segment,
+        place,
+        length: (RECORD_HEAD_BYTES + key.len() + value_len) as u32,
+    }
 }

@@ -1,7 +1,7 @@
 use Rattle.std.proofs.Common.{◌≡◌, ◌++◌, drop}
-use Rattle.vl_seglog.specs.Log as log
+use Rattle.vl_seglog.specs.Commit.{commit_body, records_bytes}
 use Rattle.vl_seglog.proofs.write.commit_body.Given as goal
 
 -- the records that are still to be written stand behind what was written
 abbrev pub invariant-loop-key : goal.invariant-loop-key
-invariant-loop-key l = l.body.items ++ log.records_bytes (drop l.key-index l.writes) ≡ log.commit_body (record { number = l.number; writes = l.writes })
+invariant-loop-key l = l.body.items ++ records_bytes (drop l.key-index l.writes) ≡ commit_body (record { number = l.number; writes = l.writes })

@@ -1,0 +1,42 @@
+-- What a frame says that was found.
+use Rattle.std.proofs.Common.{◌≡◌, ℕ, ◌+◌, ◌-◌, List, [], ◌∷◌, ◌++◌, length, take, drop, sym, ap, ◌∙◌, arith}
+use Rattle.std.proofs.lemmas.List.{take_all, length-drop}
+use Rattle.vl_frame.specs.Frame.{IsSpelled, frame_bytes}
+use Rattle.vl_frame.specs.Laws.{one_frame}
+use Rattle.vl_frame.specs.RunLaws as runs
+use Rattle.vl_frame.specs.Runs.{StandsAt}
+use Rattle.vl_frame.specs.declared.kinds.FileKind.TheVariants as files
+use Rattle.vl_frame.specs.declared.kinds.FrameKind.{FrameKind}
+use Rattle.vl_model.specs.declared.log_frame.LogFrame.{LogFrame}
+use Rattle.vl_seglog.specs.FrameLaws.{frames_end-more, length-item_frame}
+use Rattle.vl_seglog.specs.Frames.{frame_body, frame_kind, frames_end, frames_grammar}
+use Rattle.vl_seglog.specs.Reading.{Says}
+
+-- the frame that was found says what stands there
+pub says : (number at : ℕ) (bytes : List ℕ) (kind : FrameKind) (body : List ℕ) (f : LogFrame) (rest : List ℕ) → IsSpelled files.Log number at bytes kind body → StandsAt frames_grammar number at bytes f rest → Says kind body f
+says number at bytes kind body f rest found s =
+    let one = one_frame files.Log number at bytes kind (frame_kind f) body (frame_body f) found (runs.frame_of frames_grammar number at bytes f rest s) in
+    record { lawful = s.lawful; kind_is = one.0; body_is = one.1 }
+
+pub stands : (number at : ℕ) (bytes : List ℕ) (kind : FrameKind) (body : List ℕ) (n : ℕ) (f : LogFrame) → IsSpelled files.Log number at bytes kind body → bytes ≡ frame_bytes number at kind body ++ drop n bytes → Says kind body f
+    → StandsAt frames_grammar number at bytes f (take (length bytes - n) (drop n bytes))
+stands number at bytes kind body n f found behind said =
+    let all : take (length bytes - n) (drop n bytes) ≡ drop n bytes = take_all (length bytes - n) (drop n bytes) (omega (arith, length-drop n bytes)) in
+    record {
+      lawful = said.lawful;
+      short = rw (← said.body_is) found.short;
+      spelled = behind ∙ ap (λ k. frame_bytes number at k body ++ drop n bytes) said.kind_is ∙ ap (λ b. frame_bytes number at (frame_kind f) b ++ drop n bytes) said.body_is
+          ∙ ap (λ (r : List ℕ). frame_bytes number at (frame_kind f) (frame_body f) ++ r) (sym all);
+    }
+
+-- the frames that were read, and the place behind them
+pub record SoFar (number : ℕ) (bytes : List ℕ) (frames : List LogFrame) (rest : List ℕ) : Type 0 where
+  pub under_way : runs.UnderWay frames_grammar number 16 bytes frames rest
+  pub place : 16 + (length bytes - length rest) ≡ frames_end frames
+
+pub goes_on : (number : ℕ) (bytes : List ℕ) (frames : List LogFrame) (rest : List ℕ) (at : ℕ) (f : LogFrame) (after : List ℕ) → SoFar number bytes frames rest → at ≡ 16 + (length bytes - length rest)
+    → StandsAt frames_grammar number at rest f after → SoFar number bytes (frames ++ f ∷ []) after
+goes_on number bytes frames rest at f after so_far is s =
+    let more = runs.goes_on frames_grammar number 16 bytes frames rest at f after so_far.under_way is s in
+    let less = runs.shorter frames_grammar number at rest f after s in
+    record { under_way = more; place = omega (arith, so_far.place, so_far.under_way.within, less.0, length-item_frame number at f, frames_end-more frames f) }

@@ -1,0 +1,63 @@
+-- Moved records, as they are read from the left.
+use Rattle.std.proofs.Common.{◌≡◌, ℕ, ◌<◌, ◌≤◌, ◌^◌, List, ◌++◌, length, sym, ap, subst, ◌∙◌, arith}
+use Rattle.byteorder.specs.Endian.{big_bytes}
+use Rattle.vl_frame.specs.Numbers.{one_number}
+use Rattle.vl_model.specs.declared.change.Change.{Change}
+use Rattle.vl_model.specs.declared.change.Change.TheVariants.{Set, Delete}
+use Rattle.vl_model.specs.declared.log_frame.Moved.{Moved}
+use Rattle.vl_record.specs.Laws.{one_record}
+use Rattle.vl_record.specs.Record.{IsRecord, IsSpelled, record_bytes}
+use Rattle.vl_seglog.specs.Relocation.{AreOnce, IsMoved, IsRelocation, moved_bytes, moves_bytes, moves_spelling, relocation_body}
+use Rattle.vl_seglog.specs.RelocationLaws.{few_moves}
+use Rattle.vl_seglog.specs.Series.{IsSeries, one_series}
+
+-- behind the version of a moved record stands the record
+pub behind_version : (bytes : List ℕ) (version : ℕ) (rest : List ℕ) (moved : Moved) (after : List ℕ) → bytes ≡ big_bytes 8 version ++ rest → version < 2 ^ 64 → IsMoved moved → bytes ≡ moved_bytes moved ++ after
+    → IsSpelled rest moved.key (Set moved.value)
+behind_version bytes version rest moved after e fits lawful spelled =
+    let both : big_bytes 8 version ++ rest ≡ big_bytes 8 moved.version ++ (record_bytes moved.key (Set moved.value) ++ after) = sym e ∙ spelled in
+    record { lawful = lawful.lawful; rest = after; parts = (one_number 8 version moved.version _ _ fits lawful.version both).1 }
+
+-- fewer bytes than a version has
+pub no_version : (bytes : List ℕ) (moved : Moved) (after : List ℕ) → length bytes < 8 → bytes ≡ moved_bytes moved ++ after → ⊥
+no_version bytes moved after short spelled = let len = ap length spelled in omega (arith, len)
+
+not_both : (value : List ℕ) → Delete ≡ Set value → ⊥
+not_both value e = cc
+
+-- a deletion isn't moved
+pub no_deletion : (rest key : List ℕ) (change : Change) (after : List ℕ) (moved : Moved) → IsRecord key change → rest ≡ record_bytes key change ++ after → change ≡ Delete → IsSpelled rest moved.key (Set moved.value) → ⊥
+no_deletion rest key change after moved lawful parts deletes s =
+    not_both moved.value (sym deletes ∙ (one_record rest key moved.key change (Set moved.value) (record { lawful = lawful; rest = after; parts = parts }) s).1)
+
+-- ---- bodies
+
+-- too few bytes for a count
+pub no_count : (body : List ℕ) (records : List Moved) → length body < 4 → body ≡ relocation_body records → ⊥
+unfolding relocation_body
+no_count body records short spelled = let len = ap length spelled in omega (arith, len)
+
+-- a relocation that the body spells has the count, and the series behind it
+pub series_of : (body : List ℕ) (count : ℕ) (rest : List ℕ) (records : List Moved) → count < 2 ^ 32 → body ≡ big_bytes 4 count ++ rest → length body < 2 ^ 32 → IsRelocation records → body ≡ relocation_body records
+    → IsSeries moves_spelling rest count records
+unfolding relocation_body
+series_of body count rest records fits e short lawful spelled =
+    let few = few_moves records (subst (λ (bytes : List ℕ). length bytes < 2 ^ 32) spelled short) in
+    let both : big_bytes 4 count ++ rest ≡ big_bytes 4 (length records) ++ moves_bytes records = sym e ∙ spelled in
+    let same = one_number 4 count (length records) _ _ fits few both in
+    record { counted = sym same.0; lawful = lawful.lawful; spelled = same.1 }
+
+-- where the records that were read aren't there once, none does
+pub not_once : (rest : List ℕ) (count : ℕ) (read records : List Moved) → IsSeries moves_spelling rest count read → (AreOnce read → ⊥) → IsSeries moves_spelling rest count records → IsRelocation records → ⊥
+not_once rest count read records one twice other lawful =
+    let same = one_series moves_spelling records read other.lawful one.lawful (other.counted ∙ sym one.counted) (sym other.spelled ∙ one.spelled) in
+    twice (subst AreOnce same lawful.once)
+
+-- a count and a series behind it
+pub is_relocation : (body : List ℕ) (count : ℕ) (rest : List ℕ) (records : List Moved) → body ≡ big_bytes 4 count ++ rest → 1 ≤ count → IsSeries moves_spelling rest count records → AreOnce records
+    → IsRelocation records × (body ≡ relocation_body records)
+unfolding relocation_body
+is_relocation body count rest records e some series once = (
+  record { some = omega (arith, some, series.counted); lawful = series.lawful; once = once },
+  e ∙ ap (λ (r : List ℕ). big_bytes 4 count ++ r) series.spelled ∙ ap (λ (n : ℕ). big_bytes 4 n ++ moves_bytes records) (sym series.counted),
+)

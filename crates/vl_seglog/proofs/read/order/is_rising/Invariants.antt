@@ -1,8 +1,0 @@
-use Rattle.std.proofs.Common.{◌≡◌, ◌-◌, ◌≤◌, drop}
-use Rattle.std.specs.FinMap.{is_sorted}
-use Rattle.vl_model.specs.Keys.{key_cmp}
-use Rattle.vl_seglog.proofs.read.order.is_rising.Given as goal
-
--- they all rise if those from the last on do
-abbrev pub invariant-loop-i : goal.invariant-loop-i
-invariant-loop-i l = (1 ≤ l.i) × (is_sorted key_cmp l.writes ≡ is_sorted key_cmp (drop (l.i - 1) l.writes))

@@ -1,0 +1,23 @@
+use Rattle.std.proofs.Common.{◌≡◌, ◌++◌, ◌∷◌, [], map, refl}
+use Rattle.std.proofs.lemmas.List.{map_push}
+use Rattle.vl_frame.specs.RunLaws.{ends, shorter}
+use Rattle.vl_seglog.specs.Frames.{frames_grammar}
+use Rattle.vl_seglog.specs.Reading.{frame_of}
+use Rattle.vl_seglog.proofs.Framing.{goes_on}
+use Rattle.vl_seglog.proofs.reading.read_frames.Goals as goal
+
+pub returns-in-None-clause-frames : goal.returns-in-None-clause-frames
+returns-in-None-clause-frames c =
+    let none = rw c.in-None.is at c.in_ok-read_next.ensures.none in
+    ends frames_grammar c.args.number 16 c.args.bytes.now (map frame_of c.loop-frames.frames.items) c.loop-frames.rest.now _ c.loop-frames.invariant.under_way refl none
+
+pub loop-frames-smaller : goal.loop-frames-smaller
+loop-frames-smaller c =
+    let stands = rw c.in-Some.is at c.in_ok-read_next.ensures.found in
+    (shorter frames_grammar c.args.number _ c.loop-frames.rest.now (frame_of c.in-Some.frame) c.in-Some.after.now stands).1
+
+pub loop-frames-preserved : goal.loop-frames-preserved
+loop-frames-preserved c =
+    let stands = rw c.in-Some.is at c.in_ok-read_next.ensures.found in
+    let e : map frame_of c.push.new.self.items ≡ map frame_of c.loop-frames.frames.items ++ frame_of c.in-Some.frame ∷ [] = rw c.in_ok-push-in-Some.ensures.items (map_push _ c.loop-frames.frames.items c.in-Some.frame) in
+    rw e (goes_on c.args.number c.args.bytes.now (map frame_of c.loop-frames.frames.items) c.loop-frames.rest.now _ (frame_of c.in-Some.frame) c.in-Some.after.now c.loop-frames.invariant refl stands)

@@ -1,0 +1,44 @@
+ghost use Rattle.std.specs.Prelude.{◌≡◌, ◌++◌, ◌<◌, ◌^◌, length, IfNone, IfOk, IfSome};
+ghost use Rattle.vl_seglog.specs.Commit as spelling;
+ghost use Rattle.vl_seglog.specs.Reading.{commit_of};
+
+use crate::frame::Commit;
+use crate::reading::order::is_rising;
+use crate::reading::records::read_records;
+use std::alloc::{AllocError, Global};
+use vl_frame::{take_u32, take_u64};
+use vl_model::MAX_COMMIT_NUMBER;
+
+/// The commit that the body of a frame spells.
+pub fn read_commit(alloc: Global, body: &[u8]) -> Result<Option<Commit>, AllocError>
+    requires { length body.now < 2 ^ 32 }
+    ensures found { IfOk result (λ read. IfSome read
+        (λ c. spelling.IsCommit (commit_of c) × (body.now ≡ spelling.commit_body (commit_of c)))) }
+    ensures none { IfOk result (λ read. IfNone read
+        ((c : spelling.Commit) → spelling.IsCommit c → body.now ≡ spelling.commit_body c → ⊥)) }
+{
+    let Some((number, count, rest)) = take_head(body) else {
+        return Ok(None);
+    };
+    if number == 0 || number > MAX_COMMIT_NUMBER || count == 0 {
+        return Ok(None);
+    }
+    let Some(writes) = read_records(alloc, count, rest)? else {
+        return Ok(None);
+    };
+    if !is_rising(&writes) {
+        return Ok(None);
+    }
+    Ok(Some(Commit { number, writes }))
+}
+
+// The numbers before the records, and the bytes behind them.
+fn take_head(bytes: &[u8]) -> Option<(u64, u32, &[u8])>
+    ensures found { IfSome result (λ r. bytes.now ≡ spelling.head_bytes r.0 r.1 ++ r.2.now) }
+    ensures fits { IfSome result (λ r. (r.0 < 2 ^ 64) × (r.1 < 2 ^ 32)) }
+    ensures none { IfNone result (length bytes.now < 12) }
+{
+    let (number, rest) = take_u64(bytes)?;
+    let (count, rest) = take_u32(rest)?;
+    Some((number, count, rest))
+}
