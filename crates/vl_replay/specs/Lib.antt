@@ -15,3 +15,4 @@ pub mod Sequential
 pub mod Start
 pub mod Steps
 pub mod Stored
+pub mod Writing

@@ -25,6 +25,7 @@ mod laws;
 mod limits;
 mod memtable;
 mod store;
+mod writing;
 
 use crate::fails::Halt;
 use decision::Decision;

@@ -18,6 +18,7 @@ ghost use Rattle.vl_txn.specs.Refusals.{IsWritten};
 
 use crate::fails::Halt;
 use crate::replayer::frozen::newest_in;
+use crate::replayer::writing::append_durably;
 use crate::replayer::{Decision, Handle, Memtable, Open};
 use std::alloc::Global;
 use vl_disk::{Disk, Name};
