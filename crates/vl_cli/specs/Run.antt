@@ -9,7 +9,7 @@ use Rattle.vl_replay.specs.Sequential.{State}
 use Rattle.vl_replay.specs.Endings.{status_of}
 use Rattle.vl_replay.specs.Runs.{Outside, EndsRun, script_of}
 use Rattle.vl_replay.specs.Start.{StartsIn, DiskEndsFromStart}
-use Rattle.vl_replay.specs.Steps.{FinishesBy}
+use Rattle.vl_replay.specs.Steps.{FinishesBy, EndsUnopened}
 use Rattle.vl_replay.specs.declared.ending.Ending.{Ending}
 
 -- a word that is neither empty nor an option
@@ -42,3 +42,8 @@ AnswersInput g old new status = (start : State) (input : List ℕ)
 abbrev pub EndsBy : {K : Type 0} → sink.Ghosts K → (old new : K) → Ending → (status : ℕ) → Type 0
 EndsBy g old new why status =
     (ending : Ending) × (status ≡ status_of ending) × FinishesBy g old new why ending
+
+-- a run whose store wasn't opened put a last line that says why, and has the status of that, or the sink's
+abbrev pub StaysUnopened : {K : Type 0} → sink.Ghosts K → (old new : K) → (status : ℕ) → Type 0
+StaysUnopened g old new status =
+    (ending : Ending) × (status ≡ status_of ending) × EndsUnopened g old new ending

@@ -15,9 +15,8 @@ ghost use Rattle.vl_replay.specs.Endings.{status_of};
 ghost use Rattle.vl_replay.specs.Exchanges.{exchanges_from, AreExplained};
 ghost use Rattle.vl_replay.specs.Runs.{outside};
 ghost use Rattle.vl_replay.specs.Start.{StartsIn};
-ghost use Rattle.vl_replay.specs.Steps.{EndsUnopened};
 ghost use Rattle.vl_replay.specs.declared.ending.Ending.{Ending as HowEnded};
-ghost use Rattle.vl_cli.specs.Run.{AnswersInput, EndsBy, is_plain};
+ghost use Rattle.vl_cli.specs.Run.{AnswersInput, EndsBy, StaysUnopened, is_plain};
 
 use crate::command_line::words::are_plain;
 use std::alloc::Global;
@@ -79,7 +78,7 @@ pub fn run<S: Source, K: Sink, D: Disk>(
     ensures occupied { is_plain (map string_bytes words.now) ≡ true → (state : DiskState)
         → D.told disk ≡ Some state → HasSomeFile state
         → (source.new ≡ source.old) × IsAsBefore D.Watched disk result.disk
-        × ((ending : HowEnded) × (result.status ≡ status_of ending) × EndsUnopened K.Sink sink.old sink.new ending) }
+        × StaysUnopened K.Sink sink.old sink.new result.status }
 
     // Statuses 6 and 7 come only by faults of the source and of the sink, and the others only without.
     ensures read_fault { result.status ≡ 6
