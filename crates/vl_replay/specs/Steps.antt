@@ -11,7 +11,7 @@ use Rattle.vl_replay.specs.Input.{HasNoLineEnd}
 use Rattle.vl_replay.specs.Exchanges.{Exchange, exchange_at, KeepsUp}
 use Rattle.vl_replay.specs.Endings.{Culprit, Evidence, last_line, line_number}
 use Rattle.vl_replay.specs.Opening.{ending_unopened}
-use Rattle.vl_journal.specs.declared.fails.OpenFail.{OpenFail as Why}
+use Rattle.vl_recover.specs.declared.fails.Why.{Why}
 use Rattle.vl_replay.specs.Runs.{Script, script_of, IsFront, EndsSo, Outside, EndsRun}
 use Rattle.vl_replay.specs.Represents.{Represents}
 use Rattle.vl_replay.specs.Durable.{Holding, HoldsState, GoesFrom, DiskEnds, DiskEndsFrom}

@@ -2,7 +2,6 @@
 ghost use Rattle.std.specs.Prelude.{◌≡◌, ◌≢◌, ◌+◌, ◌<◌, ◌++◌, ℕ, List, Some, None, length};
 ghost use Rattle.std.specs.Option.{ForSome};
 ghost use Rattle.vl_disk.specs.DiskState.{DiskState};
-ghost use Rattle.vl_journal.specs.Files.{IsAsBefore, HasSomeFile};
 ghost use Rattle.vl_replay.specs.Sequential.{State};
 ghost use Rattle.vl_replay.specs.Represents.{Represents};
 ghost use Rattle.vl_replay.specs.Exchanges.{exchange_at, state_behind};
@@ -17,14 +16,14 @@ ghost use Rattle.vl_replay.specs.Opening.{ending_unopened};
 ghost use Rattle.vl_replay.specs.Steps.{IsNext, StepsOn, DiskSteps, kept, HasToDo, Steps, FinishesBy, EndsUnopened};
 
 use crate::answering::{answer, end_at_bad_line};
-use crate::ending::{DISK_FAULT, Ended, Ending, NO_MEMORY, NOT_A_STORE, READ_FAULT, finish};
-use crate::fails::{InputFail, OpenFail};
+use crate::ending::{DISK_FAULT, Ended, Ending, NO_MEMORY, READ_FAULT, finish};
+use crate::fails::{InputFail, Refusal};
 use crate::input::{Buffer, Next, read_line};
 use crate::replayer::Replayer;
 use std::alloc::Global;
 use vl_disk::Disk;
 use vl_io::{Sink, Source};
-use vl_journal::OpenFail as Why;
+use vl_recover::{OpenFail, Why};
 
 /// A run under way: what was read and not yet answered, the store, and how many lines were answered.
 #[derive(Drop)]
@@ -51,7 +50,6 @@ impl<D: Disk> Progress<D> {
         ensures source_faults { CountsFaultsOf TheSource result (S.faults source.old) (S.faults source.new) }
         ensures sink_faults { CountsFaultsOf TheSink result (K.faults sink.old) (K.faults sink.new) }
         ensures disk_faults { CountsFaultsOf TheDisk result (D.faults self.old.replayer.disk) (D.faults self.new.replayer.disk) }
-        ensures not_the_files { result ≢ Some Ending.NotAStore }
         ensures not_the_words { result ≢ Some Ending.BadWords }
     {
         match read_line(&mut self.buffer, source, &mut self.line) {
@@ -80,7 +78,6 @@ impl<D: Disk> Progress<D> {
         ensures sink_faults { CountsFaultsOf TheSink result (K.faults sink.old) (K.faults sink.new) }
         ensures disk_faults { CountsFaultsOf TheDisk result (D.faults self.old.replayer.disk) (D.faults self.new.replayer.disk) }
         ensures not_the_source { option_map culprit_of result ≢ Some TheSource }
-        ensures not_the_files { result ≢ Some Ending.NotAStore }
         ensures not_the_words { result ≢ Some Ending.BadWords }
     {
         let ended = answer(
@@ -104,23 +101,13 @@ pub fn replay<S: Source, K: Sink, D: Disk>(
 ) -> Ended<D>
     ensures runs { (s : State) (input : List ℕ) → StartsIn D.Watched disk s
         → S.left source.old ≡ Some input
-        → EndsRun D.Watched (ForSome (D.told disk) HasSomeFile) (DiskEndsFromStart D.Watched disk result.disk)
+        → EndsRun D.Watched ⊥ (DiskEndsFromStart D.Watched disk result.disk)
         (script_of s 0 input) (outside S.Source K.Sink source.old sink.old disk)
         (outside S.Source K.Sink source.new sink.new result.disk) result.ending }
     ensures source_faults { CountsFaultsOf TheSource (Some result.ending) (S.faults source.old) (S.faults source.new) }
     ensures sink_faults { CountsFaultsOf TheSink (Some result.ending) (K.faults sink.old) (K.faults sink.new) }
     ensures disk_faults { CountsFaultsOf TheDisk (Some result.ending) (D.faults disk) (D.faults result.disk) }
     ensures not_the_words { result.ending ≢ Ending.BadWords }
-
-    // The run ends as no store only where anything stands, also a store, and there always, unless a fault or want of
-    // memory comes first. Then nothing was changed or read, and the last line is all that is printed.
-    ensures not_a_store { result.ending ≡ Ending.NotAStore
-        → ForSome (D.told disk) HasSomeFile × IsAsBefore D.Watched disk result.disk
-        × (source.new ≡ source.old)
-        × FinishesBy K.Sink sink.old sink.new Ending.NotAStore result.ending }
-    ensures occupied { (state : DiskState) → D.told disk ≡ Some state → HasSomeFile state
-        → EndsUnopened K.Sink sink.old sink.new result.ending × (source.new ≡ source.old)
-        × IsAsBefore D.Watched disk result.disk }
 {
     match Replayer::new(alloc, disk) {
         Ok(replayer) => answer_lines(alloc, source, sink, replayer),
@@ -136,9 +123,8 @@ fn finish_unopened<K: Sink>(sink: &mut K, why: Why) -> Ending
     ensures { FinishesBy K.Sink sink.old sink.new (ending_unopened why) result }
 {
     match why {
-        Why::NotAStore => finish(sink, NOT_A_STORE, Ending::NotAStore),
-        Why::NoMemory => finish(sink, NO_MEMORY, Ending::NoMemory),
-        Why::Disk => finish(sink, DISK_FAULT, Ending::DiskFault),
+        Why::Disk { .. } => finish(sink, DISK_FAULT, Ending::DiskFault),
+        _ => finish(sink, NO_MEMORY, Ending::NoMemory),
     }
 }
 
@@ -157,7 +143,6 @@ fn answer_lines<S: Source, K: Sink, D: Disk>(
     ensures source_faults { CountsFaultsOf TheSource (Some result.ending) (S.faults source.old) (S.faults source.new) }
     ensures sink_faults { CountsFaultsOf TheSink (Some result.ending) (K.faults sink.old) (K.faults sink.new) }
     ensures disk_faults { CountsFaultsOf TheDisk (Some result.ending) (D.faults replayer.disk) (D.faults result.disk) }
-    ensures not_the_files { result.ending ≢ Ending.NotAStore }
     ensures not_the_words { result.ending ≢ Ending.BadWords }
 {
     let Ok(buffer) = Buffer::new(alloc) else {
