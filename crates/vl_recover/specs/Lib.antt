@@ -4,11 +4,14 @@ pub mod Answers
 pub mod AppendLaws
 pub mod Held
 pub mod HeldLaws
+pub mod LastFiles
 pub mod LastLaws
 pub mod LeadsLaws
 pub mod LogsLaws
 pub mod Mending
+pub mod MendingAgain
 pub mod MendingLaws
+pub mod MendingMayOpen
 pub mod MendingOpens
 pub mod MendingStages
 pub mod MendingStart
@@ -27,4 +30,5 @@ pub mod Starts
 pub mod StraysLaws
 pub mod Torn
 pub mod TornFrames
+pub mod TornManifest
 pub mod Walk
