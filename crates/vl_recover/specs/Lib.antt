@@ -2,6 +2,9 @@ pub mod Alike
 pub mod AlikeLaws
 pub mod Answers
 pub mod AppendLaws
+pub mod Deciding
+pub mod Finding
+pub mod Fitting
 pub mod Held
 pub mod HeldLaws
 pub mod LastFiles
@@ -19,6 +22,7 @@ pub mod MendingSteps
 pub mod OneName
 pub mod Opening
 pub mod OpeningLaws
+pub mod PlanViews
 pub mod Plans
 pub mod ReadImage
 pub mod RecoveredLaws
@@ -27,6 +31,7 @@ pub mod Rows
 pub mod StageLaws
 pub mod Stages
 pub mod Starts
+pub mod Steps
 pub mod StraysLaws
 pub mod Torn
 pub mod TornFrames
