@@ -13,6 +13,7 @@ pub mod OpenedRuns
 pub mod Outcomes
 pub mod Pending
 pub mod Places
+pub mod Recovering
 pub mod Starting
 pub mod States
 pub mod Stepping
