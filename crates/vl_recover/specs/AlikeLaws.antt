@@ -26,9 +26,6 @@ use Rattle.vl_recover.specs.Walk.{LogDamage, StandingLog, counted, counted_whole
 pub same_state : (s : ManifestState) → SameState s s
 same_state s = record { levels = refl; head = refl; covered = refl }
 
-pub state_back : (a b : ManifestState) → SameState a b → SameState b a
-state_back a b same = record { levels = sym same.levels; head = sym same.head; covered = sym same.covered }
-
 pub state_then : (a b c : ManifestState) → SameState a b → SameState b c → SameState a c
 state_then a b c p q =
     record { levels = p.levels ∙ q.levels; head = p.head ∙ q.head; covered = p.covered ∙ q.covered }
@@ -151,17 +148,6 @@ module _ (image other : Image) where
         (λ (e : Manifest n ≡ Manifest k). let is : n ≡ k = manifest_same n k e in omega (arith, is))
         (λ (apart : Manifest n ≢ Manifest k). below n others (readable_still k n others same apart r))
         (same_or_other (Manifest n) (Manifest k));
-  }
-
-  -- The current manifest stays when another one goes.
-  pub led_without : (k n : ℕ) (bytes : List ℕ) → SameBut (Manifest k) image other
-      → get image (Manifest k) ≡ None → k ≢ n → IsCurrent other n bytes → IsCurrent image n bytes
-  led_without k n bytes same gone apart current = record {
-    here = readable_again k n bytes same (λ e. apart (sym (manifest_same n k e))) current.here;
-    greatest = λ m others r. ⊎_elim
-        (λ (e : Manifest m ≡ Manifest k). absurd (some_none others (sym r.stands ∙ ap (get image) e ∙ gone)))
-        (λ (away : Manifest m ≢ Manifest k). current.greatest m others (readable_still k m others same away r))
-        (same_or_other (Manifest m) (Manifest k));
   }
 
 -- ---- logs
@@ -318,7 +304,8 @@ module _ (image other : Image) where
         let not_less : k < q.number → ⊥ =
         λ less. some_none both.was (sym both.stood ∙ next.between k from less) in
         let not_here : k ≡ q.number → ⊥ =
-        λ e. (let up = after.from in some_none after.bytes (sym after.stands ∙ none_above p.number (omega (arith, e, up)))) in
+        λ e. (let up = after.from in some_none after.bytes
+        (sym after.stands ∙ none_above p.number (omega (arith, e, up)))) in
         let above : q.number < k = omega (arith, not_less, not_here) in
         behind_one least q p ps (λ m a b. same_log m (omega (arith, b, above))) next
         (last_alike both (q.number + 1) (p ∷ ps) (omega (arith, above)) (after, rest))
@@ -470,7 +457,8 @@ module _ (image other : Image) where
   pub like_logs : (n : ℕ) (bytes : List ℕ) → IsCurrent other n bytes → IsCurrent image n bytes
       → ((s : ManifestState) (logs : List StandingLog) → Says (Led n bytes) (Ok s)
       → StandingLogs other s.head logs → Alike image s.head logs) → OpensLike image other
-  like_logs n bytes was now alike = like_by image other (λ o is. by o is (alike o.state is.standing (says o is) is.by.standing))
+  like_logs n bytes was now alike = like_by image other
+      (λ o is. by o is (alike o.state is.standing (says o is) is.by.standing))
     where
       says : (o : Opening) → IsOpened other o → Says (Led n bytes) (Ok o.state)
       says o is = says_as n bytes was (Ok o.state) (is.heading, is.by.headed, is.by.says)

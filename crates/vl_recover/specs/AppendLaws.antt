@@ -1,5 +1,5 @@
 -- A held store whose last log takes one frame more: what a crash leaves meanwhile, and what the disk holds then.
-use Rattle.std.specs.Prelude.{Bool, ◌≡◌, ◌≢◌, ◌⊎◌, ◌≤◌, ◌<◌, ℕ, ◌+◌, ◌==◌, List, [], ◌∷◌, ◌++◌, length, map, take, Option, None, Some, Result, Ok, Err, All, refl, true, false, if◌then◌else◌}
+use Rattle.std.specs.Prelude.{Bool, ◌≡◌, ◌≢◌, ◌⊎◌, ◌≤◌, ◌<◌, ℕ, ◌+◌, ◌==◌, List, [], ◌∷◌, ◌++◌, length, map, take, Option, None, Some, Result, Ok, Err, refl, true, if◌then◌else◌}
 use Rattle.std.specs.FinMap.{get}
 use Rattle.std.specs.List.{AllByRecursion, sum_by}
 use Rattle.std.specs.Option.{option_map}
@@ -9,9 +9,9 @@ use Rattle.std.proofs.lemmas.Bool.Decides.{nat_tests}
 use Rattle.std.proofs.lemmas.List.{map-append, take_all, take_at}
 use Rattle.std.proofs.lemmas.List.Sums.{sum_by-cons}
 use Rattle.vl_disk.specs.Changes.{SameElsewhere, changed_elsewhere, changed_there}
-use Rattle.vl_disk.specs.Chance.{NoChanceOne, none_by_chance}
-use Rattle.vl_disk.specs.Crash.{Agrees, Image, MayLeave, MayLeaveOne, WhileAppending, WhileSyncing, last_file}
-use Rattle.vl_disk.specs.DiskState.{DiskState, File, IsLawful, Piece, appended, lengthened, settled, synced, synced_file}
+use Rattle.vl_disk.specs.Chance.{none_by_chance}
+use Rattle.vl_disk.specs.Crash.{Image, MayLeave, MayLeaveOne, WhileAppending, WhileSyncing, last_file}
+use Rattle.vl_disk.specs.DiskState.{DiskState, File, IsLawful, appended, lengthened, settled, synced, synced_file}
 use Rattle.vl_disk.specs.Lawful.{appended_lawful, synced_lawful}
 use Rattle.vl_disk.specs.NameMap.{same_or_other}
 use Rattle.vl_disk.specs.declared.name.Name.{Name}
@@ -28,12 +28,14 @@ use Rattle.vl_recover.specs.Alike.{IsLeft, Spells}
 use Rattle.vl_recover.specs.AlikeLaws.{log_manifest, log_same, standing_log}
 use Rattle.vl_recover.specs.Held.{AllSettled, HoldsLogs, HoldsManifest, HoldsStore, IsNowhere, IsSettled}
 use Rattle.vl_recover.specs.HeldLaws.{AllMayStand, AreSealed, GoOn, MayStand, held_current, held_may_open, held_opens, held_says, left_nowhere, left_settled, log_as_held, may_open_by, none_removed, opening_held, settled_may_stand}
+use Rattle.vl_recover.specs.LeadsLaws.{nowhere_kept}
+use Rattle.vl_recover.specs.OneName.{elsewhere_then}
 use Rattle.vl_recover.specs.Opening.{Led, Opens, StandingLogs}
-use Rattle.vl_recover.specs.OpeningLaws.{opens_by, some_none, some_same}
+use Rattle.vl_recover.specs.OpeningLaws.{opens_by, some_same}
 use Rattle.vl_recover.specs.StageLaws.{err_ok, ok_same, ok_with}
 use Rattle.vl_recover.specs.Starts.{MayOpen}
 use Rattle.vl_recover.specs.Stages.{on_ok}
-use Rattle.vl_recover.specs.TornLaws.{due_as_read, frame_behind, torn_log, torn_says}
+use Rattle.vl_recover.specs.TornFrames.{due_as_read, frame_behind, torn_log, torn_says}
 use Rattle.vl_recover.specs.Walk.{LogDamage, StandingLog, counted, counted_frame, counted_whole, filled, in_log, walked, walked_on, with_frames}
 use Rattle.vl_seglog.specs.FrameLaws.{length-log_header, log_bytes-more}
 use Rattle.vl_seglog.specs.Frames.{frames_grammar, log_bytes, log_header}
@@ -41,13 +43,6 @@ use Rattle.vl_seglog.specs.LogReading.{HasHeader, LogReading, ReadsLog}
 use Rattle.vl_seglog.specs.LogReadingLaws.{SaysFrames, reads_written}
 
 -- ---- what is the same under the other names
-
-pub nowhere_kept : (name : Name) (disk now : DiskState) → SameElsewhere name disk now → (other : Name) → other ≢ name
-    → IsNowhere disk other → IsNowhere now other
-nowhere_kept name disk now same other apart nowhere = record {
-  free = same.standing other apart ∙ nowhere.free;
-  never = same.removed other apart ∙ nowhere.never;
-}
 
 pub manifest_kept : (log : ℕ) (state : ManifestState) (disk now : DiskState) → SameElsewhere (Log log) disk now
     → HoldsManifest state disk → HoldsManifest state now
@@ -110,8 +105,10 @@ logs_with least (s ∷ before) last other disk now same elsewhere has there (fro
     )
 
 -- What is left has the same logs before the last, however that one reads.
-module _ (last : Segment) (disk now : DiskState) (image : Image) (elsewhere : SameElsewhere (Log last.number) disk now)
-    (may : MayLeave now image) (bytes : List ℕ) (reading : LogReading) (left : get image (Log last.number) ≡ Some bytes)
+module _ (last : Segment) (disk now : DiskState) (image : Image)
+    (elsewhere : SameElsewhere (Log last.number) disk now)
+    (may : MayLeave now image) (bytes : List ℕ) (reading : LogReading)
+    (left : get image (Log last.number) ≡ Some bytes)
     (reads : ReadsLog last.number bytes reading) where
   none_left : (m : ℕ) → (m ≡ last.number → ⊥) → IsNowhere disk (Log m) → get image (Log m) ≡ None
   none_left m apart nowhere = left_nowhere now image (Log m)
@@ -153,7 +150,8 @@ pub counted_more : (n place : ℕ) (fs : List LogFrame) (f : LogFrame) (m next :
 counted_more n place [] f m next e one =
     let here : place + 0 ≡ place = omega arith in
     let same : n ≡ m = ok_same {E = ℕ} n m e in
-    ap (on_ok (λ (k : ℕ). Ok k)) (ap (λ (k : ℕ). counted_frame k place f) same ∙ ap (λ (p : ℕ). counted_frame m p f) (sym here) ∙ one)
+    ap (on_ok (λ (k : ℕ). Ok k))
+    (ap (λ (k : ℕ). counted_frame k place f) same ∙ ap (λ (p : ℕ). counted_frame m p f) (sym here) ∙ one)
 counted_more n place (g ∷ fs) f m next e one =
     let after = place + frame_length g in
     let there : place + sum_by frame_length (g ∷ fs) ≡ after + sum_by frame_length fs =
@@ -163,14 +161,16 @@ counted_more n place (g ∷ fs) f m next e one =
     (counted_frame n place g) e
 
 -- a commit with the next number goes on
-pub commit_counts : (n place : ℕ) (writes : List (List ℕ × Change)) → counted_frame n place (Committed (n + 1) writes) ≡ Ok (n + 1)
+pub commit_counts : (n place : ℕ) (writes : List (List ℕ × Change))
+    → counted_frame n place (Committed (n + 1) writes) ≡ Ok (n + 1)
 commit_counts n place writes =
     let same : (n + 1 == n + 1) ≡ true = grind (arith, nat_tests) in
     ap (λ (b : Bool). if b then Ok (n + 1) else Err place) same
 
 -- logs go on with the last of them
 pub walked_with : (a b : StandingLog) (number next : ℕ)
-    → ((m : ℕ) → in_log a.number (counted m 16 a.reading.frames) ≡ Ok number → in_log b.number (counted m 16 b.reading.frames) ≡ Ok next)
+    → ((m : ℕ) → in_log a.number (counted m 16 a.reading.frames) ≡ Ok number
+    → in_log b.number (counted m 16 b.reading.frames) ≡ Ok next)
     → (n : ℕ) (logs : List StandingLog) → walked n (logs ++ a ∷ []) ≡ Ok number → walked n (logs ++ b ∷ []) ≡ Ok next
 walked_with a b number next last n [] e = last n e
 walked_with a b number next last n (q ∷ []) e =
@@ -180,10 +180,12 @@ walked_with a b number next last n (q ∷ p ∷ logs) e =
     ok_with (λ m. walked_on m p (logs ++ a ∷ [])) (λ m. walked_on m p (logs ++ b ∷ [])) number next
     (λ m. walked_with a b number next last m (p ∷ logs)) (in_log q.number (counted_whole n q.reading)) e
 
-filled_with : (a b : StandingLog) → a.number ≡ b.number → a.reading.frames ≡ b.reading.frames → (logs : List StandingLog)
+filled_with : (a b : StandingLog) → a.number ≡ b.number → a.reading.frames ≡ b.reading.frames
+    → (logs : List StandingLog)
     → filled (logs ++ a ∷ []) ≡ filled (logs ++ b ∷ [])
 filled_with a b number frames [] = λ i. with_frames (number i) (frames i) []
-filled_with a b number frames (q ∷ logs) = ap (with_frames q.number q.reading.frames) (filled_with a b number frames logs)
+filled_with a b number frames (q ∷ logs) =
+    ap (with_frames q.number q.reading.frames) (filled_with a b number frames logs)
 
 logs_as_held : (before : List Segment) (last : Segment)
     → map log_as_held (before ++ last ∷ []) ≡ map log_as_held before ++ log_as_held last ∷ []
@@ -199,7 +201,8 @@ pub goes_on : (covered : ℕ) (before : List Segment) (last : Segment) (f : LogF
     → GoOn covered (before ++ with_frame f last ∷ []) next
 goes_on covered before last f number next goes one =
     subst (λ (l : List StandingLog). walked covered l ≡ Ok next) (sym (logs_as_held before (with_frame f last)))
-    (walked_with (log_as_held last) (log_as_held (with_frame f last)) number next counts covered (map log_as_held before)
+    (walked_with (log_as_held last) (log_as_held (with_frame f last)) number next counts covered
+    (map log_as_held before)
     (subst (λ (l : List StandingLog). walked covered l ≡ Ok number) (logs_as_held before last) goes))
   where
     in_ok : (w : Result ℕ ℕ) → in_log last.number w ≡ Ok number → w ≡ Ok number
@@ -208,7 +211,9 @@ goes_on covered before last f number next goes one =
 
     counts : (m : ℕ) → in_log last.number (counted m 16 last.frames) ≡ Ok number
         → in_log last.number (counted m 16 (last.frames ++ f ∷ [])) ≡ Ok next
-    counts m e = ap (in_log last.number) (counted_more m 16 last.frames f number next (in_ok (counted m 16 last.frames) e) one)
+    counts m e =
+        let so_far = in_ok (counted m 16 last.frames) e in
+        ap (in_log last.number) (counted_more m 16 last.frames f number next so_far one)
 
 -- ---- while the frame is appended and made durable
 
@@ -222,12 +227,6 @@ have_more : (fs : List LogFrame) (f : LogFrame) → AllByRecursion (HasFrame fra
     → HasFrame frames_grammar f → AllByRecursion (HasFrame frames_grammar) (fs ++ f ∷ [])
 have_more [] f have has = (has, tt)
 have_more (g ∷ fs) f have has = (have.0, have_more fs f have.1 has)
-
-elsewhere_then : (name : Name) (a b c : DiskState) → SameElsewhere name a b → SameElsewhere name b c → SameElsewhere name a c
-elsewhere_then name a b c p q = record {
-  standing = λ other apart. q.standing other apart ∙ p.standing other apart;
-  removed = λ other apart. q.removed other apart ∙ p.removed other apart;
-}
 
 -- of a disk that holds a store, and a frame for its last log
 module _ (state : ManifestState) (before : List Segment) (last : Segment) (f : LogFrame) (disk : DiskState)
@@ -257,8 +256,9 @@ module _ (state : ManifestState) (before : List Segment) (last : Segment) (f : L
 
   durable_there : IsSettled durable name (log_bytes last.number (last.frames ++ f ∷ []))
   durable_there =
-      let all : log_bytes last.number last.frames ++ take (length frame) frame ≡ log_bytes last.number (last.frames ++ f ∷ []) =
-      ap (λ (b : List ℕ). log_bytes last.number last.frames ++ b) (take_all (length frame) frame (omega arith))
+      let old = log_bytes last.number last.frames in
+      let all : old ++ take (length frame) frame ≡ log_bytes last.number (last.frames ++ f ∷ []) =
+      ap (λ (b : List ℕ). old ++ b) (take_all (length frame) frame (omega arith))
       ∙ sym (log_bytes-more last.number last.frames f) in
       changed_there name (torn (length frame)) synced_file ∙ ap (option_map synced_file) (torn_there (length frame))
       ∙ ap (λ (b : List ℕ). Some (settled b)) all
@@ -321,7 +321,8 @@ module _ (state : ManifestState) (before : List Segment) (last : Segment) (f : L
       )
 
   -- whatever the last log's frames are, the image opens with them
-  opens_with : (taken : ℕ) (image : Image) → MayLeave (torn taken) image → (bytes : List ℕ) → get image name ≡ Some bytes
+  opens_with : (taken : ℕ) (image : Image) → MayLeave (torn taken) image → (bytes : List ℕ)
+      → get image name ≡ Some bytes
       → (s : Segment) → s.number ≡ last.number → SaysFrames last.number bytes s.frames
       → (n : ℕ) → GoOn state.covered (before ++ s ∷ []) n
       → Opens image (Ok (opening_held state (before ++ s ∷ []) n))
@@ -337,7 +338,8 @@ module _ (state : ManifestState) (before : List Segment) (last : Segment) (f : L
       (λ m e. ap (λ (k : ℕ). in_log k (counted m 16 s.frames)) (sym same) ∙ e) state.covered (map log_as_held before)
       (subst (λ (l : List StandingLog). walked state.covered l ≡ Ok n) (logs_as_held before s) goes) in
       let filled_same : filled logs ≡ filled (map log_as_held (before ++ s ∷ [])) =
-      filled_with found (log_as_held s) (sym same) refl (map log_as_held before) ∙ ap filled (sym (logs_as_held before s)) in
+      filled_with found (log_as_held s) (sym same) refl (map log_as_held before)
+      ∙ ap filled (sym (logs_as_held before s)) in
       subst (λ (l : List Segment). Opens image (Ok (record { state = state; logs = l; number = n }))) filled_same
       (opens_by image (Led held.number held.bytes) state logs n (record {
         headed = held_current state (torn taken) held image may;
@@ -371,7 +373,8 @@ module _ (state : ManifestState) (before : List Segment) (last : Segment) (f : L
         during
 
     -- So does whatever it leaves while the frame is made durable.
-    pub sync_leaves : (now : DiskState) → WhileSyncing name (torn (length frame)) now → (image : Image) → IsLeft now image
+    pub sync_leaves : (now : DiskState) → WhileSyncing name (torn (length frame)) now → (image : Image)
+        → IsLeft now image
         → OpensEither state before last f number next image
     sync_leaves now during image left = ⊎_elim
         (λ (same : now ≡ torn (length frame)).
@@ -411,7 +414,8 @@ module _ (state : ManifestState) (before : List Segment) (last : Segment) (f : L
         (sym (torn_there taken) ∙ ap (get (torn taken).standing) (sym same) ∙ stands) in
         subst (λ (n : Name). MayStand n file) (sym same) (subst (MayStand name) is (torn_may_stand taken)))
         (λ (apart : q ≢ name).
-        subst (MayStand q) (sym (other_settled (torn taken) (torn_elsewhere taken) q file apart stands)) (settled_may_stand q file.bytes))
+        subst (MayStand q) (sym (other_settled (torn taken) (torn_elsewhere taken) q file apart stands))
+        (settled_may_stand q file.bytes))
         (same_or_other q name)
 
     torn_sealed : (taken : ℕ) → AreSealed state.head (torn taken)
@@ -431,7 +435,8 @@ module _ (state : ManifestState) (before : List Segment) (last : Segment) (f : L
     torn_may_open taken =
         may_open_by state (torn taken) (appended_lawful disk lawful name frame taken)
         (manifest_kept last.number state disk (torn taken) (torn_elsewhere taken) holds.manifest)
-        (none_removed state.head (before ++ last ∷ []) disk lawful holds.logs_are) (torn_all_stand taken) (torn_sealed taken)
+        (none_removed state.head (before ++ last ∷ []) disk lawful holds.logs_are) (torn_all_stand taken)
+        (torn_sealed taken)
 
     -- Where the append failed, a store may be opened on the same disk again,
     pub append_may_open : (now : DiskState) → WhileAppending name frame disk now → MayOpen now

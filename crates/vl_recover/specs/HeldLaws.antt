@@ -1,7 +1,7 @@
--- What a crash leaves of a disk that holds a store opens as that store, and the store may be opened again on the same disk.
-use Rattle.std.specs.Prelude.{◌≡◌, ◌≢◌, ◌⊎◌, ◌≤◌, ◌<◌, ℕ, ◌+◌, List, [], ◌∷◌, ◌++◌, length, map, Option, None, Some, Result, Ok, Err, All, refl, true, false, IsTrue}
+-- What a crash leaves of a disk that holds a store opens as that store, which may be opened again on the same
+-- disk.
+use Rattle.std.specs.Prelude.{◌≡◌, ◌≢◌, ◌⊎◌, ◌≤◌, ◌<◌, ℕ, ◌+◌, List, [], ◌∷◌, length, map, Option, None, Some, Ok, All, refl, true, false}
 use Rattle.std.specs.FinMap.{get}
-use Rattle.std.specs.List.{AllByRecursion}
 use Rattle.std.specs.Option.{option_map}
 use Rattle.std.proofs.Common.{sym, ap, subst, ◌∙◌, arith, ⊎_elim}
 use Rattle.std.proofs.lemmas.Bool.{cases_lt, true≢false}
@@ -12,7 +12,6 @@ use Rattle.vl_disk.specs.DiskState.{DiskState, File, IsLawful, Piece, settled}
 use Rattle.vl_disk.specs.Started.{IsRead, Started, read_left, started_left}
 use Rattle.vl_disk.specs.declared.name.Name.{Name}
 use Rattle.vl_disk.specs.declared.name.Name.TheVariants.{Log, Manifest}
-use Rattle.vl_frame.specs.Runs.{HasFrame}
 use Rattle.vl_layout.specs.declared.segment.Segment.{Segment}
 use Rattle.vl_manifest.specs.Current.{IsCurrent, StandsReadable}
 use Rattle.vl_manifest.specs.ManifestLaws.{says_readable}
@@ -21,11 +20,11 @@ use Rattle.vl_recover.specs.Alike.{IsLeft, SameState, Spells}
 use Rattle.vl_recover.specs.AlikeLaws.{same_state, standing_log}
 use Rattle.vl_recover.specs.Held.{AllSettled, HoldsLogs, HoldsManifest, HoldsStore, IsNowhere, IsSettled}
 use Rattle.vl_recover.specs.Opening.{Led, Opening, Opens, Refusal, Says, StandingLogs}
-use Rattle.vl_recover.specs.OpeningLaws.{IsOpened, OpensBy, opened, opens_by, single_opening, single_says, one_heading, some_none, some_same}
+use Rattle.vl_recover.specs.OpeningLaws.{IsOpened, opened, opens_by, single_opening, single_says, one_heading, some_none, some_same}
 use Rattle.vl_recover.specs.StageLaws.{ok_same}
 use Rattle.vl_recover.specs.Starts.{MayOpen}
 use Rattle.vl_recover.specs.Walk.{StandingLog, filled, walked}
-use Rattle.vl_seglog.specs.Frames.{frames_grammar, log_bytes}
+use Rattle.vl_seglog.specs.Frames.{log_bytes}
 use Rattle.vl_seglog.specs.LogReading.{LogReading, ReadsLog}
 use Rattle.vl_seglog.specs.LogReadingLaws.{reads_written}
 
@@ -83,9 +82,11 @@ module _ (state : ManifestState) (disk : DiskState) (holds : HoldsManifest state
     where
       by : IsOpened image o → o.state ≡ state
       by is =
-          let heading = one_heading image is.heading (Led holds.number holds.bytes) is.by.headed (held_current image may) in
+          let heading = one_heading image is.heading (Led holds.number holds.bytes) is.by.headed
+          (held_current image may) in
           let says = subst (λ h. Says h (Ok o.state)) heading is.by.says in
-          ok_same {E = Refusal} o.state state (single_says (Led holds.number holds.bytes) (Ok o.state) (Ok state) says held_says)
+          ok_same {E = Refusal} o.state state
+          (single_says (Led holds.number holds.bytes) (Ok o.state) (Ok state) says held_says)
 
   held_same : (image other : Image) (o p : Opening) → MayLeave disk image → Opens image (Ok o)
       → MayLeave disk other → Opens other (Ok p) → SameState o.state p.state
@@ -97,7 +98,8 @@ module _ (state : ManifestState) (disk : DiskState) (holds : HoldsManifest state
 
 -- a log as it stands that is held: whole
 abbrev pub log_as_held : Segment → StandingLog
-log_as_held s = standing_log s.number (log_bytes s.number s.frames) (record { header = true; frames = s.frames; whole = true })
+log_as_held s = standing_log s.number (log_bytes s.number s.frames)
+    (record { header = true; frames = s.frames; whole = true })
 
 -- their commits go on from a number to another
 abbrev pub GoOn : ℕ → List Segment → ℕ → Type 0
@@ -135,6 +137,13 @@ held_opens state logs number disk holds goes image may =
       walk = goes;
     })
 
+-- So does what reads give.
+pub held_reads : (state : ManifestState) (logs : List Segment) (number : ℕ) (disk : DiskState)
+    → HoldsStore state logs disk → GoOn state.covered logs number
+    → (read : Image) → IsRead read disk → Opens read (Ok (opening_held state logs number))
+held_reads state logs number disk holds goes read is =
+    held_opens state logs number disk holds goes read (read_left read disk is)
+
 -- ---- a store may be opened again
 
 -- no log was removed from a number on
@@ -146,7 +155,8 @@ none_removed least (s ∷ ss) disk lawful (up, between, have, stands, rest) m fr
     (λ (above : s.number ≤ m). ⊎_elim
     (λ (beyond : s.number < m). none_removed (s.number + 1) ss disk lawful rest m (omega (arith, beyond)))
     (λ (at : m ≤ s.number). let same : m ≡ s.number = omega (arith, above, at) in
-    lawful.apart (Log m) (settled (log_bytes s.number s.frames)) (ap (λ (n : ℕ). get disk.standing (Log n)) same ∙ stands))
+    lawful.apart (Log m) (settled (log_bytes s.number s.frames))
+    (ap (λ (n : ℕ). get disk.standing (Log n)) same ∙ stands))
     (cases_lt s.number m))
     (cases_lt m s.number)
 
@@ -188,8 +198,10 @@ read_is_left disk may_stand read is = record {
         absurd (some_none bytes (e ∙ ap (option_map (λ (f : File). f.bytes)) stands))
     of name (Some file) stands removed None e = tt
     of name (Some file) stands removed (Some bytes) e =
-        let same : bytes ≡ file.bytes = some_same bytes file.bytes (e ∙ ap (option_map (λ (f : File). f.bytes)) stands) in
-        subst (λ (b : List ℕ). NoChanceOne Spells name (Some file) (Some b)) (sym same) (may_stand name file stands).no_chance
+        let same : bytes ≡ file.bytes = some_same bytes file.bytes
+        (e ∙ ap (option_map (λ (f : File). f.bytes)) stands) in
+        subst (λ (b : List ℕ). NoChanceOne Spells name (Some file) (Some b)) (sym same)
+        (may_stand name file stands).no_chance
 
 -- A store may be opened on a disk that holds a manifest above all that were removed, and from its head on no log
 -- was removed.
@@ -200,22 +212,30 @@ may_open_by state disk lawful holds never may_stand sealed = record {
   as_read = read_is_left disk may_stand;
   says = λ read before o p is opens left opens_too.
       held_same state disk holds read before o p (read_left read disk is) opens left.left opens_too;
-  manifests = λ m gone. (holds.number, below m gone (cases_lt m holds.number),
-      λ none. some_none (settled holds.bytes) (sym holds.stands ∙ none));
+  manifests = λ m gone. (
+    holds.number,
+    below m gone (cases_lt m holds.number),
+    λ none. some_none (settled holds.bytes) (sym holds.stands ∙ none),
+  );
   logs = λ read o is opens m from.
-      never m (subst (λ (s : ManifestState). s.head ≤ m) (held_state state disk holds read o (read_left read disk is) opens) from);
-  headless = λ m file reading stands reads header. (may_stand (Log m) file stands).headless m reading refl reads header;
+      never m (subst (λ (s : ManifestState). s.head ≤ m)
+      (held_state state disk holds read o (read_left read disk is) opens) from);
+  headless = λ m file reading stands reads header.
+      (may_stand (Log m) file stands).headless m reading refl reads header;
   sealed = λ read o is opens m k file from.
-      sealed m k file (subst (λ (s : ManifestState). s.head ≤ m) (held_state state disk holds read o (read_left read disk is) opens) from);
+      sealed m k file
+      (subst (λ (s : ManifestState). s.head ≤ m) (held_state state disk holds read o (read_left read disk is) opens) from);
 }
   where
-    below : (m : ℕ) → get disk.removed (Manifest m) ≢ None → (m < holds.number) ⊎ (holds.number ≤ m) → m < holds.number
+    below : (m : ℕ) → get disk.removed (Manifest m) ≢ None → (m < holds.number) ⊎ (holds.number ≤ m)
+        → m < holds.number
     below m gone either = ⊎_elim
         (λ (less : m < holds.number). less)
         (λ (more : holds.number ≤ m). absurd (gone (⊎_elim
         (λ (above : holds.number < m). (holds.above m above).never)
         (λ (at : m ≤ holds.number). let same : m ≡ holds.number = omega (arith, more, at) in
-        lawful.apart (Manifest m) (settled holds.bytes) (ap (λ (n : ℕ). get disk.standing (Manifest n)) same ∙ holds.stands))
+        lawful.apart (Manifest m) (settled holds.bytes)
+        (ap (λ (n : ℕ). get disk.standing (Manifest n)) same ∙ holds.stands))
         (cases_lt holds.number m))))
         either
 

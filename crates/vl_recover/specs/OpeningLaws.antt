@@ -136,8 +136,11 @@ opening_apart : (state : ManifestState) (logs : List StandingLog) (walk : Result
     → (walk ≡ Ok o.number) × (o.state ≡ state) × (o.logs ≡ filled logs)
 opening_apart state logs (Ok number) o e =
     let same : o ≡ record { state = state; logs = filled logs; number = number } =
-    ok_same o (record { state = state; logs = filled logs; number = number }) e in
-    (ap Ok (sym (ap (λ (x : Opening). x.number) same)), ap (λ (x : Opening). x.state) same, ap (λ (x : Opening). x.logs) same)
+    ok_same o (record { state = state; logs = filled logs; number = number }) e in (
+      ap Ok (sym (ap (λ (x : Opening). x.number) same)),
+      ap (λ (x : Opening). x.state) same,
+      ap (λ (x : Opening). x.logs) same,
+    )
 opening_apart state logs (Err damage) o e = absurd (ok_err o _ e)
 
 -- An opening taken apart.

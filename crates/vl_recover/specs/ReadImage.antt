@@ -1,6 +1,6 @@
 -- Each disk has the image that reads give.
-use Rattle.std.specs.Prelude.{◌≡◌, ℕ, Bool, true, false, cond, List, [], ◌∷◌, Option, None, Some, refl}
-use Rattle.std.specs.FinMap.{entries, find, from_entries, get, get-entries, get-from_entries}
+use Rattle.std.specs.Prelude.{◌≡◌, ℕ, Bool, true, false, cond, List, [], ◌∷◌, Option, Some, refl}
+use Rattle.std.specs.FinMap.{entries, find, from_entries, get-entries, get-from_entries}
 use Rattle.std.specs.Option.{option_map}
 use Rattle.std.specs.Ordering.{eq_by_cmp}
 use Rattle.std.proofs.Common.{sym, ap, ◌∙◌}
@@ -27,14 +27,16 @@ found_bytes : (name : Name) (es : List (Name × File))
 unfolding with_bytes
 found_bytes name [] = refl
 found_bytes name (e ∷ es) =
-    found_one e.1 (find name_cmp name (with_bytes es)) (find name_cmp name es) (eq_by_cmp name_cmp name e.0) (found_bytes name es)
+    found_one e.1 (find name_cmp name (with_bytes es)) (find name_cmp name es) (eq_by_cmp name_cmp name e.0)
+    (found_bytes name es)
 
 pub read_image : (disk : DiskState) → (image : Image) × IsRead image disk
 read_image disk = (
   from_entries (with_bytes (entries disk.standing)),
   record {
     each = λ name.
-        get-from_entries name_cmp_total (with_bytes (entries disk.standing)) name ∙ found_bytes name (entries disk.standing)
+        get-from_entries name_cmp_total (with_bytes (entries disk.standing)) name
+        ∙ found_bytes name (entries disk.standing)
         ∙ sym (ap bytes_of (get-entries disk.standing name));
   },
 )

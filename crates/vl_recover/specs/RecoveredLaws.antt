@@ -1,12 +1,11 @@
 -- The store that an opening leaves opens as what the opening found.
-use Rattle.std.specs.Prelude.{◌≡◌, ℕ, ◌+◌, max, Bool, true, false, if◌then◌else◌, List, [], ◌∷◌, ◌++◌, map, Option, None, Some, Result, Ok, Err, refl}
+use Rattle.std.specs.Prelude.{◌≡◌, ℕ, Bool, true, false, if◌then◌else◌, List, [], ◌∷◌, ◌++◌, map, Option, None, Some, Result, Ok, Err, refl}
 use Rattle.std.proofs.Common.{sym, ap, subst, ◌∙◌}
 use Rattle.std.proofs.lemmas.List.{append-nil}
 use Rattle.vl_disk.specs.Crash.{Image, MayLeave}
 use Rattle.vl_disk.specs.DiskState.{DiskState}
 use Rattle.vl_layout.specs.Logs.{log_length, new_segment}
 use Rattle.vl_layout.specs.declared.segment.Segment.{Segment}
-use Rattle.vl_model.specs.declared.log_frame.LogFrame.{LogFrame}
 use Rattle.vl_recover.specs.Alike.{ShowsAs}
 use Rattle.vl_recover.specs.AlikeLaws.{walk_more, whole_log}
 use Rattle.vl_recover.specs.Answers.{Finds, and_made, as_segment, logs_then}
@@ -33,7 +32,8 @@ all_mended logs = map log_as_held (map as_segment logs)
 count_kept : (n m : ℕ) (r : LogReading) → counted_whole n r ≡ Ok m → counted n 16 r.frames ≡ Ok m
 count_kept n m r e = by r.header e
   where
-    ends : (whole : Bool) (k : ℕ) → (if whole then Ok k else Err (log_length r.frames)) ≡ Ok m → ◌≡◌ {A = Result ℕ ℕ} (Ok k) (Ok m)
+    ends : (whole : Bool) (k : ℕ) → (if whole then Ok k else Err (log_length r.frames)) ≡ Ok m
+        → ◌≡◌ {A = Result ℕ ℕ} (Ok k) (Ok m)
     ends true k is = is
     ends false k is = absurd (err_ok (log_length r.frames) m is)
 
@@ -41,8 +41,9 @@ count_kept n m r e = by r.header e
     counts (Ok k) is = ends r.whole k is
     counts (Err place) is = absurd (err_ok place m is)
 
-    by : (header : Bool)
-        → (if header then on_ok (λ k. if r.whole then Ok k else Err (log_length r.frames)) (counted n 16 r.frames) else Err 0) ≡ Ok m
+    by : (header : Bool) → (if header
+        then on_ok (λ k. if r.whole then Ok k else Err (log_length r.frames)) (counted n 16 r.frames)
+        else Err 0) ≡ Ok m
         → counted n 16 r.frames ≡ Ok m
     by true is = counts (counted n 16 r.frames) is
     by false is = absurd (err_ok 0 m is)
@@ -58,12 +59,14 @@ log_kept log n m r e =
     inside (Err place) is = absurd (err_ok (record { log = log; place = place }) m is)
 
 -- mended logs go on as they did
-walk_kept : (n number : ℕ) (logs : List StandingLog) → walked n logs ≡ Ok number → walked n (all_mended logs) ≡ Ok number
+walk_kept : (n number : ℕ) (logs : List StandingLog) → walked n logs ≡ Ok number
+    → walked n (all_mended logs) ≡ Ok number
 walk_kept n number [] e = e
 walk_kept n number (q ∷ []) e = e
 walk_kept n number (q ∷ p ∷ logs) e =
-    let (m, first, rest) = ok_apart (λ m. walked_on m p logs) (in_log q.number (counted_whole n q.reading)) number e in
-    ap (on_ok (λ m. walked_on m (mended p) (all_mended logs))) (log_kept q.number n m q.reading first)
+    let first = in_log q.number (counted_whole n q.reading) in
+    let (m, is, rest) = ok_apart (λ m. walked_on m p logs) first number e in
+    ap (on_ok (λ m. walked_on m (mended p) (all_mended logs))) (log_kept q.number n m q.reading is)
     ∙ walk_kept m number (p ∷ logs) rest
 
 filled_kept : (logs : List StandingLog) → filled (all_mended logs) ≡ filled logs
@@ -77,7 +80,8 @@ walk_empty : (k n number : ℕ) (logs : List Segment) → walked n (map log_as_h
 walk_empty k n number [] e = e
 walk_empty k n number (s ∷ []) e = walk_more k n number s.number (log_as_held s).reading [] refl refl refl e
 walk_empty k n number (s ∷ t ∷ logs) e =
-    ok_with (λ m. walked m (map log_as_held (t ∷ logs))) (λ m. walked m (map log_as_held (t ∷ logs ++ new_segment k [] ∷ []))) number number
+    ok_with (λ m. walked m (map log_as_held (t ∷ logs)))
+    (λ m. walked m (map log_as_held (t ∷ logs ++ new_segment k [] ∷ []))) number number
     (λ m. walk_empty k m number (t ∷ logs)) (in_log s.number (counted_whole n (log_as_held s).reading)) e
 
 filled_empty : (k : ℕ) (logs : List Segment)
@@ -123,7 +127,8 @@ module _ {image : Image} (found : Finds image) where
   pub found_shows : ShowsAs (opening_held (new_state found.greatest o.state) (logs_then found) o.number) o
   found_shows = record {
     state = record { levels = refl; head = refl; covered = refl };
-    logs = filled_made made (map as_segment found.logs) ∙ filled_kept found.logs ∙ ap filled (sym same_logs) ∙ sym is_opened.logs_are;
+    logs = filled_made made (map as_segment found.logs) ∙ filled_kept found.logs ∙ ap filled (sym same_logs)
+        ∙ sym is_opened.logs_are;
     number = refl;
   }
 

@@ -1,4 +1,4 @@
--- Rows of openings that hold by computing: what logs give together, which numbers are given, and how many calls are made.
+-- Worked rows of openings, which hold by computing: what logs give together, new numbers, and calls.
 use Rattle.std.specs.Prelude.{◌≡◌, ℕ, Bool, true, false, List, [], ◌∷◌, None, Some, Ok, Err, refl}
 use Rattle.vl_layout.specs.Logs.{log_length, new_segment}
 use Rattle.vl_manifest.specs.States.{fresh_state}
@@ -7,7 +7,6 @@ use Rattle.vl_model.specs.declared.log_frame.LogFrame.{LogFrame}
 use Rattle.vl_model.specs.declared.log_frame.LogFrame.TheVariants.{Committed, Relocated}
 use Rattle.vl_recover.specs.Plans.{Greatest, active_log, calls_of_opening, exhausted, log_made, new_state}
 use Rattle.vl_recover.specs.Walk.{StandingLog, filled, walked}
-use Rattle.vl_seglog.specs.LogReading.{LogReading}
 
 -- ---- the logs
 
@@ -37,11 +36,13 @@ no_logs : walked 7 [] ≡ Ok 7
 no_logs = refl
 
 -- a gap comes before bytes behind it that are no frame
-gap_first : walked 0 (log 1 (commit 1 ∷ commit 3 ∷ []) false ∷ log 4 [] true ∷ []) ≡ Err (record { log = 1; place = 41 })
+gap_first : walked 0 (log 1 (commit 1 ∷ commit 3 ∷ []) false ∷ log 4 [] true ∷ [])
+    ≡ Err (record { log = 1; place = 41 })
 gap_first = refl
 
 -- such bytes come before a gap in the next log
-torn_first : walked 0 (log 1 (commit 1 ∷ []) false ∷ log 4 (commit 7 ∷ []) true ∷ []) ≡ Err (record { log = 1; place = 41 })
+torn_first : walked 0 (log 1 (commit 1 ∷ []) false ∷ log 4 (commit 7 ∷ []) true ∷ [])
+    ≡ Err (record { log = 1; place = 41 })
 torn_first = refl
 
 -- the last log's numbers count, and neither its header nor its end
@@ -66,7 +67,8 @@ gap_behind_moves : walked 0 (log 1 (moves ∷ commit 2 ∷ []) true ∷ []) ≡ 
 gap_behind_moves = refl
 
 -- a log without frames has no memtable
-filled_only : filled (log 1 [] true ∷ log 2 (commit 1 ∷ []) true ∷ headless 3 0 ∷ []) ≡ new_segment 2 (commit 1 ∷ []) ∷ []
+filled_only : filled (log 1 [] true ∷ log 2 (commit 1 ∷ []) true ∷ headless 3 0 ∷ [])
+    ≡ new_segment 2 (commit 1 ∷ []) ∷ []
 filled_only = refl
 
 -- ---- numbers
@@ -91,14 +93,17 @@ last_counts = refl
 active_stays : active_log (greatest 9 1) fresh_state (log 7 (commit 1 ∷ []) true ∷ log 9 [] true ∷ []) ≡ 9
 active_stays = refl
 
-log_used_up : exhausted (greatest 4294967294 4294967294) fresh_state (log 4294967294 (commit 1 ∷ []) true ∷ []) ≡ Some counters.Log
+log_used_up : exhausted (greatest 4294967294 4294967294) fresh_state
+    (log 4294967294 (commit 1 ∷ []) true ∷ []) ≡ Some counters.Log
 log_used_up = refl
 
 -- a log that stays needs no number
-manifest_used_up : exhausted (greatest 4294967294 4294967294) fresh_state (headless 4294967294 9 ∷ []) ≡ Some counters.Manifest
+manifest_used_up : exhausted (greatest 4294967294 4294967294) fresh_state
+    (headless 4294967294 9 ∷ []) ≡ Some counters.Manifest
 manifest_used_up = refl
 
-last_numbers : exhausted (greatest 4294967293 4294967293) fresh_state (log 4294967293 (commit 1 ∷ []) true ∷ []) ≡ None
+last_numbers : exhausted (greatest 4294967293 4294967293) fresh_state
+    (log 4294967293 (commit 1 ∷ []) true ∷ []) ≡ None
 last_numbers = refl
 
 -- ---- calls

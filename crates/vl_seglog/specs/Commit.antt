@@ -29,7 +29,7 @@ pub record IsCommit (c : Commit) : Type 0 where
   pub rising : IsTrue (is_sorted key_cmp c.writes)
   pub lawful : AreRecords c.writes
 
--- Of two records at the front of the same bytes neither is another.
+-- At the front of the same bytes stands one record at most, and the same stands behind it.
 pub one_write : (a b : List ℕ × Change) (rest other : List ℕ) → IsRecord a.0 a.1 → IsRecord b.0 b.1
     → record_bytes a.0 a.1 ++ rest ≡ record_bytes b.0 b.1 ++ other → (a ≡ b) × (rest ≡ other)
 one_write a b rest other p q e =

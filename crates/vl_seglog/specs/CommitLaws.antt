@@ -6,8 +6,6 @@ use Rattle.std.proofs.lemmas.List.Sums.{sum_by-cons}
 use Rattle.byteorder.specs.Endian.{big_bytes}
 use Rattle.vl_frame.specs.Laws.{length-frame_bytes}
 use Rattle.vl_frame.specs.Numbers.{one_number}
-use Rattle.vl_frame.specs.Runs.{Grammar}
-use Rattle.vl_frame.specs.declared.kinds.FileKind.TheVariants as files
 use Rattle.vl_frame.specs.declared.kinds.FrameKind.TheVariants as kinds
 use Rattle.vl_model.specs.Frames.{frame_length, record_length}
 use Rattle.vl_model.specs.Keys.{value_bytes}
@@ -41,10 +39,6 @@ parts_length (w ∷ writes) =
 pub length-commit_frame : (file at : ℕ) (c : Commit) → length (commit_frame file at c) ≡ commit_length (length c.writes) (sum_by (λ write. length write.0 + length (value_bytes write.1)) c.writes)
 length-commit_frame file at c = omega (arith, length-frame_bytes file at kinds.Commit (commit_body c), body_length c, parts_length c.writes)
 
--- A commit's frame has 13 bytes of the frame, 12 of the number and the count, and the records.
-pub commit_frame-length : (file at : ℕ) (c : Commit) → length (commit_frame file at c) ≡ 25 + sum_by (λ write. record_length write.0 write.1) c.writes
-commit_frame-length file at c = omega (arith, length-frame_bytes file at kinds.Commit (commit_body c), body_length c, records_length c.writes)
-
 -- That is its length as the layout has it.
 pub frame_length-committed : (number : ℕ) (writes : List (List ℕ × Change)) → frame_length (Committed number writes) ≡ commit_length (length writes) (sum_by (λ write. length write.0 + length (value_bytes write.1)) writes)
 frame_length-committed number writes = omega (arith, records_length writes, parts_length writes)
@@ -64,14 +58,3 @@ one_body c d p q short e =
     let b = one_number 4 (length c.writes) (length d.writes) _ _ (few_records c short) (few_records d other_short) a.1 in
     let writes = one_series records_spelling c.writes d.writes p.lawful q.lawful b.0 b.1 in
     λ i. record { number = a.0 i; writes = writes i }
-
--- how commits are spelled in the frames of logs
-abbrev pub commits_spelled : Grammar Commit
-commits_spelled = record {
-  file = files.Log;
-  kind = λ c. kinds.Commit;
-  body = commit_body;
-  lawful = IsCommit;
-  in_file = λ c. refl;
-  one = λ c d p q short kind body. one_body c d p q short body;
-}

@@ -37,13 +37,15 @@ two_kinds : kinds.Commit ≡ kinds.Move → ⊥
 two_kinds e = cc
 
 -- A frame that has room is spelled in one way.
-pub one_spelling : (f g : LogFrame) → IsFrame f → IsFrame g → length (frame_body f) < 2 ^ 32 → frame_kind f ≡ frame_kind g → frame_body f ≡ frame_body g → f ≡ g
+pub one_spelling : (f g : LogFrame) → IsFrame f → IsFrame g → length (frame_body f) < 2 ^ 32
+    → frame_kind f ≡ frame_kind g → frame_body f ≡ frame_body g → f ≡ g
 one_spelling (Committed m ws) (Committed n vs) p q short kind body =
     ap (λ (c : Commit). Committed c.number c.writes)
     (one_body (record { number = m; writes = ws }) (record { number = n; writes = vs }) p q short body)
 one_spelling (Committed m ws) (Relocated others) p q short kind body = absurd (two_kinds kind)
 one_spelling (Relocated records) (Committed n vs) p q short kind body = absurd (two_kinds (sym kind))
-one_spelling (Relocated records) (Relocated others) p q short kind body = ap Relocated (one_relocation records others p q short body)
+one_spelling (Relocated records) (Relocated others) p q short kind body =
+    ap Relocated (one_relocation records others p q short body)
 
 -- how frames of logs are spelled
 abbrev pub frames_grammar : Grammar LogFrame

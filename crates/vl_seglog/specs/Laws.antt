@@ -5,9 +5,8 @@ use Rattle.std.specs.List.{AllByRecursion}
 use Rattle.std.proofs.Common.{sym, ap, subst, ◌∙◌, append_assoc, length-append, arith, inl, inr, ⊎_elim}
 use Rattle.std.proofs.lemmas.List.{append-nil}
 use Rattle.vl_frame.specs.RunLaws as runs
-use Rattle.vl_seglog.specs.Log.{Commit, HasFrame, ReadsAs, ReadsLog, StandsAt, commit_frame, frames_bytes, log_bytes, log_header}
-use Rattle.vl_seglog.specs.CommitLaws.{commits_spelled}
-pub use Rattle.vl_seglog.specs.CommitLaws.{commit_frame-length, frame_length-committed, length-commit_frame}
+use Rattle.vl_seglog.specs.Log.{Commit, commits_spelled, HasFrame, ReadsAs, ReadsLog, StandsAt, commit_frame, frames_bytes, log_bytes, log_header}
+pub use Rattle.vl_seglog.specs.CommitLaws.{frame_length-committed, length-commit_frame}
 
 -- A log's header has 16 bytes.
 pub header_length : (file : ℕ) → length (log_header file) ≡ 16

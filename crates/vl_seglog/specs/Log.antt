@@ -1,10 +1,24 @@
 -- A log of commits alone: the header of its file, and behind these 16 bytes commits, each in a frame of its own.
 -- This file goes with vl_journal.
-use Rattle.std.specs.Prelude.{ℕ, List, ◌++◌, drop}
+use Rattle.std.specs.Prelude.{ℕ, List, ◌++◌, drop, refl}
 use Rattle.vl_frame.specs.Runs as runs
+use Rattle.vl_frame.specs.Runs.{Grammar}
+use Rattle.vl_frame.specs.declared.kinds.FileKind.TheVariants as files
+use Rattle.vl_frame.specs.declared.kinds.FrameKind.TheVariants as kinds
 pub use Rattle.vl_seglog.specs.Commit.{AreRecords, Commit, IsCommit, commit_body, commit_frame, commit_length, head_bytes, records_bytes}
-use Rattle.vl_seglog.specs.CommitLaws.{commits_spelled}
+use Rattle.vl_seglog.specs.CommitLaws.{one_body}
 pub use Rattle.vl_seglog.specs.Frames.{log_header}
+
+-- how commits are spelled in the frames of logs
+abbrev pub commits_spelled : Grammar Commit
+commits_spelled = record {
+  file = files.Log;
+  kind = λ c. kinds.Commit;
+  body = commit_body;
+  lawful = IsCommit;
+  in_file = λ c. refl;
+  one = λ c d p q short kind body. one_body c d p q short body;
+}
 
 -- a commit that a frame can hold
 abbrev pub HasFrame : Commit → Type 0

@@ -39,18 +39,21 @@ pub record IsRelocation (records : List Moved) : Type 0 where
 abbrev pub moved_bytes : Moved → List ℕ
 moved_bytes moved = big_bytes 8 moved.version ++ record_bytes moved.key (Set moved.value)
 
--- Of two at the front of the same bytes neither is another.
-pub one_moved : (a b : Moved) (rest other : List ℕ) → IsMoved a → IsMoved b → moved_bytes a ++ rest ≡ moved_bytes b ++ other → (a ≡ b) × (rest ≡ other)
+-- At the front of the same bytes stands one of them at most, and the same stands behind it.
+pub one_moved : (a b : Moved) (rest other : List ℕ) → IsMoved a → IsMoved b
+    → moved_bytes a ++ rest ≡ moved_bytes b ++ other → (a ≡ b) × (rest ≡ other)
 one_moved a b rest other p q e =
     let bytes = record_bytes a.key (Set a.value) ++ rest in
-    let behind : big_bytes 8 a.version ++ bytes ≡ big_bytes 8 b.version ++ (record_bytes b.key (Set b.value) ++ other) = e in
+    let behind : big_bytes 8 a.version ++ bytes ≡ big_bytes 8 b.version ++ (record_bytes b.key (Set b.value) ++ other) =
+    e in
     let versions = one_number 8 a.version b.version _ _ p.version q.version behind in
-    let same = one_write (a.key, Set a.value) (b.key, Set b.value) rest other p.lawful q.lawful versions.1 in
+    let same =
+    one_write (a.key, Set a.value) (b.key, Set b.value) rest other p.lawful q.lawful versions.1 in
     let key : a.key ≡ b.key = ap (λ (w : List ℕ × Change). w.0) same.0 in
     let value : a.value ≡ b.value = ap (λ (w : List ℕ × Change). value_bytes w.1) same.0 in
     ((λ i. record { key = key i; version = versions.0 i; value = value i }), same.1)
 
--- how they are spelled
+-- how moved records are spelled
 abbrev pub moves_spelling : Spelling Moved
 moves_spelling = record { bytes = moved_bytes; lawful = IsMoved; one = one_moved }
 

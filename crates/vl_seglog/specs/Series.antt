@@ -3,11 +3,13 @@ use Rattle.std.specs.Prelude.{◌≡◌, ℕ, List, [], ◌∷◌, ◌++◌, len
 use Rattle.std.specs.List.{AllByRecursion}
 use Rattle.std.proofs.Common.{ap, ◌∙◌, arith}
 
--- How an item is spelled. Of two lawful ones at the front of the same bytes neither is another.
+-- How an item is spelled. At the front of the same bytes stands one lawful item at most, and the same stands
+-- behind it.
 pub record Spelling (Item : Type 0) : Type 1 where
   pub bytes : Item → List ℕ
   pub lawful : Item → Type 0
-  pub one : (a b : Item) (rest other : List ℕ) → lawful a → lawful b → bytes a ++ rest ≡ bytes b ++ other → (a ≡ b) × (rest ≡ other)
+  pub one : (a b : Item) (rest other : List ℕ) → lawful a → lawful b
+      → bytes a ++ rest ≡ bytes b ++ other → (a ≡ b) × (rest ≡ other)
 
 module _ {Item : Type 0} (S : Spelling Item) where
   -- items, one behind the other
@@ -22,10 +24,12 @@ module _ {Item : Type 0} (S : Spelling Item) where
     pub spelled : bytes ≡ series_bytes items
 
   -- So many items one behind the other are spelled in one way.
-  pub one_series : (items others : List Item) → AllByRecursion S.lawful items → AllByRecursion S.lawful others → length items ≡ length others → series_bytes items ≡ series_bytes others → items ≡ others
+  pub one_series : (items others : List Item) → AllByRecursion S.lawful items → AllByRecursion S.lawful others
+      → length items ≡ length others → series_bytes items ≡ series_bytes others → items ≡ others
   one_series [] [] p q counts e = refl
   one_series [] (b ∷ others) p q counts e = absurd (omega arith)
   one_series (a ∷ items) [] p q counts e = absurd (omega arith)
   one_series (a ∷ items) (b ∷ others) p q counts e =
       let same = S.one a b (series_bytes items) (series_bytes others) p.0 q.0 e in
-      ap (λ (x : Item). x ∷ items) same.0 ∙ ap (λ (l : List Item). b ∷ l) (one_series items others p.1 q.1 (omega arith) same.1)
+      ap (λ (x : Item). x ∷ items) same.0
+      ∙ ap (λ (l : List Item). b ∷ l) (one_series items others p.1 q.1 (omega arith) same.1)

@@ -1,11 +1,12 @@
 //! How commits and relocations are written into a log, one frame for each, and what a log's bytes hold:
 //! docs/FORMATS.md lists the format. `ActiveLog` appends them to a log on a disk.
 //!
-//! A log begins with 16 bytes: `VLOG`, the format 1, the file's number, and zero, each of the three in four bytes. Behind
-//! them stand frames, one after the other. A commit's frame has as its body the commit's number in eight bytes, the count of
-//! its records in four, and the records in the order of their keys, of which none is there twice. A relocation's has the
-//! count of its records in four bytes, and these, each behind the version that it keeps, in eight. Numbers are unsigned, the
-//! highest byte first. What a log holds is the longest list of frames that stand there from byte 16 on.
+//! A log begins with 16 bytes: `VLOG`, the format 1, the file's number, and zero, each of the three in four bytes.
+//! Behind them stand frames, one after the other. A commit's frame has as its body the commit's number in eight
+//! bytes, the count of its records in four, and the records in the order of their keys, of which none is there
+//! twice. A relocation's has the count of its records in four bytes, and these, each behind the version that it
+//! keeps, in eight. Numbers are unsigned, the highest byte first. What a log holds is the longest list of frames
+//! that stand there from byte 16 on.
 #![tactic(auto)]
 
 mod active;

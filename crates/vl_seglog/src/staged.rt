@@ -34,8 +34,8 @@ pub struct Staged {
     pub pointers: Vec<Pointer>,
 }
 
-/// The frame of a commit that is to stand at a place of the log with the number `log`. Where there is none, or it would end
-/// beyond 2^64 bytes, want of memory is the answer.
+/// The frame of a commit that is to stand at a place of the log with the number `log`. Where there is none, or it
+/// would end beyond 2^64 bytes, want of memory is the answer.
 pub fn staged_commit(
     alloc: Global,
     log: u32,

@@ -1,22 +1,22 @@
 -- A log to which one more frame was handed over: what a crash leaves of it, and what reads give.
-use Rattle.std.specs.Prelude.{◌≡◌, ◌⊎◌, ◌≤◌, ℕ, ◌+◌, ◌-◌, List, [], ◌∷◌, ◌++◌, length, take, drop, max, refl, Any, slice_index_or}
+use Rattle.std.specs.Prelude.{◌≡◌, ◌⊎◌, ◌≤◌, ℕ, ◌+◌, ◌-◌, List, [], ◌∷◌, ◌++◌, length, take, drop, refl, Any, slice_index_or}
 use Rattle.std.specs.List.{AllByRecursion}
 use Rattle.std.proofs.Common.{sym, ap, subst, ◌∙◌, arith, append_assoc, length-append}
 use Rattle.std.proofs.lemmas.List.{drop_all, drop_at, length-take, take-append-drop, take-take, take_at}
 use Rattle.vl_disk.specs.Chance.{HasOnlyHandedOver, StandsIn, WasHandedOver, torn_from}
 use Rattle.vl_disk.specs.Crash.{Agrees}
-use Rattle.vl_disk.specs.DiskState.{File, Piece, lengthened, settled}
+use Rattle.vl_disk.specs.DiskState.{File, lengthened, settled}
 use Rattle.vl_frame.specs.Begins.{SpellsAt}
 use Rattle.vl_frame.specs.RunLaws.{frame_is_some, none_at_end, one_front}
 use Rattle.vl_frame.specs.Runs.{HasFrame, StandsAt, StandsNone, item_frame}
 use Rattle.vl_model.specs.declared.log_frame.LogFrame.{LogFrame}
 use Rattle.vl_seglog.specs.FrameLaws.{length-log_bytes}
-use Rattle.vl_seglog.specs.Frames.{frames_end, frames_grammar, log_bytes}
+use Rattle.vl_seglog.specs.Frames.{frame_at, frames_end, frames_grammar, log_bytes}
 use Rattle.vl_seglog.specs.LogReadingLaws.{SaysFrames, reads_torn}
 
 -- the frame of an item behind the frames of a log
 abbrev pub frame_behind : ℕ → List LogFrame → LogFrame → List ℕ
-frame_behind number frames f = item_frame frames_grammar number (frames_end frames) f
+frame_behind number frames f = frame_at number (frames_end frames) f
 
 -- the durable log of some frames, to which one more was handed over, and which took so many bytes of it
 abbrev pub torn_log : ℕ → List LogFrame → LogFrame → (taken : ℕ) → File
@@ -55,10 +55,12 @@ module _ (number : ℕ) (frames : List LogFrame) (f : LogFrame) (has : HasFrame 
       (one_due (StandsIn place some) (record { place = length log; bytes = whole }) handed).bytes_are
 
   -- an item whose frame begins that of f is f
-  same_item : (at : ℕ) (bytes : List ℕ) (g : LogFrame) (rest : List ℕ) → StandsAt frames_grammar number at bytes g rest
+  same_item : (at : ℕ) (bytes : List ℕ) (g : LogFrame) (rest : List ℕ)
+      → StandsAt frames_grammar number at bytes g rest
       → take (length (frame_of g)) whole ≡ frame_of g → length (frame_of g) ≡ length whole
   same_item at bytes g rest stands front =
-      let same : g ≡ f = one_front frames_grammar number end f g has (record { lawful = stands.lawful; short = stands.short }) front in
+      let same : g ≡ f = one_front frames_grammar number end f g has
+      (record { lawful = stands.lawful; short = stands.short }) front in
       ap (λ (x : LogFrame). length (frame_of x)) same
 
   -- ---- what a crash leaves
@@ -91,7 +93,8 @@ module _ (number : ℕ) (frames : List LogFrame) (f : LogFrame) (has : HasFrame 
         let following = item_frame frames_grammar number after h in
         let split : bytes ≡ (log ++ some) ++ rest =
         parts ∙ ap (λ (b : List ℕ). log ++ b) stands.spelled ∙ sym (append_assoc log some rest) in
-        let size : length (log ++ some) ≡ after = omega (arith, length-append log some, length-log_bytes number frames) in
+        let size : length (log ++ some) ≡ after =
+        omega (arith, length-append log some, length-log_bytes number frames) in
         let gone : drop after bytes ≡ rest = ap (drop after) split ∙ drop_at (log ++ some) rest after size in
         let spelled : SpellsAt frames_grammar number bytes (torn_from file + length some) following =
         subst (λ (n : ℕ). SpellsAt frames_grammar number bytes (n + length some) following) (sym torn_at_end)
@@ -105,7 +108,9 @@ module _ (number : ℕ) (frames : List LogFrame) (f : LogFrame) (has : HasFrame 
         drop_all (torn_from file + length some - length log) whole past in
         let nothing : take (length following) [] ≡ following =
         subst (λ (b : List ℕ). take (length following) b ≡ following) empty handed in
-        omega (arith, ap length nothing, length-take {A = ℕ} (length following) [], frame_is_some frames_grammar number after h)
+        let none : length following ≡ 0 =
+        omega (arith, ap length nothing, length-take {A = ℕ} (length following) []) in
+        omega (arith, none, frame_is_some frames_grammar number after h)
 
   -- Whatever a crash leaves of it says the frames before, or these and the new one.
   pub torn_says : AllByRecursion (HasFrame frames_grammar) frames → (bytes : List ℕ) → Agrees file bytes
@@ -113,7 +118,8 @@ module _ (number : ℕ) (frames : List LogFrame) (f : LogFrame) (has : HasFrame 
       → SaysFrames number bytes frames ⊎ SaysFrames number bytes (frames ++ f ∷ [])
   torn_says have bytes agrees only =
       let tail = drop (length log) bytes in
-      let durable : take (length log) bytes ≡ log = agrees.durable ∙ take_at log (take taken whole) (length log) refl in
+      let durable : take (length log) bytes ≡ log =
+      agrees.durable ∙ take_at log (take taken whole) (length log) refl in
       let parts : bytes ≡ log ++ tail =
       sym (take-append-drop (length log) bytes) ∙ ap (λ (b : List ℕ). b ++ tail) durable in
       subst (λ (b : List ℕ). SaysFrames number b frames ⊎ SaysFrames number b (frames ++ f ∷ [])) (sym parts)
@@ -134,8 +140,10 @@ module _ (number : ℕ) (frames : List LogFrame) (f : LogFrame) (has : HasFrame 
   read_front g rest stands =
       let some = frame_of g in
       let parts : take taken whole ≡ some ++ rest = sym behind_read ∙ stands.spelled in
-      let within : length some ≤ taken = omega (arith, ap length parts, length-append some rest, length-take taken whole) in
-      sym (take-take (length some) taken whole within) ∙ ap (take (length some)) parts ∙ take_at some rest (length some) refl
+      let within : length some ≤ taken =
+      omega (arith, ap length parts, length-append some rest, length-take taken whole) in
+      sym (take-take (length some) taken whole within) ∙ ap (take (length some)) parts
+      ∙ take_at some rest (length some) refl
 
   read_first : (some : List ℕ) → SpellsAt frames_grammar number bytes end some → WasHandedOver file end some
   read_first some (g, rest, stands, is) =
@@ -150,12 +158,16 @@ module _ (number : ℕ) (frames : List LogFrame) (f : LogFrame) (has : HasFrame 
   read_next : (some next : List ℕ) → SpellsAt frames_grammar number bytes end some
       → SpellsAt frames_grammar number bytes (end + length some) next → ⊥
   read_next some next (g, rest, stands, is) (h, more, behind, is_next) =
-      let all : length (frame_of g) ≡ length whole = same_item end (drop end bytes) g rest stands (read_front g rest stands) in
+      let all : length (frame_of g) ≡ length whole =
+      same_item end (drop end bytes) g rest stands (read_front g rest stands) in
       let same : length some ≡ length (frame_of g) = ap length is in
+      let size : length bytes ≡ end + length (take taken whole) =
+      omega (arith, length-append log (take taken whole), length-log_bytes number frames) in
       let past : length bytes ≤ end + length some =
-      omega (arith, all, same, length-append log (take taken whole), length-take taken whole, length-log_bytes number frames) in
+      omega (arith, all, same, size, length-take taken whole) in
       none_at_end frames_grammar number (end + length some) h more
-      (subst (λ (b : List ℕ). StandsAt frames_grammar number (end + length some) b h more) (drop_all (end + length some) bytes past) behind)
+      (subst (λ (b : List ℕ). StandsAt frames_grammar number (end + length some) b h more)
+      (drop_all (end + length some) bytes past) behind)
 
   -- Reads give no frame behind the log that wasn't handed over.
   pub due_as_read : HasOnlyHandedOver file (SpellsAt frames_grammar number file.bytes)
