@@ -162,7 +162,7 @@ winner_at_most last n key [] up = tt
 winner_at_most last n key (e ∷ es) up =
     either_at_most last (only_if (counts key n e) e) (winner es key n) (elim (counts key n e) as (λ t. IsAtMost last (only_if t e)) [ true ↦ up.0 | false ↦ tt ]) (winner_at_most last n key es up.1)
 
-same_from : (last n : ℕ) (key : List ℕ) (es : List Entry) → AreUpTo last es → last ≤ n
+pub same_from : (last n : ℕ) (key : List ℕ) (es : List Entry) → AreUpTo last es → last ≤ n
     → winner es key n ≡ winner es key last
 same_from last n key [] up le = refl
 same_from last n key (e ∷ es) up le =

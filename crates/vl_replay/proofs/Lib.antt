@@ -5,6 +5,7 @@ pub mod DiskSteps
 pub mod Ends
 pub mod Lines
 pub mod Logged
+pub mod LogsShown
 pub mod MemtableEntries
 pub mod Noting
 pub mod OpenedRuns

@@ -1,5 +1,5 @@
 //! A store's state, and how it answers a line over the disk that holds it.
-ghost use Rattle.std.specs.Prelude.{◌≡◌, ◌+◌, ℕ, List, [], None, Err, IfOk, IfErr, OnOk, OnErr};
+ghost use Rattle.std.specs.Prelude.{◌≡◌, ◌+◌, ℕ, List, [], None, Some, Err, IfOk, IfErr, OnOk, OnErr};
 ghost use Rattle.std.specs.Option.{ForSome, option_copied};
 ghost use Rattle.std.specs.FinMap.{get, empty};
 ghost use Rattle.vl_disk.specs.declared.name.Name.TheVariants as names;
@@ -12,7 +12,9 @@ ghost use Rattle.vl_replay.specs.Sequential as sequential;
 ghost use Rattle.vl_replay.specs.Represents.{Represents, IsOutcome, StandsFor, HasOpen, CanCommit, Decides, handle_named, write_answer, writes_after, answer_of};
 ghost use Rattle.vl_replay.specs.Durable.{CarriesOut};
 ghost use Rattle.vl_replay.specs.Stored.{IsStored, Shown};
-ghost use Rattle.vl_replay.specs.Start.{empty_store};
+ghost use Rattle.vl_replay.specs.Halts.{HaltsByDisk};
+ghost use Rattle.vl_replay.specs.Memtable.{newest};
+ghost use Rattle.vl_replay.specs.Opened.{IsOpenedStore, entry_value, opened_value};
 ghost use Rattle.vl_script.specs.declared.answer.Answer.TheVariants.{Number as NumberAnswer};
 ghost use Rattle.vl_txn.specs.Refusals.{IsWritten};
 
