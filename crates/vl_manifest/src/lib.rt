@@ -20,6 +20,7 @@ pub use edit::Edit;
 pub use fails::{IoFail, StateFail};
 pub use format::MANIFEST_FORMAT;
 pub use levels::Levels;
+pub use making::manifest_bytes;
 pub use manifest_log::ManifestLog;
 pub use newer::newer_format;
 pub use reading::read_edits;

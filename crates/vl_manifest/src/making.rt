@@ -43,7 +43,8 @@ impl ManifestLog {
     }
 }
 
-fn manifest_bytes(alloc: Global, number: u32, edits: &[Edit]) -> Result<Vec<u8>, AllocError>
+/// The bytes of a manifest whose first frame says these edits, and which has no other.
+pub fn manifest_bytes(alloc: Global, number: u32, edits: &[Edit]) -> Result<Vec<u8>, AllocError>
     ensures bytes { IfOk result (λ bytes. bytes.items ≡ new_manifest number edits.now) }
     ensures reads { OnOk result (ReadsManifest number (new_manifest number edits.now) (edits.now ∷ [])) }
 {

@@ -26,6 +26,9 @@ use Rattle.vl_recover.specs.Walk.{LogDamage, StandingLog, counted, counted_whole
 pub same_state : (s : ManifestState) → SameState s s
 same_state s = record { levels = refl; head = refl; covered = refl }
 
+pub state_back : (a b : ManifestState) → SameState a b → SameState b a
+state_back a b same = record { levels = sym same.levels; head = sym same.head; covered = sym same.covered }
+
 pub state_then : (a b c : ManifestState) → SameState a b → SameState b c → SameState a c
 state_then a b c p q =
     record { levels = p.levels ∙ q.levels; head = p.head ∙ q.head; covered = p.covered ∙ q.covered }

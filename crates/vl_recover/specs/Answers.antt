@@ -1,5 +1,5 @@
 -- What an opening answers.
-use Rattle.std.specs.Prelude.{◌≡◌, ◌≢◌, ◌↔◌, ◌<◌, ℕ, ◌+◌, List, [], ◌∷◌, ◌++◌, map, Option, None, Some, Result, Ok, Err, IsSome, Contains, AllPairs}
+use Rattle.std.specs.Prelude.{◌≡◌, ◌≢◌, ◌⊎◌, ◌↔◌, ◌<◌, ℕ, ◌+◌, List, [], ◌∷◌, ◌++◌, map, Option, None, Some, Result, Ok, Err, IsSome, Contains, AllPairs}
 use Rattle.std.specs.FinMap.{get}
 use Rattle.vl_disk.specs.Crash.{Image}
 use Rattle.vl_disk.specs.declared.name.Name.{Name}
@@ -90,6 +90,11 @@ AnswersBy image (Refused why) = Opens image (Err why)
 AnswersBy image (UsedUp counter) = (found : Finds image) × (used_up found ≡ Some counter)
 AnswersBy image NoRoom = Unit {0}
 AnswersBy image (Faulted name) = Unit {0}
+
+-- reads give an image that isn't opened: it is refused, or a number is used up
+abbrev pub IsNotOpened : Image → Type 0
+IsNotOpened image =
+    ((why : Refusal) × Opens image (Err why)) ⊎ ((found : Finds image) × (used_up found ≢ None))
 
 -- ---- the files that are removed
 

@@ -27,13 +27,13 @@ use Rattle.vl_model.specs.declared.log_frame.LogFrame.TheVariants.{Committed}
 use Rattle.vl_recover.specs.Alike.{IsLeft, Spells}
 use Rattle.vl_recover.specs.AlikeLaws.{log_manifest, log_same, standing_log}
 use Rattle.vl_recover.specs.Held.{AllSettled, HoldsLogs, HoldsManifest, HoldsStore, IsNowhere, IsSettled}
-use Rattle.vl_recover.specs.HeldLaws.{AllMayStand, AreSealed, GoOn, MayStand, held_current, held_may_open, held_opens, held_says, left_nowhere, left_settled, log_as_held, may_open_by, none_removed, opening_held, settled_may_stand}
+use Rattle.vl_recover.specs.HeldLaws.{AreSealed, GoOn, held_current, held_may_open, held_opens, held_says, left_nowhere, left_settled, log_as_held, may_open_by, none_removed, opening_held, settled_may_stand}
 use Rattle.vl_recover.specs.LeadsLaws.{nowhere_kept}
 use Rattle.vl_recover.specs.OneName.{elsewhere_then}
 use Rattle.vl_recover.specs.Opening.{Led, Opens, StandingLogs}
 use Rattle.vl_recover.specs.OpeningLaws.{opens_by, some_same}
 use Rattle.vl_recover.specs.StageLaws.{err_ok, ok_same, ok_with}
-use Rattle.vl_recover.specs.Starts.{MayOpen}
+use Rattle.vl_recover.specs.Starts.{AllMayStand, MayOpen, MayStand}
 use Rattle.vl_recover.specs.Stages.{on_ok}
 use Rattle.vl_recover.specs.TornFrames.{due_as_read, frame_behind, torn_log, torn_says}
 use Rattle.vl_recover.specs.Walk.{LogDamage, StandingLog, counted, counted_frame, counted_whole, filled, in_log, walked, walked_on, with_frames}
@@ -397,10 +397,8 @@ module _ (state : ManifestState) (before : List Segment) (last : Segment) (f : L
 
     torn_may_stand : (taken : ℕ) → MayStand name (torn_log last.number last.frames f taken)
     torn_may_stand taken = record {
-      no_chance = λ grows torn_now. due_as_read last.number last.frames f has taken;
-      headless = λ m reading is reads wrong.
-          let headed = subst (λ (k : ℕ). HasHeader k file.bytes) (log_same last.number m is) (torn_headed taken) in
-          absurd (true≢false (sym (reads.header.1 headed) ∙ wrong));
+      no_chance = λ right grows torn_now. due_as_read last.number last.frames f has taken;
+      headless = λ wrong. absurd (wrong (torn_headed taken));
     }
       where
         file : File

@@ -1,13 +1,12 @@
 -- What a crash leaves of a disk that holds a store opens as that store, which may be opened again on the same
 -- disk.
-use Rattle.std.specs.Prelude.{◌≡◌, ◌≢◌, ◌⊎◌, ◌≤◌, ◌<◌, ℕ, ◌+◌, List, [], ◌∷◌, length, map, Option, None, Some, Ok, All, refl, true, false}
+use Rattle.std.specs.Prelude.{◌≡◌, ◌≢◌, ◌⊎◌, ◌≤◌, ◌<◌, ℕ, ◌+◌, List, [], ◌∷◌, length, map, Option, None, Some, Ok, refl, true}
 use Rattle.std.specs.FinMap.{get}
 use Rattle.std.specs.Option.{option_map}
 use Rattle.std.proofs.Common.{sym, ap, subst, ◌∙◌, arith, ⊎_elim}
 use Rattle.std.proofs.lemmas.Bool.{cases_lt, true≢false}
 use Rattle.std.proofs.lemmas.List.Elements.{All-nil}
-use Rattle.vl_disk.specs.Chance.{NoChanceOne}
-use Rattle.vl_disk.specs.Crash.{Image, MayLeave, MayLeaveOne, last_file}
+use Rattle.vl_disk.specs.Crash.{Image, MayLeave, MayLeaveOne}
 use Rattle.vl_disk.specs.DiskState.{DiskState, File, IsLawful, Piece, settled}
 use Rattle.vl_disk.specs.Started.{IsRead, Started, read_left, started_left}
 use Rattle.vl_disk.specs.declared.name.Name.{Name}
@@ -16,16 +15,15 @@ use Rattle.vl_layout.specs.declared.segment.Segment.{Segment}
 use Rattle.vl_manifest.specs.Current.{IsCurrent, StandsReadable}
 use Rattle.vl_manifest.specs.ManifestLaws.{says_readable}
 use Rattle.vl_manifest.specs.declared.state.ManifestState.{ManifestState}
-use Rattle.vl_recover.specs.Alike.{IsLeft, SameState, Spells}
+use Rattle.vl_recover.specs.Alike.{SameState}
 use Rattle.vl_recover.specs.AlikeLaws.{same_state, standing_log}
 use Rattle.vl_recover.specs.Held.{AllSettled, HoldsLogs, HoldsManifest, HoldsStore, IsNowhere, IsSettled}
 use Rattle.vl_recover.specs.Opening.{Led, Opening, Opens, Refusal, Says, StandingLogs}
 use Rattle.vl_recover.specs.OpeningLaws.{IsOpened, opened, opens_by, single_opening, single_says, one_heading, some_none, some_same}
 use Rattle.vl_recover.specs.StageLaws.{ok_same}
-use Rattle.vl_recover.specs.Starts.{MayOpen}
+use Rattle.vl_recover.specs.Starts.{AllMayStand, MayOpen, MayStand}
 use Rattle.vl_recover.specs.Walk.{StandingLog, filled, walked}
 use Rattle.vl_seglog.specs.Frames.{log_bytes}
-use Rattle.vl_seglog.specs.LogReading.{LogReading, ReadsLog}
 use Rattle.vl_seglog.specs.LogReadingLaws.{reads_written}
 
 -- ---- what is left of one name
@@ -160,16 +158,6 @@ none_removed least (s ∷ ss) disk lawful (up, between, have, stands, rest) m fr
     (cases_lt s.number m))
     (cases_lt m s.number)
 
--- of a file that stands under this name, reads have no frame by chance, and a log with a wrong header has nothing
--- due behind it
-pub record MayStand (name : Name) (file : File) : Type 0 where
-  pub no_chance : NoChanceOne Spells name (Some file) (Some file.bytes)
-  pub headless : (m : ℕ) (reading : LogReading) → name ≡ Log m → ReadsLog m file.bytes reading
-      → reading.header ≡ false → All (λ (piece : Piece). piece.place + length piece.bytes ≤ 16) file.due
-
-abbrev pub AllMayStand : DiskState → Type 0
-AllMayStand disk = (name : Name) (file : File) → get disk.standing name ≡ Some file → MayStand name file
-
 -- a log from a number on that another follows is durable
 abbrev pub AreSealed : ℕ → DiskState → Type 0
 AreSealed least disk = (m k : ℕ) (file : File) → least ≤ m → m < k → get disk.standing (Log k) ≢ None
@@ -177,31 +165,9 @@ AreSealed least disk = (m k : ℕ) (file : File) → least ≤ m → m < k → g
 
 pub settled_may_stand : (name : Name) (bytes : List ℕ) → MayStand name (settled bytes)
 settled_may_stand name bytes = record {
-  no_chance = λ grows torn. absurd (true≢false torn);
-  headless = λ m reading is reads header. All-nil (λ (piece : Piece). piece.place + length piece.bytes ≤ 16);
+  no_chance = λ right grows torn. absurd (true≢false torn);
+  headless = λ wrong. All-nil (λ (piece : Piece). piece.place + length piece.bytes ≤ 16);
 }
-
--- What reads give may be left by a crash, without a frame by chance.
-pub read_is_left : (disk : DiskState) → AllMayStand disk → (read : Image) → IsRead read disk → IsLeft disk read
-read_is_left disk may_stand read is = record {
-  left = read_left read disk is;
-  no_chance = λ name. of name (get disk.standing name) refl (get disk.removed name) (get read name) (is.each name);
-}
-  where
-    of : (name : Name) (there : Option File) → get disk.standing name ≡ there → (removed : Option File)
-        → (left : Option (List ℕ)) → left ≡ option_map (λ (file : File). file.bytes) (get disk.standing name)
-        → NoChanceOne Spells name (last_file there removed) left
-    of name None stands None None e = tt
-    of name None stands None (Some bytes) e = tt
-    of name None stands (Some file) None e = tt
-    of name None stands (Some file) (Some bytes) e =
-        absurd (some_none bytes (e ∙ ap (option_map (λ (f : File). f.bytes)) stands))
-    of name (Some file) stands removed None e = tt
-    of name (Some file) stands removed (Some bytes) e =
-        let same : bytes ≡ file.bytes = some_same bytes file.bytes
-        (e ∙ ap (option_map (λ (f : File). f.bytes)) stands) in
-        subst (λ (b : List ℕ). NoChanceOne Spells name (Some file) (Some b)) (sym same)
-        (may_stand name file stands).no_chance
 
 -- A store may be opened on a disk that holds a manifest above all that were removed, and from its head on no log
 -- was removed.
@@ -209,7 +175,7 @@ pub may_open_by : (state : ManifestState) (disk : DiskState) → IsLawful disk �
     → ((m : ℕ) → state.head ≤ m → get disk.removed (Log m) ≡ None) → AllMayStand disk → AreSealed state.head disk
     → MayOpen disk
 may_open_by state disk lawful holds never may_stand sealed = record {
-  as_read = read_is_left disk may_stand;
+  files = may_stand;
   says = λ read before o p is opens left opens_too.
       held_same state disk holds read before o p (read_left read disk is) opens left.left opens_too;
   manifests = λ m gone. (
@@ -220,8 +186,6 @@ may_open_by state disk lawful holds never may_stand sealed = record {
   logs = λ read o is opens m from.
       never m (subst (λ (s : ManifestState). s.head ≤ m)
       (held_state state disk holds read o (read_left read disk is) opens) from);
-  headless = λ m file reading stands reads header.
-      (may_stand (Log m) file stands).headless m reading refl reads header;
   sealed = λ read o is opens m k file from.
       sealed m k file
       (subst (λ (s : ManifestState). s.head ≤ m) (held_state state disk holds read o (read_left read disk is) opens) from);
@@ -270,7 +234,7 @@ started_settled image disk started name file stands = of (get image name) (sym s
 -- and a store may be opened on it.
 pub started_may_open : (image : Image) (disk : DiskState) → Started image disk → MayOpen disk
 started_may_open image disk started = record {
-  as_read = read_is_left disk (settled_may_all_stand disk all);
+  files = settled_may_all_stand disk all;
   says = λ read before o p is opens left opens_too.
       let same : read ≡ before = only read (read_left read disk is) ∙ sym (only before left.left) in
       let one : o ≡ p = ok_same {E = Refusal} o p (single_opening before (Ok o) (Ok p)
@@ -278,8 +242,6 @@ started_may_open image disk started = record {
       subst (λ (x : Opening). SameState o.state x.state) one (same_state o.state);
   manifests = λ m gone. absurd (gone (started.removed (Manifest m)));
   logs = λ read o is opens m from. started.removed (Log m);
-  headless = λ m file reading stands reads header.
-      (settled_may_all_stand disk all (Log m) file stands).headless m reading refl reads header;
   sealed = λ read o is opens m k file from. settled_sealed o.state.head disk all m k file from;
 }
   where

@@ -2,13 +2,19 @@ pub mod Alike
 pub mod AlikeLaws
 pub mod Answers
 pub mod AppendLaws
+pub mod Deciding
+pub mod Finding
+pub mod Fitting
 pub mod Held
 pub mod HeldLaws
+pub mod LastFiles
 pub mod LastLaws
 pub mod LeadsLaws
 pub mod LogsLaws
 pub mod Mending
+pub mod MendingAgain
 pub mod MendingLaws
+pub mod MendingMayOpen
 pub mod MendingOpens
 pub mod MendingStages
 pub mod MendingStart
@@ -16,6 +22,7 @@ pub mod MendingSteps
 pub mod OneName
 pub mod Opening
 pub mod OpeningLaws
+pub mod PlanViews
 pub mod Plans
 pub mod ReadImage
 pub mod RecoveredLaws
@@ -24,7 +31,9 @@ pub mod Rows
 pub mod StageLaws
 pub mod Stages
 pub mod Starts
+pub mod Steps
 pub mod StraysLaws
 pub mod Torn
 pub mod TornFrames
+pub mod TornManifest
 pub mod Walk

@@ -121,7 +121,8 @@ last_of [] = NoLast
 last_of (q ∷ []) = mending_of q
 last_of (q ∷ p ∷ ps) = last_of (p ∷ ps)
 
--- The plan of an opening that finds this and removes these files: its manifest has the next number and says the state
+-- The plan of an opening that finds this and removes these files: its manifest has the next number and says
+-- the state
 -- that is opened.
 abbrev pub plan_from : Greatest → ManifestState → List StandingLog → List Name → Plan
 plan_from g state logs strays = record {

@@ -1,26 +1,27 @@
--- The stages of a mending behind the new manifest, which leads: what a crash leaves while they are under way opens as before, and what then stands.
-use Rattle.std.specs.Prelude.{◌≡◌, ◌≢◌, ◌⊎◌, ℕ, ◌+◌, ◌≤◌, ◌<◌, max, List, [], ◌∷◌, ◌++◌, suc, zero, length, map, Option, None, Some, Contains, refl}
+-- The stages of a mending behind the new manifest, which leads: what a crash leaves while they are under way
+-- opens as before, and what then stands.
+use Rattle.std.specs.Prelude.{◌≡◌, ◌≢◌, ℕ, ◌+◌, ◌≤◌, ◌<◌, max, List, [], ◌∷◌, ◌++◌, suc, zero, Option, None, Some, Contains, refl}
 use Rattle.std.specs.FinMap.{get}
-use Rattle.std.proofs.Common.{ap, arith, inl, inr, subst, sym, ◌∙◌, ⊎_elim}
+use Rattle.std.proofs.Common.{ap, arith, subst, sym, ◌∙◌, ⊎_elim}
 use Rattle.std.proofs.lemmas.Bool.{cases_lt}
 use Rattle.std.proofs.lemmas.List.{append-nil}
-use Rattle.vl_disk.specs.Changes.{SameElsewhere, without_elsewhere}
+use Rattle.vl_disk.specs.Changes.{SameElsewhere}
 use Rattle.vl_disk.specs.Crash.{Image, MayLeave}
 use Rattle.vl_disk.specs.DiskState.{DiskState, File, settled, without}
 use Rattle.vl_disk.specs.MadeFile.{durable, made}
 use Rattle.vl_disk.specs.NameMap.{get_removed, get_removed_other, same_or_other}
 use Rattle.vl_disk.specs.declared.name.Name.{Name}
-use Rattle.vl_disk.specs.declared.name.Name.TheVariants.{Log, Manifest}
+use Rattle.vl_disk.specs.declared.name.Name.TheVariants.{Log}
 use Rattle.vl_layout.specs.declared.segment.Segment.{Segment}
 use Rattle.vl_manifest.specs.declared.state.ManifestState.{ManifestState}
 use Rattle.vl_model.specs.declared.log_frame.LogFrame.{LogFrame}
 use Rattle.vl_recover.specs.Alike.{OpensAsOf}
 use Rattle.vl_recover.specs.AlikeLaws.{LastIsWhole}
-use Rattle.vl_recover.specs.Answers.{and_made, as_segment}
+use Rattle.vl_recover.specs.Answers.{and_made}
 use Rattle.vl_recover.specs.Held.{HoldsLogs, IsNowhere}
 use Rattle.vl_recover.specs.LastLaws.{IsWritten, LastStands, MendsLast, last_law}
 use Rattle.vl_recover.specs.LeadsLaws.{Leads, leads_kept, log_added}
-use Rattle.vl_recover.specs.LogsLaws.{IsTheLast, StandUpTo, all_written, last_is, last_stands, made_is, mending_elsewhere, the_last, written_held, written_whole}
+use Rattle.vl_recover.specs.LogsLaws.{IsTheLast, StandUpTo, all_written, last_is, last_stands, made_is, mending_elsewhere, the_last}
 use Rattle.vl_recover.specs.Mending.{LastLog, WhileLast, WhileLog, behind_last, behind_log, behind_strays, last_of, mending_of}
 use Rattle.vl_recover.specs.MendingSteps.{log_step, manifest_log}
 use Rattle.vl_recover.specs.OneName.{as_before, made_elsewhere}
@@ -51,31 +52,35 @@ below_then head a b c p q = record {
 }
 
 -- so it is where one of these logs changes
-pub below_log : (head k : ℕ) (old now : DiskState) → head ≤ k → SameElsewhere (Log k) old now → SameBelow head old now
+pub below_log : (head k : ℕ) (old now : DiskState) → head ≤ k → SameElsewhere (Log k) old now
+    → SameBelow head old now
 below_log head k old now from same = record {
   standing = λ name below. same.standing name (λ e. below k from (sym e));
   removed = λ name below. same.removed name (λ e. below k from (sym e));
 }
 
-pub spare_below : (number head : ℕ) (old now : DiskState) → SameBelow head old now → (name : Name) → IsSpare number head old name → IsSpare number head now name
+pub spare_below : (number head : ℕ) (old now : DiskState) → SameBelow head old now → (name : Name)
+    → IsSpare number head old name → IsSpare number head now name
 spare_below number head old now same name spare = record {
   file = spare.file;
   stands = same.standing name spare.below ∙ spare.stands;
-  no_chance = spare.no_chance;
+  leaves = spare.leaves;
   lower = spare.lower;
   below = spare.below;
 }
 
 -- ---- the last log
 
-pub record LastStage (number : ℕ) (s : ManifestState) (logs : List StandingLog) (disk : DiskState) : Type 0 where
+pub record LastStage (number : ℕ) (s : ManifestState) (logs : List StandingLog)
+    (disk : DiskState) : Type 0 where
   pub meanwhile : (now : DiskState) → WhileLast (last_of logs) disk now → OpensAsOf disk now
   pub after : OpensAsOf disk (behind_last (last_of logs) disk)
   pub leads : Leads number s (behind_last (last_of logs) disk)
   pub same : SameBelow s.head disk (behind_last (last_of logs) disk)
   pub written : StandUpTo IsWritten s.head logs (behind_last (last_of logs) disk)
 
-pub last_stage : (number : ℕ) (s : ManifestState) (logs : List StandingLog) (disk : DiskState) → Leads number s disk
+pub last_stage : (number : ℕ) (s : ManifestState) (logs : List StandingLog) (disk : DiskState)
+    → Leads number s disk
     → StandUpTo LastStands s.head logs disk → LastStage number s logs disk
 last_stage number s [] disk leads none = record {
   meanwhile = λ now during. absurd during;
@@ -85,9 +90,11 @@ last_stage number s [] disk leads none = record {
   written = none;
 }
 last_stage number s (q ∷ qs) disk leads stand = record {
-  meanwhile = subst (λ (l : LastLog). (now : DiskState) → WhileLast l disk now → OpensAsOf disk now) (sym (last_is q qs)) mends.meanwhile;
+  meanwhile = subst (λ (l : LastLog). (now : DiskState) → WhileLast l disk now → OpensAsOf disk now)
+      (sym (last_is q qs)) mends.meanwhile;
   after = subst (λ (l : LastLog). OpensAsOf disk (behind_last l disk)) (sym (last_is q qs)) mends.after;
-  leads = leads_kept number s (Log last) disk (behind_last (last_of (q ∷ qs)) disk) elsewhere (λ m from. manifest_log m last) leads;
+  leads = leads_kept number s (Log last) disk (behind_last (last_of (q ∷ qs)) disk) elsewhere
+      (λ m from. manifest_log m last) leads;
   same = below_log s.head last disk (behind_last (last_of (q ∷ qs)) disk) is.from elsewhere;
   written = all_written s.head (q ∷ qs) disk each stand;
 }
@@ -105,7 +112,8 @@ last_stage number s (q ∷ qs) disk leads stand = record {
     mends = each (the_last q qs) is
 
     elsewhere : SameElsewhere (Log (the_last q qs).number) disk (behind_last (last_of (q ∷ qs)) disk)
-    elsewhere = subst (λ (l : LastLog). SameElsewhere (Log (the_last q qs).number) disk (behind_last l disk)) (sym (last_is q qs)) (mending_elsewhere (the_last q qs) disk)
+    elsewhere = subst (λ (l : LastLog). SameElsewhere (Log (the_last q qs).number) disk (behind_last l disk))
+        (sym (last_is q qs)) (mending_elsewhere (the_last q qs) disk)
 
 -- ---- the new log
 
@@ -114,26 +122,23 @@ pub record IsFreeFrom (head k : ℕ) (disk : DiskState) : Type 0 where
   pub from : head ≤ k
   pub nowhere : (m : ℕ) → k ≤ m → IsNowhere disk (Log m)
 
-some_number : (a b : ℕ) → Some a ≡ Some b → a ≡ b
-some_number a b e = cc
-
-none_number : (a : ℕ) → None ≡ Some a → ⊥
-none_number a e = cc
-
-behind_some : (s : ManifestState) (frames : List LogFrame) (k : ℕ) → log_behind s frames ≡ Some k → s.next_log ≡ k
-behind_some s [] k e = absurd (none_number k e)
-behind_some s (f ∷ fs) k e = some_number s.next_log k e
+behind_some : (s : ManifestState) (frames : List LogFrame) (k : ℕ) → log_behind s frames ≡ Some k
+    → s.next_log ≡ k
+behind_some s [] k e = absurd (some_none k (sym e))
+behind_some s (f ∷ fs) k e = some_same s.next_log k e
 
 -- So it is of the log that is made, where the logs that stand have lower numbers than the next.
-pub made_free : (s : ManifestState) (logs : List StandingLog) (disk : DiskState) → StandUpTo IsWritten s.head logs disk
+pub made_free : (s : ManifestState) (logs : List StandingLog) (disk : DiskState)
+    → StandUpTo IsWritten s.head logs disk
     → ((q : StandingLog) (qs : List StandingLog) → logs ≡ q ∷ qs → (the_last q qs).number < s.next_log)
     → (k : ℕ) → log_made s logs ≡ Some k → IsFreeFrom s.head k disk
 made_free s [] disk none below k made =
-    let same : max s.head s.next_log ≡ k = some_number (max s.head s.next_log) k made in
+    let same : max s.head s.next_log ≡ k = some_same (max s.head s.next_log) k made in
     let from : s.head ≤ k = omega (arith, same) in
     record { from = from; nowhere = λ m above. none m (omega (arith, from, above)) }
 made_free s (q ∷ qs) disk stand below k made =
-    let same : s.next_log ≡ k = behind_some s (the_last q qs).reading.frames k (sym (made_is s q qs) ∙ made) in
+    let same : s.next_log ≡ k = behind_some s (the_last q qs).reading.frames k (sym (made_is s q qs)
+    ∙ made) in
     let last = last_stands IsWritten s.head q qs disk stand in
     let less = below q qs refl in
     record {
@@ -141,15 +146,18 @@ made_free s (q ∷ qs) disk stand below k made =
       nowhere = λ m above. last.above m (omega (arith, less, same, above));
     }
 
-pub record LogStage (number : ℕ) (s : ManifestState) (new : Option ℕ) (logs : List Segment) (disk : DiskState) : Type 0 where
+pub record LogStage (number : ℕ) (s : ManifestState) (new : Option ℕ) (logs : List Segment)
+    (disk : DiskState) : Type 0 where
   pub meanwhile : (now : DiskState) → WhileLog new disk now → OpensAsOf disk now
   pub after : OpensAsOf disk (behind_log new disk)
   pub leads : Leads number s (behind_log new disk)
   pub same : SameBelow s.head disk (behind_log new disk)
   pub held : HoldsLogs s.head (logs ++ and_made new) (behind_log new disk)
 
-pub log_stage : (number : ℕ) (s : ManifestState) (new : Option ℕ) (logs : List Segment) (disk : DiskState) → Leads number s disk
-    → ((image : Image) → MayLeave disk image → LastIsWhole s.head image) → ((k : ℕ) → new ≡ Some k → IsFreeFrom s.head k disk)
+pub log_stage : (number : ℕ) (s : ManifestState) (new : Option ℕ) (logs : List Segment) (disk : DiskState)
+    → Leads number s disk
+    → ((image : Image) → MayLeave disk image → LastIsWhole s.head image)
+    → ((k : ℕ) → new ≡ Some k → IsFreeFrom s.head k disk)
     → HoldsLogs s.head logs disk → LogStage number s new logs disk
 log_stage number s None logs disk leads whole free held = record {
   meanwhile = λ now during. absurd during;
@@ -173,14 +181,20 @@ log_stage number s (Some k) logs disk leads whole free held =
 -- ---- what stands behind the strays
 
 -- What stands when files were removed was none of them, and stood before.
-pub still_stands : (names : List Name) (disk : DiskState) (name : Name) (file : File) → get (behind_strays names disk).standing name ≡ Some file
+pub still_stands : (names : List Name) (disk : DiskState) (name : Name) (file : File)
+    → get (behind_strays names disk).standing name ≡ Some file
     → (Contains names name → ⊥) × (get disk.standing name ≡ Some file)
 still_stands [] disk name file stands = (λ inside. omega (arith, inside.1), stands)
 still_stands (q ∷ qs) disk name file stands =
     let (outside, stood) = still_stands qs (without q disk) name file stands in
     ⊎_elim
-    (λ (same : name ≡ q). absurd (some_none file (sym stood ∙ ap (get (without q disk).standing) same ∙ get_removed disk.standing q)))
-    (λ (other : name ≢ q). (not_inside outside other, sym (get_removed_other disk.standing q name other) ∙ stood))
+    (λ (same : name ≡ q). absurd (some_none file (sym stood ∙ ap (get (without q disk).standing) same
+    ∙ get_removed disk.standing q)))
+    (λ (other : name ≢ q). (
+      not_inside outside other,
+      sym (get_removed_other disk.standing q name other)
+          ∙ stood,
+    ))
     (same_or_other name q)
   where
     not_inside : (Contains qs name → ⊥) → name ≢ q → Contains (q ∷ qs) name → ⊥
@@ -190,14 +204,12 @@ still_stands (q ∷ qs) disk name file stands =
 -- A file that is durable is as a sync leaves it.
 pub settled_is : (bytes : List ℕ) (file : File) → Some (settled bytes) ≡ Some file → file ≡ settled file.bytes
 settled_is bytes file is =
-    let same : settled bytes ≡ file = some_same_file (settled bytes) file is in
+    let same : settled bytes ≡ file = some_same (settled bytes) file is in
     sym same ∙ ap (λ (f : File). settled f.bytes) same
-  where
-    some_same_file : (a b : File) → Some a ≡ Some b → a ≡ b
-    some_same_file a b e = cc
 
 -- Logs that are held are durable.
-pub held_settled : (least : ℕ) (logs : List Segment) (disk : DiskState) → HoldsLogs least logs disk → (m : ℕ) → least ≤ m
+pub held_settled : (least : ℕ) (logs : List Segment) (disk : DiskState) → HoldsLogs least logs disk → (m : ℕ)
+    → least ≤ m
     → (file : File) → get disk.standing (Log m) ≡ Some file → file ≡ settled file.bytes
 held_settled least [] disk none m from file stands = absurd (some_none file (sym stands ∙ (none m from).free))
 held_settled least (s ∷ ss) disk (first, between, have, here, rest) m from file stands = ⊎_elim
@@ -206,6 +218,7 @@ held_settled least (s ∷ ss) disk (first, between, have, here, rest) m from fil
     (λ (more : s.number < m). held_settled (s.number + 1) ss disk rest m (omega (arith, more)) file stands)
     (λ (at : m ≤ s.number).
     let same : m ≡ s.number = omega (arith, above, at) in
-    settled_is (log_bytes s.number s.frames) file (sym here ∙ ap (λ (n : ℕ). get disk.standing (Log n)) (sym same) ∙ stands))
+    settled_is (log_bytes s.number s.frames) file (sym here
+    ∙ ap (λ (n : ℕ). get disk.standing (Log n)) (sym same) ∙ stands))
     (cases_lt s.number m))
     (cases_lt m s.number)

@@ -1,5 +1,5 @@
 -- What a crash may leave where a disk changes under one name.
-use Rattle.std.specs.Prelude.{◌≡◌, ◌≢◌, ◌⊎◌, ℕ, List, Option, None, Some, refl, false, true}
+use Rattle.std.specs.Prelude.{◌≡◌, ◌≢◌, ℕ, List, Option, None, Some, refl}
 use Rattle.std.specs.FinMap.{get, insert, remove, same_map}
 use Rattle.std.specs.Option.{option_map}
 use Rattle.std.proofs.Common.{⊎_elim, sym, ◌∙◌, ap, subst}
@@ -21,12 +21,12 @@ abbrev pub with_left : Name → Option (List ℕ) → Image → Image
 with_left name None image = remove image name
 with_left name (Some bytes) image = insert image name bytes
 
-left_there : (name : Name) (left : Option (List ℕ)) (image : Image)
+pub left_there : (name : Name) (left : Option (List ℕ)) (image : Image)
     → get (with_left name left image) name ≡ left
 left_there name None image = get_removed image name
 left_there name (Some bytes) image = get_inserted image name bytes
 
-left_elsewhere : (name : Name) (left : Option (List ℕ)) (image : Image)
+pub left_elsewhere : (name : Name) (left : Option (List ℕ)) (image : Image)
     → SameBut name image (with_left name left image)
 left_elsewhere name None image other apart = sym (get_removed_other image name other apart)
 left_elsewhere name (Some bytes) image other apart =
@@ -42,7 +42,8 @@ same_image name image before same here = same_map name_cmp_total name_cmp_exact 
 
 -- ---- what is left under one name
 
--- what a crash may leave there, without a frame by chance, by the file that stands there, the one that was removed there,
+-- what a crash may leave there, without a frame by chance, by the file that stands there, the one that was
+-- removed there,
 -- and what the image has there
 pub record IsLeftOne (name : Name) (standing removed : Option File) (left : Option (List ℕ)) : Type 0 where
   pub may : MayLeaveOne standing removed left
@@ -65,11 +66,14 @@ may_miss name (Some file) = record { may = tt; no_chance = tt }
 
 -- under the other names the old disk may leave what the new one leaves
 pub left_before : (name : Name) (old now : DiskState) (image before : Image) → SameElsewhere name old now
-    → SameBut name image before → IsLeftOne name (get old.standing name) (get old.removed name) (get before name)
+    → SameBut name image before → IsLeftOne name (get old.standing name) (get old.removed name)
+    (get before name)
     → IsLeft now image → IsLeft old before
 left_before name old now image before elsewhere same here is = left_each old before (λ q. ⊎_elim
-    (λ (e : q ≡ name). subst (λ (n : Name). IsLeftOne n (get old.standing n) (get old.removed n) (get before n)) (sym e) here)
-    (λ (n : q ≢ name). subst (λ (o : Option File). IsLeftOne q o (get old.removed q) (get before q)) (elsewhere.standing q n)
+    (λ (e : q ≡ name). subst (λ (n : Name). IsLeftOne n (get old.standing n) (get old.removed n)
+    (get before n)) (sym e) here)
+    (λ (n : q ≢ name). subst (λ (o : Option File). IsLeftOne q o (get old.removed q) (get before q))
+    (elsewhere.standing q n)
     (subst (λ (o : Option File). IsLeftOne q (get now.standing q) o (get before q)) (elsewhere.removed q n)
     (subst (IsLeftOne q (get now.standing q) (get now.removed q)) (same q n) (left_one now image is q))))
     (same_or_other q name))
@@ -93,7 +97,8 @@ left_still old name left one = record {
       subst (OpensLike image) (same_image name image before same (now ∙ sym then)) (like_same image);
 }
 
--- A disk that changes under one name leaves what opens as something that it could have left before, if so it is under this name.
+-- A disk that changes under one name leaves what opens as something that it could have left before, if so it
+-- is under this name.
 pub one_name : (name : Name) (old now : DiskState) → SameElsewhere name old now
     → ((left : Option (List ℕ)) → IsLeftOne name (get now.standing name) (get now.removed name) left
     → WasLeft old name left) → OpensAsOf old now
@@ -154,9 +159,12 @@ making name piece old now (not_there is) = waits is
 making name piece old now (empty is) = subst (Making name piece old) (sym is)
     (torn new_file part_empty (created_there name old) (created_elsewhere name old))
 making name piece old now (in_part taken le is) =
-    let here = changed_there name (created name old) (lengthened piece taken) ∙ ap (option_map (lengthened piece taken)) (created_there name old) in
-    let others = elsewhere_then name old (created name old) (appended name piece taken (created name old)) (created_elsewhere name old)
+    let here = changed_there name (created name old) (lengthened piece taken)
+    ∙ ap (option_map (lengthened piece taken)) (created_there name old) in
+    let others = elsewhere_then name old (created name old) (appended name piece taken (created name old))
+    (created_elsewhere name old)
     (changed_elsewhere name (created name old) (lengthened piece taken)) in
-    subst (Making name piece old) (sym is) (torn (lengthened piece taken new_file) (part_some taken) here others)
+    subst (Making name piece old) (sym is) (torn (lengthened piece taken new_file)
+    (part_some taken) here others)
 making name piece old now (durable is) = subst (Making name piece old) (sym is)
     (done (made_there name piece old) (made_elsewhere name piece old))

@@ -22,7 +22,7 @@ frame_behind number frames f = frame_at number (frames_end frames) f
 abbrev pub torn_log : ℕ → List LogFrame → LogFrame → (taken : ℕ) → File
 torn_log number frames f taken = lengthened (frame_behind number frames f) taken (settled (log_bytes number frames))
 
-one_due : {X : Type 0} (P : X → Type 0) (x : X) → Any P (x ∷ []) → P x
+pub one_due : {X : Type 0} (P : X → Type 0) (x : X) → Any P (x ∷ []) → P x
 one_due P x (n, y, less, is, holds) =
     let first : n ≡ 0 = omega (arith, less) in
     subst P (sym (subst (λ (k : ℕ). slice_index_or (x ∷ []) k y ≡ y) first is)) holds

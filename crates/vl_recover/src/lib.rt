@@ -4,8 +4,16 @@
 //! Each file is read once. Beside the entries the bytes of one file at a time are in memory.
 #![tactic(auto)]
 
+mod deciding;
 mod fails;
+mod finding;
+mod found;
+mod last;
+mod mending;
 mod parts;
+mod plan;
+mod prepared;
+mod preparing;
 mod recovering;
 
 pub use fails::{OpenFail, Why};

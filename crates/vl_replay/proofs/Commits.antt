@@ -1,5 +1,5 @@
 -- What a line does to the disk, by each exit of the functions that answer it.
-use Rattle.std.proofs.Common.{◌≡◌, ◌==◌, ⊎_elim, ℕ, ◌+◌, ◌<◌, ◌≤◌, List, [], ◌∷◌, ◌++◌, length, Some, false, IsTrue, Result, Ok, Err, OnOk, refl, sym, ◌∙◌, ap, subst, arith}
+use Rattle.std.proofs.Common.{◌≡◌, ◌==◌, ⊎_elim, ℕ, ◌+◌, ◌<◌, ◌≤◌, List, [], ◌∷◌, ◌++◌, length, Some, false, IsTrue, Result, Ok, Err, OnOk, refl, sym, ◌∙◌, ap, subst, arith, length-append}
 use Rattle.std.specs.Prelude.{IsErr, IsErrAnd}
 use Rattle.std.specs.FinMap.{entries, len, len-entries, is_sorted}
 use Rattle.std.specs.List.{AllByRecursion}
@@ -41,7 +41,7 @@ use Rattle.vl_replay.specs.Sequential.{State, after_commit}
 use Rattle.vl_replay.specs.Represents.{Represents}
 use Rattle.vl_replay.specs.declared.replayer.store.Store.{Store}
 use Rattle.vl_replay.specs.declared.fails.Halt.{Halt}
-use Rattle.vl_replay.specs.declared.fails.Halt.TheVariants.{NoMemory as NoRoom, Disk as DiskFailed}
+use Rattle.vl_replay.specs.declared.fails.Halt.TheVariants.{NoMemory as NoRoom}
 use Rattle.vl_replay.proofs.Betweens.{extends_itself, extends_same, extends_one, last-extends}
 use Rattle.vl_replay.proofs.Outcomes.{Keeps}
 use Rattle.vl_replay.proofs.DiskSteps.{IsWatched, leaves_weaker, rests, rests_until, goes_then, goes_wider, it_holds}
@@ -55,14 +55,6 @@ on_ok_of (Err halt) P p = tt
 on_ok_at_err : {T : Type 0} (result : Result T Halt) (P : Type 0) → IsErr result → OnOk result P
 on_ok_at_err (Ok answer) P err = cc
 on_ok_at_err (Err halt) P err = tt
-
-not_memory : (P : Type 0) (halt : Halt) → halt ≡ DiskFailed → halt ≡ NoRoom → P
-not_memory P halt one other = cc
-
--- the disk failed, so memory didn't run out
-pub disk_failed : {T : Type 0} (result : Result T Halt) (P : Type 0) → IsErrAnd result (λ halt. halt ≡ DiskFailed) → result ≡ Err NoRoom → P
-disk_failed (Ok answer) P failed is = absurd failed
-disk_failed (Err halt) P failed is = let same : halt ≡ NoRoom = cc in not_memory P halt failed same
 
 -- ---- the commit that is written
 

@@ -1,3 +1,4 @@
+pub mod Appending
 pub mod Betweens
 pub mod Commits
 pub mod Deciding

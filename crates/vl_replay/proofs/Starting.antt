@@ -1,5 +1,5 @@
 -- A store that was opened: what is kept and stored of it, and what a crash leaves meanwhile.
-use Rattle.std.proofs.Common.{◌≡◌, ℕ, ◌+◌, ◌≤◌, List, [], ◌∷◌, ◌++◌, refl, ap, sym, ◌∙◌, subst, arith}
+use Rattle.std.proofs.Common.{◌≡◌, ℕ, zero, suc, take, get_or, ◌<◌, ◌+◌, ◌≤◌, List, [], ◌∷◌, ◌++◌, refl, ap, sym, ◌∙◌, subst, arith, append_assoc}
 use Rattle.std.specs.Prelude.{Option, Some, None, Ok, length, map}
 use Rattle.vl_disk.specs.Crash.{Image}
 use Rattle.vl_disk.specs.DiskState.{DiskState}
@@ -26,6 +26,26 @@ use Rattle.vl_replay.specs.Stored.{LogsShow, Shown, logs_entries, no_logs}
 
 some_same : {X : Type 0} (a b : X) → Some a ≡ Some b → a ≡ b
 some_same a b e = cc
+
+nothing_behind : (es : List Entry) → es ≡ es ++ []
+nothing_behind [] = refl
+nothing_behind (e ∷ es) = ap (λ xs. e ∷ xs) (nothing_behind es)
+
+suc_more : (i : ℕ) → suc i + 1 ≡ suc (i + 1)
+suc_more i = omega arith
+
+-- one item more of a list
+pub take_next : {X : Type 0} (xs : List X) (i : ℕ) (x : X) → i < length xs → x ≡ get_or xs i x → take (i + 1) xs ≡ take i xs ++ x ∷ []
+take_next [] i x within is = absurd (omega arith)
+take_next (first ∷ xs) zero x within is = ap (λ r. r ∷ []) (sym is)
+take_next (first ∷ xs) (suc i) x within is =
+    ap (λ n. take n (first ∷ xs)) (suc_more i) ∙ ap (λ l. first ∷ l) (take_next xs i x (omega arith) is)
+
+-- the entries of the last log are the newest
+pub entries_in-last : (logs : List FrozenLog) (last : FrozenLog) → entries_in (logs ++ last ∷ []) ≡ last.memtable.entries ++ entries_in logs
+entries_in-last [] last = nothing_behind last.memtable.entries
+entries_in-last (log ∷ logs) last =
+    ap (λ es. es ++ log.memtable.entries) (entries_in-last logs last) ∙ append_assoc last.memtable.entries (entries_in logs) log.memtable.entries
 
 -- what an entry leads to is its value
 value_led : (w : Option Entry) (v : Option Stored) → resolved_at no_logs w ≡ Some v → entry_value w ≡ v

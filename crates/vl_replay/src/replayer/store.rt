@@ -250,11 +250,11 @@ impl Store {
             number: self.log.number,
             length: self.log.length,
         };
-        if append_durably(&mut log, disk, &staged).is_err() {
+        let Ok(()) = append_durably(&mut log, disk, &staged) else {
             return Err(Halt::Disk {
                 name: Name::Log(self.log.number),
             });
-        }
+        };
         self.log = log;
         let Some(Open { name: _, handle }) = self.in_use.take() else {
             unreachable!();

@@ -1,0 +1,32 @@
+use Rattle.std.proofs.Common.{ap, subst}
+use Rattle.std.specs.Option.{ForSome}
+use Rattle.vl_disk.specs.declared.name.Name.TheVariants.{Log}
+use Rattle.vl_recover.specs.Fitting.{CanMend}
+use Rattle.vl_recover.specs.Mending.{Kept, LastLog}
+use Rattle.vl_recover.specs.PlanViews.{step_of}
+use Rattle.vl_recover.proofs.Stepping.{last_at, last_none, sync_performs}
+use Rattle.vl_recover.proofs.last.mend_last.Goals as goal
+
+pub sync-requires : goal.sync-requires
+sync-requires g c = subst (λ (l : LastLog). ForSome (g.D.Watched.told c.args.disk.now) (CanMend l)) (ap step_of c.in-Keep.is) c.requires.stands
+
+pub cut-requires-clause-stands : goal.cut-requires-clause-stands
+cut-requires-clause-stands g c = λ disk told. (subst (λ (l : LastLog). ForSome (g.D.Watched.told c.args.disk.now) (CanMend l)) (ap step_of c.in-Cut.is) c.requires.stands disk told).0
+
+pub cut-requires-clause-inside : goal.cut-requires-clause-inside
+cut-requires-clause-inside g c = λ disk told. (subst (λ (l : LastLog). ForSome (g.D.Watched.told c.args.disk.now) (CanMend l)) (ap step_of c.in-Cut.is) c.requires.stands disk told).1
+
+pub rewrite-requires-clause-stands : goal.rewrite-requires-clause-stands
+rewrite-requires-clause-stands g c = subst (λ (l : LastLog). ForSome (g.D.Watched.told c.args.disk.now) (CanMend l)) (ap step_of c.in-Rewrite.is) c.requires.stands
+
+pub head-requires-clause-stands : goal.head-requires-clause-stands
+head-requires-clause-stands g c = subst (λ (l : LastLog). ForSome (g.D.Watched.told c.args.disk.now) (CanMend l)) (ap step_of c.in-Head.is) c.requires.stands
+
+pub returns-in-Nothing-clause-mended : goal.returns-in-Nothing-clause-mended
+returns-in-Nothing-clause-mended g c = last_none g.D.Watched _ (step_of c.args.last) _ (ap step_of c.in-Nothing.is)
+
+pub returns-in-Keep-clause-mended : goal.returns-in-Keep-clause-mended
+returns-in-Keep-clause-mended g c =
+    last_at g.D.Watched _ _ (step_of c.args.last) (Kept c.in-Keep.number) (Log c.in-Keep.number) c.sync.result c.at.result
+    (ap step_of c.in-Keep.is) c.at.ensures
+    (sync_performs g.D.Watched _ _ (Log c.in-Keep.number) c.sync.result c.sync.ensures)

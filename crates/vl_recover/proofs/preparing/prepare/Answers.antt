@@ -1,0 +1,28 @@
+use Rattle.std.proofs.Common.{◌∙◌, sym}
+use Rattle.vl_recover.specs.ReadImage.{read_image}
+use Rattle.vl_recover.proofs.Decided.{answer_by, decided_answer, decided_prepared}
+use Rattle.vl_recover.proofs.Fitted.{found_fits}
+use Rattle.vl_recover.proofs.Unchanged.{nothing_then}
+use Rattle.vl_recover.proofs.preparing.prepare.Goals as goal
+
+pub returns-in_err-prepared-clause-answer : goal.returns-in_err-prepared-clause-answer
+returns-in_err-prepared-clause-answer g c state read told is =
+    answer_by read c.from_residual-in_err-prepared.result c.in_err-prepared.field-0.0 c.from_residual-in_err-prepared.ensures.0 c.from_residual-in_err-prepared.ensures.1
+    (decided_answer read c.in_ok-found.found (c.in_ok-found.ensures.answer state read told is) c.in_err-prepared.field-0.0 c.in_err-prepared.ensures.decided)
+
+pub returns-clause-answer : goal.returns-clause-answer
+returns-clause-answer g c state read told is =
+    decided_prepared read c.in_ok-found.found (c.in_ok-found.ensures.answer state read told is) c.in_ok-prepared.prepared c.in_ok-prepared.ensures.decided
+
+pub returns-clause-fits : goal.returns-clause-fits
+returns-clause-fits g c state told =
+    let (read, is) = read_image state in
+    let before = sym (c.take_room.ensures.no_change.told ∙ c.in_ok-found.ensures.no_change.told) ∙ told in
+    let prepared = decided_prepared read c.in_ok-found.found (c.in_ok-found.ensures.answer state read before is) c.in_ok-prepared.prepared c.in_ok-prepared.ensures.decided in
+    found_fits prepared.finds state is _ prepared.plan
+
+pub returns-then-is_err-clause-no_change : goal.returns-then-is_err-clause-no_change
+returns-then-is_err-clause-no_change g c = nothing_then g.D.Watched _ _ _ ⊥ c.in_ok-found.ensures.no_change c.take_room.ensures.no_change
+
+pub returns-clause-no_change : goal.returns-clause-no_change
+returns-clause-no_change g c = nothing_then g.D.Watched _ _ _ ⊥ c.in_ok-found.ensures.no_change c.take_room.ensures.no_change

@@ -1,0 +1,70 @@
+-- What the reading half of an opening gives to the half that mends.
+use Rattle.std.specs.Prelude.{◌≡◌, ◌≤◌, ℕ, Bool, true, false, List, [], ◌∷◌, map, Option, None, Some, Result, Ok, Err}
+use Rattle.std.specs.Option.{option_map}
+use Rattle.vl_disk.specs.Crash.{Image}
+use Rattle.vl_model.specs.Limits.{max_file_number}
+use Rattle.vl_model.specs.declared.log_frame.LogFrame.{LogFrame}
+use Rattle.vl_recover.specs.declared.fails.Why.{Why}
+use Rattle.vl_recover.specs.declared.found.Found.{Found}
+use Rattle.vl_recover.specs.declared.found.GreatestNumbers.{GreatestNumbers}
+use Rattle.vl_recover.specs.declared.found.LastLog.{LastLog}
+use Rattle.vl_recover.specs.Answers.{AnswersBy, AreStrayNames, Finds, held_log}
+use Rattle.vl_recover.specs.Plans.{Greatest}
+use Rattle.vl_recover.specs.Results.{HasFailed, came_by, frozen_log}
+use Rattle.vl_recover.specs.Walk.{StandingLog, content_end}
+
+abbrev pub greatest_of : GreatestNumbers → Greatest
+greatest_of g = record { log = g.log; table = g.table; manifest = g.manifest }
+
+-- each is a number that a file may have, or 0
+pub record AreFileNumbers (g : GreatestNumbers) : Type 0 where
+  pub log : g.log ≤ max_file_number
+  pub table : g.table ≤ max_file_number
+  pub manifest : g.manifest ≤ max_file_number
+
+-- ---- the last log
+
+abbrev pub last_of : List StandingLog → Option StandingLog
+last_of [] = None
+last_of (q ∷ []) = Some q
+last_of (q ∷ p ∷ ps) = last_of (p ∷ ps)
+
+abbrev pub has_some : List LogFrame → Bool
+has_some [] = false
+has_some (f ∷ fs) = true
+
+abbrev pub last_log : StandingLog → LastLog
+last_log q = record {
+  number = q.number;
+  length = q.length;
+  header = q.reading.header;
+  end = content_end q.reading;
+  has_frames = has_some q.reading.frames;
+}
+
+-- the last log, where there is one, is no greater than the greatest
+abbrev pub IsUpTo : ℕ → Option LastLog → Type 0
+IsUpTo greatest None = Unit {0}
+IsUpTo greatest (Some last) = last.number ≤ greatest
+
+-- ---- all of it
+
+-- what was found is what the image has
+pub record IsFound (image : Image) (found : Found) : Type 0 where
+  pub finds : Finds image
+  pub state : found.state ≡ finds.opening.state
+  pub number : found.number ≡ finds.opening.number
+  pub frozen : map frozen_log found.frozen.items ≡ map held_log finds.opening.logs
+  pub greatest : greatest_of found.greatest ≡ finds.greatest
+  pub last : found.last ≡ option_map last_log (last_of finds.logs)
+  pub strays : AreStrayNames image finds.opening.state.head found.strays.items
+
+-- It was found, or that is the answer.
+abbrev pub FindsSo : Image → Result Found Why → Type 0
+FindsSo image (Ok found) = IsFound image found
+FindsSo image (Err why) = AnswersBy image (came_by why)
+
+-- the disk failed
+abbrev pub IsFault : {A : Type 0} → Result A Why → Type 0
+IsFault (Ok a) = ⊥
+IsFault (Err why) = HasFailed (came_by why)

@@ -1,0 +1,91 @@
+-- When a plan of mending fits a disk: what must stand and be free, and the room that its calls want.
+use Rattle.std.specs.Prelude.{◌≡◌, ◌≢◌, ℕ, List, [], ◌∷◌, length, Option, None, Some, IsTrue}
+use Rattle.vl_disk.specs.Disk.{IsFree, IsInside, Stands}
+use Rattle.vl_disk.specs.DiskState.{DiskState, without}
+use Rattle.vl_disk.specs.Name.{IsNumbered}
+use Rattle.vl_disk.specs.Spare.{CanAppend, IsReady, Spare}
+use Rattle.vl_disk.specs.declared.name.Name.{Name}
+use Rattle.vl_disk.specs.declared.name.Name.TheVariants.{Log, Manifest}
+use Rattle.vl_recover.specs.Mending.{Cut, Headed, Kept, LastLog, NoLast, Plan, Rewritten, with_last, with_log, with_manifest}
+
+-- ---- what stands
+
+-- the last log stands, and is as long as it is to be at least
+abbrev pub CanMend : LastLog → DiskState → Type 0
+CanMend NoLast disk = Unit {0}
+CanMend (Kept log) disk = Stands (Log log) disk
+CanMend (Cut log len) disk = Stands (Log log) disk × IsInside (Log log) len disk
+CanMend (Rewritten log) disk = Stands (Log log) disk
+CanMend (Headed log) disk = Stands (Log log) disk
+
+-- the new log's name is free
+abbrev pub CanMake : Option ℕ → DiskState → Type 0
+CanMake None disk = Unit {0}
+CanMake (Some log) disk = IsFree (Log log) disk
+
+-- each of these files stands, also where those before it are gone
+abbrev pub CanRemove : List Name → DiskState → Type 0
+CanRemove [] disk = Unit {0}
+CanRemove (name ∷ names) disk = Stands name disk × CanRemove names (without name disk)
+
+-- each stage of the plan fits the disk that the ones before it leave
+pub record Fits (plan : Plan) (disk : DiskState) : Type 0 where
+  pub manifest : IsFree (Manifest plan.manifest) disk
+  pub last : CanMend plan.last (with_manifest plan disk)
+  pub log : CanMake plan.log (with_last plan disk)
+  pub strays : CanRemove plan.strays (with_log plan disk)
+
+-- ---- numbers
+
+abbrev pub IsNumberedLog : Option ℕ → Type 0
+IsNumberedLog None = Unit {0}
+IsNumberedLog (Some log) = IsNumbered (Log log)
+
+-- this is not the last log's file
+abbrev pub IsBeside : LastLog → Name → Type 0
+IsBeside NoLast name = Unit {0}
+IsBeside (Kept log) name = name ≢ Log log
+IsBeside (Cut log len) name = name ≢ Log log
+IsBeside (Rewritten log) name = name ≢ Log log
+IsBeside (Headed log) name = name ≢ Log log
+
+abbrev pub IsLogBeside : LastLog → Option ℕ → Type 0
+IsLogBeside last None = Unit {0}
+IsLogBeside last (Some log) = IsBeside last (Log log)
+
+-- the files that are made have numbers that files may have, and the new log another than the last
+pub record HasNumbers (plan : Plan) : Type 0 where
+  pub manifest : IsNumbered (Manifest plan.manifest)
+  pub log : IsNumberedLog plan.log
+  pub beside : IsLogBeside plan.last plan.log
+
+-- ---- room, so that no call wants memory
+
+abbrev pub HasRoomToMend : LastLog → (Name → Spare) → Type 0
+HasRoomToMend NoLast spare = Unit {0}
+HasRoomToMend (Kept log) spare = Unit {0}
+HasRoomToMend (Cut log len) spare = IsTrue (spare (Log log)).change
+HasRoomToMend (Rewritten log) spare = IsReady 16 (spare (Log log))
+HasRoomToMend (Headed log) spare = CanAppend 16 (spare (Log log))
+
+abbrev pub HasRoomToMake : Option ℕ → (Name → Spare) → Type 0
+HasRoomToMake None spare = Unit {0}
+HasRoomToMake (Some log) spare = IsReady 16 (spare (Log log))
+
+pub record HasRoomFor (plan : Plan) (spare : Name → Spare) : Type 0 where
+  pub manifest : IsReady (length plan.piece) (spare (Manifest plan.manifest))
+  pub last : HasRoomToMend plan.last spare
+  pub log : HasRoomToMake plan.log spare
+
+-- the room of all files but the last log is as it was
+abbrev pub SameSpareBeside : LastLog → (Name → Spare) → (Name → Spare) → Type 0
+SameSpareBeside last old new = (name : Name) → IsBeside last name → new name ≡ old name
+
+-- this is not the new log's file
+abbrev pub IsOtherLog : Option ℕ → Name → Type 0
+IsOtherLog None name = Unit {0}
+IsOtherLog (Some log) name = name ≢ Log log
+
+-- the room of all files but the new log is as it was
+abbrev pub SameSpareBesideLog : Option ℕ → (Name → Spare) → (Name → Spare) → Type 0
+SameSpareBesideLog log old new = (name : Name) → IsOtherLog log name → new name ≡ old name

@@ -1,0 +1,146 @@
+//! What an opening decides by what it found.
+
+ghost use Rattle.std.specs.Prelude.{◌≡◌, ◌+◌, ◌≤◌, ◌∷◌, [], IfOk};
+ghost use Rattle.vl_manifest.specs.Manifest as manifests;
+ghost use Rattle.vl_manifest.specs.States.{whole_edits};
+ghost use Rattle.vl_model.specs.Limits.{max_file_number};
+ghost use Rattle.vl_recover.specs.Deciding.{DecidesSo, active_by, log_of, step_for, used_up_of};
+ghost use Rattle.vl_recover.specs.Finding.{AreFileNumbers, IsUpTo};
+ghost use Rattle.vl_recover.specs.Fitting.{HasNumbers};
+ghost use Rattle.vl_recover.specs.PlanViews.{plan_view, step_of};
+ghost use Rattle.vl_recover.specs.Plans as plans;
+
+use crate::Why;
+use crate::found::{Found, LastLog};
+use crate::plan::{LastStep, MendingPlan};
+use crate::prepared::Prepared;
+use std::alloc::{AllocError, Global};
+use vl_manifest::{ManifestState, manifest_bytes};
+use vl_model::{Counter, MAX_FILE_NUMBER};
+
+/// Decides how a store is mended and gone on with. A number that is used up is found before memory is asked for.
+pub(crate) fn decide(alloc: Global, found: Found) -> Result<Prepared, Why>
+    requires numbers { AreFileNumbers found.greatest }
+    requires last { IsUpTo found.greatest.log found.last }
+    ensures decided { DecidesSo found result }
+    ensures numbers { IfOk result (λ prepared. HasNumbers (plan_view prepared.plan)) }
+{
+    let Found {
+        state,
+        number,
+        frozen,
+        greatest,
+        last,
+        strays,
+    } = found;
+    let state = state.opened(greatest.log, greatest.table);
+    let log = new_log(&state, last);
+    if let Some(counter) = used_up(log, greatest.manifest) {
+        return Err(Why::Exhausted(counter));
+    }
+    let manifest = greatest.manifest + 1;
+    let Ok(piece) = manifest_of(alloc, manifest, &state) else {
+        return Err(Why::NoMemory);
+    };
+    Ok(Prepared {
+        number,
+        state,
+        frozen,
+        plan: MendingPlan {
+            manifest,
+            piece,
+            last: last_step(last),
+            log,
+            strays,
+        },
+        active: active_log(log, last),
+    })
+}
+
+// The log that is made: none where the last log has no frames.
+fn new_log(state: &ManifestState, last: Option<LastLog>) -> Option<u32>
+    ensures { result ≡ log_of state.now last }
+{
+    match last {
+        None => Some(state.head.max(state.next_log)),
+        Some(last) => {
+            if last.has_frames {
+                Some(state.next_log)
+            } else {
+                None
+            }
+        }
+    }
+}
+
+// The number that is used up: that of the log that would be made, else the manifest's.
+fn used_up(log: Option<u32>, manifest: u32) -> Option<Counter>
+    ensures { result ≡ used_up_of log manifest }
+{
+    if passes(log) {
+        return Some(Counter::Log);
+    }
+    if manifest == MAX_FILE_NUMBER {
+        return Some(Counter::Manifest);
+    }
+    None
+}
+
+fn passes(log: Option<u32>) -> bool
+    ensures { result ≡ plans.passes log }
+{
+    match log {
+        None => false,
+        Some(number) => number > MAX_FILE_NUMBER,
+    }
+}
+
+// What becomes of the last log.
+fn last_step(last: Option<LastLog>) -> LastStep
+    ensures { step_of result ≡ step_for last }
+{
+    match last {
+        None => LastStep::Nothing,
+        Some(last) => step_of_log(last),
+    }
+}
+
+fn step_of_log(last: LastLog) -> LastStep
+    ensures { step_of result ≡ step_for (Some last) }
+{
+    if last.header {
+        if last.length == last.end {
+            LastStep::Keep(last.number)
+        } else {
+            LastStep::Cut {
+                number: last.number,
+                length: last.end,
+            }
+        }
+    } else if last.length == 0 {
+        LastStep::Head(last.number)
+    } else {
+        LastStep::Rewrite(last.number)
+    }
+}
+
+// The log that takes commits. Where none is made there is a last one.
+fn active_log(log: Option<u32>, last: Option<LastLog>) -> u32
+    ensures { result ≡ active_by log last }
+{
+    match log {
+        Some(number) => number,
+        None => match last {
+            Some(last) => last.number,
+            None => 0,
+        },
+    }
+}
+
+// The bytes of the manifest that says a state.
+fn manifest_of(alloc: Global, number: u32, state: &ManifestState) -> Result<Vec<u8>, AllocError>
+    ensures { IfOk result (λ bytes.
+        bytes.items ≡ manifests.manifest_bytes number (whole_edits state.now ∷ [])) }
+{
+    manifest_bytes(alloc, number, &state.whole_edits(alloc)?)
+}

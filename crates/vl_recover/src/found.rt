@@ -1,0 +1,40 @@
+use crate::FrozenLog;
+use vl_disk::Name;
+use vl_manifest::ManifestState;
+
+/// The greatest number of each kind of file that stands, 0 where none does.
+#[derive(Clone, Copy, Debug, Drop)]
+pub(crate) struct GreatestNumbers {
+    pub log: u32,
+    pub table: u32,
+    pub manifest: u32,
+}
+
+/// The last log, as it stands.
+#[derive(Clone, Copy, Debug, Drop)]
+pub(crate) struct LastLog {
+    pub number: u32,
+    /// Of its file, in bytes.
+    pub length: u64,
+    /// Whether its header is right.
+    pub header: bool,
+    /// Where its content ends, in bytes: 0 without a header.
+    pub end: u64,
+    pub has_frames: bool,
+}
+
+/// What an opening found out by reading.
+#[derive(Drop)]
+pub(crate) struct Found {
+    /// What the current manifest says.
+    pub state: ManifestState,
+    /// Of the last commit.
+    pub number: u64,
+    /// The logs with frames from head on, their numbers rising.
+    pub frozen: Vec<FrozenLog>,
+    pub greatest: GreatestNumbers,
+    /// Of the logs from head on the last.
+    pub last: Option<LastLog>,
+    /// The files that aren't needed behind the opening: manifests, tables, and logs below head.
+    pub strays: Vec<Name>,
+}

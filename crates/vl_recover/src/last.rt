@@ -1,0 +1,75 @@
+//! Mending the last log.
+
+ghost use Rattle.std.specs.Prelude.{◌≡◌, IsTrue};
+ghost use Rattle.std.specs.Option.{ForSome};
+ghost use Rattle.vl_disk.specs.Disk.{IsInside, Stands};
+ghost use Rattle.vl_disk.specs.Spare.{CanAppend, IsReady, SameSpareElsewhere};
+ghost use Rattle.vl_disk.specs.declared.name.Name.TheVariants.{Log};
+ghost use Rattle.vl_recover.specs.Fitting.{CanMend, HasRoomToMend, SameSpareBeside};
+ghost use Rattle.vl_recover.specs.Mending as mending;
+ghost use Rattle.vl_recover.specs.PlanViews.{at_file, step_of};
+ghost use Rattle.vl_recover.specs.Steps.{MendsLast};
+
+use crate::plan::LastStep;
+use vl_disk::{Disk, Failed, Name};
+use vl_seglog::log_header;
+
+/// Mends the last log, and makes it durable. Where it fails the answer is the log's name.
+pub(crate) fn mend_last<D: Disk>(disk: &mut D, last: LastStep) -> Result<(), Name>
+    requires stands { ForSome (D.told disk.old) (CanMend (step_of last)) }
+    requires room { HasRoomToMend (step_of last) (D.spare disk.old) }
+    ensures mended { MendsLast D.Watched (step_of last) disk.old disk.new result }
+    ensures spare { SameSpareBeside (step_of last) (D.spare disk.old) (D.spare disk.new) }
+{
+    match last {
+        LastStep::Nothing => Ok(()),
+        LastStep::Keep(number) => at(Name::Log(number), disk.sync(Name::Log(number))),
+        LastStep::Cut { number, length } => at(Name::Log(number), cut(disk, number, length)),
+        LastStep::Rewrite(number) => at(Name::Log(number), rewrite(disk, number)),
+        LastStep::Head(number) => at(Name::Log(number), head(disk, number)),
+    }
+}
+
+// Cuts the log to a length and makes it durable.
+fn cut<D: Disk>(disk: &mut D, number: u32, length: u64) -> Result<(), Failed>
+    requires stands { ForSome (D.told disk.old) (Stands (Log number)) }
+    requires inside { ForSome (D.told disk.old) (IsInside (Log number) length) }
+    requires room { IsTrue (D.spare disk.old (Log number)).change }
+    ensures mended { MendsLast D.Watched (mending.Cut number length) disk.old disk.new result }
+    ensures spare { SameSpareElsewhere (Log number) (D.spare disk.old) (D.spare disk.new) }
+{
+    disk.cut(Name::Log(number), length)?;
+    disk.sync(Name::Log(number))
+}
+
+// Cuts the log to nothing, gives it a header and makes it durable.
+fn rewrite<D: Disk>(disk: &mut D, number: u32) -> Result<(), Failed>
+    requires stands { ForSome (D.told disk.old) (Stands (Log number)) }
+    requires room { IsReady 16 (D.spare disk.old (Log number)) }
+    ensures mended { MendsLast D.Watched (mending.Rewritten number) disk.old disk.new result }
+    ensures spare { SameSpareElsewhere (Log number) (D.spare disk.old) (D.spare disk.new) }
+{
+    disk.cut(Name::Log(number), 0)?;
+    head(disk, number)
+}
+
+// Gives the empty log a header and makes it durable.
+fn head<D: Disk>(disk: &mut D, number: u32) -> Result<(), Failed>
+    requires stands { ForSome (D.told disk.old) (Stands (Log number)) }
+    requires room { CanAppend 16 (D.spare disk.old (Log number)) }
+    ensures mended { MendsLast D.Watched (mending.Headed number) disk.old disk.new result }
+    ensures spare { SameSpareElsewhere (Log number) (D.spare disk.old) (D.spare disk.new) }
+{
+    disk.append(Name::Log(number), &log_header(number))?;
+    disk.sync(Name::Log(number))
+}
+
+/// A call's result, with the file's name where it failed.
+pub(crate) fn at(name: Name, outcome: Result<(), Failed>) -> Result<(), Name>
+    ensures { result ≡ at_file name outcome }
+{
+    match outcome {
+        Ok(()) => Ok(()),
+        Err(Failed) => Err(name),
+    }
+}

@@ -1,0 +1,17 @@
+use crate::FrozenLog;
+use crate::plan::MendingPlan;
+use vl_manifest::ManifestState;
+
+/// What an opening is about to do, and what it gives then.
+#[derive(Drop)]
+pub(crate) struct Prepared {
+    /// Of the last commit.
+    pub number: u64,
+    /// What the new manifest says.
+    pub state: ManifestState,
+    /// The logs with frames, their numbers rising.
+    pub frozen: Vec<FrozenLog>,
+    pub plan: MendingPlan,
+    /// The log that takes commits then.
+    pub active: u32,
+}

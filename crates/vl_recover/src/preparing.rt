@@ -1,0 +1,75 @@
+//! All that comes before the first change.
+
+ghost use Rattle.std.specs.Prelude.{◌≡◌, Some, IfOk, OnOk};
+ghost use Rattle.std.specs.Option.{ForSome};
+ghost use Rattle.vl_disk.specs.Calls.{ChangesNothing};
+ghost use Rattle.vl_disk.specs.Crash.{Image};
+ghost use Rattle.vl_disk.specs.DiskState.{DiskState};
+ghost use Rattle.vl_disk.specs.Started.{IsRead};
+ghost use Rattle.vl_recover.specs.Deciding.{PreparesSo};
+ghost use Rattle.vl_recover.specs.Finding.{IsFault};
+ghost use Rattle.vl_recover.specs.Fitting.{Fits, HasNumbers, HasRoomFor, HasRoomToMake, HasRoomToMend, SameSpareBeside, SameSpareBesideLog};
+ghost use Rattle.vl_recover.specs.PlanViews.{plan_view, step_of};
+
+use crate::Why;
+use crate::deciding::decide;
+use crate::finding::find;
+use crate::plan::{LastStep, MendingPlan};
+use crate::prepared::Prepared;
+use std::alloc::Global;
+use vl_disk::{Disk, Name, NoMemory};
+use vl_seglog::LOG_HEADER_BYTES;
+
+/// Finds out what stands on a disk, decides how it is mended, and takes all memory that mending wants. It changes
+/// nothing.
+pub(crate) fn prepare<D: Disk>(alloc: Global, disk: &mut D) -> Result<Prepared, Why>
+    ensures answer { (state : DiskState) (read : Image) → D.told disk.old ≡ Some state → IsRead read state
+        → PreparesSo read result }
+    ensures fits { IfOk result (λ prepared. ForSome (D.told disk.new) (Fits (plan_view prepared.plan))) }
+    ensures numbers { IfOk result (λ prepared. HasNumbers (plan_view prepared.plan)) }
+    ensures room { IfOk result (λ prepared. HasRoomFor (plan_view prepared.plan) (D.spare disk.new)) }
+    ensures no_change { ChangesNothing D.Watched disk.old disk.new (IsFault result) }
+{
+    let found = find(alloc, disk)?;
+    let prepared = decide(alloc, found)?;
+    if take_room(disk, &prepared.plan).is_err() {
+        return Err(Why::NoMemory);
+    }
+    Ok(prepared)
+}
+
+// Makes room on the disk for all calls of a plan.
+fn take_room<D: Disk>(disk: &mut D, plan: &MendingPlan) -> Result<(), NoMemory>
+    requires { HasNumbers (plan_view plan.now) }
+    ensures room { OnOk result (HasRoomFor (plan_view plan.now) (D.spare disk.new)) }
+    ensures no_change { ChangesNothing D.Watched disk.old disk.new ⊥ }
+{
+    disk.ready(Name::Manifest(plan.manifest), plan.piece.len() as u64)?;
+    ready_last(disk, plan.last)?;
+    ready_log(disk, plan.log)
+}
+
+fn ready_last<D: Disk>(disk: &mut D, last: LastStep) -> Result<(), NoMemory>
+    ensures room { OnOk result (HasRoomToMend (step_of last) (D.spare disk.new)) }
+    ensures elsewhere { SameSpareBeside (step_of last) (D.spare disk.old) (D.spare disk.new) }
+    ensures no_change { ChangesNothing D.Watched disk.old disk.new ⊥ }
+{
+    match last {
+        LastStep::Nothing => Ok(()),
+        LastStep::Keep(_) => Ok(()),
+        LastStep::Cut { number, .. } => disk.ready(Name::Log(number), 0),
+        LastStep::Rewrite(number) => disk.ready(Name::Log(number), LOG_HEADER_BYTES as u64),
+        LastStep::Head(number) => disk.ready(Name::Log(number), LOG_HEADER_BYTES as u64),
+    }
+}
+
+fn ready_log<D: Disk>(disk: &mut D, log: Option<u32>) -> Result<(), NoMemory>
+    ensures room { OnOk result (HasRoomToMake log (D.spare disk.new)) }
+    ensures elsewhere { SameSpareBesideLog log (D.spare disk.old) (D.spare disk.new) }
+    ensures no_change { ChangesNothing D.Watched disk.old disk.new ⊥ }
+{
+    match log {
+        None => Ok(()),
+        Some(number) => disk.ready(Name::Log(number), LOG_HEADER_BYTES as u64),
+    }
+}
