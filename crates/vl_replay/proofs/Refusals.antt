@@ -1,19 +1,14 @@
 -- Reads of a disk give one refusal at most, and none where the disk opens; and what a refusal puts.
-use Rattle.std.proofs.Common.{◌≡◌, ◌⊎◌, ⊎_elim, inl, inr, ℕ, ◌<◌, ◌≤◌, List, refl, sym, ap, subst, ◌∙◌, arith}
+use Rattle.std.proofs.Common.{◌≡◌, ◌⊎◌, ⊎_elim, inl, inr, refl, sym, ap, subst, ◌∙◌}
 use Rattle.std.specs.Prelude.{Option, None, Some, Result, Ok, Err}
-use Rattle.std.proofs.lemmas.Bool.{cases_lt}
 use Rattle.vl_disk.specs.Crash.{Image}
-use Rattle.vl_disk.specs.declared.name.Name.{Name}
-use Rattle.vl_disk.specs.declared.name.Name.TheVariants.{Log, Manifest, Table}
 use Rattle.vl_io.specs.declared.sink.Sink as sink
 use Rattle.vl_model.specs.declared.counter.Counter.{Counter}
 use Rattle.vl_recover.specs.Answers.{Finds, used_up}
-use Rattle.vl_recover.specs.Opening.{Opening, Opens, StandingLogs}
+use Rattle.vl_recover.specs.OneFinding.{same_used_up}
+use Rattle.vl_recover.specs.Opening.{Opens}
 use Rattle.vl_recover.specs.Opening as openings
-use Rattle.vl_recover.specs.OpeningLaws.{one_standing, single_opening}
-use Rattle.vl_recover.specs.Plans.{AreGreatest, Greatest, IsGreatest, exhausted}
-use Rattle.vl_recover.specs.StageLaws.{ok_same}
-use Rattle.vl_recover.specs.Walk.{StandingLog}
+use Rattle.vl_recover.specs.OpeningLaws.{single_opening}
 use Rattle.vl_replay.specs.Endings.{refusal_line}
 use Rattle.vl_recover.specs.declared.fails.Why.{Why}
 use Rattle.vl_recover.specs.declared.fails.Why.TheVariants as why
@@ -39,33 +34,6 @@ none_some : {X : Type 0} (x : X) → None ≡ Some x → ⊥
 none_some x e = cc
 
 module _ (read : Image) where
-  one_greatest : (kind : ℕ → Name) (a b : ℕ) → IsGreatest read kind a → IsGreatest read kind b → a ≡ b
-  one_greatest kind a b is_a is_b = ⊎_elim
-      (λ (less : a < b). absurd (is_b.stands (omega (arith, less)) (is_a.none_above b less)))
-      (λ (le : b ≤ a). ⊎_elim
-      (λ (less : b < a). absurd (is_a.stands (omega (arith, less)) (is_b.none_above a less)))
-      (λ (ge : a ≤ b). omega (arith, le, ge))
-      (cases_lt b a))
-      (cases_lt a b)
-
-  all_greatest : (a b : Greatest) → AreGreatest read a → AreGreatest read b → a ≡ b
-  all_greatest a b is_a is_b =
-      ap (λ (n : ℕ). record { log = n; table = a.table; manifest = a.manifest }) (one_greatest Log a.log b.log is_a.log is_b.log)
-      ∙ ap (λ (n : ℕ). record { log = b.log; table = n; manifest = a.manifest }) (one_greatest Table a.table b.table is_a.table is_b.table)
-      ∙ ap (λ (n : ℕ). record { log = b.log; table = b.table; manifest = n }) (one_greatest Manifest a.manifest b.manifest is_a.manifest is_b.manifest)
-
-  same_opening : (a b : Finds read) → a.opening ≡ b.opening
-  same_opening a b = ok_same {E = openings.Refusal} a.opening b.opening (single_opening read (Ok a.opening) (Ok b.opening) a.opens b.opens)
-
-  same_used_up : (a b : Finds read) → used_up a ≡ used_up b
-  same_used_up a b =
-      let opening = same_opening a b in
-      let logs : a.logs ≡ b.logs = one_standing read b.opening.state.head a.logs b.logs
-      (subst (λ (o : Opening). StandingLogs read o.state.head a.logs) opening a.standing) b.standing in
-      ap (λ (g : Greatest). exhausted g a.opening.state a.logs) (all_greatest a.greatest b.greatest a.are_greatest b.are_greatest)
-      ∙ ap (λ (o : Opening). exhausted b.greatest o.state a.logs) opening
-      ∙ ap (λ (l : List StandingLog). exhausted b.greatest b.opening.state l) logs
-
   not_both : (refusal : openings.Refusal) → Opens read (Err refusal) → Finds read → ⊥
   not_both refusal refused found = err_ok refusal found.opening (single_opening read (Err refusal) (Ok found.opening) refused found.opens)
 
@@ -73,14 +41,14 @@ module _ (read : Image) where
   one_refused a b is_a is_b = err_same a b (single_opening read (Err a) (Err b) is_a is_b)
 
   one_used : (a b : Counter) (found other : Finds read) → used_up found ≡ Some a → used_up other ≡ Some b → a ≡ b
-  one_used a b found other is_a is_b = some_same a b (sym is_a ∙ same_used_up found other ∙ is_b)
+  one_used a b found other is_a is_b = some_same a b (sym is_a ∙ same_used_up read found other ∙ is_b)
 
   -- what opens isn't refused
   pub opened_not_refused : (found : Finds read) → used_up found ≡ None → (refusal : Refusal) → IsRefused read refusal → ⊥
   opened_not_refused found unused NotAStore refused = not_both openings.NotAStore refused found
   opened_not_refused found unused (NewerFormat format) refused = not_both (openings.NewerFormat format) refused found
   opened_not_refused found unused (Damaged name place) refused = not_both (openings.Damaged name place) refused found
-  opened_not_refused found unused (Exhausted counter) (other, used) = none_some counter (sym unused ∙ same_used_up found other ∙ used)
+  opened_not_refused found unused (Exhausted counter) (other, used) = none_some counter (sym unused ∙ same_used_up read found other ∙ used)
 
   -- two refusals are one
   one_refusal : (a b : Refusal) → IsRefused read a → IsRefused read b → a ≡ b
