@@ -1,5 +1,5 @@
 -- What a line does to the disk, by each exit of the functions that answer it.
-use Rattle.std.proofs.Common.{◌≡◌, ◌==◌, ⊎_elim, ℕ, ◌+◌, ◌<◌, ◌≤◌, List, [], ◌∷◌, ◌++◌, length, Some, false, IsTrue, Result, Ok, Err, OnOk, refl, sym, ◌∙◌, ap, subst, arith}
+use Rattle.std.proofs.Common.{◌≡◌, ◌==◌, ⊎_elim, ℕ, ◌+◌, ◌<◌, ◌≤◌, List, [], ◌∷◌, ◌++◌, length, Some, false, IsTrue, Result, Ok, Err, OnOk, refl, sym, ◌∙◌, ap, subst, arith, length-append}
 use Rattle.std.specs.Prelude.{IsErr, IsErrAnd}
 use Rattle.std.specs.FinMap.{entries, len, len-entries, is_sorted}
 use Rattle.std.specs.List.{AllByRecursion}
@@ -11,26 +11,39 @@ use Rattle.vl_model.specs.Limits.{max_commit_number}
 use Rattle.vl_disk.specs.declared.watched.Watched.{Ghosts}
 use Rattle.vl_disk.specs.Calls.{ChangesNothing}
 use Rattle.vl_disk.specs.DiskState.{DiskState}
-use Rattle.vl_disk.specs.Crash.{Image, Unchanged}
 use Rattle.vl_disk.specs.Faults.{after_calls}
-use Rattle.vl_disk.specs.Moments.{HoldsThroughout, goes_by, holds_weaker}
-use Rattle.vl_seglog.specs.Log.{IsCommit, HasFrame, AreRecords, commit_frame, log_bytes}
 use Rattle.vl_seglog.specs.declared.active.ActiveLog.{ActiveLog}
 use Rattle.vl_txn.specs.Writes.{IsLawful}
-use Rattle.vl_journal.specs.declared.names.TheConstants.{NUMBER}
-use Rattle.vl_journal.specs.Files.{Holds, IsNextFrame}
-use Rattle.vl_journal.specs.Images.{Leaves, ImageShows, ShowsEither}
-use Rattle.vl_replay.specs.Sequential.{State, after_commit}
+use Rattle.std.specs.Option.{option_map}
+use Rattle.std.specs.Prelude.{◌⊎◌}
+use Rattle.vl_disk.specs.Crash.{Image, Unchanged, WhileAppending, WhileSyncing}
+use Rattle.vl_disk.specs.Disk.{IsChangedBy}
+use Rattle.vl_disk.specs.Moments.{Elapses, goes_by}
+use Rattle.vl_disk.specs.declared.name.Name.TheVariants as names
+use Rattle.vl_frame.specs.Runs.{HasFrame}
+use Rattle.vl_layout.specs.Logs.{new_segment}
+use Rattle.vl_recover.specs.AppendLaws.{OpensEither, append_leaves, sync_leaves, with_frame}
+use Rattle.vl_recover.specs.HeldLaws.{opening_held}
+use Rattle.vl_recover.specs.Opening.{Opens}
+use Rattle.vl_recover.specs.TornFrames.{frame_behind}
+use Rattle.vl_seglog.specs.Commit.{AreRecords, IsCommit}
+use Rattle.vl_seglog.specs.Frames.{frame_at, frames_end, frames_grammar}
+use Rattle.vl_seglog.specs.Staging.{IsStaged}
+use Rattle.vl_seglog.specs.declared.staged.Staged.{Staged}
 use Rattle.vl_replay.specs.Between.{ShowsBetween}
+use Rattle.vl_replay.specs.Durable.{GoesFrom, HoldsState, LeadsTo, Leaves}
+use Rattle.vl_replay.specs.Stored.{IsStored, Shown, logs_of}
+use Rattle.vl_replay.specs.Writing.{WhileWriting, written}
+use Rattle.vl_replay.proofs.Deciding.{same_frame, staged_frame}
+use Rattle.vl_replay.proofs.Logged.{numbers_next, shown_by, shown_stays, stored_exactly, stored_kept, stored_next}
+use Rattle.vl_replay.proofs.LogsShown.{next_frame, shows_next}
+use Rattle.vl_replay.specs.Sequential.{State, after_commit}
 use Rattle.vl_replay.specs.Represents.{Represents}
-use Rattle.vl_replay.specs.Durable.{HoldsState, GoesFrom, LeadsTo}
-use Rattle.vl_replay.specs.Stored.{logged, IsStored, Shown}
 use Rattle.vl_replay.specs.declared.replayer.store.Store.{Store}
 use Rattle.vl_replay.specs.declared.fails.Halt.{Halt}
-use Rattle.vl_replay.specs.declared.fails.Halt.TheVariants.{NoMemory as NoRoom, Disk as DiskFailed}
+use Rattle.vl_replay.specs.declared.fails.Halt.TheVariants.{NoMemory as NoRoom}
 use Rattle.vl_replay.proofs.Betweens.{extends_itself, extends_same, extends_one, last-extends}
 use Rattle.vl_replay.proofs.Outcomes.{Keeps}
-use Rattle.vl_replay.proofs.Logged.{next_commit, logged-more, shown_all, shown_stays, stored_exactly, stored_kept, stored_commit}
 use Rattle.vl_replay.proofs.DiskSteps.{IsWatched, leaves_weaker, rests, rests_until, goes_then, goes_wider, it_holds}
 
 -- ---- results
@@ -42,14 +55,6 @@ on_ok_of (Err halt) P p = tt
 on_ok_at_err : {T : Type 0} (result : Result T Halt) (P : Type 0) → IsErr result → OnOk result P
 on_ok_at_err (Ok answer) P err = cc
 on_ok_at_err (Err halt) P err = tt
-
-not_memory : (P : Type 0) (halt : Halt) → halt ≡ DiskFailed → halt ≡ NoRoom → P
-not_memory P halt one other = cc
-
--- the disk failed, so memory didn't run out
-pub disk_failed : {T : Type 0} (result : Result T Halt) (P : Type 0) → IsErrAnd result (λ halt. halt ≡ DiskFailed) → result ≡ Err NoRoom → P
-disk_failed (Ok answer) P failed is = absurd failed
-disk_failed (Err halt) P failed is = let same : halt ≡ NoRoom = cc in not_memory P halt failed same
 
 -- ---- the commit that is written
 
@@ -67,22 +72,17 @@ is_commit last writes list is some left rising lawful =
     record { first = omega arith; last = omega (arith, left); some = at_least_one; rising = rising; lawful = are_records list lawful }
 
 -- the staged frame is that of the next commit, at the log's end
-pub next_frame : (r : Store) (s : State) (disk : DiskState) (writes : Writes) (list : List (List ℕ × Change)) (frame : List ℕ) → Represents r s → IsStored s disk → list ≡ entries writes
-    → frame ≡ commit_frame r.log.number r.log.length (record { number = r.last + 1; writes = list }) → HasFrame (record { number = r.last + 1; writes = list })
-    → IsNextFrame r.log frame (logged s.history) (next_commit s writes)
-next_frame r s disk writes list frame rep stored is spelled has =
-    let number : r.log.number ≡ NUMBER = ap (λ (l : ActiveLog). l.number) rep.log in
-    let place : r.log.length ≡ length (log_bytes NUMBER (logged s.history)) = ap (λ (l : ActiveLog). l.length) rep.log ∙ stored.length_is in
-    let commit : record { number = r.last + 1; writes = list } ≡ next_commit s writes =
-    ap (λ (n : ℕ). record { number = n + 1; writes = list }) rep.last ∙ ap (λ (es : List (List ℕ × Change)). record { number = last_number s.history + 1; writes = es }) is in
-    record {
-      number = number;
-      has_frame = subst HasFrame commit has;
-      spelled = spelled
-          ∙ ap (λ (n : ℕ). commit_frame n r.log.length (record { number = r.last + 1; writes = list })) number
-          ∙ ap (λ (n : ℕ). commit_frame NUMBER n (record { number = r.last + 1; writes = list })) place
-          ∙ ap (commit_frame NUMBER (length (log_bytes NUMBER (logged s.history)))) commit;
-    }
+pub frame_staged : (r : Store) (s : State) (disk : DiskState) (writes : Writes) (list : List (List ℕ × Change)) (staged : Staged) → Represents r s → (stored : IsStored s disk) → list ≡ entries writes
+    → IsStaged r.log.number r.log.length (staged_frame r list) staged
+    → HasFrame frames_grammar (next_frame s.history writes) × (staged.frame.items ≡ frame_behind s.log.number stored.frames (next_frame s.history writes))
+frame_staged r s disk writes list staged rep stored listed is =
+    let same = same_frame r s writes list rep listed in
+    let number : r.log.number ≡ s.log.number = ap (λ (l : ActiveLog). l.number) rep.log in
+    let place : r.log.length ≡ frames_end stored.frames = ap (λ (l : ActiveLog). l.length) rep.log ∙ stored.length_is in (
+      subst (HasFrame frames_grammar) same is.has,
+      is.frame ∙ ap (frame_at r.log.number r.log.length) same ∙ ap (λ (n : ℕ). frame_at n r.log.length (next_frame s.history writes)) number
+      ∙ ap (λ (n : ℕ). frame_at s.log.number n (next_frame s.history writes)) place,
+    )
 
 -- ---- disks
 
@@ -123,44 +123,83 @@ module _ {D : Type 0} (g : Ghosts D) (watched : IsWatched g) where
       }
 
   module _ (s : State) (name : List ℕ) (writes : Writes) (old mid new : D) (failed : Type 0) (no_change : ChangesNothing g old mid failed) (held : HoldsState g IsStored s old)
-      (through : HoldsThroughout g mid new (Leaves (ShowsEither (logged s.history) (logged s.history ++ next_commit s writes ∷ [])))) where
+      (bytes : List ℕ) (staged : HasFrame frames_grammar (next_frame s.history writes) × (bytes ≡ frame_behind s.log.number held.there.2.frames (next_frame s.history writes)))
+      (time : Elapses g mid new (WhileWriting (names.Log s.log.number) bytes)) where
     abbrev after : State
     after = after_commit s name writes
+
+    abbrev state : DiskState
+    state = held.there.0
+
+    abbrev stored : IsStored s state
+    stored = held.there.2
+
+    abbrev between : Image → Type 0
+    between = ShowsBetween Shown s.history after.history
 
     extends : Extends s.history after.history
     extends = extends_one s.history after.history writes refl
 
-    shown_either : (image : Image) → ShowsEither (logged s.history) (logged s.history ++ next_commit s writes ∷ []) image → ShowsBetween Shown s.history after.history image
+    m : ℕ
+    m = last_number s.history
+
+    one_more : last_number after.history ≡ last_number s.history + 1
+    one_more = omega (arith, length-append s.history.commits (writes ∷ []))
+
+    -- an image with the commits before, or with this one too
+    shown_either : (image : Image) → OpensEither stored.manifest stored.frozen (new_segment s.log.number stored.frames) (next_frame s.history writes) (last_number s.history) (last_number s.history + 1) image → between image
     shown_either image either = ⊎_elim
-        (λ (before : ImageShows image (logged s.history)).
-        (last_number s.history, omega arith, last-extends s.history after.history extends, shown_stays s.history after.history extends image (last_number s.history) (omega arith) (shown_all s.history image before)))
-        (λ (now : ImageShows image (logged s.history ++ next_commit s writes ∷ [])).
-        (last_number after.history, last-extends s.history after.history extends, omega arith, shown_all after.history image (subst (ImageShows image) (sym (logged-more s name writes)) now)))
+        (λ (before : Opens image (Ok (opening_held stored.manifest (logs_of s stored.frozen stored.frames) (last_number s.history)))).
+        (last_number s.history, omega arith, last-extends s.history after.history extends, shown_stays s.history after.history extends image (last_number s.history) (omega arith)
+          (shown_by image stored.manifest (logs_of s stored.frozen stored.frames) s.history (last_number s.history) before stored.shows)))
+        (λ (now : Opens image (Ok (opening_held stored.manifest (stored.frozen ++ with_frame (next_frame s.history writes) (new_segment s.log.number stored.frames) ∷ []) (last_number s.history + 1)))).
+        (last_number after.history, last-extends s.history after.history extends, omega arith,
+          subst (Shown image after.history) (sym one_more)
+          (shown_by image stored.manifest (stored.frozen ++ with_frame (next_frame s.history writes) (new_segment s.log.number stored.frames) ∷ []) after.history (last_number s.history + 1) now
+          (shows_next stored.frozen (new_segment s.log.number stored.frames) s.history writes stored.shows))))
         either
 
+    -- what a crash leaves while the frame is written
+    frame_leaves : (now : DiskState) → WhileWriting (names.Log s.log.number) (frame_behind s.log.number stored.frames (next_frame s.history writes)) state now → Leaves between now
+    frame_leaves now during image left = shown_either image (⊎_elim
+        (λ (w : WhileAppending (names.Log s.log.number) (frame_behind s.log.number stored.frames (next_frame s.history writes)) state now).
+        append_leaves stored.manifest stored.frozen (new_segment s.log.number stored.frames) (next_frame s.history writes) state stored.holds staged.0
+        (last_number s.history) (last_number s.history + 1) stored.numbers (numbers_next s name writes state stored staged.0) now w image left)
+        (λ (w : WhileSyncing (names.Log s.log.number) _ now).
+        sync_leaves stored.manifest stored.frozen (new_segment s.log.number stored.frames) (next_frame s.history writes) state stored.holds staged.0
+        (last_number s.history) (last_number s.history + 1) stored.numbers (numbers_next s name writes state stored staged.0) now w image left)
+        during)
+
     -- the frame was handed to the disk
-    written : GoesFrom g Shown old new s.history after.history
-    written =
-        let either = ShowsEither (logged s.history) (logged s.history ++ next_commit s writes ∷ []) in
-        let between = ShowsBetween Shown s.history after.history in
-        goes_then g watched IsStored Shown shown_stays stored_exactly old mid new s.history s.history after.history (extends_itself s.history) extends (looked s old mid failed no_change held).1
-        (holds_weaker g (Leaves either) (Leaves between) mid new through (leaves_weaker either between shown_either))
+    goes_written : GoesFrom g Shown old new s.history after.history
+    goes_written =
+        let (kept, goes) = looked s old mid failed no_change held in
+        let told : g.told mid ≡ Some state = no_change.told ∙ held.there.1 in
+        let wide = rests_until g watched IsStored Shown shown_stays stored_exactly s after.history extends mid (record { calls = no_change.calls ∙ held.calls; there = (state, told, stored) }) in
+        goes_then g watched IsStored Shown shown_stays stored_exactly old mid new s.history s.history after.history (extends_itself s.history) extends goes
+        (goes_by g (Leaves between) mid mid new state (WhileWriting (names.Log s.log.number) bytes) told wide time
+        (λ now during. frame_leaves now (subst (λ (frame : List ℕ). WhileWriting (names.Log s.log.number) frame state now) staged.1 during)))
 
     -- the disk failed while it was written
-    pub carries_failed : {T : Type 0} (result : Result T Halt) → IsErr result → IsErrAnd result (λ halt. halt ≡ DiskFailed) → (now : DiskState) × (g.told new ≡ Some now) → LeadsTo g IsStored Shown old new s after result
-    carries_failed result err disk tells = record {
+    pub carries_failed : {T : Type 0} (result : Result T Halt) → IsErr result → (result ≡ Err NoRoom → ⊥) → (now : DiskState) × (g.told new ≡ Some now) → LeadsTo g IsStored Shown old new s after result
+    carries_failed result err failed tells = record {
       answered = on_ok_at_err result _ err;
-      no_commit = disk_failed result _ disk;
+      no_commit = λ none. absurd (failed none);
       tells = (tells.0, tells.1, tt);
-      through = written;
+      through = goes_written;
     }
 
     -- it was written
-    pub carries_commit : {T : Type 0} (answer : T) → g.calls new ≡ after_calls 2 (g.calls mid) → (now : DiskState) × (g.told new ≡ Some now) × Holds (logged s.history ++ next_commit s writes ∷ []) now
+    pub carries_commit : {T : Type 0} (answer : T) → g.calls new ≡ after_calls 2 (g.calls mid) → IsChangedBy (written (names.Log s.log.number) bytes) (g.told mid) (g.told new)
         → LeadsTo g IsStored Shown old new s after (Ok answer)
-    carries_commit answer calls (now, is, holds) = record {
-      answered = record { calls = calls ∙ ap (after_calls 2) (no_change.calls ∙ held.calls); there = (now, is, stored_commit s name writes held.there.0 now held.there.2 holds) };
-      no_commit = λ none. cc;
-      tells = (now, is, tt);
-      through = written;
-    }
+    carries_commit answer calls changed =
+        let told : g.told mid ≡ Some state = no_change.told ∙ held.there.1 in
+        let whole = frame_behind s.log.number stored.frames (next_frame s.history writes) in
+        let is : g.told new ≡ Some (written (names.Log s.log.number) whole state) =
+        changed ∙ ap (option_map (written (names.Log s.log.number) bytes)) told ∙ ap (λ (frame : List ℕ). Some (written (names.Log s.log.number) frame state)) staged.1 in
+        record {
+          answered = record { calls = calls ∙ ap (after_calls 2) (no_change.calls ∙ held.calls); there = (written (names.Log s.log.number) whole state, is, stored_next s name writes state stored staged.0) };
+          no_commit = λ none. cc;
+          tells = (written (names.Log s.log.number) whole state, is, tt);
+          through = goes_written;
+        }

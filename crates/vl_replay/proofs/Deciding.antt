@@ -11,8 +11,12 @@ use Rattle.vl_model.specs.History.{last_number}
 use Rattle.vl_model.specs.Keys.{Writes}
 use Rattle.vl_model.specs.Limits.{max_commit_number, max_room}
 use Rattle.vl_seglog.specs.declared.active.ActiveLog.{ActiveLog}
-use Rattle.vl_seglog.specs.Log.{commit_frame}
-use Rattle.vl_journal.specs.declared.names.TheConstants.{NUMBER}
+use Rattle.vl_seglog.specs.FrameLaws.{length-item_frame}
+use Rattle.vl_seglog.specs.Staging.{IsStaged}
+use Rattle.vl_seglog.specs.declared.staged.Staged.{Staged}
+use Rattle.vl_model.specs.Frames.{frame_length}
+use Rattle.vl_model.specs.declared.log_frame.LogFrame.{LogFrame}
+use Rattle.vl_model.specs.declared.log_frame.LogFrame.TheVariants.{Committed}
 use Rattle.vl_script.specs.declared.answer.Answer.TheVariants.{Number, Nothing, Full, Exhausted}
 use Rattle.vl_replay.specs.Sequential.{State, OpenTransaction, without_handle, committed, bytes_in_log, after_commit}
 use Rattle.vl_replay.specs.Represents.{IsOpen, Represents, IsOutcome, HasOpen, CanCommit, handle_named}
@@ -21,7 +25,9 @@ use Rattle.vl_replay.specs.declared.replayer.handle.Handle.TheVariants.{Transact
 use Rattle.vl_replay.specs.declared.replayer.handle.Open.{Open}
 use Rattle.vl_replay.specs.declared.replayer.memtable.Memtable.{Memtable}
 use Rattle.vl_replay.specs.declared.replayer.store.Store.{Store}
-use Rattle.vl_replay.proofs.Logged.{frame-length}
+use Rattle.vl_replay.proofs.Logged.{commit-length}
+use Rattle.vl_replay.proofs.LogsShown.{next_frame}
+use Rattle.vl_replay.specs.Opened.{opened_value}
 use Rattle.vl_replay.proofs.States.{IsInUse, held_in_use, named, remove_in_use, Takes, shows_commit}
 
 -- what is open under a name
@@ -49,7 +55,7 @@ module _ (r : Store) (s : State) (name : List ℕ) (number : ℕ) (writes : Writ
   asked : committed s name (get s.handles name) ≡ committed s name (Some (OpenTransaction number holds.stands.1.0 writes))
   asked = ap (committed s name) (holds.found_is ∙ ap Some holds.stands.1.1)
 
-  room_is : r.log.length ≡ s.log_length
+  room_is : r.log.length ≡ s.log.length
   room_is = ap (λ (log : ActiveLog). log.length) rep.log
 
   pub decides_empty : (len writes == 0) ≡ true → (committed s name (get s.handles name) ≡ (Nothing, without_handle s name)) × (remove s.handles name ≡ empty)
@@ -60,19 +66,19 @@ module _ (r : Store) (s : State) (name : List ℕ) (number : ℕ) (writes : Writ
     decides_exhausted past = asked ∙ cond-false _ _ _ some ∙ cond-true _ _ _ (ap (nat_le max_commit_number) (sym rep.last) ∙ le-leb _ _ past)
 
     module _ (left : r.last < max_commit_number) where
-      numbered : committed s name (get s.handles name) ≡ cond (nat_le (s.log_length + bytes_in_log writes) max_room) (Number (last_number s.history + 1), after_commit s name writes) (Full, s)
+      numbered : committed s name (get s.handles name) ≡ cond (nat_le (s.log.length + bytes_in_log writes) max_room) (Number (last_number s.history + 1), after_commit s name writes) (Full, s)
       numbered = asked ∙ cond-false _ _ _ some ∙ cond-false _ _ _ (ap (nat_le max_commit_number) (sym rep.last) ∙ lt-leb _ _ left)
 
       -- adding up to the last value of a number doesn't change whether the log has room
       pub decides_full : max_room < min (r.log.length + bytes_in_log writes) (2 ^ 64 - 1) → committed s name (get s.handles name) ≡ (Full, s)
       decides_full full =
-          let past : max_room < s.log_length + bytes_in_log writes = omega (arith, room_is, full) in
+          let past : max_room < s.log.length + bytes_in_log writes = omega (arith, room_is, full) in
           numbered ∙ cond-false _ _ _ (lt-leb _ _ past)
 
       pub decides_write : min (r.log.length + bytes_in_log writes) (2 ^ 64 - 1) ≤ max_room
           → (written : Writes) × HasOpen r name written × (committed s name (get s.handles name) ≡ (Number (last_number s.history + 1), after_commit s name written))
       decides_write fits =
-          let within : s.log_length + bytes_in_log writes ≤ max_room = omega (arith, room_is, fits) in
+          let within : s.log.length + bytes_in_log writes ≤ max_room = omega (arith, room_is, fits) in
           (writes, (number, open_named r.in_use name (Transaction number writes) is), numbered ∙ cond-true _ _ _ (le-leb _ _ within))
 
 pub can_commit : (r : Store) (name : List ℕ) (number : ℕ) (writes : Writes) → handle_named r.in_use name ≡ Some (Transaction number writes) → (len writes == 0) ≡ false → r.last < max_commit_number → CanCommit r
@@ -102,23 +108,33 @@ same_writes m n writes others kept one_is other_is = cc
 longer_is : (old frame new : ℕ) → new ≡ min (old + frame) (2 ^ 64 - 1) → old + frame < 2 ^ 64 → new ≡ old + frame
 longer_is old frame new is fits = omega arith
 
-same_log : (log : ActiveLog) (number length : ℕ) → log.number ≡ number → log.length ≡ length → log ≡ record { number = number; length = length }
-same_log log number length number_is length_is =
-    ap (λ (n : ℕ). record { number = n; length = log.length }) number_is ∙ ap (λ (n : ℕ). record { number = number; length = n }) length_is
+same_log : (log old : ActiveLog) (length : ℕ) → log.number ≡ old.number → log.length ≡ length → log ≡ record { number = old.number; length = length }
+same_log log old length number_is length_is =
+    ap (λ (n : ℕ). record { number = n; length = log.length }) number_is ∙ ap (λ (n : ℕ). record { number = old.number; length = n }) length_is
 
-pub log_after : (r : Store) (s : State) (name : List ℕ) (writes : Writes) (list : List (List ℕ × Change)) (frame : List ℕ) (log : ActiveLog) → Represents r s → list ≡ entries writes
-    → frame ≡ commit_frame r.log.number r.log.length (record { number = r.last + 1; writes = list }) → log.number ≡ r.log.number → log.length ≡ min (r.log.length + length frame) (2 ^ 64 - 1) → r.log.length + length frame < 2 ^ 64
-    → log ≡ record { number = NUMBER; length = (after_commit s name writes).log_length }
-log_after r s name writes list frame log rep listed spelled number_is length_is fits =
-    let number : r.log.number ≡ NUMBER = ap (λ (l : ActiveLog). l.number) rep.log in
-    let place : r.log.length ≡ s.log_length = ap (λ (l : ActiveLog). l.length) rep.log in
-    let frame_is : length frame ≡ bytes_in_log writes =
-    ap length (spelled ∙ ap (λ (es : List (List ℕ × Change)). commit_frame r.log.number r.log.length (record { number = r.last + 1; writes = es })) listed ∙ ap (λ (n : ℕ). commit_frame n r.log.length (record { number = r.last + 1; writes = entries writes })) number) ∙ frame-length r.log.length (r.last + 1) writes in
-    same_log log NUMBER (s.log_length + bytes_in_log writes) (number_is ∙ number) (omega (arith, longer_is r.log.length (length frame) log.length length_is fits, place, frame_is))
+-- the frame of the next commit, which was staged for the log's end
+abbrev pub staged_frame : Store → List (List ℕ × Change) → LogFrame
+staged_frame r list = Committed (r.last + 1) list
+
+pub same_frame : (r : Store) (s : State) (writes : Writes) (list : List (List ℕ × Change)) → Represents r s → list ≡ entries writes
+    → staged_frame r list ≡ next_frame s.history writes
+same_frame r s writes list rep listed =
+    ap (λ (n : ℕ). Committed (n + 1) list) rep.last ∙ ap (λ (es : List (List ℕ × Change)). Committed (last_number s.history + 1) es) listed
+
+pub log_after : (r : Store) (s : State) (name : List ℕ) (writes : Writes) (list : List (List ℕ × Change)) (staged : Staged) (log : ActiveLog) → Represents r s → list ≡ entries writes
+    → IsStaged r.log.number r.log.length (staged_frame r list) staged → log.number ≡ r.log.number → log.length ≡ min (r.log.length + length staged.frame.items) (2 ^ 64 - 1)
+    → log ≡ (after_commit s name writes).log
+log_after r s name writes list staged log rep listed is number_is length_is =
+    let number : r.log.number ≡ s.log.number = ap (λ (l : ActiveLog). l.number) rep.log in
+    let place : r.log.length ≡ s.log.length = ap (λ (l : ActiveLog). l.length) rep.log in
+    let frame_is : length staged.frame.items ≡ bytes_in_log writes =
+    ap length is.frame ∙ length-item_frame r.log.number r.log.length (staged_frame r list) ∙ ap frame_length (same_frame r s writes list rep listed)
+    ∙ commit-length (last_number s.history + 1) writes in
+    same_log log s.log (s.log.length + bytes_in_log writes) (number_is ∙ number) (omega (arith, longer_is r.log.length (length staged.frame.items) log.length length_is is.fits, place, frame_is))
 
 pub gives_commit : (r : Store) (s : State) (name : List ℕ) (writes : Writes) (log : ActiveLog) (memtable : Memtable) → Represents r s → HasOpen r name writes
-    → log ≡ record { number = NUMBER; length = (after_commit s name writes).log_length } → Takes r.memtable.entries.items memtable.entries.items writes (r.last + 1)
-    → IsOutcome (Number (r.last + 1)) (record { alloc = r.alloc; last = r.last + 1; log = log; memtable = memtable; in_use = None }) (Number (last_number s.history + 1), after_commit s name writes)
+    → log ≡ (after_commit s name writes).log → Takes r.memtable.entries.items memtable.entries.items writes (r.last + 1)
+    → IsOutcome (Number (r.last + 1)) (record { alloc = r.alloc; last = r.last + 1; log = log; frozen = r.frozen; memtable = memtable; in_use = None }) (Number (last_number s.history + 1), after_commit s name writes)
 gives_commit r s name writes log memtable rep (number, is) log_is takes =
     let next : r.last + 1 ≡ last_number s.history + 1 = ap (λ n. n + 1) rep.last in
     record {
@@ -126,7 +142,7 @@ gives_commit r s name writes log memtable rep (number, is) log_is takes =
       stands = record {
         last = next ∙ omega (arith, length-append s.history.commits (writes ∷ []));
         log = log_is;
-        shows = shows_commit r.memtable.entries.items memtable.entries.items s.history writes (r.last + 1) next rep.shows takes;
+        shows = shows_commit (opened_value r.frozen.items) r.memtable.entries.items memtable.entries.items s.history writes (r.last + 1) next rep.shows takes;
         in_use = remove_in_use s.history s.handles name (Transaction number writes) (open_in_use r s name (Transaction number writes) rep is);
       };
     }

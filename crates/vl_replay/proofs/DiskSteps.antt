@@ -7,14 +7,13 @@ use Rattle.vl_disk.specs.Faults.{Rose}
 use Rattle.vl_disk.specs.DiskState.{DiskState}
 use Rattle.vl_disk.specs.Crash.{Image}
 use Rattle.vl_disk.specs.Moments.{waits, holds_weaker, holds_then}
-use Rattle.vl_journal.specs.Images.{Leaves}
 use Rattle.vl_script.specs.declared.line.Line.{Line}
 use Rattle.vl_script.specs.Script.{line_of}
 use Rattle.vl_replay.specs.Sequential.{State, state_after}
 use Rattle.vl_replay.specs.Exchanges.{Exchange, exchange_at, exchanged, state_behind, exchanges_from, and_later, last_state}
 use Rattle.vl_replay.specs.Between.{Showing, ShowsBetween}
 use Rattle.vl_replay.specs.Endings.{CutsAnswer, IsBetweenLines, culprit_of}
-use Rattle.vl_replay.specs.Durable.{Holding, LeavesItsHistory, StaysShown, Tells, HoldsState, HoldsCommits, GoesFrom, GoesAlong, DiskEnds}
+use Rattle.vl_replay.specs.Durable.{DiskEnds, GoesAlong, GoesFrom, Holding, HoldsCommits, HoldsState, Leaves, LeavesItsHistory, StaysShown, Tells}
 use Rattle.vl_replay.specs.declared.ending.Ending.{Ending}
 use Rattle.vl_replay.specs.declared.ending.Ending.TheVariants.{NoMemory}
 use Rattle.vl_replay.proofs.Betweens.{extends_itself, extends_then, between_wider, between_exactly}
@@ -72,7 +71,7 @@ pub record IsWatched {D : Type 0} (g : Ghosts D) : Type 0 where
 
 -- what follows from what a crash leaves
 pub leaves_weaker : (P Q : Image → Type 0) → ((image : Image) → P image → Q image) → (state : DiskState) → Leaves P state → Leaves Q state
-leaves_weaker P Q weaker state leaves image may chance = weaker image (leaves image may chance)
+leaves_weaker P Q weaker state leaves image left = weaker image (leaves image left)
 
 pub rose_earlier : (f a b : ℕ) → f ≤ a → Rose a b → Rose f b
 rose_earlier f a b le rose = omega arith

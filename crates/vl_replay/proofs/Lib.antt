@@ -1,3 +1,4 @@
+pub mod Appending
 pub mod Betweens
 pub mod Commits
 pub mod Deciding
@@ -5,12 +6,15 @@ pub mod DiskSteps
 pub mod Ends
 pub mod Lines
 pub mod Logged
+pub mod LogsShown
 pub mod MemtableEntries
 pub mod Noting
 pub mod OpenedRuns
 pub mod Outcomes
 pub mod Pending
 pub mod Places
+pub mod Recovering
+pub mod Refusals
 pub mod Starting
 pub mod States
 pub mod Stepping

@@ -1,78 +1,105 @@
--- What is stored of a state, and shown of a history, in a store of one log: the laws that the loop needs, and what a commit
--- adds.
-use Rattle.std.proofs.Common.{◌≡◌, ◌+◌, ◌-◌, ℕ, List, [], ◌∷◌, ◌++◌, length, take, ap, sym, ◌∙◌, arith, subst}
-use Rattle.std.proofs.lemmas.List.{take_all, take-append-le}
+-- What is stored of a state, and shown of a history: the laws that the loop needs, and what a commit adds.
+use Rattle.std.proofs.Common.{◌≡◌, ◌+◌, ℕ, List, [], ◌∷◌, ◌++◌, length-append, refl, ap, sym, ◌∙◌, arith, subst}
+use Rattle.std.specs.Prelude.{Ok}
 use Rattle.std.specs.FinMap.{entries, len-entries}
 use Rattle.vl_disk.specs.DiskState.{DiskState}
 use Rattle.vl_disk.specs.Crash.{Image}
-use Rattle.vl_journal.specs.Files.{Holds}
-use Rattle.vl_journal.specs.Images.{ImageShows}
-use Rattle.vl_journal.specs.StoreImages.{leaves_all}
-use Rattle.vl_model.specs.History.{History, last_number, commits_up_to}
+use Rattle.vl_disk.specs.declared.name.Name.TheVariants as names
+use Rattle.vl_frame.specs.Runs.{HasFrame}
+use Rattle.vl_layout.specs.Logs.{new_segment}
+use Rattle.vl_layout.specs.declared.segment.Segment.{Segment}
+use Rattle.vl_manifest.specs.declared.state.ManifestState.{ManifestState}
+use Rattle.vl_model.specs.Frames.{frame_length}
+use Rattle.vl_model.specs.History.{History, last_number}
 use Rattle.vl_model.specs.Keys.{Writes}
-use Rattle.vl_seglog.specs.Laws.{length-commit_frame, log_bytes-length-more}
-use Rattle.vl_seglog.specs.Log.{Commit, commit_frame, log_bytes}
+use Rattle.vl_model.specs.declared.log_frame.LogFrame.TheVariants.{Committed}
+use Rattle.vl_recover.specs.AppendLaws.{append_holds, commit_counts, goes_on, with_frame}
+use Rattle.vl_recover.specs.Held.{HoldsStore}
+use Rattle.vl_recover.specs.HeldLaws.{GoOn, held_opens, opening_held}
+use Rattle.vl_recover.specs.Opening.{Opens}
+use Rattle.vl_recover.specs.TornFrames.{frame_behind}
+use Rattle.vl_seglog.specs.CommitLaws.{frame_length-committed}
+use Rattle.vl_seglog.specs.FrameLaws.{frames_end-more}
+use Rattle.vl_seglog.specs.Frames.{frames_end, frames_grammar}
 use Rattle.vl_replay.specs.Sequential.{State, bytes_in_log, after_commit}
 use Rattle.vl_replay.specs.Durable.{LeavesItsHistory, StaysShown}
-use Rattle.vl_replay.specs.Stored.{numbered, logged, IsStored, Shown}
+use Rattle.vl_replay.specs.Stored.{IsStored, LogsShow, Shown, logs_of}
+use Rattle.vl_replay.specs.Writing.{written}
+use Rattle.vl_replay.proofs.LogsShown.{held_show, next_frame, shows_later, shows_next}
 use Rattle.vl_replay.proofs.Outcomes.{Keeps}
 
 -- ---- the laws
 
-all_up_to : (h : History) → commits_up_to h (last_number h) ≡ h.commits
-all_up_to h = take_all (h.first + length h.commits - h.first) h.commits (omega arith)
-
-pub shown_all : (h : History) (image : Image) → ImageShows image (logged h) → Shown image h (last_number h)
-shown_all h image shows = subst (λ (commits : List Writes). ImageShows image (numbered h.first commits)) (sym (all_up_to h)) shows
+-- an image that opens with logs which show a history shows it
+pub shown_by : (image : Image) (manifest : ManifestState) (logs : List Segment) (h : History) (m : ℕ)
+    → Opens image (Ok (opening_held manifest logs m)) → LogsShow logs h m → Shown image h m
+shown_by image manifest logs h m opens shows =
+    record { opening = opening_held manifest logs m; opens = opens; number = refl; logs = held_show logs h m shows }
 
 pub stored_exactly : LeavesItsHistory IsStored Shown
-stored_exactly s disk stored image may chance = shown_all s.history image (leaves_all (logged s.history) disk stored.commits image may chance)
+stored_exactly s disk stored image left =
+    let logs = logs_of s stored.frozen stored.frames in
+    let m = last_number s.history in
+    shown_by image stored.manifest logs s.history m
+    (held_opens stored.manifest logs m disk stored.holds stored.numbers image left.left) stored.shows
 
 pub shown_stays : StaysShown Shown
 shown_stays h k e image m le shown =
-    let same : commits_up_to k m ≡ commits_up_to h m =
-    ap (λ (n : ℕ). take (m - n) k.commits) e.first ∙ ap (take (m - h.first)) e.commits ∙ take-append-le (m - h.first) h.commits e.later (omega arith) in
-    subst (λ (n : ℕ). ImageShows image (numbered n (commits_up_to k m))) (sym e.first)
-    (subst (λ (commits : List Writes). ImageShows image (numbered h.first commits)) (sym same) shown)
+    record { opening = shown.opening; opens = shown.opens; number = shown.number; logs = shows_later shown.opening.logs h k m e le shown.logs }
 
 -- the same is stored of a state with the same commits
 pub stored_kept : (before after : State) (disk : DiskState) → Keeps before after → IsStored before disk → IsStored after disk
-stored_kept before after disk keeps stored = record {
-  commits = subst (λ (h : History). Holds (logged h) disk) (sym keeps.history) stored.commits;
-  length_is = keeps.log_length ∙ stored.length_is ∙ ap (λ (h : History). length (log_bytes 1 (logged h))) (sym keeps.history);
-}
+stored_kept before after disk keeps stored =
+    let log = sym keeps.log in
+    let h = sym keeps.history in
+    record {
+      manifest = stored.manifest;
+      frozen = stored.frozen;
+      frames = stored.frames;
+      holds = subst (λ n. HoldsStore stored.manifest (stored.frozen ++ new_segment n stored.frames ∷ []) disk) (ap (λ l. l.number) log) stored.holds;
+      numbers = subst (λ n. GoOn stored.manifest.covered (stored.frozen ++ new_segment n stored.frames ∷ []) (last_number after.history)) (ap (λ l. l.number) log)
+          (subst (λ g. GoOn stored.manifest.covered (logs_of before stored.frozen stored.frames) (last_number g)) h stored.numbers);
+      shows = subst (λ n. LogsShow (stored.frozen ++ new_segment n stored.frames ∷ []) after.history (last_number after.history)) (ap (λ l. l.number) log)
+          (subst (λ g. LogsShow (logs_of before stored.frozen stored.frames) g (last_number g)) h stored.shows);
+      length_is = ap (λ l. l.length) keeps.log ∙ stored.length_is;
+    }
 
 -- ---- one commit more
 
-abbrev pub next_commit : State → Writes → Commit
-next_commit s writes = record { number = last_number s.history + 1; writes = entries writes }
+pub commit-length : (number : ℕ) (writes : Writes) → frame_length (Committed number (entries writes)) ≡ bytes_in_log writes
+commit-length number writes = omega (arith, frame_length-committed number (entries writes), len-entries writes)
 
-abbrev commit_with : Writes → ℕ → Commit
-commit_with writes number = record { number = number; writes = entries writes }
+module _ (s : State) (name : List ℕ) (writes : Writes) (disk : DiskState) (stored : IsStored s disk)
+    (has : HasFrame frames_grammar (next_frame s.history writes)) where
+  abbrev pub frame : List ℕ
+  frame = frame_behind s.log.number stored.frames (next_frame s.history writes)
 
-numbered-more : (n : ℕ) (commits : List Writes) (writes : Writes) → numbered n (commits ++ writes ∷ []) ≡ numbered n commits ++ commit_with writes (n + length commits + 1) ∷ []
-numbered-more n [] writes =
-    let same : n + 1 ≡ n + 0 + 1 = omega arith in
-    ap (λ (m : ℕ). commit_with writes m ∷ []) same
-numbered-more n (first ∷ commits) writes =
-    let same : n + 1 + length commits + 1 ≡ n + length (first ∷ commits) + 1 = omega arith in
-    ap (λ (later : List Commit). commit_with first (n + 1) ∷ later)
-    (numbered-more (n + 1) commits writes ∙ ap (λ (m : ℕ). numbered (n + 1) commits ++ commit_with writes m ∷ []) same)
+  abbrev last : Segment
+  last = new_segment s.log.number stored.frames
 
-pub logged-more : (s : State) (name : List ℕ) (writes : Writes) → logged (after_commit s name writes).history ≡ logged s.history ++ next_commit s writes ∷ []
-logged-more s name writes = numbered-more s.history.first s.history.commits writes
+  abbrev after : State
+  after = after_commit s name writes
 
-pub frame-length : (at number : ℕ) (writes : Writes) → length (commit_frame 1 at (record { number = number; writes = entries writes })) ≡ bytes_in_log writes
-frame-length at number writes = omega (arith, length-commit_frame 1 at (commit_with writes number), len-entries writes)
+  abbrev m : ℕ
+  m = last_number s.history
 
--- after a commit that was written the state with it is stored
-pub stored_commit : (s : State) (name : List ℕ) (writes : Writes) (before now : DiskState) → IsStored s before → Holds (logged s.history ++ next_commit s writes ∷ []) now → IsStored (after_commit s name writes) now
-stored_commit s name writes before now stored holds =
-    let old = logged s.history in
-    let new = next_commit s writes in
-    let longer : s.log_length + bytes_in_log writes ≡ length (log_bytes 1 (old ++ new ∷ [])) =
-    omega (arith, stored.length_is, log_bytes-length-more 1 old new, frame-length (length (log_bytes 1 old)) (last_number s.history + 1) writes) in
-    record {
-      commits = subst (λ (commits : List Commit). Holds commits now) (sym (logged-more s name writes)) holds;
-      length_is = longer ∙ ap (λ (commits : List Commit). length (log_bytes 1 commits)) (sym (logged-more s name writes));
-    }
+  one_more : last_number after.history ≡ m + 1
+  one_more = omega (arith, length-append s.history.commits (writes ∷ []))
+
+  -- the commits go on with it
+  pub numbers_next : GoOn stored.manifest.covered (stored.frozen ++ with_frame (next_frame s.history writes) last ∷ []) (m + 1)
+  numbers_next = goes_on stored.manifest.covered stored.frozen last (next_frame s.history writes) m (m + 1) stored.numbers
+      (commit_counts m (frames_end stored.frames) (entries writes))
+
+  -- after it was written the state with it is stored
+  pub stored_next : IsStored after (written (names.Log s.log.number) frame disk)
+  stored_next = record {
+    manifest = stored.manifest;
+    frozen = stored.frozen;
+    frames = stored.frames ++ next_frame s.history writes ∷ [];
+    holds = append_holds stored.manifest stored.frozen last (next_frame s.history writes) disk stored.holds has;
+    numbers = subst (GoOn stored.manifest.covered (stored.frozen ++ with_frame (next_frame s.history writes) last ∷ [])) (sym one_more) numbers_next;
+    shows = subst (LogsShow (stored.frozen ++ with_frame (next_frame s.history writes) last ∷ []) after.history) (sym one_more)
+        (shows_next stored.frozen last s.history writes stored.shows);
+    length_is = omega (arith, stored.length_is, frames_end-more stored.frames (next_frame s.history writes), commit-length (m + 1) writes);
+  }

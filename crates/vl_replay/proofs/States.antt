@@ -13,13 +13,14 @@ use Rattle.std.proofs.lemmas.Bool.{cond-true, cond-false, cases_lt, le-leb, lt-l
 use Rattle.std.proofs.lemmas.List.{take-append-le}
 use Rattle.std.proofs.lemmas.Map.Text.{is_eq-slice_cmp}
 use Rattle.std.proofs.lemmas.Slice.Eq.{bytes_eq-Decides}
-use Rattle.vl_model.specs.Keys.{Writes, key_cmp, is_key_length}
-use Rattle.vl_model.specs.History.{History, no_history, last_number, with_commit, value_at, value_left, newer, last_change}
+use Rattle.vl_model.specs.Keys.{Stored, Writes, key_cmp, is_key_length}
+use Rattle.vl_model.specs.History.{History, last_number, with_commit, value_at, value_left, newer, last_change}
 use Rattle.vl_model.specs.Reads.{KeyRead}
 use Rattle.vl_model.specs.declared.change.Change.{Change}
 use Rattle.vl_model.specs.declared.change.Change.TheVariants.{Set as Put, Delete}
 use Rattle.vl_model.specs.HistoryLaws.{value_at-with_commit}
 use Rattle.vl_replay.specs.Memtable.{newest}
+use Rattle.vl_replay.specs.Opened.{opened_value}
 use Rattle.vl_replay.specs.Sequential as sequential
 use Rattle.vl_replay.specs.Sequential.{State, Outcome, OpenTransaction, with_handle, without_handle, opened, read, read_in_transaction, is_lawful_write, written, dropped, found, fits_transaction}
 use Rattle.vl_replay.specs.Represents.{IsReadable, ShowsHistory, StandsFor, IsOpen, Represents, IsOutcome, handle_named, write_answer, writes_after}
@@ -142,7 +143,7 @@ gives_full r s name opens o rep is none some =
     gives_as _ (opened_full s name opens missing (ap len in_use.2 ∙ len-one held.0.name in_use.0)) (record { answer_is = refl; stands = rep })
 
 pub gives_open : (r : Store) (s : State) (name : List ℕ) (opens : sequential.Handle) (handle : Handle) → Represents r s → StandsFor s.history handle opens → is_some r.in_use ≡ false →
-    IsOutcome (Number r.last) (record { alloc = r.alloc; last = r.last; log = r.log; memtable = r.memtable; in_use = Some (record { name = name; handle = handle }) }) (opened s name opens)
+    IsOutcome (Number r.last) (record { alloc = r.alloc; last = r.last; log = r.log; frozen = r.frozen; memtable = r.memtable; in_use = Some (record { name = name; handle = handle }) }) (opened s name opens)
 gives_open r s name opens handle rep stands none =
     let nothing : s.handles ≡ empty = subst (λ o. IsOpen s.history o s.handles) (none_of r.in_use none) rep.in_use in
     gives_as _ (opened_new s name opens nothing) (record {
@@ -179,7 +180,7 @@ pub gives_if_ok : (result : Result Answer Halt) (answer : Answer) (r : Store) (o
 gives_if_ok result answer r o is gives = IfOk-weaker result (λ a. a ≡ answer) (λ a. IsOutcome a r o) (λ a e. subst (λ x. IsOutcome x r o) (sym e) gives) is
 
 pub read_view : (r : Store) (s : State) (name key : List ℕ) (number : ℕ) → Represents r s → IsInUse s.history s.handles name (View number) → is_key_length (length key) ≡ true →
-    IsOutcome (found (value_left None (newest r.memtable.entries.items key number))) r (read s name key (get s.handles name))
+    IsOutcome (found (value_left (opened_value r.frozen.items key) (newest r.memtable.entries.items key number))) r (read s name key (get s.handles name))
 read_view r s name key number rep holds lawful =
     gives_as _ (ap (read s name key) (holds.found_is ∙ ap Some holds.stands.1) ∙ cond-true _ _ _ lawful) (record {
       answer_is = ap found (rep.shows.values number key holds.stands.0);
@@ -194,7 +195,7 @@ read_own r s name key number writes change rep holds lawful own =
     (record { answer_is = refl; stands = rep })
 
 pub read_noted : (r : Store) (s : State) (name key : List ℕ) (number : ℕ) (writes : Writes) → Represents r s → handle_named r.in_use name ≡ Some (Transaction number writes) → is_key_length (length key) ≡ true → get writes key ≡ None →
-    IsOutcome (found (value_left None (newest r.memtable.entries.items key number))) r (read s name key (get s.handles name))
+    IsOutcome (found (value_left (opened_value r.frozen.items key) (newest r.memtable.entries.items key number))) r (read s name key (get s.handles name))
 read_noted r s name key number writes rep named_is lawful missing =
     let holds = named s.history s.handles r.in_use name (Transaction number writes) rep.in_use named_is in
     let reads = holds.stands.1.0 in
@@ -218,7 +219,7 @@ kept_open h handles held kept is e = (is.0, subst (λ k. StandsFor h k is.0) e i
 
 -- the replayer with another handle under the name that is in use
 abbrev pub with_kept : Store → Open → Handle → Store
-with_kept r held kept = record { alloc = r.alloc; last = r.last; log = r.log; memtable = r.memtable; in_use = Some (record { name = held.name; handle = kept }) }
+with_kept r held kept = record { alloc = r.alloc; last = r.last; log = r.log; frozen = r.frozen; memtable = r.memtable; in_use = Some (record { name = held.name; handle = kept }) }
 
 pub stands_kept : (r : Store) (s : State) (held : Open) (kept : Handle) → Represents r s → r.in_use ≡ Some held → held.handle ≡ kept → Represents (with_kept r held kept) s
 stands_kept r s held kept rep is e =
@@ -260,7 +261,7 @@ gives_write (Err e) r s held name key change number writes new rep is same kept_
 
 -- the replayer with nothing in use
 abbrev pub with_none : Store → Store
-with_none r = record { alloc = r.alloc; last = r.last; log = r.log; memtable = r.memtable; in_use = None }
+with_none r = record { alloc = r.alloc; last = r.last; log = r.log; frozen = r.frozen; memtable = r.memtable; in_use = None }
 
 pub stands_without : (r : Store) (s : State) (name : List ℕ) (kept : Handle) → Represents r s → IsInUse s.history s.handles name kept → Represents (with_none r) (without_handle s name)
 stands_without r s name kept rep holds = record { last = rep.last; log = rep.log; shows = rep.shows; in_use = remove_in_use s.history s.handles name kept holds }
@@ -307,8 +308,8 @@ readable_last : (h : History) → IsReadable h (last_number h)
 readable_last h = (omega arith, omega arith)
 
 -- a memtable that took the writes of a commit shows the history with it
-pub shows_commit : (entries new : List Entry) (h : History) (writes : Writes) (number : ℕ) → number ≡ last_number h + 1 → ShowsHistory entries h → Takes entries new writes number → ShowsHistory new (with_commit h writes)
-shows_commit entries new h writes number is shows takes =
+pub shows_commit : (opened : List ℕ → Option Stored) (entries new : List Entry) (h : History) (writes : Writes) (number : ℕ) → number ≡ last_number h + 1 → ShowsHistory opened entries h → Takes entries new writes number → ShowsHistory opened new (with_commit h writes)
+shows_commit opened entries new h writes number is shows takes =
     let old_versions = up_to_more (last_number h) number entries (omega (arith, is)) shows.versions in
     let last_is : last_number (with_commit h writes) ≡ number = omega (arith, is, length-append h.commits (writes ∷ [])) in
     record {
@@ -316,31 +317,19 @@ shows_commit entries new h writes number is shows takes =
       versions = subst (λ m. AllByRecursion (λ (entry : Entry). entry.version ≤ m) new) (sym last_is) (takes.up_to old_versions);
     }
   where
-    values_after : AllByRecursion (λ (entry : Entry). entry.version ≤ number) entries → last_number (with_commit h writes) ≡ number → (n : ℕ) (key : List ℕ) → IsReadable (with_commit h writes) n → value_left None (newest new key n) ≡ value_at (with_commit h writes) n key
+    values_after : AllByRecursion (λ (entry : Entry). entry.version ≤ number) entries → last_number (with_commit h writes) ≡ number → (n : ℕ) (key : List ℕ) → IsReadable (with_commit h writes) n → value_left (opened key) (newest new key n) ≡ value_at (with_commit h writes) n key
     values_after old_versions last_is n key readable =
-        ap (value_left None) (takes.changes key n old_versions) ∙ elim (cases_lt (last_number h) n) [
+        ap (value_left (opened key)) (takes.changes key n old_versions) ∙ elim (cases_lt (last_number h) n) [
           | inl later ↦
               let n_is : n ≡ last_number h + 1 = omega (arith, is, last_is, readable.1) in
-              ap (λ b. value_left None (newer (newest entries key n) (cond b (get writes key) None))) (le-leb number n (omega (arith, is)))
-              ∙ value_left-newer None (newest entries key n) (get writes key)
-              ∙ ap (λ change. value_left (value_left None change) (get writes key)) (newest-later entries key (last_number h) n shows.versions (omega (arith, n_is)))
+              ap (λ b. value_left (opened key) (newer (newest entries key n) (cond b (get writes key) None))) (le-leb number n (omega (arith, is)))
+              ∙ value_left-newer (opened key) (newest entries key n) (get writes key)
+              ∙ ap (λ change. value_left (value_left (opened key) change) (get writes key)) (newest-later entries key (last_number h) n shows.versions (omega (arith, n_is)))
               ∙ ap (λ value. value_left value (get writes key)) (shows.values (last_number h) key (readable_last h))
               ∙ sym (value_at-with_commit h writes key)
               ∙ ap (λ m. value_at (with_commit h writes) m key) (sym n_is)
           | inr le ↦
-              ap (λ b. value_left None (newer (newest entries key n) (cond b (get writes key) None))) (lt-leb number n (omega (arith, is)))
+              ap (λ b. value_left (opened key) (newer (newest entries key n) (cond b (get writes key) None))) (lt-leb number n (omega (arith, is)))
               ∙ shows.values n key (readable.0, le)
               ∙ sym (value_at-before h writes n key le)
         ]
-
--- ---- nothing yet
-
-take_none : {X : Type 0} (n : ℕ) → take {A = X} n [] ≡ []
-take_none zero = refl
-take_none (suc n) = refl
-
-pub shows_none : (entries : List Entry) → entries ≡ [] → ShowsHistory entries no_history
-shows_none entries none = subst (λ es. ShowsHistory es no_history) (sym none) (record {
-  values = λ n key readable. sym (ap (λ commits. value_left (get (empty {X = List ℕ} {R = key_cmp}) key) (last_change commits key)) (take_none (n - 0)) ∙ get-empty key_cmp key);
-  versions = tt;
-})

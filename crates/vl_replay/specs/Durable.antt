@@ -7,7 +7,7 @@ use Rattle.vl_disk.specs.Faults.{Rose}
 use Rattle.vl_disk.specs.DiskState.{DiskState}
 use Rattle.vl_disk.specs.Crash.{Image}
 use Rattle.vl_disk.specs.Moments.{HoldsThroughout}
-use Rattle.vl_journal.specs.Images.{Leaves}
+use Rattle.vl_recover.specs.Alike.{IsLeft}
 use Rattle.vl_replay.specs.Sequential.{State}
 use Rattle.vl_replay.specs.Exchanges.{Exchange, last_state}
 use Rattle.vl_replay.specs.Between.{Showing, ShowsBetween}
@@ -16,6 +16,14 @@ use Rattle.vl_replay.specs.Runs.{Course}
 use Rattle.vl_replay.specs.declared.fails.Halt.{Halt}
 use Rattle.vl_replay.specs.declared.fails.Halt.TheVariants.{NoMemory as NoRoom}
 use Rattle.vl_replay.specs.declared.ending.Ending.TheVariants.{NoMemory}
+
+-- P holds of whatever a crash leaves of this disk, if no torn bytes spell a frame by chance
+abbrev pub Leaves : (Image → Type 0) → DiskState → Type 0
+Leaves P disk = (image : Image) → IsLeft disk image → P image
+
+-- the disk is as it was, and was asked for no changing call
+abbrev pub IsAsBefore : {D : Type 0} → Ghosts D → (old new : D) → Type 0
+IsAsBefore g old new = (g.told new ≡ g.told old) × (g.calls new ≡ g.calls old)
 
 -- what a disk holds of a state
 abbrev pub Holding : Type 1

@@ -3,8 +3,13 @@ use Rattle.std.specs.Prelude.{◌≡◌, ◌-◌, ◌^◌, ◌≤◌, ℕ, min, 
 use Rattle.std.specs.Option.{option_map}
 use Rattle.std.specs.Fmt.{decimal}
 use Rattle.vl_disk.specs.Faults.{Rose}
+use Rattle.vl_disk.specs.declared.name.Name.{Name}
+use Rattle.vl_disk.specs.declared.name.Name.TheVariants.{Log, Table, Manifest}
+use Rattle.vl_script.specs.Script.{counter_text}
+use Rattle.vl_replay.specs.declared.fails.Refusal.{Refusal}
+use Rattle.vl_replay.specs.declared.fails.Refusal.TheVariants.{NotAStore, NewerFormat, Damaged, Exhausted}
 use Rattle.vl_replay.specs.declared.ending.Ending.{Ending}
-use Rattle.vl_replay.specs.declared.ending.Ending.TheVariants.{Complete, BadLine, BadWords, DiskFault, NotAStore, NoMemory, ReadFault, WriteFault, AnswerCut}
+use Rattle.vl_replay.specs.declared.ending.Ending.TheVariants.{Complete, BadLine, BadWords, DiskFault, Refused, NoMemory, ReadFault, WriteFault, AnswerCut}
 
 -- a count of lines stands still at its type's end
 abbrev pub line_number : ℕ → ℕ
@@ -22,8 +27,18 @@ usage_line =
 abbrev pub disk_fault_line : List ℕ
 disk_fault_line = codes "disk fault" ++ (10 ∷ [])
 
-abbrev pub not_a_store_line : List ℕ
-not_a_store_line = codes "not a store" ++ (10 ∷ [])
+-- a file, by its kind and number
+abbrev pub file_text : Name → List ℕ
+file_text (Log number) = codes "log " ++ decimal number
+file_text (Table number) = codes "table " ++ decimal number
+file_text (Manifest number) = codes "manifest " ++ decimal number
+
+-- of what isn't opened
+abbrev pub refusal_line : Refusal → List ℕ
+refusal_line NotAStore = codes "not a store" ++ (10 ∷ [])
+refusal_line (NewerFormat format) = codes "newer format " ++ decimal format ++ (10 ∷ [])
+refusal_line (Damaged name place) = codes "damaged " ++ file_text name ++ codes " at " ++ decimal place ++ (10 ∷ [])
+refusal_line (Exhausted counter) = codes "exhausted " ++ counter_text counter ++ (10 ∷ [])
 
 abbrev pub no_memory_line : List ℕ
 no_memory_line = codes "no memory" ++ (10 ∷ [])
@@ -69,7 +84,7 @@ end_of Complete = record { status = 0; culprit = NoOne; last = NoPiece }
 end_of BadLine = record { status = 1; culprit = TheLine; last = BadLinePiece }
 end_of BadWords = record { status = 2; culprit = TheWords; last = Line usage_line }
 end_of DiskFault = record { status = 3; culprit = TheDisk; last = Line disk_fault_line }
-end_of NotAStore = record { status = 4; culprit = TheFiles; last = Line not_a_store_line }
+end_of (Refused refusal) = record { status = 4; culprit = TheFiles; last = Line (refusal_line refusal) }
 end_of NoMemory = record { status = 5; culprit = Memory; last = Line no_memory_line }
 end_of ReadFault = record { status = 6; culprit = TheSource; last = Line read_fault_line }
 end_of WriteFault = record { status = 7; culprit = TheSink; last = LineFront }

@@ -119,7 +119,7 @@ accepted s name writes = (Number (last_number s.history + 1), after_commit s nam
 
 -- whether the log has room for it
 abbrev has_room : State → Writes → Bool
-has_room s writes = nat_le (s.log_length + bytes_in_log writes) max_room
+has_room s writes = nat_le (s.log.length + bytes_in_log writes) max_room
 
 -- nothing is left open behind a commit
 alone : (s : State) (name : List ℕ) (handle : Handle) → IsSound s → get s.handles name ≡ Some handle → remove s.handles name ≡ empty

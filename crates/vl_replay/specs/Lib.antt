@@ -1,11 +1,14 @@
 pub mod Between
 pub mod Durable
+pub mod DurableLaws
 pub mod Endings
 pub mod Exchanges
+pub mod Halts
 pub mod Input
 pub mod Laws
 pub mod Limits
 pub mod Memtable
+pub mod Opened
 pub mod Opening
 pub mod Represents
 pub mod Runs
@@ -13,3 +16,4 @@ pub mod Sequential
 pub mod Start
 pub mod Steps
 pub mod Stored
+pub mod Writing

@@ -1,10 +1,16 @@
 -- What an opening gives, where a store was opened and where not.
-use Rattle.std.specs.Prelude.{Option, Some, None, Result, Ok, Err}
-use Rattle.vl_journal.specs.declared.fails.OpenFail.{OpenFail as Why}
-use Rattle.vl_journal.specs.declared.fails.OpenFail.TheVariants as why
+use Rattle.std.specs.Prelude.{◌≡◌, ◌≢◌, ◌⊎◌, Option, Some, None, Result, Ok, Err}
+use Rattle.vl_disk.specs.Crash.{Image}
+use Rattle.vl_recover.specs.Answers.{AnswersBy, Finds, used_up}
+use Rattle.vl_recover.specs.Opening.{Opens}
+use Rattle.vl_recover.specs.Results.{came_by}
+use Rattle.vl_recover.specs.declared.fails.OpenFail.{OpenFail}
+use Rattle.vl_recover.specs.declared.fails.Why.{Why}
+use Rattle.vl_recover.specs.declared.fails.Why.TheVariants as why
 use Rattle.vl_replay.specs.declared.ending.Ending.{Ending}
-use Rattle.vl_replay.specs.declared.ending.Ending.TheVariants.{NotAStore, NoMemory, DiskFault}
-use Rattle.vl_replay.specs.declared.fails.OpenFail.{OpenFail}
+use Rattle.vl_replay.specs.declared.ending.Ending.TheVariants.{Refused, NoMemory, DiskFault}
+use Rattle.vl_replay.specs.declared.fails.Refusal.{Refusal}
+use Rattle.vl_replay.specs.declared.fails.Refusal.TheVariants as refusals
 
 -- the disk, in the store or handed back
 abbrev pub disk_of : {R D : Type 0} → (R → D) → Result R (OpenFail D) → D
@@ -16,8 +22,38 @@ abbrev pub why_of : {R D : Type 0} → Result R (OpenFail D) → Option Why
 why_of (Ok replayer) = None
 why_of (Err fail) = Some fail.why
 
+-- an opening refused what stands on the disk
+abbrev pub why_refused : Refusal → Why
+why_refused refusals.NotAStore = why.NotAStore
+why_refused (refusals.NewerFormat format) = why.NewerFormat format
+why_refused (refusals.Damaged name place) = why.Damaged name place
+why_refused (refusals.Exhausted counter) = why.Exhausted counter
+
 -- how a run ends whose store wasn't opened
 abbrev pub ending_unopened : Why → Ending
-ending_unopened why.NotAStore = NotAStore
+ending_unopened why.NotAStore = Refused refusals.NotAStore
+ending_unopened (why.NewerFormat format) = Refused (refusals.NewerFormat format)
+ending_unopened (why.Damaged name place) = Refused (refusals.Damaged name place)
+ending_unopened (why.Exhausted counter) = Refused (refusals.Exhausted counter)
 ending_unopened why.NoMemory = NoMemory
-ending_unopened why.Disk = DiskFault
+ending_unopened (why.Disk name) = DiskFault
+
+-- what reads give is refused so
+abbrev pub IsRefused : Image → Refusal → Type 0
+IsRefused read refusal = AnswersBy read (came_by (why_refused refusal))
+
+-- an opening answers so by what reads give: a store that is there, with a number left for each file that is made, is
+-- opened; a refusal has its cause; want of memory and faults may come instead
+abbrev pub OpensBy : Image → Option Why → Type 0
+OpensBy read None = (found : Finds read) × (used_up found ≡ None)
+OpensBy read (Some reason) = AnswersBy read (came_by reason)
+
+-- the disk failed
+abbrev pub IsFault : Option Why → Type 0
+IsFault None = ⊥
+IsFault (Some why.NotAStore) = ⊥
+IsFault (Some (why.NewerFormat format)) = ⊥
+IsFault (Some (why.Damaged name place)) = ⊥
+IsFault (Some (why.Exhausted counter)) = ⊥
+IsFault (Some why.NoMemory) = ⊥
+IsFault (Some (why.Disk name)) = Unit {0}

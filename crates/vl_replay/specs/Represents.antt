@@ -3,11 +3,12 @@ use Rattle.std.specs.Prelude.{◌≡◌, ℕ, ◌+◌, ◌<◌, ◌≤◌, ◌==
 use Rattle.std.specs.List.{AllByRecursion}
 use Rattle.std.specs.FinMap.{FinMap, get, insert, remove, empty, len}
 use Rattle.std.specs.Str.{bytes_eq}
-use Rattle.vl_model.specs.Keys.{Writes, key_cmp}
+use Rattle.vl_model.specs.Keys.{Stored, Writes, key_cmp}
 use Rattle.vl_model.specs.declared.change.Change.{Change}
 use Rattle.vl_model.specs.History.{History, last_number, value_at, value_left}
 use Rattle.vl_model.specs.Reads.{Read}
 use Rattle.vl_replay.specs.Memtable.{newest}
+use Rattle.vl_replay.specs.Opened.{opened_value}
 use Rattle.vl_replay.specs.Sequential.{State, Outcome, OpenTransaction, OpenView, without_handle, is_lawful_write, fits_transaction, committed, after_commit}
 use Rattle.vl_replay.specs.Sequential as sequential
 use Rattle.vl_replay.specs.declared.fails.Halt.{Halt}
@@ -17,7 +18,6 @@ use Rattle.vl_replay.specs.declared.replayer.handle.Open.{Open}
 use Rattle.vl_replay.specs.declared.replayer.handle.Handle.{Handle}
 use Rattle.vl_replay.specs.declared.replayer.handle.Handle.TheVariants.{Transaction, View}
 use Rattle.vl_model.specs.Limits.{max_commit_number}
-use Rattle.vl_journal.specs.declared.names.TheConstants.{NUMBER}
 use Rattle.vl_replay.specs.declared.replayer.decision.Decision.{Decision}
 use Rattle.vl_replay.specs.declared.replayer.decision.Decision.TheVariants.{Refuse, Empty, Write}
 use Rattle.vl_replay.specs.declared.replayer.store.Store.{Store}
@@ -30,10 +30,10 @@ use Rattle.vl_txn.specs.declared.set_fail.SetFail.TheVariants.{EmptyKey, KeyTooL
 abbrev pub IsReadable : History → ℕ → Type 0
 IsReadable h number = (h.first ≤ number) × (number ≤ last_number h)
 
--- the entries of a memtable show a history: at each of its numbers they leave of each key what it has there
-pub record ShowsHistory (entries : List Entry) (h : History) : Type 0 where
+-- The entries show the history over what was opened: at each of its numbers they leave of each key what it has there.
+pub record ShowsHistory (opened : List ℕ → Option Stored) (entries : List Entry) (h : History) : Type 0 where
   pub values : (number : ℕ) (key : List ℕ) → IsReadable h number
-      → value_left None (newest entries key number) ≡ value_at h number key
+      → value_left (opened key) (newest entries key number) ≡ value_at h number key
   pub versions : AllByRecursion (λ entry. entry.version ≤ last_number h) entries
 
 -- what is kept of a handle stands for it; the reads of a transaction aren't kept
@@ -51,8 +51,8 @@ IsOpen h (Some held) handles =
 
 pub record Represents (r : Store) (s : State) : Type 0 where
   pub last : r.last ≡ last_number s.history
-  pub log : r.log ≡ record { number = NUMBER; length = s.log_length }
-  pub shows : ShowsHistory r.memtable.entries.items s.history
+  pub log : r.log ≡ s.log
+  pub shows : ShowsHistory (opened_value r.frozen.items) r.memtable.entries.items s.history
   pub in_use : IsOpen s.history r.in_use s.handles
 
 -- this answer, and the state that the store stands for after it, are the outcome

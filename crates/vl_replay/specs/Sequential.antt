@@ -10,7 +10,8 @@ use Rattle.vl_model.specs.declared.change.Change.TheVariants.{Set as Put, Delete
 use Rattle.vl_model.specs.declared.counter.Counter.TheVariants.{Commit as CommitNumber}
 use Rattle.vl_model.specs.Limits.{max_commit_number, max_room}
 use Rattle.vl_disk.specs.Faults.{after_calls}
-use Rattle.vl_seglog.specs.Log.{commit_length}
+use Rattle.vl_seglog.specs.Commit.{commit_length}
+use Rattle.vl_seglog.specs.declared.active.ActiveLog.{ActiveLog}
 pub use Rattle.vl_txn.specs.Refusals.{fits_transaction, write_bytes}
 use Rattle.vl_script.specs.declared.line.Line.{Line}
 use Rattle.vl_script.specs.declared.line.Line.TheVariants.{Begin, View, Get, Set, Delete as DeleteLine, Commit, Drop}
@@ -23,11 +24,11 @@ pub data Handle : Type 0 where
   OpenTransaction : ℕ → List Read → Writes → Handle
   OpenView : ℕ → Handle
 
--- the history, how long the log of its commits is in bytes, what the names in use stand for, and how many changing calls the
--- disk was asked for
+-- the history, the log that takes its commits, with its length in bytes, what the names in use stand for, and how many
+-- changing calls the disk was asked for
 pub record State : Type 0 where
   pub history : History
-  pub log_length : ℕ
+  pub log : ActiveLog
   pub handles : FinMap key_cmp Handle
   pub calls : ℕ
 
@@ -95,7 +96,7 @@ bytes_in_log writes = commit_length (len writes) (write_bytes writes)
 abbrev pub after_commit : State → List ℕ → Writes → State
 after_commit s name writes = record {
   history = with_commit s.history writes;
-  log_length = s.log_length + bytes_in_log writes;
+  log = record { number = s.log.number; length = s.log.length + bytes_in_log writes };
   handles = remove s.handles name;
   calls = after_calls 2 s.calls;
 }
@@ -108,7 +109,7 @@ committed s name (Some (OpenView number)) = (ReadOnly, s)
 committed s name (Some (OpenTransaction number reads writes)) =
     if len writes == 0 then (Nothing, without_handle s name)
     else (if nat_le max_commit_number (last_number s.history) then (Exhausted CommitNumber, s)
-    else (if nat_le (s.log_length + bytes_in_log writes) max_room then (Number (last_number s.history + 1), after_commit s name writes)
+    else (if nat_le (s.log.length + bytes_in_log writes) max_room then (Number (last_number s.history + 1), after_commit s name writes)
     else (Full, s)))
 
 -- a transaction or a view ends, and its name is free again; what a transaction has written goes with it

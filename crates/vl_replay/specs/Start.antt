@@ -1,40 +1,66 @@
--- The state in which a run begins. For now a store is opened only over a disk on which nothing stands.
-use Rattle.std.specs.Prelude.{◌≡◌, ℕ, List}
-use Rattle.std.specs.FinMap.{empty, len-empty}
-use Rattle.std.proofs.Common.{sym, ◌∙◌, subst, zero-le}
-use Rattle.vl_model.specs.Keys.{key_cmp}
-use Rattle.vl_model.specs.History.{no_history}
-use Rattle.vl_disk.specs.declared.watched.Watched.{Ghosts}
+-- The state in which a run begins: that of the store that its disk opens as.
+use Rattle.std.specs.Prelude.{◌≡◌, ℕ, List, [], length, None, Some}
+use Rattle.std.specs.FinMap.{empty, get, len, len-empty}
+use Rattle.std.proofs.Common.{sym, ◌∙◌, ap, zero-le}
+use Rattle.vl_disk.specs.Crash.{Image}
+use Rattle.vl_disk.specs.DiskState.{DiskState}
 use Rattle.vl_disk.specs.Faults.{after_calls}
-use Rattle.vl_journal.specs.Files.{IsAsBefore, IsBlank}
-use Rattle.vl_replay.specs.Sequential.{State, Handle}
+use Rattle.vl_disk.specs.Started.{IsRead}
+use Rattle.vl_disk.specs.declared.name.Name.{Name}
+use Rattle.vl_disk.specs.declared.watched.Watched.{Ghosts}
+use Rattle.vl_model.specs.Keys.{key_cmp}
+use Rattle.vl_recover.specs.Alike.{IsLeft, OpensLike}
+use Rattle.vl_recover.specs.Answers.{AreStrayNames, Finds, calls_to_open, used_up}
+use Rattle.vl_recover.specs.Plans.{active_log}
+use Rattle.vl_recover.specs.Starts.{MayOpen}
+use Rattle.vl_replay.specs.Durable.{DiskEnds, IsAsBefore, Tells}
 use Rattle.vl_replay.specs.Exchanges.{AreExplained, exchanges_from}
-use Rattle.vl_replay.specs.Laws.{IsSound, none_in_empty, nothing_there, exchanges_from-explained}
+use Rattle.vl_replay.specs.Laws.{IsSound, exchanges_from-explained, none_in_empty, nothing_there}
 use Rattle.vl_replay.specs.Runs.{Course}
-use Rattle.vl_replay.specs.Durable.{Tells, DiskEnds}
-use Rattle.vl_replay.specs.Stored.{IsStored, Shown}
+use Rattle.vl_replay.specs.Sequential.{Handle, State}
+use Rattle.vl_replay.specs.Stored.{IsStored, LogsShow, Shown}
 
--- the store over no commits, whose log has a header of 16 bytes alone
-abbrev pub empty_store : ℕ → State
-empty_store calls = record { history = no_history; log_length = 16; handles = empty; calls = calls }
+-- A run over this disk begins in this state: the disk opens as a store, whose logs show the state's history, which has
+-- no commits yet but those of the logs.
+pub record StartsIn {D : Type 0} (g : Ghosts D) (disk : D) (s : State) : Type 0 where
+  pub state : DiskState
+  pub told : g.told disk ≡ Some state
+  -- what reads give of it, and what opening finds there, with a number left for each file that it makes
+  pub read : Image
+  pub is_read : IsRead read state
+  pub found : Finds read
+  pub left : used_up found ≡ None
+  -- the history is the opened one
+  pub first : s.history.first ≡ found.opening.number
+  pub commits : s.history.commits ≡ []
+  pub shows : LogsShow found.opening.logs s.history found.opening.number
+  -- the log that takes commits has none yet
+  pub log : s.log ≡ record { number = active_log found.greatest found.opening.state found.logs; length = 16 }
+  pub handles : s.handles ≡ empty
+  -- opening asks for so many changing calls
+  pub strays : List Name
+  pub are_strays : AreStrayNames read found.opening.state.head strays
+  pub calls : s.calls ≡ after_calls (calls_to_open found (length strays)) (g.calls disk)
 
--- the state in which a run over this disk begins: opening asks for six changing calls
-abbrev pub StartsIn : {D : Type 0} → Ghosts D → D → State → Type 0
-StartsIn g disk s = s ≡ empty_store (after_calls 6 (g.calls disk))
+-- Crashes are spoken of where all of the store is durable: whatever a crash leaves of the disk opens as what reads give. So
+-- it is with a disk that was just started, and with one that a run left.
+pub record IsDurable (disk : DiskState) : Type 0 where
+  pub may_open : MayOpen disk
+  pub as_read : (read image : Image) → IsRead read disk → IsLeft disk image → OpensLike image read
 
--- What a run did to a disk on which nothing stood, and from which nothing was removed: where the store wasn't opened, the
--- disk is as it was.
+-- What a run did to a disk whose store is durable; where the store wasn't opened, the disk is as it was.
 abbrev pub DiskEndsFromStart : {D : Type 0} → Ghosts D → (old new : D) → Course → Type 0
 DiskEndsFromStart g old new run =
-    Tells g old IsBlank → DiskEnds g IsStored Shown (IsAsBefore g old new) old new run
+    Tells g old IsDurable → DiskEnds g IsStored Shown (IsAsBefore g old new) old new run
 
 -- ---- what is read in such a run is explained
 
-empty_sound : (calls : ℕ) → IsSound (empty_store calls)
-empty_sound calls =
-    record { one = rw (len-empty key_cmp Handle) zero-le; current = λ name handle is. absurd (nothing_there handle (sym is ∙ none_in_empty name)) }
-
 pub all_explained : {D : Type 0} (g : Ghosts D) (disk : D) (s : State) (texts : List (List ℕ))
     → StartsIn g disk s → AreExplained (exchanges_from s texts)
-all_explained g disk s texts is =
-    exchanges_from-explained texts s (subst IsSound (sym is) (empty_sound (after_calls 6 (g.calls disk))))
+all_explained g disk s texts starts = exchanges_from-explained texts s sound
+  where
+    sound : IsSound s
+    sound = record {
+      one = rw (ap len starts.handles ∙ len-empty key_cmp Handle) zero-le;
+      current = λ name handle is. absurd (nothing_there handle (sym is ∙ ap (λ handles. get handles name) starts.handles ∙ none_in_empty name));
+    }

@@ -1,31 +1,52 @@
--- What a disk holds of a state, and what an image shows of a history, for a store of one log and one manifest.
-use Rattle.std.specs.Prelude.{◌≡◌, ◌+◌, ℕ, List, [], ◌∷◌, length}
-use Rattle.std.specs.FinMap.{entries}
-use Rattle.vl_model.specs.Keys.{Writes}
-use Rattle.vl_model.specs.History.{History, commits_up_to}
-use Rattle.vl_disk.specs.DiskState.{DiskState}
+-- What a disk holds of a state, and what an image shows of a history, for a store without tables.
+use Rattle.std.specs.Prelude.{◌≡◌, ℕ, List, [], ◌∷◌, ◌++◌, None, Ok}
 use Rattle.vl_disk.specs.Crash.{Image}
-use Rattle.vl_seglog.specs.Log.{Commit, log_bytes}
-use Rattle.vl_journal.specs.Files.{Holds}
-use Rattle.vl_journal.specs.Images.{ImageShows}
+use Rattle.vl_disk.specs.DiskState.{DiskState}
+use Rattle.vl_layout.specs.Logs.{log_length, memtable, new_segment}
+use Rattle.vl_layout.specs.Shows.{AreUpTo, Shows}
+use Rattle.vl_layout.specs.declared.segment.Segment.{Segment}
+use Rattle.vl_manifest.specs.declared.state.ManifestState.{ManifestState}
+use Rattle.vl_model.specs.History.{History, last_number}
+use Rattle.vl_model.specs.Winners.{Logs}
+use Rattle.vl_model.specs.declared.entry.Entry.{Entry}
+use Rattle.vl_model.specs.declared.log_frame.LogFrame.{LogFrame}
+use Rattle.vl_recover.specs.Held.{HoldsStore}
+use Rattle.vl_recover.specs.Opening.{Opening, Opens}
+use Rattle.vl_recover.specs.HeldLaws.{GoOn}
 use Rattle.vl_replay.specs.Sequential.{State}
 
--- commits with their numbers, of which the first is one above a number, as the log has them
-abbrev pub numbered : ℕ → List Writes → List Commit
-numbered n [] = []
-numbered n (writes ∷ later) =
-    record { number = n + 1; writes = entries writes } ∷ numbered (n + 1) later
+-- the entries of logs that rise, end to end, the newest first
+abbrev pub logs_entries : List Segment → List Entry
+logs_entries [] = []
+logs_entries (s ∷ ss) = logs_entries ss ++ memtable s
 
--- the commits of a history, as the log has them
-abbrev pub logged : History → List Commit
-logged h = numbered h.first h.commits
+-- where there are no tables no pointer is followed
+abbrev pub no_logs : Logs
+no_logs pointer key = None
 
--- the disk holds the commits of the state's history and nothing else, all of it synced, and the log is as long as the
--- state says
+-- The logs show the history at a number, and nothing behind it.
+pub record LogsShow (logs : List Segment) (h : History) (m : ℕ) : Type 0 where
+  pub shows : Shows no_logs (logs_entries logs) h (λ _. m) m
+  pub up_to : AreUpTo m (logs_entries logs)
+
+-- The image opens at this number, and its logs show the history there.
+pub record Shown (image : Image) (h : History) (m : ℕ) : Type 0 where
+  pub opening : Opening
+  pub opens : Opens image (Ok opening)
+  pub number : opening.number ≡ m
+  pub logs : LogsShow opening.logs h m
+
+-- the logs that take no more commits, and behind them the one with these frames that does
+abbrev pub logs_of : State → List Segment → List LogFrame → List Segment
+logs_of s frozen frames = frozen ++ new_segment s.log.number frames ∷ []
+
+-- The disk holds the state: a manifest and logs, all of them durable, of which the last takes commits; the commits in
+-- them end with the history's last one, and they show the history there.
 pub record IsStored (s : State) (disk : DiskState) : Type 0 where
-  pub commits : Holds (logged s.history) disk
-  pub length_is : s.log_length ≡ length (log_bytes 1 (logged s.history))
-
--- the image shows the commits of the history up to a number, and nothing else
-abbrev pub Shown : Image → History → ℕ → Type 0
-Shown image h m = ImageShows image (numbered h.first (commits_up_to h m))
+  pub manifest : ManifestState
+  pub frozen : List Segment
+  pub frames : List LogFrame
+  pub holds : HoldsStore manifest (logs_of s frozen frames) disk
+  pub numbers : GoOn manifest.covered (logs_of s frozen frames) (last_number s.history)
+  pub shows : LogsShow (logs_of s frozen frames) s.history (last_number s.history)
+  pub length_is : s.log.length ≡ log_length frames

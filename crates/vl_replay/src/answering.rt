@@ -10,7 +10,8 @@ ghost use Rattle.vl_replay.specs.Runs.{Script};
 ghost use Rattle.vl_replay.specs.Durable.{HoldsState, CarriesOut};
 ghost use Rattle.vl_replay.specs.Stored.{IsStored, Shown};
 ghost use Rattle.vl_replay.specs.Steps.{IsAnswered, IsNext, EndsAtBadLine, StepsOn, DiskSteps};
-ghost use Rattle.vl_replay.specs.declared.fails.Halt.TheVariants.{Disk as DiskHalt};
+ghost use Rattle.vl_replay.specs.Halts.{HaltsByDisk};
+ghost use Rattle.vl_replay.specs.declared.fails.Refusal.{Refusal};
 
 use crate::ending::{DISK_FAULT, Ending, NO_MEMORY, finish};
 use crate::fails::Halt;
@@ -31,7 +32,7 @@ fn carry_out<D: Disk>(
         → IfOk result (λ out. IsAnswered s text.now replayer.new.store (option_map (λ text. text.items) out)) }
     ensures carries { (s : State) → Represents replayer.old.store s
         → CarriesOut D.Watched IsStored Shown replayer.old.disk replayer.new.disk s (state_behind s (exchange_at s text.now)) result }
-    ensures cause { HasCause (D.faults replayer.old.disk) (D.faults replayer.new.disk) (result ≡ Err DiskHalt) }
+    ensures cause { HasCause (D.faults replayer.old.disk) (D.faults replayer.new.disk) (HaltsByDisk result) }
 {
     let Some(line) = parse_line(alloc, text)? else {
         return Ok(None);
@@ -48,7 +49,7 @@ pub fn end_at_bad_line<K: Sink>(alloc: Global, answered: u64, sink: &mut K) -> E
     ensures sink_faults { CountsFaultsOf TheSink (Some result) (K.faults sink.old) (K.faults sink.new) }
     ensures not_the_disk { culprit_of result ≢ TheDisk }
     ensures not_the_source { culprit_of result ≢ TheSource }
-    ensures not_the_files { result ≢ Ending.NotAStore }
+    ensures not_the_files { (refusal : Refusal) → result ≢ Ending.Refused refusal }
     ensures not_the_words { result ≢ Ending.BadWords }
     ensures whole { CutsAnswer result → ⊥ }
 {
@@ -78,7 +79,7 @@ pub fn answer<K: Sink, D: Disk>(
     ensures sink_faults { CountsFaultsOf TheSink result (K.faults sink.old) (K.faults sink.new) }
     ensures disk_faults { CountsFaultsOf TheDisk result (D.faults replayer.old.disk) (D.faults replayer.new.disk) }
     ensures not_the_source { option_map culprit_of result ≢ Some TheSource }
-    ensures not_the_files { result ≢ Some Ending.NotAStore }
+    ensures not_the_files { (refusal : Refusal) → result ≢ Some (Ending.Refused refusal) }
     ensures not_the_words { result ≢ Some Ending.BadWords }
 {
     match carry_out(alloc, replayer, text) {
@@ -88,6 +89,6 @@ pub fn answer<K: Sink, D: Disk>(
         },
         Ok(None) => Some(end_at_bad_line(alloc, answered, sink)),
         Err(Halt::NoMemory) => Some(finish(sink, NO_MEMORY, Ending::NoMemory)),
-        Err(Halt::Disk) => Some(finish(sink, DISK_FAULT, Ending::DiskFault)),
+        Err(Halt::Disk { .. }) => Some(finish(sink, DISK_FAULT, Ending::DiskFault)),
     }
 }

@@ -2,6 +2,7 @@
 ghost use Rattle.std.specs.Prelude.{◌≡◌};
 ghost use Rattle.vl_replay.specs.Steps.{Finishes};
 
+use crate::fails::Refusal;
 use vl_io::Sink;
 
 /// How a run ended, and the disk.
@@ -21,8 +22,8 @@ pub enum Ending {
     BadWords,
     /// Status 3: the disk failed.
     DiskFault,
-    /// Status 4: something stands on the disk. For now that may also be a store.
-    NotAStore,
+    /// Status 4: what stands on the disk isn't opened.
+    Refused(Refusal),
     /// Status 5: memory ran out.
     NoMemory,
     /// Status 6: the source failed.
@@ -45,7 +46,7 @@ impl Ending {
             Ending::BadLine => 1,
             Ending::BadWords => 2,
             Ending::DiskFault => 3,
-            Ending::NotAStore => 4,
+            Ending::Refused(_) => 4,
             Ending::NoMemory => 5,
             Ending::ReadFault => 6,
             Ending::WriteFault | Ending::AnswerCut => 7,
@@ -58,8 +59,6 @@ pub const USAGE: &[u8] =
     b"usage: vlstore replay DIR, trial STOP OUTCOME, bench SEED COUNT or drive CLIENTS TXNS SEED\n";
 
 pub const DISK_FAULT: &[u8] = b"disk fault\n";
-
-pub const NOT_A_STORE: &[u8] = b"not a store\n";
 
 pub const NO_MEMORY: &[u8] = b"no memory\n";
 

@@ -3,14 +3,20 @@ ghost use Rattle.std.specs.Prelude.{◌≡◌};
 
 use std::alloc::{AllocError, AllocFailed};
 use thiserror::Error;
-use vl_disk::{Failed, NoMemory as NoRoom};
-use vl_journal::OpenFail as Why;
+use vl_disk::{Failed, Name, NoMemory as NoRoom};
+use vl_model::Counter;
 
-/// Why a store wasn't opened, which says it in words, and the disk.
-#[derive(Drop)]
-pub struct OpenFail<D> {
-    pub why: Why,
-    pub disk: D,
+/// Why what stands on a disk isn't opened.
+#[derive(Clone, Copy, Debug, PartialEq, Eq)]
+pub enum Refusal {
+    /// A log or a table stands, and no manifest that can be read, in a known format or a newer one.
+    NotAStore,
+    /// No manifest can be read, and the greatest one in a format that isn't known yet has this one.
+    NewerFormat(u32),
+    /// A file's bytes say nothing at this place, or something that can't be.
+    Damaged { name: Name, place: u64 },
+    /// No number is left for a new log, or for a new manifest.
+    Exhausted(Counter),
 }
 
 /// Why a line was given no answer.
@@ -19,9 +25,9 @@ pub enum Halt {
     /// Memory ran out.
     #[error("no memory")]
     NoMemory,
-    /// The disk failed.
+    /// The disk failed at this file.
     #[error("disk fault")]
-    Disk,
+    Disk { name: Name },
 }
 
 impl From<AllocError> for Halt {
@@ -51,16 +57,6 @@ impl From<NoRoom> for Halt {
 
     fn from(_: NoRoom) -> Halt {
         Halt::NoMemory
-    }
-}
-
-impl From<Failed> for Halt {
-    ghost use Rattle.vl_replay.specs.declared.fails.Halt.TheVariants.{Disk};
-
-    ghost from_gives = { λ _ halt. halt ≡ Disk };
-
-    fn from(_: Failed) -> Halt {
-        Halt::Disk
     }
 }
 

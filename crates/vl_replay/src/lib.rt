@@ -5,11 +5,12 @@ mod answering;
 mod ending;
 mod fails;
 mod input;
+mod refusing;
 mod replayer;
 mod running;
 
 pub use ending::{Ended, Ending, NO_MEMORY, USAGE, finish};
-pub use fails::{Halt, OpenFail};
+pub use fails::{Halt, Refusal};
 pub use replayer::{MAX_OPEN, Replayer, drops_free_names, reads_are_noted, writes_are_read_back};
 pub use running::replay;
-pub use vl_journal::OpenFail as Why;
+pub use vl_recover::{OpenFail, Why};

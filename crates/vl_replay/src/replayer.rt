@@ -5,24 +5,29 @@ ghost use Rattle.vl_disk.specs.declared.name.Name.TheVariants as names;
 ghost use Rattle.vl_disk.specs.DiskState.{DiskState};
 ghost use Rattle.vl_disk.specs.Disk.{Stands};
 ghost use Rattle.vl_disk.specs.Faults.{HasCause};
-ghost use Rattle.vl_journal.specs.declared.fails.OpenFail.TheVariants as why;
-ghost use Rattle.vl_journal.specs.Files.{IsAsBefore, IsBlank, HasSomeFile};
-ghost use Rattle.vl_replay.specs.Durable.{Tells, HoldsState, GoesFrom, CarriesOut};
+ghost use Rattle.vl_replay.specs.Durable.{CarriesOut, GoesFrom, HoldsState, IsAsBefore, Tells};
 ghost use Rattle.vl_replay.specs.Stored.{IsStored, Shown};
-ghost use Rattle.vl_replay.specs.Start.{StartsIn};
+ghost use Rattle.vl_replay.specs.Start.{IsDurable, StartsIn};
 ghost use Rattle.vl_replay.specs.Sequential.{State, answer_to, state_after};
 ghost use Rattle.vl_replay.specs.Represents.{Represents};
-ghost use Rattle.vl_replay.specs.Opening.{disk_of, why_of};
+ghost use Rattle.vl_replay.specs.Opening.{IsFault, IsRefused, OpensBy, disk_of, why_of};
+ghost use Rattle.vl_replay.specs.Halts.{HaltsByDisk};
+ghost use Rattle.vl_replay.specs.declared.fails.Refusal.{Refusal};
+ghost use Rattle.vl_recover.specs.Starts.{MayOpen};
+ghost use Rattle.vl_disk.specs.Crash.{Image};
+ghost use Rattle.vl_disk.specs.Started.{IsRead};
 
 mod decision;
 mod entry;
+mod frozen;
 mod handle;
 mod laws;
 mod limits;
 mod memtable;
 mod store;
+mod writing;
 
-use crate::fails::{Halt, OpenFail};
+use crate::fails::Halt;
 use decision::Decision;
 use entry::Entry;
 use handle::{Handle, Open};
@@ -32,7 +37,8 @@ use memtable::Memtable;
 use std::alloc::Global;
 use store::Store;
 use vl_disk::Disk;
-use vl_journal::open_store;
+use vl_model::MAX_ROOM;
+use vl_recover::{OpenFail, recover};
 use vl_script::{Answer, Line};
 
 /// A store on a disk, which answers a script's lines.
@@ -44,36 +50,37 @@ pub struct Replayer<D: Disk> {
 }
 
 impl<D: Disk> Replayer<D> {
-    /// Opens the store on a disk. For now it is one without commits, on an empty disk.
+    /// Opens the store on a disk, or makes one where nothing stands. Each log may have 1,073,741,824 bytes.
     pub fn new(alloc: Global, disk: D) -> Result<Self, OpenFail<D>>
+        // It stands for the store that the disk opens as, and the disk holds it.
         ensures store { (s : State) → StartsIn D.Watched disk s
             → IfOk result (λ replayer. Represents replayer.store s) }
-
-        // The store's files are made by six changing calls, and what a crash leaves meanwhile shows no commit.
-        ensures holds { (s : State) → StartsIn D.Watched disk s → Tells D.Watched disk IsBlank
+        ensures holds { (s : State) → StartsIn D.Watched disk s → Tells D.Watched disk MayOpen
             → IfOk result (λ replayer. HoldsState D.Watched IsStored s replayer.disk) }
-        ensures through { (s : State) → StartsIn D.Watched disk s → Tells D.Watched disk IsBlank
+
+        // What a crash leaves meanwhile shows what was opened.
+        ensures through { (s : State) → StartsIn D.Watched disk s → Tells D.Watched disk IsDurable
             → GoesFrom D.Watched Shown disk (disk_of (λ replayer. replayer.disk) result) s.history s.history }
         ensures tells { (state : DiskState) → D.told disk ≡ Some state
             → Tells D.Watched (disk_of (λ replayer. replayer.disk) result) (λ _. Unit {0}) }
 
-        // It isn't opened where anything stands, also a store, and is refused as no store only there. Then, and where
-        // memory ran out, nothing was changed.
-        ensures not_a_store { why_of result ≡ Some why.NotAStore
-            → ForSome (D.told disk) HasSomeFile }
-        ensures occupied { (state : DiskState) → D.told disk ≡ Some state → HasSomeFile state
+        // It answers what reads give, unless memory runs out or the disk fails. Where that is a refusal nothing is changed,
+        // whatever is answered; and nothing where memory ran out.
+        ensures answer { (state : DiskState) (read : Image) → D.told disk ≡ Some state → IsRead read state
+            → OpensBy read (why_of result) }
+        ensures refused { (state : DiskState) (read : Image) (refusal : Refusal) → D.told disk ≡ Some state
+            → IsRead read state → IsRefused read refusal
             → IsErr result × IsAsBefore D.Watched disk (disk_of (λ replayer. replayer.disk) result) }
-        ensures left_alone { why_of result ≢ Some why.Disk → IsErr result
+        ensures left_alone { (IsFault (why_of result) → ⊥) → IsErr result
             → IsAsBefore D.Watched disk (disk_of (λ replayer. replayer.disk) result) }
-        ensures cause { HasCause (D.faults disk) (D.faults (disk_of (λ replayer. replayer.disk) result)) (why_of result ≡ Some why.Disk) }
+        ensures cause { HasCause (D.faults disk) (D.faults (disk_of (λ replayer. replayer.disk) result)) (IsFault (why_of result)) }
     {
-        let mut disk = disk;
-        match open_store(alloc, &mut disk) {
-            Ok(()) => Ok(Replayer {
-                store: Store::new(alloc),
-                disk,
+        match recover(alloc, disk, MAX_ROOM) {
+            Ok(parts) => Ok(Replayer {
+                store: Store::new(alloc, parts.number, parts.frozen, parts.active),
+                disk: parts.disk,
             }),
-            Err(why) => Err(OpenFail { why, disk }),
+            Err(fail) => Err(fail),
         }
     }
 
@@ -92,7 +99,7 @@ impl<D: Disk> Replayer<D> {
             → CarriesOut D.Watched IsStored Shown self.old.disk self.new.disk s (state_after s line) result }
         ensures no_memory { result ≡ Err Halt.NoMemory
             → D.told self.new.disk ≡ D.told self.old.disk }
-        ensures cause { HasCause (D.faults self.old.disk) (D.faults self.new.disk) (result ≡ Err Halt.Disk) }
+        ensures cause { HasCause (D.faults self.old.disk) (D.faults self.new.disk) (HaltsByDisk result) }
     {
         self.store.line(&mut self.disk, line)
     }

@@ -1,5 +1,5 @@
 //! A store's state, and how it answers a line over the disk that holds it.
-ghost use Rattle.std.specs.Prelude.{◌≡◌, ◌+◌, ℕ, List, [], None, Err, IfOk, IfErr, OnOk, OnErr};
+ghost use Rattle.std.specs.Prelude.{◌≡◌, ◌+◌, ℕ, List, [], None, Some, Err, IfOk, IfErr, OnOk, OnErr};
 ghost use Rattle.std.specs.Option.{ForSome, option_copied};
 ghost use Rattle.std.specs.FinMap.{get, empty};
 ghost use Rattle.vl_disk.specs.declared.name.Name.TheVariants as names;
@@ -12,16 +12,20 @@ ghost use Rattle.vl_replay.specs.Sequential as sequential;
 ghost use Rattle.vl_replay.specs.Represents.{Represents, IsOutcome, StandsFor, HasOpen, CanCommit, Decides, handle_named, write_answer, writes_after, answer_of};
 ghost use Rattle.vl_replay.specs.Durable.{CarriesOut};
 ghost use Rattle.vl_replay.specs.Stored.{IsStored, Shown};
-ghost use Rattle.vl_replay.specs.Start.{empty_store};
+ghost use Rattle.vl_replay.specs.Halts.{HaltsByDisk};
+ghost use Rattle.vl_replay.specs.Memtable.{newest};
+ghost use Rattle.vl_replay.specs.Opened.{IsOpenedStore, entry_value, opened_value};
 ghost use Rattle.vl_script.specs.declared.answer.Answer.TheVariants.{Number as NumberAnswer};
 ghost use Rattle.vl_txn.specs.Refusals.{IsWritten};
 
 use crate::fails::Halt;
+use crate::replayer::frozen::newest_in;
+use crate::replayer::writing::append_durably;
 use crate::replayer::{Decision, Handle, Memtable, Open};
 use std::alloc::Global;
-use vl_disk::Disk;
-use vl_journal::{NUMBER, append_durably};
-use vl_model::{Change, Counter, Key, MAX_COMMIT_NUMBER, MAX_ROOM, is_key_len};
+use vl_disk::{Disk, Name};
+use vl_model::{Body, Change, Counter, Entry, Key, MAX_COMMIT_NUMBER, MAX_ROOM, Value, is_key_len};
+use vl_recover::FrozenLog;
 use vl_script::{Answer, Ident, Line};
 use vl_seglog::{ActiveLog, commit_length};
 use vl_txn::{SetFail, Writes};
@@ -32,20 +36,23 @@ pub struct Store {
     alloc: Global,
     last: u64,
     pub log: ActiveLog,
+    frozen: Vec<FrozenLog>,
     memtable: Memtable,
     in_use: Option<Open>,
 }
 
 impl Store {
-    /// A store over no commits.
-    pub fn new(alloc: Global) -> Self
-        ensures store { (calls : ℕ) → Represents result (empty_store calls) }
-        ensures log { result.log.number ≡ NUMBER }
+    /// The store that was opened with this last number: the logs that take no more commits, and the one that takes the
+    /// next.
+    pub fn new(alloc: Global, last: u64, frozen: Vec<FrozenLog>, log: ActiveLog) -> Self
+        ensures store { (s : State) → IsOpenedStore last frozen.items log s → Represents result s }
+        ensures log { result.log ≡ log }
     {
         Store {
             alloc,
-            last: 0,
-            log: ActiveLog::new(NUMBER),
+            last,
+            log,
+            frozen,
             memtable: Memtable::new(alloc),
             in_use: None,
         }
@@ -64,7 +71,7 @@ impl Store {
             → CarriesOut D.Watched IsStored Shown disk.old disk.new s (state_after s line) result }
         ensures stands { ForSome (D.told disk.new) (Stands (names.Log self.new.log.number)) }
         ensures no_memory { result ≡ Err Halt.NoMemory → D.told disk.new ≡ D.told disk.old }
-        ensures cause { HasCause (D.faults disk.old) (D.faults disk.new) (result ≡ Err Halt.Disk) }
+        ensures cause { HasCause (D.faults disk.old) (D.faults disk.new) (HaltsByDisk result) }
     {
         match line {
             Line::Begin { name } => Ok(self.begin(name)),
@@ -126,11 +133,23 @@ impl Store {
             return Ok(Answer::Invalid);
         }
         match handle {
-            Handle::View { number } => self.found(self.memtable.get(key.as_slice(), *number)),
+            Handle::View { number } => self.read(key.as_slice(), *number),
             Handle::Transaction { number, writes } => match writes.get(key.as_slice()) {
-                Some(change) => self.found(Some(change)),
-                None => self.found(self.memtable.get(key.as_slice(), *number)),
+                Some(change) => found(change),
+                None => self.read(key.as_slice(), *number),
             },
+        }
+    }
+
+    // The value that a key has at a number: what the newest commit up to it left, else what the logs that were opened have.
+    fn read(&self, key: &[u8], number: u64) -> Result<Answer, Halt>
+        ensures answer { IfOk result (λ answer. answer ≡ found (value_left (opened_value self.now.frozen.items key.now)
+            (newest self.now.memtable.entries.items key.now number))) }
+        ensures halt { IfErr result (λ halt. halt ≡ Halt.NoMemory) }
+    {
+        match self.memtable.get(key, number) {
+            Some(change) => found(change),
+            None => found_opened(newest_in(&self.frozen, key)),
         }
     }
 
@@ -161,7 +180,7 @@ impl Store {
             → CarriesOut D.Watched IsStored Shown disk.old disk.new s (committed s name (get s.handles name)).1 result }
         ensures stands { ForSome (D.told disk.new) (Stands (names.Log self.new.log.number)) }
         ensures no_memory { result ≡ Err Halt.NoMemory → D.told disk.new ≡ D.told disk.old }
-        ensures cause { HasCause (D.faults disk.old) (D.faults disk.new) (result ≡ Err Halt.Disk) }
+        ensures cause { HasCause (D.faults disk.old) (D.faults disk.new) (HaltsByDisk result) }
     {
         match self.decide(name) {
             Decision::Refuse(answer) => Ok(answer),
@@ -212,7 +231,7 @@ impl Store {
             → CarriesOut D.Watched IsStored Shown disk.old disk.new s (after_commit s name writes) result }
         ensures stands { ForSome (D.told disk.new) (Stands (names.Log self.new.log.number)) }
         ensures no_memory { result ≡ Err Halt.NoMemory → D.told disk.new ≡ D.told disk.old }
-        ensures cause { HasCause (D.faults disk.old) (D.faults disk.new) (result ≡ Err Halt.Disk) }
+        ensures cause { HasCause (D.faults disk.old) (D.faults disk.new) (HaltsByDisk result) }
     {
         let Some(held) = &self.in_use else {
             unreachable!();
@@ -231,7 +250,11 @@ impl Store {
             number: self.log.number,
             length: self.log.length,
         };
-        append_durably(&mut log, disk, &staged)?;
+        let Ok(()) = append_durably(&mut log, disk, &staged) else {
+            return Err(Halt::Disk {
+                name: Name::Log(self.log.number),
+            });
+        };
         self.log = log;
         let Some(Open { name: _, handle }) = self.in_use.take() else {
             unreachable!();
@@ -268,18 +291,40 @@ impl Store {
         }
     }
 
-    // The value that a change leaves, as an answer.
-    fn found(&self, change: Option<&Change>) -> Result<Answer, Halt>
-        ensures answer { IfOk result (λ answer. answer ≡ found (value_left None (option_copied change.entry))) }
-        ensures halt { IfErr result (λ halt. halt ≡ Halt.NoMemory) }
-    {
-        match change {
-            Some(Change::Set(value)) => Ok(Answer::Found {
-                value: value.share()?,
-            }),
-            Some(Change::Delete) | None => Ok(Answer::NoValue),
-        }
+}
+
+// The value that a change leaves, as an answer.
+fn found(change: &Change) -> Result<Answer, Halt>
+    ensures answer { IfOk result (λ answer. answer ≡ found (value_left None (Some change.now))) }
+    ensures halt { IfErr result (λ halt. halt ≡ Halt.NoMemory) }
+{
+    match change {
+        Change::Set(value) => found_value(value),
+        Change::Delete => Ok(Answer::NoValue),
     }
+}
+
+// The value that an entry of the opened logs has, as an answer; no value where there is no entry.
+fn found_opened(entry: Option<&Entry>) -> Result<Answer, Halt>
+    ensures answer { IfOk result (λ answer. answer ≡ found (entry_value (option_copied entry.entry))) }
+    ensures halt { IfErr result (λ halt. halt ≡ Halt.NoMemory) }
+{
+    match entry {
+        Some(Entry {
+            body: Body::Logged(value, _) | Body::Inline(value),
+            ..
+        }) => found_value(value),
+        _ => Ok(Answer::NoValue),
+    }
+}
+
+fn found_value(value: &Value) -> Result<Answer, Halt>
+    ensures answer { IfOk result (λ answer. answer ≡ found (Some value.now)) }
+    ensures halt { IfErr result (λ halt. halt ≡ Halt.NoMemory) }
+{
+    Ok(Answer::Found {
+        value: value.share()?,
+    })
 }
 
 // How many bytes a commit of these writes takes in the log.

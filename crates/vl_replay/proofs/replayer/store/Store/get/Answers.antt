@@ -4,6 +4,7 @@ use Rattle.std.specs.FinMap.{get}
 use Rattle.vl_model.specs.Keys.{is_key_length}
 use Rattle.vl_model.specs.History.{value_left}
 use Rattle.vl_replay.specs.Memtable.{newest}
+use Rattle.vl_replay.specs.Opened.{opened_value}
 use Rattle.vl_replay.specs.Sequential.{read, found}
 use Rattle.vl_replay.specs.Represents.{handle_named}
 use Rattle.vl_replay.specs.declared.replayer.handle.Handle.TheVariants.{Transaction, View}
@@ -33,10 +34,8 @@ returns-in-View-clause-answer c s rep =
     let number = c.in-View.number in
     let holds = named s.history s.handles r.in_use c.args.name (View number) rep.in_use (sym is ∙ ap option_copied c.in-Some.is ∙ ap Some c.in-View.is) in
     let lawful : is_key_length (length c.args.key) ≡ true = ap is_key_length (sym c.len.ensures) ∙ sym c.is_key_len.ensures ∙ c.if-not-is_key_len.false in
-    let change : option_copied c.get.result ≡ newest r.memtable.entries.items c.args.key number =
-    c.get.ensures ∙ ap (λ key. newest r.memtable.entries.items key number) c.as_slice-in-View.ensures in
-    let answer = subst (λ change. IfOk c.found.result (λ a. a ≡ found (value_left None change))) change c.found.ensures.answer in
-    gives_if_ok c.found.result _ r _ answer (read_view r s c.args.name c.args.key number rep holds lawful)
+    let answer = subst (λ key. IfOk c.read.result (λ a. a ≡ found (value_left (opened_value r.frozen.items key) (newest r.memtable.entries.items key number)))) c.as_slice-in-View.ensures c.read.ensures.answer in
+    gives_if_ok c.read.result _ r _ answer (read_view r s c.args.name c.args.key number rep holds lawful)
 
 pub returns-in-Some-get-clause-answer : goal.returns-in-Some-get-clause-answer
 returns-in-Some-get-clause-answer c s rep =
@@ -48,8 +47,8 @@ returns-in-Some-get-clause-answer c s rep =
     let holds = named s.history s.handles r.in_use c.args.name (Transaction number writes) rep.in_use kept in
     let lawful : is_key_length (length c.args.key) ≡ true = ap is_key_length (sym c.len.ensures) ∙ sym c.is_key_len.ensures ∙ c.if-not-is_key_len.false in
     let own : get writes c.args.key ≡ Some c.in-Some-get.change.now =
-    ap (get writes) (sym c.as_slice-in-Transaction.ensures) ∙ sym c.get-in-Transaction.ensures ∙ ap option_copied c.in-Some-get.is in
-    gives_if_ok c.found-in-Some-get.result _ r _ c.found-in-Some-get.ensures.answer (read_own r s c.args.name c.args.key number writes c.in-Some-get.change.now rep holds lawful own)
+    ap (get writes) (sym c.as_slice-in-Transaction.ensures) ∙ sym c.get.ensures ∙ ap option_copied c.in-Some-get.is in
+    gives_if_ok c.found.result _ r _ c.found.ensures.answer (read_own r s c.args.name c.args.key number writes c.in-Some-get.change.now rep holds lawful own)
 
 pub returns-clause-answer : goal.returns-clause-answer
 returns-clause-answer c s rep =
@@ -60,8 +59,6 @@ returns-clause-answer c s rep =
     let kept : handle_named r.in_use c.args.name ≡ Some (Transaction number writes) = sym is ∙ ap option_copied c.in-Some.is ∙ ap Some c.in-Transaction.is in
     let lawful : is_key_length (length c.args.key) ≡ true = ap is_key_length (sym c.len.ensures) ∙ sym c.is_key_len.ensures ∙ c.if-not-is_key_len.false in
     let missing : get writes c.args.key ≡ None =
-    ap (get writes) (sym c.as_slice-in-Transaction.ensures) ∙ sym c.get-in-Transaction.ensures ∙ ap option_copied c.in-None.is in
-    let change : option_copied c.get-in-None.result ≡ newest r.memtable.entries.items c.args.key number =
-    c.get-in-None.ensures ∙ ap (λ key. newest r.memtable.entries.items key number) c.as_slice-in-None.ensures in
-    let answer = subst (λ change. IfOk c.found-in-None.result (λ a. a ≡ found (value_left None change))) change c.found-in-None.ensures.answer in
-    gives_if_ok c.found-in-None.result _ r _ answer (read_noted r s c.args.name c.args.key number writes rep kept lawful missing)
+    ap (get writes) (sym c.as_slice-in-Transaction.ensures) ∙ sym c.get.ensures ∙ ap option_copied c.in-None.is in
+    let answer = subst (λ key. IfOk c.read-in-None.result (λ a. a ≡ found (value_left (opened_value r.frozen.items key) (newest r.memtable.entries.items key number)))) c.as_slice-in-None.ensures c.read-in-None.ensures.answer in
+    gives_if_ok c.read-in-None.result _ r _ answer (read_noted r s c.args.name c.args.key number writes rep kept lawful missing)

@@ -1,15 +1,18 @@
-use Rattle.std.proofs.Common.{◌≡◌, ◌==◌, ◌+◌, false, refl, ap, ◌∙◌, sym, subst}
+use Rattle.std.proofs.Common.{◌≡◌, ◌==◌, ◌+◌, ℕ, false, refl, ap, ◌∙◌, sym, subst}
 use Rattle.std.specs.FinMap.{entries, len}
 use Rattle.vl_model.specs.History.{last_number}
 use Rattle.vl_model.specs.Keys.{Writes}
 use Rattle.vl_script.specs.declared.answer.Answer.TheVariants.{Number}
+use Rattle.vl_disk.specs.Disk.{IsChangedBy}
+use Rattle.vl_disk.specs.Moments.{Elapses}
+use Rattle.vl_disk.specs.declared.name.Name.TheVariants as names
+use Rattle.vl_seglog.specs.declared.active.ActiveLog.{ActiveLog}
+use Rattle.vl_replay.specs.Writing.{WhileWriting, written}
 use Rattle.vl_replay.specs.Represents.{IsOutcome}
 use Rattle.vl_replay.specs.Sequential.{after_commit}
-use Rattle.vl_replay.specs.Stored.{logged}
 use Rattle.vl_replay.proofs.Betweens.{extends_one}
-use Rattle.vl_replay.proofs.Commits.{is_commit, next_frame, carries_no_memory, carries_failed, carries_commit}
+use Rattle.vl_replay.proofs.Commits.{is_commit, frame_staged, carries_no_memory, carries_failed, carries_commit}
 use Rattle.vl_replay.proofs.Deciding.{open_is, same_writes, log_after, gives_commit}
-use Rattle.vl_replay.proofs.Logged.{next_commit}
 use Rattle.vl_replay.proofs.States.{Takes}
 use Rattle.vl_replay.proofs.replayer.store.Store.log_commit.Goals as goal
 
@@ -31,20 +34,6 @@ returns-in_err-reserve-clause-carries g c s name writes rep there held =
     carries_no_memory g.D.Watched (record { only_now = g.met.D.Disk.only_now; counts_now = g.met.D.Disk.counts_now }) s (after_commit s name writes) c.args.disk.now c.stage_commit.new.disk _
     c.from_residual-in_err-reserve.result c.from_residual-in_err-reserve.ensures.0 (extends_one s.history (after_commit s name writes).history writes refl) c.in_ok-staged.ensures.no_change held
 
-pub returns-in_err-append_durably-clause-carries : goal.returns-in_err-append_durably-clause-carries
-returns-in_err-append_durably-clause-carries g c s name writes rep there held =
-    let r = c.args.self.now in
-    let (state, is, stored) = held.there in
-    let kept = open_is r name writes c.in-Some.held there c.in-Some.is in
-    let same : c.in-Transaction.writes ≡ writes = same_writes _ _ _ _ _ c.in-Transaction.is kept.1 in
-    let listed = c.as_slice.ensures.entries ∙ ap (λ (w : Writes). entries w) same in
-    let next = next_frame r s state writes c.as_slice.result.now c.in_ok-staged.staged.frame.items rep stored listed c.in_ok-staged.ensures.frame c.in_ok-staged.ensures.has_frame in
-    let told = c.in_ok-staged.ensures.no_change.told ∙ is in
-    let residual = c.from_residual-in_err-append_durably in
-    carries_failed g.D.Watched (record { only_now = g.met.D.Disk.only_now; counts_now = g.met.D.Disk.counts_now }) s name writes c.args.disk.now c.stage_commit.new.disk c.append_durably.new.disk _ c.in_ok-staged.ensures.no_change held
-    (c.in_err-append_durably.ensures.through state (logged s.history) (next_commit s writes) told stored.commits next)
-    residual.result residual.ensures.0 residual.ensures.1 (c.in_err-append_durably.ensures.tells state told)
-
 pub returns-clause-answer : goal.returns-clause-answer
 returns-clause-answer g c s name writes rep there =
     let r = c.args.self.now in
@@ -58,9 +47,22 @@ returns-clause-answer g c s name writes rep there =
     let takes : Takes r.memtable.entries.items new.entries.items writes last =
     subst (λ w. Takes r.memtable.entries.items new.entries.items w last) same_taken (subst (λ es. Takes es new.entries.items c.in-Transaction-handle.writes last) c.reserve.ensures.entries took) in
     let listed = c.as_slice.ensures.entries ∙ ap (λ (w : Writes). entries w) same in
-    let log_is = log_after r s name writes c.as_slice.result.now c.in_ok-staged.staged.frame.items c.append_durably.new.log rep listed c.in_ok-staged.ensures.frame c.append_durably.ensures.number c.in_ok-append_durably.ensures.longer c.in_ok-staged.ensures.fits in
-    subst (λ o. IsOutcome (Number last) (record { alloc = r.alloc; last = last; log = c.append_durably.new.log; memtable = new; in_use = o }) (Number (last_number s.history + 1), after_commit s name writes)) (sym c.take.ensures.after)
+    let log_is = log_after r s name writes c.as_slice.result.now c.in_ok-staged.staged c.append_durably.new.log rep listed c.in_ok-staged.ensures.staged c.append_durably.ensures.number (rw c.in-Ok.is at c.append_durably.ensures.longer) in
+    subst (λ o. IsOutcome (Number last) (record { alloc = r.alloc; last = last; log = c.append_durably.new.log; frozen = r.frozen; memtable = new; in_use = o }) (Number (last_number s.history + 1), after_commit s name writes)) (sym c.take.ensures.after)
     (gives_commit r s name writes c.append_durably.new.log new rep there log_is takes)
+
+
+pub returns-in_default-append_durably-clause-carries : goal.returns-in_default-append_durably-clause-carries
+returns-in_default-append_durably-clause-carries g c s name writes rep there held =
+    let r = c.args.self.now in
+    let (state, is, stored) = held.there in
+    let kept = open_is r name writes c.in-Some.held there c.in-Some.is in
+    let same : c.in-Transaction.writes ≡ writes = same_writes _ _ _ _ _ c.in-Transaction.is kept.1 in
+    let listed = c.as_slice.ensures.entries ∙ ap (λ (w : Writes). entries w) same in
+    let staged = frame_staged r s state writes c.as_slice.result.now c.in_ok-staged.staged rep stored listed c.in_ok-staged.ensures.staged in
+    let time = subst (λ (n : ℕ). Elapses g.D.Watched c.stage_commit.new.disk c.append_durably.new.disk (WhileWriting (names.Log n) c.in_ok-staged.staged.frame.items)) (ap (λ (l : ActiveLog). l.number) rep.log) c.append_durably.ensures.time in
+    carries_failed g.D.Watched (record { only_now = g.met.D.Disk.only_now; counts_now = g.met.D.Disk.counts_now }) s name writes c.args.disk.now c.stage_commit.new.disk c.append_durably.new.disk _ c.in_ok-staged.ensures.no_change held
+    c.in_ok-staged.staged.frame.items staged time _ refl (λ e. cc) (c.append_durably.ensures.tells state (c.in_ok-staged.ensures.no_change.told ∙ is))
 
 pub returns-clause-carries : goal.returns-clause-carries
 returns-clause-carries g c s name writes rep there held =
@@ -69,8 +71,9 @@ returns-clause-carries g c s name writes rep there held =
     let kept = open_is r name writes c.in-Some.held there c.in-Some.is in
     let same : c.in-Transaction.writes ≡ writes = same_writes _ _ _ _ _ c.in-Transaction.is kept.1 in
     let listed = c.as_slice.ensures.entries ∙ ap (λ (w : Writes). entries w) same in
-    let next = next_frame r s state writes c.as_slice.result.now c.in_ok-staged.staged.frame.items rep stored listed c.in_ok-staged.ensures.frame c.in_ok-staged.ensures.has_frame in
-    let told = c.in_ok-staged.ensures.no_change.told ∙ is in
+    let staged = frame_staged r s state writes c.as_slice.result.now c.in_ok-staged.staged rep stored listed c.in_ok-staged.ensures.staged in
+    let number = ap (λ (l : ActiveLog). l.number) rep.log in
+    let time = subst (λ (n : ℕ). Elapses g.D.Watched c.stage_commit.new.disk c.append_durably.new.disk (WhileWriting (names.Log n) c.in_ok-staged.staged.frame.items)) number c.append_durably.ensures.time in
+    let changed = subst (λ (n : ℕ). IsChangedBy (written (names.Log n) c.in_ok-staged.staged.frame.items) (g.D.Watched.told c.stage_commit.new.disk) (g.D.Watched.told c.append_durably.new.disk)) number (rw c.in-Ok.is at c.append_durably.ensures.written) in
     carries_commit g.D.Watched (record { only_now = g.met.D.Disk.only_now; counts_now = g.met.D.Disk.counts_now }) s name writes c.args.disk.now c.stage_commit.new.disk c.append_durably.new.disk _ c.in_ok-staged.ensures.no_change held
-    (c.in_ok-append_durably.ensures.through state (logged s.history) (next_commit s writes) told stored.commits next)
-    (Number (r.last + 1)) c.in_ok-append_durably.ensures.calls (c.in_ok-append_durably.ensures.written state (logged s.history) (next_commit s writes) told stored.commits next)
+    c.in_ok-staged.staged.frame.items staged time (Number (r.last + 1)) (rw c.in-Ok.is at c.append_durably.ensures.calls) changed

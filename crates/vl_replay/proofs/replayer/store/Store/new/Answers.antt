@@ -1,6 +1,12 @@
-use Rattle.std.proofs.Common.{refl}
-use Rattle.vl_replay.proofs.States.{shows_none}
+use Rattle.std.proofs.Common.{refl, sym, ◌∙◌, ap, arith}
+use Rattle.std.specs.Prelude.{length}
+use Rattle.vl_replay.proofs.Starting.{shows_opened}
 use Rattle.vl_replay.proofs.replayer.store.Store.new.Goals as goal
 
 pub returns-clause-store : goal.returns-clause-store
-returns-clause-store c calls = record { last = refl; log = c.new.ensures; shows = shows_none _ c.new-2.ensures; in_use = refl }
+returns-clause-store c s opened = record {
+  last = omega (arith, opened.first, ap length opened.commits);
+  log = sym opened.log_is;
+  shows = shows_opened c.args.last c.args.frozen.items c.args.log s _ (omega (arith, c.ranges.last.fits)) opened c.new.ensures;
+  in_use = opened.handles;
+}
