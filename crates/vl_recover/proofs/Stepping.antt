@@ -15,7 +15,7 @@ use Rattle.vl_disk.specs.declared.name.Name.TheVariants.{Log}
 use Rattle.vl_disk.specs.declared.watched.Watched.{Ghosts}
 use Rattle.vl_recover.specs.Mending.{LastLog, NoLast, WhileLast, WhileLog, behind_last, calls_to_mend}
 use Rattle.vl_recover.specs.PlanViews.{at_file}
-use Rattle.vl_seglog.specs.Log.{log_header}
+use Rattle.vl_seglog.specs.Frames.{log_header}
 use Rattle.vl_recover.specs.Steps.{GoesOnTelling, MakesLog, MendsLast, Performs}
 
 false_true : false ≡ true → ⊥

@@ -2,8 +2,6 @@ pub mod Commit
 pub mod CommitLaws
 pub mod FrameLaws
 pub mod Frames
-pub mod Laws
-pub mod Log
 pub mod LogReading
 pub mod LogReadingLaws
 pub mod Reading

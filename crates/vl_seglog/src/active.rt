@@ -6,7 +6,6 @@ ghost use Rattle.vl_disk.specs.Disk.{Stands};
 ghost use Rattle.vl_disk.specs.Spare.{CanAppend, SameSpare, SameSpareElsewhere};
 ghost use Rattle.vl_model.specs.declared.log_frame.LogFrame.TheVariants.{Committed, Relocated};
 ghost use Rattle.vl_seglog.specs.Frames.{IsFrame};
-ghost use Rattle.vl_seglog.specs.Log as log;
 ghost use Rattle.vl_seglog.specs.Staging.{IsStaged, IsStagedFor};
 
 use crate::staged::{Staged, staged_commit, staged_move};
@@ -53,12 +52,6 @@ impl ActiveLog {
         ensures elsewhere { SameSpareElsewhere (names.Log self.now.number) (D.spare disk.old) (D.spare disk.new) }
         ensures refused { OnErr result (SameSpare (D.spare disk.old) (D.spare disk.new)) }
         ensures no_change { ChangesNothing D.Watched disk.old disk.new ⊥ }
-
-        // These say nothing new, and go when vl_journal does.
-        ensures frame { IfOk result (λ staged. staged.frame.items ≡
-            log.commit_frame self.now.number self.now.length (record { number = number; writes = writes.now })) }
-        ensures has_frame { OnOk result (log.HasFrame (record { number = number; writes = writes.now })) }
-        ensures fits { IfOk result (λ staged. self.now.length + length staged.frame.items < 2 ^ 64) }
     {
         let staged = staged_commit(alloc, self.number, self.length, number, writes)?;
         disk.ready(Name::Log(self.number), staged.frame.len() as u64)?;
@@ -100,19 +93,6 @@ impl ActiveLog {
         disk.append(Name::Log(self.number), &staged.frame)?;
         self.length = self.length.saturating_add(staged.frame.len() as u64);
         Ok(())
-    }
-
-    /// The same. It goes with vl_journal.
-    pub fn append_commit<D: Disk>(&mut self, disk: &mut D, staged: &Staged) -> Result<(), Failed>
-        requires staged_for { IsStagedFor self.old staged.now }
-        requires stands { ForSome (D.told disk.old) (Stands (names.Log self.old.number)) }
-        requires room { CanAppend (length staged.now.frame.items) (D.spare disk.old (names.Log self.old.number)) }
-        ensures appended { Appends D.Watched (names.Log self.old.number) staged.now.frame.items disk.old disk.new result }
-        ensures number { self.new.number ≡ self.old.number }
-        ensures longer { OnOk result (self.new.length ≡ min (self.old.length + length staged.now.frame.items) (2 ^ 64 - 1)) }
-        ensures kept { OnErr result (self.new.length ≡ self.old.length) }
-    {
-        self.append(disk, staged)
     }
 
     /// Makes all that was appended durable. If it fails, nothing more is durable, and the log is not to be appended to any

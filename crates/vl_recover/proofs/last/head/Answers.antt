@@ -4,7 +4,7 @@ use Rattle.vl_disk.specs.DiskState.{synced}
 use Rattle.vl_disk.specs.declared.name.Name.TheVariants.{Log}
 use Rattle.vl_recover.specs.Mending.{Headed, WhileLast, behind_last, headed}
 use Rattle.vl_recover.proofs.Stepping.{append_as, performs_stop, performs_then, sync_performs}
-use Rattle.vl_seglog.specs.Log.{log_header}
+use Rattle.vl_seglog.specs.Frames.{log_header}
 use Rattle.vl_recover.proofs.last.head.Goals as goal
 
 pub returns-in_err-append-clause-mended : goal.returns-in_err-append-clause-mended
