@@ -3,7 +3,7 @@ use Rattle.vl_recover.specs.ReadImage.{read_image}
 use Rattle.vl_recover.proofs.Decided.{answer_by, decided_answer, decided_prepared}
 use Rattle.vl_recover.proofs.Fitted.{found_fits}
 use Rattle.vl_recover.proofs.Numbers.{decided_numbers}
-use Rattle.vl_recover.proofs.Unchanged.{nothing_then}
+use Rattle.vl_recover.proofs.Unmoved.{then_call}
 use Rattle.vl_recover.proofs.preparing.prepare.Goals as goal
 
 pub returns-in_err-prepared-clause-answer : goal.returns-in_err-prepared-clause-answer
@@ -23,10 +23,10 @@ returns-clause-fits g c state told =
     found_fits prepared.finds state is _ prepared.plan
 
 pub returns-then-is_err-clause-no_change : goal.returns-then-is_err-clause-no_change
-returns-then-is_err-clause-no_change g c = nothing_then g.D.Watched _ _ _ ⊥ c.in_ok-found.ensures.no_change c.take_room.ensures.no_change
+returns-then-is_err-clause-no_change g c = then_call g.D.Watched _ _ _ ⊥ c.in_ok-found.ensures.no_change c.take_room.ensures.no_change
 
 pub returns-clause-no_change : goal.returns-clause-no_change
-returns-clause-no_change g c = nothing_then g.D.Watched _ _ _ ⊥ c.in_ok-found.ensures.no_change c.take_room.ensures.no_change
+returns-clause-no_change g c = then_call g.D.Watched _ _ _ ⊥ c.in_ok-found.ensures.no_change c.take_room.ensures.no_change
 
 pub take_room-requires : goal.take_room-requires
 take_room-requires g c =
