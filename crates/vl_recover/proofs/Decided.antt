@@ -1,9 +1,10 @@
 -- What was decided by what was found is what is to be done by what reads give.
 use Rattle.std.proofs.Common.{◌≡◌, ℕ, ◌+◌, List, [], ◌∷◌, length, map, refl, sym, ap, subst, ◌∙◌}
-use Rattle.std.specs.Prelude.{Bool, true, false, ◌&&◌, ◌==◌, if◌then◌else◌, Option, None, Some, Result, Ok, Err, IsErr, IsErrAnd}
+use Rattle.std.specs.Prelude.{Bool, true, false, ◌&&◌, ◌==◌, if◌then◌else◌, Option, None, Some, Result, Ok, Err, IfErr, IsErr, IsErrAnd}
 use Rattle.std.specs.Option.{option_map}
 use Rattle.vl_disk.specs.Crash.{Image}
 use Rattle.vl_disk.specs.declared.name.Name.{Name}
+use Rattle.vl_disk.specs.DiskState.{DiskState}
 use Rattle.vl_layout.specs.Logs.{log_length}
 use Rattle.vl_manifest.specs.Manifest.{manifest_bytes}
 use Rattle.vl_manifest.specs.States.{opened_state, whole_edits}
@@ -11,7 +12,7 @@ use Rattle.vl_manifest.specs.declared.state.ManifestState.{ManifestState}
 use Rattle.vl_model.specs.declared.log_frame.LogFrame.{LogFrame}
 use Rattle.vl_recover.specs.Answers.{AnswersBy, AreStrayNames, used_up}
 use Rattle.vl_recover.specs.Deciding.{DecidesSo, IsDecided, IsPrepared, PreparesSo, active_by, log_for, log_of, plan_for, state_for, step_for, used_up_for, used_up_of}
-use Rattle.vl_recover.specs.Finding.{IsFound, last_log, last_of}
+use Rattle.vl_recover.specs.Finding.{IsFaultAt, IsFound, last_log, last_of}
 use Rattle.vl_recover.specs.Mending.{Cut, Headed, IsPlan, Kept, Plan, Rewritten, plan_of}
 use Rattle.vl_recover.specs.Mending as mending
 use Rattle.vl_recover.specs.Opening.{IsNextLog, StandingLogs}
@@ -159,3 +160,17 @@ pub answer_by : (image : Image) (result : Result Prepared Why) (reason : Why) �
     → AnswersBy image (came_by reason) → PreparesSo image result
 answer_by image (Ok prepared) reason failed is answer = absurd (false_true failed)
 answer_by image (Err e) reason failed is answer = subst (λ (w : Why). AnswersBy image (came_by w)) (sym is) answer
+
+-- the disk didn't fail
+pub decided_at : (found : Found) (told : Option DiskState) (result : Result Prepared Why) (reason : Why) → IsErr result → IsErrAnd result (λ e. e ≡ reason)
+    → DecidesSo found (Err reason) → IfErr result (IsFaultAt told)
+decided_at found told (Ok prepared) reason failed is used = absurd (false_true failed)
+decided_at found told (Err e) reason failed is used = subst (IsFaultAt told) (sym is) (by reason used)
+  where
+    by : (w : Why) → DecidesSo found (Err w) → IsFaultAt told w
+    by (why.Exhausted counter) used = tt
+    by why.NoMemory used = tt
+    by why.NotAStore used = tt
+    by (why.NewerFormat format) used = tt
+    by (why.Damaged name place) used = tt
+    by (why.Disk name) used = absurd used

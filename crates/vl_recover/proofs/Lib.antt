@@ -12,5 +12,4 @@ mod ReadingLogs
 pub mod Recovered
 pub mod Removals
 pub mod Stepping
-pub mod Unchanged
 mod Unmoved

@@ -1,6 +1,6 @@
 -- A store is mended, stage by stage.
 use Rattle.std.proofs.Common.{◌≡◌, ◌⊎◌, ⊎_elim, inl, inr, ◌+◌, List, length, refl, sym, ap, subst, arith}
-use Rattle.std.specs.Prelude.{true, false, Result, Ok, Err, IsErr, IsErrAnd}
+use Rattle.std.specs.Prelude.{true, false, Result, Ok, Err, IfErr, IsErr, IsErrAnd, Contains}
 use Rattle.std.specs.Option.{ForSome}
 use Rattle.vl_disk.specs.DiskState.{DiskState}
 use Rattle.vl_disk.specs.MadeFile.{WhileMaking}
@@ -14,7 +14,7 @@ use Rattle.vl_manifest.specs.declared.edit.Edit.{Edit}
 use Rattle.vl_manifest.specs.declared.fails.IoFail.{IoFail}
 use Rattle.vl_manifest.specs.declared.fails.IoFail.TheVariants as fails
 use Rattle.vl_manifest.specs.declared.manifest_log.ManifestLog.{ManifestLog}
-use Rattle.vl_recover.specs.Fitting.{Fits, FitsBehind}
+use Rattle.vl_recover.specs.Fitting.{Fits, FitsBehind, IsFileOf, is_manifest, is_stray}
 use Rattle.vl_recover.specs.Mending.{Plan, WhileLast, WhileLog, WhileMending, WhileStrays, at_last, at_log, at_manifest, at_strays, behind_last, behind_log, behind_strays, calls_of_plan, calls_to_mend, mended, with_manifest}
 use Rattle.vl_recover.specs.PlanViews.{plan_view}
 use Rattle.vl_recover.specs.Plans.{calls_to_make}
@@ -59,6 +59,11 @@ module _ {D : Type 0} (g : Ghosts D) (plan : Plan) where
       (subst (λ (r : Result U F). MakesLog g plan.log mid end r) then log)
       (subst (λ (ns : List Name). RemovesAll g ns end new result) same strays)))
 
+-- a stray is a file of the plan
+pub strays_at : (plan : Plan) (names : List Name) (result : Result Unit Name) → names ≡ plan.strays → IfErr result (Contains names) → IfErr result (IsFileOf plan)
+strays_at plan names (Ok u) same at = tt
+strays_at plan names (Err name) same at = is_stray (subst (λ (ns : List Name). Contains ns name) same at)
+
 -- ---- with the new manifest
 
 pub err_is : {A E : Type 0} (result : Result A E) (e : E) → IsErr result → IsErrAnd result (λ f. f ≡ e) → result ≡ Err e
@@ -90,6 +95,7 @@ module _ {D : Type 0} (g : Ghosts D) (plan : MendingPlan) (edits : List Edit) (s
         manifest = tt;
         done = tt;
         calls = tt;
+        at = tt;
         no_room = λ _. makes.answer;
         tells = same_tells (g.told old) (g.told mid) makes.answer.told;
         time = passes_weaker (g.moment old) (g.moment mid) (g.states_since old) (g.states_since mid)
@@ -101,6 +107,7 @@ module _ {D : Type 0} (g : Ghosts D) (plan : MendingPlan) (edits : List Edit) (s
         manifest = tt;
         done = tt;
         calls = tt;
+        at = is_manifest makes.answer.name_is;
         no_room = λ e. absurd (disk_room name e);
         tells = part_tells (Manifest plan.manifest) view.piece (g.told old) (g.told mid) makes.answer.part;
         time = passes_weaker (g.moment old) (g.moment mid) (g.states_since old) (g.states_since mid)
@@ -155,6 +162,7 @@ module _ {D : Type 0} (g : Ghosts D) (plan : MendingPlan) (edits : List Edit) (s
             manifest = done_so.answer.log_is;
             done = step.done;
             calls = step.calls;
+            at = tt;
             no_room = λ e. absurd (ok_err log fails.NoMemory e);
             tells = step.tells;
             time = step.time;
@@ -165,13 +173,14 @@ module _ {D : Type 0} (g : Ghosts D) (plan : MendingPlan) (edits : List Edit) (s
           ok_err l e is = cc
 
       -- the disk failed
-      pub mending_fails : (name : Name) → MendsBehind {T = Unit {0}} g view mid new (Err name) → Mends g view old new (Err (fails.Disk name))
-      mending_fails name behind =
+      pub mending_fails : (name : Name) → IsFileOf view name → MendsBehind {T = Unit {0}} g view mid new (Err name) → Mends g view old new (Err (fails.Disk name))
+      mending_fails name at behind =
           let step = both (Err name) behind in
           record {
             manifest = tt;
             done = tt;
             calls = tt;
+            at = at;
             no_room = λ e. absurd (disk_room name e);
             tells = step.tells;
             time = step.time;

@@ -1,6 +1,6 @@
 -- What an opening gives, by what was prepared and how the mending went.
-use Rattle.std.proofs.Common.{◌≡◌, ℕ, ◌+◌, ◌≤◌, List, [], ◌∷◌, length, map, refl, sym, ap, subst, ◌∙◌}
-use Rattle.std.specs.Prelude.{Option, None, Some, Result, Ok}
+use Rattle.std.proofs.Common.{◌≡◌, ℕ, ◌+◌, ◌≤◌, List, [], ◌∷◌, length, map, ⊎_elim, refl, sym, ap, subst, ◌∙◌}
+use Rattle.std.specs.Prelude.{Option, None, Some, Result, Ok, Err, IfErr}
 use Rattle.std.specs.Option.{ForSome, option_map}
 use Rattle.vl_disk.specs.Calls.{ChangesNothing}
 use Rattle.vl_disk.specs.Crash.{Image, Unchanged}
@@ -10,19 +10,21 @@ use Rattle.vl_disk.specs.Faults.{after_calls}
 use Rattle.vl_disk.specs.Moments.{HoldsThroughout, goes_by, waits}
 use Rattle.vl_disk.specs.Started.{IsRead}
 use Rattle.vl_disk.specs.declared.name.Name.{Name}
-use Rattle.vl_disk.specs.declared.name.Name.TheVariants.{Log}
+use Rattle.vl_disk.specs.declared.name.Name.TheVariants.{Log, Manifest}
 use Rattle.vl_disk.specs.declared.watched.Watched.{Ghosts}
 use Rattle.vl_layout.specs.declared.segment.Segment.{Segment}
 use Rattle.vl_manifest.specs.Manifest.{manifest_bytes}
 use Rattle.vl_manifest.specs.States.{whole_edits}
 use Rattle.vl_manifest.specs.declared.fails.IoFail.{IoFail}
+use Rattle.vl_manifest.specs.declared.fails.IoFail.TheVariants.{Disk}
 use Rattle.vl_manifest.specs.declared.manifest_log.ManifestLog.{ManifestLog}
 use Rattle.vl_manifest.specs.declared.state.ManifestState.{ManifestState}
 use Rattle.vl_recover.specs.Alike.{OpensAsOf}
 use Rattle.vl_recover.specs.Answers.{Came, Faulted, NoRoom, Recovered, Refused, UsedUp, AreStrayNames, Finds, HeldLog, Opened, calls_to_open, held_log, logs_then, opened_from}
 use Rattle.vl_recover.specs.Deciding.{IsPrepared, opened_by}
+use Rattle.vl_recover.specs.Finding.{IsFaultAt}
 use Rattle.vl_recover.specs.Held.{HoldsStore}
-use Rattle.vl_recover.specs.Meanwhile.{IsAsLong, IsMeanwhile, IsMended, Mending, as_before, at_mending}
+use Rattle.vl_recover.specs.Meanwhile.{FaultsAt, IsAsLong, IsFaultName, IsMeanwhile, IsMended, Mending, as_before, at_list, at_mended, at_mending, at_read}
 use Rattle.vl_recover.specs.Mending.{Plan, WhileMending, mended}
 use Rattle.vl_recover.specs.MendingLaws.{plan_calls}
 use Rattle.vl_recover.specs.MendingMayOpen.{mending_may_open}
@@ -32,9 +34,11 @@ use Rattle.vl_recover.specs.Opening.{Opening}
 use Rattle.vl_recover.specs.PlanViews.{plan_view}
 use Rattle.vl_recover.specs.Plans.{new_state}
 use Rattle.vl_recover.specs.ReadImage.{read_image}
-use Rattle.vl_recover.specs.Results.{HasFailed, IsRefused, frozen_log}
+use Rattle.vl_recover.specs.Results.{HasFailed, IsRefused, came_by, frozen_log}
 use Rattle.vl_recover.specs.Starts.{MayOpen}
-use Rattle.vl_recover.specs.Steps.{Mends}
+use Rattle.vl_recover.specs.Steps.{IsFailAt, Mends}
+use Rattle.vl_recover.specs.declared.fails.Why.{Why}
+use Rattle.vl_recover.specs.declared.fails.Why.TheVariants as why
 use Rattle.vl_recover.specs.declared.prepared.Prepared.{Prepared}
 use Rattle.vl_recover.proofs.ActiveStands.{active_stands}
 use Rattle.vl_recover.specs.OneFinding.{as_many, same_calls, same_logs_then, same_opening}
@@ -68,6 +72,24 @@ refused_fine (Refused why) refused failed = failed
 refused_fine (UsedUp counter) refused failed = failed
 refused_fine NoRoom refused failed = failed
 refused_fine (Faulted name) refused failed = refused
+
+-- where the disk failed while it was read
+pub read_faults : (read : Image) (told : Option DiskState) (state : DiskState) → told ≡ Some state → (why : Why) → IsFaultAt told why → FaultsAt read state (came_by why)
+read_faults read told state is why.NotAStore at = tt
+read_faults read told state is (why.NewerFormat format) at = tt
+read_faults read told state is (why.Damaged name place) at = tt
+read_faults read told state is (why.Exhausted counter) at = tt
+read_faults read told state is why.NoMemory at = tt
+read_faults read told state is (why.Disk name) at = ⊎_elim
+    (λ (stands : ForSome told (Stands name)). at_read (stands state is))
+    (λ (listing : name ≡ Manifest 0). at_list listing)
+    at
+
+-- and while it was mended
+pub mended_faults : (read : Image) (state : DiskState) (prepared : Prepared) → IsPrepared read prepared → (result : Result ManifestLog IoFail) (name : Name)
+    → result ≡ Err (Disk name) → IfErr result (IsFailAt (plan_view prepared.plan)) → IsFaultName read state name
+mended_faults read state prepared is result name failed at =
+    at_mended (mending_of read prepared is) (subst (λ (r : Result ManifestLog IoFail). IfErr r (IsFailAt (plan_view prepared.plan))) failed at)
 
 -- nothing was changed
 module _ {D : Type 0} (g : Ghosts D) (only_now : (disk : D) (state other : DiskState) → g.told disk ≡ Some state → g.states_since disk (g.moment disk) other → other ≡ state)

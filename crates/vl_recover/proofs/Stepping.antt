@@ -1,6 +1,6 @@
 -- Steps of a mending: each call is one, and one behind another is one.
 use Rattle.std.proofs.Common.{◌≡◌, ◌⊎◌, ⊎_elim, inl, inr, ℕ, ◌+◌, List, length, refl, sym, ap, subst, ◌∙◌, arith}
-use Rattle.std.specs.Prelude.{zero, suc, true, false, Option, None, Some, Result, Ok, Err, IsErr, OnOk}
+use Rattle.std.specs.Prelude.{zero, suc, true, false, Option, None, Some, Result, Ok, Err, IfErr, IsErr, IsErrAnd, OnOk}
 use Rattle.std.specs.Option.{option_map}
 use Rattle.vl_disk.specs.Calls.{Appends, Cuts, Removes, Syncs}
 use Rattle.vl_disk.specs.Crash.{WhileAppending, WhileCutting, WhileRemoving, WhileSyncing}
@@ -245,3 +245,17 @@ log_made_at {A = A} g old new log number bytes outcome result some header is mak
     (performs_at g (made (Log number) (log_header number)) (WhileMaking (Log number) (log_header number)) 3 old new (Log number) outcome
     (make_performs g old new (Log number) (log_header number) outcome
     (subst (λ (b : List ℕ). Makes g (Log number) b old new outcome) header makes))))
+
+-- a fault has the name of the file
+pub named_at : {A : Type 0} (name : Name) (outcome : Result A Failed) (result : Result A Name) (P : Name → Type 0) → result ≡ at_file name outcome → P name → IfErr result P
+named_at {A = A} name outcome result P is here = subst (λ (r : Result A Name). IfErr r P) (sym is) (by outcome)
+  where
+    by : (o : Result A Failed) → IfErr (at_file name o) P
+    by (Ok a) = tt
+    by (Err failed) = here
+
+-- and goes on with it
+pub named_on : {T A E : Type 0} (first : Result T E) (e : E) (result : Result A E) (P Q : E → Type 0) → first ≡ Err e → IsErr result → IsErrAnd result (λ f. f ≡ e)
+    → ((f : E) → P f → Q f) → IfErr first P → IfErr result Q
+named_on first e (Ok a) P Q is failed same onto here = absurd (false_true failed)
+named_on {T = T} {E = E} first e (Err f) P Q is failed same onto here = onto f (subst P (sym same) (subst (λ (r : Result T E). IfErr r P) is here))

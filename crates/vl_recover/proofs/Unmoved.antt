@@ -32,6 +32,15 @@ module _ {D : Type 0} (g : Ghosts D) where
     };
   }
 
+  -- the same, said of another failure that wasn't either
+  pub call_as : (a b : D) (failed other : Type 0) → (failed → ⊥) → (other → ⊥) → ChangesNothing g a b failed → ChangesNothing g a b other
+  call_as a b failed other fine none call = record {
+    told = call.told;
+    calls = call.calls;
+    time = call.time;
+    cause = record { later = call.cause.later; rose = λ e. absurd (none e); steady = λ _. call.cause.steady fine };
+  }
+
   -- what holds of a disk that is told holds behind calls that change nothing
   pub still : (a b : D) (failed : Type 0) (P : DiskState → Type 0) → ChangesNothing g a b failed → ForSome (g.told a) P → ForSome (g.told b) P
   still a b failed P none holds disk is = holds disk (sym none.told ∙ is)

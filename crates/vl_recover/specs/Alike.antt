@@ -1,6 +1,6 @@
 -- When one image opens like another, and when whatever a crash leaves of a disk opens like something that it could have left
 -- of an earlier one.
-use Rattle.std.specs.Prelude.{◌≡◌, ℕ, List, ◌++◌, drop, Ok}
+use Rattle.std.specs.Prelude.{◌≡◌, ℕ, List, Ok}
 use Rattle.vl_disk.specs.Chance.{NoChanceMatch}
 use Rattle.vl_disk.specs.Crash.{Image, MayLeave}
 use Rattle.vl_disk.specs.DiskState.{DiskState}

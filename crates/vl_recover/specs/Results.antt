@@ -1,6 +1,5 @@
 -- An opening's result as its contract sees it.
-use Rattle.std.specs.Prelude.{◌≡◌, List, map, Option, Result, Ok, Err, IfOk}
-use Rattle.vl_disk.specs.DiskState.{DiskState}
+use Rattle.std.specs.Prelude.{map, Result, Ok, Err}
 use Rattle.vl_recover.specs.declared.fails.OpenFail.{OpenFail}
 use Rattle.vl_recover.specs.declared.fails.Why.{Why}
 use Rattle.vl_recover.specs.declared.fails.Why.TheVariants as why

@@ -1,5 +1,5 @@
 -- What a step of a mending does: some changing calls, one behind the other, of which one that fails is the last.
-use Rattle.std.specs.Prelude.{◌≡◌, ◌⊎◌, ℕ, ◌+◌, length, List, Option, Some, Result, Err, IfOk, OnOk, IsErr}
+use Rattle.std.specs.Prelude.{◌≡◌, ◌⊎◌, ℕ, ◌+◌, length, List, Option, Some, Result, Err, IfErr, IfOk, OnOk, IsErr}
 use Rattle.vl_disk.specs.Calls.{ChangesNothing}
 use Rattle.vl_disk.specs.Disk.{IsChangedBy}
 use Rattle.vl_disk.specs.DiskState.{DiskState}
@@ -9,8 +9,9 @@ use Rattle.vl_disk.specs.declared.name.Name.{Name}
 use Rattle.vl_disk.specs.declared.watched.Watched.{Ghosts}
 use Rattle.vl_manifest.specs.Making.{HasFailed}
 use Rattle.vl_manifest.specs.declared.fails.IoFail.{IoFail}
-use Rattle.vl_manifest.specs.declared.fails.IoFail.TheVariants.{NoMemory}
+use Rattle.vl_manifest.specs.declared.fails.IoFail.TheVariants.{Disk, NoMemory}
 use Rattle.vl_manifest.specs.declared.manifest_log.ManifestLog.{ManifestLog}
+use Rattle.vl_recover.specs.Fitting.{IsFileOf}
 use Rattle.vl_recover.specs.Mending.{LastLog, Plan, WhileLast, WhileLog, WhileMending, WhileStrays, behind_last, behind_log, behind_strays, calls_of_plan, calls_to_mend, mended}
 use Rattle.vl_recover.specs.Plans.{calls_to_make}
 
@@ -64,13 +65,18 @@ abbrev pub MendsBehind : {D T E : Type 0} → Ghosts D → Plan → D → D → 
 MendsBehind g plan old new result =
     Performs g (behind_manifest plan) (WhileBehind plan) (calls_behind plan) old new result
 
+abbrev pub IsFailAt : Plan → IoFail → Type 0
+IsFailAt plan NoMemory = Unit {0}
+IsFailAt plan (Disk name) = IsFileOf plan name
+
 -- A store is mended by a plan.
 pub record Mends {D : Type 0} (g : Ghosts D) (plan : Plan) (old new : D)
     (result : Result ManifestLog IoFail) : Type 0 where
   pub manifest : IfOk result (λ log. log ≡ record { number = plan.manifest; length = length plan.piece })
   pub done : OnOk result (IsChangedBy (mended plan) (g.told old) (g.told new))
   pub calls : OnOk result (g.calls new ≡ after_calls (calls_of_plan plan) (g.calls old))
-  -- for want of memory it does nothing
+  -- where the disk failed, it was at a file of the plan; for want of memory it does nothing
+  pub at : IfErr result (IsFailAt plan)
   pub no_room : result ≡ Err NoMemory → ChangesNothing g old new ⊥
   pub tells : GoesOnTelling (g.told old) (g.told new)
   pub time : Elapses g old new (WhileMending plan)

@@ -1,11 +1,11 @@
 //! Mending the last log.
 
-ghost use Rattle.std.specs.Prelude.{◌≡◌, IsTrue};
+ghost use Rattle.std.specs.Prelude.{◌≡◌, IfErr, IsTrue};
 ghost use Rattle.std.specs.Option.{ForSome};
 ghost use Rattle.vl_disk.specs.Disk.{IsInside, Stands};
 ghost use Rattle.vl_disk.specs.Spare.{CanAppend, IsReady, SameSpareElsewhere};
 ghost use Rattle.vl_disk.specs.declared.name.Name.TheVariants.{Log};
-ghost use Rattle.vl_recover.specs.Fitting.{CanMend, HasRoomToMend, SameSpareBeside};
+ghost use Rattle.vl_recover.specs.Fitting.{CanMend, HasRoomToMend, IsLastFile, SameSpareBeside};
 ghost use Rattle.vl_recover.specs.Mending as mending;
 ghost use Rattle.vl_recover.specs.PlanViews.{at_file, step_of};
 ghost use Rattle.vl_recover.specs.Steps.{MendsLast};
@@ -19,6 +19,7 @@ pub(crate) fn mend_last<D: Disk>(disk: &mut D, last: LastStep) -> Result<(), Nam
     requires stands { ForSome (D.told disk.old) (CanMend (step_of last)) }
     requires room { HasRoomToMend (step_of last) (D.spare disk.old) }
     ensures mended { MendsLast D.Watched (step_of last) disk.old disk.new result }
+    ensures at { IfErr result (IsLastFile (step_of last)) }
     ensures spare { SameSpareBeside (step_of last) (D.spare disk.old) (D.spare disk.new) }
 {
     match last {

@@ -1,8 +1,8 @@
 //! Mending a store by its plan.
 
-ghost use Rattle.std.specs.Prelude.{◌≡◌};
+ghost use Rattle.std.specs.Prelude.{◌≡◌, Contains, IfErr};
 ghost use Rattle.std.specs.Option.{ForSome};
-ghost use Rattle.vl_recover.specs.Fitting.{CanMake, CanRemove, Fits, FitsBehind, HasNumbers, HasRoomFor, HasRoomToMake, IsNumberedLog};
+ghost use Rattle.vl_recover.specs.Fitting.{CanMake, CanRemove, Fits, FitsBehind, HasNumbers, HasRoomFor, HasRoomToMake, IsFileOf, IsNewLog, IsNumberedLog};
 ghost use Rattle.vl_recover.specs.PlanViews.{plan_view};
 ghost use Rattle.vl_recover.specs.Steps.{MakesLog, Mends, MendsBehind, RemovesAll};
 
@@ -38,7 +38,8 @@ fn mend_behind<D: Disk>(disk: &mut D, plan: &MendingPlan) -> Result<(), Name>
     requires fits { ForSome (D.told disk.old) (FitsBehind (plan_view plan.now)) }
     requires numbers { HasNumbers (plan_view plan.now) }
     requires room { HasRoomFor (plan_view plan.now) (D.spare disk.old) }
-    ensures { MendsBehind D.Watched (plan_view plan.now) disk.old disk.new result }
+    ensures mended { MendsBehind D.Watched (plan_view plan.now) disk.old disk.new result }
+    ensures at { IfErr result (IsFileOf (plan_view plan.now)) }
 {
     mend_last(disk, plan.last)?;
     make_log(disk, plan.log)?;
@@ -50,7 +51,8 @@ fn make_log<D: Disk>(disk: &mut D, log: Option<u32>) -> Result<(), Name>
     requires numbered { IsNumberedLog log }
     requires free { ForSome (D.told disk.old) (CanMake log) }
     requires room { HasRoomToMake log (D.spare disk.old) }
-    ensures { MakesLog D.Watched log disk.old disk.new result }
+    ensures made { MakesLog D.Watched log disk.old disk.new result }
+    ensures at { IfErr result (IsNewLog log) }
 {
     match log {
         None => Ok(()),
@@ -64,7 +66,8 @@ fn make_log<D: Disk>(disk: &mut D, log: Option<u32>) -> Result<(), Name>
 // Removes files, one behind the other.
 fn remove_all<D: Disk>(disk: &mut D, names: &[Name]) -> Result<(), Name>
     requires { ForSome (D.told disk.old) (CanRemove names.now) }
-    ensures { RemovesAll D.Watched names.now disk.old disk.new result }
+    ensures removed { RemovesAll D.Watched names.now disk.old disk.new result }
+    ensures at { IfErr result (Contains names.now) }
 {
     for name in names {
         at(*name, disk.remove(*name))?;

@@ -1,6 +1,6 @@
 //! All that comes before the first change.
 
-ghost use Rattle.std.specs.Prelude.{◌≡◌, Some, IfOk, OnOk};
+ghost use Rattle.std.specs.Prelude.{◌≡◌, Some, IfErr, IfOk, OnOk};
 ghost use Rattle.std.specs.Option.{ForSome};
 ghost use Rattle.vl_disk.specs.Calls.{ChangesNothing};
 ghost use Rattle.vl_disk.specs.Crash.{Image};
@@ -8,7 +8,7 @@ ghost use Rattle.vl_disk.specs.DiskState.{DiskState};
 ghost use Rattle.vl_disk.specs.Started.{IsRead};
 ghost use Rattle.vl_manifest.specs.States.{whole_edits};
 ghost use Rattle.vl_recover.specs.Deciding.{PreparesSo};
-ghost use Rattle.vl_recover.specs.Finding.{IsFault};
+ghost use Rattle.vl_recover.specs.Finding.{IsFault, IsFaultAt};
 ghost use Rattle.vl_recover.specs.Fitting.{Fits, HasNumbers, HasRoomFor, HasRoomToMake, HasRoomToMend, SameSpareBeside, SameSpareBesideLog};
 ghost use Rattle.vl_recover.specs.PlanViews.{plan_view, step_of};
 
@@ -30,6 +30,7 @@ pub(crate) fn prepare<D: Disk>(alloc: Global, disk: &mut D) -> Result<Prepared, 
     ensures edits { IfOk result (λ prepared. prepared.plan.edits.items ≡ whole_edits prepared.state) }
     ensures numbers { IfOk result (λ prepared. HasNumbers (plan_view prepared.plan)) }
     ensures room { IfOk result (λ prepared. HasRoomFor (plan_view prepared.plan) (D.spare disk.new)) }
+    ensures at { IfErr result (IsFaultAt (D.told disk.old)) }
     ensures no_change { ChangesNothing D.Watched disk.old disk.new (IsFault result) }
 {
     let found = find(alloc, disk)?;

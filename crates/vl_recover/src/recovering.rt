@@ -13,7 +13,7 @@ ghost use Rattle.vl_recover.specs.Alike.{OpensAsOf};
 ghost use Rattle.vl_recover.specs.Answers.{AnswersBy, AreStrayNames, Finds, IsNotOpened, calls_to_open, logs_then};
 ghost use Rattle.vl_recover.specs.Deciding.{opened_by};
 ghost use Rattle.vl_recover.specs.Held.{HoldsStore};
-ghost use Rattle.vl_recover.specs.Meanwhile.{IsAsLong, IsMeanwhile, IsMended};
+ghost use Rattle.vl_recover.specs.Meanwhile.{FaultsAt, IsAsLong, IsMeanwhile, IsMended};
 ghost use Rattle.vl_recover.specs.Results.{HasFailed, IsRefused, came, disk_of, opened_of};
 ghost use Rattle.vl_recover.specs.Starts.{MayOpen};
 
@@ -68,6 +68,10 @@ pub fn recover<D: Disk>(alloc: Global, disk: D, room: u64) -> Result<Parts<D>, O
         → D.told (disk_of result) ≡ Some now → MayOpen now }
     ensures tells { (state : DiskState) → D.told disk ≡ Some state
         → (now : DiskState) × (D.told (disk_of result) ≡ Some now) }
+
+    // A fault is counted, and named by the file at which it came.
+    ensures at { (state : DiskState) (read : Image) → D.told disk ≡ Some state → IsRead read state
+        → FaultsAt read state (came result) }
     ensures cause { HasCause (D.faults disk) (D.faults (disk_of result)) (HasFailed (came result)) }
     ensures room { IfOk result (λ parts. parts.room ≡ room) }
 

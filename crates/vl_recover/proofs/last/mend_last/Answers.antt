@@ -1,10 +1,10 @@
-use Rattle.std.proofs.Common.{ap, subst}
+use Rattle.std.proofs.Common.{ap, refl, subst}
 use Rattle.std.specs.Option.{ForSome}
 use Rattle.vl_disk.specs.declared.name.Name.TheVariants.{Log}
 use Rattle.vl_recover.specs.Fitting.{CanMend}
 use Rattle.vl_recover.specs.Mending.{Kept, LastLog}
 use Rattle.vl_recover.specs.PlanViews.{step_of}
-use Rattle.vl_recover.proofs.Stepping.{last_at, last_none, sync_performs}
+use Rattle.vl_recover.proofs.Stepping.{last_at, last_none, named_at, sync_performs}
 use Rattle.vl_recover.proofs.last.mend_last.Goals as goal
 
 pub sync-requires : goal.sync-requires
@@ -30,3 +30,15 @@ returns-in-Keep-clause-mended g c =
     last_at g.D.Watched _ _ (step_of c.args.last) (Kept c.in-Keep.number) (Log c.in-Keep.number) c.sync.result c.at.result
     (ap step_of c.in-Keep.is) c.at.ensures
     (sync_performs g.D.Watched _ _ (Log c.in-Keep.number) c.sync.result c.sync.ensures)
+
+pub returns-in-Keep-clause-at : goal.returns-in-Keep-clause-at
+returns-in-Keep-clause-at g c = rw c.in-Keep.is (named_at (Log c.in-Keep.number) c.sync.result c.at.result _ c.at.ensures refl)
+
+pub returns-in-Cut-clause-at : goal.returns-in-Cut-clause-at
+returns-in-Cut-clause-at g c = rw c.in-Cut.is (named_at (Log c.in-Cut.number) c.cut.result c.at-in-Cut.result _ c.at-in-Cut.ensures refl)
+
+pub returns-in-Rewrite-clause-at : goal.returns-in-Rewrite-clause-at
+returns-in-Rewrite-clause-at g c = rw c.in-Rewrite.is (named_at (Log c.in-Rewrite.number) c.rewrite.result c.at-in-Rewrite.result _ c.at-in-Rewrite.ensures refl)
+
+pub returns-in-Head-clause-at : goal.returns-in-Head-clause-at
+returns-in-Head-clause-at g c = rw c.in-Head.is (named_at (Log c.in-Head.number) c.head.result c.at-in-Head.result _ c.at-in-Head.ensures refl)

@@ -12,8 +12,8 @@ mend_behind-requires-clause-fits g c =
 
 pub returns-in-Ok : goal.returns-in-Ok
 returns-in-Ok g c =
-    all_mended g.D.Watched c.args.plan.now _ c.deref.ensures.value _ _ c.in_ok-manifest.manifest c.create.result c.in_ok-manifest.was c.create.ensures _ _ c.in-Ok.ensures
+    all_mended g.D.Watched c.args.plan.now _ c.deref.ensures.value _ _ c.in_ok-manifest.manifest c.create.result c.in_ok-manifest.was c.create.ensures _ _ c.in-Ok.ensures.mended
 
 pub returns-in-Err : goal.returns-in-Err
 returns-in-Err g c =
-    mending_fails g.D.Watched c.args.plan.now _ c.deref.ensures.value _ _ c.in_ok-manifest.manifest c.create.result c.in_ok-manifest.was c.create.ensures _ c.in-Err.name c.in-Err.ensures
+    mending_fails g.D.Watched c.args.plan.now _ c.deref.ensures.value _ _ c.in_ok-manifest.manifest c.create.result c.in_ok-manifest.was c.create.ensures _ c.in-Err.name c.in-Err.ensures.at c.in-Err.ensures.mended

@@ -1,9 +1,9 @@
 use Rattle.std.proofs.Common.{◌∙◌, sym}
 use Rattle.vl_recover.specs.ReadImage.{read_image}
-use Rattle.vl_recover.proofs.Decided.{answer_by, decided_answer, decided_prepared}
+use Rattle.vl_recover.proofs.Decided.{answer_by, decided_answer, decided_at, decided_prepared}
 use Rattle.vl_recover.proofs.Fitted.{found_fits}
 use Rattle.vl_recover.proofs.Numbers.{decided_numbers}
-use Rattle.vl_recover.proofs.Unchanged.{nothing_then}
+use Rattle.vl_recover.proofs.Unmoved.{then_call}
 use Rattle.vl_recover.proofs.preparing.prepare.Goals as goal
 
 pub returns-in_err-prepared-clause-answer : goal.returns-in_err-prepared-clause-answer
@@ -23,10 +23,10 @@ returns-clause-fits g c state told =
     found_fits prepared.finds state is _ prepared.plan
 
 pub returns-then-is_err-clause-no_change : goal.returns-then-is_err-clause-no_change
-returns-then-is_err-clause-no_change g c = nothing_then g.D.Watched _ _ _ ⊥ c.in_ok-found.ensures.no_change c.take_room.ensures.no_change
+returns-then-is_err-clause-no_change g c = then_call g.D.Watched _ _ _ ⊥ c.in_ok-found.ensures.no_change c.take_room.ensures.no_change
 
 pub returns-clause-no_change : goal.returns-clause-no_change
-returns-clause-no_change g c = nothing_then g.D.Watched _ _ _ ⊥ c.in_ok-found.ensures.no_change c.take_room.ensures.no_change
+returns-clause-no_change g c = then_call g.D.Watched _ _ _ ⊥ c.in_ok-found.ensures.no_change c.take_room.ensures.no_change
 
 pub take_room-requires : goal.take_room-requires
 take_room-requires g c =
@@ -35,3 +35,8 @@ take_room-requires g c =
 pub returns-clause-numbers : goal.returns-clause-numbers
 returns-clause-numbers g c =
     decided_numbers c.in_ok-found.found c.in_ok-found.ensures.numbers c.in_ok-found.ensures.last c.in_ok-prepared.ensures.unused _ c.in_ok-prepared.ensures.plan
+
+pub returns-in_err-prepared-clause-at : goal.returns-in_err-prepared-clause-at
+returns-in_err-prepared-clause-at g c =
+    decided_at c.in_ok-found.found (g.D.Watched.told c.args.disk.now) c.from_residual-in_err-prepared.result c.in_err-prepared.field-0.0
+    c.from_residual-in_err-prepared.ensures.0 c.from_residual-in_err-prepared.ensures.1 c.in_err-prepared.ensures

@@ -4,15 +4,15 @@ use Rattle.vl_manifest.specs.Manifest.{manifest_bytes}
 use Rattle.vl_recover.specs.OneFinding.{opened_not}
 use Rattle.vl_recover.specs.PlanViews.{plan_view}
 use Rattle.vl_recover.specs.Results.{HasFailed, came_by}
-use Rattle.vl_recover.proofs.Recovered.{active_stays, as_long, calls_counted, disk_mended, mended_again, mended_meanwhile, mended_tells, mended_through, opened_same, refused_fine, still_tells, store_held, unchanged_again, unchanged_meanwhile, unchanged_through}
-use Rattle.vl_recover.proofs.Unchanged.{nothing_as, nothing_then}
+use Rattle.vl_recover.proofs.Recovered.{active_stays, as_long, calls_counted, disk_mended, mended_again, mended_faults, mended_meanwhile, mended_tells, mended_through, opened_same, read_faults, refused_fine, still_tells, store_held, unchanged_again, unchanged_meanwhile, unchanged_through}
+use Rattle.vl_recover.proofs.Unmoved.{call_as, then_call}
 use Rattle.vl_seglog.specs.declared.active.ActiveLog.{ActiveLog}
 use Rattle.vl_recover.proofs.recovering.recover.Goals as goal
 
 -- it was refused, or there was no memory
 pub returns-in-Err-clause-refused : goal.returns-in-Err-clause-refused
 returns-in-Err-clause-refused g c refused =
-    nothing_as g.D.Watched _ _ (HasFailed (came_by c.in-Err.why)) (refused_fine (came_by c.in-Err.why) refused) c.in-Err.ensures.no_change
+    call_as g.D.Watched _ _ (HasFailed (came_by c.in-Err.why)) ⊥ (refused_fine (came_by c.in-Err.why) refused) (λ none. none) c.in-Err.ensures.no_change
 
 pub returns-in-Err-clause-meanwhile : goal.returns-in-Err-clause-meanwhile
 returns-in-Err-clause-meanwhile g c state read told is_read = unchanged_meanwhile g.D.Watched g.met.D.Disk.only_now _ _ c.in-Err.ensures.no_change state told read
@@ -30,7 +30,7 @@ returns-in-Err-clause-tells g c state told = still_tells g.D.Watched g.met.D.Dis
 pub returns-in-Err-NoMemory-clause-refused : goal.returns-in-Err-NoMemory-clause-refused
 returns-in-Err-NoMemory-clause-refused g c refused =
     let failed = rw c.in-Err-NoMemory.field-0-is at c.in-Err-NoMemory.is in
-    nothing_then g.D.Watched _ _ _ ⊥ c.in-Ok.ensures.no_change (c.mend.ensures.no_room failed)
+    then_call g.D.Watched _ _ _ ⊥ c.in-Ok.ensures.no_change (c.mend.ensures.no_room failed)
 
 pub returns-in-Err-NoMemory-clause-meanwhile : goal.returns-in-Err-NoMemory-clause-meanwhile
 returns-in-Err-NoMemory-clause-meanwhile g c state read told is_read =
@@ -141,3 +141,12 @@ returns-in-Ok-mend-clause-stands g c =
     rw c.opened.ensures.disk
     (active_stays g.D.Watched _ _ _ c.in-Ok.ensures.no_change c.in-Ok.prepared _ c.in-Ok-mend.ensures c.in-Ok.ensures.answer
     c.opened.result.active.number (ap (λ (a : ActiveLog). a.number) c.opened.ensures.active))
+
+-- where it failed
+pub returns-in-Err-clause-at : goal.returns-in-Err-clause-at
+returns-in-Err-clause-at g c state read told is_read = read_faults read (g.D.Watched.told c.args.disk) state told c.in-Err.why c.in-Err.ensures.at
+
+pub returns-clause-at : goal.returns-clause-at
+returns-clause-at g c state read told is_read =
+    let failed = rw c.in-Err-Disk.field-0-is at c.in-Err-Disk.is in
+    mended_faults read state c.in-Ok.prepared (c.in-Ok.ensures.answer state read told is_read) c.mend.result c.in-Err-Disk.name failed c.mend.ensures.at
