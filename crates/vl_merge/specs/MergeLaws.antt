@@ -19,10 +19,10 @@ pub way_total : (way : Way) → IsTotalOrder (way_cmp way)
 way_total Up = entry_total
 way_total Down = back_total entry_total
 
-place-later : (way : Way) (e f : Entry) (fs : List Entry) → is_gt (way_cmp way e f) ≡ true → place way e (f ∷ fs) ≡ f ∷ place way e fs
+pub place-later : (way : Way) (e f : Entry) (fs : List Entry) → is_gt (way_cmp way e f) ≡ true → place way e (f ∷ fs) ≡ f ∷ place way e fs
 place-later way e f fs is = ap (λ b. cond b (f ∷ place way e fs) (e ∷ f ∷ fs)) is
 
-place-here : (way : Way) (e f : Entry) (fs : List Entry) → is_gt (way_cmp way e f) ≡ false → place way e (f ∷ fs) ≡ e ∷ f ∷ fs
+pub place-here : (way : Way) (e f : Entry) (fs : List Entry) → is_gt (way_cmp way e f) ≡ false → place way e (f ∷ fs) ≡ e ∷ f ∷ fs
 place-here way e f fs is = ap (λ b. cond b (f ∷ place way e fs) (e ∷ f ∷ fs)) is
 
 greater : (r : Ordering) → is_gt r ≡ true → r ≡ Greater
