@@ -1,3 +1,5 @@
+pub mod GroupLaws
+pub mod Grouped
 pub mod Heads
 pub mod MergeLaws
 pub mod Merging

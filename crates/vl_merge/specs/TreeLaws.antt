@@ -7,7 +7,6 @@ use Rattle.std.specs.Cmp.{upto}
 use Rattle.vl_model.specs.Cursors.{Gives, Keeps}
 use Rattle.vl_model.specs.declared.entry.Entry.{Entry}
 use Rattle.vl_model.specs.declared.way.Way.{Way}
-use Rattle.vl_run.specs.OrderLaws.{all-append}
 use Rattle.vl_merge.specs.Merging.{way_cmp, merged, IsFirst, IsAlong}
 use Rattle.vl_merge.specs.MergeLaws.{way_total, first-all, merged-first}
 use Rattle.vl_merge.specs.Told.{is_first, is_along, told, merge_of, pair_of}
@@ -55,6 +54,10 @@ behind_all : (way : Way) (e f : Entry) (fs : List Entry) → is_gt (way_cmp way 
     → AllByRecursion (λ g. is_gt (way_cmp way g e) ≡ true) fs
 behind_all way e f [] behind first = tt
 behind_all way e f (g ∷ fs) behind first = (behind_more way e f g behind first.0, behind_all way e f fs behind first.1)
+
+all-append : (P : Entry → Type 0) (es fs : List Entry) → AllByRecursion P es → AllByRecursion P fs → AllByRecursion P (es ++ fs)
+all-append P [] fs here there = there
+all-append P (e ∷ es) fs here there = (here.0, all-append P es fs here.1 there)
 
 -- ---- sources end to end
 

@@ -1,5 +1,7 @@
-ghost use Rattle.std.specs.Prelude.{◌≡◌, map, IfOk};
+ghost use Rattle.std.specs.Prelude.{◌≡◌, true, map, IfOk};
 ghost use Rattle.std.specs.List.{sum_by};
+ghost use Rattle.std.specs.Option.{ForSome};
+ghost use Rattle.vl_merge.specs.Grouped.{is_grouped};
 ghost use Rattle.vl_merge.specs.Told.{merge_of};
 ghost use Rattle.vl_merge.specs.Trees.{tree_left, tree_budget, tree_faults};
 
@@ -47,4 +49,9 @@ impl<C: Cursor + Drop> Merge<C> {
             way,
         })
     }
+
+    /// In what is left the entries of each key stand together.
+    pub fn keys_stand_together(&self)
+        ensures { ForSome (⟦<Merge<C> as Cursor>⟧.left self.now) (λ es. is_grouped es ≡ true) }
+    {}
 }
