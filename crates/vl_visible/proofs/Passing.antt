@@ -1,7 +1,6 @@
 -- What is visible of entries with one more in front.
-use Rattle.std.proofs.Common.{◌≡◌, ◌≢◌, ℕ, Bool, true, false, cond, not, ◌&&◌, List, [], ◌∷◌, ◌++◌, refl, ap, sym, ◌∙◌, append-nil, Option, Some, None}
+use Rattle.std.proofs.Common.{◌≡◌, ℕ, Bool, true, false, cond, not, ◌&&◌, List, [], ◌∷◌, ◌++◌, refl, ap, sym, ◌∙◌, Option, Some, None}
 use Rattle.std.proofs.lemmas.Bool.{and_parts}
-use Rattle.std.specs.Prelude.{nat_le}
 use Rattle.std.specs.List.{AllByRecursion, filter, flat_map}
 use Rattle.std.specs.Ordering.{is_eq, eq_by_cmp}
 use Rattle.vl_model.specs.Keys.{key_cmp}
@@ -28,7 +27,7 @@ key_turned k q apart = by (is_key q k) refl
     by false is = is
 
 -- the keys that aren't this one
-abbrev others : List ℕ → List (List ℕ) → List (List ℕ)
+abbrev pub others : List ℕ → List (List ℕ) → List (List ℕ)
 others key keys = filter (λ k. not (is_key key k)) keys
 
 others-again : (key : List ℕ) (keys : List (List ℕ)) → others key (others key keys) ≡ others key keys
@@ -59,7 +58,7 @@ others-all key (k ∷ ks) are = ap (λ b. cond (not b) (k ∷ others key ks) (ot
 
 -- ---- what decides what is visible
 
-abbrev keys_at : ℕ → List Entry → List (List ℕ)
+abbrev pub keys_at : ℕ → List Entry → List (List ℕ)
 keys_at number es = keys_of (filter (is_counted number) es)
 
 module _ {X : Type 0} (f g : List ℕ → List X) where

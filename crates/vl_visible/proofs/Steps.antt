@@ -29,7 +29,7 @@ left-parts number held es out gave = by (is_grouped (held_first held es) && is_h
         → IsTold number held es out
     by true is gave =
         let parts = and_parts (is_grouped (held_first held es)) (is_held_counted number held) is in
-        record { grouped = parts.0; counted = parts.1; shown = (cc); }
+        record { grouped = parts.0; counted = parts.1; shown = (cc) }
     by false is gave = absurd (none_some out gave)
 
 pub left-join : (number : ℕ) (held : Option Entry) (es : List Entry) → is_grouped (held_first held es) ≡ true → is_held_counted number held ≡ true
@@ -41,7 +41,7 @@ left-join number held es grouped counted =
 -- ---- an entry that is passed
 
 -- what is visible with one entry more is what is given of it and what is visible then
-record IsPassed (number : ℕ) (held : Option Entry) (e : Entry) (rest : List Entry) (now given : Option Entry) : Type 0 where
+pub record IsPassed (number : ℕ) (held : Option Entry) (e : Entry) (rest : List Entry) (now given : Option Entry) : Type 0 where
   pub grouped : is_grouped (held_first now rest) ≡ true
   pub counted : is_held_counted number now ≡ true
   pub whole : visible number (held_first held (e ∷ rest)) ≡ option_to_list given ++ visible number (held_first now rest)
@@ -55,7 +55,7 @@ shown-list h = by (is_gone h.body)
 
 passes_counted : (number : ℕ) (held : Option Entry) (e : Entry) (rest : List Entry) → is_grouped (held_first held (e ∷ rest)) ≡ true → is_held_counted number held ≡ true
     → is_counted number e ≡ true → IsPassed number held e rest (held_with held e) (passed_by held e)
-passes_counted number None e rest grouped counted of_e = record { grouped = grouped; counted = of_e; whole = refl; }
+passes_counted number None e rest grouped counted of_e = record { grouped = grouped; counted = of_e; whole = refl }
 passes_counted number (Some h) e rest grouped of_h of_e = by (is_key h.key e.key) (nat_le e.version h.version) refl refl
   where
     by : (b c : Bool) → is_key h.key e.key ≡ b → nat_le e.version h.version ≡ c
@@ -78,7 +78,7 @@ passes_counted number (Some h) e rest grouped of_h of_e = by (is_key h.key e.key
           whole = visible-front number h (e ∷ rest) of_h (without-behind h e rest parts.0 apart) ∙ ap (λ l. l ++ visible number (e ∷ rest)) (shown-list h);
         }
 
-passes : (number : ℕ) (held : Option Entry) (e : Entry) (rest : List Entry) → is_grouped (held_first held (e ∷ rest)) ≡ true → is_held_counted number held ≡ true
+pub passes : (number : ℕ) (held : Option Entry) (e : Entry) (rest : List Entry) → is_grouped (held_first held (e ∷ rest)) ≡ true → is_held_counted number held ≡ true
     → IsPassed number held e rest (held_after number held e) (passed number held e)
 passes number held e rest grouped counted = by (is_counted number e) refl
   where
@@ -100,8 +100,7 @@ module _ (number : ℕ) (held : Option Entry) where
   next_told (Some es) mid e gives out gave =
       let given = gives es refl in
       let told = left-parts number held (e ∷ given.0) out (ap (λ l. visible_left number held (Some l)) (sym given.1) ∙ gave) in
-      let now = passes number held e given.0 told.grouped told.counted in
-      (
+      let now = passes number held e given.0 told.grouped told.counted in (
         visible number (held_first (held_after number held e) given.0),
         told.shown ∙ now.whole,
         ap (visible_left number (held_after number held e)) given.2 ∙ left-join number (held_after number held e) given.0 now.grouped now.counted,
