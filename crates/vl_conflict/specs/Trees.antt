@@ -1,9 +1,12 @@
 -- What a tree of notes has, in rising order of keys, and what it keeps to find the late ones.
+use Rattle.std.proofs.Common.{Bor}
 use Rattle.std.specs.Prelude.{◌≡◌, ℕ, max, Bool, true, if◌then◌else◌, List, [], ◌∷◌, ◌++◌, Option, Some, None}
+use Rattle.std.specs.List.{filter}
+use Rattle.std.specs.Option.{option_copied}
 use Rattle.std.specs.FinMap.{is_sorted}
 use Rattle.std.specs.Ordering.{is_gt}
 use Rattle.vl_model.specs.Keys.{key_cmp}
-use Rattle.vl_model.specs.Conflicts.{Named}
+use Rattle.vl_model.specs.Conflicts.{Named, first_of}
 use Rattle.vl_model.specs.declared.span.Span.{Span}
 use Rattle.vl_conflict.specs.declared.tree.Tree.{Tree, Leaf, Fork'}
 use Rattle.vl_conflict.specs.declared.tree.Node.{Node}
@@ -17,18 +20,22 @@ abbrev pub greatest_of : Tree → ℕ
 greatest_of Leaf = 0
 greatest_of (Fork' p left key number greatest height right) = greatest
 
+abbrev pub greatest_among : ℕ → Tree → Tree → ℕ
+greatest_among number left right = max number (max (greatest_of left) (greatest_of right))
+
 -- each part knows the greatest number in it
 abbrev pub KnowsGreatest : Tree → Type 0
 KnowsGreatest Leaf = Unit {0}
 KnowsGreatest (Fork' p left key number greatest height right) =
-    (greatest ≡ max number (max (greatest_of left) (greatest_of right))) × KnowsGreatest left × KnowsGreatest right
+    (greatest ≡ greatest_among number left right) × KnowsGreatest left × KnowsGreatest right
 
 -- the same of one node
 abbrev pub node_named : Node → List Named
 node_named n = named n.left ++ (n.key, n.number) ∷ named n.right
 
 abbrev pub NodeKnows : Node → Type 0
-NodeKnows n = (n.greatest ≡ max n.number (max (greatest_of n.left) (greatest_of n.right))) × KnowsGreatest n.left × KnowsGreatest n.right
+NodeKnows n =
+    (n.greatest ≡ greatest_among n.number n.left n.right) × KnowsGreatest n.left × KnowsGreatest n.right
 
 abbrev pub HalvesKnow : Node → Type 0
 HalvesKnow n = KnowsGreatest n.left × KnowsGreatest n.right
@@ -41,6 +48,13 @@ IsAlone n = (n.left ≡ Leaf) × (n.right ≡ Leaf) × (n.greatest ≡ n.number)
 abbrev pub found_named : Option Node → Option Named
 found_named None = None
 found_named (Some n) = Some (n.key, n.number)
+
+abbrev pub found : Option (Bor Node) → Option Named
+found node = found_named (option_copied node)
+
+-- the first note that passes a test
+abbrev pub first_in : (Named → Bool) → List Named → Option Named
+first_in test es = first_of (filter test es)
 
 -- an interval by its bounds
 abbrev pub span_of : Option (List ℕ) → Option (List ℕ) → Bool → Span

@@ -40,8 +40,8 @@ impl Recent {
         }
     }
 
-    /// Of the keys that were read, or lie in an interval that was, the least that a commit above the number named, with
-    /// the last that did.
+    /// Of the keys that were read, or lie in an interval that was, the least that a commit above the
+    /// number named, with the last that did.
     pub fn check(
         &self,
         number: u64,

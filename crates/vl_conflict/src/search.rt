@@ -1,12 +1,10 @@
 // The least of what several searches in a tree find.
 ghost use Rattle.std.specs.Prelude.{◌≡◌, true};
-ghost use Rattle.std.specs.List.{filter};
 ghost use Rattle.std.specs.Option.{option_copied};
 ghost use Rattle.std.specs.FinMap as map;
-ghost use Rattle.vl_model.specs.Conflicts.{first_of};
 ghost use Rattle.vl_model.specs.Keys.{key_cmp};
 ghost use Rattle.vl_conflict.specs.Recent.{is_late_within, is_late_at_any, is_late_within_any};
-ghost use Rattle.vl_conflict.specs.Trees.{named, KnowsGreatest, found_named, lesser_of};
+ghost use Rattle.vl_conflict.specs.Trees.{named, KnowsGreatest, found, first_in, lesser_of};
 
 use crate::tree::{Node, Tree, first_late, order};
 use vl_model::{Key, Span};
@@ -15,7 +13,7 @@ use vl_model::{Key, Span};
 pub fn first_of_keys<'a>(tree: &'a Tree, number: u64, keys: &[Key]) -> Option<&'a Node>
     requires sorted { map.is_sorted key_cmp (named tree.now) ≡ true }
     requires knows { KnowsGreatest tree.now }
-    ensures { found_named (option_copied result) ≡ first_of (filter (is_late_at_any number keys.now) (named tree.now)) }
+    ensures { found result ≡ first_in (is_late_at_any number keys.now) (named tree.now) }
 {
     let mut first = None;
     for key in keys {
@@ -29,7 +27,7 @@ pub fn first_of_keys<'a>(tree: &'a Tree, number: u64, keys: &[Key]) -> Option<&'
 pub fn first_of_spans<'a>(tree: &'a Tree, number: u64, spans: &[Span]) -> Option<&'a Node>
     requires sorted { map.is_sorted key_cmp (named tree.now) ≡ true }
     requires knows { KnowsGreatest tree.now }
-    ensures { found_named (option_copied result) ≡ first_of (filter (is_late_within_any number spans.now) (named tree.now)) }
+    ensures { found result ≡ first_in (is_late_within_any number spans.now) (named tree.now) }
 {
     let mut first = None;
     for span in spans {
@@ -41,7 +39,7 @@ pub fn first_of_spans<'a>(tree: &'a Tree, number: u64, spans: &[Span]) -> Option
 fn first_within<'a>(tree: &'a Tree, number: u64, span: &Span) -> Option<&'a Node>
     requires sorted { map.is_sorted key_cmp (named tree.now) ≡ true }
     requires knows { KnowsGreatest tree.now }
-    ensures { found_named (option_copied result) ≡ first_of (filter (is_late_within number span.now) (named tree.now)) }
+    ensures { found result ≡ first_in (is_late_within number span.now) (named tree.now) }
 {
     let lo = bound(&span.lo);
     let hi = bound(&span.hi);
@@ -59,7 +57,7 @@ fn bound(key: &Option<Key>) -> Option<&[u8]>
 
 /// The one of the lesser key.
 pub fn lesser<'a>(a: Option<&'a Node>, b: Option<&'a Node>) -> Option<&'a Node>
-    ensures { found_named (option_copied result) ≡ lesser_of (found_named (option_copied a.entry)) (found_named (option_copied b.entry)) }
+    ensures { found result ≡ lesser_of (found a.entry) (found b.entry) }
 {
     match (a, b) {
         (None, _) => b,

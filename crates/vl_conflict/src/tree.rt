@@ -3,10 +3,10 @@ ghost use Rattle.std.specs.FinMap as map;
 ghost use Rattle.vl_model.specs.Keys.{key_cmp};
 ghost use Rattle.std.specs.Option.{option_copied};
 ghost use Rattle.std.specs.List.{filter};
-ghost use Rattle.vl_model.specs.Conflicts.{first_of};
 ghost use Rattle.vl_model.specs.Reads.{is_from, is_up_to};
 ghost use Rattle.vl_conflict.specs.Recent.{is_late_within, is_above_floor};
-ghost use Rattle.vl_conflict.specs.Trees.{named, greatest_of, KnowsGreatest, node_named, NodeKnows, HalvesKnow, IsAlone, found_named, span_of};
+ghost use Rattle.vl_conflict.specs.Trees.{named, greatest_of, KnowsGreatest, node_named, NodeKnows, HalvesKnow, IsAlone};
+ghost use Rattle.vl_conflict.specs.Trees.{found, first_in, span_of};
 
 use std::cmp::Ordering;
 use std::mem;
@@ -186,7 +186,8 @@ fn balanced(mut node: Box<Node>) -> Box<Node>
     node
 }
 
-// Notes what a node has, below which nothing stands. Where its key is noted already, that gets the number, and the node goes.
+// Notes what a node has, below which nothing stands. Where its key is noted already, that gets the
+// number, and the node goes.
 #[cycle(put)]
 pub fn put(tree: &mut Tree, node: Box<Node>)
     requires sorted { map.is_sorted key_cmp (named tree.old) ≡ true }
@@ -209,7 +210,8 @@ fn put_below(top: &mut Node, node: Box<Node>)
     requires sorted { map.is_sorted key_cmp (node_named top.old) ≡ true }
     requires knows { HalvesKnow top.old }
     requires alone { IsAlone node.value }
-    ensures named { node_named top.new ≡ map.put key_cmp node.value.key node.value.number (node_named top.old) }
+    ensures named { node_named top.new
+        ≡ map.put key_cmp node.value.key node.value.number (node_named top.old) }
     ensures knows { HalvesKnow top.new }
 {
     let number = node.number;
@@ -237,8 +239,9 @@ pub fn first_late<'a>(
 ) -> Option<&'a Node>
     requires sorted { map.is_sorted key_cmp (named tree.now) ≡ true }
     requires knows { KnowsGreatest tree.now }
-    ensures { found_named (option_copied result)
-        ≡ first_of (filter (is_late_within number (span_of (option_copied lo.entry) (option_copied hi.entry) closed)) (named tree.now)) }
+    ensures { found result ≡ first_in
+        (is_late_within number (span_of (option_copied lo.entry) (option_copied hi.entry) closed))
+        (named tree.now) }
 {
     match tree {
         Tree::Leaf => None,
@@ -256,8 +259,9 @@ fn first_late_below<'a>(
 ) -> Option<&'a Node>
     requires sorted { map.is_sorted key_cmp (node_named node.now) ≡ true }
     requires knows { NodeKnows node.now }
-    ensures { found_named (option_copied result)
-        ≡ first_of (filter (is_late_within number (span_of (option_copied lo.entry) (option_copied hi.entry) closed)) (node_named node.now)) }
+    ensures { found result ≡ first_in
+        (is_late_within number (span_of (option_copied lo.entry) (option_copied hi.entry) closed))
+        (node_named node.now) }
 {
     if node.greatest <= number {
         return None;
@@ -366,7 +370,8 @@ fn first_taken(mut node: Box<Node>) -> (Box<Node>, Tree)
 fn joined(left: Tree, mut node: Box<Node>, right: Tree) -> Box<Node>
     requires left { KnowsGreatest left }
     requires right { KnowsGreatest right }
-    ensures named { node_named result.value ≡ named left ++ (node.value.key, node.value.number) ∷ named right }
+    ensures named { node_named result.value
+        ≡ named left ++ (node.value.key, node.value.number) ∷ named right }
     ensures knows { NodeKnows result.value }
 {
     let (left_height, right_height) = (height(&left), height(&right));

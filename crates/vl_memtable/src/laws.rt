@@ -17,7 +17,8 @@ pub fn lengths_after_commits_of_one()
     ensures nine { after_runs_of_one 9 ≡ 1 ∷ 8 ∷ [] }
 {}
 
-/// Where none is empty and each has at least twice the entries of the next newer one, there are at most a logarithm of runs.
+/// Where none is empty and each has at least twice the entries of the next newer one, there are at most
+/// a logarithm of runs.
 pub fn runs_are_few()
     ensures { (lengths : List ℕ) → doubles lengths ≡ true → AllByRecursion (λ n. 0 < n) lengths
         → 2 ^ length lengths ≤ sum lengths + 1 }

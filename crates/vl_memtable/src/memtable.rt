@@ -60,7 +60,8 @@ impl Memtable {
         self.runs.as_slice().is_empty()
     }
 
-    /// Each run has at least twice the entries of the next newer one, so there are at most a logarithm of them.
+    /// Each run has at least twice the entries of the next newer one, so there are at most a logarithm
+    /// of them.
     pub fn has_few_runs(&self)
         ensures { HasFewRuns self.now }
     {

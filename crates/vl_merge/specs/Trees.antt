@@ -24,7 +24,8 @@ module _ {C : Type 0} where
   abbrev pub tree_faults : (C → ℕ) → Tree C → ℕ
   tree_faults faults Nothing = 0
   tree_faults faults (Source c) = faults c
-  tree_faults faults (Two' p newer first q older second) = tree_faults faults newer + tree_faults faults older
+  tree_faults faults (Two' p newer first q older second) =
+      tree_faults faults newer + tree_faults faults older
 
   -- what is left of a half of a tree, with its head
   abbrev pub half_left : (C → Option (List Entry)) → Way → Head → Tree C → Option (List Entry)
@@ -32,3 +33,11 @@ module _ {C : Type 0} where
 
   abbrev pub half_budget : (C → ℕ) → Head → Tree C → ℕ
   half_budget budget head half = budget_of head (tree_budget budget half)
+
+  -- and of both halves
+  abbrev pub two_left : (C → Option (List Entry)) → Way → Tree C → Head → Tree C → Head → Option (List Entry)
+  two_left left way newer first older second =
+      pair_of way (half_left left way first newer) (half_left left way second older)
+
+  abbrev pub two_budget : (C → ℕ) → Tree C → Head → Tree C → Head → ℕ
+  two_budget budget newer first older second = half_budget budget first newer + half_budget budget second older

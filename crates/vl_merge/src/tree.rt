@@ -1,13 +1,13 @@
 ghost use Rattle.std.specs.Prelude.{◌≡◌, ◌≤◌, ◌+◌, OnOk, OnErr, IfOk, IfErr, MatchResult};
 ghost use Rattle.vl_model.specs.Cursors.{Gives, Keeps, Spends, HasRisen};
 ghost use Rattle.vl_merge.specs.Heads.{IsRead};
-ghost use Rattle.vl_merge.specs.Told.{pair_of};
-ghost use Rattle.vl_merge.specs.Trees.{tree_left, tree_budget, tree_faults, half_left, half_budget};
+ghost use Rattle.vl_merge.specs.Trees.{tree_left, tree_budget, tree_faults, half_left, half_budget, two_left, two_budget};
 
 use crate::head::{Head, is_older_first};
 use vl_model::{Cursor, Entry, Way};
 
-// Sources to be merged: one, or newer ones and older ones, each half with its next entry where that is known.
+// Sources to be merged: one, or newer ones and older ones, each half with its next entry where that is
+// known.
 #[derive(Drop)]
 pub enum Tree<C> {
     Nothing,
@@ -50,17 +50,16 @@ fn next_of_two<C: Cursor + Drop>(
     way: Way,
 ) -> Result<Option<Entry>, C::Fault>
     ensures given { IfOk result (λ next. Gives
-        (pair_of way (half_left (λ c. C.left c) way first.old newer.old) (half_left (λ c. C.left c) way second.old older.old))
-        (pair_of way (half_left (λ c. C.left c) way first.new newer.new) (half_left (λ c. C.left c) way second.new older.new))
-        next) }
+        (two_left (λ c. C.left c) way newer.old first.old older.old second.old)
+        (two_left (λ c. C.left c) way newer.new first.new older.new second.new) next) }
     ensures kept { OnErr result (Keeps
-        (pair_of way (half_left (λ c. C.left c) way first.old newer.old) (half_left (λ c. C.left c) way second.old older.old))
-        (pair_of way (half_left (λ c. C.left c) way first.new newer.new) (half_left (λ c. C.left c) way second.new older.new))) }
+        (two_left (λ c. C.left c) way newer.old first.old older.old second.old)
+        (two_left (λ c. C.left c) way newer.new first.new older.new second.new)) }
     ensures spends { MatchResult result
-        (Spends (half_budget (λ c. C.budget c) first.old newer.old + half_budget (λ c. C.budget c) second.old older.old)
-        (half_budget (λ c. C.budget c) first.new newer.new + half_budget (λ c. C.budget c) second.new older.new))
-        (λ _. half_budget (λ c. C.budget c) first.new newer.new + half_budget (λ c. C.budget c) second.new older.new
-        ≤ half_budget (λ c. C.budget c) first.old newer.old + half_budget (λ c. C.budget c) second.old older.old) }
+        (Spends (two_budget (λ c. C.budget c) newer.old first.old older.old second.old)
+        (two_budget (λ c. C.budget c) newer.new first.new older.new second.new))
+        (λ _. two_budget (λ c. C.budget c) newer.new first.new older.new second.new
+        ≤ two_budget (λ c. C.budget c) newer.old first.old older.old second.old) }
     ensures counts { tree_faults (λ c. C.faults c) newer.old + tree_faults (λ c. C.faults c) older.old
         ≤ tree_faults (λ c. C.faults c) newer.new + tree_faults (λ c. C.faults c) older.new }
     ensures failed { IfErr result (λ fault. HasRisen (C.is_read_fault fault)

@@ -11,8 +11,8 @@ pub fn free_ticket_is_the_least()
     ensures below { (live : Live) (ticket : ℕ) → ticket < free_ticket live → IsSome (find nat_cmp ticket live.tickets) }
 {}
 
-/// Nothing that is live reads below the floor, and the floor isn't above the last number. Where something is live, something
-/// reads at the floor; where nothing is, the floor is the last number.
+/// Nothing that is live reads below the floor, and the floor isn't above the last number. Where something
+/// is live, something reads at the floor; where nothing is, the floor is the last number.
 pub fn floor_is_the_least()
     ensures live { (live : Live) (ticket number : ℕ) → find nat_cmp ticket live.tickets ≡ Some number
         → floor_of live ≤ number }

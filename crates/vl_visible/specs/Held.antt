@@ -22,7 +22,9 @@ is_held_counted number (Some h) = is_counted number h
 abbrev pub visible_left : ℕ → Option Entry → Option (List Entry) → Option (List Entry)
 visible_left number held None = None
 visible_left number held (Some es) =
-    if is_grouped (held_first held es) && is_held_counted number held then Some (visible number (held_first held es)) else None
+    if is_grouped (held_first held es) && is_held_counted number held
+    then Some (visible number (held_first held es))
+    else None
 
 abbrev pub held_budget : Option Entry → ℕ → ℕ
 held_budget None budget = budget

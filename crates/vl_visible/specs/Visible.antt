@@ -23,4 +23,5 @@ shown (Some e) = if is_gone e.body then [] else e ∷ []
 
 -- of each key that has a version of at most the number its winner, where that isn't a deletion
 abbrev pub visible : ℕ → List Entry → List Entry
-visible number es = flat_map (λ key. shown (winner es key number)) (keys_of (filter (is_counted number) es))
+visible number es =
+    flat_map (λ key. shown (winner es key number)) (keys_of (filter (is_counted number) es))

@@ -7,8 +7,8 @@ ghost use Rattle.vl_visible.specs.Held.{held_with, held_after, only_shown, passe
 
 use vl_model::{Body, Entry};
 
-// Takes one entry more, which counts where its version is at most the number. Where it is of another key, that of the entry
-// held is done, and its winner is given.
+// Takes one entry more, which counts where its version is at most the number. Where it is of another
+// key, that of the entry held is done, and its winner is given.
 pub fn pass(held: &mut Option<Entry>, entry: Entry, number: u64) -> Option<Entry>
     ensures held { held.new ≡ held_after number held.old entry }
     ensures gives { result ≡ passed number held.old entry }

@@ -8,7 +8,7 @@ use crate::held::{only_shown, pass};
 use vl_merge::Merge;
 use vl_model::{Cursor, Entry};
 
-/// Of the entries of a merge each key's winner at a number, deletions passed over, in the merge's direction.
+/// Of the entries of a merge each key's winner at a number, deletions passed over, as the merge goes.
 #[derive(Drop)]
 pub struct Visible<C> {
     merge: Merge<C>,
@@ -36,7 +36,8 @@ impl<C: Cursor + Drop> Cursor for Visible<C> {
 impl<C: Cursor + Drop> Visible<C> {
     /// What is visible of a merge's entries at a number.
     pub fn new(merge: Merge<C>, number: u64) -> Self
-        ensures left { ⟦<Visible<C> as Cursor>⟧.left result ≡ option_map (visible number) (⟦<Merge<C> as Cursor>⟧.left merge) }
+        ensures left { ⟦<Visible<C> as Cursor>⟧.left result
+            ≡ option_map (visible number) (⟦<Merge<C> as Cursor>⟧.left merge) }
         ensures budget { ⟦<Visible<C> as Cursor>⟧.budget result ≡ ⟦<Merge<C> as Cursor>⟧.budget merge }
         ensures faults { ⟦<Visible<C> as Cursor>⟧.faults result ≡ ⟦<Merge<C> as Cursor>⟧.faults merge }
     {
@@ -63,7 +64,8 @@ fn next_visible<M: Cursor>(
         (Spends (held_budget held.old (M.budget merge.old)) (held_budget held.new (M.budget merge.new)))
         (λ _. held_budget held.new (M.budget merge.new) ≤ held_budget held.old (M.budget merge.old)) }
     ensures counts { M.faults merge.old ≤ M.faults merge.new }
-    ensures failed { IfErr result (λ fault. HasRisen (M.is_read_fault fault) (M.faults merge.old) (M.faults merge.new)) }
+    ensures failed { IfErr result (λ fault.
+        HasRisen (M.is_read_fault fault) (M.faults merge.old) (M.faults merge.new)) }
 {
     while let Some(entry) = merge.next()? {
         let winner = pass(held, entry, number);
