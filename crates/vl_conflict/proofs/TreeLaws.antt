@@ -233,10 +233,6 @@ all-join : (P : Named → Type 0) (es fs : List Named) → AllByRecursion P es �
 all-join P [] fs here there = there
 all-join P (e ∷ es) fs here there = (here.0, all-join P es fs here.1 there)
 
-all-most : (m n : ℕ) (es : List Named) → m ≤ n → AllByRecursion (λ (e : Named). e.1 ≤ m) es → AllByRecursion (λ (e : Named). e.1 ≤ n) es
-all-most m n [] le most = tt
-all-most m n (e ∷ es) le most = (let first = most.0 in omega arith, all-most m n es le most.1)
-
 pub greatest-most : (tree : Tree) (n : ℕ) → KnowsGreatest tree → greatest_of tree ≤ n → AllByRecursion (λ (e : Named). e.1 ≤ n) (named tree)
 greatest-most Leaf n knows le = tt
 greatest-most (Fork' p left key number greatest height right) n knows le =
