@@ -1,3 +1,2 @@
-pub mod Firsts
-pub mod NamedEntries
-pub mod Parted
+pub mod Lesser
+pub mod TreeLaws

@@ -1,13 +1,12 @@
 -- What is kept of the commits above a floor, and which of it conflicts with reads.
-use Rattle.std.specs.Prelude.{◌≡◌, ◌≤◌, ℕ, ◌+◌, Bool, true, false, not, ◌&&◌, nat_lt, if◌then◌else◌, List, [], ◌∷◌, Option, Some, None}
+use Rattle.std.specs.Prelude.{◌≡◌, ◌≤◌, ℕ, ◌+◌, Bool, true, ◌&&◌, nat_lt, if◌then◌else◌, List, [], ◌∷◌, Option, Some, None}
 use Rattle.std.specs.FinMap.{find, put, is_sorted}
 use Rattle.std.specs.List.{filter, list_any}
-use Rattle.std.specs.List.Sorted.{IsPartitionPoint}
-use Rattle.std.specs.Ordering.{eq_by_cmp, is_gt}
+use Rattle.std.specs.Ordering.{eq_by_cmp}
 use Rattle.vl_model.specs.Keys.{key_cmp}
 use Rattle.vl_model.specs.History.{History, last_naming}
 use Rattle.vl_model.specs.Notes.{is_noted, AreNotesOf}
-use Rattle.vl_model.specs.Reads.{Read, is_in_span, is_from, is_up_to}
+use Rattle.vl_model.specs.Reads.{Read, is_in_span}
 use Rattle.vl_model.specs.Conflicts.{Named, first_of, first_conflict}
 use Rattle.vl_model.specs.declared.change.Change.{Change}
 use Rattle.vl_model.specs.declared.span.Span.{Span}
@@ -61,30 +60,7 @@ noted_all number (write ∷ later) named = noted_all number later (put key_cmp w
 abbrev pub is_above_floor : ℕ → Named → Bool
 is_above_floor floor named = nat_lt floor named.1
 
--- ---- places
-
--- whether a key is above that of an entry
-abbrev pub is_above : List ℕ → Named → Bool
-is_above key named = is_gt (key_cmp key named.0)
-
--- an entry's key is below an interval, and one isn't above its end
-abbrev pub is_before : Span → Named → Bool
-is_before span named = not (is_from span.lo named.0)
-
-abbrev pub is_before_end : Span → Named → Bool
-is_before_end span named = is_up_to span.hi span.closed named.0
-
--- as many entries are below the interval, and as many aren't above its end
-abbrev pub IsStart : Span → List Named → ℕ → Type 0
-IsStart span = IsPartitionPoint (λ e. is_before span e ≡ true) (λ e. is_before span e ≡ false)
-
-abbrev pub IsEnd : Span → List Named → ℕ → Type 0
-IsEnd span = IsPartitionPoint (λ e. is_before_end span e ≡ true) (λ e. is_before_end span e ≡ false)
-
--- how many entries stand before the first that passes
-abbrev pub first_at : (Named → Bool) → List Named → ℕ
-first_at test [] = 0
-first_at test (named ∷ others) = if test named then 0 else 1 + first_at test others
+-- ---- late ones
 
 -- an entry of the key, or in the interval, with a number above this one
 abbrev pub is_late_at : ℕ → List ℕ → Named → Bool

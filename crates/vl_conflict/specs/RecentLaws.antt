@@ -37,11 +37,11 @@ same_named es fs es_rise fs_rise same =
 
 -- ---- those that pass a test
 
-two_parts : (a b : Bool) → T (a && b) → T a × T b
+pub two_parts : (a b : Bool) → T (a && b) → T a × T b
 two_parts true b both = (tt, both)
 two_parts false b both = absurd both
 
-both_parts : (a b : Bool) → T a → T b → T (a && b)
+pub both_parts : (a b : Bool) → T a → T b → T (a && b)
 both_parts true b x y = y
 both_parts false b x y = absurd x
 

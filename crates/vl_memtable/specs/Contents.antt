@@ -6,6 +6,7 @@ use Rattle.vl_model.specs.Winners.{exact}
 use Rattle.vl_model.specs.declared.entry.Entry.{Entry}
 use Rattle.vl_model.specs.declared.way.Way.{Way}
 use Rattle.vl_run.specs.Order.{IsInOrder, along}
+use Rattle.vl_merge.specs.Merging.{IsAlong}
 use Rattle.vl_memtable.specs.Lengths.{doubles}
 
 -- the entries in order, and the lengths of the runs, the newest first
@@ -37,10 +38,12 @@ pub record AreRuns (runs : List (List Entry)) : Type 0 where
 abbrev pub IsNewTo : List Entry → List Entry → Type 0
 IsNewTo es run = AllByRecursion (λ e. exact es e.key e.version ≡ None) run
 
--- what cursors have left is the entries of lists in order, one for each run, that have together all entries
+-- what cursors have left is the entries of lists in order, one for each run, that have together all entries; and each
+-- goes along the way, as a merge asks of its sources
 pub record GiveAll (way : Way) (held : Contents) (left : List (List Entry)) : Type 0 where
   pub runs : List (List Entry)
   pub each : left ≡ map (along way) runs
   pub rising : AllByRecursion IsInOrder runs
   pub entries : held.entries ≡ in_order (all_of runs)
   pub lengths : held.lengths ≡ map length runs
+  pub along : AllByRecursion (IsAlong way) left

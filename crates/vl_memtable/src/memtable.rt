@@ -3,6 +3,7 @@ ghost use Rattle.std.specs.Option.{option_copied};
 ghost use Rattle.vl_model.specs.Entries.{in_order};
 ghost use Rattle.vl_model.specs.Winners.{winner, exact};
 ghost use Rattle.vl_memtable.specs.Contents.{IsNewTo, GiveAll};
+ghost use Rattle.vl_memtable.specs.Facts.{HasFewRuns};
 ghost use Rattle.vl_memtable.specs.Lengths.{lengths_with};
 
 use crate::over::over;
@@ -70,6 +71,15 @@ impl Memtable {
         self.runs.as_slice().is_empty()
     }
 
+    /// Each run has at least twice the entries of the next newer one, so there are at most a logarithm
+    /// of them.
+    pub fn has_few_runs(&self)
+        ensures { HasFewRuns self.now }
+    {
+        // What is read tells the proof what holds of the runs.
+        let _ = self.runs.len();
+    }
+
     /// This memtable as one that takes no more entries.
     pub fn freeze(self) -> Frozen
         ensures { result ≡ self }
@@ -100,7 +110,7 @@ impl Memtable {
         })
     }
 
-    /// Cursors over the runs, one for each, the newest first.
+    /// Cursors over the runs, one for each, the newest first. It may want memory.
     pub fn cursors(&self, way: Way) -> Result<Vec<RunCursor>, AllocError>
         ensures { IfOk result (λ cursors. GiveAll way self.now cursors.items) }
     {

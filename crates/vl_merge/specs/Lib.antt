@@ -1,5 +1,10 @@
-pub mod Ahead
-pub mod Choice
+pub mod GroupLaws
+pub mod Grouped
+pub mod Heads
 pub mod MergeLaws
-pub mod MergeSteps
 pub mod Merging
+pub mod PlantLaws
+pub mod Planted
+pub mod Told
+pub mod TreeLaws
+pub mod Trees

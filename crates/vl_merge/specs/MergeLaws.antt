@@ -2,27 +2,33 @@
 use Rattle.std.proofs.Common.{◌≡◌, ℕ, Bool, true, false, cond, List, [], ◌∷◌, ◌++◌, length, refl, ap, sym, ◌∙◌, subst, arith}
 use Rattle.std.specs.List.{AllByRecursion}
 use Rattle.std.specs.Cmp.{IsTotalOrder, back_total, upto}
-use Rattle.std.specs.Ordering.{is_gt, ordering_reverse}
+use Rattle.std.proofs.lemmas.Cmp.{then_total, on_total, nat_cmp_total, nat_list_cmp_total}
+use Rattle.std.proofs.lemmas.Bool.{and_parts}
+use Rattle.std.proofs.lemmas.Bool.Decides.{nat_tests}
+use Rattle.std.specs.Ordering.{is_gt, ordering_reverse, ordering_then, nat_cmp, eq_by_cmp}
+use Rattle.std.specs.Prelude.{◌==◌, Option, Some}
 use Rattle.std.specs.declared.cmp.Ordering.{Ordering}
 use Rattle.std.specs.declared.cmp.Ordering.TheVariants.{Less, Equal, Greater}
-use Rattle.vl_model.specs.Entries.{put, in_order}
-use Rattle.vl_model.specs.Winners.{winner, exact}
-use Rattle.vl_model.specs.WinnerLaws.{winner-in_order}
+use Rattle.vl_model.specs.Keys.{key_cmp}
+use Rattle.vl_model.specs.Entries.{entry_cmp, by_order, is_at}
+use Rattle.vl_model.specs.Winners.{counts, only_if, newest_of, winner, exact}
+use Rattle.vl_model.specs.WinnerLaws.{winner-append, winner-put, same_key, key_tied}
 use Rattle.vl_model.specs.declared.entry.Entry.{Entry}
 use Rattle.vl_model.specs.declared.way.Way.{Way}
 use Rattle.vl_model.specs.declared.way.Way.TheVariants.{Up, Down}
-use Rattle.vl_run.specs.OrderLaws.{entry_total, put-apart, turned}
-use Rattle.vl_run.specs.Exact.{exact-in_order}
 use Rattle.vl_merge.specs.Merging.{way_cmp, place, merged, IsFirst, IsAlong}
+
+entry_total : IsTotalOrder entry_cmp
+entry_total = then_total (on_total (λ (e : Entry). e.key) nat_list_cmp_total) (back_total (on_total (λ (e : Entry). e.version) nat_cmp_total))
 
 pub way_total : (way : Way) → IsTotalOrder (way_cmp way)
 way_total Up = entry_total
 way_total Down = back_total entry_total
 
-place-later : (way : Way) (e f : Entry) (fs : List Entry) → is_gt (way_cmp way e f) ≡ true → place way e (f ∷ fs) ≡ f ∷ place way e fs
+pub place-later : (way : Way) (e f : Entry) (fs : List Entry) → is_gt (way_cmp way e f) ≡ true → place way e (f ∷ fs) ≡ f ∷ place way e fs
 place-later way e f fs is = ap (λ b. cond b (f ∷ place way e fs) (e ∷ f ∷ fs)) is
 
-place-here : (way : Way) (e f : Entry) (fs : List Entry) → is_gt (way_cmp way e f) ≡ false → place way e (f ∷ fs) ≡ e ∷ f ∷ fs
+pub place-here : (way : Way) (e f : Entry) (fs : List Entry) → is_gt (way_cmp way e f) ≡ false → place way e (f ∷ fs) ≡ e ∷ f ∷ fs
 place-here way e f fs is = ap (λ b. cond b (f ∷ place way e fs) (e ∷ f ∷ fs)) is
 
 greater : (r : Ordering) → is_gt r ≡ true → r ≡ Greater
@@ -81,29 +87,64 @@ along-merged way (e ∷ es) = along-place way e (merged way es) (along-merged wa
 
 -- ---- the same winners
 
-apart-way : (way : Way) (e f : Entry) (es : List Entry) → way_cmp way e f ≡ Greater → put f (put e es) ≡ put e (put f es)
-apart-way Up e f es is = put-apart f e es (turned e f Greater is)
-apart-way Down e f es is = sym (put-apart e f es (turned f e Greater is))
+tied : (m n : ℕ) → m ≡ n → nat_cmp m n ≡ Equal
+tied m n same = grind (arith, nat_tests)
 
-in_order-place : (way : Way) (e : Entry) (es : List Entry) → in_order (place way e es) ≡ put e (in_order es)
-in_order-place way e [] = refl
-in_order-place way e (f ∷ fs) = by (in_order-place way e fs) (is_gt (way_cmp way e f)) refl
-  where
-    by : in_order (place way e fs) ≡ put e (in_order fs) → (b : Bool) → is_gt (way_cmp way e f) ≡ b → in_order (place way e (f ∷ fs)) ≡ put e (put f (in_order fs))
-    by later true is = ap in_order (place-later way e f fs is) ∙ ap (put f) later ∙ apart-way way e f (in_order fs) (greater (way_cmp way e f) is)
-    by later false is = ap in_order (place-here way e f fs is)
+at_tied : (key : List ℕ) (version : ℕ) (e f : Entry) → is_at key version e ≡ true → is_at key version f ≡ true → entry_cmp e f ≡ Equal
+at_tied key version e f at_e at_f =
+    let of_e = and_parts (eq_by_cmp key_cmp key e.key) (e.version == version) at_e in
+    let of_f = and_parts (eq_by_cmp key_cmp key f.key) (f.version == version) at_f in
+    let keys : key_cmp e.key f.key ≡ Equal = ap (key_cmp e.key) (sym (same_key key f.key of_f.0) ∙ same_key key e.key of_e.0) ∙ key_tied e.key in
+    let versions : f.version ≡ e.version = (let a = of_e.1 in let b = of_f.1 in grind (arith, nat_tests)) in
+    ap (λ r. ordering_then r (nat_cmp f.version e.version)) keys ∙ tied f.version e.version versions
 
-pub in_order-merged : (way : Way) (es : List Entry) → in_order (merged way es) ≡ in_order es
-in_order-merged way [] = refl
-in_order-merged way (e ∷ es) = in_order-place way e (merged way es) ∙ ap (put e) (in_order-merged way es)
+module _ (key : List ℕ) (number : ℕ) where
+  -- of two entries of which one comes behind the other either may stand first
+  winner-swap : (e f : Entry) (gs : List Entry) → entry_cmp e f ≡ Greater → winner (f ∷ e ∷ gs) key number ≡ winner (e ∷ f ∷ gs) key number
+  winner-swap e f gs greater =
+      let two : winner (f ∷ e ∷ []) key number ≡ winner (e ∷ f ∷ []) key number
+      = ap (λ l. winner l key number) (sym (ap (λ r. by_order r (e ∷ f ∷ []) (e ∷ []) (f ∷ e ∷ [])) greater)) ∙ winner-put key number e (f ∷ []) in
+      winner-append key number (f ∷ e ∷ []) gs ∙ ap (λ w. newest_of w (winner gs key number)) two ∙ sym (winner-append key number (e ∷ f ∷ []) gs)
+
+  exact-swap : (e f : Entry) (gs : List Entry) → entry_cmp e f ≡ Greater → exact (f ∷ e ∷ gs) key number ≡ exact (e ∷ f ∷ gs) key number
+  exact-swap e f gs greater = by (is_at key number e) (is_at key number f) refl refl
+    where
+      by : (p q : Bool) → is_at key number e ≡ p → is_at key number f ≡ q
+          → cond q (Some f) (cond p (Some e) (exact gs key number)) ≡ cond p (Some e) (cond q (Some f) (exact gs key number))
+      by true true at_e at_f = let equal : entry_cmp e f ≡ Equal = at_tied key number e f at_e at_f in absurd (cc)
+      by true false at_e at_f = refl
+      by false true at_e at_f = refl
+      by false false at_e at_f = refl
+
+module _ (look_up : List Entry → Option Entry) (add : Entry → Option Entry → Option Entry)
+    (adds : (e : Entry) (es : List Entry) → look_up (e ∷ es) ≡ add e (look_up es))
+    (swaps : (e f : Entry) (gs : List Entry) → entry_cmp e f ≡ Greater → look_up (f ∷ e ∷ gs) ≡ look_up (e ∷ f ∷ gs)) where
+  swaps_way : (way : Way) (e f : Entry) (gs : List Entry) → way_cmp way e f ≡ Greater → look_up (f ∷ e ∷ gs) ≡ look_up (e ∷ f ∷ gs)
+  swaps_way Up e f gs greater = swaps e f gs greater
+  swaps_way Down e f gs greater = sym (swaps f e gs greater)
+
+  -- an entry at its place is found as one in front is
+  found-place : (way : Way) (e : Entry) (es : List Entry) → look_up (place way e es) ≡ look_up (e ∷ es)
+  found-place way e [] = refl
+  found-place way e (f ∷ fs) = by (found-place way e fs) (is_gt (way_cmp way e f)) refl
+    where
+      by : look_up (place way e fs) ≡ look_up (e ∷ fs) → (b : Bool) → is_gt (way_cmp way e f) ≡ b → look_up (place way e (f ∷ fs)) ≡ look_up (e ∷ f ∷ fs)
+      by later true is =
+          ap look_up (place-later way e f fs is) ∙ adds f (place way e fs) ∙ ap (add f) later ∙ sym (adds f (e ∷ fs))
+          ∙ swaps_way way e f fs (greater (way_cmp way e f) is)
+      by later false is = ap look_up (place-here way e f fs is)
+
+  found-merged : (way : Way) (es : List Entry) → look_up (merged way es) ≡ look_up es
+  found-merged way [] = refl
+  found-merged way (e ∷ es) = found-place way e (merged way es) ∙ adds e (merged way es) ∙ ap (add e) (found-merged way es) ∙ sym (adds e es)
 
 pub winner-merged : (way : Way) (es : List Entry) (key : List ℕ) (number : ℕ) → winner (merged way es) key number ≡ winner es key number
 winner-merged way es key number =
-    sym (winner-in_order key number (merged way es)) ∙ ap (λ l. winner l key number) (in_order-merged way es) ∙ winner-in_order key number es
+    found-merged (λ l. winner l key number) (λ e w. newest_of (only_if (counts key number e) e) w) (λ e es. refl) (winner-swap key number) way es
 
 pub exact-merged : (way : Way) (es : List Entry) (key : List ℕ) (version : ℕ) → exact (merged way es) key version ≡ exact es key version
 exact-merged way es key version =
-    sym (exact-in_order key version (merged way es)) ∙ ap (λ l. exact l key version) (in_order-merged way es) ∙ exact-in_order key version es
+    found-merged (λ l. exact l key version) (λ e x. cond (is_at key version e) (Some e) x) (λ e es. refl) (exact-swap key version) way es
 
 -- ---- one at a time
 

@@ -6,7 +6,7 @@ ghost use Rattle.vl_model.specs.Winners.{winner, exact};
 ghost use Rattle.vl_model.specs.declared.entry.Entry.{Entry};
 ghost use Rattle.vl_model.specs.declared.way.Way.{Way};
 ghost use Rattle.vl_merge.specs.Merging.{way_cmp, merged, IsFirst, IsAlong};
-ghost use Rattle.vl_merge.specs.Ahead.{merge_of};
+ghost use Rattle.vl_merge.specs.Told.{merge_of};
 
 /// Merged entries are all of them, as the way goes.
 pub fn merged_goes_along()

@@ -1,19 +1,20 @@
 //! What entries of several sources come to when they are merged, and what a look-up in sources answers.
 //!
-//! A merge of k sources costs k comparisons for each entry: it goes through the sources' next entries, and
-//! has no heap. It copies no key and no value.
+//! A merge of k sources is a tree of merges of two. An entry costs a comparison at each of its levels,
+//! of which there are as many as the logarithm of k, rounded up. Each of the k - 1 merges of two has at
+//! most two entries read ahead. All memory but the sources' own is taken when the tree is made, and no
+//! key and no value is copied.
 #![tactic(auto)]
 
-mod ahead;
-mod choice;
+mod head;
 mod laws;
 mod merge;
+mod plant;
 mod sources;
-mod steady;
+mod tree;
 
 pub use laws::{
     merge_of_told_sources, merged_goes_along, merged_has_the_same_winners, merged_one_at_a_time,
 };
 pub use merge::Merge;
 pub use sources::Sources;
-pub use steady::Steady;

@@ -1,7 +1,7 @@
 -- The live transactions and views, which tickets are free, and the floor.
-use Rattle.std.specs.Prelude.{◌≤◌, ◌==◌, ◌+◌, ℕ, not, min, if◌then◌else◌, List, [], ◌∷◌, Option, Some, None, unwrap_or, IsTrue}
+use Rattle.std.specs.Prelude.{◌≡◌, ◌≤◌, ◌==◌, ◌+◌, ℕ, Bool, true, not, min, if◌then◌else◌, List, [], ◌∷◌, Option, Some, None, unwrap_or, IsTrue}
 use Rattle.std.specs.Option.{option_map}
-use Rattle.std.specs.List.{AllByRecursion, filter}
+use Rattle.std.specs.List.{AllByRecursion, filter, list_any}
 use Rattle.std.specs.FinMap.{put, is_sorted}
 use Rattle.std.specs.Ordering.{nat_cmp, eq_by_cmp}
 
@@ -48,3 +48,12 @@ floor_of live = unwrap_or (least_number live.tickets) live.last
 pub record AreLive (live : Live) : Type 0 where
   pub rising : IsTrue (is_sorted nat_cmp live.tickets)
   pub read_below : AllByRecursion (λ other. other.1 ≤ live.last) live.tickets
+
+-- whether one that is live reads at the number
+abbrev pub is_read_at : ℕ → List Ticket → Bool
+is_read_at number tickets = list_any (λ other. other.1 == number) tickets
+
+-- one reads at the number, or where none is live it is the last
+abbrev pub IsAttained : ℕ → ℕ → List Ticket → Type 0
+IsAttained number last [] = number ≡ last
+IsAttained number last (live ∷ others) = is_read_at number (live ∷ others) ≡ true

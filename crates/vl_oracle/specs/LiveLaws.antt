@@ -1,12 +1,13 @@
 -- Laws of what is live: the free ticket is the least that none has, and the floor the least number at which one reads.
-use Rattle.std.proofs.Common.{◌≡◌, ℕ, ◌+◌, ◌<◌, ◌≤◌, ◌==◌, Bool, true, false, cond, ◌&&◌, List, [], ◌∷◌, length, refl, ap, ◌∙◌, subst, arith, T, min, Option, Some, None, IsTrue, IsSome, unwrap_or}
+use Rattle.std.proofs.Common.{◌≡◌, ℕ, ◌+◌, ◌<◌, ◌≤◌, ◌==◌, Bool, true, false, cond, ◌&&◌, ◌||◌, List, [], ◌∷◌, length, refl, ap, ◌∙◌, subst, arith, T, min, Option, Some, None, IsTrue, IsSome, unwrap_or}
 use Rattle.std.proofs.lemmas.Bool.Decides.{nat_tests}
+use Rattle.std.specs.Prelude.{nat_le}
 use Rattle.std.specs.Option.{option_map}
 use Rattle.std.specs.List.{AllByRecursion}
 use Rattle.std.specs.FinMap.{find, is_sorted}
 use Rattle.std.specs.FinMap.Entries.{below_all}
 use Rattle.std.specs.Ordering.{nat_cmp, eq_by_cmp, is_lt}
-use Rattle.vl_oracle.specs.Live.{Live, Ticket, AreLive, free_from, free_ticket, least_number, floor_of}
+use Rattle.vl_oracle.specs.Live.{Live, Ticket, AreLive, free_from, free_ticket, least_number, floor_of, is_read_at, IsAttained}
 
 pub as_T : (b : Bool) → IsTrue b → T b
 as_T true is = tt
@@ -177,3 +178,37 @@ least_number-le (t ∷ ts) last ticket number found = by_test (eq_by_cmp nat_cmp
 -- nothing that is live reads below the floor
 pub floor_of-le : (live : Live) (ticket number : ℕ) → find nat_cmp ticket live.tickets ≡ Some number → floor_of live ≤ number
 floor_of-le live ticket number found = least_number-le live.tickets live.last ticket number found
+
+-- one reads at the floor
+least-read : (t : Ticket) (ts : List Ticket) (last : ℕ) → is_read_at (unwrap_or (least_number (t ∷ ts)) last) (t ∷ ts) ≡ true
+least-read t [] last = ap (λ b. b || false) (same t.1)
+  where
+    same : (n : ℕ) → (n == n) ≡ true
+    same n = grind (arith, nat_tests)
+least-read t (u ∷ ts) last = by (unwrap_or (option_map (min u.1) (least_number ts)) u.1) (least-read u ts t.1)
+  where
+    by : (least : ℕ) → is_read_at least (u ∷ ts) ≡ true → is_read_at (min t.1 least) (t ∷ u ∷ ts) ≡ true
+    by least there = which (nat_le t.1 least) refl
+      where
+        or_true : (a : Bool) → (a || true) ≡ true
+        or_true true = refl
+        or_true false = refl
+
+        here : nat_le t.1 least ≡ true → (t.1 == min t.1 least) ≡ true
+        here is = grind (arith, nat_tests)
+
+        later : nat_le t.1 least ≡ false → min t.1 least ≡ least
+        later is = grind (arith, nat_tests)
+
+        which : (b : Bool) → nat_le t.1 least ≡ b → is_read_at (min t.1 least) (t ∷ u ∷ ts) ≡ true
+        which true is = ap (λ b. b || is_read_at (min t.1 least) (u ∷ ts)) (here is)
+        which false is =
+            ap (λ b. (t.1 == min t.1 least) || b) (ap (λ n. is_read_at n (u ∷ ts)) (later is) ∙ there) ∙ or_true (t.1 == min t.1 least)
+
+attained : (ts : List Ticket) (last : ℕ) → IsAttained (unwrap_or (least_number ts) last) last ts
+attained [] last = refl
+attained (t ∷ ts) last = least-read t ts last
+
+-- the floor is the number at which one reads, or the last
+pub floor_of-attained : (live : Live) → IsAttained (floor_of live) live.last live.tickets
+floor_of-attained live = attained live.tickets live.last

@@ -1,4 +1,5 @@
 ghost use Rattle.std.specs.Prelude.{◌≡◌, ◌≤◌, ◌<◌, ◌↔◌, ◌∷◌, [], List, ℕ, length, IfOk, OnErr};
+ghost use Rattle.vl_model.specs.Limits.{max_live};
 ghost use Rattle.vl_oracle.specs.Live.{Live, AreLive, free_ticket, free_from, begun, ended, advanced, floor_of};
 
 use crate::BeginFail;
@@ -52,8 +53,8 @@ impl Oracle {
     /// Begins a transaction or a view at the last number, and gives its ticket.
     pub fn begin(&mut self) -> Result<u32, BeginFail>
         ensures ok { IfOk result (λ ticket. (ticket ≡ free_ticket self.old) × (self.new ≡ begun self.old)) }
-        ensures below { IfOk result (λ ticket. ticket < MAX_LIVE) }
-        ensures too_many { (result ≡ Err BeginFail.TooMany) ↔ (length self.old.tickets ≡ MAX_LIVE) }
+        ensures below { IfOk result (λ ticket. ticket < max_live) }
+        ensures too_many { (result ≡ Err BeginFail.TooMany) ↔ (length self.old.tickets ≡ max_live) }
         ensures err { OnErr result (self.new ≡ self.old) }
         ensures floor { floor_of self.old ≤ floor_of self.new }
     {
@@ -101,7 +102,7 @@ impl Oracle {
 
 // The least ticket that none has: as far as the tickets go up without a gap.
 fn free_ticket(live: &BTreeMap<u32, u64>) -> u32
-    requires { length live.now.entries < MAX_LIVE }
+    requires { length live.now.entries < max_live }
     ensures { result ≡ free_from 0 live.now.entries }
 {
     let mut ticket = 0;

@@ -1,12 +1,21 @@
-use Rattle.std.proofs.Common.{◌≡◌, List, [], ◌∷◌, map, None, ap, refl, ◌∙◌}
-use Rattle.vl_merge.specs.Ahead.{left_of, merge_of}
+use Rattle.std.proofs.Common.{map, ap, ◌∙◌}
+use Rattle.std.specs.List.{sum_by}
+use Rattle.vl_merge.specs.Told.{merge_of}
+use Rattle.vl_merge.specs.PlantLaws.{left-planted, budget-planted, faults-planted}
 use Rattle.vl_merge.proofs.merge.Merge.new.Goals as goal
-
-map-map : {X Y Z : Type 0} (f : X → Y) (g : Y → Z) (xs : List X) → map g (map f xs) ≡ map (λ x. g (f x)) xs
-map-map f g [] = refl
-map-map f g (x ∷ xs) = ap (λ l. g (f x) ∷ l) (map-map f g xs)
 
 pub returns-clause-left : goal.returns-clause-left
 returns-clause-left g c =
-    ap (λ xs. merge_of c.args.way (map (λ a. left_of a.read (g.C.Cursor.left a.cursor)) xs)) c.in_ok-unread.ensures
-    ∙ ap (merge_of c.args.way) (map-map (λ k. record { cursor = k; read = None }) (λ a. left_of a.read (g.C.Cursor.left a.cursor)) c.args.sources.items)
+    let left = g.C.Cursor.left in
+    left-planted left c.args.way c.in_ok-tree_of.field-0 c.in_ok-tree_of.ensures.unread
+    ∙ ap (λ l. merge_of c.args.way (map left l)) c.in_ok-tree_of.ensures.leaves
+
+pub returns-clause-budget : goal.returns-clause-budget
+returns-clause-budget g c =
+    let budget = g.C.Cursor.budget in
+    budget-planted budget c.in_ok-tree_of.field-0 c.in_ok-tree_of.ensures.unread ∙ ap (sum_by budget) c.in_ok-tree_of.ensures.leaves
+
+pub returns-clause-faults : goal.returns-clause-faults
+returns-clause-faults g c =
+    let faults = g.C.Cursor.faults in
+    faults-planted faults c.in_ok-tree_of.field-0 ∙ ap (sum_by faults) c.in_ok-tree_of.ensures.leaves

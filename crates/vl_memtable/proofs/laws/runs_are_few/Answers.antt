@@ -1,0 +1,5 @@
+use Rattle.vl_memtable.specs.FactLaws.{few}
+use Rattle.vl_memtable.proofs.laws.runs_are_few.Goals as goal
+
+pub returns : goal.returns
+returns c = few

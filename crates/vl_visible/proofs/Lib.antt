@@ -1,0 +1,3 @@
+pub mod Orders
+pub mod Passing
+pub mod Steps
