@@ -14,6 +14,7 @@ pub mod Outcomes
 pub mod Pending
 pub mod Places
 pub mod Refusals
+pub mod Recovering
 pub mod Starting
 pub mod States
 pub mod Stepping
