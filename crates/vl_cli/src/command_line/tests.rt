@@ -150,7 +150,7 @@ fn with(
     Ok(files)
 }
 
-/// The manifest of a new store, or these bytes in its place, and log 1.
+/// Manifest 1 and log 1, with these bytes.
 fn store(alloc: Global, manifest: &[u8], log: &[u8]) -> Result<Vec<(Name, Vec<u8>)>, Fail>
     ensures { IfOk result (λ files. All (λ file. IsNumbered file.0) files.items) }
 {
