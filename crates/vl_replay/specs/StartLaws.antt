@@ -62,11 +62,19 @@ past le = omega (arith, le)
 abbrev pub finds_nothing : Finds empty
 finds_nothing = record {
   opening = record { state = fresh_state; logs = []; number = 0 };
-  opens = (fresh_state, (Bare, record {
-    none = λ n bytes is. none_some bytes (sym (nothing (Manifest n)) ∙ is.stands);
-    no_log = λ n. nothing (Log n);
-    no_table = λ n. nothing (Table n);
-  }, refl), ([], λ m _. nothing (Log m), refl));
+  opens = (
+    fresh_state,
+    (
+      Bare,
+      record {
+        none = λ n bytes is. none_some bytes (sym (nothing (Manifest n)) ∙ is.stands);
+        no_log = λ n. nothing (Log n);
+        no_table = λ n. nothing (Table n);
+      },
+      refl,
+    ),
+    ([], λ m _. nothing (Log m), refl),
+  );
   greatest = record { log = 0; table = 0; manifest = 0 };
   are_greatest = record {
     log = record { none_above = λ m _. nothing (Log m); stands = λ le. absurd (past le) };
@@ -142,11 +150,10 @@ stored_durable s disk lawful stored =
       may_open = held_may_open stored.manifest logs disk lawful stored.holds;
       as_read = λ read left is_read is_left o opens.
           let held = held_reads stored.manifest logs m disk stored.holds stored.numbers read is_read in
-          let same = ok_same {E = Refusal} _ o (single_opening read _ (Ok o) held opens) in
-          (
+          let same = ok_same {E = Refusal} _ o (single_opening read _ (Ok o) held opens) in (
             o,
             subst (λ (x : Opening). Opens left (Ok x)) same
-            (held_opens stored.manifest logs m disk stored.holds stored.numbers left is_left.left),
+                (held_opens stored.manifest logs m disk stored.holds stored.numbers left is_left.left),
             shows_same o,
           );
     }
