@@ -1,4 +1,4 @@
--- How a run over an empty disk begins, and of which disks all of the store is durable.
+-- In which states runs begin: over an empty disk, and behind another run. And of which disks all of the store is durable.
 use Rattle.std.specs.Prelude.{◌≡◌, ◌<◌, ◌≤◌, ℕ, List, [], length, Option, None, Some, Ok, Contains, IsSome, refl, true, false}
 use Rattle.std.specs.FinMap.{empty, get, get-empty}
 use Rattle.std.specs.Option.{option_map}
@@ -13,19 +13,20 @@ use Rattle.vl_disk.specs.declared.name.Name.TheVariants.{Log, Manifest, Table}
 use Rattle.vl_disk.specs.declared.watched.Watched.{Ghosts}
 use Rattle.vl_layout.specs.declared.segment.Segment.{Segment}
 use Rattle.vl_manifest.specs.States.{fresh_state}
-use Rattle.vl_model.specs.History.{last_number, no_history}
-use Rattle.vl_model.specs.HistoryLaws.{value_at-first}
+use Rattle.vl_model.specs.History.{History, contents_at, last_number, no_history, value_at}
+use Rattle.vl_model.specs.HistoryLaws.{get-contents_at, value_at-first}
 use Rattle.vl_model.specs.Keys.{key_cmp}
 use Rattle.vl_recover.specs.Alike.{OpensLike, ShowsAs}
 use Rattle.vl_recover.specs.AlikeLaws.{like_same, shows_same}
-use Rattle.vl_recover.specs.Answers.{AreStrayNames, Finds}
+use Rattle.vl_recover.specs.Answers.{AreStrayNames, Finds, calls_to_open, used_up}
 use Rattle.vl_recover.specs.HeldLaws.{held_may_open, held_opens, held_reads, started_may_open}
 use Rattle.vl_recover.specs.Opening.{Bare, Opening, Opens, Refusal}
 use Rattle.vl_recover.specs.OpeningLaws.{single_opening}
+use Rattle.vl_recover.specs.Plans.{active_log}
 use Rattle.vl_recover.specs.StageLaws.{ok_same}
 use Rattle.vl_replay.specs.Sequential.{State}
 use Rattle.vl_replay.specs.Start.{IsDurable, StartsIn}
-use Rattle.vl_replay.specs.Stored.{IsStored, LogsShow, logs_of}
+use Rattle.vl_replay.specs.Stored.{IsStored, LogsShow, Shown, logs_of}
 
 -- ---- an empty disk
 
@@ -128,6 +129,64 @@ starts_empty g disk state told bare = record {
   are_strays = no_strays 1;
   calls = refl;
 }
+
+-- ---- a disk that shows a history
+
+-- a history that is gone on with from one of its numbers
+abbrev pub gone_on_from : History → ℕ → History
+gone_on_from h m = record { first = m; base = contents_at h m; commits = [] }
+
+shows_again : (logs : List Segment) (h : History) (m : ℕ) → LogsShow logs h m → LogsShow logs (gone_on_from h m) m
+shows_again logs h m shown = record {
+  shows = record {
+    values = λ key number from to.
+        let same : number ≡ m = omega (arith, from, to) in
+        shown.shows.values key number from to
+        ∙ ap Some (ap (λ (n : ℕ). value_at h n key) same ∙ sym (get-contents_at h m key)
+        ∙ sym (value_at-first (gone_on_from h m) number key to));
+    meaning = shown.shows.meaning;
+    resolves = shown.shows.resolves;
+    gone_once = shown.shows.gone_once;
+  };
+  up_to = shown.up_to;
+}
+
+-- the store that is opened then
+abbrev pub reopened : {read : Image} → Finds read → History → ℕ → (calls : ℕ) → State
+reopened found h m calls = record {
+  history = gone_on_from h m;
+  log = record { number = active_log found.greatest found.opening.state found.logs; length = 16 };
+  handles = empty;
+  calls = calls;
+}
+
+-- A run over a disk whose reads show a history at a number, as whatever a run left does, begins with what the history has
+-- there.
+pub starts_shown : {D : Type 0} (g : Ghosts D) (disk : D) (state : DiskState) (read : Image) (found : Finds read)
+    (strays : List Name) (h : History) (m : ℕ) → g.told disk ≡ Some state → IsRead read state → used_up found ≡ None
+    → AreStrayNames read found.opening.state.head strays → Shown read h m
+    → StartsIn g disk (reopened found h m (after_calls (calls_to_open found (length strays)) (g.calls disk)))
+starts_shown g disk state read found strays h m told is_read left are_strays shown =
+    let same : shown.opening ≡ found.opening = ok_same {E = Refusal} shown.opening found.opening
+    (single_opening read (Ok shown.opening) (Ok found.opening) shown.opens found.opens) in
+    let number : m ≡ found.opening.number = sym shown.number ∙ ap (λ (o : Opening). o.number) same in
+    record {
+      state = state;
+      told = told;
+      read = read;
+      is_read = is_read;
+      found = found;
+      left = left;
+      first = number;
+      commits = refl;
+      shows = subst (λ (n : ℕ). LogsShow found.opening.logs (gone_on_from h m) n) number
+          (subst (λ (o : Opening). LogsShow o.logs (gone_on_from h m) m) same (shows_again shown.opening.logs h m shown.logs));
+      log = refl;
+      handles = refl;
+      strays = strays;
+      are_strays = are_strays;
+      calls = refl;
+    }
 
 -- ---- durable stores
 
