@@ -1,10 +1,11 @@
 -- Numbers are ten digits, which say them.
-use Rattle.std.proofs.Common.{◌≡◌, ◌≢◌, ℕ, ◌-◌, ◌^◌, ◌<◌, Result, Ok, get_or, List, [], ◌∷◌, ◌++◌, length, replicate, sym, ◌∙◌, ap, subst, zero, suc, arith, refl, drop}
+use Rattle.std.proofs.Common.{Option, None, Some, ◌≡◌, ◌≢◌, ℕ, ◌-◌, ◌^◌, ◌<◌, Result, Ok, get_or, List, [], ◌∷◌, ◌++◌, length, replicate, sym, ◌∙◌, ap, subst, zero, suc, arith, refl, drop}
 use Rattle.std.proofs.lemmas.List.{length-append, length-replicate}
 use Rattle.std.proofs.lemmas.Fmt.{digits_decimal, digits_value-decimal, length-decimal-le, IsAscii-from_digits}
 use Rattle.std.proofs.lemmas.Str.{IsUtf8-from_ascii}
 use Rattle.std.proofs.lemmas.Str.Parse.{IsNumeralModel, numerals_by_value, tells_digits, parse_gives}
 use Rattle.std.specs.Fmt.{decimal}
+use Rattle.std.specs.Option.{IfNone}
 use Rattle.std.specs.Str.{IsUtf8}
 use Rattle.std.specs.Char.{digit_value}
 use Rattle.std.specs.Str.Parse.{AllDigits, digits_value, ParsesUnsigned}
@@ -72,3 +73,8 @@ pub first_ten : (digits rest : List ℕ) (name : Name) → IsNumbered name → l
 first_ten digits rest name numbered ten is =
     let long : length (ten_digits (file_number name)) ≡ 10 = length_ten (file_number name) (omega (arith, numbered.1)) in
     append_parts digits (ten_digits (file_number name)) rest (ending name) (ten ∙ sym long) is
+
+-- what is said of no file
+pub of_none : {P Q : Type 0} (found : Option Name) → IfNone found P → (P → Q) → IfNone found Q
+of_none None holds follows = follows holds
+of_none (Some name) holds follows = tt
