@@ -6,7 +6,8 @@ use Rattle.vl_replay.specs.Endings.{Culprit, TheDisk, TheSource, TheSink, Counts
 use Rattle.vl_replay.specs.Runs.{IsFront}
 use Rattle.vl_replay.specs.Steps.{Finishes}
 use Rattle.vl_replay.specs.declared.ending.Ending.{Ending}
-use Rattle.vl_replay.specs.declared.ending.Ending.TheVariants.{Complete, BadLine, BadWords, DiskFault, NotAStore, NoMemory, ReadFault, WriteFault, AnswerCut}
+use Rattle.vl_replay.specs.declared.fails.Refusal.{Refusal}
+use Rattle.vl_replay.specs.declared.ending.Ending.TheVariants.{Complete, BadLine, BadWords, DiskFault, Refused, NoMemory, ReadFault, WriteFault, AnswerCut}
 
 -- the status of an ending by an object
 abbrev pub StatusBy : Culprit → ℕ → Type 0
@@ -17,7 +18,7 @@ disk_status Complete = (λ e. cc, λ e. cc)
 disk_status BadLine = (λ e. cc, λ e. cc)
 disk_status BadWords = (λ e. cc, λ e. cc)
 disk_status DiskFault = (λ e. refl, λ e. refl)
-disk_status NotAStore = (λ e. cc, λ e. cc)
+disk_status (Refused refusal) = (λ e. cc, λ e. cc)
 disk_status NoMemory = (λ e. cc, λ e. cc)
 disk_status ReadFault = (λ e. cc, λ e. cc)
 disk_status WriteFault = (λ e. cc, λ e. cc)
@@ -28,7 +29,7 @@ source_status Complete = (λ e. cc, λ e. cc)
 source_status BadLine = (λ e. cc, λ e. cc)
 source_status BadWords = (λ e. cc, λ e. cc)
 source_status DiskFault = (λ e. cc, λ e. cc)
-source_status NotAStore = (λ e. cc, λ e. cc)
+source_status (Refused refusal) = (λ e. cc, λ e. cc)
 source_status NoMemory = (λ e. cc, λ e. cc)
 source_status ReadFault = (λ e. refl, λ e. refl)
 source_status WriteFault = (λ e. cc, λ e. cc)
@@ -39,29 +40,29 @@ sink_status Complete = (λ e. cc, λ e. cc)
 sink_status BadLine = (λ e. cc, λ e. cc)
 sink_status BadWords = (λ e. cc, λ e. cc)
 sink_status DiskFault = (λ e. cc, λ e. cc)
-sink_status NotAStore = (λ e. cc, λ e. cc)
+sink_status (Refused refusal) = (λ e. cc, λ e. cc)
 sink_status NoMemory = (λ e. cc, λ e. cc)
 sink_status ReadFault = (λ e. cc, λ e. cc)
 sink_status WriteFault = (λ e. refl, λ e. refl)
 sink_status AnswerCut = (λ e. refl, λ e. refl)
 
-pub is_not_a_store : (ending : Ending) → status_of ending ≡ 4 → ending ≡ NotAStore
-is_not_a_store Complete e = cc
-is_not_a_store BadLine e = cc
-is_not_a_store BadWords e = cc
-is_not_a_store DiskFault e = cc
-is_not_a_store NotAStore e = refl
-is_not_a_store NoMemory e = cc
-is_not_a_store ReadFault e = cc
-is_not_a_store WriteFault e = cc
-is_not_a_store AnswerCut e = cc
+pub is_refused : (ending : Ending) → status_of ending ≡ 4 → (refusal : Refusal) × (ending ≡ Refused refusal)
+is_refused Complete e = absurd (cc)
+is_refused BadLine e = absurd (cc)
+is_refused BadWords e = absurd (cc)
+is_refused DiskFault e = absurd (cc)
+is_refused (Refused refusal) e = (refusal, refl)
+is_refused NoMemory e = absurd (cc)
+is_refused ReadFault e = absurd (cc)
+is_refused WriteFault e = absurd (cc)
+is_refused AnswerCut e = absurd (cc)
 
 pub is_bad_words : (ending : Ending) → status_of ending ≡ 2 → ending ≡ BadWords
 is_bad_words Complete e = cc
 is_bad_words BadLine e = cc
 is_bad_words BadWords e = refl
 is_bad_words DiskFault e = cc
-is_bad_words NotAStore e = cc
+is_bad_words (Refused refusal) e = cc
 is_bad_words NoMemory e = cc
 is_bad_words ReadFault e = cc
 is_bad_words WriteFault e = cc

@@ -1,16 +1,15 @@
 -- Whole runs of the command line: what is done for its words and its input.
 use Rattle.std.specs.Prelude.{◌≡◌, ℕ, Bool, false, not, ◌==◌, ◌&&◌, List, [], ◌∷◌, codes, Some}
-use Rattle.std.specs.Option.{ForSome}
 use Rattle.std.specs.Str.{bytes_eq}
 use Rattle.vl_disk.specs.declared.watched.Watched.{Ghosts}
 use Rattle.vl_io.specs.declared.sink.Sink as sink
-use Rattle.vl_journal.specs.Files.{HasSomeFile}
 use Rattle.vl_replay.specs.Sequential.{State}
 use Rattle.vl_replay.specs.Endings.{status_of}
 use Rattle.vl_replay.specs.Runs.{Outside, EndsRun, script_of}
 use Rattle.vl_replay.specs.Start.{StartsIn, DiskEndsFromStart}
-use Rattle.vl_replay.specs.Steps.{FinishesBy, EndsUnopened}
+use Rattle.vl_replay.specs.Steps.{FinishesBy, StaysRefused}
 use Rattle.vl_replay.specs.declared.ending.Ending.{Ending}
+use Rattle.vl_replay.specs.declared.fails.Refusal.{Refusal}
 
 -- a word that is neither empty nor an option
 abbrev pub is_plain_word : List ℕ → Bool
@@ -29,9 +28,8 @@ pub record AnswersFrom {D : Type 0} (g : Ghosts D) (start : State) (input : List
   pub ending : Ending
   pub status_is : status ≡ status_of ending
   -- what was printed and how many lines were answered, that each answer was put before the next line was read, and what
-  -- was done to a disk on which nothing stood: each accepted commit is one synced frame of its log
-  pub run : EndsRun g (ForSome (g.told old.disk) HasSomeFile)
-      (DiskEndsFromStart g old.disk new.disk) (script_of start 0 input) old new ending
+  -- was done to a disk whose store is durable: each accepted commit is one synced frame of its log
+  pub run : EndsRun g ⊥ (DiskEndsFromStart g old.disk new.disk) (script_of start 0 input) old new ending
 
 -- So it did with the input that its source had left, from the state in which a run over its disk begins.
 abbrev pub AnswersInput : {D : Type 0} → Ghosts D → (old new : Outside D) → (status : ℕ) → Type 0
@@ -43,7 +41,8 @@ abbrev pub EndsBy : {K : Type 0} → sink.Ghosts K → (old new : K) → Ending 
 EndsBy g old new why status =
     (ending : Ending) × (status ≡ status_of ending) × FinishesBy g old new why ending
 
--- a run whose store wasn't opened put a last line that says why, and has the status of that, or the sink's
-abbrev pub StaysUnopened : {K : Type 0} → sink.Ghosts K → (old new : K) → (status : ℕ) → Type 0
-StaysUnopened g old new status =
-    (ending : Ending) × (status ≡ status_of ending) × EndsUnopened g old new ending
+-- a run over a disk of which reads give this refusal ended by it, by want of memory or by a fault
+abbrev pub StaysUnopened : {D K : Type 0} → Ghosts D → sink.Ghosts K → (disk disk' : D) → (old new : K) → Refusal
+    → (status : ℕ) → Type 0
+StaysUnopened g k disk disk' old new refusal status =
+    (ending : Ending) × (status ≡ status_of ending) × StaysRefused g k disk disk' old new refusal ending

@@ -5,17 +5,20 @@ mod tests;
 mod words;
 
 ghost use Rattle.std.specs.Prelude.{◌≡◌, ◌≢◌, ◌<◌, ℕ, List, map, string_bytes, Some, true, false};
-ghost use Rattle.std.specs.Option.{ForSome};
+ghost use Rattle.vl_disk.specs.Crash.{Image};
 ghost use Rattle.vl_disk.specs.DiskState.{DiskState};
 ghost use Rattle.vl_disk.specs.Faults.{Rose};
-ghost use Rattle.vl_journal.specs.Files.{IsAsBefore, HasSomeFile};
+ghost use Rattle.vl_disk.specs.Started.{IsRead};
 ghost use Rattle.vl_script.specs.Script.{lines_of};
 ghost use Rattle.vl_replay.specs.Sequential.{State};
 ghost use Rattle.vl_replay.specs.Endings.{status_of};
 ghost use Rattle.vl_replay.specs.Exchanges.{exchanges_from, AreExplained};
+ghost use Rattle.vl_replay.specs.Opening.{IsRefused};
 ghost use Rattle.vl_replay.specs.Runs.{outside};
 ghost use Rattle.vl_replay.specs.Start.{StartsIn};
+ghost use Rattle.vl_replay.specs.Steps.{IsRefusedRun};
 ghost use Rattle.vl_replay.specs.declared.ending.Ending.{Ending as HowEnded};
+ghost use Rattle.vl_replay.specs.declared.fails.Refusal.{Refusal};
 ghost use Rattle.vl_cli.specs.Run.{AnswersInput, EndsBy, StaysUnopened, is_plain};
 
 use crate::command_line::words::are_plain;
@@ -45,8 +48,8 @@ pub fn run<S: Source, K: Sink, D: Disk>(
     sink: &mut K,
     disk: D,
 ) -> Ended<D>
-    // Where the words are plain, the lines of the input are answered as the sequential store does: so it is of what is
-    // printed, of how the run ends, and of what the disk holds in the end.
+    // Where the words are plain and the disk opens as a store, the lines of the input are answered as the sequential store
+    // does: so it is of what is printed, of how the run ends, and of what the disk holds in the end.
     ensures answers { is_plain (map string_bytes words.now) ≡ true
         → AnswersInput D.Watched (outside S.Source K.Sink source.old sink.old disk)
         (outside S.Source K.Sink source.new sink.new result.disk) result.status }
@@ -68,17 +71,16 @@ pub fn run<S: Source, K: Sink, D: Disk>(
     ensures no_disk_fault { result.status ≢ 3 → result.status ≢ 7
         → D.faults result.disk ≡ D.faults disk }
 
-    // Where the words are plain, status 4 comes exactly where anything stands on the disk, also a store, which isn't opened
-    // again yet; but not where the disk failed, memory ran out, or the last line couldn't be put. Then nothing was changed
-    // or read, and the last line is all that is printed.
-    ensures not_a_store { result.status ≡ 4
-        → ForSome (D.told disk) HasSomeFile × IsAsBefore D.Watched disk result.disk
-        × (source.new ≡ source.old)
-        × EndsBy K.Sink sink.old sink.new Ending.NotAStore result.status }
-    ensures occupied { is_plain (map string_bytes words.now) ≡ true → (state : DiskState)
-        → D.told disk ≡ Some state → HasSomeFile state
-        → (source.new ≡ source.old) × IsAsBefore D.Watched disk result.disk
-        × StaysUnopened K.Sink sink.old sink.new result.status }
+    // Where the words are plain, status 4 comes exactly where reads of the disk refuse it as a store, but not where the disk
+    // failed, memory ran out, or the last line couldn't be put. Then nothing was changed or read, and the last line is all
+    // that is printed.
+    ensures refused { result.status ≡ 4
+        → ((refusal : Refusal) × IsRefusedRun D.Watched K.Sink disk result.disk sink.old sink.new refusal)
+        × (source.new ≡ source.old) }
+    ensures refuses { is_plain (map string_bytes words.now) ≡ true → (state : DiskState) (read : Image) (refusal : Refusal)
+        → D.told disk ≡ Some state → IsRead read state → IsRefused read refusal
+        → StaysUnopened D.Watched K.Sink disk result.disk sink.old sink.new refusal result.status
+        × (source.new ≡ source.old) }
 
     // Statuses 6 and 7 come only by faults of the source and of the sink, and the others only without.
     ensures read_fault { result.status ≡ 6

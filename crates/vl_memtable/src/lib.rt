@@ -8,6 +8,7 @@
 
 mod laws;
 mod memtable;
+mod over;
 mod runs;
 
 pub use laws::{lengths_after_commits_of_one, runs_double};

@@ -5,6 +5,7 @@ ghost use Rattle.vl_model.specs.Winners.{winner, exact};
 ghost use Rattle.vl_memtable.specs.Contents.{IsNewTo, GiveAll};
 ghost use Rattle.vl_memtable.specs.Lengths.{lengths_with};
 
+use crate::over::over;
 use crate::runs;
 use std::alloc::{AllocError, Global};
 use std::marker::Model;
@@ -49,6 +50,16 @@ impl Memtable {
             (λ with. with.lengths ≡ lengths_with (length run) self.now.lengths) }
     {
         let runs = runs::with(*self.runs.allocator(), &self.runs, run)?;
+        Ok(Memtable { runs })
+    }
+
+    /// This memtable with a run over it, of entries whose keys and versions it may have: of those of one key and
+    /// version the run's counts. All entries become one run. It stays as it is itself.
+    pub fn over(&self, run: Run) -> Result<Memtable, AllocError>
+        requires { 0 < length run }
+        ensures { IfOk result (λ over. over.entries ≡ in_order (run ++ self.now.entries)) }
+    {
+        let runs = over(*self.runs.allocator(), &self.runs, run)?;
         Ok(Memtable { runs })
     }
 

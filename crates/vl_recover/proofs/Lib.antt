@@ -1,9 +1,15 @@
 pub mod ActiveStands
+mod Composing
 pub mod Decided
+mod Entering
+mod Filling
 pub mod Fitted
+mod Looking
 pub mod Mended
-pub mod OneFinding
+mod Naming
+mod ReadingLogs
 pub mod Recovered
 pub mod Removals
 pub mod Stepping
 pub mod Unchanged
+mod Unmoved

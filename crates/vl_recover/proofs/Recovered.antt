@@ -31,7 +31,7 @@ use Rattle.vl_recover.specs.Starts.{MayOpen}
 use Rattle.vl_recover.specs.Steps.{Mends}
 use Rattle.vl_recover.specs.declared.prepared.Prepared.{Prepared}
 use Rattle.vl_recover.proofs.ActiveStands.{active_stands}
-use Rattle.vl_recover.proofs.OneFinding.{as_many, same_calls, same_logs_then, same_opening}
+use Rattle.vl_recover.specs.OneFinding.{as_many, same_calls, same_logs_then, same_opening}
 
 some_same : (a b : DiskState) → Some a ≡ Some b → a ≡ b
 some_same a b e = cc

@@ -79,7 +79,7 @@ pub data Came : Type 0 where
   Refused : Refusal → Came
   UsedUp : Counter → Came
   NoRoom : Came
-  Faulted : Option Name → Came
+  Faulted : Name → Came
 
 -- It is the answer to what a read gives; for want of memory, and where the disk fails, it may give
 -- up.

@@ -1,10 +1,14 @@
 -- What the reading half of an opening gives to the half that mends.
-use Rattle.std.specs.Prelude.{◌≡◌, ◌≤◌, ℕ, Bool, true, false, List, [], ◌∷◌, map, Option, None, Some, Result, Ok, Err}
-use Rattle.std.specs.Option.{option_map}
+use Rattle.std.specs.Prelude.{◌≡◌, ◌⊎◌, ◌≤◌, ℕ, Bool, true, false, List, [], ◌∷◌, map, Option, None, Some, Result, Ok, Err}
+use Rattle.std.specs.Option.{ForSome, option_map}
 use Rattle.vl_disk.specs.Crash.{Image}
+use Rattle.vl_disk.specs.Disk.{Stands}
+use Rattle.vl_disk.specs.DiskState.{DiskState}
+use Rattle.vl_disk.specs.declared.name.Name.TheVariants.{Manifest}
 use Rattle.vl_model.specs.Limits.{max_file_number}
 use Rattle.vl_model.specs.declared.log_frame.LogFrame.{LogFrame}
 use Rattle.vl_recover.specs.declared.fails.Why.{Why}
+use Rattle.vl_recover.specs.declared.fails.Why.TheVariants as why
 use Rattle.vl_recover.specs.declared.found.Found.{Found}
 use Rattle.vl_recover.specs.declared.found.GreatestNumbers.{GreatestNumbers}
 use Rattle.vl_recover.specs.declared.found.LastLog.{LastLog}
@@ -68,3 +72,12 @@ FindsSo image (Err why) = AnswersBy image (came_by why)
 abbrev pub IsFault : {A : Type 0} → Result A Why → Type 0
 IsFault (Ok a) = ⊥
 IsFault (Err why) = HasFailed (came_by why)
+
+-- where the disk failed while it was only read: at a file that stands, or at listing the files
+abbrev pub IsFaultAt : Option DiskState → Why → Type 0
+IsFaultAt told why.NotAStore = Unit {0}
+IsFaultAt told (why.NewerFormat format) = Unit {0}
+IsFaultAt told (why.Damaged name place) = Unit {0}
+IsFaultAt told (why.Exhausted counter) = Unit {0}
+IsFaultAt told why.NoMemory = Unit {0}
+IsFaultAt told (why.Disk name) = ForSome told (Stands name) ⊎ (name ≡ Manifest 0)

@@ -2,6 +2,7 @@ pub mod Alike
 pub mod AlikeLaws
 pub mod Answers
 pub mod AppendLaws
+pub mod Counting
 pub mod Deciding
 pub mod Finding
 pub mod Fitting
@@ -9,8 +10,10 @@ pub mod Held
 pub mod HeldLaws
 pub mod LastFiles
 pub mod LastLaws
+pub mod Leading
 pub mod LeadsLaws
 pub mod LogsLaws
+pub mod LogsSoFar
 pub mod Mending
 pub mod MendingAgain
 pub mod MendingLaws
@@ -19,12 +22,15 @@ pub mod MendingOpens
 pub mod MendingStages
 pub mod MendingStart
 pub mod MendingSteps
+pub mod Named
 pub mod OneName
+pub mod OneFinding
 pub mod Opening
 pub mod OpeningLaws
 pub mod PlanViews
 pub mod Plans
 pub mod ReadImage
+pub mod ReadLogs
 pub mod RecoveredLaws
 pub mod Results
 pub mod Rows

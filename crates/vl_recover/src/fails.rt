@@ -1,3 +1,4 @@
+use std::alloc::AllocError;
 use vl_disk::Name;
 use vl_model::Counter;
 
@@ -14,8 +15,19 @@ pub enum Why {
     Exhausted(Counter),
     /// Memory ran out. Nothing was changed.
     NoMemory,
-    /// The disk failed at this file, or where there is none at listing the files.
-    Disk { name: Option<Name> },
+    /// The disk failed at this file; at listing the files, where it is the manifest with number 0, which is none.
+    Disk { name: Name },
+}
+
+impl From<AllocError> for Why {
+    ghost use Rattle.std.specs.Prelude.{◌≡◌};
+    ghost use Rattle.vl_recover.specs.declared.fails.Why.TheVariants as why;
+
+    ghost from_gives = { λ _ e. e ≡ why.NoMemory };
+
+    fn from(_: AllocError) -> Self {
+        Why::NoMemory
+    }
 }
 
 /// A store that wasn't opened, and its disk.

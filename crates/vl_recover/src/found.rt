@@ -38,3 +38,19 @@ pub(crate) struct Found {
     /// The files that aren't needed behind the opening: manifests, tables, and logs below head.
     pub strays: Vec<Name>,
 }
+
+/// Where a log is damaged: its number, and the place in bytes.
+#[derive(Clone, Copy, Debug, Drop)]
+pub(crate) struct DamagePlace {
+    pub log: u32,
+    pub place: u64,
+}
+
+/// What logs come to that were read one after the other.
+#[derive(Drop)]
+pub(crate) struct LogsRead {
+    /// Of the last commit; or the first damage, behind which they were read all the same.
+    pub number: Result<u64, DamagePlace>,
+    pub frozen: Vec<FrozenLog>,
+    pub last: Option<LastLog>,
+}

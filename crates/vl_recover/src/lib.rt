@@ -4,16 +4,24 @@
 //! Each file is read once. Beside the entries the bytes of one file at a time are in memory.
 #![tactic(auto)]
 
+mod counting;
+mod current;
 mod deciding;
+mod entries;
 mod fails;
 mod finding;
 mod found;
+mod frame_length;
 mod last;
+mod logs;
+mod memtables;
 mod mending;
+mod names;
 mod parts;
 mod plan;
 mod prepared;
 mod preparing;
+mod reading;
 mod recovering;
 
 pub use fails::{OpenFail, Why};

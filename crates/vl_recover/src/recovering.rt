@@ -69,7 +69,7 @@ pub fn recover<D: Disk>(alloc: Global, disk: D, room: u64) -> Result<Parts<D>, O
     match mend(&mut disk, &prepared.plan) {
         Ok(()) => Ok(opened(disk, room, prepared)),
         Err(name) => Err(OpenFail {
-            why: Why::Disk { name: Some(name) },
+            why: Why::Disk { name },
             disk,
         }),
     }

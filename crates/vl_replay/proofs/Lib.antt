@@ -13,6 +13,8 @@ pub mod OpenedRuns
 pub mod Outcomes
 pub mod Pending
 pub mod Places
+pub mod Recovering
+pub mod Refusals
 pub mod Starting
 pub mod States
 pub mod Stepping

@@ -1,12 +1,11 @@
 -- A run that opens its store first, or can't.
-use Rattle.std.proofs.Common.{◌≡◌, ◌≢◌, inl, ℕ, zero, suc, ◌≤◌, List, [], ◌∷◌, take, Option, Some, refl, ◌∙◌, subst}
+use Rattle.std.proofs.Common.{◌≡◌, ◌≢◌, inl, ℕ, zero, suc, ◌≤◌, List, [], ◌∷◌, take, Option, Some, refl, ap, ◌∙◌, subst}
 use Rattle.vl_disk.specs.declared.watched.Watched.{Ghosts}
 use Rattle.vl_disk.specs.Faults.{Rose, HasCause}
 use Rattle.vl_io.specs.declared.sink.Sink as sink
 use Rattle.vl_io.specs.Sink.{Takes}
-use Rattle.vl_journal.specs.Files.{IsAsBefore}
-use Rattle.vl_journal.specs.declared.fails.OpenFail.{OpenFail as Why}
-use Rattle.vl_journal.specs.declared.fails.OpenFail.TheVariants as why
+use Rattle.vl_recover.specs.declared.fails.Why.{Why}
+use Rattle.vl_recover.specs.declared.fails.Why.TheVariants as why
 use Rattle.vl_script.specs.Script.{lines_of}
 use Rattle.vl_replay.specs.Sequential.{State}
 use Rattle.vl_replay.specs.Exchanges.{Exchange, KeepsUp, last_state}
@@ -14,44 +13,54 @@ use Rattle.vl_model.specs.History.{Extends}
 use Rattle.vl_replay.specs.Between.{Showing}
 use Rattle.vl_replay.specs.Endings.{Culprit, TheDisk, TheSink, TheSource, CountsFaultsOf, Evidence, CutsAnswer, IsBetweenLines, culprit_of, last_line}
 use Rattle.vl_replay.specs.Runs.{Script, exchanges, next_number, Stops, Course, Outside, EvidenceOf, EndsRun}
-use Rattle.vl_replay.specs.Durable.{Holding, LeavesItsHistory, StaysShown, Tells, HoldsState, GoesFrom, GoesAlong, DiskEnds, DiskEndsFrom}
-use Rattle.vl_replay.specs.Opening.{ending_unopened}
+use Rattle.vl_replay.specs.Durable.{Holding, IsAsBefore, LeavesItsHistory, StaysShown, Tells, HoldsState, GoesFrom, GoesAlong, DiskEnds, DiskEndsFrom}
+use Rattle.vl_replay.specs.Opening.{IsFault, ending_unopened, why_refused}
+use Rattle.vl_replay.specs.declared.fails.Refusal.{Refusal}
+use Rattle.vl_replay.specs.declared.fails.Refusal.TheVariants as refusals
 use Rattle.vl_replay.specs.Steps.{EndsBefore, FinishesBy}
 use Rattle.vl_replay.specs.declared.ending.Ending.{Ending}
-use Rattle.vl_replay.specs.declared.ending.Ending.TheVariants.{BadWords, NotAStore, NoMemory, WriteFault}
+use Rattle.vl_replay.specs.declared.ending.Ending.TheVariants.{BadWords, DiskFault, NoMemory, Refused, WriteFault}
 use Rattle.vl_replay.proofs.Betweens.{extends_itself}
 use Rattle.vl_replay.proofs.Ends.{ends_weaker, evidence_weaker, finished, or_cut, finish_counts, counts_none}
 use Rattle.vl_replay.proofs.DiskSteps.{IsWatched, exchanges_extend, goes_wider, goes_then, at_end, ends_later, rose_earlier}
 
 -- ---- the store wasn't opened
 
--- a refusal stops a run before anything is read
-refusal_stops : (by_source by_disk by_files : Type 0) (script : Script) (left : Option (List ℕ)) (how : Why) → (how ≡ why.NotAStore → by_files) → (how ≡ why.Disk → by_disk) → left ≡ Some script.bytes
+-- how such a run ends: by a refusal, by want of memory, or by the disk
+of_unopened : (P : Ending → Type 0) → ((refusal : Refusal) → P (Refused refusal)) → P NoMemory → P DiskFault → (how : Why) → P (ending_unopened how)
+of_unopened P refused out fault why.NotAStore = refused refusals.NotAStore
+of_unopened P refused out fault (why.NewerFormat format) = refused (refusals.NewerFormat format)
+of_unopened P refused out fault (why.Damaged name place) = refused (refusals.Damaged name place)
+of_unopened P refused out fault (why.Exhausted counter) = refused (refusals.Exhausted counter)
+of_unopened P refused out fault why.NoMemory = out
+of_unopened P refused out fault (why.Disk name) = fault
+
+-- it stops the run before anything is read
+unopened_stops : (by_source by_disk by_files : Type 0) (script : Script) (left : Option (List ℕ)) (how : Why) → ((refusal : Refusal) → how ≡ why_refused refusal → by_files) → (IsFault (Some how) → by_disk) → left ≡ Some script.bytes
     → Stops (Evidence by_source by_disk by_files) script left 0 (culprit_of (ending_unopened how))
-refusal_stops by_source by_disk by_files script left why.NotAStore occupied fault unread = (occupied refl, refl, unread)
-refusal_stops by_source by_disk by_files script left why.NoMemory occupied fault unread = tt
-refusal_stops by_source by_disk by_files script left why.Disk occupied fault unread = fault refl
+unopened_stops by_source by_disk by_files script left why.NotAStore files fault unread = (files refusals.NotAStore refl, refl, unread)
+unopened_stops by_source by_disk by_files script left (why.NewerFormat format) files fault unread = (files (refusals.NewerFormat format) refl, refl, unread)
+unopened_stops by_source by_disk by_files script left (why.Damaged name place) files fault unread = (files (refusals.Damaged name place) refl, refl, unread)
+unopened_stops by_source by_disk by_files script left (why.Exhausted counter) files fault unread = (files (refusals.Exhausted counter) refl, refl, unread)
+unopened_stops by_source by_disk by_files script left why.NoMemory files fault unread = tt
+unopened_stops by_source by_disk by_files script left (why.Disk name) files fault unread = fault tt
 
 -- and its line is the same whatever line comes next
 same_line : (n : ℕ) (how : Why) → last_line n (ending_unopened how) ≡ last_line 0 (ending_unopened how)
-same_line n why.NotAStore = refl
-same_line n why.NoMemory = refl
-same_line n why.Disk = refl
+same_line n how = of_unopened (λ (e : Ending). last_line n e ≡ last_line 0 e) (λ refusal. refl) refl refl how
 
-pub refused : {K : Type 0} (k : sink.Ghosts K) (old new : K) (by_source by_disk by_files : Type 0) (script : Script) (left : Option (List ℕ)) (how : Why) (result : Ending) → (how ≡ why.NotAStore → by_files) → (how ≡ why.Disk → by_disk)
+pub refused : {K : Type 0} (k : sink.Ghosts K) (old new : K) (by_source by_disk by_files : Type 0) (script : Script) (left : Option (List ℕ)) (how : Why) (result : Ending) → ((refusal : Refusal) → how ≡ why_refused refusal → by_files) → (IsFault (Some how) → by_disk)
     → left ≡ Some script.bytes → FinishesBy k old new (ending_unopened how) result → EndsBefore (Evidence by_source by_disk by_files) script left result (k.held old) (k.held new)
-refused k old new by_source by_disk by_files script left how result occupied fault unread (line, own, finishes) =
+refused k old new by_source by_disk by_files script left how result files fault unread (line, own, finishes) =
     finished k old new (Evidence by_source by_disk by_files) script left (ending_unopened how) result line (same_line (next_number script 0) how ∙ own)
-    (refusal_stops by_source by_disk by_files script left how occupied fault unread) finishes
+    (unopened_stops by_source by_disk by_files script left how files fault unread) finishes
 
--- of a refusal and of a line that couldn't be put it holds that nothing was answered and no answer cut
+-- of such an ending and of a line that couldn't be put it holds that nothing was answered and no answer cut
 abbrev pub AnswersNothing : Ending → Type 0
 AnswersNothing ending = (IsBetweenLines (culprit_of ending) → ⊥) × (CutsAnswer ending → ⊥)
 
 nothing_refused : (how : Why) → AnswersNothing (ending_unopened how)
-nothing_refused why.NotAStore = (λ never. never, λ e. cc)
-nothing_refused why.NoMemory = (λ never. never, λ e. cc)
-nothing_refused why.Disk = (λ never. never, λ e. cc)
+nothing_refused how = of_unopened AnswersNothing (λ refusal. (λ never. never, λ e. cc)) (λ never. never, λ e. cc) (λ never. never, λ e. cc) how
 
 nothing_cut : AnswersNothing WriteFault
 nothing_cut = (λ never. never, λ e. cc)
@@ -59,14 +68,17 @@ nothing_cut = (λ never. never, λ e. cc)
 pub refused_nothing : {K : Type 0} (k : sink.Ghosts K) (old new : K) (how : Why) (result : Ending) → FinishesBy k old new (ending_unopened how) result → AnswersNothing result
 refused_nothing k old new how result (line, own, finishes) = or_cut k old new line (ending_unopened how) result AnswersNothing finishes (nothing_refused how) nothing_cut
 
--- where the run ended by want of memory, that was why
-pub out_of_memory : {K : Type 0} (k : sink.Ghosts K) (old new : K) (how : Why) (result : Ending) → FinishesBy k old new (ending_unopened how) result → result ≡ NoMemory → how ≡ why.Disk → ⊥
-out_of_memory k old new how result (line, own, finishes) = or_cut k old new line (ending_unopened how) result (λ (e : Ending). e ≡ NoMemory → how ≡ why.Disk → ⊥) finishes (of how) (λ e _. cc)
+-- where the run ended by want of memory, the disk didn't fail
+pub out_of_memory : {K : Type 0} (k : sink.Ghosts K) (old new : K) (how : Why) (result : Ending) → FinishesBy k old new (ending_unopened how) result → result ≡ NoMemory → IsFault (Some how) → ⊥
+out_of_memory k old new how result (line, own, finishes) = or_cut k old new line (ending_unopened how) result (λ (e : Ending). e ≡ NoMemory → IsFault (Some how) → ⊥) finishes (of how) (λ e _. cc)
   where
-    of : (how : Why) → ending_unopened how ≡ NoMemory → how ≡ why.Disk → ⊥
-    of why.NotAStore e is = cc
-    of why.NoMemory e is = cc
-    of why.Disk e is = cc
+    of : (how : Why) → ending_unopened how ≡ NoMemory → IsFault (Some how) → ⊥
+    of why.NotAStore e is = is
+    of (why.NewerFormat format) e is = is
+    of (why.Damaged name place) e is = is
+    of (why.Exhausted counter) e is = is
+    of why.NoMemory e is = is
+    of (why.Disk name) e is = cc
 
 module _ {D : Type 0} (g : Ghosts D) (watched : IsWatched g) (holds : Holding) (shows : Showing)
     (stays : StaysShown shows) (exactly : LeavesItsHistory holds shows) (P : Type 0) (by_files : Type 0) (script : Script) (first end : Outside D) where
@@ -134,10 +146,7 @@ module _ {D : Type 0} (g : Ghosts D) (watched : IsWatched g) (holds : Holding) (
             (run.disk (opened p));
       }
 
--- ---- what a refused opening counts, and puts
-
-pub some_why : {a b : Why} → Some a ≡ Some b → a ≡ b
-some_why e = cc
+-- ---- what a run counts, and puts, whose store wasn't opened
 
 some_culprit : (a b : Culprit) → Some a ≡ Some b → a ≡ b
 some_culprit a b e = cc
@@ -146,53 +155,64 @@ module _ {K : Type 0} (k : sink.Ghosts K) (old new : K) (how : Why) (result : En
   of_result : (P : Ending → Type 0) → P (ending_unopened how) → P WriteFault → P result
   of_result P whole cut = or_cut k old new finishes.0 (ending_unopened how) result P finishes.2 whole cut
 
-  -- it was refused as no store
-  pub refused_as : result ≡ NotAStore → how ≡ why.NotAStore
-  refused_as = of_result (λ (e : Ending). e ≡ NotAStore → how ≡ why.NotAStore) (of how) (λ e. cc)
+  -- it ended by a refusal, which was why
+  pub refused_as : (refusal : Refusal) → result ≡ Refused refusal → how ≡ why_refused refusal
+  refused_as refusal = of_result (λ (e : Ending). e ≡ Refused refusal → how ≡ why_refused refusal) (of how) (λ e. cc)
     where
-      of : (how : Why) → ending_unopened how ≡ NotAStore → how ≡ why.NotAStore
-      of why.NotAStore e = refl
+      same : (a b : Refusal) → Refused a ≡ Refused b → a ≡ b
+      same a b e = cc
+
+      of : (how : Why) → ending_unopened how ≡ Refused refusal → how ≡ why_refused refusal
+      of why.NotAStore e = ap why_refused (same refusals.NotAStore refusal e)
+      of (why.NewerFormat format) e = ap why_refused (same (refusals.NewerFormat format) refusal e)
+      of (why.Damaged name place) e = ap why_refused (same (refusals.Damaged name place) refusal e)
+      of (why.Exhausted counter) e = ap why_refused (same (refusals.Exhausted counter) refusal e)
       of why.NoMemory e = cc
-      of why.Disk e = cc
+      of (why.Disk name) e = cc
+
+  -- and its line was put
+  pub refused_line : (refusal : Refusal) → result ≡ Refused refusal → FinishesBy k old new (Refused refusal) (Refused refusal)
+  refused_line refusal is =
+      let by : ending_unopened how ≡ Refused refusal = ap ending_unopened (refused_as refusal is) ∙ of refusal in
+      subst (λ (e : Ending). FinishesBy k old new (Refused refusal) e) is (subst (λ (e : Ending). FinishesBy k old new e result) by finishes)
+    where
+      of : (refusal : Refusal) → ending_unopened (why_refused refusal) ≡ Refused refusal
+      of refusals.NotAStore = refl
+      of (refusals.NewerFormat format) = refl
+      of (refusals.Damaged name place) = refl
+      of (refusals.Exhausted counter) = refl
 
   -- and not for its words
   pub not_for_words : result ≢ BadWords
-  not_for_words = of_result (λ (e : Ending). e ≢ BadWords) (of how) (λ e. cc)
-    where
-      of : (how : Why) → ending_unopened how ≢ BadWords
-      of why.NotAStore e = cc
-      of why.NoMemory e = cc
-      of why.Disk e = cc
+  not_for_words = of_result (λ (e : Ending). e ≢ BadWords) (of_unopened (λ (e : Ending). e ≢ BadWords) (λ refusal e. cc) (λ e. cc) (λ e. cc) how) (λ e. cc)
 
   pub counts_sink : CountsFaultsOf TheSink (Some result) (k.faults old) (k.faults new)
-  counts_sink = finish_counts k old new finishes.0 (ending_unopened how) result (of how) finishes.2
-    where
-      of : (how : Why) → culprit_of (ending_unopened how) ≢ TheSink
-      of why.NotAStore e = cc
-      of why.NoMemory e = cc
-      of why.Disk e = cc
+  counts_sink = finish_counts k old new finishes.0 (ending_unopened how) result
+      (of_unopened (λ (e : Ending). culprit_of e ≢ TheSink) (λ refusal e. cc) (λ e. cc) (λ e. cc) how) finishes.2
 
   pub counts_source : (n : ℕ) → CountsFaultsOf TheSource (Some result) n n
-  counts_source n = counts_none TheSource result n (of_result (λ (e : Ending). culprit_of e ≢ TheSource) (of how) (λ e. cc))
-    where
-      of : (how : Why) → culprit_of (ending_unopened how) ≢ TheSource
-      of why.NotAStore e = cc
-      of why.NoMemory e = cc
-      of why.Disk e = cc
+  counts_source n = counts_none TheSource result n (of_result (λ (e : Ending). culprit_of e ≢ TheSource)
+      (of_unopened (λ (e : Ending). culprit_of e ≢ TheSource) (λ refusal e. cc) (λ e. cc) (λ e. cc) how) (λ e. cc))
 
-  pub counts_disk : (before now : ℕ) (failed : Type 0) → (failed → how ≡ why.Disk) → (how ≡ why.Disk → failed) → HasCause before now failed → CountsFaultsOf TheDisk (Some result) before now
+  pub counts_disk : (before now : ℕ) (failed : Type 0) → (failed → IsFault (Some how)) → (IsFault (Some how) → failed) → HasCause before now failed → CountsFaultsOf TheDisk (Some result) before now
   counts_disk before now failed was is cause = record {
     later = cause.later;
-    rose = λ by. cause.rose (is (of_result (λ (e : Ending). culprit_of e ≡ TheDisk → how ≡ why.Disk) (by_disk how) (λ e. cc) (some_culprit (culprit_of result) TheDisk by)));
-    steady = λ other whole. cause.steady (λ f. of_result (λ (e : Ending). how ≡ why.Disk → Some (culprit_of e) ≢ Some TheDisk → Some e ≢ Some WriteFault → ⊥) (not_other how) (λ d o w. w refl) (was f) other whole);
+    rose = λ by. cause.rose (is (of_result (λ (e : Ending). culprit_of e ≡ TheDisk → IsFault (Some how)) (by_disk how) (λ e. cc) (some_culprit (culprit_of result) TheDisk by)));
+    steady = λ other whole. cause.steady (λ f. of_result (λ (e : Ending). IsFault (Some how) → Some (culprit_of e) ≢ Some TheDisk → Some e ≢ Some WriteFault → ⊥) (not_other how) (λ d o w. w refl) (was f) other whole);
   }
     where
-      by_disk : (how : Why) → culprit_of (ending_unopened how) ≡ TheDisk → how ≡ why.Disk
+      by_disk : (how : Why) → culprit_of (ending_unopened how) ≡ TheDisk → IsFault (Some how)
       by_disk why.NotAStore e = cc
+      by_disk (why.NewerFormat format) e = cc
+      by_disk (why.Damaged name place) e = cc
+      by_disk (why.Exhausted counter) e = cc
       by_disk why.NoMemory e = cc
-      by_disk why.Disk e = refl
+      by_disk (why.Disk name) e = tt
 
-      not_other : (how : Why) → how ≡ why.Disk → Some (culprit_of (ending_unopened how)) ≢ Some TheDisk → Some (ending_unopened how) ≢ Some WriteFault → ⊥
-      not_other why.NotAStore d o w = cc
-      not_other why.NoMemory d o w = cc
-      not_other why.Disk d o w = o refl
+      not_other : (how : Why) → IsFault (Some how) → Some (culprit_of (ending_unopened how)) ≢ Some TheDisk → Some (ending_unopened how) ≢ Some WriteFault → ⊥
+      not_other why.NotAStore d o w = d
+      not_other (why.NewerFormat format) d o w = d
+      not_other (why.Damaged name place) d o w = d
+      not_other (why.Exhausted counter) d o w = d
+      not_other why.NoMemory d o w = d
+      not_other (why.Disk name) d o w = o refl

@@ -19,7 +19,12 @@ use Rattle.vl_seglog.specs.declared.active.ActiveLog.{ActiveLog}
 use Rattle.vl_replay.specs.Opened.{IsOpenedStore, any_number, body_value, entries_in, entry_value, opened_value}
 use Rattle.vl_replay.specs.Represents.{IsReadable, ShowsHistory}
 use Rattle.vl_replay.specs.Sequential.{State}
-use Rattle.vl_replay.specs.Start.{IsDurable}
+use Rattle.vl_disk.specs.Moments.{HoldsThroughout, holds_weaker}
+use Rattle.vl_disk.specs.declared.watched.Watched.{Ghosts}
+use Rattle.vl_replay.specs.Between.{ShowsBetween}
+use Rattle.vl_replay.specs.Durable.{GoesFrom, Leaves}
+use Rattle.vl_replay.proofs.Betweens.{between_exactly}
+use Rattle.vl_replay.specs.Start.{IsDurable, StartsIn}
 use Rattle.vl_replay.specs.Stored.{LogsShow, Shown, logs_entries, no_logs}
 
 -- ---- what is kept
@@ -93,3 +98,14 @@ module _ (state : DiskState) (durable : IsDurable state) (read : Image) (is_read
         number = number;
         logs = subst (λ (logs : List Segment). LogsShow logs h found.opening.number) (sym (top_shows.logs ∙ mid_shows.logs)) shows;
       }
+
+-- while the store is opened it shows what is opened
+pub opening_goes : {D : Type 0} (g : Ghosts D) (old new : D) (s : State) → StartsIn g old s → (state : DiskState) → g.told old ≡ Some state → IsDurable state
+    → HoldsThroughout g old new (OpensAsOf state) → GoesFrom g Shown old new s.history s.history
+opening_goes g old new s starts state is durable through =
+    let same : starts.state ≡ state = some_same starts.state state (sym starts.told ∙ is) in
+    let read = subst (IsRead starts.read) same starts.is_read in
+    let number : starts.found.opening.number ≡ last_number s.history = omega (arith, starts.first, ap length starts.commits) in
+    holds_weaker g (OpensAsOf state) (Leaves (ShowsBetween Shown s.history s.history)) old new through
+    (λ now as_of image left. between_exactly Shown s.history image (subst (Shown image s.history) number
+    (opening_shows state durable starts.read read starts.found s.history starts.shows now as_of image left)))

@@ -11,12 +11,14 @@ use Rattle.vl_script.specs.declared.line.Line.{Line}
 use Rattle.vl_script.specs.Script.{line_of}
 use Rattle.vl_replay.specs.Sequential.{State, answer_to, state_after}
 use Rattle.vl_replay.specs.Exchanges.{exchange_at, exchanged, state_behind}
+use Rattle.vl_disk.specs.declared.name.Name.{Name}
+use Rattle.vl_replay.specs.Halts.{HaltsByDisk}
 use Rattle.vl_replay.specs.Endings.{CutsAnswer, IsBetweenLines, culprit_of}
 use Rattle.vl_replay.specs.Durable.{HoldsState, HoldsCommits, LeadsTo, DiskEnds}
 use Rattle.vl_replay.specs.Stored.{IsStored, Shown}
 use Rattle.vl_replay.specs.Steps.{Finishes}
 use Rattle.vl_replay.specs.declared.fails.Halt.{Halt}
-use Rattle.vl_replay.specs.declared.fails.Halt.TheVariants.{NoMemory as NoRoom}
+use Rattle.vl_replay.specs.declared.fails.Halt.TheVariants.{NoMemory as NoRoom, Disk as DiskFailed}
 use Rattle.vl_replay.specs.declared.ending.Ending.{Ending}
 use Rattle.vl_replay.specs.declared.ending.Ending.TheVariants.{NoMemory, DiskFault, AnswerCut}
 use Rattle.vl_replay.proofs.Ends.{or_cut}
@@ -48,6 +50,9 @@ ok_not_out x e = cc
 
 pub same_halt : {T : Type 0} (r : Result T Halt) (h e : Halt) → r ≡ Err e → IsErrAnd r (λ y. y ≡ h) → h ≡ e
 same_halt {T = T} r h e is same = sym (subst (λ (x : Result T Halt). IsErrAnd x (λ y. y ≡ h)) is same)
+
+pub halts : {T : Type 0} (r : Result T Halt) (name : Name) → r ≡ Err (DiskFailed name) → HaltsByDisk r
+halts {T = T} r name is = subst (λ (x : Result T Halt). HaltsByDisk x) (sym is) tt
 
 -- ---- the state behind a text
 

@@ -1,5 +1,6 @@
 pub mod Between
 pub mod Durable
+pub mod DurableLaws
 pub mod Endings
 pub mod Exchanges
 pub mod Halts

@@ -1,7 +1,10 @@
 -- One step of a run: what it prints, and how it leaves the store and the disk.
 use Rattle.std.specs.Prelude.{◌≡◌, ◌≤◌, ◌+◌, ◌++◌, ◌∷◌, ◌⊎◌, ℕ, List, [], Option, Some, None}
-use Rattle.vl_disk.specs.declared.watched.Watched.{Ghosts}
+use Rattle.vl_disk.specs.Crash.{Image}
+use Rattle.vl_disk.specs.DiskState.{DiskState}
 use Rattle.vl_disk.specs.Faults.{Rose}
+use Rattle.vl_disk.specs.Started.{IsRead}
+use Rattle.vl_disk.specs.declared.watched.Watched.{Ghosts}
 use Rattle.vl_io.specs.declared.sink.Sink as sink
 use Rattle.vl_io.specs.Sink.{Takes}
 use Rattle.vl_script.specs.Script.{text_of, lines_of}
@@ -10,14 +13,16 @@ use Rattle.vl_replay.specs.Sequential.{State}
 use Rattle.vl_replay.specs.Input.{HasNoLineEnd}
 use Rattle.vl_replay.specs.Exchanges.{Exchange, exchange_at, KeepsUp}
 use Rattle.vl_replay.specs.Endings.{Culprit, Evidence, last_line, line_number}
-use Rattle.vl_replay.specs.Opening.{ending_unopened}
+use Rattle.vl_replay.specs.Opening.{IsRefused, ending_unopened, why_refused}
 use Rattle.vl_recover.specs.declared.fails.Why.{Why}
+use Rattle.vl_recover.specs.declared.fails.Why.TheVariants as why
 use Rattle.vl_replay.specs.Runs.{Script, script_of, IsFront, EndsSo, Outside, EndsRun}
 use Rattle.vl_replay.specs.Represents.{Represents}
-use Rattle.vl_replay.specs.Durable.{Holding, HoldsState, GoesFrom, DiskEnds, DiskEndsFrom}
+use Rattle.vl_replay.specs.Durable.{Holding, HoldsState, GoesFrom, DiskEnds, DiskEndsFrom, IsAsBefore}
 use Rattle.vl_replay.specs.declared.replayer.store.Store.{Store}
 use Rattle.vl_replay.specs.declared.ending.Ending.{Ending}
-use Rattle.vl_replay.specs.declared.ending.Ending.TheVariants.{WriteFault}
+use Rattle.vl_replay.specs.declared.ending.Ending.TheVariants.{Refused, WriteFault}
+use Rattle.vl_replay.specs.declared.fails.Refusal.{Refusal}
 
 -- the last line was printed whole, or the sink failed behind some first bytes of it and counted that
 pub record Finishes {K : Type 0} (g : sink.Ghosts K) (old new : K) (line : List ℕ)
@@ -34,9 +39,48 @@ abbrev pub FinishesBy : {K : Type 0} → sink.Ghosts K → (old new : K) → (en
 FinishesBy g old new ending result =
     (line : List ℕ) × (last_line 0 ending ≡ Some line) × Finishes g old new line ending result
 
--- a run whose store wasn't opened: its last line says that there is no store, that the disk failed or that memory ran out
-abbrev pub EndsUnopened : {K : Type 0} → sink.Ghosts K → (old new : K) → Ending → Type 0
-EndsUnopened g old new result = (why : Why) × FinishesBy g old new (ending_unopened why) result
+-- ---- runs whose store wasn't opened
+
+-- no refusal: memory ran out, or the disk failed
+abbrev pub CameFirst : Why → Type 0
+CameFirst why.NotAStore = ⊥
+CameFirst (why.NewerFormat format) = ⊥
+CameFirst (why.Damaged name place) = ⊥
+CameFirst (why.Exhausted counter) = ⊥
+CameFirst why.NoMemory = Unit {0}
+CameFirst (why.Disk name) = Unit {0}
+
+-- what ends a run whose store wasn't opened for this reason: it does, or want of memory for a refusal's line
+abbrev pub EndsFor : (reason how : Why) → Type 0
+EndsFor reason how =
+    (how ≡ reason) ⊎ ((how ≡ why.NoMemory) × ((refusal : Refusal) × (reason ≡ why_refused refusal)))
+
+-- the run's last line says that
+abbrev pub EndsUnopened : {K : Type 0} → sink.Ghosts K → (old new : K) → Why → Ending → Type 0
+EndsUnopened g old new reason result =
+    (how : Why) × EndsFor reason how × FinishesBy g old new (ending_unopened how) result
+
+-- A run ended by this refusal.
+pub record IsRefusedRun {D K : Type 0} (g : Ghosts D) (k : sink.Ghosts K) (disk disk' : D) (old new : K)
+    (refusal : Refusal) : Type 0 where
+  -- reads of its disk give the refusal;
+  pub given : (state : DiskState) (read : Image) → g.told disk ≡ Some state → IsRead read state
+      → IsRefused read refusal
+  -- the disk was left as it was;
+  pub unchanged : IsAsBefore g disk disk'
+  -- and the refusal's line was put, and nothing else
+  pub printed : FinishesBy k old new (Refused refusal) (Refused refusal)
+
+-- A run ended over a disk of which reads give this refusal.
+pub record StaysRefused {D K : Type 0} (g : Ghosts D) (k : sink.Ghosts K) (disk disk' : D) (old new : K)
+    (refusal : Refusal) (ending : Ending) : Type 0 where
+  -- it ended by the refusal, unless memory ran out or the disk failed before;
+  pub how : Why
+  pub how_is : (how ≡ why_refused refusal) ⊎ CameFirst how
+  -- the line of that was put, or the sink failed there;
+  pub printed : FinishesBy k old new (ending_unopened how) ending
+  -- and the disk was left as it was
+  pub unchanged : IsAsBefore g disk disk'
 
 -- a text has this answer, and the store stands for the state after it; or it has none, and is a bad line
 abbrev pub IsAnswered : State → List ℕ → Store → Option (List ℕ) → Type 0

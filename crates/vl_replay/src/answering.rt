@@ -11,6 +11,7 @@ ghost use Rattle.vl_replay.specs.Durable.{HoldsState, CarriesOut};
 ghost use Rattle.vl_replay.specs.Stored.{IsStored, Shown};
 ghost use Rattle.vl_replay.specs.Steps.{IsAnswered, IsNext, EndsAtBadLine, StepsOn, DiskSteps};
 ghost use Rattle.vl_replay.specs.Halts.{HaltsByDisk};
+ghost use Rattle.vl_replay.specs.declared.fails.Refusal.{Refusal};
 
 use crate::ending::{DISK_FAULT, Ending, NO_MEMORY, finish};
 use crate::fails::Halt;
@@ -48,6 +49,7 @@ pub fn end_at_bad_line<K: Sink>(alloc: Global, answered: u64, sink: &mut K) -> E
     ensures sink_faults { CountsFaultsOf TheSink (Some result) (K.faults sink.old) (K.faults sink.new) }
     ensures not_the_disk { culprit_of result ≢ TheDisk }
     ensures not_the_source { culprit_of result ≢ TheSource }
+    ensures not_the_files { (refusal : Refusal) → result ≢ Ending.Refused refusal }
     ensures not_the_words { result ≢ Ending.BadWords }
     ensures whole { CutsAnswer result → ⊥ }
 {
@@ -77,6 +79,7 @@ pub fn answer<K: Sink, D: Disk>(
     ensures sink_faults { CountsFaultsOf TheSink result (K.faults sink.old) (K.faults sink.new) }
     ensures disk_faults { CountsFaultsOf TheDisk result (D.faults replayer.old.disk) (D.faults replayer.new.disk) }
     ensures not_the_source { option_map culprit_of result ≢ Some TheSource }
+    ensures not_the_files { (refusal : Refusal) → result ≢ Some (Ending.Refused refusal) }
     ensures not_the_words { result ≢ Some Ending.BadWords }
 {
     match carry_out(alloc, replayer, text) {

@@ -5,6 +5,7 @@ mod answering;
 mod ending;
 mod fails;
 mod input;
+mod refusing;
 mod replayer;
 mod running;
 

@@ -75,11 +75,13 @@ impl<D: Disk> Replayer<D> {
             → IsAsBefore D.Watched disk (disk_of (λ replayer. replayer.disk) result) }
         ensures cause { HasCause (D.faults disk) (D.faults (disk_of (λ replayer. replayer.disk) result)) (IsFault (why_of result)) }
     {
-        let parts = recover(alloc, disk, MAX_ROOM)?;
-        Ok(Replayer {
-            store: Store::new(alloc, parts.number, parts.frozen, parts.active),
-            disk: parts.disk,
-        })
+        match recover(alloc, disk, MAX_ROOM) {
+            Ok(parts) => Ok(Replayer {
+                store: Store::new(alloc, parts.number, parts.frozen, parts.active),
+                disk: parts.disk,
+            }),
+            Err(fail) => Err(fail),
+        }
     }
 
     /// Answers a line. Want of memory leaves the store and the disk's bytes as they were. A fault of the disk leaves the

@@ -1,29 +1,32 @@
 //! Whole runs of a script.
 ghost use Rattle.std.specs.Prelude.{◌≡◌, ◌≢◌, ◌+◌, ◌<◌, ◌++◌, ℕ, List, Some, None, length};
-ghost use Rattle.std.specs.Option.{ForSome};
+ghost use Rattle.vl_disk.specs.Crash.{Image};
 ghost use Rattle.vl_disk.specs.DiskState.{DiskState};
+ghost use Rattle.vl_disk.specs.Started.{IsRead};
 ghost use Rattle.vl_replay.specs.Sequential.{State};
 ghost use Rattle.vl_replay.specs.Represents.{Represents};
 ghost use Rattle.vl_replay.specs.Exchanges.{exchange_at, state_behind};
-ghost use Rattle.vl_replay.specs.Endings.{TheDisk, TheSink, TheSource, CountsFaultsOf, culprit_of, line_number, not_a_store_line};
+ghost use Rattle.vl_replay.specs.Endings.{TheDisk, TheSink, TheSource, CountsFaultsOf, culprit_of, line_number};
 ghost use Rattle.std.specs.Option.{option_map};
 ghost use Rattle.vl_disk.specs.Faults.{Rose};
 ghost use Rattle.vl_replay.specs.Runs.{Script, script_of, outside, EndsRun};
 ghost use Rattle.vl_replay.specs.Durable.{HoldsState, DiskEndsFrom};
 ghost use Rattle.vl_replay.specs.Stored.{IsStored, Shown};
 ghost use Rattle.vl_replay.specs.Start.{StartsIn, DiskEndsFromStart};
-ghost use Rattle.vl_replay.specs.Opening.{ending_unopened};
-ghost use Rattle.vl_replay.specs.Steps.{IsNext, StepsOn, DiskSteps, kept, HasToDo, Steps, FinishesBy, EndsUnopened};
+ghost use Rattle.vl_replay.specs.Opening.{IsRefused};
+ghost use Rattle.vl_replay.specs.declared.fails.Refusal.{Refusal};
+ghost use Rattle.vl_replay.specs.Steps.{IsNext, StepsOn, DiskSteps, kept, HasToDo, Steps, IsRefusedRun, StaysRefused};
 
 use crate::answering::{answer, end_at_bad_line};
-use crate::ending::{DISK_FAULT, Ended, Ending, NO_MEMORY, READ_FAULT, finish};
-use crate::fails::{InputFail, Refusal};
+use crate::ending::{Ended, Ending, NO_MEMORY, READ_FAULT, finish};
+use crate::fails::InputFail;
 use crate::input::{Buffer, Next, read_line};
+use crate::refusing::end_unopened;
 use crate::replayer::Replayer;
 use std::alloc::Global;
 use vl_disk::Disk;
 use vl_io::{Sink, Source};
-use vl_recover::{OpenFail, Why};
+use vl_recover::OpenFail;
 
 /// A run under way: what was read and not yet answered, the store, and how many lines were answered.
 #[derive(Drop)]
@@ -50,6 +53,7 @@ impl<D: Disk> Progress<D> {
         ensures source_faults { CountsFaultsOf TheSource result (S.faults source.old) (S.faults source.new) }
         ensures sink_faults { CountsFaultsOf TheSink result (K.faults sink.old) (K.faults sink.new) }
         ensures disk_faults { CountsFaultsOf TheDisk result (D.faults self.old.replayer.disk) (D.faults self.new.replayer.disk) }
+        ensures not_the_files { (refusal : Refusal) → result ≢ Some (Ending.Refused refusal) }
         ensures not_the_words { result ≢ Some Ending.BadWords }
     {
         match read_line(&mut self.buffer, source, &mut self.line) {
@@ -78,6 +82,7 @@ impl<D: Disk> Progress<D> {
         ensures sink_faults { CountsFaultsOf TheSink result (K.faults sink.old) (K.faults sink.new) }
         ensures disk_faults { CountsFaultsOf TheDisk result (D.faults self.old.replayer.disk) (D.faults self.new.replayer.disk) }
         ensures not_the_source { option_map culprit_of result ≢ Some TheSource }
+        ensures not_the_files { (refusal : Refusal) → result ≢ Some (Ending.Refused refusal) }
         ensures not_the_words { result ≢ Some Ending.BadWords }
     {
         let ended = answer(
@@ -92,7 +97,7 @@ impl<D: Disk> Progress<D> {
     }
 }
 
-/// Opens the store on a disk, and answers the lines of a source, one after the other.
+/// Opens the store on a disk, or makes one where nothing stands, and answers the lines of a source, one after the other.
 pub fn replay<S: Source, K: Sink, D: Disk>(
     alloc: Global,
     source: &mut S,
@@ -108,23 +113,22 @@ pub fn replay<S: Source, K: Sink, D: Disk>(
     ensures sink_faults { CountsFaultsOf TheSink (Some result.ending) (K.faults sink.old) (K.faults sink.new) }
     ensures disk_faults { CountsFaultsOf TheDisk (Some result.ending) (D.faults disk) (D.faults result.disk) }
     ensures not_the_words { result.ending ≢ Ending.BadWords }
+
+    // The run ends by a refusal only where reads of the disk give it, and there always, unless a fault or want of memory
+    // comes first. Then nothing was changed or read, and the last line is all that is printed.
+    ensures refused { (refusal : Refusal) → result.ending ≡ Ending.Refused refusal
+        → IsRefusedRun D.Watched K.Sink disk result.disk sink.old sink.new refusal × (source.new ≡ source.old) }
+    ensures refuses { (state : DiskState) (read : Image) (refusal : Refusal) → D.told disk ≡ Some state
+        → IsRead read state → IsRefused read refusal
+        → StaysRefused D.Watched K.Sink disk result.disk sink.old sink.new refusal result.ending
+        × (source.new ≡ source.old) }
 {
     match Replayer::new(alloc, disk) {
         Ok(replayer) => answer_lines(alloc, source, sink, replayer),
         Err(OpenFail { why, disk }) => {
-            let ending = finish_unopened(sink, why);
+            let ending = end_unopened(alloc, sink, why);
             Ended { ending, disk }
         }
-    }
-}
-
-/// Ends a run whose store wasn't opened.
-fn finish_unopened<K: Sink>(sink: &mut K, why: Why) -> Ending
-    ensures { FinishesBy K.Sink sink.old sink.new (ending_unopened why) result }
-{
-    match why {
-        Why::Disk { .. } => finish(sink, DISK_FAULT, Ending::DiskFault),
-        _ => finish(sink, NO_MEMORY, Ending::NoMemory),
     }
 }
 
@@ -143,6 +147,7 @@ fn answer_lines<S: Source, K: Sink, D: Disk>(
     ensures source_faults { CountsFaultsOf TheSource (Some result.ending) (S.faults source.old) (S.faults source.new) }
     ensures sink_faults { CountsFaultsOf TheSink (Some result.ending) (K.faults sink.old) (K.faults sink.new) }
     ensures disk_faults { CountsFaultsOf TheDisk (Some result.ending) (D.faults replayer.disk) (D.faults result.disk) }
+    ensures not_the_files { (refusal : Refusal) → result.ending ≢ Ending.Refused refusal }
     ensures not_the_words { result.ending ≢ Ending.BadWords }
 {
     let Ok(buffer) = Buffer::new(alloc) else {

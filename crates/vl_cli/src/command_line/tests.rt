@@ -1,11 +1,13 @@
+ghost use Rattle.std.specs.Prelude.{All, IfOk};
+ghost use Rattle.vl_disk.specs.Name.{IsNumbered};
+
 use crate::{Ended, refuse_without_words, run};
 use std::alloc::Global;
 use std::test::Fail;
 use vl_disk::{Failed, Name};
 use vl_io::{SliceSource, VecSink};
-use vl_journal::{LOG, MANIFEST};
 use vl_mem::MemDisk;
-use vl_replay::{Halt, Why};
+use vl_replay::Halt;
 
 const USAGE: &str =
     "usage: vlstore replay DIR, trial STOP OUTCOME, bench SEED COUNT or drive CLIENTS TXNS SEED\n";
@@ -68,6 +70,101 @@ const LOG_BYTES: [u8; 50] = [
     0x56, 0x4c, 0x4f, 0x47, 0, 0, 0, 1, 0, 0, 0, 1, 0, 0, 0, 0, 1, 0, 0, 0, 21, 0, 0, 0, 0, 0, 0,
     0, 1, 0, 0, 0, 1, 0, 0, 1, 0, 0, 0, 1, 0x61, 1, 0x4b, 0x93, 0xa9, 0x61, 0xb6, 0xcc, 0xa4, 0xb4,
 ];
+
+/// What the manifest says that is made where that store is opened again, with a commit in its log.
+const SECOND_MANIFEST_BYTES: [u8; 55] = [
+    0x56, 0x4d, 0x41, 0x4e, 0, 0, 0, 1, 0, 0, 0, 2, 0, 0, 0, 0, 6, 0, 0, 0, 0x1a, 0, 0, 0, 2, 3, 0,
+    0, 0, 1, 0, 0, 0, 0, 0, 0, 0, 0, 4, 0, 0, 0, 2, 0, 0, 0, 1, 0x45, 0xb6, 3, 0xbe, 0, 0x1a, 0x6a,
+    0xa0,
+];
+
+/// And where it is opened once more, with one in log 2.
+const THIRD_MANIFEST_BYTES: [u8; 55] = [
+    0x56, 0x4d, 0x41, 0x4e, 0, 0, 0, 1, 0, 0, 0, 3, 0, 0, 0, 0, 6, 0, 0, 0, 0x1a, 0, 0, 0, 2, 3, 0,
+    0, 0, 1, 0, 0, 0, 0, 0, 0, 0, 0, 4, 0, 0, 0, 3, 0, 0, 0, 1, 0xdc, 0x9e, 7, 0x5b, 0xfa, 0x88,
+    0xa7, 0x55,
+];
+
+/// Log 2 with the commit 2 of key 61 with value 02.
+const SECOND_LOG_BYTES: [u8; 50] = [
+    0x56, 0x4c, 0x4f, 0x47, 0, 0, 0, 1, 0, 0, 0, 2, 0, 0, 0, 0, 1, 0, 0, 0, 0x15, 0, 0, 0, 0, 0, 0,
+    0, 2, 0, 0, 0, 1, 0, 0, 1, 0, 0, 0, 1, 0x61, 2, 0xd1, 0xb4, 0x37, 0xc4, 0x2a, 0xf4, 0x0c, 0xd6,
+];
+
+/// Log 3 with the commit 3 of key 62 with value 03.
+const THIRD_LOG_BYTES: [u8; 50] = [
+    0x56, 0x4c, 0x4f, 0x47, 0, 0, 0, 1, 0, 0, 0, 3, 0, 0, 0, 0, 1, 0, 0, 0, 0x15, 0, 0, 0, 0, 0, 0,
+    0, 3, 0, 0, 0, 1, 0, 0, 1, 0, 0, 0, 1, 0x62, 3, 0x4b, 0x8e, 0x3c, 0xa3, 0xfc, 0xcb, 0x85, 0x51,
+];
+
+/// The header of log 2.
+const SECOND_LOG_HEADER: [u8; 16] = [
+    0x56, 0x4c, 0x4f, 0x47, 0, 0, 0, 1, 0, 0, 0, 2, 0, 0, 0, 0,
+];
+
+/// A manifest whose covered number is the greatest of a commit, 9,223,372,036,854,775,806.
+const LAST_COMMIT_MANIFEST: [u8; 55] = [
+    0x56, 0x4d, 0x41, 0x4e, 0, 0, 0, 1, 0, 0, 0, 1, 0, 0, 0, 0, 6, 0, 0, 0, 0x1a, 0, 0, 0, 2, 3, 0,
+    0, 0, 1, 0x7f, 0xff, 0xff, 0xff, 0xff, 0xff, 0xff, 0xfe, 4, 0, 0, 0, 1, 0, 0, 0, 1, 0x4c, 0x35,
+    0x28, 0x27, 0xd1, 0x5a, 0x33, 0xeb,
+];
+
+/// The manifest of a new store, in format 2.
+const NEWER_MANIFEST: [u8; 55] = [
+    0x56, 0x4d, 0x41, 0x4e, 0, 0, 0, 2, 0, 0, 0, 1, 0, 0, 0, 0, 6, 0, 0, 0, 0x1a, 0, 0, 0, 2, 3, 0,
+    0, 0, 1, 0, 0, 0, 0, 0, 0, 0, 0, 4, 0, 0, 0, 1, 0, 0, 0, 1, 0x8d, 0xf1, 0xd8, 0x60, 0x1b, 0xeb,
+    0xe2, 0xd7,
+];
+
+/// A manifest whose first frame has no Next.
+const DAMAGED_MANIFEST: [u8; 46] = [
+    0x56, 0x4d, 0x41, 0x4e, 0, 0, 0, 1, 0, 0, 0, 1, 0, 0, 0, 0, 6, 0, 0, 0, 0x11, 0, 0, 0, 1, 3, 0,
+    0, 0, 1, 0, 0, 0, 0, 0, 0, 0, 0, 0xa7, 0x84, 0xb9, 0xe1, 3, 0x43, 0xdb, 0x2c,
+];
+
+/// A manifest behind whose last log none can be made.
+const LAST_LOG_MANIFEST: [u8; 55] = [
+    0x56, 0x4d, 0x41, 0x4e, 0, 0, 0, 1, 0, 0, 0, 1, 0, 0, 0, 0, 6, 0, 0, 0, 0x1a, 0, 0, 0, 2, 3, 0,
+    0, 0, 1, 0, 0, 0, 0, 0, 0, 0, 0, 4, 0xff, 0xff, 0xff, 0xff, 0, 0, 0, 1, 0x0d, 0x16, 0xf4, 0x75,
+    0x37, 0x26, 0xc5, 0x74,
+];
+
+/// A manifest with the greatest number, 4,294,967,294.
+const LAST_MANIFEST: [u8; 55] = [
+    0x56, 0x4d, 0x41, 0x4e, 0, 0, 0, 1, 0xff, 0xff, 0xff, 0xfe, 0, 0, 0, 0, 6, 0, 0, 0, 0x1a, 0, 0,
+    0, 2, 3, 0, 0, 0, 1, 0, 0, 0, 0, 0, 0, 0, 0, 4, 0, 0, 0, 1, 0, 0, 0, 1, 0x43, 0x9f, 0x97, 0xe9,
+    0x56, 0x12, 0xd6, 0x57,
+];
+/// Files on which a disk is to be started, with one more.
+fn with(
+    alloc: Global,
+    mut files: Vec<(Name, Vec<u8>)>,
+    name: Name,
+    bytes: &[u8],
+) -> Result<Vec<(Name, Vec<u8>)>, Fail>
+    requires numbered { IsNumbered name }
+    requires all { All (λ file. IsNumbered file.0) files.items }
+    ensures { IfOk result (λ files. All (λ file. IsNumbered file.0) files.items) }
+{
+    files.push((name, Vec::from_slice(alloc, bytes)?))?;
+    Ok(files)
+}
+
+/// The manifest of a new store, or these bytes in its place, and log 1.
+fn store(alloc: Global, manifest: &[u8], log: &[u8]) -> Result<Vec<(Name, Vec<u8>)>, Fail>
+    ensures { IfOk result (λ files. All (λ file. IsNumbered file.0) files.items) }
+{
+    let files = with(alloc, Vec::new(alloc), Name::Manifest(1), manifest)?;
+    with(alloc, files, Name::Log(1), log)
+}
+
+/// A disk that was just started with these files, of whose changing calls these fail.
+fn started(alloc: Global, files: Vec<(Name, Vec<u8>)>, failing: &[u64]) -> Result<MemDisk, Fail>
+    requires { All (λ file. IsNumbered file.0) files.items }
+{
+    let failing = Vec::from_slice(alloc, failing)?;
+    Ok(MemDisk::started(alloc, files, failing, Vec::new(alloc))?)
+}
 
 /// Whether a file stands and has these bytes.
 fn holds(disk: &MemDisk, name: Name, bytes: &[u8]) -> bool {
@@ -307,11 +404,14 @@ fn words_without_memory(rt: HostRuntime) -> Result<(), Fail> {
 fn errors_say_what_failed(rt: HostRuntime) -> Result<(), Fail> {
     let alloc = rt.alloc();
     let table = [
-        (Why::NotAStore.to_string(alloc)?, "not a store"),
-        (Why::NoMemory.to_string(alloc)?, "no memory"),
-        (Why::Disk.to_string(alloc)?, "disk fault"),
         (Halt::NoMemory.to_string(alloc)?, "no memory"),
-        (Halt::Disk.to_string(alloc)?, "disk fault"),
+        (
+            Halt::Disk {
+                name: Name::Log(1),
+            }
+            .to_string(alloc)?,
+            "disk fault",
+        ),
         (Failed.to_string(alloc)?, "a call to the outside failed"),
     ];
     for (text, wanted) in table {
@@ -367,16 +467,8 @@ fn commits_are_written_to_the_disk(rt: HostRuntime) -> Result<(), Fail> {
         let (status, printed, disk) = outcome_over(rt.alloc(), &first, empty)?;
         assert_eq!(rt; printed.as_slice(), first.printed.as_bytes());
         assert_eq!(rt; status, first.status);
-        assert!(rt; holds(&disk, MANIFEST, &MANIFEST_BYTES));
-        assert!(rt; holds(&disk, LOG, log));
-
-        // What stands now is no store that can be opened, and stays as it is.
-        let second = plain(input, "not a store\n", 4);
-        let (status, printed, disk) = outcome_over(rt.alloc(), &second, disk)?;
-        assert_eq!(rt; printed.as_slice(), second.printed.as_bytes());
-        assert_eq!(rt; status, second.status);
-        assert!(rt; holds(&disk, MANIFEST, &MANIFEST_BYTES));
-        assert!(rt; holds(&disk, LOG, log));
+        assert!(rt; holds(&disk, Name::Manifest(1), &MANIFEST_BYTES));
+        assert!(rt; holds(&disk, Name::Log(1), log));
     }
     Ok(())
 }
@@ -397,12 +489,220 @@ fn faults_of_the_disk_end_a_run(rt: HostRuntime) -> Result<(), Fail> {
         assert_eq!(rt; status, case.status, "call {call}");
         // An append that fails has taken nothing; before a sync that fails the frame was taken.
         if call == 7 {
-            assert!(rt; holds(&disk, LOG, &LOG_BYTES[..16]));
+            assert!(rt; holds(&disk, Name::Log(1), &LOG_BYTES[..16]));
         }
         if call == 8 {
-            assert!(rt; holds(&disk, LOG, &LOG_BYTES));
+            assert!(rt; holds(&disk, Name::Log(1), &LOG_BYTES));
         }
     }
+    Ok(())
+}
+
+#[test]
+fn a_store_is_opened_again(rt: HostRuntime) -> Result<(), Fail> {
+    let mut disk = MemDisk::new(rt.alloc(), Vec::new(rt.alloc()), Vec::new(rt.alloc()));
+    let runs = [
+        plain("begin a\nset a 61 01\ncommit a\n", "ok 0\nok\nok 1\n", 0),
+        plain(
+            "begin a\nget a 61\nset a 61 02\ncommit a\n",
+            "ok 1\nvalue 01\nok\nok 2\n",
+            0,
+        ),
+        plain(
+            "view v\nget v 61\nget v 62\ndrop v\nbegin a\nset a 62 03\ncommit a\n",
+            "ok 2\nvalue 02\nnone\nok\nok 2\nok\nok 3\n",
+            0,
+        ),
+    ];
+    for (i, case) in runs.iter().enumerate() {
+        let (status, printed, left) = outcome_over(rt.alloc(), case, disk)?;
+        assert_eq!(rt; printed.as_slice(), case.printed.as_bytes(), "run {i}");
+        assert_eq!(rt; status, case.status, "run {i}");
+        disk = left;
+    }
+    // Each opening made a manifest and a log of its own, and removed the manifest before.
+    assert!(rt; disk.bytes(Name::Manifest(1)).is_none());
+    assert!(rt; disk.bytes(Name::Manifest(2)).is_none());
+    assert!(rt; holds(&disk, Name::Manifest(3), &THIRD_MANIFEST_BYTES));
+    assert!(rt; holds(&disk, Name::Log(1), &LOG_BYTES));
+    assert!(rt; holds(&disk, Name::Log(2), &SECOND_LOG_BYTES));
+    assert!(rt; holds(&disk, Name::Log(3), &THIRD_LOG_BYTES));
+
+    let last = plain(
+        "view v\nget v 61\nget v 62\n",
+        "ok 3\nvalue 02\nvalue 03\n",
+        0,
+    );
+    let (status, printed, _) = outcome_over(rt.alloc(), &last, disk)?;
+    assert_eq!(rt; printed.as_slice(), last.printed.as_bytes());
+    assert_eq!(rt; status, last.status);
+    Ok(())
+}
+
+#[test]
+fn a_torn_end_is_cut(rt: HostRuntime) -> Result<(), Fail> {
+    // A manifest is made, the log is cut and synced, and the old manifest removed: so call 7 doesn't come.
+    let files = store(rt.alloc(), &MANIFEST_BYTES, &LOG_BYTES[..49])?;
+    let disk = started(rt.alloc(), files, &[7])?;
+    let first = plain("view b\nget b 61\n", "ok 0\nnone\n", 0);
+    let (status, printed, disk) = outcome_over(rt.alloc(), &first, disk)?;
+    assert_eq!(rt; printed.as_slice(), first.printed.as_bytes());
+    assert_eq!(rt; status, first.status);
+    assert!(rt; holds(&disk, Name::Log(1), &LOG_BYTES[..16]));
+    assert!(rt; holds(&disk, Name::Manifest(2), &SECOND_MANIFEST_BYTES));
+
+    // The same log takes the next commits.
+    let files = store(rt.alloc(), &MANIFEST_BYTES, &LOG_BYTES[..49])?;
+    let second = plain("begin a\nset a 61 01\ncommit a\n", "ok 0\nok\nok 1\n", 0);
+    let (status, printed, disk) = outcome_over(rt.alloc(), &second, started(rt.alloc(), files, &[])?)?;
+    assert_eq!(rt; printed.as_slice(), second.printed.as_bytes());
+    assert_eq!(rt; status, second.status);
+    assert!(rt; holds(&disk, Name::Log(1), &LOG_BYTES));
+    assert!(rt; disk.bytes(Name::Log(2)).is_none());
+    Ok(())
+}
+
+#[test]
+fn the_greatest_commit_number_is_the_last(rt: HostRuntime) -> Result<(), Fail> {
+    let alloc = rt.alloc();
+    let files = with(alloc, Vec::new(alloc), Name::Manifest(1), &LAST_COMMIT_MANIFEST)?;
+    let case = plain(
+        "begin a\nset a 61 01\ncommit a\n",
+        "ok 9223372036854775806\nok\nexhausted commit\n",
+        0,
+    );
+    let (status, printed, _) = outcome_over(alloc, &case, started(alloc, files, &[])?)?;
+    assert_eq!(rt; printed.as_slice(), case.printed.as_bytes());
+    assert_eq!(rt; status, case.status);
+    Ok(())
+}
+
+/// The disk behind a run over it that is refused with this line; none where it ends otherwise.
+fn refused(alloc: Global, disk: MemDisk, line: &'static str) -> Result<Option<MemDisk>, Fail> {
+    let (status, printed, disk) = outcome_over(alloc, &plain("begin a\n", line, 4), disk)?;
+    let as_wanted = status == 4 && printed.as_slice() == line.as_bytes();
+    Ok(if as_wanted { Some(disk) } else { None })
+}
+
+/// Whether there is a disk, on which a file stands and has these bytes.
+fn left(disk: &Option<MemDisk>, name: Name, bytes: &[u8]) -> bool {
+    match disk {
+        Some(disk) => holds(disk, name, bytes),
+        None => false,
+    }
+}
+
+#[test]
+fn what_is_no_store_is_refused(rt: HostRuntime) -> Result<(), Fail> {
+    let alloc = rt.alloc();
+
+    // One bit of the length of the manifest's frame is altered, so that no frame stands there.
+    let mut altered = MANIFEST_BYTES;
+    altered[20] = 27;
+    let disk = started(alloc, store(alloc, &altered, &LOG_BYTES)?, &[])?;
+    let disk = refused(alloc, disk, "not a store\n")?;
+    assert!(rt; left(&disk, Name::Manifest(1), &altered));
+    assert!(rt; left(&disk, Name::Log(1), &LOG_BYTES));
+
+    let disk = started(alloc, store(alloc, &NEWER_MANIFEST, &LOG_BYTES)?, &[])?;
+    let disk = refused(alloc, disk, "newer format 2\n")?;
+    assert!(rt; left(&disk, Name::Manifest(1), &NEWER_MANIFEST));
+    assert!(rt; left(&disk, Name::Log(1), &LOG_BYTES));
+    Ok(())
+}
+
+#[test]
+fn damaged_stores_are_refused(rt: HostRuntime) -> Result<(), Fail> {
+    let alloc = rt.alloc();
+
+    // A log that isn't the last must be whole.
+    let files = store(alloc, &MANIFEST_BYTES, &LOG_BYTES[..49])?;
+    let files = with(alloc, files, Name::Log(2), &SECOND_LOG_HEADER)?;
+    let disk = refused(alloc, started(alloc, files, &[])?, "damaged log 1 at 16\n")?;
+    assert!(rt; left(&disk, Name::Log(1), &LOG_BYTES[..49]));
+    assert!(rt; left(&disk, Name::Log(2), &SECOND_LOG_HEADER));
+
+    // Commit 2 doesn't come first.
+    let files = with(alloc, Vec::new(alloc), Name::Manifest(1), &MANIFEST_BYTES)?;
+    let files = with(alloc, files, Name::Log(2), &SECOND_LOG_BYTES)?;
+    let disk = refused(alloc, started(alloc, files, &[])?, "damaged log 2 at 16\n")?;
+    assert!(rt; left(&disk, Name::Log(2), &SECOND_LOG_BYTES));
+
+    let disk = started(alloc, store(alloc, &DAMAGED_MANIFEST, &LOG_BYTES)?, &[])?;
+    let disk = refused(alloc, disk, "damaged manifest 1 at 16\n")?;
+    assert!(rt; left(&disk, Name::Manifest(1), &DAMAGED_MANIFEST));
+    Ok(())
+}
+
+#[test]
+fn stores_without_a_number_left_are_refused(rt: HostRuntime) -> Result<(), Fail> {
+    let alloc = rt.alloc();
+    let files = with(alloc, Vec::new(alloc), Name::Manifest(1), &LAST_LOG_MANIFEST)?;
+    let disk = refused(alloc, started(alloc, files, &[])?, "exhausted log\n")?;
+    assert!(rt; left(&disk, Name::Manifest(1), &LAST_LOG_MANIFEST));
+
+    let last = Name::Manifest(4_294_967_294);
+    let files = with(alloc, Vec::new(alloc), last, &LAST_MANIFEST)?;
+    let disk = refused(alloc, started(alloc, files, &[])?, "exhausted manifest\n")?;
+    assert!(rt; left(&disk, last, &LAST_MANIFEST));
+    Ok(())
+}
+
+#[test]
+fn a_store_is_opened_again_after_faults(rt: HostRuntime) -> Result<(), Fail> {
+    let alloc = rt.alloc();
+    // The log's bytes, how many changing calls the opening makes, and what is printed of the store.
+    let stores: [(&[u8], u64, &str); 2] = [
+        (&LOG_BYTES, 8, "ok 1\nvalue 01\n"),
+        (&LOG_BYTES[..49], 6, "ok 0\nnone\n"),
+    ];
+    for (log, calls, answers) in stores {
+        for call in 1..=calls {
+            let files = store(alloc, &MANIFEST_BYTES, log)?;
+            let disk = started(alloc, files, &[call])?;
+            let stopped = plain("view v\nget v 61\n", "disk fault\n", 3);
+            let (status, printed, disk) = outcome_over(alloc, &stopped, disk)?;
+            assert_eq!(rt; printed.as_slice(), stopped.printed.as_bytes(), "call {call}");
+            assert_eq!(rt; status, stopped.status, "call {call}");
+
+            let again = plain("view v\nget v 61\n", answers, 0);
+            let (status, printed, _) = outcome_over(alloc, &again, disk)?;
+            assert_eq!(rt; printed.as_slice(), again.printed.as_bytes(), "call {call}");
+            assert_eq!(rt; status, again.status, "call {call}");
+        }
+    }
+    Ok(())
+}
+
+#[test]
+fn a_store_is_made_again_after_faults(rt: HostRuntime) -> Result<(), Fail> {
+    let alloc = rt.alloc();
+    for call in 1..=6 {
+        let disk = MemDisk::new(alloc, [call].to_vec(alloc)?, Vec::new(alloc));
+        let (status, printed, disk) = outcome_over(alloc, &plain("", "disk fault\n", 3), disk)?;
+        assert_eq!(rt; printed.as_slice(), b"disk fault\n".as_slice(), "call {call}");
+        assert_eq!(rt; status, 3, "call {call}");
+
+        let again = plain("begin a\nset a 61 01\ncommit a\n", "ok 0\nok\nok 1\n", 0);
+        let (status, printed, _) = outcome_over(alloc, &again, disk)?;
+        assert_eq!(rt; printed.as_slice(), again.printed.as_bytes(), "call {call}");
+        assert_eq!(rt; status, again.status, "call {call}");
+    }
+    Ok(())
+}
+
+#[test]
+fn a_disk_that_is_not_read_is_not_changed(rt: HostRuntime) -> Result<(), Fail> {
+    let alloc = rt.alloc();
+    // The first call that changes nothing lists the files.
+    let files = store(alloc, &MANIFEST_BYTES, &LOG_BYTES)?;
+    let disk = MemDisk::started(alloc, files, Vec::new(alloc), [1].to_vec(alloc)?)?;
+    let (status, printed, disk) = outcome_over(alloc, &plain("", "disk fault\n", 3), disk)?;
+    assert_eq!(rt; printed.as_slice(), b"disk fault\n".as_slice());
+    assert_eq!(rt; status, 3);
+    assert!(rt; holds(&disk, Name::Manifest(1), &MANIFEST_BYTES));
+    assert!(rt; holds(&disk, Name::Log(1), &LOG_BYTES));
+    assert!(rt; disk.bytes(Name::Manifest(2)).is_none());
     Ok(())
 }
 

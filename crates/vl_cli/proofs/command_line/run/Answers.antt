@@ -2,7 +2,7 @@ use Rattle.std.proofs.Common.{◌≡◌, ◌≢◌, ◌<◌, ◌≤◌, ℕ, tru
 use Rattle.vl_script.specs.Script.{lines_of}
 use Rattle.vl_replay.specs.Endings.{TheDisk, TheSource, TheSink, status_of, usage_line}
 use Rattle.vl_replay.specs.Start.{all_explained}
-use Rattle.vl_cli.proofs.Words.{disk_status, source_status, sink_status, is_not_a_store, is_bad_words, rose_by, steady_by, refused_status, refused_rose, refused_steady}
+use Rattle.vl_cli.proofs.Words.{disk_status, source_status, sink_status, is_refused, is_bad_words, rose_by, steady_by, refused_status, refused_rose, refused_steady}
 use Rattle.vl_cli.proofs.command_line.run.Goals as goal
 
 not_both : true ≡ false → ⊥
@@ -32,15 +32,16 @@ pub returns-then-are_plain-clause-no_disk_fault : goal.returns-then-are_plain-cl
 returns-then-are_plain-clause-no_disk_fault g c other whole =
     steady_by TheDisk 3 disk_status c.replay-ending.result.ending _ _ c.replay-ending.ensures.disk_faults (λ e. other (c.status-status.ensures ∙ e)) (λ e. whole (c.status-status.ensures ∙ e))
 
-pub returns-then-are_plain-clause-not_a_store : goal.returns-then-are_plain-clause-not_a_store
-returns-then-are_plain-clause-not_a_store g c is =
-    let refused = c.replay-ending.ensures.not_a_store (is_not_a_store c.replay-ending.result.ending (sym c.status-status.ensures ∙ is)) in
-    (refused.0, refused.1, refused.2, (c.replay-ending.result.ending, c.status-status.ensures, refused.3))
+pub returns-then-are_plain-clause-refused : goal.returns-then-are_plain-clause-refused
+returns-then-are_plain-clause-refused g c is =
+    let by = is_refused c.replay-ending.result.ending (sym c.status-status.ensures ∙ is) in
+    let refused = c.replay-ending.ensures.refused by.0 by.1 in
+    ((by.0, refused.0), refused.1)
 
-pub returns-then-are_plain-clause-occupied : goal.returns-then-are_plain-clause-occupied
-returns-then-are_plain-clause-occupied g c plain state is stands =
-    let refused = c.replay-ending.ensures.occupied state is stands in
-    (refused.1, refused.2, (c.replay-ending.result.ending, c.status-status.ensures, refused.0))
+pub returns-then-are_plain-clause-refuses : goal.returns-then-are_plain-clause-refuses
+returns-then-are_plain-clause-refuses g c plain state read refusal told is_read is_refused =
+    let stays = c.replay-ending.ensures.refuses state read refusal told is_read is_refused in
+    ((c.replay-ending.result.ending, c.status-status.ensures, stays.0), stays.1)
 
 pub returns-then-are_plain-clause-read_fault : goal.returns-then-are_plain-clause-read_fault
 returns-then-are_plain-clause-read_fault g c is =
@@ -80,11 +81,11 @@ returns-clause-not_plain g c other = (refl, refl, (c.finish.result, c.status-sta
 pub returns-clause-disk_fault : goal.returns-clause-disk_fault
 returns-clause-disk_fault g c is = absurd (refused_status g.K.Sink _ _ _ c.finish.result c.finish.ensures 3 (λ e. omega arith) (λ e. omega arith) (sym c.status-status-2.ensures ∙ is))
 
-pub returns-clause-not_a_store : goal.returns-clause-not_a_store
-returns-clause-not_a_store g c is = absurd (refused_status g.K.Sink _ _ _ c.finish.result c.finish.ensures 4 (λ e. omega arith) (λ e. omega arith) (sym c.status-status-2.ensures ∙ is))
+pub returns-clause-refused : goal.returns-clause-refused
+returns-clause-refused g c is = absurd (refused_status g.K.Sink _ _ _ c.finish.result c.finish.ensures 4 (λ e. omega arith) (λ e. omega arith) (sym c.status-status-2.ensures ∙ is))
 
-pub returns-clause-occupied : goal.returns-clause-occupied
-returns-clause-occupied g c plain = absurd (not_both (sym plain ∙ sym c.are_plain.ensures ∙ c.if-are_plain.false))
+pub returns-clause-refuses : goal.returns-clause-refuses
+returns-clause-refuses g c plain = absurd (not_both (sym plain ∙ sym c.are_plain.ensures ∙ c.if-are_plain.false))
 
 pub returns-clause-read_fault : goal.returns-clause-read_fault
 returns-clause-read_fault g c is = absurd (refused_status g.K.Sink _ _ _ c.finish.result c.finish.ensures 6 (λ e. omega arith) (λ e. omega arith) (sym c.status-status-2.ensures ∙ is))

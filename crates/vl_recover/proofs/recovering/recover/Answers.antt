@@ -1,5 +1,5 @@
 use Rattle.std.proofs.Common.{ap, ◌∙◌}
-use Rattle.vl_recover.proofs.OneFinding.{opened_not}
+use Rattle.vl_recover.specs.OneFinding.{opened_not}
 use Rattle.vl_recover.proofs.Recovered.{active_stays, calls_counted, mended_tells, mended_through, opened_same, still_tells, store_held, unchanged_through}
 use Rattle.vl_seglog.specs.declared.active.ActiveLog.{ActiveLog}
 use Rattle.vl_recover.proofs.recovering.recover.Goals as goal

@@ -4,7 +4,7 @@ use Rattle.vl_io.specs.Sink.{Takes, TakesPrefix}
 use Rattle.vl_replay.specs.Endings.{no_memory_line, disk_fault_line}
 use Rattle.vl_replay.specs.declared.ending.Ending.TheVariants.{NoMemory, DiskFault}
 use Rattle.vl_replay.proofs.Ends.{answer_cut, finished, finish_counts, before_weaker}
-use Rattle.vl_replay.proofs.Texts.{of_ok, ends_cut, ends_bad, ends_out, ends_fault}
+use Rattle.vl_replay.proofs.Texts.{halts, of_ok, ends_cut, ends_bad, ends_out, ends_fault}
 use Rattle.vl_replay.proofs.answering.answer.Goals as goal
 
 pub returns-in-Ok-clause-printed : goal.returns-in-Ok-clause-printed
@@ -52,12 +52,12 @@ returns-in-Err-NoMemory-clause-sink_faults g c = finish_counts g.K.Sink _ _ _ No
 pub returns-clause-printed : goal.returns-clause-printed
 returns-clause-printed g c script stands count next left =
     finished g.K.Sink c.args.sink.now c.finish-in-Err-Disk.new.sink _ script left DiskFault c.finish-in-Err-Disk.result disk_fault_line refl
-    (c.carry_out.ensures.cause.rose (c.in-Err-Disk.is ∙ ap Err c.in-Err-Disk.field-0-is)) c.finish-in-Err-Disk.ensures
+    (c.carry_out.ensures.cause.rose (halts c.carry_out.result c.in-Err-Disk.field-0-0 (c.in-Err-Disk.is ∙ ap Err c.in-Err-Disk.field-0-is))) c.finish-in-Err-Disk.ensures
 
 pub returns-clause-moves : goal.returns-clause-moves
 returns-clause-moves g c s stands held =
     ends_fault g.D.Watched (record { only_now = g.met.D.Disk.only_now; counts_now = g.met.D.Disk.counts_now }) s c.args.text.now c.args.replayer.now.disk c.carry_out.new.replayer.disk g.K.Sink c.args.sink.now c.finish-in-Err-Disk.new.sink disk_fault_line c.carry_out.result c.finish-in-Err-Disk.result
-    (c.carry_out.ensures.cause.rose (c.in-Err-Disk.is ∙ ap Err c.in-Err-Disk.field-0-is)) c.finish-in-Err-Disk.ensures (c.carry_out.ensures.carries s stands held)
+    (c.carry_out.ensures.cause.rose (halts c.carry_out.result c.in-Err-Disk.field-0-0 (c.in-Err-Disk.is ∙ ap Err c.in-Err-Disk.field-0-is))) c.finish-in-Err-Disk.ensures (c.carry_out.ensures.carries s stands held)
 
 pub returns-clause-sink_faults : goal.returns-clause-sink_faults
 returns-clause-sink_faults g c = finish_counts g.K.Sink _ _ _ DiskFault c.finish-in-Err-Disk.result (λ e. cc) c.finish-in-Err-Disk.ensures

@@ -1,66 +1,96 @@
-use Rattle.std.proofs.Common.{◌≡◌, ◌∙◌, ap, Some, refl, sym, subst}
-use Rattle.std.specs.Option.{ForSome}
+use Rattle.std.proofs.Common.{◌≡◌, refl, subst}
 use Rattle.vl_disk.specs.Faults.{Rose}
-use Rattle.vl_journal.specs.Files.{IsBlank, HasSomeFile}
+use Rattle.vl_recover.specs.Answers.{AnswersBy}
+use Rattle.vl_recover.specs.Results.{came_by}
+use Rattle.vl_recover.specs.declared.fails.Why.{Why}
 use Rattle.vl_replay.specs.Durable.{Tells}
 use Rattle.vl_replay.specs.Laws.{keeps_up_at_first}
+use Rattle.vl_replay.specs.Opening.{IsFault}
 use Rattle.vl_replay.specs.Runs.{script_of, outside}
+use Rattle.vl_replay.specs.Start.{IsDurable}
 use Rattle.vl_replay.specs.Stored.{IsStored, Shown}
+use Rattle.std.specs.Prelude.{Some, true, false}
 use Rattle.vl_replay.proofs.Logged.{shown_stays, stored_exactly}
-use Rattle.vl_replay.proofs.OpenedRuns.{ends_opened, ends_refused, refused, refused_nothing, refused_as, not_for_words, out_of_memory, counts_sink, counts_source, counts_disk, some_why}
-use Rattle.vl_journal.specs.declared.fails.OpenFail.{OpenFail as Why}
-use Rattle.vl_journal.specs.declared.fails.OpenFail.TheVariants as why
-use Rattle.vl_replay.specs.Opening.{ending_unopened}
-use Rattle.vl_replay.specs.Steps.{FinishesBy}
+use Rattle.vl_replay.proofs.OpenedRuns.{ends_opened, ends_refused, refused, refused_nothing, refused_as, refused_line, not_for_words, out_of_memory, counts_sink, counts_source, counts_disk}
+use Rattle.vl_replay.proofs.Refusals.{fault_for, fault_of, first_for, no_fault, opened_not_refused, refused_for, refused_or_first}
 use Rattle.vl_replay.proofs.running.replay.Goals as goal
-
-apart : why.NotAStore ≡ why.Disk → ⊥
-apart e = cc
 
 pub returns-in-Ok-clause-runs : goal.returns-in-Ok-clause-runs
 returns-in-Ok-clause-runs g c s input starts told =
     ends_opened g.D.Watched (record { only_now = g.met.D.Disk.only_now; counts_now = g.met.D.Disk.counts_now }) IsStored Shown shown_stays stored_exactly
-    (Tells g.D.Watched c.args.disk IsBlank) (ForSome (g.D.Watched.told c.args.disk) HasSomeFile) (script_of s 0 input)
+    (Tells g.D.Watched c.args.disk IsDurable) ⊥ (script_of s 0 input)
     (outside g.S.Source g.K.Sink c.args.source.now c.args.sink.now c.args.disk) (outside g.S.Source g.K.Sink c.answer_lines.new.source c.answer_lines.new.sink c.answer_lines.result.disk)
     (outside g.S.Source g.K.Sink c.args.source.now c.args.sink.now c.in-Ok.replayer.disk) c.answer_lines.result.ending refl refl c.in-Ok.ensures.cause.later
-    (c.in-Ok.ensures.holds s starts) (c.in-Ok.ensures.through s starts) (c.answer_lines.ensures.runs s input (c.in-Ok.ensures.store s starts) told)
+    (λ durable. c.in-Ok.ensures.holds s starts (durable.0, durable.1, durable.2.may_open)) (c.in-Ok.ensures.through s starts) (c.answer_lines.ensures.runs s input (c.in-Ok.ensures.store s starts) told)
+
+pub returns-in-Ok-clause-refused : goal.returns-in-Ok-clause-refused
+returns-in-Ok-clause-refused g c refusal is = absurd (c.answer_lines.ensures.not_the_files refusal is)
+
+pub returns-in-Ok-clause-refuses : goal.returns-in-Ok-clause-refuses
+returns-in-Ok-clause-refuses g c state read refusal told is_read is_refused = absurd (not_err (c.in-Ok.ensures.refused state read refusal told is_read is_refused).0)
+  where
+    not_err : false ≡ true → ⊥
+    not_err e = cc
 
 pub returns-in-Err-clause-runs : goal.returns-in-Err-clause-runs
 returns-in-Err-clause-runs g c s input starts told =
-    let ended = c.finish_unopened-ending in
-    let how = c.in-Err.field-0.why in
+    let ended = c.end_unopened-ending in
+    let reason = c.in-Err.field-0.why in
+    let how = ended.ensures.0 in
     let script = script_of s 0 input in
     let by_disk = Rose (g.D.Watched.faults c.args.disk) (g.D.Watched.faults c.in-Err.field-0.disk) in
-    let by_files = ForSome (g.D.Watched.told c.args.disk) HasSomeFile in
     ends_refused g.D.Watched (record { only_now = g.met.D.Disk.only_now; counts_now = g.met.D.Disk.counts_now }) IsStored Shown shown_stays stored_exactly
-    (Tells g.D.Watched c.args.disk IsBlank) by_files script
+    (Tells g.D.Watched c.args.disk IsDurable) ⊥ script
     (outside g.S.Source g.K.Sink c.args.source.now c.args.sink.now c.args.disk) (outside g.S.Source g.K.Sink c.args.source.now ended.new.sink c.in-Err.field-0.disk)
-    ended.result (refused_nothing g.K.Sink c.args.sink.now ended.new.sink how ended.result ended.ensures)
-    (refused g.K.Sink c.args.sink.now ended.new.sink (Rose (g.S.Source.faults c.args.source.now) (g.S.Source.faults c.args.source.now)) by_disk by_files script (g.S.Source.left c.args.source.now) how ended.result
-    (λ is. c.in-Err.ensures.not_a_store (ap Some is)) (λ is. c.in-Err.ensures.cause.rose (ap Some is)) told ended.ensures)
+    ended.result (refused_nothing g.K.Sink c.args.sink.now ended.new.sink how ended.result ended.ensures.2)
+    (refused g.K.Sink c.args.sink.now ended.new.sink (Rose (g.S.Source.faults c.args.source.now) (g.S.Source.faults c.args.source.now)) by_disk ⊥ script (g.S.Source.left c.args.source.now) how ended.result
+    (λ refusal is. opened_not_refused starts.read starts.found starts.left refusal
+    (subst (λ (w : Why). AnswersBy starts.read (came_by w)) (refused_for reason how refusal ended.ensures.1 is) (c.in-Err.ensures.answer starts.state starts.read starts.told starts.is_read)))
+    (λ fault. c.in-Err.ensures.cause.rose (fault_for reason how ended.ensures.1 fault)) told ended.ensures.2)
     (keeps_up_at_first input (g.S.Source.asked c.args.source.now) (g.met.S.Source.since_asked c.args.source.now input told))
     (c.in-Err.ensures.through s starts) (λ p. c.in-Err.ensures.tells p.0 p.1)
-    (λ sound. c.in-Err.ensures.left_alone (λ is. sound (c.in-Err.ensures.cause.rose is)) refl)
-    (λ out. c.in-Err.ensures.left_alone (λ is. out_of_memory g.K.Sink c.args.sink.now ended.new.sink how ended.result ended.ensures out (some_why is)) refl)
+    (λ sound. c.in-Err.ensures.left_alone (λ fault. sound (c.in-Err.ensures.cause.rose fault)) refl)
+    (λ out. c.in-Err.ensures.left_alone (λ fault. out_of_memory g.K.Sink c.args.sink.now ended.new.sink how ended.result ended.ensures.2 out (fault_of reason how ended.ensures.1 fault)) refl)
 
 pub returns-in-Err-clause-source_faults : goal.returns-in-Err-clause-source_faults
-returns-in-Err-clause-source_faults g c = counts_source g.K.Sink _ _ c.in-Err.field-0.why c.finish_unopened-ending.result c.finish_unopened-ending.ensures _
+returns-in-Err-clause-source_faults g c = counts_source g.K.Sink _ _ c.end_unopened-ending.ensures.0 c.end_unopened-ending.result c.end_unopened-ending.ensures.2 _
 
 pub returns-in-Err-clause-sink_faults : goal.returns-in-Err-clause-sink_faults
-returns-in-Err-clause-sink_faults g c = counts_sink g.K.Sink _ _ c.in-Err.field-0.why c.finish_unopened-ending.result c.finish_unopened-ending.ensures
+returns-in-Err-clause-sink_faults g c = counts_sink g.K.Sink _ _ c.end_unopened-ending.ensures.0 c.end_unopened-ending.result c.end_unopened-ending.ensures.2
 
 pub returns-in-Err-clause-disk_faults : goal.returns-in-Err-clause-disk_faults
-returns-in-Err-clause-disk_faults g c = counts_disk g.K.Sink _ _ c.in-Err.field-0.why c.finish_unopened-ending.result c.finish_unopened-ending.ensures _ _ _ some_why (λ is. ap Some is) c.in-Err.ensures.cause
+returns-in-Err-clause-disk_faults g c =
+    let ended = c.end_unopened-ending in
+    counts_disk g.K.Sink _ _ ended.ensures.0 ended.result ended.ensures.2 _ _ (IsFault (Some c.in-Err.field-0.why))
+    (fault_of c.in-Err.field-0.why ended.ensures.0 ended.ensures.1) (fault_for c.in-Err.field-0.why ended.ensures.0 ended.ensures.1) c.in-Err.ensures.cause
 
 pub returns-in-Err-clause-not_the_words : goal.returns-in-Err-clause-not_the_words
-returns-in-Err-clause-not_the_words g c = not_for_words g.K.Sink _ _ c.in-Err.field-0.why c.finish_unopened-ending.result c.finish_unopened-ending.ensures
+returns-in-Err-clause-not_the_words g c = not_for_words g.K.Sink _ _ c.end_unopened-ending.ensures.0 c.end_unopened-ending.result c.end_unopened-ending.ensures.2
 
-pub returns-in-Err-clause-not_a_store : goal.returns-in-Err-clause-not_a_store
-returns-in-Err-clause-not_a_store g c no_store =
-    let ended = c.finish_unopened-ending in
-    let how = refused_as g.K.Sink c.args.sink.now ended.new.sink c.in-Err.field-0.why ended.result ended.ensures no_store in (
-      c.in-Err.ensures.not_a_store (ap Some how),
-      c.in-Err.ensures.left_alone (λ is. apart (some_why (ap Some (sym how) ∙ is))) refl,
+pub returns-in-Err-clause-refused : goal.returns-in-Err-clause-refused
+returns-in-Err-clause-refused g c refusal is =
+    let ended = c.end_unopened-ending in
+    let reason = c.in-Err.field-0.why in
+    let how = ended.ensures.0 in
+    let reason_is = refused_for reason how refusal ended.ensures.1 (refused_as g.K.Sink c.args.sink.now ended.new.sink how ended.result ended.ensures.2 refusal is) in (
+      record {
+        given = λ state read told is_read. subst (λ (w : Why). AnswersBy read (came_by w)) reason_is (c.in-Err.ensures.answer state read told is_read);
+        unchanged = c.in-Err.ensures.left_alone (λ fault. no_fault refusal (subst (λ (w : Why). IsFault (Some w)) reason_is fault)) refl;
+        printed = refused_line g.K.Sink c.args.sink.now ended.new.sink how ended.result ended.ensures.2 refusal is;
+      },
       refl,
-      subst (λ (w : Why). FinishesBy g.K.Sink c.args.sink.now ended.new.sink (ending_unopened w) ended.result) how ended.ensures,
+    )
+
+pub returns-in-Err-clause-refuses : goal.returns-in-Err-clause-refuses
+returns-in-Err-clause-refuses g c state read refusal told is_read is_refused =
+    let ended = c.end_unopened-ending in
+    let reason = c.in-Err.field-0.why in
+    let how = ended.ensures.0 in (
+      record {
+        how = how;
+        how_is = first_for reason how refusal ended.ensures.1 (refused_or_first read refusal is_refused reason (c.in-Err.ensures.answer state read told is_read));
+        printed = ended.ensures.2;
+        unchanged = (c.in-Err.ensures.refused state read refusal told is_read is_refused).1;
+      },
+      refl,
     )

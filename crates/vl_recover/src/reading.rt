@@ -1,0 +1,47 @@
+// The disk's calls that an opening makes while it only reads, each with the reason why it isn't opened then.
+ghost use Rattle.std.specs.Prelude.{◌≡◌, All, IfErr, IfOk};
+ghost use Rattle.std.specs.Option.{ForSome};
+ghost use Rattle.vl_disk.specs.Calls.{ChangesNothing};
+ghost use Rattle.vl_disk.specs.Disk.{Lists, Stands};
+ghost use Rattle.vl_disk.specs.DiskState.{file_at};
+ghost use Rattle.vl_disk.specs.Name.{IsNumbered};
+ghost use Rattle.vl_recover.specs.Finding.{IsFault, IsFaultAt};
+ghost use Rattle.vl_recover.specs.LogsSoFar.{IsExcused};
+
+use crate::Why;
+use std::alloc::Global;
+use vl_disk::{Disk, ListFail, Name, ReadFail, read_file};
+
+// What is named where the files couldn't be listed: no manifest has this number.
+const NO_FILE: Name = Name::Manifest(0);
+
+/// The names of the files that stand.
+pub fn list_names<D: Disk>(alloc: Global, disk: &mut D) -> Result<Vec<Name>, Why>
+    ensures names { IfOk result (λ names. ForSome (D.told disk.old) (Lists names.items)) }
+    ensures numbered { IfOk result (λ names. All IsNumbered names.items) }
+    ensures excused { IfErr result IsExcused }
+    ensures at { IfErr result (IsFaultAt (D.told disk.old)) }
+    ensures no_change { ChangesNothing D.Watched disk.old disk.new (IsFault result) }
+{
+    match disk.list(alloc) {
+        Ok(names) => Ok(names),
+        Err(ListFail::NoMemory) => Err(Why::NoMemory),
+        Err(ListFail::Failed) => Err(Why::Disk { name: NO_FILE }),
+    }
+}
+
+/// A whole file.
+pub fn read_whole<D: Disk>(alloc: Global, disk: &mut D, name: Name) -> Result<Vec<u8>, Why>
+    requires { ForSome (D.told disk.old) (Stands name) }
+    ensures bytes { IfOk result (λ bytes. ForSome (D.told disk.old)
+        (λ state. bytes.items ≡ (file_at state name).bytes)) }
+    ensures excused { IfErr result IsExcused }
+    ensures at { IfErr result (IsFaultAt (D.told disk.old)) }
+    ensures no_change { ChangesNothing D.Watched disk.old disk.new (IsFault result) }
+{
+    match read_file(alloc, disk, name) {
+        Ok(bytes) => Ok(bytes),
+        Err(ReadFail::NoMemory) => Err(Why::NoMemory),
+        Err(ReadFail::Failed) => Err(Why::Disk { name }),
+    }
+}
