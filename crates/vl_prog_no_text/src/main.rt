@@ -3,10 +3,9 @@
 
 use std::process::ExitCode;
 use vl_cli::{Ended, serve};
-use vl_mem::MemDisk;
+use vl_folder::FolderDisk;
 
 fn main(rt: HostRuntime) -> ExitCode {
-    let disk = MemDisk::new(rt.alloc(), Vec::new(rt.alloc()), Vec::new(rt.alloc()));
-    let Ended { status, disk: _ } = serve(&rt, disk);
+    let Ended { status, disk: _ } = serve(&rt, |folder| FolderDisk::new(&rt, rt.alloc(), folder));
     ExitCode::from(status)
 }

@@ -1,0 +1,11 @@
+//! The program over the files of an earlier run: its stored run reads what was committed, and goes on.
+#![tactic(auto)]
+
+use std::process::ExitCode;
+use vl_cli::{Ended, serve};
+use vl_folder::FolderDisk;
+
+fn main(rt: HostRuntime) -> ExitCode {
+    let Ended { status, disk: _ } = serve(&rt, |folder| FolderDisk::new(&rt, rt.alloc(), folder));
+    ExitCode::from(status)
+}
