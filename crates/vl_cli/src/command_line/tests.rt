@@ -133,6 +133,7 @@ const LAST_MANIFEST: [u8; 55] = [
     0, 2, 3, 0, 0, 0, 1, 0, 0, 0, 0, 0, 0, 0, 0, 4, 0, 0, 0, 1, 0, 0, 0, 1, 0x43, 0x9f, 0x97, 0xe9,
     0x56, 0x12, 0xd6, 0x57,
 ];
+
 /// Files on which a disk is to be started, with one more.
 fn with(
     alloc: Global,
