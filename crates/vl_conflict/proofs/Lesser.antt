@@ -14,10 +14,9 @@ use Rattle.vl_model.specs.WinnerLaws.{key_tied}
 use Rattle.vl_model.specs.Conflicts.{Named, first_of}
 use Rattle.vl_model.specs.Reads.{is_in_span}
 use Rattle.vl_model.specs.declared.span.Span.{Span}
-use Rattle.vl_conflict.specs.Recent.{first_late, is_late, is_late_at, is_late_within, is_late_at_any, is_late_within_any}
-use Rattle.vl_conflict.specs.RecentLaws.{as_T, two_parts}
-use Rattle.vl_conflict.specs.Trees.{span_of, lesser_of}
-use Rattle.vl_conflict.proofs.TreeLaws.{above-all}
+use Rattle.vl_tree.specs.Notes.{is_late_within, span_of}
+use Rattle.vl_tree.specs.OrderLaws.{as_T, two_parts, above-all}
+use Rattle.vl_conflict.specs.Recent.{first_late, is_late, is_late_at, is_late_at_any, is_late_within_any, lesser_of}
 
 -- ---- two tests
 

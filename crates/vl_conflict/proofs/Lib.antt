@@ -1,2 +1,1 @@
 pub mod Lesser
-pub mod TreeLaws

@@ -2,20 +2,15 @@
 use Rattle.std.specs.Prelude.{◌≡◌, ◌≤◌, ℕ, ◌+◌, Bool, true, ◌&&◌, nat_lt, if◌then◌else◌, List, [], ◌∷◌, Option, Some, None}
 use Rattle.std.specs.FinMap.{find, put, is_sorted}
 use Rattle.std.specs.List.{filter, list_any}
-use Rattle.std.specs.Ordering.{eq_by_cmp}
+use Rattle.std.specs.Ordering.{eq_by_cmp, is_gt}
 use Rattle.vl_model.specs.Keys.{key_cmp}
 use Rattle.vl_model.specs.History.{History, last_naming}
 use Rattle.vl_model.specs.Notes.{is_noted, AreNotesOf}
-use Rattle.vl_model.specs.Reads.{Read, is_in_span}
+use Rattle.vl_model.specs.Reads.{Read}
 use Rattle.vl_model.specs.Conflicts.{Named, first_of, first_conflict}
 use Rattle.vl_model.specs.declared.change.Change.{Change}
 use Rattle.vl_model.specs.declared.span.Span.{Span}
-
--- keys in rising order, each with the number of the last commit that names it; and how many more may be noted without
--- memory
-pub record Kept : Type 0 where
-  pub named : List Named
-  pub room : ℕ
+use Rattle.vl_tree.specs.Notes.{is_late_within}
 
 -- ---- reads
 
@@ -56,21 +51,20 @@ abbrev pub noted_all : ℕ → List (List ℕ × Change) → List Named → List
 noted_all number [] named = named
 noted_all number (write ∷ later) named = noted_all number later (put key_cmp write.0 number named)
 
--- what a number above the floor is noted for
-abbrev pub is_above_floor : ℕ → Named → Bool
-is_above_floor floor named = nat_lt floor named.1
-
 -- ---- late ones
 
--- an entry of the key, or in the interval, with a number above this one
+-- an entry of the key, with a number above this one
 abbrev pub is_late_at : ℕ → List ℕ → Named → Bool
 is_late_at number key named = nat_lt number named.1 && eq_by_cmp key_cmp named.0 key
-
-abbrev pub is_late_within : ℕ → Span → Named → Bool
-is_late_within number span named = nat_lt number named.1 && is_in_span span named.0
 
 abbrev pub is_late_at_any : ℕ → List (List ℕ) → Named → Bool
 is_late_at_any number keys named = list_any (λ key. is_late_at number key named) keys
 
 abbrev pub is_late_within_any : ℕ → List Span → Named → Bool
 is_late_within_any number spans named = list_any (λ span. is_late_within number span named) spans
+
+-- the one of the lesser key
+abbrev pub lesser_of : Option Named → Option Named → Option Named
+lesser_of None other = other
+lesser_of (Some e) None = Some e
+lesser_of (Some e) (Some f) = if is_gt (key_cmp e.0 f.0) then Some f else Some e

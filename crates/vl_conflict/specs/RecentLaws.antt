@@ -5,9 +5,9 @@ use Rattle.std.specs.Prelude.{nat_lt}
 use Rattle.std.specs.Option.{option_map}
 use Rattle.std.specs.List.{filter}
 use Rattle.std.specs.FinMap.{entries, get, find, put, is_sorted, get-entries, get-from_sorted, from_sorted, same_map, entries-from_sorted, slice_cmp-IsAntisymmetric, nat_cmp-IsAntisymmetric}
-use Rattle.std.specs.FinMap.Entries.{below_all, find-put, is_sorted-put}
+use Rattle.std.specs.FinMap.Entries.{find-put, is_sorted-put}
 use Rattle.std.specs.Cmp.Lexicographic.{nat_list_cmp_total}
-use Rattle.std.specs.Ordering.{eq_by_cmp, is_lt}
+use Rattle.std.specs.Ordering.{eq_by_cmp}
 use Rattle.vl_model.specs.Keys.{Writes, key_cmp}
 use Rattle.vl_model.specs.History.{History, last_number, with_commit, last_naming, newer}
 use Rattle.vl_model.specs.Reads.{Read, is_read}
@@ -16,15 +16,9 @@ use Rattle.vl_model.specs.ConflictLaws.{find-filter, find-overwritten, overwritt
 use Rattle.vl_model.specs.declared.change.Change.{Change}
 use Rattle.vl_model.specs.declared.span.Span.{Span}
 use Rattle.vl_model.specs.Notes.{is_noted, AreNotesOf}
-use Rattle.vl_conflict.specs.Recent.{is_late, first_late, since, Remembers, noted_all, is_above_floor}
-
-pub as_T : (b : Bool) → b ≡ true → T b
-as_T true is = tt
-as_T false is = cc
-
-pub from_T : (b : Bool) → T b → b ≡ true
-from_T true is = refl
-from_T false is = absurd is
+use Rattle.vl_tree.specs.Notes.{is_above_floor}
+use Rattle.vl_tree.specs.OrderLaws.{as_T, from_T, filter_rises}
+use Rattle.vl_conflict.specs.Recent.{is_late, first_late, since, Remembers, noted_all}
 
 -- lists in order that find the same are the same
 pub same_named : (es fs : List Named) → is_sorted key_cmp es ≡ true → is_sorted key_cmp fs ≡ true → ((q : List ℕ) → find key_cmp q es ≡ find key_cmp q fs) → es ≡ fs
@@ -34,40 +28,6 @@ same_named es fs es_rise fs_rise same =
     sym (entries-from_sorted key_cmp es of_es)
     ∙ ap entries (same_map nat_list_cmp_total (slice_cmp-IsAntisymmetric nat_cmp-IsAntisymmetric) (from_sorted es) (from_sorted fs) (λ q. get-from_sorted key_cmp es q of_es ∙ same q ∙ sym (get-from_sorted key_cmp fs q of_fs)))
     ∙ entries-from_sorted key_cmp fs of_fs
-
--- ---- those that pass a test
-
-pub two_parts : (a b : Bool) → T (a && b) → T a × T b
-two_parts true b both = (tt, both)
-two_parts false b both = absurd both
-
-pub both_parts : (a b : Bool) → T a → T b → T (a && b)
-both_parts true b x y = y
-both_parts false b x y = absurd x
-
-module _ (test : Named → Bool) where
-  below_filtered : (q : List ℕ) (named : List Named) → T (below_all key_cmp q named) → T (below_all key_cmp q (filter test named))
-  below_filtered q [] below = tt
-  below_filtered q (n ∷ ns) below =
-      let parts = two_parts (is_lt (key_cmp q n.0)) (below_all key_cmp q ns) below in
-      let later = below_filtered q ns parts.1 in
-      elim (test n) as (λ b. T (below_all key_cmp q (cond b (n ∷ filter test ns) (filter test ns)))) [
-        | true ↦ both_parts (is_lt (key_cmp q n.0)) (below_all key_cmp q (filter test ns)) parts.0 later
-        | false ↦ later
-      ]
-
-  filter_sorted : (named : List Named) → T (is_sorted key_cmp named) → T (is_sorted key_cmp (filter test named))
-  filter_sorted [] rising = tt
-  filter_sorted (n ∷ ns) rising =
-      let parts = two_parts (below_all key_cmp n.0 ns) (is_sorted key_cmp ns) rising in
-      let later = filter_sorted ns parts.1 in
-      elim (test n) as (λ b. T (is_sorted key_cmp (cond b (n ∷ filter test ns) (filter test ns)))) [
-        | true ↦ both_parts (below_all key_cmp n.0 (filter test ns)) (is_sorted key_cmp (filter test ns)) (below_filtered n.0 ns parts.0) later
-        | false ↦ later
-      ]
-
-  pub filter_rises : (named : List Named) → is_sorted key_cmp named ≡ true → is_sorted key_cmp (filter test named) ≡ true
-  filter_rises named rising = from_T (is_sorted key_cmp (filter test named)) (filter_sorted named (as_T (is_sorted key_cmp named) rising))
 
 -- ---- the floor
 

@@ -1,17 +1,16 @@
 //! Which keys the commits above a floor named, each with the last that did, so that a transaction's reads
 //! can be checked against them.
 //!
-//! They stand in a search tree that is kept balanced, each part of which knows the greatest number in it.
-//! With n keys noted: `check` costs a search for each key that was read and for each interval, of a
-//! logarithm of n comparisons of whole keys, however many keys are noted inside an interval. `note` costs
-//! such a search, moves no other note and wants no memory: `reserve` makes the nodes. `prune` goes through
-//! all n without a comparison. How many commits there were counts nowhere. Keys are shared, never copied.
+//! They stand in a `NumberMap` of `vl_tree`. With n keys noted: `check` costs a search for each key that was
+//! read and for each interval, of a logarithm of n comparisons of whole keys, however many keys are noted
+//! inside an interval. `note` costs such a search, moves no other note and wants no memory: `reserve` makes
+//! the nodes. `prune` goes through all n without a comparison. How many commits there were counts nowhere.
+//! Keys are shared, never copied.
 #![tactic(auto)]
 
 mod laws;
 mod recent;
 mod search;
-mod tree;
 
 pub use laws::{commits_are_remembered, floor_may_rise, nothing_is_remembered_at_first};
 pub use recent::Recent;

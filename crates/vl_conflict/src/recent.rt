@@ -1,33 +1,33 @@
-ghost use Rattle.std.specs.Prelude.{◌≡◌, ◌≤◌, ◌+◌, [], OnOk, OnErr, IfOk, vec_len};
+ghost use Rattle.std.specs.Prelude.{◌≡◌, ◌≤◌, ◌+◌, [], OnOk, OnErr, IfOk};
 ghost use Rattle.std.specs.List.{filter};
 ghost use Rattle.std.specs.FinMap.{put};
 ghost use Rattle.vl_model.specs.Keys.{key_cmp};
-ghost use Rattle.vl_conflict.specs.Recent.{first_late, IsFirstConflict, is_above_floor, StillRemembers};
+ghost use Rattle.vl_tree.specs.Notes.{is_above_floor};
+ghost use Rattle.vl_conflict.specs.Recent.{first_late, IsFirstConflict, StillRemembers};
 
 use crate::search::{first_of_keys, first_of_spans, lesser};
-use crate::tree::{self, Node, Tree};
 use std::alloc::{AllocError, Global};
 use std::marker::Model;
 use vl_model::{Key, Span};
+use vl_tree::NumberMap;
 
 /// The keys that commits above a floor named, each with the number of the last that did.
 #[derive(Drop)]
 pub struct Recent {
-    tree: Tree,
-    // Nodes for keys that are to be noted.
-    spare: Vec<Box<Node>>,
+    notes: NumberMap,
 }
 
 impl Model for Recent {
-    ghost use Rattle.std.specs.Prelude.{vec_len};
-    ghost use Rattle.vl_conflict.specs.Recent.{Kept};
-    ghost use Rattle.vl_conflict.specs.Trees.{named, IsOrdered};
+    ghost use Rattle.std.specs.Prelude.{◌≡◌, true};
+    ghost use Rattle.std.specs.FinMap.{is_sorted};
+    ghost use Rattle.vl_model.specs.Keys.{key_cmp};
+    ghost use Rattle.vl_tree.specs.Notes.{Kept};
 
     ghost Value = { Kept };
 
-    ghost view = { λ a. record { named = named a.tree; room = vec_len a.spare } };
+    ghost view = { λ a. a.notes };
 
-    ghost invariant = { λ a. IsOrdered a.tree };
+    ghost invariant = { λ a. is_sorted key_cmp a.notes.named ≡ true };
 }
 
 impl Recent {
@@ -35,8 +35,7 @@ impl Recent {
         ensures { result.named ≡ [] }
     {
         Recent {
-            tree: Tree::Leaf,
-            spare: Vec::new(alloc),
+            notes: NumberMap::new(alloc),
         }
     }
 
@@ -51,10 +50,10 @@ impl Recent {
         ensures first { IfOk result (λ found. found ≡ first_late number keys.now spans.now self.now.named) }
         ensures conflict { IfOk result (IsFirstConflict self.now.named number keys.now spans.now) }
     {
-        let of_keys = first_of_keys(&self.tree, number, keys);
-        let of_spans = first_of_spans(&self.tree, number, spans);
+        let of_keys = first_of_keys(&self.notes, number, keys);
+        let of_spans = first_of_spans(&self.notes, number, spans);
         match lesser(of_keys, of_spans) {
-            Some(node) => Ok(Some((node.key.share()?, node.number))),
+            Some((key, last)) => Ok(Some((key.share()?, last))),
             None => Ok(None),
         }
     }
@@ -65,12 +64,7 @@ impl Recent {
         ensures room { OnOk result (keys ≤ self.new.room) }
         ensures err { OnErr result (self.new ≡ self.old) }
     {
-        let before = self.spare.len();
-        if let Err(error) = fill(&mut self.spare, keys) {
-            self.spare.truncate(before);
-            return Err(error);
-        }
-        Ok(())
+        self.notes.reserve(keys)
     }
 
     /// Notes a key that a commit names, for which there is room.
@@ -79,9 +73,7 @@ impl Recent {
         ensures named { self.new.named ≡ put key_cmp key number self.old.named }
         ensures room { self.old.room ≤ self.new.room + 1 }
     {
-        let mut node = self.spare.pop().unwrap();
-        *node = Node::alone(key, number);
-        tree::put(&mut self.tree, node);
+        self.notes.insert(key, number);
     }
 
     /// Forgets what no one can ask whose number is at or above the floor.
@@ -90,19 +82,6 @@ impl Recent {
         ensures remembers { StillRemembers floor self.old.named self.new.named }
         ensures room { self.old.room ≤ self.new.room }
     {
-        tree::prune(&mut self.tree, floor);
+        self.notes.retain_above(floor);
     }
-}
-
-// Nodes for so many keys.
-fn fill(spare: &mut Vec<Box<Node>>, keys: usize) -> Result<(), AllocError>
-    ensures kept { vec_len spare.old ≤ vec_len spare.new }
-    ensures room { OnOk result (keys ≤ vec_len spare.new) }
-{
-    let alloc = *spare.allocator();
-    let blank = Key::new(Vec::new(alloc))?;
-    for _ in spare.len()..keys {
-        spare.push(Box::new(alloc, Node::alone(blank.share()?, 0))?)?;
-    }
-    Ok(())
 }

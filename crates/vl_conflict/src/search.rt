@@ -1,49 +1,49 @@
-// The least of what several searches in a tree find.
+// The least of what several searches in a map find.
 ghost use Rattle.std.specs.Prelude.{◌≡◌, true};
 ghost use Rattle.std.specs.Option.{option_copied};
-ghost use Rattle.std.specs.FinMap as map;
+ghost use Rattle.std.specs.FinMap.{is_sorted};
 ghost use Rattle.vl_model.specs.Keys.{key_cmp};
-ghost use Rattle.vl_conflict.specs.Recent.{is_late_within, is_late_at_any, is_late_within_any};
-ghost use Rattle.vl_conflict.specs.Trees.{named, KnowsGreatest, found, first_in, lesser_of};
+ghost use Rattle.vl_tree.specs.Notes.{lent, first_in, is_late_within};
+ghost use Rattle.vl_conflict.specs.Recent.{is_late_at_any, is_late_within_any, lesser_of};
 
-use crate::tree::{Node, Tree, first_late, order};
 use vl_model::{Key, Span};
+use vl_tree::NumberMap;
 
 /// The first of one of the keys with a number above this one.
-pub fn first_of_keys<'a>(tree: &'a Tree, number: u64, keys: &[Key]) -> Option<&'a Node>
-    requires sorted { map.is_sorted key_cmp (named tree.now) ≡ true }
-    requires knows { KnowsGreatest tree.now }
-    ensures { found result ≡ first_in (is_late_at_any number keys.now) (named tree.now) }
+pub fn first_of_keys<'a>(notes: &'a NumberMap, number: u64, keys: &[Key]) -> Option<(&'a Key, u64)>
+    requires { is_sorted key_cmp notes.now.named ≡ true }
+    ensures { lent result ≡ first_in (is_late_at_any number keys.now) notes.now.named }
 {
     let mut first = None;
     for key in keys {
         let key = key.as_slice();
-        first = lesser(first, first_late(tree, number, Some(key), Some(key), true));
+        first = lesser(first, notes.first_late(number, Some(key), Some(key), true));
     }
     first
 }
 
 /// The first in one of the intervals with a number above this one.
-pub fn first_of_spans<'a>(tree: &'a Tree, number: u64, spans: &[Span]) -> Option<&'a Node>
-    requires sorted { map.is_sorted key_cmp (named tree.now) ≡ true }
-    requires knows { KnowsGreatest tree.now }
-    ensures { found result ≡ first_in (is_late_within_any number spans.now) (named tree.now) }
+pub fn first_of_spans<'a>(
+    notes: &'a NumberMap,
+    number: u64,
+    spans: &[Span],
+) -> Option<(&'a Key, u64)>
+    requires { is_sorted key_cmp notes.now.named ≡ true }
+    ensures { lent result ≡ first_in (is_late_within_any number spans.now) notes.now.named }
 {
     let mut first = None;
     for span in spans {
-        first = lesser(first, first_within(tree, number, span));
+        first = lesser(first, first_within(notes, number, span));
     }
     first
 }
 
-fn first_within<'a>(tree: &'a Tree, number: u64, span: &Span) -> Option<&'a Node>
-    requires sorted { map.is_sorted key_cmp (named tree.now) ≡ true }
-    requires knows { KnowsGreatest tree.now }
-    ensures { found result ≡ first_in (is_late_within number span.now) (named tree.now) }
+fn first_within<'a>(notes: &'a NumberMap, number: u64, span: &Span) -> Option<(&'a Key, u64)>
+    ensures { lent result ≡ first_in (is_late_within number span.now) notes.now.named }
 {
     let lo = bound(&span.lo);
     let hi = bound(&span.hi);
-    first_late(tree, number, lo, hi, span.closed)
+    notes.first_late(number, lo, hi, span.closed)
 }
 
 fn bound(key: &Option<Key>) -> Option<&[u8]>
@@ -56,12 +56,18 @@ fn bound(key: &Option<Key>) -> Option<&[u8]>
 }
 
 /// The one of the lesser key.
-pub fn lesser<'a>(a: Option<&'a Node>, b: Option<&'a Node>) -> Option<&'a Node>
-    ensures { found result ≡ lesser_of (found a.entry) (found b.entry) }
+pub fn lesser<'a>(a: Option<(&'a Key, u64)>, b: Option<(&'a Key, u64)>) -> Option<(&'a Key, u64)>
+    ensures { lent result ≡ lesser_of (lent a.entry) (lent b.entry) }
 {
     match (a, b) {
         (None, _) => b,
         (Some(_), None) => a,
-        (Some(x), Some(y)) => { if order(x, y).is_gt() { b } else { a } }
+        (Some((x, _)), Some((y, _))) => {
+            if x.as_slice().cmp(&y.as_slice()).is_gt() {
+                b
+            } else {
+                a
+            }
+        }
     }
 }

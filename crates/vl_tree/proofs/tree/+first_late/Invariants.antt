@@ -1,6 +1,6 @@
 use Rattle.std.proofs.Common.{◌+◌, ◌*◌, max}
-use Rattle.vl_conflict.proofs.tree.Tree.TheLaws.{the_size}
-use Rattle.vl_conflict.proofs.tree.+first_late.Given as goal
+use Rattle.vl_tree.proofs.tree.Tree.TheLaws.{the_size}
+use Rattle.vl_tree.proofs.tree.+first_late.Given as goal
 
 abbrev pub decreases-first_late : goal.decreases-first_late
 decreases-first_late l = 2 * the_size l.tree.now

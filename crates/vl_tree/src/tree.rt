@@ -4,9 +4,9 @@ ghost use Rattle.vl_model.specs.Keys.{key_cmp};
 ghost use Rattle.std.specs.Option.{option_copied};
 ghost use Rattle.std.specs.List.{filter};
 ghost use Rattle.vl_model.specs.Reads.{is_from, is_up_to};
-ghost use Rattle.vl_conflict.specs.Recent.{is_late_within, is_above_floor};
-ghost use Rattle.vl_conflict.specs.Trees.{named, greatest_of, KnowsGreatest, node_named, NodeKnows, HalvesKnow, IsAlone};
-ghost use Rattle.vl_conflict.specs.Trees.{found, first_in, span_of};
+ghost use Rattle.vl_tree.specs.Notes.{first_in, is_late_within, is_above_floor, span_of};
+ghost use Rattle.vl_tree.specs.Trees.{named, greatest_of, KnowsGreatest, node_named, NodeKnows, HalvesKnow, IsAlone};
+ghost use Rattle.vl_tree.specs.Trees.{found};
 
 use std::cmp::Ordering;
 use std::mem;
@@ -222,7 +222,7 @@ fn put_below(top: &mut Node, node: Box<Node>)
     }
 }
 
-pub fn order(a: &Node, b: &Node) -> Ordering
+fn order(a: &Node, b: &Node) -> Ordering
     ensures { result ≡ key_cmp a.now.key b.now.key }
 {
     a.key.as_slice().cmp(&b.key.as_slice())

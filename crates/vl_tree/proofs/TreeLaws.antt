@@ -10,21 +10,16 @@ use Rattle.std.specs.declared.cmp.Ordering.TheVariants.{Less, Equal, Greater}
 use Rattle.std.specs.Ordering.{is_lt, ordering_reverse}
 use Rattle.std.specs.Cmp.Lexicographic.{nat_list_cmp_total}
 use Rattle.std.specs.FinMap.{put, is_sorted}
-use Rattle.std.specs.FinMap.Entries.{below_all, by_order, is_sorted-put}
+use Rattle.std.specs.FinMap.Entries.{below_all, by_order}
 use Rattle.vl_model.specs.Keys.{key_cmp}
 use Rattle.vl_model.specs.Conflicts.{Named, first_of}
 use Rattle.vl_model.specs.Reads.{is_in_span, is_from, is_up_to}
 use Rattle.vl_model.specs.declared.span.Span.{Span}
-use Rattle.vl_conflict.specs.Recent.{is_late_within}
-use Rattle.vl_conflict.specs.RecentLaws.{as_T, from_T, two_parts, both_parts}
-use Rattle.vl_conflict.specs.Trees.{named, greatest_of, KnowsGreatest, node_named, NodeKnows, found_named}
-use Rattle.vl_conflict.specs.declared.tree.Tree.{Tree, Leaf, Fork'}
-use Rattle.vl_conflict.specs.declared.tree.Node.{Node}
-
-lt-is : (r : Ordering) → T (is_lt r) → r ≡ Less
-lt-is Less h = refl
-lt-is Equal h = absurd h
-lt-is Greater h = absurd h
+use Rattle.vl_tree.specs.Notes.{is_late_within}
+use Rattle.vl_tree.specs.OrderLaws.{as_T, from_T, two_parts, both_parts, lt-is, above-all}
+use Rattle.vl_tree.specs.Trees.{named, greatest_of, KnowsGreatest, node_named, NodeKnows, found_named}
+use Rattle.vl_tree.specs.declared.tree.Tree.{Tree, Leaf, Fork'}
+use Rattle.vl_tree.specs.declared.tree.Node.{Node}
 
 -- a list that rises, cut at one of its keys
 pub record IsCut (l : List Named) (x : Named) (r : List Named) : Type 0 where
@@ -32,11 +27,6 @@ pub record IsCut (l : List Named) (x : Named) (r : List Named) : Type 0 where
   pub right : is_sorted key_cmp r ≡ true
   pub before : AllByRecursion (λ (e : Named). key_cmp e.0 x.0 ≡ Less) l
   pub behind : AllByRecursion (λ (e : Named). key_cmp x.0 e.0 ≡ Less) r
-
-pub above-all : (x : Named) (es : List Named) → T (below_all key_cmp x.0 es) → AllByRecursion (λ (e : Named). key_cmp x.0 e.0 ≡ Less) es
-above-all x [] below = tt
-above-all x (e ∷ es) below =
-    let parts = two_parts (is_lt (key_cmp x.0 e.0)) (below_all key_cmp x.0 es) below in (lt-is (key_cmp x.0 e.0) parts.0, above-all x es parts.1)
 
 -- what is below all of a list is below those in front of a key, and below the key
 below-parts : (q : List ℕ) (l : List Named) (x : Named) (r : List Named) → T (below_all key_cmp q (l ++ x ∷ r)) → T (below_all key_cmp q l) × (key_cmp q x.0 ≡ Less)
@@ -286,6 +276,3 @@ module _ (number : ℕ) (span : Span) (n : Node) where
 pub some-copied : {X : Type 0} (r : Option (Bor X)) → is_some (option_copied r) ≡ is_some r
 some-copied None = refl
 some-copied (Some x) = refl
-
-pub put_rising : (list : List Named) (key : List ℕ) (number : ℕ) → is_sorted key_cmp list ≡ true → is_sorted key_cmp (put key_cmp key number list) ≡ true
-put_rising list key number sorted = from_T _ (is_sorted-put key_cmp nat_list_cmp_total key number list (as_T (is_sorted key_cmp list) sorted))

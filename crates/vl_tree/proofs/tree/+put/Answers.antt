@@ -1,9 +1,9 @@
 use Rattle.std.proofs.Common.{◌++◌, ◌∷◌, ap, sym, ◌∙◌, rules}
 use Rattle.vl_model.specs.Keys.{key_cmp}
-use Rattle.vl_conflict.specs.Trees.{named}
-use Rattle.vl_conflict.specs.declared.tree.Node.{Node}
-use Rattle.vl_conflict.proofs.TreeLaws.{is_cut, put-left, put-right, put-here, left_sorted, right_sorted}
-use Rattle.vl_conflict.proofs.tree.+put.Goals as goal
+use Rattle.vl_tree.specs.Trees.{named}
+use Rattle.vl_tree.specs.declared.tree.Node.{Node}
+use Rattle.vl_tree.proofs.TreeLaws.{is_cut, put-left, put-right, put-here, left_sorted, right_sorted}
+use Rattle.vl_tree.proofs.tree.+put.Goals as goal
 
 pub put_below-put-requires : goal.put_below-put-requires
 put_below-put-requires t c = (search rules, (left_sorted c.args.top.now c.requires.sorted, (c.requires.knows.0, c.requires.alone)))

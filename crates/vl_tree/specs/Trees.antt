@@ -1,15 +1,12 @@
 -- What a tree of notes has, in rising order of keys, and what it keeps to find the late ones.
 use Rattle.std.proofs.Common.{Bor}
-use Rattle.std.specs.Prelude.{◌≡◌, ℕ, max, Bool, true, if◌then◌else◌, List, [], ◌∷◌, ◌++◌, Option, Some, None}
-use Rattle.std.specs.List.{filter}
+use Rattle.std.specs.Prelude.{◌≡◌, ℕ, max, true, List, [], ◌∷◌, ◌++◌, Option, Some, None}
 use Rattle.std.specs.Option.{option_copied}
 use Rattle.std.specs.FinMap.{is_sorted}
-use Rattle.std.specs.Ordering.{is_gt}
 use Rattle.vl_model.specs.Keys.{key_cmp}
-use Rattle.vl_model.specs.Conflicts.{Named, first_of}
-use Rattle.vl_model.specs.declared.span.Span.{Span}
-use Rattle.vl_conflict.specs.declared.tree.Tree.{Tree, Leaf, Fork'}
-use Rattle.vl_conflict.specs.declared.tree.Node.{Node}
+use Rattle.vl_model.specs.Conflicts.{Named}
+use Rattle.vl_tree.specs.declared.tree.Tree.{Tree, Leaf, Fork'}
+use Rattle.vl_tree.specs.declared.tree.Node.{Node}
 
 -- its keys, each with its number
 abbrev pub named : Tree → List Named
@@ -51,20 +48,6 @@ found_named (Some n) = Some (n.key, n.number)
 
 abbrev pub found : Option (Bor Node) → Option Named
 found node = found_named (option_copied node)
-
--- the first note that passes a test
-abbrev pub first_in : (Named → Bool) → List Named → Option Named
-first_in test es = first_of (filter test es)
-
--- an interval by its bounds
-abbrev pub span_of : Option (List ℕ) → Option (List ℕ) → Bool → Span
-span_of lo hi closed = record { lo = lo; hi = hi; closed = closed }
-
--- the one of the lesser key
-abbrev pub lesser_of : Option Named → Option Named → Option Named
-lesser_of None other = other
-lesser_of (Some e) None = Some e
-lesser_of (Some e) (Some f) = if is_gt (key_cmp e.0 f.0) then Some f else Some e
 
 -- a search tree that may be asked
 pub record IsOrdered (tree : Tree) : Type 0 where

@@ -1,6 +1,6 @@
 use Rattle.std.proofs.Common.{◌+◌, ◌*◌, max}
-use Rattle.vl_conflict.proofs.tree.Tree.TheLaws.{the_size}
-use Rattle.vl_conflict.proofs.tree.+put.Given as goal
+use Rattle.vl_tree.proofs.tree.Tree.TheLaws.{the_size}
+use Rattle.vl_tree.proofs.tree.+put.Given as goal
 
 abbrev pub decreases-put : goal.decreases-put
 decreases-put l = 2 * the_size l.tree.now

@@ -1,9 +1,9 @@
 use Rattle.std.proofs.Common.{ap, sym, ◌∙◌, arith, rules}
 use Rattle.std.specs.Option.{option_copied}
 use Rattle.vl_model.specs.Reads.{is_from, is_up_to}
-use Rattle.vl_conflict.specs.Trees.{span_of}
-use Rattle.vl_conflict.proofs.TreeLaws.{left_sorted, right_sorted, node-pruned, node-right, node-left, node-before, node-here, node-behind, some-copied}
-use Rattle.vl_conflict.proofs.tree.+first_late.Goals as goal
+use Rattle.vl_tree.specs.Notes.{span_of}
+use Rattle.vl_tree.proofs.TreeLaws.{left_sorted, right_sorted, node-pruned, node-right, node-left, node-before, node-here, node-behind, some-copied}
+use Rattle.vl_tree.proofs.tree.+first_late.Goals as goal
 
 pub first_late_below-returns-then-node-number : goal.first_late_below-returns-then-node-number
 first_late_below-returns-then-node-number t c =
