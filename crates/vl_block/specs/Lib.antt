@@ -1,2 +1,6 @@
+pub mod BlockLaws
+pub mod Blocks
 pub mod Entries
 pub mod EntryLaws
+pub mod ListLaws
+pub mod Lists

@@ -5,6 +5,7 @@
 //! there; only what is handed out on its own is copied.
 #![tactic(auto)]
 
+mod block;
 mod entry;
 mod entry_ref;
 mod keys;
@@ -12,6 +13,7 @@ mod numbers;
 mod pointers;
 mod taking;
 
+pub use block::{block_entries, is_block, read_block};
 pub use entry::write_entry;
 pub use entry_ref::{BodyRef, EntryRef};
 pub use keys::{take_key, write_key};

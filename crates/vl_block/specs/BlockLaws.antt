@@ -1,0 +1,13 @@
+-- A block's body spells one list of entries at most, and has no item without bytes.
+use Rattle.std.specs.Prelude.{◌≡◌, ◌≤◌, ℕ, List, length}
+use Rattle.std.proofs.Common.{arith}
+use Rattle.vl_model.specs.declared.entry.Entry.{Entry}
+use Rattle.vl_block.specs.Blocks.{entries, SpellsBlock}
+use Rattle.vl_block.specs.Entries.{entry_bytes}
+use Rattle.vl_block.specs.ListLaws.{one_list}
+
+pub entry_is_some : (e : Entry) → 1 ≤ length (entry_bytes e)
+entry_is_some e = omega arith
+
+pub one_block : (body : List ℕ) (es fs : List Entry) → SpellsBlock body es → SpellsBlock body fs → es ≡ fs
+one_block body es fs p q = one_list entries body es fs p.lawful q.lawful p.spelled q.spelled
