@@ -2,5 +2,9 @@ pub mod BlockLaws
 pub mod Blocks
 pub mod Entries
 pub mod EntryLaws
+pub mod Footer
+pub mod FooterLaws
+pub mod Index
 pub mod ListLaws
 pub mod Lists
+pub mod Writing

@@ -1,5 +1,5 @@
 -- Items are taken from the left, one after the other, and in one way.
-use Rattle.std.specs.Prelude.{◌≡◌, ◌<◌, ◌≤◌, ◌+◌, ◌^◌, ℕ, List, [], ◌∷◌, ◌++◌, length, Option, Some, None, refl}
+use Rattle.std.specs.Prelude.{◌≡◌, ◌<◌, ◌≤◌, ◌+◌, ◌^◌, ℕ, List, [], ◌∷◌, ◌++◌, length, get_or, suc, ◌-◌, Option, Some, None, refl}
 use Rattle.std.specs.List.{AllByRecursion}
 use Rattle.std.proofs.Common.{sym, ap, subst, ◌∙◌, append_assoc, length-append, append-nil, arith}
 use Rattle.byteorder.specs.Endian.{big_bytes}
@@ -17,6 +17,14 @@ module _ {Item : Type 0} where
   last-push [] a = refl
   last-push (b ∷ []) a = refl
   last-push (b ∷ c ∷ items) a = last-push (c ∷ items) a
+
+  pub last-of : (items : List Item) (d : Item) → 0 < length items → last_item items ≡ Some (get_or items (length items - 1) d)
+  last-of [] d some = absurd (omega arith)
+  last-of (a ∷ []) d some = refl
+  last-of (a ∷ b ∷ items) d some = last-of (b ∷ items) d (omega arith) ∙ ap (λ (n : ℕ). Some (get_or (a ∷ b ∷ items) n d)) (one_less (length items))
+    where
+      one_less : (n : ℕ) → suc (suc n - 1) ≡ suc (suc n) - 1
+      one_less n = omega arith
 
   pub push-assoc : (items : List Item) (a : Item) (others : List Item) → (items ++ a ∷ []) ++ others ≡ items ++ a ∷ others
   push-assoc items a others = append_assoc items (a ∷ []) others

@@ -6,15 +6,23 @@
 #![tactic(auto)]
 
 mod block;
+mod block_writer;
 mod entry;
 mod entry_ref;
+mod footer;
+mod footer_head;
+mod index;
 mod keys;
 mod numbers;
 mod pointers;
+mod points;
 mod taking;
 
 pub use block::{block_entries, is_block, read_block};
+pub use block_writer::BlockWriter;
 pub use entry::write_entry;
 pub use entry_ref::{BodyRef, EntryRef};
-pub use keys::{take_key, write_key};
+pub use footer::{Footer, read_footer, write_footer};
+pub use index::{BlockPlace, read_index, write_index};
+pub use points::Point;
 pub use taking::take_entry;
