@@ -1,12 +1,13 @@
 -- What is kept of the commits above a floor, and which of it conflicts with reads.
-use Rattle.std.specs.Prelude.{◌≡◌, ◌≤◌, ℕ, ◌+◌, Bool, true, false, not, ◌&&◌, ◌||◌, nat_lt, if◌then◌else◌, List, [], ◌∷◌, Option, Some, None}
+use Rattle.std.specs.Prelude.{◌≡◌, ◌≤◌, ℕ, ◌+◌, Bool, true, false, not, ◌&&◌, nat_lt, if◌then◌else◌, List, [], ◌∷◌, Option, Some, None}
 use Rattle.std.specs.FinMap.{find, put, is_sorted}
 use Rattle.std.specs.List.{filter, list_any}
 use Rattle.std.specs.List.Sorted.{IsPartitionPoint}
 use Rattle.std.specs.Ordering.{eq_by_cmp, is_gt}
 use Rattle.vl_model.specs.Keys.{key_cmp}
 use Rattle.vl_model.specs.History.{History, last_naming}
-use Rattle.vl_model.specs.Reads.{Read, is_in_span, is_read, is_from, is_up_to}
+use Rattle.vl_model.specs.Notes.{is_noted, AreNotesOf}
+use Rattle.vl_model.specs.Reads.{Read, is_in_span, is_from, is_up_to}
 use Rattle.vl_model.specs.Conflicts.{Named, first_of, first_conflict}
 use Rattle.vl_model.specs.declared.change.Change.{Change}
 use Rattle.vl_model.specs.declared.span.Span.{Span}
@@ -18,15 +19,6 @@ pub record Kept : Type 0 where
   pub room : ℕ
 
 -- ---- reads
-
--- whether a key is among those that were read, or lies in an interval that was
-abbrev pub is_noted : List (List ℕ) → List Span → List ℕ → Bool
-is_noted keys spans key =
-    list_any (eq_by_cmp key_cmp key) keys || list_any (λ span. is_in_span span key) spans
-
--- the keys and the intervals are those of the reads: they cover the same keys
-abbrev pub AreNotesOf : List Read → List (List ℕ) → List Span → Type 0
-AreNotesOf reads keys spans = (key : List ℕ) → is_noted keys spans key ≡ is_read reads key
 
 -- a key that was read, and that a commit above the number names
 abbrev pub is_late : ℕ → List (List ℕ) → List Span → Named → Bool

@@ -15,7 +15,8 @@ use Rattle.vl_model.specs.Conflicts.{Named, passing, overwritten, first_of, firs
 use Rattle.vl_model.specs.ConflictLaws.{find-filter, find-overwritten, overwritten-rises}
 use Rattle.vl_model.specs.declared.change.Change.{Change}
 use Rattle.vl_model.specs.declared.span.Span.{Span}
-use Rattle.vl_conflict.specs.Recent.{is_noted, AreNotesOf, is_late, first_late, since, Remembers, noted_all, is_above_floor}
+use Rattle.vl_model.specs.Notes.{is_noted, AreNotesOf}
+use Rattle.vl_conflict.specs.Recent.{is_late, first_late, since, Remembers, noted_all, is_above_floor}
 
 pub as_T : (b : Bool) → b ≡ true → T b
 as_T true is = tt

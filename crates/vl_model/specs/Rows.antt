@@ -1,12 +1,15 @@
--- Worked rows of scans and conflicts, which hold by computing.
-use Rattle.std.proofs.Common.{◌≡◌, ℕ, List, [], ◌∷◌, map, refl, ap}
+-- Worked rows of scans, conflicts and placing, which hold by computing.
+use Rattle.std.proofs.Common.{◌≡◌, ℕ, List, [], ◌∷◌, map, replicate, refl, ap}
 use Rattle.std.specs.Prelude.{true, false, Option, Some, None}
 use Rattle.std.specs.FinMap.{empty, from_sorted, entries-from_sorted}
 use Rattle.vl_model.specs.Keys.{Row, key_cmp}
 use Rattle.vl_model.specs.Reads.{Scan, Read, KeyRead, RangeRead, scanned, covered, is_in_span}
 use Rattle.vl_model.specs.Conflicts.{Named, named_from, is_overwritten, first_of, first_conflict}
+use Rattle.vl_model.specs.Placement.{is_body_placed}
 use Rattle.vl_model.specs.declared.change.Change.{Change}
 use Rattle.vl_model.specs.declared.change.Change.TheVariants.{Set, Delete}
+use Rattle.vl_model.specs.declared.entry.Body.{Body}
+use Rattle.vl_model.specs.declared.entry.Body.TheVariants.{Inline, Far}
 use Rattle.vl_model.specs.declared.way.Way.{Way}
 use Rattle.vl_model.specs.declared.way.Way.TheVariants.{Up, Down}
 use Rattle.std.specs.List.{filter}
@@ -106,3 +109,20 @@ key_read_in_history : first_conflict (record { first = 0; base = empty; commits 
     Some (0x61 ∷ [], 1)
 key_read_in_history =
     ap (λ (writes : List (List ℕ × Change)). conflict_in (writes ∷ []) 0 (KeyRead (0x61 ∷ []) None ∷ [])) (entries-from_sorted key_cmp write_61 tt)
+
+-- ---- placing: the key 61 has one byte, so the record of a value of 64 bytes takes 72
+
+abbrev far_of : ℕ → Body
+far_of length = Far (record { segment = 1; place = 16; length = length })
+
+short_is_inline : is_body_placed (0x61 ∷ []) (Inline (replicate 64 0)) ≡ true
+short_is_inline = refl
+
+long_is_not_inline : is_body_placed (0x61 ∷ []) (Inline (replicate 65 0)) ≡ false
+long_is_not_inline = refl
+
+long_is_far : is_body_placed (0x61 ∷ []) (far_of 73) ≡ true
+long_is_far = refl
+
+short_is_not_far : is_body_placed (0x61 ∷ []) (far_of 72) ≡ false
+short_is_not_far = refl

@@ -1,6 +1,6 @@
-ghost use Rattle.std.specs.Prelude.{◌≡◌, ◌≤◌, ◌<◌, ℕ, Bool, List, Option, IfOk, IfErr, OnErr, MatchResult, IsSome};
+ghost use Rattle.std.specs.Prelude.{◌≤◌, ℕ, Bool, List, Option, IfOk, IfErr, OnErr, MatchResult};
 ghost use Rattle.vl_model.specs.declared.entry.Entry.{Entry};
-ghost use Rattle.vl_model.specs.Cursors.{Gives, HasRisen};
+ghost use Rattle.vl_model.specs.Cursors.{Gives, Keeps, Spends, HasRisen};
 
 use crate::Entry;
 
@@ -23,9 +23,8 @@ pub trait Cursor {
     /// The next entry; `None` where none is left. After a fault the same ones are left.
     fn next(&mut self) -> Result<Option<Entry>, Self::Fault>
         ensures given { IfOk result (λ next. Gives (left self.old) (left self.new) next) }
-        ensures kept { OnErr result (left self.new ≡ left self.old) }
-        ensures spends { MatchResult result
-            (λ next. IsSome next → budget self.new < budget self.old)
+        ensures kept { OnErr result (Keeps (left self.old) (left self.new)) }
+        ensures spends { MatchResult result (Spends (budget self.old) (budget self.new))
             (λ _. budget self.new ≤ budget self.old) }
         ensures counts { faults self.old ≤ faults self.new }
         ensures failed { IfErr result (λ fault. HasRisen (is_read_fault fault) (faults self.old) (faults self.new)) };

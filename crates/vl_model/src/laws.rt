@@ -1,11 +1,12 @@
 // Laws of the definitions: each is the contract of a function that does nothing.
-ghost use Rattle.std.specs.Prelude.{◌≡◌, ◌≤◌, ◌+◌, ◌++◌, ℕ, List, None, IsTrue};
+ghost use Rattle.std.specs.Prelude.{◌≡◌, ◌≤◌, ◌+◌, ◌++◌, ℕ, true, List, None, IsTrue};
 ghost use Rattle.std.specs.List.{filter};
 ghost use Rattle.std.specs.FinMap.{get, find, is_sorted};
 ghost use Rattle.std.specs.Ordering.{eq_by_cmp};
 ghost use Rattle.vl_model.specs.Conflicts.{overwritten, is_overwritten, passing, first_conflict};
 ghost use Rattle.vl_model.specs.Entries.{in_order};
 ghost use Rattle.vl_model.specs.Keys.{Writes, key_cmp};
+ghost use Rattle.vl_model.specs.Placement.{placed, is_placed, IsLogged};
 ghost use Rattle.vl_model.specs.Reads.{Read, IsExplained};
 ghost use Rattle.vl_model.specs.Winners.{winner, newest_of};
 ghost use Rattle.vl_model.specs.declared.entry.Entry.{Entry};
@@ -73,6 +74,11 @@ pub fn winners_of_a_key()
         → winner (filter (λ (e : Entry). eq_by_cmp key_cmp key e.key) es) key n ≡ winner es key n }
     ensures order { (es : List Entry) (key : List ℕ) (n : ℕ)
         → winner (in_order es) key n ≡ winner es key n }
+{}
+
+/// What a flush makes of a memtable's entries may stand in a table.
+pub fn placed_entries_may_stand_in_tables()
+    ensures { (e : Entry) → IsLogged e → is_placed (placed e) ≡ true }
 {}
 
 /// The constants are the limits that the definitions have.

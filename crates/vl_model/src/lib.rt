@@ -22,9 +22,9 @@ pub use cursor::Cursor;
 pub use entry::{Body, Entry};
 pub use laws::{
     constants_are_the_limits, contents_agree_with_values,
-    overwritten_keys_are_read_and_named_later, reads_without_conflict_stay_explained,
-    value_after_one_more_commit, value_without_commits, values_stay, winners_of_a_key,
-    winners_of_parts,
+    overwritten_keys_are_read_and_named_later, placed_entries_may_stand_in_tables,
+    reads_without_conflict_stay_explained, value_after_one_more_commit, value_without_commits,
+    values_stay, winners_of_a_key, winners_of_parts,
 };
 pub use lengths::{is_key_len, is_value_len};
 pub use limits::{

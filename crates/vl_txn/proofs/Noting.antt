@@ -7,11 +7,12 @@ use Rattle.std.specs.FinMap.{get}
 use Rattle.std.specs.List.{list_any}
 use Rattle.std.specs.Ordering.{eq_by_cmp}
 use Rattle.vl_model.specs.Keys.{Stored, Row, Writes, key_cmp}
+use Rattle.vl_model.specs.Notes.{is_noted, AreNotesOf}
 use Rattle.vl_model.specs.Reads.{Read, KeyRead, RangeRead, Scan, covered, covered_to, last_key, is_in_span, is_read_by}
 use Rattle.vl_model.specs.declared.change.Change.{Change}
 use Rattle.vl_model.specs.declared.way.Way.{Way}
 use Rattle.vl_model.specs.declared.way.Way.TheVariants.{Up, Down}
-use Rattle.vl_txn.specs.Reads.{Notes, with_key, after_get, scan_of, is_noted, AreNotesOf, NotesGet, NotesScan, AddsSpan, covered_up_to}
+use Rattle.vl_txn.specs.Reads.{Notes, with_key, after_get, scan_of, NotesGet, NotesScan, AddsSpan, covered_up_to}
 
 any-append : {X : Type 0} (test : X → Bool) (xs : List X) (y : X) → list_any test (xs ++ (y ∷ [])) ≡ (list_any test xs || test y)
 any-append test [] y = or_false (test y)
@@ -36,7 +37,8 @@ span_behind : (k s n : Bool) → (k || (s || n)) ≡ ((k || s) || n)
 span_behind true s n = refl
 span_behind false s n = refl
 
-key_noted : (notes : Notes) (key : List ℕ) (reads : List Read) (answer : Option Stored) → AreNotesOf reads notes → AreNotesOf (reads ++ (KeyRead key answer ∷ [])) (with_key notes key)
+key_noted : (notes : Notes) (key : List ℕ) (reads : List Read) (answer : Option Stored) → AreNotesOf reads notes.keys notes.spans
+    → AreNotesOf (reads ++ (KeyRead key answer ∷ [])) (with_key notes key).keys (with_key notes key).spans
 key_noted notes key reads answer are q =
     ap (λ b. b || list_any (λ span. is_in_span span q) notes.spans) (any-append (eq_by_cmp key_cmp q) notes.keys key)
     ∙ key_between (list_any (eq_by_cmp key_cmp q) notes.keys) (list_any (λ span. is_in_span span q) notes.spans) (eq_by_cmp key_cmp q key)
@@ -55,7 +57,7 @@ span_noted scan notes new adds reads own are q =
 pub get_noted : (own : Writes) (key : List ℕ) (old new : Notes) → new ≡ after_get own key old → NotesGet own key old new
 get_noted own key old new is reads answer are = by_test (is_some (get own key)) is
   where
-    by_test : (b : Bool) → new ≡ cond b old (with_key old key) → AreNotesOf (cond b reads (reads ++ (KeyRead key answer ∷ []))) new
+    by_test : (b : Bool) → new ≡ cond b old (with_key old key) → AreNotesOf (cond b reads (reads ++ (KeyRead key answer ∷ []))) new.keys new.spans
     by_test true same q = ap (λ (n : Notes). is_noted n.keys n.spans q) same ∙ are q
     by_test false same q = ap (λ (n : Notes). is_noted n.keys n.spans q) same ∙ key_noted old key reads answer are q
 

@@ -1,10 +1,9 @@
 -- What a transaction has noted of its reads, and of which reads it is the note.
-use Rattle.std.specs.Prelude.{◌≡◌, ℕ, Bool, true, false, ◌||◌, ◌++◌, if◌then◌else◌, is_some, List, [], ◌∷◌, Option, Some, None}
+use Rattle.std.specs.Prelude.{◌≡◌, ℕ, true, false, ◌++◌, if◌then◌else◌, is_some, List, [], ◌∷◌, Option, Some, None}
 use Rattle.std.specs.FinMap.{get}
-use Rattle.std.specs.List.{list_any}
-use Rattle.std.specs.Ordering.{eq_by_cmp}
-use Rattle.vl_model.specs.Keys.{Stored, Row, Writes, key_cmp}
-use Rattle.vl_model.specs.Reads.{Read, KeyRead, RangeRead, Scan, bound, covered, is_in_span, is_read}
+use Rattle.vl_model.specs.Keys.{Stored, Row, Writes}
+use Rattle.vl_model.specs.Notes.{AreNotesOf}
+use Rattle.vl_model.specs.Reads.{Read, KeyRead, RangeRead, Scan, bound, covered}
 use Rattle.vl_model.specs.declared.span.Span.{Span}
 use Rattle.vl_model.specs.declared.way.Way.{Way}
 use Rattle.vl_model.specs.declared.way.Way.TheVariants.{Up, Down}
@@ -32,15 +31,6 @@ abbrev pub scan_of : List ℕ → List ℕ → ℕ → Way → List Row → Writ
 scan_of low high limit way rows own =
     record { low = low; high = high; limit = limit; way = way; own = own; rows = rows }
 
--- whether a key was read, or lies in an interval that was scanned
-abbrev pub is_noted : List (List ℕ) → List Span → List ℕ → Bool
-is_noted keys spans key =
-    list_any (eq_by_cmp key_cmp key) keys || list_any (λ span. is_in_span span key) spans
-
--- the notes are those of the reads: they cover the same keys
-abbrev pub AreNotesOf : List Read → Notes → Type 0
-AreNotesOf reads notes = (key : List ℕ) → is_noted notes.keys notes.spans key ≡ is_read reads key
-
 -- the reads with one more, that of a get; one of an own write is none
 abbrev pub with_get : Writes → List Read → List ℕ → Option Stored → List Read
 with_get own reads key answer = if is_some (get own key) then reads else reads ++ KeyRead key answer ∷ []
@@ -51,12 +41,14 @@ with_scan reads scan = reads ++ RangeRead scan ∷ []
 -- whatever the notes are of, after a get they are of that too
 abbrev pub NotesGet : Writes → List ℕ → Notes → Notes → Type 0
 NotesGet own key old new =
-    (reads : List Read) (answer : Option Stored) → AreNotesOf reads old → AreNotesOf (with_get own reads key answer) new
+    (reads : List Read) (answer : Option Stored) → AreNotesOf reads old.keys old.spans
+    → AreNotesOf (with_get own reads key answer) new.keys new.spans
 
 -- and after a scan of that
 abbrev pub NotesScan : (Writes → Scan) → Notes → Notes → Type 0
 NotesScan scan old new =
-    (reads : List Read) (own : Writes) → AreNotesOf reads old → AreNotesOf (with_scan reads (scan own)) new
+    (reads : List Read) (own : Writes) → AreNotesOf reads old.keys old.spans
+    → AreNotesOf (with_scan reads (scan own)) new.keys new.spans
 
 -- the notes with what a scan covers, whatever its own writes
 abbrev pub AddsSpan : (Writes → Scan) → Notes → Notes → Type 0

@@ -1,7 +1,8 @@
 ghost use Rattle.std.specs.Prelude.{◌≡◌, [], OnOk, OnErr, IfOk};
 ghost use Rattle.std.specs.Option.{option_copied};
+ghost use Rattle.vl_model.specs.Notes.{AreNotesOf};
 ghost use Rattle.vl_model.specs.Reads.{bound};
-ghost use Rattle.vl_txn.specs.Reads.{no_notes, after_get, scan_of, AreNotesOf, NotesGet, NotesScan, AddsSpan, covered_up_to};
+ghost use Rattle.vl_txn.specs.Reads.{no_notes, after_get, scan_of, NotesGet, NotesScan, AddsSpan, covered_up_to};
 
 use crate::Writes;
 use std::alloc::{AllocError, Global};
@@ -26,7 +27,7 @@ impl Model for Reads {
 impl Reads {
     pub fn new(alloc: Global) -> Self
         ensures notes { result ≡ no_notes }
-        ensures of_none { AreNotesOf [] result }
+        ensures of_none { AreNotesOf [] result.keys result.spans }
     {
         Reads {
             keys: Vec::new(alloc),

@@ -1,0 +1,5 @@
+use Rattle.vl_model.specs.PlacementLaws.{placed-placed}
+use Rattle.vl_model.proofs.laws.placed_entries_may_stand_in_tables.Goals as goal
+
+pub returns : goal.returns
+returns c = placed-placed
