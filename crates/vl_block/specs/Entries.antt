@@ -1,8 +1,8 @@
 -- How the entries of a table are spelled, and which may stand there.
-use Rattle.std.specs.Prelude.{◌≡◌, ◌<◌, ◌^◌, ℕ, true, List, [], ◌∷◌, ◌++◌, length}
+use Rattle.std.specs.Prelude.{◌≡◌, ◌<◌, ◌≤◌, ◌^◌, ℕ, true, List, [], ◌∷◌, ◌++◌, length}
 use Rattle.byteorder.specs.Endian.{big_bytes}
 use Rattle.vl_model.specs.Keys.{is_key_length}
-use Rattle.vl_model.specs.Placement.{is_placed}
+use Rattle.vl_model.specs.Limits.{max_inline_bytes}
 use Rattle.vl_model.specs.declared.entry.Entry.{Entry}
 use Rattle.vl_model.specs.declared.entry.Body.{Body}
 use Rattle.vl_model.specs.declared.entry.Body.TheVariants.{Inline, Gone, Far, Logged}
@@ -40,17 +40,12 @@ body_bytes (Logged value pointer) = 3 ∷ []
 abbrev pub entry_bytes : Entry → List ℕ
 entry_bytes e = key_bytes e.key ++ (big_bytes 8 e.version ++ body_bytes e.body)
 
--- a pointer's numbers fit their bytes
-abbrev pub HasFits : Body → Type 0
-HasFits (Inline value) = Unit {0}
-HasFits Gone = Unit {0}
-HasFits (Far pointer) = IsPointer pointer
-HasFits (Logged value pointer) = Unit {0}
-
--- a body that a table may have: a value of at most 64 bytes, a deletion, or a pointer
-pub record IsBody (body : Body) : Type 0 where
-  pub placed : is_placed body ≡ true
-  pub fits : HasFits body
+-- a body that a table may have: a value of at most 64 bytes, a deletion, or a pointer whose numbers fit their bytes
+abbrev pub IsBody : Body → Type 0
+IsBody (Inline value) = length value ≤ max_inline_bytes
+IsBody Gone = Unit {0}
+IsBody (Far pointer) = IsPointer pointer
+IsBody (Logged value pointer) = ⊥
 
 -- an entry that a table may have
 pub record IsEntry (e : Entry) : Type 0 where

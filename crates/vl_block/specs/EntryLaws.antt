@@ -48,12 +48,12 @@ pub one_body : (a b : Body) (x y : List ℕ) → IsBody a → IsBody b → body_
 one_body (Inline v) (Inline w) x y i j e =
     let one = one_inline v w x y (rest_bytes 0 0 _ _ e) in (ap Inline one.0, one.1)
 one_body (Far p) (Far q) x y i j e =
-    let one = one_pointer p q x y i.fits j.fits (rest_bytes 2 2 _ _ e) in (ap Far one.0, one.1)
+    let one = one_pointer p q x y i j (rest_bytes 2 2 _ _ e) in (ap Far one.0, one.1)
 one_body Gone Gone x y i j e = (refl, rest_bytes 1 1 x y e)
-one_body (Logged v p) b x y i j e = let no = i.placed in absurd cc
-one_body (Inline v) (Logged w q) x y i j e = let no = j.placed in absurd cc
-one_body Gone (Logged w q) x y i j e = let no = j.placed in absurd cc
-one_body (Far p) (Logged w q) x y i j e = let no = j.placed in absurd cc
+one_body (Logged v p) b x y i j e = absurd i
+one_body (Inline v) (Logged w q) x y i j e = absurd j
+one_body Gone (Logged w q) x y i j e = absurd j
+one_body (Far p) (Logged w q) x y i j e = absurd j
 one_body (Inline v) Gone x y i j e = let no = first_byte 0 1 _ _ e in absurd (omega (arith, no))
 one_body (Inline v) (Far q) x y i j e = let no = first_byte 0 2 _ _ e in absurd (omega (arith, no))
 one_body Gone (Inline w) x y i j e = let no = first_byte 1 0 _ _ e in absurd (omega (arith, no))
