@@ -1,2 +1,4 @@
 pub mod Bytes
+pub mod Lengths
 pub mod Lookups
+pub mod Places
