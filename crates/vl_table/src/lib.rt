@@ -1,6 +1,11 @@
 //! Tables: entries in order, in a file that never changes. docs/FORMATS.md has their bytes.
 #![tactic(auto)]
 
+mod blocks_writer;
 mod fault;
+mod points;
+mod summary;
+mod writer;
 
 pub use fault::TableFault;
+pub use writer::TableWriter;
