@@ -1,4 +1,5 @@
 pub mod Bytes
+pub mod Finished
 pub mod Lengths
 pub mod Lookups
 pub mod Places

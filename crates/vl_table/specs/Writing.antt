@@ -1,5 +1,5 @@
 -- What a table that is being written has.
-use Rattle.std.specs.Prelude.{◌≤◌, ◌≡◌, ℕ, ◌+◌, map, List, ◌++◌, length}
+use Rattle.std.specs.Prelude.{◌∷◌, [], ◌≤◌, ◌≡◌, ℕ, ◌+◌, map, List, ◌++◌, length}
 use Rattle.std.specs.List.{sum_by, AllByRecursion}
 use Rattle.vl_model.specs.declared.entry.Entry.{Entry}
 use Rattle.vl_layout.specs.Tables.{block_frame_length, blocks, blocks_from, first_key, last_key, points_of}
@@ -39,8 +39,19 @@ pub record IsWriting (w : TableWriter) (number : ℕ) (es : List Entry) (given :
   -- whatever comes, this is how it is cut
   pub cut : (later : List Entry) → blocks (es ++ later) ≡ closed ++ blocks_from open_block (length (block_body open_block)) later
 
--- what is given out next lies behind what was
-pub record GivesOut (old new given more : List ℕ) : Type 0 where
-  pub piece : List ℕ
-  pub appended : new ≡ old ++ piece
-  pub behind : more ≡ given ++ piece
+-- The same, and the open block has room for this entry, or no entry yet.
+pub record HasRoom (w : TableWriter) (number : ℕ) (es : List Entry) (given : List ℕ) (e : Entry) : Type 0 where
+  pub some : 1 ≤ length es
+  pub closed : List (List Entry)
+  pub open_block : List Entry
+  pub numbered : w.blocks.number ≡ number
+  pub has : HasBlocks w.blocks closed open_block
+  pub sums : Sums w.summary es
+  pub each : AllByRecursion IsEntry es
+  pub given_out : given ≡ table_header number ++ blocks_bytes number 16 closed
+  pub cut : (later : List Entry) → blocks (es ++ e ∷ later)
+      ≡ closed ++ blocks_from (open_block ++ e ∷ []) (length (block_body (open_block ++ e ∷ []))) later
+
+-- a piece was appended, of which this holds
+abbrev pub Appended : List ℕ → List ℕ → (List ℕ → Type 0) → Type 0
+Appended old new P = (piece : List ℕ) × (new ≡ old ++ piece) × P piece

@@ -3,9 +3,11 @@
 
 mod blocks_writer;
 mod fault;
+mod format;
 mod points;
 mod summary;
 mod writer;
 
 pub use fault::TableFault;
+pub use format::TABLE_FORMAT;
 pub use writer::TableWriter;
