@@ -5,6 +5,7 @@ mod blocks_writer;
 mod fault;
 mod format;
 mod points;
+mod reading;
 mod summary;
 mod writer;
 
