@@ -1,7 +1,7 @@
 -- What reading a table answers, and why.
 use Rattle.std.specs.Prelude.{◌≡◌, ℕ, List, Option, Some, Result, Ok, Err}
 use Rattle.std.specs.Option.{ForSome}
-use Rattle.std.proofs.Common.{refl, subst}
+use Rattle.std.proofs.Common.{arith, refl, subst, sym}
 use Rattle.vl_disk.specs.Faults.{HasCause}
 use Rattle.vl_disk.specs.declared.name.Name.TheVariants.{Table as table_name}
 use Rattle.vl_table.specs.declared.fault.TableFault.{TableFault}
@@ -95,3 +95,24 @@ fails {S = S} {T = T} before now number told good other bad worse e f a = record
   answer = for_some told (λ bytes. IsAnswer (good bytes) (bad bytes) (Err e)) (λ bytes. IsAnswer (other bytes) (worse bytes) (Err e))
       (λ bytes is. handed_answer (good bytes) (other bytes) (bad bytes) (worse bytes) e (f bytes is)) a.answer;
 }
+
+no_failure : (now : ℕ) → HasCause now now ⊥
+no_failure now = record { later = omega arith; rose = λ no. absurd no; steady = λ no. refl }
+
+-- damage is answered
+pub refuses : {T : Type 0} (now number place : ℕ) (told : Option (List ℕ)) (good : List ℕ → T → Type 0) (bad : List ℕ → ℕ → Type 0) (e : TableFault)
+    → e ≡ Damaged (table_name number) place → ((bytes : List ℕ) → told ≡ Some bytes → bad bytes place) → Answers {T = T} now now number told good bad (Err e)
+refuses {T = T} now number place told good bad e is f =
+    subst (λ (why : TableFault). Answers {T = T} now now number told good bad (Err why)) (sym is)
+    (record { cause = no_failure now; named = refl; answer = f })
+
+-- there is no more to read
+pub gives : {T : Type 0} (now number : ℕ) (told : Option (List ℕ)) (good : List ℕ → T → Type 0) (bad : List ℕ → ℕ → Type 0) (x : T)
+    → ((bytes : List ℕ) → told ≡ Some bytes → good bytes x) → Answers now now number told good bad (Ok x)
+gives now number told good bad x f = record { cause = no_failure now; named = tt; answer = f }
+
+pub no_room : {T : Type 0} (now number : ℕ) (told : Option (List ℕ)) (good : List ℕ → T → Type 0) (bad : List ℕ → ℕ → Type 0) (e : TableFault) → e ≡ NoMemory
+    → Answers {T = T} now now number told good bad (Err e)
+no_room {T = T} now number told good bad e is =
+    subst (λ (why : TableFault). Answers {T = T} now now number told good bad (Err why)) (sym is)
+    (record { cause = no_failure now; named = tt; answer = λ bytes told_is. tt })

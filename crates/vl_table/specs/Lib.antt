@@ -3,6 +3,8 @@ pub mod Bytes
 pub mod Finished
 pub mod Lengths
 pub mod Lookups
+pub mod Opening
+pub mod Parts
 pub mod Places
 pub mod Points
 pub mod Worked

@@ -1,3 +1,7 @@
+ghost use Rattle.std.specs.Prelude.{◌≡◌};
+ghost use Rattle.vl_disk.specs.declared.name.Name.TheVariants as names;
+ghost use Rattle.vl_table.specs.declared.fault.TableFault.TheVariants as why;
+
 use std::alloc::AllocError;
 use thiserror::Error;
 use vl_disk::Name;
@@ -24,5 +28,15 @@ impl From<AllocError> for TableFault {
 
     fn from(_: AllocError) -> Self {
         TableFault::NoMemory
+    }
+}
+
+// What is answered where the table with this number is damaged at a place.
+pub(crate) fn damaged(number: u32, place: u64) -> TableFault
+    ensures { result ≡ why.Damaged (names.Table number) place }
+{
+    TableFault::Damaged {
+        name: Name::Table(number),
+        place,
     }
 }

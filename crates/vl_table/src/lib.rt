@@ -4,6 +4,7 @@
 mod blocks_writer;
 mod fault;
 mod format;
+mod part;
 mod points;
 mod reading;
 mod summary;
