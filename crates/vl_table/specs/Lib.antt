@@ -1,6 +1,7 @@
 pub mod Answers
 pub mod Bytes
 pub mod Finished
+pub mod Headers
 pub mod Lengths
 pub mod Lookups
 pub mod Opening

@@ -11,13 +11,17 @@ use Rattle.vl_block.specs.Index.{SpellsIndex}
 use Rattle.vl_block.specs.declared.index.BlockPlace.{BlockPlace}
 use Rattle.vl_table.specs.declared.format.TheConstants.{TABLE_FORMAT}
 
--- the file is long enough for the least that each table has, and begins with its header in a format that is read
-pub record IsBegun (number : ℕ) (bytes : List ℕ) : Type 0 where
-  pub long : 24 ≤ length bytes
+-- the bytes begin with the header of the table with this number, in a format that is read
+pub record HasHeader (number : ℕ) (bytes : List ℕ) : Type 0 where
   pub format : ℕ
   pub first : 1 ≤ format
   pub readable : format ≤ TABLE_FORMAT
   pub header : IsHeader files.Table format number bytes
+
+-- so does the file, and it is long enough to be a table
+pub record IsBegun (number : ℕ) (bytes : List ℕ) : Type 0 where
+  pub long : 24 ≤ length bytes
+  pub header : HasHeader number bytes
 
 -- the place that the last eight bytes say
 abbrev pub said_place : List ℕ → ℕ
@@ -32,11 +36,15 @@ pub record FrameAt (number : ℕ) (bytes : List ℕ) (place size : ℕ) (kind : 
   pub frame : IsSpelled files.Table number place (drop place bytes) kind body
   pub sized : size ≡ frame_length (length body)
 
--- a footer stands at the place, which says this
-pub record StandsFooter (number : ℕ) (bytes : List ℕ) (place : ℕ) (f : Foot) : Type 0 where
+-- a footer stands at the front of the bytes, which are those of the table from a place on, and says this
+pub record FooterIn (number place : ℕ) (bytes : List ℕ) (f : Foot) : Type 0 where
   pub body : List ℕ
-  pub frame : IsSpelled files.Table number place (drop place bytes) kinds.Footer body
+  pub frame : IsSpelled files.Table number place bytes kinds.Footer body
   pub says : SpellsFooter body f
+
+-- a footer stands at the place
+abbrev pub StandsFooter : ℕ → List ℕ → ℕ → Foot → Type 0
+StandsFooter number bytes place f = FooterIn number place (drop place bytes) f
 
 -- an index of so many bytes stands at the place, which names these blocks
 pub record StandsIndex (number : ℕ) (bytes : List ℕ) (place size : ℕ) (ps : List BlockPlace) : Type 0 where

@@ -2,6 +2,7 @@
 use Rattle.std.specs.Prelude.{◌≡◌, ◌+◌, ◌-◌, ◌≤◌, ℕ, List, [], ◌∷◌, ◌++◌, take, drop, length}
 use Rattle.std.proofs.Common.{refl, ap, sym, ◌∙◌, append-nil, length-append, arith}
 use Rattle.std.proofs.lemmas.List.{take_at, take-append-drop, length-drop, length-take-le, with_items_is}
+use Rattle.std.proofs.Math.Seq.{take-length}
 use Rattle.std.specs.Vec.{with_items}
 use Rattle.std.proofs.Common.{Vec}
 use Rattle.vl_disk.specs.DiskState.{bytes_at}
@@ -75,3 +76,8 @@ pub cut_from : {Z : Type 0} (place size : ℕ) (bytes : List ℕ) (v : Vec ℕ Z
 cut_from place size bytes v read n is sized filled inside =
     let same : read ≡ bytes_at place size bytes = is ∙ ap (λ (k : ℕ). bytes_at place k bytes) sized in
     with_items_is v read (ap length same ∙ length-cut place size bytes inside ∙ sym sized ∙ filled) ∙ same
+
+-- all bytes from a place on
+pub whole_rest : (place size : ℕ) (bytes : List ℕ) → size ≡ length bytes - place → bytes_at place size bytes ≡ drop place bytes
+whole_rest place size bytes is =
+    ap (λ (n : ℕ). take n (drop place bytes)) (is ∙ sym (length-drop place bytes)) ∙ take-length (drop place bytes)

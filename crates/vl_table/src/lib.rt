@@ -4,12 +4,15 @@
 mod blocks_writer;
 mod fault;
 mod format;
+mod opening;
 mod part;
 mod points;
 mod reading;
 mod summary;
+mod table;
 mod writer;
 
 pub use fault::TableFault;
 pub use format::TABLE_FORMAT;
+pub use table::Table;
 pub use writer::TableWriter;

@@ -52,7 +52,8 @@ fn is_frame(bytes: &[u8], number: u32, place: u64, kind: FrameKind) -> bool
     }
 }
 
-fn is_same(kind: FrameKind, other: FrameKind) -> bool
+// Whether two kinds of frames are the same.
+pub(crate) fn is_same(kind: FrameKind, other: FrameKind) -> bool
     ensures { IsTrue result ↔ (kind ≡ other) }
 {
     kind == other
