@@ -1,10 +1,13 @@
 pub mod Answers
+pub mod Buffers
 pub mod Bytes
 pub mod Finished
 pub mod Headers
 pub mod Lengths
 pub mod Lookups
+pub mod Opened
 pub mod Opening
+pub mod OpeningSteps
 pub mod Parts
 pub mod Places
 pub mod Points

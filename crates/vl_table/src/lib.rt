@@ -1,6 +1,7 @@
 //! Tables: entries in order, in a file that never changes. docs/FORMATS.md has their bytes.
 #![tactic(auto)]
 
+mod block_buffer;
 mod blocks_writer;
 mod fault;
 mod format;
@@ -12,6 +13,7 @@ mod summary;
 mod table;
 mod writer;
 
+pub use block_buffer::BlockBuffer;
 pub use fault::TableFault;
 pub use format::TABLE_FORMAT;
 pub use table::Table;

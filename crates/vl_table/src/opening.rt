@@ -11,7 +11,6 @@ use crate::fault::{TableFault, damaged};
 use crate::format::TABLE_FORMAT;
 use crate::part::{body_of, is_same, read_part};
 use crate::reading::{fill, read_bytes};
-use crate::table::Table;
 use byteorder::{BigEndian, ByteOrder};
 use std::alloc::{AllocError, Global};
 use vl_block::{BlockPlace, Footer, read_footer, read_index};
@@ -22,7 +21,7 @@ use vl_frame::{FileKind, FrameKind, HEADER_BYTES, read_frame, read_header};
 const MIN_TABLE_BYTES: u64 = 24;
 
 // Tests the header.
-fn read_begin<H: HeldFile, R: Reader<Held = H>>(
+pub fn read_begin<H: HeldFile, R: Reader<Held = H>>(
     reader: &mut R,
     held: &H,
     number: u32,
@@ -50,7 +49,7 @@ fn has_header(bytes: &[u8], number: u32) -> bool
 }
 
 // The footer's place, as the last eight bytes say it.
-fn read_place<H: HeldFile, R: Reader<Held = H>>(
+pub fn read_place<H: HeldFile, R: Reader<Held = H>>(
     reader: &mut R,
     held: &H,
     number: u32,
@@ -72,7 +71,7 @@ fn read_place<H: HeldFile, R: Reader<Held = H>>(
 }
 
 // The footer at a place.
-fn read_foot<H: HeldFile, R: Reader<Held = H>>(
+pub fn read_foot<H: HeldFile, R: Reader<Held = H>>(
     alloc: Global,
     reader: &mut R,
     held: &H,
@@ -108,7 +107,7 @@ fn footer_in(
 }
 
 // The blocks that the index at a place names.
-fn read_blocks<H: HeldFile, R: Reader<Held = H>>(
+pub fn read_blocks<H: HeldFile, R: Reader<Held = H>>(
     alloc: Global,
     reader: &mut R,
     held: &H,
