@@ -12,5 +12,7 @@ pub mod Parts
 pub mod Places
 pub mod Points
 pub mod Worked
+pub mod Scans
+pub mod Seeks
 pub mod Writing
 pub mod Written

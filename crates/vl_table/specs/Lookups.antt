@@ -18,6 +18,11 @@ use Rattle.vl_run.specs.OrderLaws.{IsBefore, IsRising, rising}
 use Rattle.vl_run.specs.Lookup.{found_winner, is_ahead, if_of_key, rising-parted}
 use Rattle.vl_run.specs.Places.{first_failing, IsParted}
 use Rattle.vl_block.specs.declared.index.BlockPlace.{BlockPlace}
+use Rattle.std.specs.Prelude.{◌==◌, ◌&&◌, ◌≢◌}
+use Rattle.std.specs.Ordering.{eq_by_cmp}
+use Rattle.std.proofs.lemmas.Bool.Decides.{nat_tests}
+use Rattle.vl_model.specs.Winners.{exact, only_if}
+use Rattle.vl_run.specs.Lookup.{found_exact, if_exact}
 use Rattle.vl_table.specs.Bytes.{block_places}
 
 -- the first of two that is there
@@ -197,3 +202,46 @@ pub found-blocks : (key : List ℕ) (version : ℕ) (es : List Entry) → IsInOr
 found-blocks key version es ordered =
     found_winner key version es ordered (first_over key version (blocks es))
     (sym (first-joined key version (blocks es)) ∙ ap (first_failing (is_ahead key version)) (blocks-whole es))
+
+pub exact-blocks : (key : List ℕ) (version : ℕ) (es : List Entry) → IsInOrder es
+    → if_exact key version (first_over key version (blocks es)) ≡ exact es key version
+exact-blocks key version es ordered =
+    found_exact key version es ordered (first_over key version (blocks es))
+    (sym (first-joined key version (blocks es)) ∙ ap (first_failing (is_ahead key version)) (blocks-whole es))
+
+-- ---- of one version
+
+some_same : (e f : Entry) → Some e ≡ Some f → e ≡ f
+some_same e f same = cc
+
+pub right_version : (key : List ℕ) (version : ℕ) (first : Option Entry) (e : Entry) → Some e ≡ if_of_key key first → e.version ≡ version
+    → Some e ≡ if_exact key version first
+right_version key version None e is same = absurd cc
+right_version key version (Some f) e is same = by (eq_by_cmp key_cmp key f.key) is
+  where
+    tested : (m n : ℕ) → m ≡ n → (m == n) ≡ true
+    tested m n same = grind (arith, nat_tests)
+
+    by : (b : Bool) → Some e ≡ only_if b f → Some e ≡ only_if (b && (f.version == version)) f
+    by true is = is ∙ ap (λ t. only_if t f) (sym (tested f.version version (sym (ap (λ (d : Entry). d.version) (some_same e f is)) ∙ same)))
+    by false is = absurd cc
+
+pub wrong_version : (key : List ℕ) (version : ℕ) (first : Option Entry) (e : Entry) → Some e ≡ if_of_key key first → e.version ≢ version
+    → None ≡ if_exact key version first
+wrong_version key version None e is other = refl
+wrong_version key version (Some f) e is other = by (eq_by_cmp key_cmp key f.key) is
+  where
+    tested : (m n : ℕ) → m ≢ n → (m == n) ≡ false
+    tested m n apart = grind (arith, nat_tests, apart)
+
+    by : (b : Bool) → Some e ≡ only_if b f → None ≡ only_if (b && (f.version == version)) f
+    by true is = ap (λ t. only_if t f) (sym (tested f.version version (λ same. other (ap (λ (d : Entry). d.version) (some_same e f is) ∙ same))))
+    by false is = refl
+
+pub no_version : (key : List ℕ) (version : ℕ) (first : Option Entry) → None ≡ if_of_key key first → None ≡ if_exact key version first
+no_version key version None is = refl
+no_version key version (Some f) is = by (eq_by_cmp key_cmp key f.key) is
+  where
+    by : (b : Bool) → None ≡ only_if b f → None ≡ only_if (b && (f.version == version)) f
+    by true is = absurd cc
+    by false is = refl

@@ -9,6 +9,7 @@ mod opening;
 mod part;
 mod points;
 mod reading;
+mod scanning;
 mod summary;
 mod table;
 mod writer;
