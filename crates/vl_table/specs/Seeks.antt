@@ -1,9 +1,8 @@
 -- A look-up, block by block.
-use Rattle.std.specs.Prelude.{◌≡◌, ◌+◌, ◌≤◌, ◌<◌, ◌^◌, ℕ, suc, List, [], ◌∷◌, ◌++◌, length, take, drop, get_or, Option, Some, None}
+use Rattle.std.specs.Prelude.{◌≡◌, ◌+◌, ◌≤◌, ◌<◌, ◌^◌, ℕ, List, [], ◌∷◌, ◌++◌, length, drop, get_or, Option, Some, None}
 use Rattle.std.specs.List.{AllByRecursion, prefix_len}
 use Rattle.std.proofs.Common.{refl, ap, sym, subst, ◌∙◌, append_assoc, length-append, arith}
 use Rattle.std.proofs.lemmas.List.{drop_at, length-drop, take-append-drop}
-use Rattle.vl_frame.specs.Frame.{frame_bytes}
 use Rattle.vl_frame.specs.Laws.{length-frame_bytes, one_frame}
 use Rattle.vl_frame.specs.declared.kinds.FileKind.TheVariants as files
 use Rattle.vl_frame.specs.declared.kinds.FrameKind.TheVariants as kinds
@@ -22,14 +21,12 @@ use Rattle.vl_table.specs.Answers.{Answers, and_then, fails, gives, no_room}
 use Rattle.vl_table.specs.declared.fault.TableFault.{TableFault}
 use Rattle.vl_table.specs.declared.fault.TableFault.TheVariants.{NoMemory}
 use Rattle.vl_table.specs.Buffers.{IsKept, HasBlock, NoBlock, StandsBlock}
-use Rattle.vl_table.specs.Bytes.{block_places, table_bytes}
+use Rattle.vl_table.specs.Bytes.{table_bytes}
 use Rattle.vl_table.specs.Lengths.{length-block}
 use Rattle.vl_table.specs.Lookups.{blocks-some, first-skipped, first_over, index-parted, is_below, or_else}
 use Rattle.vl_table.specs.Opened.{IsOf, IsTable}
 use Rattle.vl_table.specs.Places.{BlockAt, block_at, block_bytes, length-block_places}
-use Rattle.vl_table.specs.Scans.{IsScan}
 use Rattle.vl_table.specs.declared.block_buffer.BlockBuffer.{BlockBuffer}
-use Rattle.vl_table.specs.declared.scanning.Scan.TheVariants as scans
 use Rattle.vl_table.specs.declared.table.Table.{Table}
 
 -- a block that the index names doesn't stand where and as long as it says: there the table is damaged
