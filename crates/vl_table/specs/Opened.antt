@@ -19,6 +19,9 @@ use Rattle.vl_block.specs.declared.index.BlockPlace.{BlockPlace}
 use Rattle.vl_table.specs.declared.fault.TableFault.{TableFault}
 use Rattle.vl_table.specs.declared.fault.TableFault.TheVariants.{NoMemory, Disk, Damaged}
 use Rattle.vl_table.specs.declared.table.Table.{Table}
+use Rattle.std.specs.Prelude.{IfOk}
+use Rattle.vl_block.specs.Footer.{foot_of}
+use Rattle.vl_table.specs.Answers.{Answers}
 use Rattle.vl_table.specs.Bytes.{AreTabled, block_places, blocks_bytes, foot, footer_bytes, footer_place, index_bytes, index_place, table_bytes}
 use Rattle.vl_table.specs.Lengths.{length-footer, length-index, length-table_bytes}
 use Rattle.vl_table.specs.Opening.{IsDamaged, IsInside, IsRead, StandsFooter, StandsIndex, no_footer, no_header, no_index, no_place, said_place}
@@ -117,3 +120,20 @@ OpensAs bytes_of es (Ok t) = IsOf bytes_of t es
 OpensAs bytes_of es (Err NoMemory) = Unit {0}
 OpensAs bytes_of es (Err (Disk name)) = Unit {0}
 OpensAs bytes_of es (Err (Damaged name place)) = ⊥
+
+pub opens_as : {H : Type 0} (bytes_of : H → Option (List ℕ)) (before now number : ℕ) (held : H) (es : List Entry) (r : Result (Table H) TableFault)
+    → Answers before now number (bytes_of held) (λ bytes (t : Table H). IsRead number bytes (foot_of t.footer) t.blocks.items) (IsDamaged number) r
+    → IfOk r (λ (t : Table H). t.number ≡ number) → IfOk r (λ (t : Table H). t.held ≡ held) → IsTable number es → bytes_of held ≡ Some (table_bytes number es)
+    → OpensAs bytes_of es r
+opens_as bytes_of before now number held es (Ok t) answers numbered same is told =
+    let read = answers.answer (table_bytes number es) told in
+    let one = one_read number (table_bytes number es) (foot_of t.footer) (foot es (blocks es)) t.blocks.items (block_places 16 (blocks es)) read (reads_table number es is) in
+    record {
+      table = subst (λ (n : ℕ). IsTable n es) (sym numbered) is;
+      told = ap bytes_of same ∙ told ∙ ap (λ (n : ℕ). Some (table_bytes n es)) (sym numbered);
+      blocks = one.1;
+    }
+opens_as bytes_of before now number held es (Err NoMemory) answers numbered same is told = tt
+opens_as bytes_of before now number held es (Err (Disk name)) answers numbered same is told = tt
+opens_as bytes_of before now number held es (Err (Damaged name place)) answers numbered same is told =
+    not_damaged number (table_bytes number es) (foot es (blocks es)) (block_places 16 (blocks es)) place (reads_table number es is) (answers.answer (table_bytes number es) told)

@@ -5,6 +5,7 @@ mod block_buffer;
 mod blocks_writer;
 mod fault;
 mod format;
+mod laws;
 mod opening;
 mod part;
 mod points;
@@ -17,5 +18,8 @@ mod writer;
 pub use block_buffer::BlockBuffer;
 pub use fault::TableFault;
 pub use format::TABLE_FORMAT;
+pub use laws::{
+    points_grow_behind, tables_are_read_in_one_way, tables_have_their_length, true_tables_are_read,
+};
 pub use table::Table;
 pub use writer::TableWriter;

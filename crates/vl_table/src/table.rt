@@ -46,6 +46,26 @@ impl<H: HeldFile> Table<H> {
             (IsDamaged number) result }
         ensures number { IfOk result (λ table. table.number ≡ number) }
         ensures held { IfOk result (λ table. table.held ≡ held) }
+
+        // A true table is opened as what it is, and never damaged.
+        ensures opens { (es : List Entry) → IsTable number es → H.bytes held ≡ Some (table_bytes number es)
+            → OpensAs H.bytes es result }
+    {
+        Table::read(alloc, reader, held, number)
+    }
+
+    // What `open` does, stage by stage.
+    fn read<R: Reader<Held = H>>(
+        alloc: Global,
+        reader: &mut R,
+        held: H,
+        number: u32,
+    ) -> Result<Self, TableFault>
+        ensures answers { Answers (R.faults reader.old) (R.faults reader.new) number (H.bytes held)
+            (λ bytes table. IsRead number bytes (foot_of table.footer) table.blocks.items)
+            (IsDamaged number) result }
+        ensures number { IfOk result (λ table. table.number ≡ number) }
+        ensures held { IfOk result (λ table. table.held ≡ held) }
     {
         read_begin(reader, &held, number)?;
         let place = read_place(reader, &held, number)?;
