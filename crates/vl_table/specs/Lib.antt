@@ -12,6 +12,7 @@ pub mod Parts
 pub mod Places
 pub mod Points
 pub mod Worked
+pub mod Rooms
 pub mod Scans
 pub mod Seeks
 pub mod Writing

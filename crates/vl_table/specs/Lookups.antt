@@ -56,11 +56,11 @@ greater Greater is = refl
 
 -- ---- parts of entries in order
 
-all-front : (P : Entry → Type 0) (es fs : List Entry) → AllByRecursion P (es ++ fs) → AllByRecursion P es
+pub all-front : (P : Entry → Type 0) (es fs : List Entry) → AllByRecursion P (es ++ fs) → AllByRecursion P es
 all-front P [] fs all = tt
 all-front P (e ∷ es) fs all = (all.0, all-front P es fs all.1)
 
-all-back : (P : Entry → Type 0) (es fs : List Entry) → AllByRecursion P (es ++ fs) → AllByRecursion P fs
+pub all-back : (P : Entry → Type 0) (es fs : List Entry) → AllByRecursion P (es ++ fs) → AllByRecursion P fs
 all-back P [] fs all = all
 all-back P (e ∷ es) fs all = all-back P es fs all.1
 

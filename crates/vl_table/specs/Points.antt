@@ -176,7 +176,7 @@ pair a m b n rest le to_b to_a (inr same) =
 less_or_same : (m n : ℕ) → m ≤ n → (m < n) ⊎ (m ≡ n)
 less_or_same m n le = ⊎_elim (λ (e : m ≡ n). inr e) (λ (o : m ≢ n). inl (omega (arith, o))) (cases_eq m n)
 
-three_ways : (m n : ℕ) → (m < n) ⊎ ((m ≡ n) ⊎ (n < m))
+pub three_ways : (m n : ℕ) → (m < n) ⊎ ((m ≡ n) ⊎ (n < m))
 three_ways m n = ⊎_elim (λ (e : m ≡ n). inr (inl e)) (λ (o : m ≢ n). apart (nat_lt m n) refl o) (cases_eq m n)
   where
     apart : (t : Bool) → nat_lt m n ≡ t → m ≢ n → (m < n) ⊎ ((m ≡ n) ⊎ (n < m))

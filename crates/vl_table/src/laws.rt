@@ -1,10 +1,10 @@
 // Laws of the definitions: each is the contract of a function that does nothing.
-ghost use Rattle.std.specs.Prelude.{◌≡◌, ◌++◌, ◌∷◌, [], ℕ, List, Option, Some, None, length};
+ghost use Rattle.std.specs.Prelude.{◌≡◌, ◌<◌, ◌^◌, ◌++◌, ◌∷◌, [], ℕ, List, Option, Some, None, length};
 ghost use Rattle.vl_model.specs.declared.entry.Entry.{Entry};
 ghost use Rattle.vl_layout.specs.Tables.{blocks, points_of, table_length, with_point};
 ghost use Rattle.vl_block.specs.Footer.{Foot};
 ghost use Rattle.vl_block.specs.declared.index.BlockPlace.{BlockPlace};
-ghost use Rattle.vl_table.specs.Bytes.{block_places, foot, table_bytes};
+ghost use Rattle.vl_table.specs.Bytes.{AreTabled, block_places, foot, table_bytes};
 ghost use Rattle.vl_table.specs.Opened.{IsTable};
 ghost use Rattle.vl_table.specs.Opening.{IsDamaged, IsRead};
 
@@ -19,6 +19,12 @@ pub fn tables_are_read_in_one_way()
         → IsRead number bytes f ps → IsRead number bytes g qs → (f ≡ g) × (ps ≡ qs) }
     ensures whole { (number : ℕ) (bytes : List ℕ) (f : Foot) (ps : List BlockPlace) (place : ℕ)
         → IsRead number bytes f ps → IsDamaged number bytes place → ⊥ }
+{}
+
+/// Of lawful entries in order there is a table, where it isn't longer than four bytes can say.
+pub fn tables_have_room()
+    ensures { (number : ℕ) (es : List Entry) → number < 2 ^ 32 → AreTabled es → table_length es < 2 ^ 32
+        → IsTable number es }
 {}
 
 /// The bytes of a table are read as its footer and its blocks.
