@@ -66,9 +66,10 @@ pub next_point : (list : List Point) (p d : Point) → 0 < length list
     × (IsNext points (last_item list) p → IsTrue (nat_lt (get_or list (length list - 1) d).segment p.segment))
 next_point list p d some =
     let last = get_or list (length list - 1) d in
-    let is = last-of list d some in
-    (λ less. subst (λ (o : Option Point). IsNext points o p) (sym is) (is_less last.segment p.segment less),
-    λ next. less_is last.segment p.segment (subst (λ (o : Option Point). IsNext points o p) is next))
+    let is = last-of list d some in (
+      λ less. subst (λ (o : Option Point). IsNext points o p) (sym is) (is_less last.segment p.segment less),
+      λ next. less_is last.segment p.segment (subst (λ (o : Option Point). IsNext points o p) is next),
+    )
   where
     is_less : (m n : ℕ) → IsTrue (nat_lt m n) → m < n
     is_less m n less = grind (arith, nat_tests)

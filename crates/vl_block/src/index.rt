@@ -67,7 +67,11 @@ fn frame_bytes(place: u64, length: u32) -> [u8; 12]
 }
 
 // So many blocks, which these bytes are to the last.
-fn take_places(alloc: Global, count: u32, bytes: &[u8]) -> Result<Option<Vec<BlockPlace>>, AllocError>
+fn take_places(
+    alloc: Global,
+    count: u32,
+    bytes: &[u8],
+) -> Result<Option<Vec<BlockPlace>>, AllocError>
     ensures found { IfOk result (λ read. IfSome read (λ blocks. IsRun places bytes.now count blocks.items)) }
     ensures none { IfOk result (λ read. IfNone read
         ((blocks : List BlockPlace) → IsRun places bytes.now count blocks → ⊥)) }

@@ -59,8 +59,7 @@ finishes w v number es given out one two three size footer is has numbered first
     let whole : given ++ (frame ++ rest) ≡ file_bytes number es bs =
     ap (λ (l : List ℕ). l ++ (frame ++ rest)) is.given_out ∙ append_assoc (table_header number) before (frame ++ rest)
     ∙ ap (λ (l : List ℕ). table_header number ++ l) (sym (append_assoc before frame rest)
-    ∙ ap (λ (l : List ℕ). l ++ rest) (closed_frame number is.closed is.open_block w.blocks.number w.blocks.place frame is.numbered is.has.place refl)) in
-    (
+    ∙ ap (λ (l : List ℕ). l ++ rest) (closed_frame number is.closed is.open_block w.blocks.number w.blocks.place frame is.numbered is.has.place refl)) in (
       frame ++ rest,
       three_pieces out one two three frame (index_bytes number bs) (footer_bytes number es bs ++ big_bytes 8 (footer_place bs)) first (second ∙ ap (λ (l : List ℕ). one ++ l) index) (third ∙ ap (λ (l : List ℕ). two ++ l) tail),
       whole ∙ ap (file_bytes number es) (sym cut),

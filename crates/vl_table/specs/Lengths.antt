@@ -42,14 +42,23 @@ length-block number at b = omega (arith, length-frame_bytes number at kinds.Bloc
 pub length-blocks : (number at : ℕ) (bs : List (List Entry)) → length (blocks_bytes number at bs) ≡ sum_by block_frame_length bs
 length-blocks number at [] = refl
 length-blocks number at (b ∷ bs) =
-    omega (arith, length-append (frame_bytes number at kinds.Block (block_body b)) (blocks_bytes number (at + block_frame_length b) bs),
-    length-block number at b, length-blocks number (at + block_frame_length b) bs, sum_by-cons block_frame_length b bs)
+    omega (
+      arith,
+      length-append (frame_bytes number at kinds.Block (block_body b)) (blocks_bytes number (at + block_frame_length b) bs),
+      length-block number at b,
+      length-blocks number (at + block_frame_length b) bs,
+      sum_by-cons block_frame_length b bs,
+    )
 
 length-places : (at : ℕ) (bs : List (List Entry)) → length (items_bytes places (block_places at bs)) ≡ sum_by (λ block. 14 + length (last_key block)) bs
 length-places at [] = refl
 length-places at (b ∷ bs) =
-    omega (arith, length-append (last_key b) (items_bytes places (block_places (at + block_frame_length b) bs)),
-    length-places (at + block_frame_length b) bs, sum_by-cons (λ block. 14 + length (last_key block)) b bs)
+    omega (
+      arith,
+      length-append (last_key b) (items_bytes places (block_places (at + block_frame_length b) bs)),
+      length-places (at + block_frame_length b) bs,
+      sum_by-cons (λ block. 14 + length (last_key block)) b bs,
+    )
 
 pub length-index : (number : ℕ) (bs : List (List Entry)) → length (index_bytes number bs) ≡ index_frame_length bs
 length-index number bs =
@@ -61,15 +70,24 @@ length-points (p ∷ ps) = omega (arith, length-points ps)
 
 pub length-footer : (number : ℕ) (es : List Entry) (bs : List (List Entry)) → length (footer_bytes number es bs) ≡ footer_frame_length es
 length-footer number es bs =
-    omega (arith, length-frame_bytes number (footer_place bs) kinds.Footer (footer_body (foot es bs)), length-points (points_of es),
-    length-append (first_key es ++ key_bytes (last_key es)) (counted_bytes points (map said (points_of es))),
-    length-append (first_key es) (key_bytes (last_key es)))
+    omega (
+      arith,
+      length-frame_bytes number (footer_place bs) kinds.Footer (footer_body (foot es bs)),
+      length-points (points_of es),
+      length-append (first_key es ++ key_bytes (last_key es)) (counted_bytes points (map said (points_of es))),
+      length-append (first_key es) (key_bytes (last_key es)),
+    )
 
 -- A table is as long as the layout says.
 pub length-table_bytes : (number : ℕ) (es : List Entry) → length (table_bytes number es) ≡ table_length es
 length-table_bytes number es =
     let bs = blocks es in
-    omega (arith, length-blocks number 16 bs, length-index number bs, length-footer number es bs,
-    length-append (blocks_bytes number 16 bs) (index_bytes number bs ++ (footer_bytes number es bs ++ big_bytes 8 (footer_place bs))),
-    length-append (index_bytes number bs) (footer_bytes number es bs ++ big_bytes 8 (footer_place bs)),
-    length-append (footer_bytes number es bs) (big_bytes 8 (footer_place bs)))
+    omega (
+      arith,
+      length-blocks number 16 bs,
+      length-index number bs,
+      length-footer number es bs,
+      length-append (blocks_bytes number 16 bs) (index_bytes number bs ++ (footer_bytes number es bs ++ big_bytes 8 (footer_place bs))),
+      length-append (index_bytes number bs) (footer_bytes number es bs ++ big_bytes 8 (footer_place bs)),
+      length-append (footer_bytes number es bs) (big_bytes 8 (footer_place bs)),
+    )

@@ -112,6 +112,7 @@ reads_table number es is =
 pub record IsOf {H : Type 0} (bytes_of : H → Option (List ℕ)) (t : Table H) (es : List Entry) : Type 0 where
   pub table : IsTable t.number es
   pub told : bytes_of t.held ≡ Some (table_bytes t.number es)
+  pub says : foot_of t.footer ≡ foot es (blocks es)
   pub blocks : t.blocks.items ≡ block_places 16 (blocks es)
 
 -- a true table is opened as what it is, and never damaged
@@ -132,6 +133,7 @@ opens_as bytes_of before now number held es (Ok t) answers numbered same is told
       table = subst (λ (n : ℕ). IsTable n es) (sym numbered) is;
       told = ap bytes_of same ∙ told ∙ ap (λ (n : ℕ). Some (table_bytes n es)) (sym numbered);
       blocks = one.1;
+      says = one.0;
     }
 opens_as bytes_of before now number held es (Err NoMemory) answers numbered same is told = tt
 opens_as bytes_of before now number held es (Err (Disk name)) answers numbered same is told = tt

@@ -48,8 +48,7 @@ pub spelled_of : (number place size : ℕ) (kind : FrameKind) (bytes b body : Li
     → IsSpelled files.Table number place b kind body × (length b ≡ frame_length (length body))
 spelled_of number place size kind bytes b body cut at =
     let frame = frame_bytes number place kind body in
-    let is : b ≡ frame = cut ∙ cut_out number place size kind bytes body at in
-    (
+    let is : b ≡ frame = cut ∙ cut_out number place size kind bytes body at in (
       record { in_file = at.frame.in_file; short = at.frame.short; rest = []; spelled = is ∙ sym (append-nil frame) },
       ap length is ∙ length-frame_bytes number place kind body,
     )

@@ -64,7 +64,7 @@ impl BlocksWriter {
         ensures number { self.new.number ≡ self.old.number }
         ensures written { (closed : List (List Entry)) (open_block : List Entry) → HasBlocks self.old closed open_block
             → OnOk result (out.new.items ≡ out.old.items
-                ++ frame_bytes self.old.number self.old.place kinds.Block (block_body open_block)) }
+            ++ frame_bytes self.old.number self.old.place kinds.Block (block_body open_block)) }
     {
         let body = self.written.as_slice();
         write_frame(out, self.number, self.place, FrameKind::Block, body)?;

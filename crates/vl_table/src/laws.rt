@@ -5,8 +5,12 @@ ghost use Rattle.vl_layout.specs.Tables.{blocks, points_of, table_length, with_p
 ghost use Rattle.vl_block.specs.Footer.{Foot};
 ghost use Rattle.vl_block.specs.declared.index.BlockPlace.{BlockPlace};
 ghost use Rattle.vl_table.specs.Bytes.{AreTabled, block_places, foot, table_bytes};
-ghost use Rattle.vl_table.specs.Opened.{IsTable};
+ghost use Rattle.vl_table.specs.Opened.{IsOf, IsTable};
+ghost use Rattle.vl_table.specs.Seeks.{IsBadBlock};
+ghost use Rattle.vl_table.specs.declared.table.Table.{Table};
 ghost use Rattle.vl_table.specs.Opening.{IsDamaged, IsRead};
+
+use vl_disk::HeldFile;
 
 /// A table is as long as the layout says.
 pub fn tables_have_their_length()
@@ -36,4 +40,10 @@ pub fn true_tables_are_read()
 /// The order in which entries are noted makes no difference to the points.
 pub fn points_grow_behind()
     ensures { (es : List Entry) (e : Entry) → points_of (es ++ e ∷ []) ≡ with_point e.body (points_of es) }
+{}
+
+/// In a true table each block stands where the index says.
+pub fn true_tables_have_no_bad_block<H: HeldFile>()
+    ensures { (table : Table H) (es : List Entry) (damage : ℕ) → IsOf H.bytes table es
+        → IsBadBlock table (table_bytes table.number es) damage → ⊥ }
 {}

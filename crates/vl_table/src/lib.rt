@@ -19,8 +19,11 @@ pub use block_buffer::BlockBuffer;
 pub use fault::TableFault;
 pub use format::TABLE_FORMAT;
 pub use laws::{
-    points_grow_behind, tables_are_read_in_one_way, tables_have_room,
-    tables_have_their_length, true_tables_are_read,
+    points_grow_behind, tables_are_read_in_one_way, tables_have_room, tables_have_their_length,
+    true_tables_are_read, true_tables_have_no_bad_block,
 };
 pub use table::Table;
 pub use writer::TableWriter;
+
+#[cfg(test)]
+mod tests;

@@ -121,7 +121,15 @@ pub fn read_blocks<H: HeldFile, R: Reader<Held = H>>(
         result }
 {
     let mut frame = Vec::new(alloc);
-    read_part(reader, held, number, place, size, FrameKind::Index, &mut frame)?;
+    read_part(
+        reader,
+        held,
+        number,
+        place,
+        size,
+        FrameKind::Index,
+        &mut frame,
+    )?;
     match read_index(alloc, body_of(&frame))? {
         Some(blocks) => Ok(blocks),
         None => Err(damaged(number, place)),

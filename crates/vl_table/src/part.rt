@@ -24,7 +24,7 @@ pub fn read_part<H: HeldFile, R: Reader<Held = H>>(
 ) -> Result<(), TableFault>
     ensures answers { Answers (R.faults reader.old) (R.faults reader.new) number (H.bytes held.now)
         (λ bytes done. (body : List ℕ) × FrameAt number bytes place size kind body
-            × (frame.new.items ≡ frame_bytes number place kind body))
+        × (frame.new.items ≡ frame_bytes number place kind body))
         (λ bytes damage. ((body : List ℕ) → FrameAt number bytes place size kind body → ⊥) × (damage ≡ place))
         result }
 {

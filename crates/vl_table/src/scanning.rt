@@ -46,7 +46,9 @@ pub fn look_in(alloc: Global, body: &[u8], key: &[u8], version: u64) -> Result<S
 fn is_before(entry: &EntryRef, key: &[u8], version: u64) -> bool
     ensures { result ≡ is_ahead key.now version (entry_of entry.now) }
 {
-    key.cmp(&entry.key).then(entry.version.cmp(&version)).is_gt()
+    key.cmp(&entry.key)
+        .then(entry.version.cmp(&version))
+        .is_gt()
 }
 
 fn found(alloc: Global, entry: &EntryRef, key: &[u8]) -> Result<Scan, AllocError>

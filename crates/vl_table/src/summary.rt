@@ -55,8 +55,9 @@ impl Summary {
     /// The footer, once the index has its place and length.
     pub fn footer(self, index_place: u64, index_length: u32) -> Footer
         ensures { foot_of result ≡ record {
-            head = record { index_place = index_place; index_length = index_length; count = self.count; greatest = self.greatest; first = self.first; last = self.last };
-            points = self.points.items } }
+          head = record { index_place = index_place; index_length = index_length; count = self.count; greatest = self.greatest; first = self.first; last = self.last };
+          points = self.points.items;
+        } }
     {
         Footer {
             index_place,

@@ -86,6 +86,20 @@ impl<H: HeldFile> Table<H> {
         })
     }
 
+    /// Its number.
+    pub fn number(&self) -> u32
+        ensures { result ≡ self.now.number }
+    {
+        self.number
+    }
+
+    /// What its footer says: its first and last key, the segments that it leads into, and more.
+    pub fn footer(&self) -> &Footer
+        ensures { result.now ≡ self.now.footer }
+    {
+        &self.footer
+    }
+
     /// Of the entries of a key with a version of at most a number the one of the greatest version.
     ///
     /// It reads no block but the one that may hold the key, and those behind it that begin with older versions of the same
@@ -142,7 +156,7 @@ impl<H: HeldFile> Table<H> {
         ensures answers { (files : ℕ → Option (List ℕ)) → IsKept files buffer.old → files self.now.number ≡ H.bytes self.now.held
             → Answers (R.faults reader.old) (R.faults reader.new) self.now.number (H.bytes self.now.held)
             (λ bytes found. (es : List Entry) → IsOf H.bytes self.now es
-                → found ≡ if_of_key key.now (first_over key.now version (blocks es)))
+            → found ≡ if_of_key key.now (first_over key.now version (blocks es)))
             (λ bytes damage. IsBadBlock self.now bytes damage) result }
     {
         for at in first_block(&self.blocks, key)..self.blocks.len() {

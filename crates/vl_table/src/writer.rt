@@ -48,7 +48,7 @@ impl TableWriter {
     pub fn add(&mut self, out: &mut Vec<u8>, entry: &Entry) -> Result<(), AllocError>
         ensures { (number : ℕ) (es : List Entry) (given : List ℕ) → IsWriting self.old number es given
             → OnOk result (Appended out.old.items out.new.items
-                (λ piece. IsWriting self.new number (es ++ entry.now ∷ []) (given ++ piece))) }
+            (λ piece. IsWriting self.new number (es ++ entry.now ∷ []) (given ++ piece))) }
     {
         self.make_room(out, entry)?;
         self.blocks.add(entry)?;
@@ -59,7 +59,7 @@ impl TableWriter {
     fn make_room(&mut self, out: &mut Vec<u8>, entry: &Entry) -> Result<(), AllocError>
         ensures { (number : ℕ) (es : List Entry) (given : List ℕ) → IsWriting self.old number es given
             → OnOk result (Appended out.old.items out.new.items
-                (λ piece. HasRoom self.new number es (given ++ piece) entry.now)) }
+            (λ piece. HasRoom self.new number es (given ++ piece) entry.now)) }
     {
         if self.blocks.has_room(entry) {
             return Ok(());
@@ -71,7 +71,7 @@ impl TableWriter {
     pub fn finish(self, alloc: Global, out: &mut Vec<u8>) -> Result<(), AllocError>
         ensures { (number : ℕ) (es : List Entry) (given : List ℕ) → IsWriting self number es given
             → OnOk result (Appended out.old.items out.new.items
-                (λ piece. given ++ piece ≡ table_bytes number es)) }
+            (λ piece. given ++ piece ≡ table_bytes number es)) }
     {
         let TableWriter {
             mut blocks,

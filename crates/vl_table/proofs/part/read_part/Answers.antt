@@ -42,13 +42,13 @@ returns g c =
     record {
       answers = and_then _ _ _ c.args.number _ _ (λ bytes done. Unit {0}) _ _ (λ bytes damage. ⊥) _ c.in_ok-fill.field-0 _
           (λ bytes told read x good.
-              let cut = cut_from c.args.place c.args.size bytes c.resize.new.self c.fill.new.out (length c.deref_mut.result.now) read sized (omega (arith, sized, c.deref_mut.ensures.len))
-              (omega (arith, inside, g.met.H.HeldFile.sized c.args.held.now bytes told)) in
-              let b = c.deref.result.now in
-              let whole = c.deref.ensures.value ∙ cut in
-              let at = stands c.args.number c.args.place c.args.size c.args.kind bytes b found.0 whole found.1 found.2
-              (sym (ap length whole ∙ length-cut c.args.place c.args.size bytes (omega (arith, inside, g.met.H.HeldFile.sized c.args.held.now bytes told)))) in
-              (found.0, at, sym c.deref.ensures.value ∙ fills c.args.number c.args.place b c.args.kind found.0 found.1 found.2))
+          let cut = cut_from c.args.place c.args.size bytes c.resize.new.self c.fill.new.out (length c.deref_mut.result.now) read sized (omega (arith, sized, c.deref_mut.ensures.len))
+          (omega (arith, inside, g.met.H.HeldFile.sized c.args.held.now bytes told)) in
+          let b = c.deref.result.now in
+          let whole = c.deref.ensures.value ∙ cut in
+          let at = stands c.args.number c.args.place c.args.size c.args.kind bytes b found.0 whole found.1 found.2
+          (sym (ap length whole ∙ length-cut c.args.place c.args.size bytes (omega (arith, inside, g.met.H.HeldFile.sized c.args.held.now bytes told)))) in
+          (found.0, at, sym c.deref.ensures.value ∙ fills c.args.number c.args.place b c.args.kind found.0 found.1 found.2))
           (λ bytes told read p bad. absurd bad)
           c.in_ok-fill.ensures
           (gives _ c.args.number _ _ _ tt (λ bytes told. tt));

@@ -19,8 +19,8 @@ returns-then-not-is_block-clause-answers g c = λ files kept file.
     and_then _ _ _ c.args.number _ _ _ _ _ (λ bytes damage. damage ≡ block.place) _ c.in_ok-read_part.field-0 _ (λ bytes told read x good. good)
     (λ bytes told read damage bad. (
       not_read c.args.number bytes block.place block.length read.0 c.body_of.result.now read.1
-      (c.body_of.ensures c.args.number block.place kinds.Block read.0 (c.deref.ensures.value ∙ read.2))
-      (λ es says. let yes = c.is_block.ensures.whole es says in let no = c.if-not-is_block.true in cc),
+          (c.body_of.ensures c.args.number block.place kinds.Block read.0 (c.deref.ensures.value ∙ read.2))
+          (λ es says. let yes = c.is_block.ensures.whole es says in let no = c.if-not-is_block.true in cc),
       bad,
     ))
     c.in_ok-read_part.ensures.answers
@@ -31,12 +31,11 @@ returns-clause-kept g c = λ files kept file some bytes told.
     let block = c.args.block.now in
     let read = c.in_ok-read_part.ensures.answers.answer bytes (sym file ∙ told) in
     let found = c.is_block.ensures.found c.if-not-is_block.false in
-    let buffer : BlockBuffer = record { number = c.args.number; place = block.place; frame = c.read_part.new.frame } in
-    (
+    let buffer : BlockBuffer = record { number = c.args.number; place = block.place; frame = c.read_part.new.frame } in (
       block.length,
       found.0,
       has_read buffer c.args.number bytes block.place block.length read.0 c.body_of.result.now found.0 read.1 read.2
-      (c.body_of.ensures c.args.number block.place kinds.Block read.0 (c.deref.ensures.value ∙ read.2)) found.1,
+          (c.body_of.ensures c.args.number block.place kinds.Block read.0 (c.deref.ensures.value ∙ read.2)) found.1,
     )
 
 pub returns-clause-answers : goal.returns-clause-answers
@@ -48,7 +47,7 @@ returns-clause-answers g c = λ files kept file.
     (λ bytes told read x good. (
       found.0,
       has_read buffer c.args.number bytes block.place block.length read.0 c.body_of.result.now found.0 read.1 read.2
-      (c.body_of.ensures c.args.number block.place kinds.Block read.0 (c.deref.ensures.value ∙ read.2)) found.1,
+          (c.body_of.ensures c.args.number block.place kinds.Block read.0 (c.deref.ensures.value ∙ read.2)) found.1,
     ))
     (λ bytes told read damage none. absurd none)
     c.in_ok-read_part.ensures.answers
