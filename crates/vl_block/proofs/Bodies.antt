@@ -6,9 +6,9 @@ use Rattle.byteorder.specs.Endian.{big_bytes}
 use Rattle.vl_model.specs.declared.entry.Entry.{Entry}
 use Rattle.vl_block.specs.Blocks.{block_body, entries}
 use Rattle.vl_block.specs.Entries.{entry_bytes}
-use Rattle.vl_block.specs.ListLaws.{items_bytes-push}
-use Rattle.vl_block.specs.Lists.{IsNext, Spelling, items_bytes}
-use Rattle.vl_block.specs.ListLaws.{last_item, last-of}
+use Rattle.vl_list.specs.ListLaws.{items_bytes-push}
+use Rattle.vl_list.specs.Lists.{IsNext, Spelling, items_bytes}
+use Rattle.vl_list.specs.ListLaws.{last_item, last-of}
 use Rattle.vl_block.specs.Footer.{point_bytes, points}
 use Rattle.vl_block.specs.Index.{place_bytes, places}
 use Rattle.vl_block.specs.declared.index.BlockPlace.{BlockPlace}

@@ -8,8 +8,8 @@ use Rattle.vl_block.specs.declared.entry_ref.EntryRef.{EntryRef}
 use Rattle.vl_block.specs.BlockLaws.{entry_is_some}
 use Rattle.vl_block.specs.Blocks.{entries, SpellsBlock}
 use Rattle.vl_block.specs.Entries.{entry_bytes, entry_of, IsEntry}
-use Rattle.vl_block.specs.Lists.{IsNext, IsRun}
-use Rattle.vl_block.specs.ListLaws.{SoFar, Behind, begins, cut, goes_on, last_item, last-push, next, none_taken, not_next, one_more, run_of}
+use Rattle.vl_list.specs.Lists.{IsNext, IsRun}
+use Rattle.vl_list.specs.ListLaws.{SoFar, Behind, begins, cut, goes_on, last_item, last-push, next, none_taken, not_next, one_more, run_of}
 
 -- so many entries were read, and the last of them is this
 pub record UnderWay (bytes : List ℕ) (total count : ℕ) (last : Option EntryRef) (rest : List ℕ) : Type 0 where

@@ -5,7 +5,7 @@ use Rattle.vl_model.specs.declared.entry.Entry.{Entry}
 use Rattle.vl_block.specs.Blocks.{entries, SpellsBlock}
 use Rattle.vl_block.specs.Entries.{entry_bytes}
 use Rattle.vl_block.specs.Index.{SpellsIndex, places}
-use Rattle.vl_block.specs.ListLaws.{one_list}
+use Rattle.vl_list.specs.ListLaws.{one_list}
 use Rattle.vl_block.specs.declared.index.BlockPlace.{BlockPlace}
 
 pub entry_is_some : (e : Entry) → 1 ≤ length (entry_bytes e)

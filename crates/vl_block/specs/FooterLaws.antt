@@ -6,8 +6,8 @@ use Rattle.vl_frame.specs.Numbers.{one_number}
 use Rattle.vl_block.specs.Entries.{key_bytes}
 use Rattle.vl_block.specs.EntryLaws.{one_key}
 use Rattle.vl_block.specs.Footer.{Head, IsHead, head_bytes, Foot, SpellsFooter, points}
-use Rattle.vl_block.specs.Lists.{counted_bytes}
-use Rattle.vl_block.specs.ListLaws.{one_list}
+use Rattle.vl_list.specs.Lists.{counted_bytes}
+use Rattle.vl_list.specs.ListLaws.{one_list}
 
 -- a head's bytes come apart
 pub head-parts : (h : Head) (x : List ℕ)

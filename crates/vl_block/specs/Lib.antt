@@ -5,6 +5,4 @@ pub mod EntryLaws
 pub mod Footer
 pub mod FooterLaws
 pub mod Index
-pub mod ListLaws
-pub mod Lists
 pub mod Writing

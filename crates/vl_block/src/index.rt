@@ -4,7 +4,7 @@ ghost use Rattle.std.specs.Prelude.{◌≡◌, ◌++◌, ◌<◌, ◌^◌, ℕ, 
 ghost use Rattle.std.specs.List.{AllByRecursion};
 ghost use Rattle.byteorder.specs.Endian.{big_bytes};
 ghost use Rattle.vl_block.specs.Index.{IsPlace, SpellsIndex, index_body, place_bytes, place_of, places};
-ghost use Rattle.vl_block.specs.Lists.{AreLawful, IsRun};
+ghost use Rattle.vl_list.specs.Lists.{AreLawful, IsRun};
 ghost use Rattle.vl_block.specs.declared.index.BlockPlace.{BlockPlace};
 
 use crate::keys::{take_key, write_key};

@@ -3,8 +3,8 @@
 ghost use Rattle.std.specs.Prelude.{◌≡◌, ◌↔◌, ◌++◌, ◌<◌, ℕ, List, length, IfOk, IfNone, IfSome, IsTrue, OnOk};
 ghost use Rattle.std.specs.List.{AllByRecursion};
 ghost use Rattle.vl_block.specs.Footer.{IsPoint, point_bytes, points};
-ghost use Rattle.vl_block.specs.ListLaws.{last_item};
-ghost use Rattle.vl_block.specs.Lists.{AreLawful, IsNext, IsRun, counted_bytes};
+ghost use Rattle.vl_list.specs.ListLaws.{last_item};
+ghost use Rattle.vl_list.specs.Lists.{AreLawful, IsNext, IsRun, counted_bytes};
 ghost use Rattle.vl_block.specs.declared.points.Point.{Point};
 
 use crate::numbers::{u32_bytes, u64_bytes};

@@ -16,7 +16,7 @@ use Rattle.vl_block.specs.Blocks.{block_body, entries}
 use Rattle.vl_block.specs.Entries.{body_bytes, entry_bytes, key_bytes}
 use Rattle.vl_block.specs.Footer.{footer_body, points}
 use Rattle.vl_block.specs.Index.{index_body, places}
-use Rattle.vl_block.specs.Lists.{counted_bytes, items_bytes}
+use Rattle.vl_list.specs.Lists.{counted_bytes, items_bytes}
 use Rattle.vl_table.specs.Bytes.{block_places, blocks_bytes, foot, footer_bytes, footer_place, index_bytes, index_place, said, table_bytes}
 
 length-body : (body : Body) → length (body_bytes body) ≡ 1 + body_length body

@@ -13,8 +13,8 @@ use Rattle.vl_block.specs.Blocks.{IsBlock, block_body}
 use Rattle.vl_block.specs.Footer.{Foot, IsHead, SpellsFooter, footer_body, points}
 use Rattle.vl_block.specs.FooterLaws.{one_footer}
 use Rattle.vl_block.specs.Index.{index_body, places}
-use Rattle.vl_block.specs.ListLaws.{one_list}
-use Rattle.vl_block.specs.Lists.{AreLawful}
+use Rattle.vl_list.specs.ListLaws.{one_list}
+use Rattle.vl_list.specs.Lists.{AreLawful}
 use Rattle.vl_block.specs.declared.index.BlockPlace.{BlockPlace}
 use Rattle.vl_table.specs.declared.fault.TableFault.{TableFault}
 use Rattle.vl_table.specs.declared.fault.TableFault.TheVariants.{NoMemory, Disk, Damaged}

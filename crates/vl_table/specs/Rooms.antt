@@ -19,7 +19,7 @@ use Rattle.vl_block.specs.Blocks.{IsBlock, block_body, entries}
 use Rattle.vl_block.specs.Entries.{IsBody, IsEntry}
 use Rattle.vl_block.specs.Footer.{IsPoint, footer_body, points}
 use Rattle.vl_block.specs.Index.{IsPlace, index_body, places}
-use Rattle.vl_block.specs.Lists.{AreOrdered, IsInFront}
+use Rattle.vl_list.specs.Lists.{AreOrdered, IsInFront}
 use Rattle.vl_block.specs.declared.index.BlockPlace.{BlockPlace}
 use Rattle.vl_table.specs.Bytes.{AreTabled, block_places, foot, footer_place, greatest_version, index_place, said}
 use Rattle.vl_table.specs.Lengths.{length-block_body, length-footer, length-index}

@@ -6,7 +6,7 @@ use Rattle.vl_run.specs.OrderLaws.{all-append}
 use Rattle.vl_block.specs.BlockLaws.{entry_is_some}
 use Rattle.vl_block.specs.Blocks.{entries}
 use Rattle.vl_block.specs.Entries.{entry_of}
-use Rattle.vl_block.specs.ListLaws.{all_taken, next, one_more}
+use Rattle.vl_list.specs.ListLaws.{all_taken, next, one_more}
 use Rattle.vl_table.specs.Scans.{IsScan, all_passed, stops_at}
 use Rattle.vl_table.proofs.scanning.look_in.Goals as goal
 
