@@ -1,6 +1,6 @@
 //! How a block's body is read. A body that isn't a block's to its last byte is none.
 
-ghost use Rattle.std.specs.Prelude.{◌≡◌, ◌↔◌, ◌<◌, ℕ, List, Option, IfOk, IfNone, IfSome, IsTrue};
+ghost use Rattle.std.specs.Prelude.{◌≡◌, ◌↔◌, ◌<◌, List, Option, IfOk, IfNone, IfSome, IsTrue};
 ghost use Rattle.std.specs.Option.{option_map};
 ghost use Rattle.vl_model.specs.Entries.{entry_cmp};
 ghost use Rattle.vl_model.specs.declared.entry.Entry.{Entry};

@@ -1,8 +1,8 @@
 //! The footer of a table.
 
-ghost use Rattle.std.specs.Prelude.{◌≡◌, ◌++◌, ℕ, List, IfOk, IfNone, IfSome, OnOk};
+ghost use Rattle.std.specs.Prelude.{◌≡◌, ◌++◌, IfOk, IfNone, IfSome, OnOk};
 ghost use Rattle.byteorder.specs.Endian.{big_bytes};
-ghost use Rattle.vl_block.specs.Footer.{Foot, Head, SpellsFooter, foot_of, footer_body, head_bytes, head_of};
+ghost use Rattle.vl_block.specs.Footer.{Foot, SpellsFooter, foot_of, footer_body, head_bytes, head_of};
 ghost use Rattle.vl_block.specs.declared.footer_head.FooterHead.{FooterHead};
 
 use crate::footer_head::{FooterHead, take_head};

@@ -1,10 +1,9 @@
 //! The index of a table: which blocks it has, where they stand, and which key is the last of each.
 
-ghost use Rattle.std.specs.Prelude.{◌≡◌, ◌++◌, ◌<◌, ◌^◌, ℕ, List, length, IfOk, IfNone, IfSome, OnOk};
-ghost use Rattle.std.specs.List.{AllByRecursion};
+ghost use Rattle.std.specs.Prelude.{◌≡◌, ◌++◌, ◌<◌, ℕ, List, length, IfOk, IfNone, IfSome, OnOk};
 ghost use Rattle.byteorder.specs.Endian.{big_bytes};
 ghost use Rattle.vl_block.specs.Index.{IsPlace, SpellsIndex, index_body, place_bytes, place_of, places};
-ghost use Rattle.vl_list.specs.Lists.{AreLawful, IsRun};
+ghost use Rattle.vl_list.specs.Lists.{IsRun};
 ghost use Rattle.vl_block.specs.declared.index.BlockPlace.{BlockPlace};
 
 use crate::keys::{take_key, write_key};

@@ -1,5 +1,5 @@
 // Laws of the definitions: each is the contract of a function that does nothing.
-ghost use Rattle.std.specs.Prelude.{◌≡◌, ◌∷◌, [], List, ℕ, length};
+ghost use Rattle.std.specs.Prelude.{◌≡◌, ◌∷◌, [], List, ℕ};
 ghost use Rattle.vl_model.specs.declared.entry.Entry.{Entry};
 ghost use Rattle.vl_model.specs.declared.entry.Body.TheVariants.{Gone};
 ghost use Rattle.vl_block.specs.Blocks.{SpellsBlock, block_body};

@@ -1,7 +1,6 @@
 //! Which segments a table leads into, as its footer says it.
 
-ghost use Rattle.std.specs.Prelude.{◌≡◌, ◌↔◌, ◌++◌, ◌<◌, ℕ, List, length, IfOk, IfNone, IfSome, IsTrue, OnOk};
-ghost use Rattle.std.specs.List.{AllByRecursion};
+ghost use Rattle.std.specs.Prelude.{◌≡◌, ◌↔◌, ◌++◌, ◌<◌, ℕ, List, IfOk, IfNone, IfSome, IsTrue, OnOk};
 ghost use Rattle.vl_block.specs.Footer.{IsPoint, point_bytes, points};
 ghost use Rattle.vl_list.specs.ListLaws.{last_item};
 ghost use Rattle.vl_list.specs.Lists.{AreLawful, IsNext, IsRun, counted_bytes};

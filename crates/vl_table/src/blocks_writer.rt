@@ -1,5 +1,4 @@
-ghost use Rattle.std.specs.Prelude.{◌≡◌, ◌+◌, ◌++◌, ◌∷◌, [], nat_le, ℕ, List, length, IfOk, OnOk};
-ghost use Rattle.std.specs.List.{AllByRecursion};
+ghost use Rattle.std.specs.Prelude.{◌≡◌, ◌+◌, ◌++◌, ◌∷◌, [], nat_le, List, length, IfOk, OnOk};
 ghost use Rattle.vl_frame.specs.Frame.{frame_bytes};
 ghost use Rattle.vl_frame.specs.declared.kinds.FrameKind.TheVariants as kinds;
 ghost use Rattle.vl_model.specs.declared.entry.Entry.{Entry};

@@ -1,11 +1,11 @@
 //! How a table is opened: its header and the last eight bytes, then the footer that these lead to, then the index that the
 //! footer leads to. Blocks aren't read.
 
-ghost use Rattle.std.specs.Prelude.{◌≡◌, ◌+◌, ◌-◌, ◌≤◌, ◌↔◌, ℕ, List, length, IfOk, IfNone, IfSome, IsTrue, OnOk};
+ghost use Rattle.std.specs.Prelude.{◌≡◌, ◌+◌, ◌-◌, ◌≤◌, ◌↔◌, List, length, IfOk, IfNone, IfSome, IsTrue, OnOk};
 ghost use Rattle.vl_block.specs.Footer.{Foot, foot_of};
 ghost use Rattle.vl_block.specs.declared.index.BlockPlace.{BlockPlace};
 ghost use Rattle.vl_table.specs.Answers.{Answers};
-ghost use Rattle.vl_table.specs.Opening.{FooterIn, HasHeader, IsBegun, IsDamaged, IsInside, IsRead, StandsFooter, StandsIndex, said_place};
+ghost use Rattle.vl_table.specs.Opening.{FooterIn, HasHeader, IsBegun, IsInside, StandsFooter, StandsIndex, said_place};
 
 use crate::fault::{TableFault, damaged};
 use crate::format::TABLE_FORMAT;

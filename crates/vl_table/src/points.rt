@@ -1,4 +1,4 @@
-ghost use Rattle.std.specs.Prelude.{◌≡◌, ◌≤◌, length, map, ℕ, List, OnOk};
+ghost use Rattle.std.specs.Prelude.{◌≡◌, ◌≤◌, length, map, List, OnOk};
 ghost use Rattle.vl_layout.specs.Tables.{pointed};
 ghost use Rattle.vl_layout.specs.declared.table.Point.{Point as LaidPoint};
 ghost use Rattle.vl_table.specs.Bytes.{said};

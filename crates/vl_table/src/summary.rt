@@ -1,9 +1,9 @@
-ghost use Rattle.std.specs.Prelude.{◌≡◌, ◌≤◌, length, ◌++◌, ◌∷◌, [], map, ℕ, List, IfOk, OnOk};
+ghost use Rattle.std.specs.Prelude.{◌≡◌, ◌≤◌, length, ◌++◌, ◌∷◌, [], map, List, IfOk, OnOk};
 ghost use Rattle.vl_model.specs.declared.entry.Entry.{Entry};
-ghost use Rattle.vl_layout.specs.Tables.{first_key, last_key, points_of, with_point};
+ghost use Rattle.vl_layout.specs.Tables.{with_point};
 ghost use Rattle.vl_layout.specs.declared.table.Point.{Point as LaidPoint};
-ghost use Rattle.vl_block.specs.Footer.{Foot, foot_of};
-ghost use Rattle.vl_table.specs.Bytes.{greatest_version, said};
+ghost use Rattle.vl_block.specs.Footer.{foot_of};
+ghost use Rattle.vl_table.specs.Bytes.{said};
 ghost use Rattle.vl_table.specs.Writing.{Sums};
 
 use crate::points::add_point;
