@@ -61,7 +61,8 @@ pub(crate) fn is_same(kind: FrameKind, other: FrameKind) -> bool
 
 /// The body of a frame.
 pub fn body_of(frame: &[u8]) -> &[u8]
-    ensures { (number place : ℕ) (kind : FrameKind) (body : List ℕ) → frame.now ≡ frame_bytes number place kind body → result.now ≡ body }
+    ensures { (number place : ℕ) (kind : FrameKind) (body : List ℕ)
+        → frame.now ≡ frame_bytes number place kind body → result.now ≡ body }
 {
     if frame.len() < FRAME_BYTES {
         return &[];
