@@ -1,0 +1,57 @@
+-- A block's entries are read one after the other.
+use Rattle.std.specs.Prelude.{◌≡◌, ◌<◌, ◌+◌, ◌^◌, ℕ, List, [], ◌∷◌, ◌++◌, Option, Some, None, refl}
+use Rattle.std.specs.Option.{option_map}
+use Rattle.std.proofs.Common.{sym, subst}
+use Rattle.byteorder.specs.Endian.{big_bytes}
+use Rattle.vl_model.specs.declared.entry.Entry.{Entry}
+use Rattle.vl_block.specs.declared.entry_ref.EntryRef.{EntryRef}
+use Rattle.vl_block.specs.BlockLaws.{entry_is_some}
+use Rattle.vl_block.specs.Blocks.{entries, SpellsBlock}
+use Rattle.vl_block.specs.Entries.{entry_bytes, entry_of, IsEntry}
+use Rattle.vl_list.specs.Lists.{IsNext, IsRun}
+use Rattle.vl_list.specs.ListLaws.{SoFar, Behind, begins, cut, goes_on, last_item, last-push, next, none_taken, not_next, one_more, run_of}
+
+-- so many entries were read, and the last of them is this
+pub record UnderWay (bytes : List ℕ) (total count : ℕ) (last : Option EntryRef) (rest : List ℕ) : Type 0 where
+  pub taken : List Entry
+  pub so_far : SoFar entries bytes total count taken rest
+  pub last_is : last_item taken ≡ option_map entry_of last
+
+pub starts : (bytes : List ℕ) (total : ℕ) → UnderWay bytes total 0 None bytes
+starts bytes total = record { taken = []; so_far = begins entries bytes total; last_is = refl }
+
+pub reads_one : (bytes : List ℕ) (total count : ℕ) (last : Option EntryRef) (rest : List ℕ) (e : EntryRef) (after : List ℕ)
+    → UnderWay bytes total count last rest → IsEntry (entry_of e) → rest ≡ entry_bytes (entry_of e) ++ after
+    → IsNext entries (option_map entry_of last) (entry_of e) → UnderWay bytes total (count + 1) (Some e) after
+reads_one bytes total count last rest e after u lawful spelled follows = record {
+  taken = u.taken ++ entry_of e ∷ [];
+  so_far = goes_on entries bytes total count u.taken rest (entry_of e) after u.so_far (entry_is_some (entry_of e)) lawful spelled
+      (subst (λ (o : Option Entry). IsNext entries o (entry_of e)) (sym u.last_is) follows);
+  last_is = last-push u.taken (entry_of e);
+}
+
+pub cut_short : (bytes : List ℕ) (total count : ℕ) (last : Option EntryRef) (rest : List ℕ)
+    → UnderWay bytes total count last rest → count < total
+    → ((e : Entry) (after : List ℕ) → IsEntry e → rest ≡ entry_bytes e ++ after → ⊥)
+    → (es : List Entry) → IsRun entries bytes total es → ⊥
+cut_short bytes total count last rest u less none es run = cut entries bytes total count u.taken rest u.so_far less none es run
+
+pub out_of_order : (bytes : List ℕ) (total count : ℕ) (last : Option EntryRef) (rest : List ℕ) (e : EntryRef) (after : List ℕ)
+    → UnderWay bytes total count last rest → IsEntry (entry_of e) → rest ≡ entry_bytes (entry_of e) ++ after
+    → (IsNext entries (option_map entry_of last) (entry_of e) → ⊥)
+    → (es : List Entry) → IsRun entries bytes total es → ⊥
+out_of_order bytes total count last rest e after u lawful spelled apart es run =
+    not_next entries bytes total count u.taken rest (entry_of e) after u.so_far (entry_is_some (entry_of e)) lawful spelled
+    (λ follows. apart (subst (λ (o : Option Entry). IsNext entries o (entry_of e)) u.last_is follows)) es run
+
+-- of a block's entries so many were copied
+pub copies_none : (body rest : List ℕ) (count : ℕ) → count < 2 ^ 32 → body ≡ big_bytes 4 count ++ rest
+    → (es : List Entry) → SpellsBlock body es → Behind entries es [] rest
+copies_none body rest count fits e es block =
+    let run = run_of entries body rest count es fits e block.lawful block.spelled in
+    none_taken entries es rest run.each run.spelled
+
+pub copies_one : (es copied : List Entry) (rest : List ℕ) (e : Entry) (after : List ℕ)
+    → Behind entries es copied rest → IsEntry e → rest ≡ entry_bytes e ++ after → Behind entries es (copied ++ e ∷ []) after
+copies_one es copied rest e after behind lawful spelled =
+    one_more entries es copied e after (next entries es copied rest e after behind (entry_is_some e) lawful spelled)

@@ -1,0 +1,30 @@
+//! What the frames of tables say: blocks of entries, the index that finds blocks, and the footer, each as the body of a
+//! frame. docs/FORMATS.md lists them.
+//!
+//! A body of the grammar is read as exactly what it spells, and any other as nothing. The bytes may be scanned as they lie
+//! there; only what is handed out on its own is copied.
+#![tactic(auto)]
+
+mod block;
+mod block_writer;
+mod entry;
+mod entry_ref;
+mod footer;
+mod footer_head;
+mod index;
+mod keys;
+mod laws;
+mod numbers;
+mod pointers;
+mod points;
+mod taking;
+
+pub use block::{block_entries, is_block, read_block};
+pub use block_writer::BlockWriter;
+pub use entry::write_entry;
+pub use entry_ref::{BodyRef, EntryRef};
+pub use footer::{Footer, read_footer, write_footer};
+pub use index::{BlockPlace, read_index, write_index};
+pub use laws::{a_worked_block, bodies_are_read_in_one_way};
+pub use points::Point;
+pub use taking::take_entry;

@@ -1,0 +1,27 @@
+use Rattle.std.proofs.Common.{◌≡◌, ◌∙◌, ap, sym, refl, subst, List, Option}
+use Rattle.std.specs.Prelude.{Result, Err}
+use Rattle.std.proofs.lemmas.Result.{err_from_is_err_and}
+use Rattle.vl_model.specs.Winners.{exact}
+use Rattle.vl_model.specs.declared.entry.Entry.{Entry}
+use Rattle.vl_layout.specs.Tables.{blocks}
+use Rattle.vl_table.specs.Answers.{Answers, and_then, fails, gives}
+use Rattle.vl_table.specs.Lookups.{exact-blocks, first_over}
+use Rattle.vl_table.specs.Opened.{IsOf}
+use Rattle.vl_table.specs.Seeks.{IsBadBlock}
+use Rattle.vl_table.specs.declared.fault.TableFault.{TableFault}
+use Rattle.vl_table.proofs.table.Table.exact.Goals as goal
+
+pub returns-clause-answers : goal.returns-clause-answers
+returns-clause-answers g c = λ files kept file.
+    let key = c.args.key.now in
+    and_then _ _ _ c.args.self.now.number (g.H.HeldFile.bytes c.args.self.now.held) _ (λ bytes found. found ≡ c.of_version.result) _ _ (λ bytes damage. ⊥) _ c.in_ok-found.found _
+    (λ bytes told good found is es is_of. is ∙ c.of_version.ensures key (first_over key c.args.version (blocks es)) (good es is_of) ∙ exact-blocks key c.args.version es is_of.table.tabled.ordered)
+    (λ bytes told good damage none. absurd none)
+    (c.in_ok-found.ensures.answers files kept file) (gives _ c.args.self.now.number _ _ _ c.of_version.result (λ bytes told. refl))
+
+pub returns-in_err-found-clause-answers : goal.returns-in_err-found-clause-answers
+returns-in_err-found-clause-answers g c = λ files kept file.
+    let p = err_from_is_err_and c.from_residual.result c.from_residual.ensures.1 in
+    subst (λ (r : Result (Option Entry) TableFault). Answers (g.R.Reader.faults c.args.reader.now) (g.R.Reader.faults c.seek.new.reader) c.args.self.now.number (g.H.HeldFile.bytes c.args.self.now.held)
+    (λ bytes found. (es : List Entry) → IsOf g.H.HeldFile.bytes c.args.self.now es → found ≡ exact es c.args.key.now c.args.version) (IsBadBlock c.args.self.now) r) (sym (p.1 ∙ ap Err p.2))
+    (fails _ _ c.args.self.now.number _ _ _ _ _ c.in_err-found.field-0.0 (λ bytes told damage bad. bad) (c.in_err-found.ensures.answers files kept file))

@@ -1,0 +1,217 @@
+-- A look-up, block by block.
+use Rattle.std.specs.Prelude.{◌≡◌, ◌+◌, ◌≤◌, ◌<◌, ◌^◌, ℕ, List, [], ◌∷◌, ◌++◌, length, drop, get_or, Option, Some, None}
+use Rattle.std.specs.List.{AllByRecursion, prefix_len}
+use Rattle.std.proofs.Common.{refl, ap, sym, subst, ◌∙◌, append_assoc, length-append, arith}
+use Rattle.std.proofs.lemmas.List.{drop_at, length-drop, take-append-drop}
+use Rattle.vl_frame.specs.Laws.{length-frame_bytes, one_frame}
+use Rattle.vl_frame.specs.declared.kinds.FileKind.TheVariants as files
+use Rattle.vl_frame.specs.declared.kinds.FrameKind.TheVariants as kinds
+use Rattle.vl_model.specs.declared.entry.Entry.{Entry}
+use Rattle.vl_layout.specs.Tables.{blocks}
+use Rattle.vl_run.specs.Lookup.{if_of_key, is_ahead}
+use Rattle.vl_run.specs.Places.{IsParted, first_failing}
+use Rattle.vl_block.specs.Blocks.{IsBlock, SpellsBlock, block_body}
+use Rattle.vl_block.specs.BlockLaws.{one_block}
+use Rattle.vl_block.specs.declared.index.BlockPlace.{BlockPlace}
+use Rattle.std.specs.Prelude.{Result, Ok, Err}
+use Rattle.vl_layout.specs.TableLaws.{blocks-whole, joined}
+use Rattle.vl_run.specs.Order.{IsInOrder}
+use Rattle.vl_run.specs.OrderLaws.{rising}
+use Rattle.vl_table.specs.Answers.{Answers, and_then, fails, gives, no_room}
+use Rattle.vl_table.specs.declared.fault.TableFault.{TableFault}
+use Rattle.vl_table.specs.declared.fault.TableFault.TheVariants.{NoMemory}
+use Rattle.vl_table.specs.Buffers.{IsKept, HasBlock, NoBlock, StandsBlock}
+use Rattle.vl_table.specs.Bytes.{table_bytes}
+use Rattle.vl_table.specs.Lengths.{length-block}
+use Rattle.vl_table.specs.Lookups.{blocks-some, first-skipped, first_over, index-parted, is_below, or_else}
+use Rattle.vl_table.specs.Opened.{IsOf, IsTable}
+use Rattle.vl_table.specs.Places.{BlockAt, block_at, block_bytes, length-block_places}
+use Rattle.vl_table.specs.declared.block_buffer.BlockBuffer.{BlockBuffer}
+use Rattle.vl_table.specs.declared.table.Table.{Table}
+
+-- a block that the index names doesn't stand where and as long as it says: there the table is damaged
+pub record IsBadBlock {H : Type 0} (t : Table H) (bytes : List ℕ) (damage : ℕ) : Type 0 where
+  pub at : ℕ
+  pub place : BlockPlace
+  pub named : at < length t.blocks.items
+  pub place_is : place ≡ get_or t.blocks.items at place
+  pub none : NoBlock t.number place bytes damage
+
+all_at : {X : Type 0} (P : X → Type 0) (front : List X) (x : X) (back : List X) → AllByRecursion P (front ++ x ∷ back) → P x
+all_at P [] x back all = all.0
+all_at P (y ∷ front) x back all = all_at P front x back all.1
+
+-- a block of a true table stands where the index says
+pub block_stands : (number : ℕ) (es : List Entry) (i : ℕ) (p : BlockPlace) → IsTable number es → (b : BlockAt 16 (blocks es) i p)
+    → StandsBlock number (table_bytes number es) p.place p.length b.block
+block_stands number es i p is b =
+    let bytes = table_bytes number es in
+    let body = block_body b.block in
+    record {
+      body = body;
+      frame = record {
+        frame = record {
+          in_file = refl;
+          short = all_at (λ c. length (block_body c) < 2 ^ 32) b.front b.block b.back (subst (AllByRecursion (λ c. length (block_body c) < 2 ^ 32)) b.split is.short);
+          rest = drop p.length (drop p.place bytes);
+          spelled = sym (take-append-drop p.length (drop p.place bytes)) ∙ ap (λ (l : List ℕ). l ++ drop p.length (drop p.place bytes)) (block_bytes number es (blocks es) i p b);
+        };
+        sized = b.length ∙ sym (length-block number p.place b.block) ∙ length-frame_bytes number p.place kinds.Block body;
+      };
+      says = record { lawful = all_at IsBlock b.front b.block b.back (subst (AllByRecursion IsBlock) b.split is.each); spelled = refl };
+    }
+
+-- so it is what the buffer has
+pub block_is : (buffer : BlockBuffer) (number : ℕ) (bytes : List ℕ) (place size : ℕ) (es others : List Entry) → HasBlock buffer number bytes place size es
+    → StandsBlock number bytes place size others → es ≡ others
+block_is buffer number bytes place size es others has stands =
+    let one = one_frame files.Table number place (drop place bytes) kinds.Block kinds.Block has.stands.body stands.body has.stands.frame.frame stands.frame.frame in
+    one_block stands.body es others (subst (λ (l : List ℕ). SpellsBlock l es) one.1 has.stands.says) stands.says
+
+pub named_block : {H : Type 0} (bytes_of : H → Option (List ℕ)) (t : Table H) (es : List Entry) (i : ℕ) (p : BlockPlace) → IsOf bytes_of t es → i < length t.blocks.items
+    → p ≡ get_or t.blocks.items i p → BlockAt 16 (blocks es) i p
+named_block bytes_of t es i p is within found =
+    block_at 16 (blocks es) i p (omega (arith, within, ap length is.blocks, length-block_places 16 (blocks es))) (found ∙ ap (λ l. get_or l i p) is.blocks)
+
+-- a true table has no bad block
+pub no_bad_block : {H : Type 0} (bytes_of : H → Option (List ℕ)) (t : Table H) (es : List Entry) (damage : ℕ) → IsOf bytes_of t es → IsBadBlock t (table_bytes t.number es) damage → ⊥
+no_bad_block bytes_of t es damage is bad =
+    let b = named_block bytes_of t es bad.at bad.place is bad.named bad.place_is in
+    bad.none.0 b.block (block_stands t.number es bad.at bad.place is.table b)
+
+-- ---- one step
+
+module _ (key : List ℕ) (version : ℕ) where
+  -- from a block on
+  pub from_block : (i : ℕ) (bs : List (List Entry)) (p : BlockPlace) → (b : BlockAt 16 bs i p)
+      → first_over key version (drop i bs) ≡ or_else (first_failing (is_ahead key version) b.block) (first_over key version (drop (i + 1) bs))
+  from_block i bs p b =
+      ap (λ l. first_over key version (drop i l)) b.split ∙ ap (first_over key version) (drop_at b.front (b.block ∷ b.back) i b.counted)
+      ∙ ap (λ l. or_else (first_failing (is_ahead key version) b.block) (first_over key version l))
+      (sym (ap (drop (i + 1)) (b.split ∙ sym (append_assoc b.front (b.block ∷ []) b.back))
+      ∙ drop_at (b.front ++ b.block ∷ []) b.back (i + 1) (omega (arith, b.counted, length-append b.front (b.block ∷ [])))))
+
+  pub goes_behind : (i : ℕ) (bs : List (List Entry)) (p : BlockPlace) (whole : Option Entry) → (b : BlockAt 16 bs i p) → first_failing (is_ahead key version) b.block ≡ None
+      → first_over key version (drop i bs) ≡ whole → first_over key version (drop (i + 1) bs) ≡ whole
+  goes_behind i bs p whole b none so_far =
+      sym (from_block i bs p b ∙ ap (λ o. or_else o (first_over key version (drop (i + 1) bs))) none) ∙ so_far
+
+  pub stops_in : (i : ℕ) (bs : List (List Entry)) (p : BlockPlace) (whole : Option Entry) (e : Entry) → (b : BlockAt 16 bs i p) → first_failing (is_ahead key version) b.block ≡ Some e
+      → first_over key version (drop i bs) ≡ whole → first_failing (is_ahead key version) b.block ≡ whole
+  stops_in i bs p whole e b some so_far =
+      some ∙ sym (from_block i bs p b ∙ ap (λ o. or_else o (first_over key version (drop (i + 1) bs))) some) ∙ so_far
+
+  pub none_over : (i : ℕ) (bs : List (List Entry)) → length bs ≤ i → first_over key version (drop i bs) ≡ None
+  none_over i bs past = by (drop i bs) (omega (arith, past, length-drop i bs))
+    where
+      by : (cs : List (List Entry)) → length cs ≡ 0 → first_over key version cs ≡ None
+      by [] none = refl
+      by (c ∷ cs) none = absurd (omega arith)
+
+-- ---- the exits of a look-up
+
+-- what is found in all entries of the table
+abbrev pub Finds : {H : Type 0} → (H → Option (List ℕ)) → Table H → List ℕ → ℕ → List ℕ → Option Entry → Type 0
+Finds bytes_of t key version bytes found = (es : List Entry) → IsOf bytes_of t es → found ≡ if_of_key key (first_over key version (blocks es))
+
+-- The blocks up to a position hold nothing at or behind the place, and no read has failed.
+pub record Seeking {H : Type 0} (bytes_of : H → Option (List ℕ)) (t : Table H) (key : List ℕ) (version : ℕ) (files : ℕ → Option (List ℕ)) (before now : ℕ) (buffer : BlockBuffer) (at : ℕ) : Type 0 where
+  pub steady : now ≡ before
+  pub kept : IsKept files buffer
+  pub so_far : (es : List Entry) → IsOf bytes_of t es → first_over key version (drop at (blocks es)) ≡ first_over key version (blocks es)
+
+pub seeks : {H : Type 0} (bytes_of : H → Option (List ℕ)) (t : Table H) (key : List ℕ) (version : ℕ) (files : ℕ → Option (List ℕ)) (before : ℕ) (buffer : BlockBuffer) (at : ℕ)
+    → IsKept files buffer
+    → (IsParted (λ (p : BlockPlace). is_below key p.last) t.blocks.items → at ≡ prefix_len (λ (p : BlockPlace). is_below key p.last) t.blocks.items)
+    → Seeking bytes_of t key version files before before buffer at
+seeks bytes_of t key version files before buffer at kept first = record {
+  steady = refl;
+  kept = kept;
+  so_far = λ es is.
+      let test = λ (p : BlockPlace). is_below key p.last in
+      let bs = blocks es in
+      let ordered = rising (joined bs) (subst IsInOrder (sym (blocks-whole es)) is.table.tabled.ordered) in
+      let parted = subst (IsParted test) (sym is.blocks) (index-parted key version 16 bs (blocks-some es) ordered) in
+      ap (λ (n : ℕ). first_over key version (drop n bs)) (first parted ∙ ap (prefix_len test) is.blocks)
+      ∙ first-skipped key version 16 bs ordered;
+}
+
+module _ {H : Type 0} (bytes_of : H → Option (List ℕ)) (t : Table H) (key : List ℕ) (version : ℕ) (i : ℕ) (p : BlockPlace)
+    (within : i < length t.blocks.items) (found : p ≡ get_or t.blocks.items i p) where
+  pub load_fails : (a b c : ℕ) (buffer : BlockBuffer) (e : TableFault) → b ≡ a
+      → Answers {T = Unit {0}} b c t.number (bytes_of t.held) (λ bytes done. (es : List Entry) × HasBlock buffer t.number bytes p.place p.length es) (NoBlock t.number p) (Err e)
+      → Answers {T = Option Entry} a c t.number (bytes_of t.held) (Finds bytes_of t key version) (IsBadBlock t) (Err e)
+  load_fails a b c buffer e same load =
+      subst (λ (n : ℕ). Answers {T = Option Entry} n c t.number (bytes_of t.held) (Finds bytes_of t key version) (IsBadBlock t) (Err e)) same
+      (fails b c t.number (bytes_of t.held) (λ bytes (done : Unit {0}). (es : List Entry) × HasBlock buffer t.number bytes p.place p.length es) (Finds bytes_of t key version) (NoBlock t.number p) (IsBadBlock t) e
+      (λ bytes told damage none. record { at = i; place = p; named = within; place_is = found; none = none }) load)
+
+  -- what comes behind a load that went well
+  behind_load : (a b c : ℕ) (buffer : BlockBuffer) (r : Result (Option Entry) TableFault) (good : List ℕ → Option Entry → Type 0) → b ≡ a
+      → Answers {T = Unit {0}} b c t.number (bytes_of t.held) (λ bytes done. (es : List Entry) × HasBlock buffer t.number bytes p.place p.length es) (NoBlock t.number p) (Ok (tt {0}))
+      → ((bytes : List ℕ) → bytes_of t.held ≡ Some bytes → (es : List Entry) × HasBlock buffer t.number bytes p.place p.length es → (x : Option Entry) → good bytes x → Finds bytes_of t key version bytes x)
+      → Answers {T = Option Entry} c c t.number (bytes_of t.held) good (λ bytes damage. ⊥) r
+      → Answers {T = Option Entry} a c t.number (bytes_of t.held) (Finds bytes_of t key version) (IsBadBlock t) r
+  behind_load a b c buffer r good same load f rest =
+      subst (λ (n : ℕ). Answers {T = Option Entry} n c t.number (bytes_of t.held) (Finds bytes_of t key version) (IsBadBlock t) r) same
+      (and_then b c c t.number (bytes_of t.held) (λ bytes (done : Unit {0}). (es : List Entry) × HasBlock buffer t.number bytes p.place p.length es) good (Finds bytes_of t key version)
+      (NoBlock t.number p) (λ bytes damage. ⊥) (IsBadBlock t) (tt {0}) r f (λ bytes told has damage none. absurd none) load rest)
+
+  pub no_memory : (a b c : ℕ) (buffer : BlockBuffer) (e : TableFault) → b ≡ a → e ≡ NoMemory
+      → Answers {T = Unit {0}} b c t.number (bytes_of t.held) (λ bytes done. (es : List Entry) × HasBlock buffer t.number bytes p.place p.length es) (NoBlock t.number p) (Ok (tt {0}))
+      → Answers {T = Option Entry} a c t.number (bytes_of t.held) (Finds bytes_of t key version) (IsBadBlock t) (Err e)
+  no_memory a b c buffer e same is load =
+      behind_load a b c buffer (Err e) (Finds bytes_of t key version) same load (λ bytes told has x good. good)
+      (no_room c t.number (bytes_of t.held) (Finds bytes_of t key version) (λ bytes damage. ⊥) e is)
+
+  -- the block of a true table that was loaded
+  pub loaded : (buffer : BlockBuffer) (bytes : List ℕ) (es others : List Entry) → bytes_of t.held ≡ Some bytes → (is : IsOf bytes_of t es) → HasBlock buffer t.number bytes p.place p.length others
+      → (b : BlockAt 16 (blocks es) i p) × (others ≡ b.block)
+  loaded buffer bytes es others told is has =
+      let b = named_block bytes_of t es i p is within found in
+      let same : bytes ≡ table_bytes t.number es = some_same bytes (table_bytes t.number es) (sym told ∙ is.told) in
+      (b, block_is buffer t.number (table_bytes t.number es) p.place p.length others b.block (subst (λ (l : List ℕ). HasBlock buffer t.number l p.place p.length others) same has) (block_stands t.number es i p is.table b))
+    where
+      some_same : (x y : List ℕ) → Some x ≡ Some y → x ≡ y
+      some_same x y e = cc
+
+  pub found_here : (a b c : ℕ) (buffer : BlockBuffer) (body : List ℕ) (x : Option Entry) → b ≡ a
+      → Answers {T = Unit {0}} b c t.number (bytes_of t.held) (λ bytes done. (es : List Entry) × HasBlock buffer t.number bytes p.place p.length es) (NoBlock t.number p) (Ok (tt {0}))
+      → ((bytes : List ℕ) (es : List Entry) → HasBlock buffer t.number bytes p.place p.length es → SpellsBlock body es)
+      → ((es : List Entry) → SpellsBlock body es → (e : Entry) × (first_failing (is_ahead key version) es ≡ Some e) × (if_of_key key (first_failing (is_ahead key version) es) ≡ x))
+      → ((es : List Entry) → IsOf bytes_of t es → first_over key version (drop i (blocks es)) ≡ first_over key version (blocks es))
+      → Answers {T = Option Entry} a c t.number (bytes_of t.held) (Finds bytes_of t key version) (IsBadBlock t) (Ok x)
+  found_here a b c buffer body x same load spells said so_far =
+      behind_load a b c buffer (Ok x) (λ bytes y. y ≡ x) same load
+      (λ bytes told has y is_x es is.
+      let one = loaded buffer bytes es has.0 told is has.1 in
+      let said_of = said has.0 (spells bytes has.0 has.1) in
+      let first : first_failing (is_ahead key version) one.0.block ≡ Some said_of.0 = ap (first_failing (is_ahead key version)) (sym one.1) ∙ said_of.1 in
+      is_x ∙ sym said_of.2 ∙ ap (λ l. if_of_key key (first_failing (is_ahead key version) l)) one.1
+      ∙ ap (if_of_key key) (stops_in key version i (blocks es) p (first_over key version (blocks es)) said_of.0 one.0 first (so_far es is)))
+      (gives c t.number (bytes_of t.held) (λ bytes y. y ≡ x) (λ bytes damage. ⊥) x (λ bytes told. refl))
+
+  pub moves_on : (a b c : ℕ) (files : ℕ → Option (List ℕ)) (old buffer : BlockBuffer) (body : List ℕ) → Seeking bytes_of t key version files a b old i → IsKept files buffer
+      → Answers {T = Unit {0}} b c t.number (bytes_of t.held) (λ bytes done. (es : List Entry) × HasBlock buffer t.number bytes p.place p.length es) (NoBlock t.number p) (Ok (tt {0}))
+      → ((bytes : List ℕ) (es : List Entry) → HasBlock buffer t.number bytes p.place p.length es → SpellsBlock body es)
+      → ((es : List Entry) → SpellsBlock body es → first_failing (is_ahead key version) es ≡ None)
+      → Seeking bytes_of t key version files a c buffer (i + 1)
+  moves_on a b c files old buffer body so kept load spells said = record {
+    steady = load.cause.steady (λ no. no) ∙ so.steady;
+    kept = kept;
+    so_far = λ es is.
+        let bytes = table_bytes t.number es in
+        let has = load.answer bytes is.told in
+        let one = loaded buffer bytes es has.0 is.told is has.1 in
+        goes_behind key version i (blocks es) p (first_over key version (blocks es)) one.0
+        (ap (first_failing (is_ahead key version)) (sym one.1) ∙ said has.0 (spells bytes has.0 has.1)) (so.so_far es is);
+  }
+
+-- no block is left
+pub finds_none : {H : Type 0} (bytes_of : H → Option (List ℕ)) (t : Table H) (key : List ℕ) (version : ℕ) (files : ℕ → Option (List ℕ)) (a b : ℕ) (buffer : BlockBuffer) (at : ℕ)
+    → Seeking bytes_of t key version files a b buffer at → length t.blocks.items ≤ at
+    → Answers {T = Option Entry} a b t.number (bytes_of t.held) (Finds bytes_of t key version) (IsBadBlock t) (Ok None)
+finds_none bytes_of t key version files a b buffer at so past =
+    subst (λ (n : ℕ). Answers {T = Option Entry} n b t.number (bytes_of t.held) (Finds bytes_of t key version) (IsBadBlock t) (Ok None)) so.steady
+    (gives b t.number (bytes_of t.held) (Finds bytes_of t key version) (IsBadBlock t) None
+    (λ bytes told es is. sym (ap (if_of_key key) (sym (so.so_far es is) ∙ none_over key version at (blocks es) (omega (arith, past, ap length is.blocks, length-block_places 16 (blocks es)))))))

@@ -1,0 +1,191 @@
+ghost use Rattle.std.specs.Prelude.{◌≡◌, ◌≤◌, ℕ, List, Option, Some, IfOk, length};
+ghost use Rattle.std.specs.List.{prefix_len};
+ghost use Rattle.vl_model.specs.declared.entry.Entry.{Entry};
+ghost use Rattle.vl_block.specs.Footer.{foot_of};
+ghost use Rattle.vl_table.specs.Answers.{Answers};
+ghost use Rattle.vl_model.specs.Winners.{exact, winner};
+ghost use Rattle.vl_layout.specs.Tables.{blocks};
+ghost use Rattle.vl_run.specs.Lookup.{if_exact, if_of_key};
+ghost use Rattle.vl_run.specs.Places.{IsParted};
+ghost use Rattle.vl_block.specs.declared.index.BlockPlace.{BlockPlace};
+ghost use Rattle.vl_table.specs.Buffers.{IsKept};
+ghost use Rattle.vl_table.specs.Bytes.{table_bytes};
+ghost use Rattle.vl_table.specs.Lookups.{first_over, is_below};
+ghost use Rattle.vl_table.specs.Seeks.{IsBadBlock};
+ghost use Rattle.vl_table.specs.Opened.{IsOf, IsTable, OpensAs};
+ghost use Rattle.vl_table.specs.Opening.{IsDamaged, IsRead};
+
+use crate::block_buffer::BlockBuffer;
+use crate::fault::TableFault;
+use crate::opening::{read_begin, read_blocks, read_foot, read_place};
+use crate::scanning::{Scan, look_in};
+use std::alloc::Global;
+use vl_block::{BlockPlace, Footer};
+use vl_disk::{HeldFile, Reader};
+use vl_model::Entry;
+
+/// A table in a held file: what its footer says, and where its blocks stand.
+#[derive(Drop)]
+pub struct Table<H> {
+    number: u32,
+    held: H,
+    blocks: Vec<BlockPlace>,
+    footer: Footer,
+}
+
+impl<H: HeldFile> Table<H> {
+    /// Opens the table with this number. It reads the header, the footer and the index, and no block.
+    pub fn open<R: Reader<Held = H>>(
+        alloc: Global,
+        reader: &mut R,
+        held: H,
+        number: u32,
+    ) -> Result<Self, TableFault>
+        ensures answers { Answers (R.faults reader.old) (R.faults reader.new) number (H.bytes held)
+            (λ bytes table. IsRead number bytes (foot_of table.footer) table.blocks.items)
+            (IsDamaged number) result }
+        ensures number { IfOk result (λ table. table.number ≡ number) }
+        ensures held { IfOk result (λ table. table.held ≡ held) }
+
+        // A true table is opened as what it is, and never damaged.
+        ensures opens { (es : List Entry) → IsTable number es → H.bytes held ≡ Some (table_bytes number es)
+            → OpensAs H.bytes es result }
+    {
+        Table::read(alloc, reader, held, number)
+    }
+
+    // What `open` does, stage by stage.
+    fn read<R: Reader<Held = H>>(
+        alloc: Global,
+        reader: &mut R,
+        held: H,
+        number: u32,
+    ) -> Result<Self, TableFault>
+        ensures answers { Answers (R.faults reader.old) (R.faults reader.new) number (H.bytes held)
+            (λ bytes table. IsRead number bytes (foot_of table.footer) table.blocks.items)
+            (IsDamaged number) result }
+        ensures number { IfOk result (λ table. table.number ≡ number) }
+        ensures held { IfOk result (λ table. table.held ≡ held) }
+    {
+        read_begin(reader, &held, number)?;
+        let place = read_place(reader, &held, number)?;
+        let footer = read_foot(alloc, reader, &held, number, place)?;
+        let blocks = read_blocks(
+            alloc,
+            reader,
+            &held,
+            number,
+            footer.index_place,
+            footer.index_length,
+        )?;
+        Ok(Table {
+            number,
+            held,
+            blocks,
+            footer,
+        })
+    }
+
+    /// Its number.
+    pub fn number(&self) -> u32
+        ensures { result ≡ self.now.number }
+    {
+        self.number
+    }
+
+    /// What its footer says: its first and last key, the segments that it leads into, and more.
+    pub fn footer(&self) -> &Footer
+        ensures { result.now ≡ self.now.footer }
+    {
+        &self.footer
+    }
+
+    /// Of the entries of a key with a version of at most a number the one of the greatest version.
+    ///
+    /// It reads no block but the one that may hold the key, and those behind it that begin with older versions of the same
+    /// key. A block that the buffer has isn't read again.
+    pub fn find<R: Reader<Held = H>>(
+        &self,
+        alloc: Global,
+        reader: &mut R,
+        buffer: &mut BlockBuffer,
+        key: &[u8],
+        number: u64,
+    ) -> Result<Option<Entry>, TableFault>
+        ensures kept { (files : ℕ → Option (List ℕ)) → IsKept files buffer.old → files self.now.number ≡ H.bytes self.now.held
+            → IsKept files buffer.new }
+        ensures answers { (files : ℕ → Option (List ℕ)) → IsKept files buffer.old → files self.now.number ≡ H.bytes self.now.held
+            → Answers (R.faults reader.old) (R.faults reader.new) self.now.number (H.bytes self.now.held)
+            (λ bytes found. (es : List Entry) → IsOf H.bytes self.now es → found ≡ winner es key.now number)
+            (λ bytes damage. IsBadBlock self.now bytes damage) result }
+    {
+        self.seek(alloc, reader, buffer, key, number)
+    }
+
+    /// The entry of a key and version. It reads what `find` would.
+    pub fn exact<R: Reader<Held = H>>(
+        &self,
+        alloc: Global,
+        reader: &mut R,
+        buffer: &mut BlockBuffer,
+        key: &[u8],
+        version: u64,
+    ) -> Result<Option<Entry>, TableFault>
+        ensures kept { (files : ℕ → Option (List ℕ)) → IsKept files buffer.old → files self.now.number ≡ H.bytes self.now.held
+            → IsKept files buffer.new }
+        ensures answers { (files : ℕ → Option (List ℕ)) → IsKept files buffer.old → files self.now.number ≡ H.bytes self.now.held
+            → Answers (R.faults reader.old) (R.faults reader.new) self.now.number (H.bytes self.now.held)
+            (λ bytes found. (es : List Entry) → IsOf H.bytes self.now es → found ≡ exact es key.now version)
+            (λ bytes damage. IsBadBlock self.now bytes damage) result }
+    {
+        let found = self.seek(alloc, reader, buffer, key, version)?;
+        Ok(of_version(found, version))
+    }
+
+    // The first entry that doesn't come before the place of a key and a version, where it is of the key.
+    fn seek<R: Reader<Held = H>>(
+        &self,
+        alloc: Global,
+        reader: &mut R,
+        buffer: &mut BlockBuffer,
+        key: &[u8],
+        version: u64,
+    ) -> Result<Option<Entry>, TableFault>
+        ensures kept { (files : ℕ → Option (List ℕ)) → IsKept files buffer.old → files self.now.number ≡ H.bytes self.now.held
+            → IsKept files buffer.new }
+        ensures answers { (files : ℕ → Option (List ℕ)) → IsKept files buffer.old → files self.now.number ≡ H.bytes self.now.held
+            → Answers (R.faults reader.old) (R.faults reader.new) self.now.number (H.bytes self.now.held)
+            (λ bytes found. (es : List Entry) → IsOf H.bytes self.now es
+            → found ≡ if_of_key key.now (first_over key.now version (blocks es)))
+            (λ bytes damage. IsBadBlock self.now bytes damage) result }
+    {
+        for at in first_block(&self.blocks, key)..self.blocks.len() {
+            buffer.load(reader, &self.held, self.number, &self.blocks[at])?;
+            match look_in(alloc, buffer.body(), key, version)? {
+                Scan::Behind => {}
+                Scan::Found(entry) => return Ok(Some(entry)),
+                Scan::Other => return Ok(None),
+            }
+        }
+        Ok(None)
+    }
+}
+
+// The entry that was found for a key and a version, if it is of that version.
+fn of_version(found: Option<Entry>, version: u64) -> Option<Entry>
+    ensures { (key : List ℕ) (first : Option Entry) → found ≡ if_of_key key first → result ≡ if_exact key version first }
+{
+    match found {
+        Some(entry) if entry.version == version => Some(entry),
+        _ => None,
+    }
+}
+
+// How many blocks stand before the first whose last key isn't below a key.
+fn first_block(blocks: &[BlockPlace], key: &[u8]) -> usize
+    ensures first { IsParted (λ (p : BlockPlace). is_below key.now p.last) blocks.now
+        → result ≡ prefix_len (λ (p : BlockPlace). is_below key.now p.last) blocks.now }
+    ensures within { result ≤ length blocks.now }
+{
+    blocks.partition_point(|block| key.cmp(&block.last.as_slice()).is_gt())
+}
