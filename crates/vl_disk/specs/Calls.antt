@@ -1,5 +1,5 @@
 -- What each call of a disk does to what the disk tells, whatever it answers.
-use Rattle.std.specs.Prelude.{◌≡◌, ◌⊎◌, ℕ, ◌≤◌, List, length, Result, IsTrue, OnOk, OnErr, IsErr}
+use Rattle.std.specs.Prelude.{◌≡◌, ◌⊎◌, ℕ, ◌≤◌, List, length, Option, Result, IsTrue, OnOk, OnErr, IsErr}
 use Rattle.std.specs.Option.{ForSome}
 use Rattle.vl_disk.specs.declared.name.Name.{Name}
 use Rattle.vl_disk.specs.declared.watched.Watched.{Ghosts}
@@ -57,6 +57,11 @@ pub record Syncs {D T E : Type 0} (g : Ghosts D) (name : Name) (old new : D) (re
   pub as_call : ChangingCall g old new (WhileSyncing name) (IsErr result)
   pub spare : SameSpare (g.spare old) (g.spare new)
 
+-- a file keeps its bytes, of which no more than so many are durable
+abbrev pub OnlyLowers : Name → ℕ → (old new : Option DiskState) → Type 0
+OnlyLowers name len old new =
+    ForSome old (λ disk. IsChangedBy (cut_to name len (length (file_at disk name).bytes)) old new)
+
 pub record Cuts {D T E : Type 0} (g : Ghosts D) (name : Name) (len : ℕ) (old new : D)
     (result : Result T E) : Type 0 where
   pub cut : OnOk result (IsChangedBy (cut_to name len len) (g.told old) (g.told new))
@@ -64,9 +69,7 @@ pub record Cuts {D T E : Type 0} (g : Ghosts D) (name : Name) (len : ℕ) (old n
   pub failed : OnErr result ((left : ℕ) × (len ≤ left) × ForSome (g.told old) (IsInside name left)
       × IsChangedBy (cut_to name len left) (g.told old) (g.told new))
   -- it has its old length on a disk that fails cleanly
-  pub clean : IsTrue g.fails_cleanly
-      → OnErr result (ForSome (g.told old) (λ disk.
-      IsChangedBy (cut_to name len (length (file_at disk name).bytes)) (g.told old) (g.told new)))
+  pub clean : IsTrue g.fails_cleanly → OnErr result (OnlyLowers name len (g.told old) (g.told new))
   pub stands : ForSome (g.told new) (Stands name)
   pub as_call : ChangingCall g old new (WhileCutting name len) (IsErr result)
   pub spare : UsesChange name (g.spare old) (g.spare new)

@@ -5,11 +5,14 @@ use Rattle.std.proofs.Common.{inl, inr, ⊎_elim, sym, subst, arith}
 use Rattle.vl_disk.specs.declared.watched.Watched.{Ghosts}
 use Rattle.vl_disk.specs.DiskState.{DiskState}
 
--- Time goes on by a call: since t the disk was what it had been before, or what the call makes of it while it is under way.
-pub record Passes (before now : ℕ) (past since : ℕ → DiskState → Type 0) (during : DiskState → Type 0) : Type 0 where
+-- Time goes on by a call, from one moment to another. `was_old t` says what the old disk was at some moment since t, and
+-- `was_new t` the same of the new one.
+pub record Passes (before now : ℕ) (was_old was_new : ℕ → DiskState → Type 0) (during : DiskState → Type 0) : Type 0 where
   pub later : before ≤ now
-  pub nothing_else : (t : ℕ) (state : DiskState) → t ≤ before → since t state → past t state ⊎ during state
-  pub keeps : (t : ℕ) (state : DiskState) → t ≤ before → past t state → since t state
+  -- what the new disk was since t, the old one had been since then, or it was so while the call was under way;
+  pub nothing_else : (t : ℕ) (state : DiskState) → t ≤ before → was_new t state → was_old t state ⊎ during state
+  -- and what the old one had been, the new one was
+  pub keeps : (t : ℕ) (state : DiskState) → t ≤ before → was_old t state → was_new t state
 
 -- what a disk that tells its bytes may be while a call is under way
 abbrev pub While : Option DiskState → (DiskState → DiskState → Type 0) → DiskState → Type 0

@@ -1,12 +1,11 @@
 -- Which names stand and which are free after a call, for a caller that asks the next one.
 use Rattle.std.specs.Prelude.{◌≡◌, refl, Option, None, Some, IsSome}
 use Rattle.std.specs.Option.{ForSome, option_map}
-use Rattle.std.specs.FinMap.{get, get-empty}
+use Rattle.std.specs.FinMap.{get}
 use Rattle.std.proofs.Common.{sym, ◌∙◌, subst}
 use Rattle.vl_disk.specs.declared.name.Name.{Name}
-use Rattle.vl_disk.specs.Name.{name_cmp}
 use Rattle.vl_disk.specs.NameMap.{get_removed}
-use Rattle.vl_disk.specs.DiskState.{File, DiskState, empty_disk, with_file, created, without}
+use Rattle.vl_disk.specs.DiskState.{File, DiskState, with_file, created, without}
 use Rattle.vl_disk.specs.Changes.{created_there, changed_there}
 use Rattle.vl_disk.specs.Disk.{Stands, IsFree, IsChangedBy}
 
@@ -21,10 +20,6 @@ pub holds_after : (change : DiskState → DiskState) (old new : Option DiskState
     → IsChangedBy change old new → ((disk : DiskState) → P disk → Q (change disk)) → ForSome old P → ForSome new Q
 holds_after change None new P Q changed keeps holds disk is = absurd (none_some disk (sym changed ∙ is))
 holds_after change (Some old) new P Q changed keeps holds disk is = subst Q (some_state (change old) disk (sym changed ∙ is)) (keeps old (holds old refl))
-
--- on an empty disk each name is free
-pub empty_free : (name : Name) (told : Option DiskState) → told ≡ Some empty_disk → ForSome told (IsFree name)
-empty_free name told empty disk is = subst (IsFree name) (some_state empty_disk disk (sym empty ∙ is)) (get-empty name_cmp name)
 
 -- a file that is changed stands
 pub changed_stands : (name : Name) (change : File → File) (old new : Option DiskState) → IsChangedBy (with_file name change) old new → ForSome old (Stands name) → ForSome new (Stands name)
