@@ -71,6 +71,14 @@ const LOG_BYTES: [u8; 50] = [
     0, 1, 0, 0, 0, 1, 0, 0, 1, 0, 0, 0, 1, 0x61, 1, 0x4b, 0x93, 0xa9, 0x61, 0xb6, 0xcc, 0xa4, 0xb4,
 ];
 
+/// That log with a relocation of the record behind its commit.
+const MOVED_LOG_BYTES: [u8; 84] = [
+    0x56, 0x4c, 0x4f, 0x47, 0, 0, 0, 1, 0, 0, 0, 1, 0, 0, 0, 0, 1, 0, 0, 0, 21, 0, 0, 0, 0, 0, 0,
+    0, 1, 0, 0, 0, 1, 0, 0, 1, 0, 0, 0, 1, 0x61, 1, 0x4b, 0x93, 0xa9, 0x61, 0xb6, 0xcc, 0xa4, 0xb4,
+    2, 0, 0, 0, 21, 0, 0, 0, 1, 0, 0, 0, 0, 0, 0, 0, 1, 0, 0, 1, 0, 0, 0, 1, 0x61, 1, 0xdf, 0x58,
+    0xff, 0x73, 0x71, 0x5f, 0x60, 0x0b,
+];
+
 /// What the manifest says that is made where that store is opened again, with a commit in its log.
 const SECOND_MANIFEST_BYTES: [u8; 55] = [
     0x56, 0x4d, 0x41, 0x4e, 0, 0, 0, 1, 0, 0, 0, 2, 0, 0, 0, 0, 6, 0, 0, 0, 0x1a, 0, 0, 0, 2, 3, 0,
@@ -627,6 +635,11 @@ fn damaged_stores_are_refused(rt: HostRuntime) -> Result<(), Fail> {
     assert!(rt; left(&disk, Name::Log(1), &LOG_BYTES[..49]));
     assert!(rt; left(&disk, Name::Log(2), &SECOND_LOG_HEADER));
 
+    let files = store(alloc, &MANIFEST_BYTES, &SECOND_LOG_BYTES)?;
+    let files = with(alloc, files, Name::Log(2), &SECOND_LOG_HEADER)?;
+    let disk = refused(alloc, started(alloc, files, &[])?, "damaged log 1 at 0\n")?;
+    assert!(rt; left(&disk, Name::Log(1), &SECOND_LOG_BYTES));
+
     // Commit 2 doesn't come first.
     let files = with(alloc, Vec::new(alloc), Name::Manifest(1), &MANIFEST_BYTES)?;
     let files = with(alloc, files, Name::Log(2), &SECOND_LOG_BYTES)?;
@@ -662,9 +675,12 @@ fn stores_without_a_number_left_are_refused(rt: HostRuntime) -> Result<(), Fail>
 fn a_store_is_opened_again_after_faults(rt: HostRuntime) -> Result<(), Fail> {
     let alloc = rt.alloc();
     // The log's bytes, how many changing calls the opening makes, and what is printed of the store.
-    let stores: [(&[u8], u64, &str); 2] = [
+    let stores: [(&[u8], u64, &str); 4] = [
         (&LOG_BYTES, 8, "ok 1\nvalue 01\n"),
+        (&MOVED_LOG_BYTES, 8, "ok 1\nvalue 01\n"),
         (&LOG_BYTES[..49], 6, "ok 0\nnone\n"),
+        // The header of another log is none.
+        (&SECOND_LOG_BYTES, 7, "ok 0\nnone\n"),
     ];
     for (log, calls, answers) in stores {
         for call in 1..=calls {
