@@ -95,9 +95,19 @@ impl<R: Files<File = File>> Folder<R> {
         self.enter()?;
         let at = self.slot(name)?;
         if !self.slots[at].is_open() {
+            self.close_idle();
             self.slots[at].open(&self.rt)?;
         }
         Ok(at)
+    }
+
+    /// Closes the files that needn't stay open, so that a store may have more files than a process may have open.
+    fn close_idle(&mut self)
+        ensures { vec_len self.new.slots ≡ vec_len self.old.slots }
+    {
+        for slot in self.slots.iter_mut() {
+            slot.close_if_idle();
+        }
     }
 
     /// The names of the store's files in the folder, which is made where it is missing.
@@ -155,6 +165,7 @@ impl<R: Files<File = File>> Folder<R> {
         if let Names::Durable = self.names {
             self.names = Names::New;
         }
+        self.close_idle();
         self.slots[at].create(&self.rt)
     }
 
@@ -187,9 +198,6 @@ impl<R: Files<File = File>> Folder<R> {
     }
 
     pub fn hold(&mut self, name: Name) -> io::Result<FolderHeld> {
-        for slot in self.slots.iter_mut() {
-            slot.close_if_let_go();
-        }
         let at = self.open(name)?;
         self.slots[at].hold()
     }

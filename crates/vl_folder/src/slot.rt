@@ -21,8 +21,8 @@ pub struct Slot {
     end: Option<u64>,
     // what a failed sync leaves can't be relied on: the system may have dropped what it didn't write
     lost: bool,
-    // it was shared, and not changed since
-    shared: bool,
+    // nothing was changed since it was opened or shared, so that it needn't stay open
+    idle: bool,
 }
 
 impl Slot {
@@ -33,7 +33,7 @@ impl Slot {
             handle: Arc::new(alloc, None)?,
             end: None,
             lost: false,
-            shared: false,
+            idle: false,
         })
     }
 
@@ -68,7 +68,7 @@ impl Slot {
     /// Notes where a file ends that was changed.
     fn changed(&mut self, end: Option<u64>) {
         self.end = end;
-        self.shared = false;
+        self.idle = false;
     }
 
     /// Makes the file, which must not stand.
@@ -79,7 +79,7 @@ impl Slot {
             .create_new(true)
             .open(rt, self.path.as_str())?;
         self.keep(file)?;
-        self.end = Some(0);
+        self.changed(Some(0));
         Ok(())
     }
 
@@ -90,6 +90,7 @@ impl Slot {
             .write(true)
             .open(rt, self.path.as_str())?;
         self.keep(file)?;
+        self.idle = true;
         self.sync()
     }
 
@@ -148,13 +149,13 @@ impl Slot {
     pub fn hold(&mut self) -> io::Result<FolderHeld> {
         let len = self.size()?;
         self.file()?;
-        self.shared = true;
+        self.idle = true;
         Ok(FolderHeld::new(self.handle.clone()?, len))
     }
 
-    /// Closes a file that was shared and that nothing holds any more.
-    pub fn close_if_let_go(&mut self) {
-        if self.shared
+    /// Closes a file that is idle and that nothing holds.
+    pub fn close_if_idle(&mut self) {
+        if self.idle
             && let Some(place) = Arc::get_mut(&mut self.handle)
         {
             *place = None;
