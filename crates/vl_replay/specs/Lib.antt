@@ -1,6 +1,5 @@
 pub mod Between
 pub mod Durable
-pub mod DurableLaws
 pub mod Endings
 pub mod Exchanges
 pub mod Halts
@@ -14,6 +13,7 @@ pub mod Represents
 pub mod Runs
 pub mod Sequential
 pub mod Start
+pub mod StartLaws
 pub mod Steps
 pub mod Stored
 pub mod Writing

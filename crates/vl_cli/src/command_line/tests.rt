@@ -98,9 +98,7 @@ const THIRD_LOG_BYTES: [u8; 50] = [
 ];
 
 /// The header of log 2.
-const SECOND_LOG_HEADER: [u8; 16] = [
-    0x56, 0x4c, 0x4f, 0x47, 0, 0, 0, 1, 0, 0, 0, 2, 0, 0, 0, 0,
-];
+const SECOND_LOG_HEADER: [u8; 16] = [0x56, 0x4c, 0x4f, 0x47, 0, 0, 0, 1, 0, 0, 0, 2, 0, 0, 0, 0];
 
 /// A manifest whose covered number is the greatest of a commit, 9,223,372,036,854,775,806.
 const LAST_COMMIT_MANIFEST: [u8; 55] = [
@@ -135,6 +133,7 @@ const LAST_MANIFEST: [u8; 55] = [
     0, 2, 3, 0, 0, 0, 1, 0, 0, 0, 0, 0, 0, 0, 0, 4, 0, 0, 0, 1, 0, 0, 0, 1, 0x43, 0x9f, 0x97, 0xe9,
     0x56, 0x12, 0xd6, 0x57,
 ];
+
 /// Files on which a disk is to be started, with one more.
 fn with(
     alloc: Global,
@@ -150,7 +149,7 @@ fn with(
     Ok(files)
 }
 
-/// The manifest of a new store, or these bytes in its place, and log 1.
+/// Manifest 1 and log 1, with these bytes.
 fn store(alloc: Global, manifest: &[u8], log: &[u8]) -> Result<Vec<(Name, Vec<u8>)>, Fail>
     ensures { IfOk result (λ files. All (λ file. IsNumbered file.0) files.items) }
 {
@@ -406,10 +405,7 @@ fn errors_say_what_failed(rt: HostRuntime) -> Result<(), Fail> {
     let table = [
         (Halt::NoMemory.to_string(alloc)?, "no memory"),
         (
-            Halt::Disk {
-                name: Name::Log(1),
-            }
-            .to_string(alloc)?,
+            Halt::Disk { name: Name::Log(1) }.to_string(alloc)?,
             "disk fault",
         ),
         (Failed.to_string(alloc)?, "a call to the outside failed"),
@@ -554,7 +550,11 @@ fn a_torn_end_is_cut(rt: HostRuntime) -> Result<(), Fail> {
     // The same log takes the next commits.
     let files = store(rt.alloc(), &MANIFEST_BYTES, &LOG_BYTES[..49])?;
     let second = plain("begin a\nset a 61 01\ncommit a\n", "ok 0\nok\nok 1\n", 0);
-    let (status, printed, disk) = outcome_over(rt.alloc(), &second, started(rt.alloc(), files, &[])?)?;
+    let (status, printed, disk) = outcome_over(
+        rt.alloc(),
+        &second,
+        started(rt.alloc(), files, &[])?,
+    )?;
     assert_eq!(rt; printed.as_slice(), second.printed.as_bytes());
     assert_eq!(rt; status, second.status);
     assert!(rt; holds(&disk, Name::Log(1), &LOG_BYTES));
@@ -565,7 +565,12 @@ fn a_torn_end_is_cut(rt: HostRuntime) -> Result<(), Fail> {
 #[test]
 fn the_greatest_commit_number_is_the_last(rt: HostRuntime) -> Result<(), Fail> {
     let alloc = rt.alloc();
-    let files = with(alloc, Vec::new(alloc), Name::Manifest(1), &LAST_COMMIT_MANIFEST)?;
+    let files = with(
+        alloc,
+        Vec::new(alloc),
+        Name::Manifest(1),
+        &LAST_COMMIT_MANIFEST,
+    )?;
     let case = plain(
         "begin a\nset a 61 01\ncommit a\n",
         "ok 9223372036854775806\nok\nexhausted commit\n",
@@ -637,7 +642,12 @@ fn damaged_stores_are_refused(rt: HostRuntime) -> Result<(), Fail> {
 #[test]
 fn stores_without_a_number_left_are_refused(rt: HostRuntime) -> Result<(), Fail> {
     let alloc = rt.alloc();
-    let files = with(alloc, Vec::new(alloc), Name::Manifest(1), &LAST_LOG_MANIFEST)?;
+    let files = with(
+        alloc,
+        Vec::new(alloc),
+        Name::Manifest(1),
+        &LAST_LOG_MANIFEST,
+    )?;
     let disk = refused(alloc, started(alloc, files, &[])?, "exhausted log\n")?;
     assert!(rt; left(&disk, Name::Manifest(1), &LAST_LOG_MANIFEST));
 
@@ -662,7 +672,11 @@ fn a_store_is_opened_again_after_faults(rt: HostRuntime) -> Result<(), Fail> {
             let disk = started(alloc, files, &[call])?;
             let stopped = plain("view v\nget v 61\n", "disk fault\n", 3);
             let (status, printed, disk) = outcome_over(alloc, &stopped, disk)?;
-            assert_eq!(rt; printed.as_slice(), stopped.printed.as_bytes(), "call {call}");
+            assert_eq!(rt;
+                printed.as_slice(),
+                stopped.printed.as_bytes(),
+                "call {call}"
+            );
             assert_eq!(rt; status, stopped.status, "call {call}");
 
             let again = plain("view v\nget v 61\n", answers, 0);
@@ -680,7 +694,11 @@ fn a_store_is_made_again_after_faults(rt: HostRuntime) -> Result<(), Fail> {
     for call in 1..=6 {
         let disk = MemDisk::new(alloc, [call].to_vec(alloc)?, Vec::new(alloc));
         let (status, printed, disk) = outcome_over(alloc, &plain("", "disk fault\n", 3), disk)?;
-        assert_eq!(rt; printed.as_slice(), b"disk fault\n".as_slice(), "call {call}");
+        assert_eq!(rt;
+            printed.as_slice(),
+            b"disk fault\n".as_slice(),
+            "call {call}"
+        );
         assert_eq!(rt; status, 3, "call {call}");
 
         let again = plain("begin a\nset a 61 01\ncommit a\n", "ok 0\nok\nok 1\n", 0);
