@@ -20,7 +20,7 @@ pub path_text : (folder ending : List ℕ) (number : ℕ)
     → folder ++ (47 ∷ (styled_decimal (format_spec 32 0 4 10 (2 ^ 64 - 1)) number ++ ending)) ≡ folder ++ 47 ∷ (ten_digits number ++ ending)
 path_text folder ending number = rw (ten_wide (decimal number))
 
-own : IsNumeralModel (AllDigits 10) (digits_value 10)
+pub own : IsNumeralModel (AllDigits 10) (digits_value 10)
 own = numerals_by_value (AllDigits 10) tells_digits
 
 -- digits are their value in decimal, with zeros before it

@@ -1,9 +1,10 @@
--- Numbers are ten digits, which say them.
+-- What the ten digits of a number are, and how a name ends behind them.
 use Rattle.std.proofs.Common.{Option, None, Some, ◌≡◌, ◌≢◌, ℕ, ◌-◌, ◌^◌, ◌<◌, Result, Ok, get_or, List, [], ◌∷◌, ◌++◌, length, replicate, sym, ◌∙◌, ap, subst, zero, suc, arith, refl, drop}
 use Rattle.std.proofs.lemmas.List.{length-append, length-replicate}
 use Rattle.std.proofs.lemmas.Fmt.{digits_decimal, digits_value-decimal, length-decimal-le, IsAscii-from_digits}
 use Rattle.std.proofs.lemmas.Str.{IsUtf8-from_ascii}
-use Rattle.std.proofs.lemmas.Str.Parse.{IsNumeralModel, numerals_by_value, tells_digits, parse_gives}
+use Rattle.std.proofs.lemmas.Str.Parse.{parse_gives}
+use Rattle.vl_folder.proofs.Digits.{own}
 use Rattle.std.specs.Fmt.{decimal}
 use Rattle.std.specs.Option.{IfNone}
 use Rattle.std.specs.Str.{IsUtf8}
@@ -12,9 +13,6 @@ use Rattle.std.specs.Str.Parse.{AllDigits, digits_value, ParsesUnsigned}
 use Rattle.vl_disk.specs.Name.{IsNumbered, file_number}
 use Rattle.vl_disk.specs.declared.name.Name.{Name}
 use Rattle.vl_folder.specs.FileName.{ten_digits, ending, file_name}
-
-own : IsNumeralModel (AllDigits 10) (digits_value 10)
-own = numerals_by_value (AllDigits 10) tells_digits
 
 pub length_ten : (number : ℕ) → number < 2 ^ 32 → length (ten_digits number) ≡ 10
 length_ten number small = omega (

@@ -3,7 +3,6 @@ ghost use Rattle.std.specs.Prelude.{◌≡◌, ◌≢◌, ℕ, length, ◌++◌,
 ghost use Rattle.std.specs.Option.{IfNone};
 ghost use Rattle.vl_folder.specs.FileName.{ending, file_name, ten_digits};
 ghost use Rattle.vl_disk.specs.Name.{IsNumbered, file_number};
-ghost use Rattle.vl_disk.specs.declared.name.Name.{Name as FileOf};
 
 use std::alloc::{AllocError, Global};
 use std::str;
@@ -27,7 +26,7 @@ pub fn path_of(alloc: Global, folder: &str, name: Name) -> Result<String, AllocE
 pub fn named(text: &[u8]) -> Option<Name>
     ensures numbered { IfSome result IsNumbered }
     ensures spelled { IfSome result (λ name. text.now ≡ file_name name) }
-    ensures of_others { IfNone result ((name : FileOf) → IsNumbered name → text.now ≢ file_name name) }
+    ensures of_others { IfNone result ((name : _) → IsNumbered name → text.now ≢ file_name name) }
 {
     let (digits, ending) = text.split_at_checked(DIGITS)?;
     let number = number_in(digits)?;
@@ -38,7 +37,7 @@ pub fn named(text: &[u8]) -> Option<Name>
 fn with_ending(number: u32, text: &[u8]) -> Option<Name>
     ensures number { IfSome result (λ name. file_number name ≡ number) }
     ensures spelled { IfSome result (λ name. text.now ≡ ending name) }
-    ensures of_others { IfNone result ((name : FileOf) → text.now ≢ ending name) }
+    ensures of_others { IfNone result ((name : _) → text.now ≢ ending name) }
 {
     match text {
         b".vlog" => Some(Name::Log(number)),
@@ -53,7 +52,8 @@ fn number_in(digits: &[u8]) -> Option<u32>
     requires { length digits.now ≡ 10 }
     ensures numbered { IfSome result (λ number. IsNumbered (Name.Log number)) }
     ensures spelled { IfSome result (λ number. digits.now ≡ ten_digits number) }
-    ensures of_others { IfNone result ((number : ℕ) → IsNumbered (Name.Log number) → digits.now ≢ ten_digits number) }
+    ensures of_others { IfNone result
+        ((number : ℕ) → IsNumbered (Name.Log number) → digits.now ≢ ten_digits number) }
 {
     // `parse` would take a sign for the first of them.
     if digits[0] == b'+' {

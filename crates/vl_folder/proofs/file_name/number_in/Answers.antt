@@ -29,9 +29,9 @@ returns-in_err-number-clause-of_others c =
     let same : c.in_ok-ok.field-0.now ≡ c.args.digits.now = search rules in
     let others : (number : ℕ) → IsNumbered (Log number) → c.args.digits.now ≢ ten_digits number =
     (λ number numbered is.
-      let parsed : c.parse.result ≡ Ok number =
-          parse_ten number c.in_ok-ok.field-0.now c.parse.result (omega (arith, numbered.1)) (same ∙ is) c.parse.ensures.value.0 in
-      search rules) in
+    let parsed : c.parse.result ≡ Ok number =
+    parse_ten number c.in_ok-ok.field-0.now c.parse.result (omega (arith, numbered.1)) (same ∙ is) c.parse.ensures.value.0 in
+    search rules) in
     subst (λ found. IfNone found ((number : ℕ) → IsNumbered (Log number) → c.args.digits.now ≢ ten_digits number))
     (sym c.from_residual-in_err-number.ensures) others
 
@@ -39,6 +39,6 @@ pub returns-then-number-eq0-clause-of_others : goal.returns-then-number-eq0-clau
 returns-then-number-eq0-clause-of_others c number numbered is =
     let same : c.in_ok-ok.field-0.now ≡ c.args.digits.now = search rules in
     let parsed : c.parse.result ≡ Ok number =
-        parse_ten number c.in_ok-ok.field-0.now c.parse.result (omega (arith, numbered.1)) (same ∙ is) c.parse.ensures.value.0 in
+    parse_ten number c.in_ok-ok.field-0.now c.parse.result (omega (arith, numbered.1)) (same ∙ is) c.parse.ensures.value.0 in
     let read : c.in_ok-number.number ≡ number = search rules in
     ⊎_elim (λ zero. omega (arith, zero, read, numbered.0)) (λ last. omega (arith, last.1, read, numbered.1)) c.then-number-eq0.either
