@@ -106,6 +106,7 @@ impl<D: Disk> Replayer<D> {
             → OnErr result (Represents self.new.store s) }
 
         // Each accepted commit is one synced frame of the log, which is written before the answer.
+        // However the line ends, a store may be opened on the disk again.
         ensures carries { (s : State) → Represents self.old.store s
             → CarriesOut D.Watched IsStored Shown self.old.disk self.new.disk s (state_after s line) result }
         ensures no_memory { result ≡ Err Halt.NoMemory
