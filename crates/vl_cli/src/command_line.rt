@@ -15,7 +15,7 @@ ghost use Rattle.vl_replay.specs.Endings.{status_of};
 ghost use Rattle.vl_replay.specs.Exchanges.{exchanges_from, AreExplained};
 ghost use Rattle.vl_replay.specs.Opening.{IsRefused};
 ghost use Rattle.vl_replay.specs.Runs.{outside};
-ghost use Rattle.vl_replay.specs.Start.{StartsIn};
+ghost use Rattle.vl_replay.specs.Start.{StartsIn, StaysOpenable};
 ghost use Rattle.vl_replay.specs.Steps.{IsRefusedRun};
 ghost use Rattle.vl_replay.specs.declared.ending.Ending.{Ending as HowEnded};
 ghost use Rattle.vl_replay.specs.declared.fails.Refusal.{Refusal};
@@ -92,6 +92,10 @@ pub fn run<S: Source, K: Sink, D: Disk>(
 
     // There are no other statuses.
     ensures status { (ending : HowEnded) × (result.status ≡ status_of ending) }
+
+    // However the run ends, and whatever failed, a store may be opened on the disk again where one might before.
+    ensures again { (s : State) (input : List ℕ) → StartsIn D.Watched disk s → S.left source.old ≡ Some input
+        → StaysOpenable D.Watched disk result.disk }
 {
     if are_plain(words) {
         let Replayed { ending, disk } = replay(alloc, source, sink, disk);

@@ -18,13 +18,14 @@ use Rattle.std.specs.Option.{option_map}
 use Rattle.std.specs.Prelude.{◌⊎◌}
 use Rattle.vl_disk.specs.Crash.{Image, Unchanged, WhileAppending, WhileSyncing}
 use Rattle.vl_disk.specs.Disk.{IsChangedBy}
-use Rattle.vl_disk.specs.Moments.{Elapses, goes_by}
+use Rattle.vl_disk.specs.Moments.{Elapses, While, goes_by}
 use Rattle.vl_disk.specs.declared.name.Name.TheVariants as names
 use Rattle.vl_frame.specs.Runs.{HasFrame}
 use Rattle.vl_layout.specs.Logs.{new_segment}
-use Rattle.vl_recover.specs.AppendLaws.{OpensEither, append_leaves, sync_leaves, with_frame}
+use Rattle.vl_recover.specs.AppendLaws.{OpensEither, append_leaves, append_may_open, sync_leaves, sync_may_open, with_frame}
 use Rattle.vl_recover.specs.HeldLaws.{opening_held}
 use Rattle.vl_recover.specs.Opening.{Opens}
+use Rattle.vl_recover.specs.Starts.{MayOpen}
 use Rattle.vl_recover.specs.TornFrames.{frame_behind}
 use Rattle.vl_seglog.specs.Commit.{AreRecords, IsCommit}
 use Rattle.vl_seglog.specs.Frames.{frame_at, frames_end, frames_grammar}
@@ -44,7 +45,7 @@ use Rattle.vl_replay.specs.declared.fails.Halt.{Halt}
 use Rattle.vl_replay.specs.declared.fails.Halt.TheVariants.{NoMemory as NoRoom}
 use Rattle.vl_replay.proofs.Betweens.{extends_itself, extends_same, extends_one, last-extends}
 use Rattle.vl_replay.proofs.Outcomes.{Keeps}
-use Rattle.vl_replay.proofs.DiskSteps.{IsWatched, leaves_weaker, rests, rests_until, goes_then, goes_wider, it_holds}
+use Rattle.vl_replay.proofs.DiskSteps.{IsWatched, leaves_weaker, rests, rests_until, goes_then, goes_wider, it_holds, opens_again}
 
 -- ---- results
 
@@ -106,7 +107,7 @@ module _ {D : Type 0} (g : Ghosts D) (watched : IsWatched g) where
   carries_kept s after disk result keeps held = record {
     answered = on_ok_of result _ (held_kept s after disk keeps held);
     no_commit = λ _. it_holds g watched IsStored Shown shown_stays stored_exactly s disk held;
-    tells = (held.there.0, held.there.1, tt);
+    tells = opens_again g watched IsStored Shown shown_stays stored_exactly s disk held;
     through = rests_until g watched IsStored Shown shown_stays stored_exactly s after.history (extends_same s.history after.history keeps.history) disk held;
   }
 
@@ -118,7 +119,7 @@ module _ {D : Type 0} (g : Ghosts D) (watched : IsWatched g) where
       record {
         answered = on_ok_at_err result _ err;
         no_commit = λ _. it_holds g watched IsStored Shown shown_stays stored_exactly s new kept;
-        tells = (kept.there.0, kept.there.1, tt);
+        tells = opens_again g watched IsStored Shown shown_stays stored_exactly s new kept;
         through = goes_wider g watched IsStored Shown shown_stays stored_exactly old new s.history s.history s.history after.history (extends_itself s.history) extends goes;
       }
 
@@ -180,12 +181,32 @@ module _ {D : Type 0} (g : Ghosts D) (watched : IsWatched g) where
         (goes_by g (Leaves between) mid mid new state (WhileWriting (names.Log s.log.number) bytes) told wide time
         (λ now during. frame_leaves now (subst (λ (frame : List ℕ). WhileWriting (names.Log s.log.number) frame state now) staged.1 during)))
 
+    -- a store may be opened on what stands while the frame is written,
+    frame_may_open : (now : DiskState) → WhileWriting (names.Log s.log.number) (frame_behind s.log.number stored.frames (next_frame s.history writes)) state now → MayOpen now
+    frame_may_open now during = ⊎_elim
+        (λ (w : WhileAppending (names.Log s.log.number) (frame_behind s.log.number stored.frames (next_frame s.history writes)) state now).
+        append_may_open stored.manifest stored.frozen (new_segment s.log.number stored.frames) (next_frame s.history writes) state stored.holds staged.0 stored.lawful now w)
+        (λ (w : WhileSyncing (names.Log s.log.number) _ now).
+        sync_may_open stored.manifest stored.frozen (new_segment s.log.number stored.frames) (next_frame s.history writes) state stored.holds staged.0 stored.lawful now w)
+        during
+
+    -- and so on what stands then
+    now_may_open : (now : DiskState) → g.told new ≡ Some now → MayOpen now
+    now_may_open now is =
+        let told : g.told mid ≡ Some state = no_change.told ∙ held.there.1 in
+        ⊎_elim
+        (λ (before : g.states_since mid (g.moment mid) now).
+        subst MayOpen (sym (watched.only_now mid state now told before)) (stored_exactly.may_open s state stored))
+        (λ (during : While (g.told mid) (WhileWriting (names.Log s.log.number) bytes) now).
+        frame_may_open now (subst (λ (frame : List ℕ). WhileWriting (names.Log s.log.number) frame state now) staged.1 (during state told)))
+        (time.nothing_else (g.moment mid) now (omega arith) (watched.counts_now new now (g.moment mid) is time.later))
+
     -- the disk failed while it was written
     pub carries_failed : {T : Type 0} (result : Result T Halt) → IsErr result → (result ≡ Err NoRoom → ⊥) → (now : DiskState) × (g.told new ≡ Some now) → LeadsTo g IsStored Shown old new s after result
     carries_failed result err failed tells = record {
       answered = on_ok_at_err result _ err;
       no_commit = λ none. absurd (failed none);
-      tells = (tells.0, tells.1, tt);
+      tells = (tells.0, tells.1, now_may_open tells.0 tells.1);
       through = goes_written;
     }
 
@@ -200,6 +221,6 @@ module _ {D : Type 0} (g : Ghosts D) (watched : IsWatched g) where
         record {
           answered = record { calls = calls ∙ ap (after_calls 2) (no_change.calls ∙ held.calls); there = (written (names.Log s.log.number) whole state, is, stored_next s name writes state stored staged.0) };
           no_commit = λ none. cc;
-          tells = (written (names.Log s.log.number) whole state, is, tt);
+          tells = (written (names.Log s.log.number) whole state, is, now_may_open (written (names.Log s.log.number) whole state) is);
           through = goes_written;
         }

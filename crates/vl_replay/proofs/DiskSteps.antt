@@ -7,6 +7,7 @@ use Rattle.vl_disk.specs.Faults.{Rose}
 use Rattle.vl_disk.specs.DiskState.{DiskState}
 use Rattle.vl_disk.specs.Crash.{Image}
 use Rattle.vl_disk.specs.Moments.{waits, holds_weaker, holds_then}
+use Rattle.vl_recover.specs.Starts.{MayOpen}
 use Rattle.vl_script.specs.declared.line.Line.{Line}
 use Rattle.vl_script.specs.Script.{line_of}
 use Rattle.vl_replay.specs.Sequential.{State, state_after}
@@ -89,7 +90,7 @@ module _ {D : Type 0} (g : Ghosts D) (watched : IsWatched g) (holds : Holding) (
   rests s disk held =
       let (state, is, here) = held.there in
       waits g (Leaves (ShowsBetween shows s.history s.history)) watched.only_now disk state is
-      (leaves_weaker (λ (image : Image). shows image s.history (last_number s.history)) (ShowsBetween shows s.history s.history) (between_exactly shows s.history) state (exactly s state here))
+      (leaves_weaker (λ (image : Image). shows image s.history (last_number s.history)) (ShowsBetween shows s.history s.history) (between_exactly shows s.history) state (exactly.leaves s state here))
 
   pub rests_until : (s : State) (most : History) → Extends s.history most → (disk : D) → HoldsState g holds s disk → GoesFrom g shows disk disk s.history most
   rests_until s most extends disk held = goes_wider disk disk s.history s.history s.history most (extends_itself s.history) extends (rests s disk held)
@@ -104,12 +105,16 @@ module _ {D : Type 0} (g : Ghosts D) (watched : IsWatched g) (holds : Holding) (
   pub it_holds : (s : State) (disk : D) → HoldsState g holds s disk → HoldsCommits g holds s disk
   it_holds s disk held = (s, refl, refl, held)
 
+  -- a store may be opened on it
+  pub opens_again : (s : State) (disk : D) → HoldsState g holds s disk → Tells g disk MayOpen
+  opens_again s disk held = (held.there.0, held.there.1, exactly.may_open s held.there.0 held.there.2)
+
   -- what a crash leaves in the end
-  pub at_end : (old new : D) (least most : History) → GoesFrom g shows old new least most → Tells g new (λ _. Unit {0}) → Tells g new (Leaves (ShowsBetween shows least most))
-  at_end old new least most goes (state, is, nothing) = (state, is, goes.each state (watched.counts_now new state (g.moment old) is goes.time.later))
+  pub at_end : (old new : D) (least most : History) → GoesFrom g shows old new least most → Tells g new MayOpen → Tells g new (Leaves (ShowsBetween shows least most))
+  at_end old new least most goes (state, is, may) = (state, is, goes.each state (watched.counts_now new state (g.moment old) is goes.time.later))
 
   -- the run ended before a line was answered
-  pub ends_within : (old new : D) (ending : Ending) (least most : State) → GoesFrom g shows old new least.history most.history → Tells g new (λ _. Unit {0})
+  pub ends_within : (old new : D) (ending : Ending) (least most : State) → GoesFrom g shows old new least.history most.history → Tells g new MayOpen
       → ((Rose (g.faults old) (g.faults new) → ⊥) → HoldsCommits g holds least new ⊎ HoldsCommits g holds most new)
       → (ending ≡ NoMemory → HoldsCommits g holds least new) → (IsBetweenLines (culprit_of ending) → HoldsCommits g holds least new) → (CutsAnswer ending → HoldsCommits g holds most new)
       → DiskEnds g holds shows ⊥ old new (record { ending = ending; first = least; answered = []; most = most })
@@ -121,10 +126,11 @@ module _ {D : Type 0} (g : Ghosts D) (watched : IsWatched g) (holds : Holding) (
     no_memory = λ out. inr (no_memory out);
     between_lines = whole;
     answer_cut = cut;
+    again = tells;
   }
 
   -- it still holds what it held
-  pub ends_unchanged : (old new : D) (ending : Ending) (least most : State) → GoesFrom g shows old new least.history most.history → Tells g new (λ _. Unit {0}) → HoldsCommits g holds least new
+  pub ends_unchanged : (old new : D) (ending : Ending) (least most : State) → GoesFrom g shows old new least.history most.history → Tells g new MayOpen → HoldsCommits g holds least new
       → (CutsAnswer ending → HoldsCommits g holds most new) → DiskEnds g holds shows ⊥ old new (record { ending = ending; first = least; answered = []; most = most })
   ends_unchanged old new ending least most goes tells held cut = ends_within old new ending least most goes tells (λ sound. inl held) (λ out. held) (λ whole. held) cut
 
@@ -132,7 +138,7 @@ module _ {D : Type 0} (g : Ghosts D) (watched : IsWatched g) (holds : Holding) (
   pub ends_untouched : (s most : State) → Extends s.history most.history → (disk : D) (ending : Ending) → (CutsAnswer ending → ⊥) → HoldsState g holds s disk
       → DiskEnds g holds shows ⊥ disk disk (record { ending = ending; first = s; answered = []; most = most })
   ends_untouched s most extends disk ending none held =
-      ends_unchanged disk disk ending s most (rests_until s most.history extends disk held) (held.there.0, held.there.1, tt) (it_holds s disk held) (λ cuts. absurd (none cuts))
+      ends_unchanged disk disk ending s most (rests_until s most.history extends disk held) (opens_again s disk held) (it_holds s disk held) (λ cuts. absurd (none cuts))
 
   -- the last line was answered
   pub ends_answered : (old new : D) (ending : Ending) (before : State) (e : Exchange) → GoesFrom g shows old new before.history e.after.history → HoldsState g holds e.after new
@@ -143,11 +149,12 @@ module _ {D : Type 0} (g : Ghosts D) (watched : IsWatched g) (holds : Holding) (
       record {
         crash_during = goes;
         line_by_line = (new, goes, there, rest, tt);
-        crash_after = at_end new new e.after.history e.after.history rest (held.there.0, held.there.1, tt);
+        crash_after = at_end new new e.after.history e.after.history rest (opens_again e.after new held);
         without_fault = λ sound. inr (inl there);
         no_memory = λ out. inr there;
         between_lines = λ whole. there;
         answer_cut = λ cuts. there;
+        again = opens_again e.after new held;
       }
 
   -- a run that began earlier, and had answered some lines
@@ -177,4 +184,5 @@ module _ {D : Type 0} (g : Ghosts D) (watched : IsWatched g) (holds : Holding) (
             (ends.no_memory out);
         between_lines = λ between. moved (ends.between_lines between);
         answer_cut = ends.answer_cut;
+        again = ends.again;
       }

@@ -1,8 +1,9 @@
 -- What is stored of a state, and shown of a history: the laws that the loop needs, and what a commit adds.
-use Rattle.std.proofs.Common.{◌≡◌, ◌+◌, ℕ, List, [], ◌∷◌, ◌++◌, length-append, refl, ap, sym, ◌∙◌, arith, subst}
+use Rattle.std.proofs.Common.{◌≡◌, ◌+◌, ℕ, List, [], ◌∷◌, ◌++◌, length, length-append, refl, ap, sym, ◌∙◌, arith, subst}
 use Rattle.std.specs.Prelude.{Ok}
 use Rattle.std.specs.FinMap.{entries, len-entries}
-use Rattle.vl_disk.specs.DiskState.{DiskState}
+use Rattle.vl_disk.specs.DiskState.{DiskState, appended}
+use Rattle.vl_disk.specs.Lawful.{appended_lawful, synced_lawful}
 use Rattle.vl_disk.specs.Crash.{Image}
 use Rattle.vl_disk.specs.declared.name.Name.TheVariants as names
 use Rattle.vl_frame.specs.Runs.{HasFrame}
@@ -15,7 +16,7 @@ use Rattle.vl_model.specs.Keys.{Writes}
 use Rattle.vl_model.specs.declared.log_frame.LogFrame.TheVariants.{Committed}
 use Rattle.vl_recover.specs.AppendLaws.{append_holds, commit_counts, goes_on, with_frame}
 use Rattle.vl_recover.specs.Held.{HoldsStore}
-use Rattle.vl_recover.specs.HeldLaws.{GoOn, held_opens, opening_held}
+use Rattle.vl_recover.specs.HeldLaws.{GoOn, held_may_open, held_opens, opening_held}
 use Rattle.vl_recover.specs.Opening.{Opens}
 use Rattle.vl_recover.specs.TornFrames.{frame_behind}
 use Rattle.vl_seglog.specs.CommitLaws.{frame_length-committed}
@@ -37,11 +38,15 @@ shown_by image manifest logs h m opens shows =
     record { opening = opening_held manifest logs m; opens = opens; number = refl; logs = held_show logs h m shows }
 
 pub stored_exactly : LeavesItsHistory IsStored Shown
-stored_exactly s disk stored image left =
-    let logs = logs_of s stored.frozen stored.frames in
-    let m = last_number s.history in
-    shown_by image stored.manifest logs s.history m
-    (held_opens stored.manifest logs m disk stored.holds stored.numbers image left.left) stored.shows
+stored_exactly = record {
+  leaves = λ s disk stored image left.
+      let logs = logs_of s stored.frozen stored.frames in
+      let m = last_number s.history in
+      shown_by image stored.manifest logs s.history m
+      (held_opens stored.manifest logs m disk stored.holds stored.numbers image left.left) stored.shows;
+  may_open = λ s disk stored.
+      held_may_open stored.manifest (logs_of s stored.frozen stored.frames) disk stored.lawful stored.holds;
+}
 
 pub shown_stays : StaysShown Shown
 shown_stays h k e image m le shown =
@@ -62,6 +67,7 @@ stored_kept before after disk keeps stored =
       shows = subst (λ n. LogsShow (stored.frozen ++ new_segment n stored.frames ∷ []) after.history (last_number after.history)) (ap (λ l. l.number) log)
           (subst (λ g. LogsShow (logs_of before stored.frozen stored.frames) g (last_number g)) h stored.shows);
       length_is = ap (λ l. l.length) keeps.log ∙ stored.length_is;
+      lawful = stored.lawful;
     }
 
 -- ---- one commit more
@@ -102,4 +108,6 @@ module _ (s : State) (name : List ℕ) (writes : Writes) (disk : DiskState) (sto
     shows = subst (LogsShow (stored.frozen ++ with_frame (next_frame s.history writes) last ∷ []) after.history) (sym one_more)
         (shows_next stored.frozen last s.history writes stored.shows);
     length_is = omega (arith, stored.length_is, frames_end-more stored.frames (next_frame s.history writes), commit-length (m + 1) writes);
+    lawful = synced_lawful (appended (names.Log s.log.number) frame (length frame) disk)
+        (appended_lawful disk stored.lawful (names.Log s.log.number) frame (length frame)) (names.Log s.log.number);
   }

@@ -6,6 +6,7 @@ use Rattle.vl_io.specs.declared.sink.Sink as sink
 use Rattle.vl_io.specs.Sink.{Takes}
 use Rattle.vl_recover.specs.declared.fails.Why.{Why}
 use Rattle.vl_recover.specs.declared.fails.Why.TheVariants as why
+use Rattle.vl_recover.specs.Starts.{MayOpen}
 use Rattle.vl_script.specs.Script.{lines_of}
 use Rattle.vl_replay.specs.Sequential.{State}
 use Rattle.vl_replay.specs.Exchanges.{Exchange, KeepsUp, last_state}
@@ -87,7 +88,7 @@ module _ {D : Type 0} (g : Ghosts D) (watched : IsWatched g) (holds : Holding) (
 
   -- nothing was opened
   pub ends_refused : (ending : Ending) → AnswersNothing ending → EndsBefore (EvidenceOf g first end by_files) script end.left ending first.held end.held → KeepsUp script.bytes end.asked 0
-      → (P → GoesFrom g shows first.disk end.disk script.start.history script.start.history) → (P → Tells g end.disk (λ _. Unit {0}))
+      → (P → GoesFrom g shows first.disk end.disk script.start.history script.start.history) → (P → Tells g end.disk MayOpen)
       → ((Rose (g.faults first.disk) (g.faults end.disk) → ⊥) → IsAsBefore g first.disk end.disk) → (ending ≡ NoMemory → IsAsBefore g first.disk end.disk)
       → EndsRun g by_files SoFar script first end ending
   ends_refused ending (none, none_cut) before kept_up goes tells kept kept_out =
@@ -109,6 +110,7 @@ module _ {D : Type 0} (g : Ghosts D) (watched : IsWatched g) (holds : Holding) (
               no_memory = λ out. inl (kept_out out);
               between_lines = λ between. absurd (none between);
               answer_cut = λ cuts. absurd (none_cut cuts);
+              again = tells p;
             };
       }
 

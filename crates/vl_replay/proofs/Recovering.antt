@@ -2,7 +2,7 @@
 use Rattle.std.proofs.Common.{◌≡◌, ◌⊎◌, ℕ, List, [], ◌∷◌, ◌++◌, length, refl, ap, sym, ◌∙◌, subst, inl, inr, arith}
 use Rattle.std.specs.Prelude.{◌≢◌, ◌+◌, Option, Some, None, Ok, map}
 use Rattle.vl_disk.specs.Crash.{Image}
-use Rattle.vl_disk.specs.DiskState.{DiskState}
+use Rattle.vl_disk.specs.DiskState.{DiskState, IsLawful}
 use Rattle.vl_disk.specs.declared.watched.Watched.{Ghosts}
 use Rattle.vl_layout.specs.Logs.{memtable, new_segment}
 use Rattle.vl_layout.specs.Shows.{AreUpTo, Shows}
@@ -134,8 +134,8 @@ module _ {D : Type 0} (g : Ghosts D) (disk : D) (s : State) (starts : StartsIn g
         up_to = subst (AreUpTo found.opening.number) (sym same) starts.shows.up_to;
       }
 
-  pub opened_stored : (now : DiskState) → HoldsStore parts.state (logs_then found) now → IsStored s now
-  opened_stored now holds =
+  pub opened_stored : (now : DiskState) → IsLawful now → HoldsStore parts.state (logs_then found) now → IsStored s now
+  opened_stored now lawful holds =
       let (frozen, last) = last_stands in
       record {
         manifest = parts.state;
@@ -148,6 +148,7 @@ module _ {D : Type 0} (g : Ghosts D) (disk : D) (s : State) (starts : StartsIn g
         shows = subst (λ (logs : List Segment). LogsShow logs s.history (last_number s.history)) last
             (subst (LogsShow (logs_then found) s.history) last_is shows_then);
         length_is = ap (λ l. l.length) starts.log;
+        lawful = lawful;
       }
 
 -- ---- a refusal

@@ -22,7 +22,7 @@ use Rattle.vl_replay.specs.declared.fails.Halt.TheVariants.{NoMemory as NoRoom, 
 use Rattle.vl_replay.specs.declared.ending.Ending.{Ending}
 use Rattle.vl_replay.specs.declared.ending.Ending.TheVariants.{NoMemory, DiskFault, AnswerCut}
 use Rattle.vl_replay.proofs.Ends.{or_cut}
-use Rattle.vl_replay.proofs.DiskSteps.{IsWatched, text_extends, rests_until, it_holds, ends_within, ends_unchanged}
+use Rattle.vl_replay.proofs.DiskSteps.{IsWatched, text_extends, rests_until, it_holds, opens_again, ends_within, ends_unchanged}
 use Rattle.vl_replay.proofs.Logged.{shown_stays, stored_exactly}
 use Rattle.vl_replay.proofs.Outcomes.{line_keeps}
 
@@ -74,7 +74,7 @@ module _ {D : Type 0} (g : Ghosts D) (watched : IsWatched g) (s : State) (text :
   carries_nothing disk result err held = record {
     answered = on_ok_at_err result _ err;
     no_commit = λ _. it_holds g watched IsStored Shown shown_stays stored_exactly s disk held;
-    tells = (held.there.0, held.there.1, tt);
+    tells = opens_again g watched IsStored Shown shown_stays stored_exactly s disk held;
     through = rests_until g watched IsStored Shown shown_stays stored_exactly s behind.history (text_extends s text) disk held;
   }
 
@@ -83,7 +83,7 @@ module _ {D : Type 0} (g : Ghosts D) (watched : IsWatched g) (s : State) (text :
   carries_bad disk x bad held = record {
     answered = subst (λ (t : State). HoldsState g IsStored t disk) (sym (bad_behind s text bad)) held;
     no_commit = λ out. absurd (ok_not_out x out);
-    tells = (held.there.0, held.there.1, tt);
+    tells = opens_again g watched IsStored Shown shown_stays stored_exactly s disk held;
     through = rests_until g watched IsStored Shown shown_stays stored_exactly s behind.history (text_extends s text) disk held;
   }
 

@@ -8,6 +8,7 @@ use Rattle.vl_disk.specs.DiskState.{DiskState}
 use Rattle.vl_disk.specs.Crash.{Image}
 use Rattle.vl_disk.specs.Moments.{HoldsThroughout}
 use Rattle.vl_recover.specs.Alike.{IsLeft}
+use Rattle.vl_recover.specs.Starts.{MayOpen}
 use Rattle.vl_replay.specs.Sequential.{State}
 use Rattle.vl_replay.specs.Exchanges.{Exchange, last_state}
 use Rattle.vl_replay.specs.Between.{Showing, ShowsBetween}
@@ -31,11 +32,13 @@ Holding = State → DiskState → Type 0
 
 -- ---- what the loop needs of the two parameters
 
--- a disk that holds a state leaves images that show exactly its history
-abbrev pub LeavesItsHistory : Holding → Showing → Type 0
-LeavesItsHistory holds shows =
-    (s : State) (disk : DiskState) → holds s disk
-    → Leaves (λ image. shows image s.history (last_number s.history)) disk
+-- Of a disk that holds a state:
+pub record LeavesItsHistory (holds : Holding) (shows : Showing) : Type 0 where
+  -- the images that a crash leaves show exactly its history,
+  pub leaves : (s : State) (disk : DiskState) → holds s disk
+      → Leaves (λ image. shows image s.history (last_number s.history)) disk
+  -- and a store may be opened on it
+  pub may_open : (s : State) (disk : DiskState) → holds s disk → MayOpen disk
 
 -- what an image shows of a history at one of its numbers it shows of each later history
 abbrev pub StaysShown : Showing → Type 0
@@ -73,8 +76,8 @@ pub record LeadsTo {D T : Type 0} (g : Ghosts D) (holds : Holding) (shows : Show
   pub answered : OnOk result (HoldsState g holds after new)
   -- where memory ran out it holds the commits before and no more;
   pub no_commit : result ≡ Err NoRoom → HoldsCommits g holds before new
-  -- it tells its bytes, also where it failed;
-  pub tells : Tells g new (λ _. Unit {0})
+  -- it tells its bytes, and a store may be opened on them, also where it failed;
+  pub tells : Tells g new MayOpen
   -- what a crash meanwhile leaves shows the commits before, or those after it
   pub through : GoesFrom g shows old new before.history after.history
 
@@ -121,6 +124,8 @@ pub record DiskEnds {D : Type 0} (g : Ghosts D) (holds : Holding) (shows : Showi
       → HoldsCommits g holds (last_state run.first run.answered) new
   -- and where it ended while an answer was put, the commit of that answer's line too
   pub answer_cut : CutsAnswer run.ending → HoldsCommits g holds run.most new
+  -- however it ended, a store may be opened on the disk again
+  pub again : Tells g new MayOpen
 
 -- so it is of a run over an open store, where the disk held the state in which it began
 abbrev pub DiskEndsFrom : {D : Type 0} → Ghosts D → Holding → Showing → (old new : D) → State

@@ -48,6 +48,10 @@ pub record IsDurable (disk : DiskState) : Type 0 where
   pub may_open : MayOpen disk
   pub as_read : (read image : Image) → IsRead read disk → IsLeft disk image → OpensLike image read
 
+-- A store may be opened on the disk again, where one might before.
+abbrev pub StaysOpenable : {D : Type 0} → Ghosts D → (old new : D) → Type 0
+StaysOpenable g old new = Tells g old MayOpen → Tells g new MayOpen
+
 -- What a run did to a disk whose store is durable; where the store wasn't opened, the disk is as it was.
 abbrev pub DiskEndsFromStart : {D : Type 0} → Ghosts D → (old new : D) → Course → Type 0
 DiskEndsFromStart g old new run =

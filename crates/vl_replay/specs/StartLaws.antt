@@ -4,7 +4,7 @@ use Rattle.std.specs.FinMap.{empty, get, get-empty}
 use Rattle.std.specs.Option.{option_map}
 use Rattle.std.proofs.Common.{sym, ◌∙◌, ap, subst, arith}
 use Rattle.vl_disk.specs.Crash.{Image}
-use Rattle.vl_disk.specs.DiskState.{DiskState, File, IsLawful}
+use Rattle.vl_disk.specs.DiskState.{DiskState, File}
 use Rattle.vl_disk.specs.Faults.{after_calls}
 use Rattle.vl_disk.specs.Name.{name_cmp}
 use Rattle.vl_disk.specs.Started.{IsRead, Started, read_left, started_left}
@@ -201,12 +201,12 @@ started_durable image disk started = record {
 }
 
 -- and on one that holds a state, as a run without a fault leaves it.
-pub stored_durable : (s : State) (disk : DiskState) → IsLawful disk → IsStored s disk → IsDurable disk
-stored_durable s disk lawful stored =
+pub stored_durable : (s : State) (disk : DiskState) → IsStored s disk → IsDurable disk
+stored_durable s disk stored =
     let logs : List Segment = logs_of s stored.frozen stored.frames in
     let m = last_number s.history in
     record {
-      may_open = held_may_open stored.manifest logs disk lawful stored.holds;
+      may_open = held_may_open stored.manifest logs disk stored.lawful stored.holds;
       as_read = λ read left is_read is_left o opens.
           let held = held_reads stored.manifest logs m disk stored.holds stored.numbers read is_read in
           let same = ok_same {E = Refusal} _ o (single_opening read _ (Ok o) held opens) in (

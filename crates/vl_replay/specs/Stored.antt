@@ -1,7 +1,7 @@
 -- What a disk holds of a state, and what an image shows of a history, for a store without tables.
 use Rattle.std.specs.Prelude.{◌≡◌, ℕ, List, [], ◌∷◌, ◌++◌, None, Ok}
 use Rattle.vl_disk.specs.Crash.{Image}
-use Rattle.vl_disk.specs.DiskState.{DiskState}
+use Rattle.vl_disk.specs.DiskState.{DiskState, IsLawful}
 use Rattle.vl_layout.specs.Logs.{log_length, memtable, new_segment}
 use Rattle.vl_layout.specs.Shows.{AreUpTo, Shows}
 use Rattle.vl_layout.specs.declared.segment.Segment.{Segment}
@@ -50,3 +50,5 @@ pub record IsStored (s : State) (disk : DiskState) : Type 0 where
   pub numbers : GoOn manifest.covered (logs_of s frozen frames) (last_number s.history)
   pub shows : LogsShow (logs_of s frozen frames) s.history (last_number s.history)
   pub length_is : s.log.length ≡ log_length frames
+  -- and it is lawful, as whatever a disk tells
+  pub lawful : IsLawful disk

@@ -1,5 +1,5 @@
 //! A script's lines answered, one after the other, over the disk that holds the store.
-ghost use Rattle.std.specs.Prelude.{◌≡◌, ◌≢◌, Some, Err, IfOk, IsErr, OnOk, OnErr};
+ghost use Rattle.std.specs.Prelude.{◌≡◌, ◌≢◌, Some, Err, IfOk, IfErr, IsErr, OnOk, OnErr};
 ghost use Rattle.std.specs.Option.{ForSome};
 ghost use Rattle.vl_disk.specs.declared.name.Name.TheVariants as names;
 ghost use Rattle.vl_disk.specs.DiskState.{DiskState};
@@ -13,7 +13,10 @@ ghost use Rattle.vl_replay.specs.Represents.{Represents};
 ghost use Rattle.vl_replay.specs.Opening.{IsFault, IsRefused, OpensBy, disk_of, why_of};
 ghost use Rattle.vl_replay.specs.Halts.{HaltsByDisk};
 ghost use Rattle.vl_replay.specs.declared.fails.Refusal.{Refusal};
+ghost use Rattle.vl_recover.specs.Meanwhile.{FaultsAt};
+ghost use Rattle.vl_recover.specs.Results.{came_by};
 ghost use Rattle.vl_recover.specs.Starts.{MayOpen};
+ghost use Rattle.vl_disk.specs.declared.name.Name.{Name};
 ghost use Rattle.vl_disk.specs.Crash.{Image};
 ghost use Rattle.vl_disk.specs.Started.{IsRead};
 
@@ -74,6 +77,14 @@ impl<D: Disk> Replayer<D> {
         ensures left_alone { (IsFault (why_of result) → ⊥) → IsErr result
             → IsAsBefore D.Watched disk (disk_of (λ replayer. replayer.disk) result) }
         ensures cause { HasCause (D.faults disk) (D.faults (disk_of (λ replayer. replayer.disk) result)) (IsFault (why_of result)) }
+
+        // A fault is named by the file at which it came.
+        ensures at { (state : DiskState) (read : Image) → D.told disk ≡ Some state → IsRead read state
+            → IfErr result (λ fail. FaultsAt read state (came_by fail.why)) }
+
+        // And a store may be opened on the disk again, whatever is answered.
+        ensures again { (state now : DiskState) → D.told disk ≡ Some state → MayOpen state
+            → D.told (disk_of (λ replayer. replayer.disk) result) ≡ Some now → MayOpen now }
     {
         match recover(alloc, disk, MAX_ROOM) {
             Ok(parts) => Ok(Replayer {
@@ -95,11 +106,13 @@ impl<D: Disk> Replayer<D> {
             → OnErr result (Represents self.new.store s) }
 
         // Each accepted commit is one synced frame of the log, which is written before the answer.
+        // However the line ends, a store may be opened on the disk again.
         ensures carries { (s : State) → Represents self.old.store s
             → CarriesOut D.Watched IsStored Shown self.old.disk self.new.disk s (state_after s line) result }
         ensures no_memory { result ≡ Err Halt.NoMemory
             → D.told self.new.disk ≡ D.told self.old.disk }
         ensures cause { HasCause (D.faults self.old.disk) (D.faults self.new.disk) (HaltsByDisk result) }
+        ensures named { (name : Name) → result ≡ Err (Halt.Disk name) → name ≡ names.Log self.old.store.log.number }
     {
         self.store.line(&mut self.disk, line)
     }

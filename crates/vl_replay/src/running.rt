@@ -12,7 +12,7 @@ ghost use Rattle.vl_disk.specs.Faults.{Rose};
 ghost use Rattle.vl_replay.specs.Runs.{Script, script_of, outside, EndsRun};
 ghost use Rattle.vl_replay.specs.Durable.{HoldsState, DiskEndsFrom};
 ghost use Rattle.vl_replay.specs.Stored.{IsStored, Shown};
-ghost use Rattle.vl_replay.specs.Start.{StartsIn, DiskEndsFromStart};
+ghost use Rattle.vl_replay.specs.Start.{StartsIn, StaysOpenable, DiskEndsFromStart};
 ghost use Rattle.vl_replay.specs.Opening.{IsRefused};
 ghost use Rattle.vl_replay.specs.declared.fails.Refusal.{Refusal};
 ghost use Rattle.vl_replay.specs.Steps.{IsNext, StepsOn, DiskSteps, kept, HasToDo, Steps, IsRefusedRun, StaysRefused};
@@ -122,6 +122,10 @@ pub fn replay<S: Source, K: Sink, D: Disk>(
         → IsRead read state → IsRefused read refusal
         → StaysRefused D.Watched K.Sink disk result.disk sink.old sink.new refusal result.ending
         × (source.new ≡ source.old) }
+
+    // However the run ends, and whatever failed, a store may be opened on the disk again where one might before.
+    ensures again { (s : State) (input : List ℕ) → StartsIn D.Watched disk s → S.left source.old ≡ Some input
+        → StaysOpenable D.Watched disk result.disk }
 {
     match Replayer::new(alloc, disk) {
         Ok(replayer) => answer_lines(alloc, source, sink, replayer),

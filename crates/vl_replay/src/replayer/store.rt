@@ -2,6 +2,7 @@
 ghost use Rattle.std.specs.Prelude.{◌≡◌, ◌+◌, ℕ, List, [], None, Some, Err, IfOk, IfErr, OnOk, OnErr};
 ghost use Rattle.std.specs.Option.{ForSome, option_copied};
 ghost use Rattle.std.specs.FinMap.{get, empty};
+ghost use Rattle.vl_disk.specs.declared.name.Name.{Name};
 ghost use Rattle.vl_disk.specs.declared.name.Name.TheVariants as names;
 ghost use Rattle.vl_disk.specs.Disk.{Stands};
 ghost use Rattle.vl_disk.specs.Faults.{HasCause};
@@ -72,6 +73,7 @@ impl Store {
         ensures stands { ForSome (D.told disk.new) (Stands (names.Log self.new.log.number)) }
         ensures no_memory { result ≡ Err Halt.NoMemory → D.told disk.new ≡ D.told disk.old }
         ensures cause { HasCause (D.faults disk.old) (D.faults disk.new) (HaltsByDisk result) }
+        ensures named { (name : Name) → result ≡ Err (Halt.Disk name) → name ≡ names.Log self.old.log.number }
     {
         match line {
             Line::Begin { name } => Ok(self.begin(name)),
@@ -181,6 +183,7 @@ impl Store {
         ensures stands { ForSome (D.told disk.new) (Stands (names.Log self.new.log.number)) }
         ensures no_memory { result ≡ Err Halt.NoMemory → D.told disk.new ≡ D.told disk.old }
         ensures cause { HasCause (D.faults disk.old) (D.faults disk.new) (HaltsByDisk result) }
+        ensures named { (name : Name) → result ≡ Err (Halt.Disk name) → name ≡ names.Log self.old.log.number }
     {
         match self.decide(name) {
             Decision::Refuse(answer) => Ok(answer),
@@ -232,6 +235,7 @@ impl Store {
         ensures stands { ForSome (D.told disk.new) (Stands (names.Log self.new.log.number)) }
         ensures no_memory { result ≡ Err Halt.NoMemory → D.told disk.new ≡ D.told disk.old }
         ensures cause { HasCause (D.faults disk.old) (D.faults disk.new) (HaltsByDisk result) }
+        ensures named { (name : Name) → result ≡ Err (Halt.Disk name) → name ≡ names.Log self.old.log.number }
     {
         let Some(held) = &self.in_use else {
             unreachable!();

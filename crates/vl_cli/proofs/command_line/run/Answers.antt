@@ -95,3 +95,9 @@ returns-clause-write_fault g c is = refused_rose g.K.Sink _ _ _ c.finish.result 
 
 pub returns-clause-no_stream_fault : goal.returns-clause-no_stream_fault
 returns-clause-no_stream_fault g c less = (refl, refused_steady g.K.Sink _ _ _ c.finish.result c.finish.ensures (subst (λ (n : ℕ). n < 6) c.status-status-2.ensures less))
+
+pub returns-then-are_plain-clause-again : goal.returns-then-are_plain-clause-again
+returns-then-are_plain-clause-again g c s input starts told = c.replay-ending.ensures.again s input starts told
+
+pub returns-clause-again : goal.returns-clause-again
+returns-clause-again g c s input starts told may = may

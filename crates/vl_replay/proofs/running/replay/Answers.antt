@@ -48,7 +48,7 @@ returns-in-Err-clause-runs g c s input starts told =
     (subst (λ (w : Why). AnswersBy starts.read (came_by w)) (refused_for reason how refusal ended.ensures.1 is) (c.in-Err.ensures.answer starts.state starts.read starts.told starts.is_read)))
     (λ fault. c.in-Err.ensures.cause.rose (fault_for reason how ended.ensures.1 fault)) told ended.ensures.2)
     (keeps_up_at_first input (g.S.Source.asked c.args.source.now) (g.met.S.Source.since_asked c.args.source.now input told))
-    (c.in-Err.ensures.through s starts) (λ p. c.in-Err.ensures.tells p.0 p.1)
+    (c.in-Err.ensures.through s starts) (λ p. let told = c.in-Err.ensures.tells p.0 p.1 in (told.0, told.1, c.in-Err.ensures.again p.0 told.0 p.1 p.2.may_open told.1))
     (λ sound. c.in-Err.ensures.left_alone (λ fault. sound (c.in-Err.ensures.cause.rose fault)) refl)
     (λ out. c.in-Err.ensures.left_alone (λ fault. out_of_memory g.K.Sink c.args.sink.now ended.new.sink how ended.result ended.ensures.2 out (fault_of reason how ended.ensures.1 fault)) refl)
 
@@ -94,3 +94,12 @@ returns-in-Err-clause-refuses g c state read refusal told is_read is_refused =
       },
       refl,
     )
+
+pub returns-in-Ok-clause-again : goal.returns-in-Ok-clause-again
+returns-in-Ok-clause-again g c s input starts told may =
+    ((c.answer_lines.ensures.runs s input (c.in-Ok.ensures.store s starts) told).disk (c.in-Ok.ensures.holds s starts may)).again
+
+pub returns-in-Err-clause-again : goal.returns-in-Err-clause-again
+returns-in-Err-clause-again g c s input starts told (state, is, may) =
+    let now = c.in-Err.ensures.tells state is in
+    (now.0, now.1, c.in-Err.ensures.again state now.0 is may now.1)

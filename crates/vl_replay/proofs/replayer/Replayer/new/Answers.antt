@@ -1,13 +1,6 @@
-use Rattle.std.proofs.Common.{◌≡◌, ℕ, ap, sym, subst, ◌∙◌, arith, refl}
-use Rattle.vl_disk.specs.Crash.{Image}
-use Rattle.vl_disk.specs.Moments.{holds_weaker}
-use Rattle.vl_recover.specs.Alike.{OpensAsOf}
+use Rattle.std.proofs.Common.{◌≡◌, sym, subst, ◌∙◌, refl}
 use Rattle.vl_recover.specs.OneFinding.{opened_not}
 use Rattle.vl_recover.specs.Starts.{MayOpen}
-use Rattle.vl_replay.specs.Between.{ShowsBetween}
-use Rattle.vl_replay.specs.Durable.{Leaves}
-use Rattle.vl_replay.specs.Stored.{Shown}
-use Rattle.vl_replay.proofs.Betweens.{between_exactly}
 use Rattle.vl_replay.proofs.Recovering.{opened_store, opened_stored, refused_not}
 use Rattle.vl_replay.proofs.Starting.{opening_goes}
 use Rattle.vl_replay.proofs.replayer.Replayer.new.Goals as goal
@@ -35,8 +28,12 @@ returns-in-Ok-clause-holds g c s starts (state, is, may) =
     let same : state ≡ starts.state = cc in
     record {
       calls = c.in-Ok.ensures.calls starts.state starts.read starts.found starts.strays starts.told starts.is_read starts.are_strays ∙ sym starts.calls;
-      there = (now, told, opened_stored g.D.Watched c.args.disk s starts c.in-Ok.parts other opened now
-          (c.in-Ok.ensures.held starts.state now starts.read starts.found starts.told (subst MayOpen same may) starts.is_read told));
+      there = (
+        now,
+        told,
+        opened_stored g.D.Watched c.args.disk s starts c.in-Ok.parts other opened now (g.met.D.Disk.lawful c.in-Ok.parts.disk now told)
+            (c.in-Ok.ensures.held starts.state now starts.read starts.found starts.told (subst MayOpen same may) starts.is_read told),
+      );
     }
 
 pub returns-in-Ok-clause-through : goal.returns-in-Ok-clause-through
