@@ -7,7 +7,7 @@ use Rattle.vl_replay.specs.Sequential.{State}
 use Rattle.vl_replay.specs.Endings.{status_of}
 use Rattle.vl_replay.specs.Runs.{Outside, EndsRun, script_of}
 use Rattle.vl_replay.specs.Start.{StartsIn, DiskEndsFromStart}
-use Rattle.vl_replay.specs.Steps.{FinishesBy, StaysRefused}
+use Rattle.vl_replay.specs.Steps.{FinishesBy, EndsWithoutOpening}
 use Rattle.vl_replay.specs.declared.ending.Ending.{Ending}
 use Rattle.vl_replay.specs.declared.fails.Refusal.{Refusal}
 
@@ -38,11 +38,11 @@ AnswersInput g old new status = (start : State) (input : List ℕ)
 
 -- a run that wasn't begun put the line of this ending and has its status, or put a front of it and has the sink's
 abbrev pub EndsBy : {K : Type 0} → sink.Ghosts K → (old new : K) → Ending → (status : ℕ) → Type 0
-EndsBy g old new why status =
-    (ending : Ending) × (status ≡ status_of ending) × FinishesBy g old new why ending
+EndsBy g old new meant status =
+    (ending : Ending) × (status ≡ status_of ending) × FinishesBy g old new meant ending
 
 -- a run over a disk of which reads give this refusal ended by it, by want of memory or by a fault
-abbrev pub StaysUnopened : {D K : Type 0} → Ghosts D → sink.Ghosts K → (disk disk' : D) → (old new : K) → Refusal
+abbrev pub StatusWithoutOpening : {D K : Type 0} → Ghosts D → sink.Ghosts K → (disk disk' : D) → (sink sink' : K) → Refusal
     → (status : ℕ) → Type 0
-StaysUnopened g k disk disk' old new refusal status =
-    (ending : Ending) × (status ≡ status_of ending) × StaysRefused g k disk disk' old new refusal ending
+StatusWithoutOpening g k disk disk' sink sink' refusal status =
+    (ending : Ending) × (status ≡ status_of ending) × EndsWithoutOpening g k disk disk' sink sink' refusal ending

@@ -19,7 +19,7 @@ ghost use Rattle.vl_replay.specs.Start.{StartsIn};
 ghost use Rattle.vl_replay.specs.Steps.{IsRefusedRun};
 ghost use Rattle.vl_replay.specs.declared.ending.Ending.{Ending as HowEnded};
 ghost use Rattle.vl_replay.specs.declared.fails.Refusal.{Refusal};
-ghost use Rattle.vl_cli.specs.Run.{AnswersInput, EndsBy, StaysUnopened, is_plain};
+ghost use Rattle.vl_cli.specs.Run.{AnswersInput, EndsBy, StatusWithoutOpening, is_plain};
 
 use crate::command_line::words::are_plain;
 use std::alloc::Global;
@@ -79,7 +79,7 @@ pub fn run<S: Source, K: Sink, D: Disk>(
         × (source.new ≡ source.old) }
     ensures refuses { is_plain (map string_bytes words.now) ≡ true → (state : DiskState) (read : Image) (refusal : Refusal)
         → D.told disk ≡ Some state → IsRead read state → IsRefused read refusal
-        → StaysUnopened D.Watched K.Sink disk result.disk sink.old sink.new refusal result.status
+        → StatusWithoutOpening D.Watched K.Sink disk result.disk sink.old sink.new refusal result.status
         × (source.new ≡ source.old) }
 
     // Statuses 6 and 7 come only by faults of the source and of the sink, and the others only without.

@@ -13,7 +13,7 @@ use Rattle.vl_model.specs.History.{Extends}
 use Rattle.vl_replay.specs.Between.{Showing}
 use Rattle.vl_replay.specs.Endings.{Culprit, TheDisk, TheSink, TheSource, CountsFaultsOf, Evidence, CutsAnswer, IsBetweenLines, culprit_of, last_line}
 use Rattle.vl_replay.specs.Runs.{Script, exchanges, next_number, Stops, Course, Outside, EvidenceOf, EndsRun}
-use Rattle.vl_replay.specs.Durable.{Holding, IsAsBefore, LeavesItsHistory, StaysShown, Tells, HoldsState, GoesFrom, GoesAlong, DiskEnds, DiskEndsFrom}
+use Rattle.vl_replay.specs.Durable.{Holding, IsAsBefore, LeavesItsHistory, StaysShown, Tells, HoldsState, CrashesShow, GoesAlong, DiskEnds, DiskEndsFrom}
 use Rattle.vl_replay.specs.Opening.{IsFault, ending_unopened, why_refused}
 use Rattle.vl_replay.specs.declared.fails.Refusal.{Refusal}
 use Rattle.vl_replay.specs.declared.fails.Refusal.TheVariants as refusals
@@ -87,7 +87,7 @@ module _ {D : Type 0} (g : Ghosts D) (watched : IsWatched g) (holds : Holding) (
 
   -- nothing was opened
   pub ends_refused : (ending : Ending) → AnswersNothing ending → EndsBefore (EvidenceOf g first end by_files) script end.left ending first.held end.held → KeepsUp script.bytes end.asked 0
-      → (P → GoesFrom g shows first.disk end.disk script.start.history script.start.history) → (P → Tells g end.disk (λ _. Unit {0}))
+      → (P → CrashesShow g shows first.disk end.disk script.start.history script.start.history) → (P → Tells g end.disk (λ _. Unit {0}))
       → ((Rose (g.faults first.disk) (g.faults end.disk) → ⊥) → IsAsBefore g first.disk end.disk) → (ending ≡ NoMemory → IsAsBefore g first.disk end.disk)
       → EndsRun g by_files SoFar script first end ending
   ends_refused ending (none, none_cut) before kept_up goes tells kept kept_out =
@@ -114,7 +114,7 @@ module _ {D : Type 0} (g : Ghosts D) (watched : IsWatched g) (holds : Holding) (
 
   -- ---- the store was opened before the first line
 
-  along_opened : (mid new : D) (s most : State) (all : List Exchange) (m : ℕ) → Extends s.history (last_state s (take 1 all)).history → GoesFrom g shows first.disk mid s.history s.history
+  along_opened : (mid new : D) (s most : State) (all : List Exchange) (m : ℕ) → Extends s.history (last_state s (take 1 all)).history → CrashesShow g shows first.disk mid s.history s.history
       → GoesAlong g holds shows new most mid s (take m all) → GoesAlong g holds shows new most first.disk s (take m all)
   along_opened mid new s most [] zero extends goes along = tt
   along_opened mid new s most [] (suc m) extends goes along = tt
@@ -123,7 +123,7 @@ module _ {D : Type 0} (g : Ghosts D) (watched : IsWatched g) (holds : Holding) (
       (passed, goes_then g watched holds shows stays exactly first.disk mid passed s.history s.history e.after.history (extends_itself s.history) extends goes step, there, on, later)
 
   pub ends_opened : (mid : Outside D) (ending : Ending) → mid.source_faults ≡ first.source_faults → mid.held ≡ first.held → g.faults first.disk ≤ g.faults mid.disk
-      → (P → HoldsState g holds script.start mid.disk) → (P → GoesFrom g shows first.disk mid.disk script.start.history script.start.history)
+      → (P → HoldsState g holds script.start mid.disk) → (P → CrashesShow g shows first.disk mid.disk script.start.history script.start.history)
       → EndsRun g ⊥ (DiskEndsFrom g holds shows mid.disk end.disk script.start) script mid end ending
       → EndsRun g by_files SoFar script first end ending
   ends_opened mid ending same_faults same_held earlier opened goes run =

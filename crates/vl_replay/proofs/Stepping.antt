@@ -12,7 +12,7 @@ use Rattle.vl_replay.specs.Exchanges.{Exchange, exchange_at, state_behind, excha
 use Rattle.vl_replay.specs.Endings.{Evidence, CutsAnswer, line_number}
 use Rattle.vl_replay.specs.Runs.{Script, exchanges, Outside, EvidenceOf, EndsRun}
 use Rattle.vl_replay.specs.Durable.{Holding, LeavesItsHistory, StaysShown, HoldsState, DiskEnds, DiskEndsFrom}
-use Rattle.vl_replay.specs.Steps.{IsNext, EndsBefore, StepsOn, MovesOn, DiskSteps, kept, Steps}
+use Rattle.vl_replay.specs.Steps.{IsNext, EndsBefore, PrintsStep, MovesOn, DiskSteps, kept, Steps}
 use Rattle.vl_replay.specs.declared.input.lines.Next.{Next}
 use Rattle.vl_replay.specs.declared.input.lines.Next.TheVariants.{Line as WholeLine, LastLine}
 use Rattle.vl_replay.specs.declared.replayer.store.Store.{Store}
@@ -92,7 +92,7 @@ module _ {D : Type 0} (g : Ghosts D) (watched : IsWatched g) (holds : Holding) (
 
     -- a line that was read with its end was answered, or the run ended there
     pub step_line : (buffer : List ℕ) (answered : ℕ) (result : Option Ending) → answered ≡ line_number (script.before + 1) → ReadsLine WholeLine script.bytes line buffer new.left
-        → StepsOn (Rose (g.faults old.disk) (g.faults new.disk)) script line store result old.held new.held
+        → PrintsStep (Rose (g.faults old.disk) (g.faults new.disk)) script line store result old.held new.held
         → (HoldsState g holds script.start old.disk → DiskSteps g holds shows old.disk new.disk script.start behind result)
         → KeepsUp script.bytes new.asked 0 → Steps g holds shows script old new (kept store buffer answered) result
     step_line buffer answered None count (rest, told, parts, unended) (e, is, stands, taken) moves kept_up = record {
@@ -118,7 +118,7 @@ module _ {D : Type 0} (g : Ghosts D) (watched : IsWatched g) (holds : Holding) (
 
     -- the last line was answered, and so the run is complete, or it ended there
     pub step_last : (buffer : List ℕ) (ended_by : Option Ending) (result : Ending) → result ≡ unwrap_or ended_by Complete → ReadsLine LastLine script.bytes line buffer new.left
-        → StepsOn (Rose (g.faults old.disk) (g.faults new.disk)) script line store ended_by old.held new.held
+        → PrintsStep (Rose (g.faults old.disk) (g.faults new.disk)) script line store ended_by old.held new.held
         → (HoldsState g holds script.start old.disk → DiskSteps g holds shows old.disk new.disk script.start behind ended_by)
         → KeepsUp script.bytes new.asked 0 → EndsRun g ⊥ (DiskEndsFrom g holds shows old.disk new.disk script.start) script old new result
     step_last buffer None result r (told, same, unended, some) (e, is, stands, taken) moves kept_up =

@@ -12,7 +12,7 @@ use Rattle.vl_model.specs.History.{Extends}
 use Rattle.vl_replay.specs.Between.{Showing}
 use Rattle.vl_replay.specs.Endings.{Evidence}
 use Rattle.vl_replay.specs.Runs.{Script, script_of, exchanges, Outside, EvidenceOf, EndsSo, EndsRun}
-use Rattle.vl_replay.specs.Durable.{Holding, LeavesItsHistory, StaysShown, HoldsState, GoesFrom, GoesAlong, DiskEnds, DiskEndsFrom}
+use Rattle.vl_replay.specs.Durable.{Holding, LeavesItsHistory, StaysShown, HoldsState, CrashesShow, GoesAlong, DiskEnds, DiskEndsFrom}
 use Rattle.vl_replay.specs.Steps.{Kept, kept, HasToDo, GoesOn}
 use Rattle.vl_replay.specs.declared.replayer.store.Store.{Store}
 use Rattle.vl_replay.specs.declared.ending.Ending.{Ending}
@@ -25,8 +25,8 @@ use Rattle.vl_replay.proofs.DiskSteps.{IsWatched, exchange_extends, exchanges_ex
 -- the lines of the rest goes along those of the whole.
 pub record Carried {D : Type 0} (g : Ghosts D) (holds : Holding) (shows : Showing) (first disk : D) (whole rest : Script) : Type 0 where
   pub held : HoldsState g holds rest.start disk
-  pub goes : GoesFrom g shows first disk whole.start.history rest.start.history
-  pub along : (new : D) (most : State) (m : ℕ) → Extends rest.start.history most.history → GoesFrom g shows disk new rest.start.history most.history
+  pub goes : CrashesShow g shows first disk whole.start.history rest.start.history
+  pub along : (new : D) (most : State) (m : ℕ) → Extends rest.start.history most.history → CrashesShow g shows disk new rest.start.history most.history
       → GoesAlong g holds shows new most disk rest.start (take m (exchanges rest))
       → GoesAlong g holds shows new most first whole.start (take (m + rest.before) (exchanges whole))
 

@@ -60,10 +60,11 @@ abbrev pub HoldsCommits : {D : Type 0} → Ghosts D → Holding → State → D 
 HoldsCommits g holds t disk =
     (s : State) × (s.history ≡ t.history) × (s.calls ≡ t.calls) × HoldsState g holds s disk
 
--- what a crash meanwhile leaves shows what was there before, or more of what is there in the end
-abbrev pub GoesFrom : {D : Type 0} → Ghosts D → Showing → (old new : D) → (least most : History)
+-- Whatever a crash leaves at any moment from the old disk to the new one shows at least the one history and at most the
+-- other.
+abbrev pub CrashesShow : {D : Type 0} → Ghosts D → Showing → (old new : D) → (least most : History)
     → Type 0
-GoesFrom g shows old new least most =
+CrashesShow g shows old new least most =
     HoldsThroughout g old new (Leaves (ShowsBetween shows least most))
 
 -- A call took a disk from one state to the next, or failed on the way.
@@ -76,7 +77,7 @@ pub record LeadsTo {D T : Type 0} (g : Ghosts D) (holds : Holding) (shows : Show
   -- it tells its bytes, also where it failed;
   pub tells : Tells g new (λ _. Unit {0})
   -- what a crash meanwhile leaves shows the commits before, or those after it
-  pub through : GoesFrom g shows old new before.history after.history
+  pub through : CrashesShow g shows old new before.history after.history
 
 -- A line, or a text, was carried out: so it is where the disk held the state before.
 abbrev pub CarriesOut : {D T : Type 0} → Ghosts D → Holding → Showing → (old new : D)
@@ -92,9 +93,9 @@ abbrev pub GoesAlong : {D : Type 0} → Ghosts D → Holding → Showing → (ne
     → State → List Exchange → Type 0
 GoesAlong g holds shows new most disk s [] = Unit {0}
 GoesAlong {D} g holds shows new most disk s (e ∷ later) =
-    (passed : D) × GoesFrom g shows disk passed s.history e.after.history
+    (passed : D) × CrashesShow g shows disk passed s.history e.after.history
     × HoldsCommits g holds e.after passed
-    × GoesFrom g shows passed new e.after.history most.history
+    × CrashesShow g shows passed new e.after.history most.history
     × GoesAlong g holds shows new most passed e.after later
 
 -- What a run that came so far did to its disk. The commits of the answered lines are the acknowledged ones. `unopened` says
@@ -102,7 +103,7 @@ GoesAlong {D} g holds shows new most disk s (e ∷ later) =
 pub record DiskEnds {D : Type 0} (g : Ghosts D) (holds : Holding) (shows : Showing)
     (unopened : Type 0) (old new : D) (run : Course) : Type 0 where
   -- what a crash at any moment since the begin leaves shows a first part of the commits
-  pub crash_during : GoesFrom g shows old new run.first.history run.most.history
+  pub crash_during : CrashesShow g shows old new run.first.history run.most.history
   -- and the disk went through one for each answered line, from which on a crash leaves its commit too
   pub line_by_line : GoesAlong g holds shows new run.most old run.first run.answered
   -- what a crash leaves after the run's end shows each acknowledged one; so it is over a disk of which each call from some

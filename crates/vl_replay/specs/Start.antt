@@ -29,7 +29,7 @@ pub record StartsIn {D : Type 0} (g : Ghosts D) (disk : D) (s : State) : Type 0 
   pub read : Image
   pub is_read : IsRead read state
   pub found : Finds read
-  pub left : used_up found ≡ None
+  pub unused : used_up found ≡ None
   -- the history is the opened one
   pub first : s.history.first ≡ found.opening.number
   pub commits : s.history.commits ≡ []

@@ -15,7 +15,7 @@ ghost use Rattle.vl_replay.specs.Stored.{IsStored, Shown};
 ghost use Rattle.vl_replay.specs.Start.{StartsIn, DiskEndsFromStart};
 ghost use Rattle.vl_replay.specs.Opening.{IsRefused};
 ghost use Rattle.vl_replay.specs.declared.fails.Refusal.{Refusal};
-ghost use Rattle.vl_replay.specs.Steps.{IsNext, StepsOn, DiskSteps, kept, HasToDo, Steps, IsRefusedRun, StaysRefused};
+ghost use Rattle.vl_replay.specs.Steps.{IsNext, PrintsStep, DiskSteps, kept, HasToDo, Steps, IsRefusedRun, EndsWithoutOpening};
 
 use crate::answering::{answer, end_at_bad_line};
 use crate::ending::{Ended, Ending, NO_MEMORY, READ_FAULT, finish};
@@ -70,7 +70,7 @@ impl<D: Disk> Progress<D> {
     fn answer<K: Sink>(&mut self, sink: &mut K) -> Option<Ending>
         ensures printed { (script : Script) → Represents self.old.replayer.store script.start
             → self.old.answered ≡ line_number script.before → IsNext script self.old.line.items
-            → StepsOn (Rose (D.faults self.old.replayer.disk) (D.faults self.new.replayer.disk)) script self.old.line.items
+            → PrintsStep (Rose (D.faults self.old.replayer.disk) (D.faults self.new.replayer.disk)) script self.old.line.items
             self.new.replayer.store result (K.held sink.old) (K.held sink.new) }
         ensures moves { (s : State) → Represents self.old.replayer.store s
             → HoldsState D.Watched IsStored s self.old.replayer.disk
@@ -120,7 +120,7 @@ pub fn replay<S: Source, K: Sink, D: Disk>(
         → IsRefusedRun D.Watched K.Sink disk result.disk sink.old sink.new refusal × (source.new ≡ source.old) }
     ensures refuses { (state : DiskState) (read : Image) (refusal : Refusal) → D.told disk ≡ Some state
         → IsRead read state → IsRefused read refusal
-        → StaysRefused D.Watched K.Sink disk result.disk sink.old sink.new refusal result.ending
+        → EndsWithoutOpening D.Watched K.Sink disk result.disk sink.old sink.new refusal result.ending
         × (source.new ≡ source.old) }
 {
     match Replayer::new(alloc, disk) {

@@ -44,7 +44,7 @@ returns-in-Err-clause-runs g c s input starts told =
     (outside g.S.Source g.K.Sink c.args.source.now c.args.sink.now c.args.disk) (outside g.S.Source g.K.Sink c.args.source.now ended.new.sink c.in-Err.field-0.disk)
     ended.result (refused_nothing g.K.Sink c.args.sink.now ended.new.sink how ended.result ended.ensures.2)
     (refused g.K.Sink c.args.sink.now ended.new.sink (Rose (g.S.Source.faults c.args.source.now) (g.S.Source.faults c.args.source.now)) by_disk ⊥ script (g.S.Source.left c.args.source.now) how ended.result
-    (λ refusal is. opened_not_refused starts.read starts.found starts.left refusal
+    (λ refusal is. opened_not_refused starts.read starts.found starts.unused refusal
     (subst (λ (w : Why). AnswersBy starts.read (came_by w)) (refused_for reason how refusal ended.ensures.1 is) (c.in-Err.ensures.answer starts.state starts.read starts.told starts.is_read)))
     (λ fault. c.in-Err.ensures.cause.rose (fault_for reason how ended.ensures.1 fault)) told ended.ensures.2)
     (keeps_up_at_first input (g.S.Source.asked c.args.source.now) (g.met.S.Source.since_asked c.args.source.now input told))
