@@ -29,7 +29,7 @@ pub record AnswersFrom {D : Type 0} (g : Ghosts D) (start : State) (input : List
   pub status_is : status ≡ status_of ending
   -- what was printed and how many lines were answered, that each answer was put before the next line was read, and what
   -- was done to a disk whose store is durable: each accepted commit is one synced frame of its log
-  pub run : EndsRun g ⊥ (DiskEndsFromStart g old.disk new.disk) (script_of start 0 input) old new ending
+  pub run : EndsRun g (DiskEndsFromStart g old.disk new.disk) (script_of start 0 input) old new ending
 
 -- So it did with the input that its source had left, from the state in which a run over its disk begins.
 abbrev pub AnswersInput : {D : Type 0} → Ghosts D → (old new : Outside D) → (status : ℕ) → Type 0

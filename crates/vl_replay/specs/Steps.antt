@@ -106,7 +106,7 @@ EndsAtBadLine answered ending held held' =
     (script : Script) (text : List ℕ) (left : Option (List ℕ))
     → answered ≡ line_number script.before
     → IsNext script text → exchange_at script.start text ≡ None
-    → EndsBefore (Evidence ⊥ ⊥ ⊥) script left ending held held'
+    → EndsBefore (Evidence ⊥ ⊥) script left ending held held'
 
 -- the next line was answered and printed, and the run goes on; or it ended there. `failed` says that the disk failed.
 abbrev pub PrintsStep : (failed : Type 0) → Script → List ℕ → Store → Option Ending
@@ -115,7 +115,7 @@ PrintsStep failed script text after None held held' =
     (e : Exchange) × (exchange_at script.start text ≡ Some e) × Represents after e.after
     × Takes held held' (text_of e.answer)
 PrintsStep failed script text after (Some ending) held held' =
-    (left : Option (List ℕ)) → EndsBefore (Evidence ⊥ failed ⊥) script left ending held held'
+    (left : Option (List ℕ)) → EndsBefore (Evidence ⊥ failed) script left ending held held'
 
 -- the disk holds the state after a line, and a crash meanwhile left what was before it or after it
 pub record MovesOn {D : Type 0} (g : Ghosts D) (holds : Holding) (shows : Showing)
@@ -174,4 +174,4 @@ abbrev pub Steps : {D : Type 0} → Ghosts D → Holding → Showing → Script 
     → Kept → Option Ending → Type 0
 Steps g holds shows script old new kept None = GoesOn g holds shows script old new kept
 Steps g holds shows script old new kept (Some ending) =
-    EndsRun g ⊥ (DiskEndsFrom g holds shows old.disk new.disk script.start) script old new ending
+    EndsRun g (DiskEndsFrom g holds shows old.disk new.disk script.start) script old new ending

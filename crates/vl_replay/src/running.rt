@@ -106,7 +106,7 @@ pub fn replay<S: Source, K: Sink, D: Disk>(
 ) -> Ended<D>
     ensures runs { (s : State) (input : List ℕ) → StartsIn D.Watched disk s
         → S.left source.old ≡ Some input
-        → EndsRun D.Watched ⊥ (DiskEndsFromStart D.Watched disk result.disk)
+        → EndsRun D.Watched (DiskEndsFromStart D.Watched disk result.disk)
         (script_of s 0 input) (outside S.Source K.Sink source.old sink.old disk)
         (outside S.Source K.Sink source.new sink.new result.disk) result.ending }
     ensures source_faults { CountsFaultsOf TheSource (Some result.ending) (S.faults source.old) (S.faults source.new) }
@@ -141,7 +141,7 @@ fn answer_lines<S: Source, K: Sink, D: Disk>(
 ) -> Ended<D>
     ensures runs { (s : State) (input : List ℕ) → Represents replayer.store s
         → S.left source.old ≡ Some input
-        → EndsRun D.Watched ⊥ (DiskEndsFrom D.Watched IsStored Shown replayer.disk result.disk s)
+        → EndsRun D.Watched (DiskEndsFrom D.Watched IsStored Shown replayer.disk result.disk s)
         (script_of s 0 input) (outside S.Source K.Sink source.old sink.old replayer.disk)
         (outside S.Source K.Sink source.new sink.new result.disk) result.ending }
     ensures source_faults { CountsFaultsOf TheSource (Some result.ending) (S.faults source.old) (S.faults source.new) }
