@@ -19,7 +19,7 @@ ghost use Rattle.vl_replay.specs.Start.{StartsIn};
 ghost use Rattle.vl_replay.specs.Steps.{IsRefusedRun};
 ghost use Rattle.vl_replay.specs.declared.ending.Ending.{Ending as HowEnded};
 ghost use Rattle.vl_replay.specs.declared.fails.Refusal.{Refusal};
-ghost use Rattle.vl_cli.specs.Run.{AnswersInput, EndsBy, StatusWithoutOpening, is_plain};
+ghost use Rattle.vl_cli.specs.Run.{EndsBy, StatusOfAnswers, StatusWithoutOpening, is_plain};
 
 use crate::command_line::words::are_plain;
 use std::alloc::Global;
@@ -51,7 +51,7 @@ pub fn run<S: Source, K: Sink, D: Disk>(
     // Where the words are plain and the disk opens as a store, the lines of the input are answered as the sequential store
     // does: so it is of what is printed, of how the run ends, and of what the disk holds in the end.
     ensures answers { is_plain (map string_bytes words.now) ≡ true
-        → AnswersInput D.Watched (outside S.Source K.Sink source.old sink.old disk)
+        → StatusOfAnswers D.Watched (outside S.Source K.Sink source.old sink.old disk)
         (outside S.Source K.Sink source.new sink.new result.disk) result.status }
 
     // What was read is explained by the history at the reader's number. This is a law of the sequential store's answers,

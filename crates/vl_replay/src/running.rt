@@ -12,7 +12,7 @@ ghost use Rattle.vl_disk.specs.Faults.{Rose};
 ghost use Rattle.vl_replay.specs.Runs.{Script, script_of, outside, EndsRun};
 ghost use Rattle.vl_replay.specs.Durable.{HoldsState, DiskEndsFrom};
 ghost use Rattle.vl_replay.specs.Stored.{IsStored, Shown};
-ghost use Rattle.vl_replay.specs.Start.{StartsIn, DiskEndsFromStart};
+ghost use Rattle.vl_replay.specs.Start.{AnswersInput};
 ghost use Rattle.vl_replay.specs.Opening.{IsRefused};
 ghost use Rattle.vl_replay.specs.declared.fails.Refusal.{Refusal};
 ghost use Rattle.vl_replay.specs.Steps.{IsNext, PrintsStep, DiskSteps, kept, HasToDo, Steps, IsRefusedRun, EndsWithoutOpening};
@@ -104,10 +104,9 @@ pub fn replay<S: Source, K: Sink, D: Disk>(
     sink: &mut K,
     disk: D,
 ) -> Ended<D>
-    ensures runs { (s : State) (input : List ℕ) → StartsIn D.Watched disk s
-        → S.left source.old ≡ Some input
-        → EndsRun D.Watched (DiskEndsFromStart D.Watched disk result.disk)
-        (script_of s 0 input) (outside S.Source K.Sink source.old sink.old disk)
+    // Where the disk opens as a store, the lines of the input are answered as the sequential store does: so it is of what is
+    // printed, of how the run ends, and of what the disk holds in the end.
+    ensures runs { AnswersInput D.Watched (outside S.Source K.Sink source.old sink.old disk)
         (outside S.Source K.Sink source.new sink.new result.disk) result.ending }
     ensures source_faults { CountsFaultsOf TheSource (Some result.ending) (S.faults source.old) (S.faults source.new) }
     ensures sink_faults { CountsFaultsOf TheSink (Some result.ending) (K.faults sink.old) (K.faults sink.new) }
