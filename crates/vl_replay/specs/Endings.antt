@@ -148,3 +148,7 @@ Evidence by_source by_disk TheFiles = ⊥
 Evidence by_source by_disk Memory = ⊥
 Evidence by_source by_disk TheSource = by_source
 Evidence by_source by_disk TheSink = ⊥
+
+-- so it is where only the disk is asked: `failed` says that it did
+abbrev pub OnlyByDisk : (failed : Type 0) → Culprit → Type 0
+OnlyByDisk failed = Evidence ⊥ failed

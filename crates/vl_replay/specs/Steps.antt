@@ -12,7 +12,7 @@ use Rattle.vl_replay.specs.Between.{Showing}
 use Rattle.vl_replay.specs.Sequential.{State}
 use Rattle.vl_replay.specs.Input.{HasNoLineEnd}
 use Rattle.vl_replay.specs.Exchanges.{Exchange, exchange_at, KeepsUp}
-use Rattle.vl_replay.specs.Endings.{Culprit, Evidence, last_line, line_number}
+use Rattle.vl_replay.specs.Endings.{Culprit, Evidence, OnlyByDisk, last_line, line_number}
 use Rattle.vl_replay.specs.Opening.{IsRefused, ending_unopened, why_refused}
 use Rattle.vl_recover.specs.declared.fails.Why.{Why}
 use Rattle.vl_recover.specs.declared.fails.Why.TheVariants as why
@@ -108,14 +108,15 @@ EndsAtBadLine answered ending held held' =
     → IsNext script text → exchange_at script.start text ≡ None
     → EndsBefore (Evidence ⊥ ⊥) script left ending held held'
 
--- the next line was answered and printed, and the run goes on; or it ended there. `failed` says that the disk failed.
+-- the next line was answered and printed, and the run goes on; or it ended there, whatever the source has left. `failed` says
+-- that the disk failed.
 abbrev pub PrintsStep : (failed : Type 0) → Script → List ℕ → Store → Option Ending
     → (held held' : Option (List ℕ)) → Type 0
 PrintsStep failed script text after None held held' =
     (e : Exchange) × (exchange_at script.start text ≡ Some e) × Represents after e.after
     × Takes held held' (text_of e.answer)
 PrintsStep failed script text after (Some ending) held held' =
-    (left : Option (List ℕ)) → EndsBefore (Evidence ⊥ failed) script left ending held held'
+    (left : Option (List ℕ)) → EndsBefore (OnlyByDisk failed) script left ending held held'
 
 -- the disk holds the state after a line, and a crash meanwhile left what was before it or after it
 pub record MovesOn {D : Type 0} (g : Ghosts D) (holds : Holding) (shows : Showing)
