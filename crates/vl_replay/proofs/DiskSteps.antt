@@ -142,7 +142,7 @@ module _ {D : Type 0} (g : Ghosts D) (watched : IsWatched g) (holds : Holding) (
       let rest = rests e.after new held in
       record {
         crash_during = goes;
-        line_by_line = (new, goes, there, rest, tt);
+        line_by_line = (new, record { before = goes; held = there; behind = rest }, tt);
         crash_after = at_end new new e.after.history e.after.history rest (held.there.0, held.there.1, tt);
         without_fault = λ sound. inr (inl there);
         no_memory = λ out. inr there;

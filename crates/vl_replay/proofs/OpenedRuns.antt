@@ -119,8 +119,15 @@ module _ {D : Type 0} (g : Ghosts D) (watched : IsWatched g) (holds : Holding) (
   along_opened mid new s most [] zero extends goes along = tt
   along_opened mid new s most [] (suc m) extends goes along = tt
   along_opened mid new s most (e ∷ all) zero extends goes along = tt
-  along_opened mid new s most (e ∷ all) (suc m) extends goes (passed, step, there, on, later) =
-      (passed, goes_then g watched holds shows stays exactly first.disk mid passed s.history s.history e.after.history (extends_itself s.history) extends goes step, there, on, later)
+  along_opened mid new s most (e ∷ all) (suc m) extends goes (passed, line, later) = (
+    passed,
+    record {
+      before = goes_then g watched holds shows stays exactly first.disk mid passed s.history s.history e.after.history (extends_itself s.history) extends goes line.before;
+      held = line.held;
+      behind = line.behind;
+    },
+    later,
+  )
 
   pub ends_opened : (mid : Outside D) (ending : Ending) → mid.source_faults ≡ first.source_faults → mid.held ≡ first.held → g.faults first.disk ≤ g.faults mid.disk
       → (P → HoldsState g holds script.start mid.disk) → (P → CrashesShow g shows first.disk mid.disk script.start.history script.start.history)

@@ -85,17 +85,22 @@ abbrev pub CarriesOut : {D T : Type 0} → Ghosts D → Holding → Showing → 
 CarriesOut g holds shows old new before after result =
     HoldsState g holds before old → LeadsTo g holds shows old new before after result
 
--- The disk went, from one that held the commits of a state, through one for each of these lines, in order: that of a line
--- held the commits up to it and nothing else, after just the changing calls of these lines. What a crash leaves at a moment
--- between that of the line before and it shows the commits before the line or those after it, and what one leaves from it
--- on, until the run's end, shows at least the latter. When the line was answered isn't said.
+-- A disk that held the commits of a state went through this one for the next line. When the line was answered isn't said.
+pub record PassesLine {D : Type 0} (g : Ghosts D) (holds : Holding) (shows : Showing) (new : D) (most : State)
+    (disk : D) (s : State) (e : Exchange) (passed : D) : Type 0 where
+  -- what a crash leaves up to it shows the commits before the line, or those after it;
+  pub before : CrashesShow g shows disk passed s.history e.after.history
+  -- it held the commits up to the line and nothing else, after just the changing calls of these lines;
+  pub held : HoldsCommits g holds e.after passed
+  -- and what a crash leaves from it on, until the run's end, shows at least the latter
+  pub behind : CrashesShow g shows passed new e.after.history most.history
+
+-- The disk went, from one that held the commits of a state, through one for each of these lines, in order.
 abbrev pub GoesAlong : {D : Type 0} → Ghosts D → Holding → Showing → (new : D) (most : State) → D
     → State → List Exchange → Type 0
 GoesAlong g holds shows new most disk s [] = Unit {0}
 GoesAlong {D} g holds shows new most disk s (e ∷ later) =
-    (passed : D) × CrashesShow g shows disk passed s.history e.after.history
-    × HoldsCommits g holds e.after passed
-    × CrashesShow g shows passed new e.after.history most.history
+    (passed : D) × PassesLine g holds shows new most disk s e passed
     × GoesAlong g holds shows new most passed e.after later
 
 -- What a run that came so far did to its disk. The commits of the answered lines are the acknowledged ones. `unopened` says
