@@ -72,8 +72,8 @@ pub fn run<S: Source, K: Sink, D: Disk>(
         → D.faults result.disk ≡ D.faults disk }
 
     // Where the words are plain, status 4 comes exactly where reads of the disk refuse it as a store, but not where the disk
-    // failed, memory ran out, or the last line couldn't be put. Then nothing was changed or read, and the last line is all
-    // that is printed.
+    // failed, memory ran out, or the last line couldn't be put. Then no line was read, and the disk wasn't changed. The last
+    // line is all that is printed.
     ensures refused { result.status ≡ 4
         → ((refusal : Refusal) × IsRefusedRun D.Watched K.Sink disk result.disk sink.old sink.new refusal)
         × (source.new ≡ source.old) }

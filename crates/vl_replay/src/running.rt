@@ -114,7 +114,7 @@ pub fn replay<S: Source, K: Sink, D: Disk>(
     ensures not_the_words { result.ending ≢ Ending.BadWords }
 
     // The run ends by a refusal only where reads of the disk give it, and there always, unless a fault or want of memory
-    // comes first. Then nothing was changed or read, and the last line is all that is printed.
+    // comes first. Then no line was read, and the disk wasn't changed. The last line is all that is printed.
     ensures refused { (refusal : Refusal) → result.ending ≡ Ending.Refused refusal
         → IsRefusedRun D.Watched K.Sink disk result.disk sink.old sink.new refusal × (source.new ≡ source.old) }
     ensures refuses { (state : DiskState) (read : Image) (refusal : Refusal) → D.told disk ≡ Some state
