@@ -177,7 +177,7 @@ impl Store {
         ensures kept { (s : State) → Represents self.old s
             → OnErr result (Represents self.new s) }
         ensures carries { (s : State) → Represents self.old s
-            → CarriesOut D.Watched IsStored Shown disk.old disk.new s (committed s name (get s.handles name)).1 result }
+            → CarriesOut D.Watched IsStored Shown disk.old disk.new s (state_after s (Line.Commit name)) result }
         ensures stands { ForSome (D.told disk.new) (Stands (names.Log self.new.log.number)) }
         ensures no_memory { result ≡ Err Halt.NoMemory → D.told disk.new ≡ D.told disk.old }
         ensures cause { HasCause (D.faults disk.old) (D.faults disk.new) (HaltsByDisk result) }
