@@ -13,7 +13,7 @@ use Rattle.vl_replay.specs.Sequential.{State, state_after}
 use Rattle.vl_replay.specs.Exchanges.{Exchange, exchange_at, exchanged, state_behind, exchanges_from, and_later, last_state}
 use Rattle.vl_replay.specs.Between.{Showing, ShowsBetween}
 use Rattle.vl_replay.specs.Endings.{CutsAnswer, IsBetweenLines, culprit_of}
-use Rattle.vl_replay.specs.Durable.{DiskEnds, GoesAlong, CrashesShow, Holding, HoldsCommits, HoldsState, Leaves, LeavesItsHistory, StaysShown, Tells}
+use Rattle.vl_replay.specs.Durable.{DiskEnds, GoesAlong, CrashesShow, Holding, HoldsCommits, HoldsState, Leaves, LeavesItsHistory, StaysShown, StillTells, Tells}
 use Rattle.vl_replay.specs.declared.ending.Ending.{Ending}
 use Rattle.vl_replay.specs.declared.ending.Ending.TheVariants.{NoMemory}
 use Rattle.vl_replay.proofs.Betweens.{extends_itself, extends_then, between_wider, between_exactly}
@@ -105,11 +105,11 @@ module _ {D : Type 0} (g : Ghosts D) (watched : IsWatched g) (holds : Holding) (
   it_holds s disk held = (s, refl, refl, held)
 
   -- what a crash leaves in the end
-  pub at_end : (old new : D) (least most : History) → CrashesShow g shows old new least most → Tells g new (λ _. Unit {0}) → Tells g new (Leaves (ShowsBetween shows least most))
+  pub at_end : (old new : D) (least most : History) → CrashesShow g shows old new least most → StillTells g new → Tells g new (Leaves (ShowsBetween shows least most))
   at_end old new least most goes (state, is, nothing) = (state, is, goes.each state (watched.counts_now new state (g.moment old) is goes.time.later))
 
   -- the run ended before a line was answered
-  pub ends_within : (old new : D) (ending : Ending) (least most : State) → CrashesShow g shows old new least.history most.history → Tells g new (λ _. Unit {0})
+  pub ends_within : (old new : D) (ending : Ending) (least most : State) → CrashesShow g shows old new least.history most.history → StillTells g new
       → ((Rose (g.faults old) (g.faults new) → ⊥) → HoldsCommits g holds least new ⊎ HoldsCommits g holds most new)
       → (ending ≡ NoMemory → HoldsCommits g holds least new) → (IsBetweenLines (culprit_of ending) → HoldsCommits g holds least new) → (CutsAnswer ending → HoldsCommits g holds most new)
       → DiskEnds g holds shows ⊥ old new (record { ending = ending; first = least; answered = []; most = most })
@@ -124,7 +124,7 @@ module _ {D : Type 0} (g : Ghosts D) (watched : IsWatched g) (holds : Holding) (
   }
 
   -- it still holds what it held
-  pub ends_unchanged : (old new : D) (ending : Ending) (least most : State) → CrashesShow g shows old new least.history most.history → Tells g new (λ _. Unit {0}) → HoldsCommits g holds least new
+  pub ends_unchanged : (old new : D) (ending : Ending) (least most : State) → CrashesShow g shows old new least.history most.history → StillTells g new → HoldsCommits g holds least new
       → (CutsAnswer ending → HoldsCommits g holds most new) → DiskEnds g holds shows ⊥ old new (record { ending = ending; first = least; answered = []; most = most })
   ends_unchanged old new ending least most goes tells held cut = ends_within old new ending least most goes tells (λ sound. inl held) (λ out. held) (λ whole. held) cut
 

@@ -13,7 +13,7 @@ use Rattle.vl_model.specs.History.{Extends}
 use Rattle.vl_replay.specs.Between.{Showing}
 use Rattle.vl_replay.specs.Endings.{Culprit, TheDisk, TheSink, TheSource, CountsFaultsOf, Evidence, CutsAnswer, IsBetweenLines, culprit_of, last_line}
 use Rattle.vl_replay.specs.Runs.{Script, exchanges, next_number, Stops, Course, Outside, EvidenceOf, EndsRun}
-use Rattle.vl_replay.specs.Durable.{Holding, IsAsBefore, LeavesItsHistory, StaysShown, Tells, HoldsState, CrashesShow, GoesAlong, DiskEnds, DiskEndsFrom}
+use Rattle.vl_replay.specs.Durable.{Holding, IsAsBefore, LeavesItsHistory, StaysShown, StillTells, HoldsState, CrashesShow, GoesAlong, DiskEnds, DiskEndsFrom}
 use Rattle.vl_replay.specs.Opening.{IsFault, ending_unopened, why_refused}
 use Rattle.vl_replay.specs.declared.fails.Refusal.{Refusal}
 use Rattle.vl_replay.specs.declared.fails.Refusal.TheVariants as refusals
@@ -87,7 +87,7 @@ module _ {D : Type 0} (g : Ghosts D) (watched : IsWatched g) (holds : Holding) (
 
   -- nothing was opened
   pub ends_refused : (ending : Ending) → AnswersNothing ending → EndsBefore (EvidenceOf g first end) script end.left ending first.held end.held → KeepsUp script.bytes end.asked 0
-      → (P → CrashesShow g shows first.disk end.disk script.start.history script.start.history) → (P → Tells g end.disk (λ _. Unit {0}))
+      → (P → CrashesShow g shows first.disk end.disk script.start.history script.start.history) → (P → StillTells g end.disk)
       → ((Rose (g.faults first.disk) (g.faults end.disk) → ⊥) → IsAsBefore g first.disk end.disk) → (ending ≡ NoMemory → IsAsBefore g first.disk end.disk)
       → EndsRun g SoFar script first end ending
   ends_refused ending (none, none_cut) before kept_up goes tells kept kept_out =

@@ -49,6 +49,10 @@ StaysShown shows =
 abbrev pub Tells : {D : Type 0} → Ghosts D → D → (DiskState → Type 0) → Type 0
 Tells g disk P = (state : DiskState) × (g.told disk ≡ Some state) × P state
 
+-- it tells its bytes
+abbrev pub StillTells : {D : Type 0} → Ghosts D → D → Type 0
+StillTells g disk = Tells g disk (λ _. Unit {0})
+
 -- the disk holds the state, and was asked for the changing calls that the state counts
 pub record HoldsState {D : Type 0} (g : Ghosts D) (holds : Holding)
     (s : State) (disk : D) : Type 0 where
@@ -75,7 +79,7 @@ pub record LeadsTo {D T : Type 0} (g : Ghosts D) (holds : Holding) (shows : Show
   -- where memory ran out it holds the commits before and no more;
   pub no_commit : result ≡ Err NoRoom → HoldsCommits g holds before new
   -- it tells its bytes, also where it failed;
-  pub tells : Tells g new (λ _. Unit {0})
+  pub tells : StillTells g new
   -- what a crash meanwhile leaves shows the commits before, or those after it
   pub through : CrashesShow g shows old new before.history after.history
 

@@ -5,7 +5,7 @@ ghost use Rattle.vl_disk.specs.declared.name.Name.TheVariants as names;
 ghost use Rattle.vl_disk.specs.DiskState.{DiskState};
 ghost use Rattle.vl_disk.specs.Disk.{Stands};
 ghost use Rattle.vl_disk.specs.Faults.{HasCause};
-ghost use Rattle.vl_replay.specs.Durable.{CarriesOut, CrashesShow, HoldsState, IsAsBefore, Tells};
+ghost use Rattle.vl_replay.specs.Durable.{CarriesOut, CrashesShow, HoldsState, IsAsBefore, StillTells, Tells};
 ghost use Rattle.vl_replay.specs.Stored.{IsStored, Shown};
 ghost use Rattle.vl_replay.specs.Start.{IsDurable, StartsIn};
 ghost use Rattle.vl_replay.specs.Sequential.{State, answer_to, state_after};
@@ -62,7 +62,7 @@ impl<D: Disk> Replayer<D> {
         ensures through { (s : State) → StartsIn D.Watched disk s → Tells D.Watched disk IsDurable
             → CrashesShow D.Watched Shown disk (disk_of (λ replayer. replayer.disk) result) s.history s.history }
         ensures tells { (state : DiskState) → D.told disk ≡ Some state
-            → Tells D.Watched (disk_of (λ replayer. replayer.disk) result) (λ _. Unit {0}) }
+            → StillTells D.Watched (disk_of (λ replayer. replayer.disk) result) }
 
         // It answers what reads give, unless memory runs out or the disk fails. Where that is a refusal nothing is changed,
         // whatever is answered; and nothing where memory ran out.
