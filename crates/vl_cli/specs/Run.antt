@@ -1,13 +1,12 @@
 -- Whole runs of the command line: what is done for its words and its input.
-use Rattle.std.specs.Prelude.{◌≡◌, ℕ, Bool, false, not, ◌==◌, ◌&&◌, List, [], ◌∷◌, codes, Some}
+use Rattle.std.specs.Prelude.{◌≡◌, ℕ, Bool, false, not, ◌==◌, ◌&&◌, List, [], ◌∷◌, codes}
 use Rattle.std.specs.Str.{bytes_eq}
 use Rattle.vl_disk.specs.declared.watched.Watched.{Ghosts}
 use Rattle.vl_io.specs.declared.sink.Sink as sink
-use Rattle.vl_replay.specs.Sequential.{State}
 use Rattle.vl_replay.specs.Endings.{status_of}
-use Rattle.vl_replay.specs.Runs.{Outside, EndsRun, script_of}
-use Rattle.vl_replay.specs.Start.{StartsIn, DiskEndsFromStart}
-use Rattle.vl_replay.specs.Steps.{FinishesBy, StaysRefused}
+use Rattle.vl_replay.specs.Runs.{Outside}
+use Rattle.vl_replay.specs.Start.{AnswersInput}
+use Rattle.vl_replay.specs.Steps.{FinishesBy, EndsWithoutOpening}
 use Rattle.vl_replay.specs.declared.ending.Ending.{Ending}
 use Rattle.vl_replay.specs.declared.fails.Refusal.{Refusal}
 
@@ -21,28 +20,19 @@ abbrev pub is_plain : List (List ℕ) → Bool
 is_plain (command ∷ folder ∷ []) = bytes_eq command (codes "replay") && is_plain_word folder
 is_plain words = false
 
--- A run answered the lines of an input as the sequential store does from this state on, and ended with this status.
-pub record AnswersFrom {D : Type 0} (g : Ghosts D) (start : State) (input : List ℕ)
-    (old new : Outside D) (status : ℕ) : Type 0 where
-  -- how it ended: the table of endings says the status, the culprit and the last line of each
-  pub ending : Ending
-  pub status_is : status ≡ status_of ending
-  -- what was printed and how many lines were answered, that each answer was put before the next line was read, and what
-  -- was done to a disk whose store is durable: each accepted commit is one synced frame of its log
-  pub run : EndsRun g ⊥ (DiskEndsFromStart g old.disk new.disk) (script_of start 0 input) old new ending
-
--- So it did with the input that its source had left, from the state in which a run over its disk begins.
-abbrev pub AnswersInput : {D : Type 0} → Ghosts D → (old new : Outside D) → (status : ℕ) → Type 0
-AnswersInput g old new status = (start : State) (input : List ℕ)
-    → StartsIn g old.disk start → old.left ≡ Some input → AnswersFrom g start input old new status
+-- A run answered its input, and has the status of its ending. The table of endings says the status, the culprit and the
+-- last line of each.
+abbrev pub StatusOfAnswers : {D : Type 0} → Ghosts D → (old new : Outside D) → (status : ℕ) → Type 0
+StatusOfAnswers g old new status =
+    (ending : Ending) × (status ≡ status_of ending) × AnswersInput g old new ending
 
 -- a run that wasn't begun put the line of this ending and has its status, or put a front of it and has the sink's
 abbrev pub EndsBy : {K : Type 0} → sink.Ghosts K → (old new : K) → Ending → (status : ℕ) → Type 0
-EndsBy g old new why status =
-    (ending : Ending) × (status ≡ status_of ending) × FinishesBy g old new why ending
+EndsBy g old new meant status =
+    (ending : Ending) × (status ≡ status_of ending) × FinishesBy g old new meant ending
 
 -- a run over a disk of which reads give this refusal ended by it, by want of memory or by a fault
-abbrev pub StaysUnopened : {D K : Type 0} → Ghosts D → sink.Ghosts K → (disk disk' : D) → (old new : K) → Refusal
+abbrev pub StatusWithoutOpening : {D K : Type 0} → Ghosts D → sink.Ghosts K → (disk disk' : D) → (sink sink' : K) → Refusal
     → (status : ℕ) → Type 0
-StaysUnopened g k disk disk' old new refusal status =
-    (ending : Ending) × (status ≡ status_of ending) × StaysRefused g k disk disk' old new refusal ending
+StatusWithoutOpening g k disk disk' sink sink' refusal status =
+    (ending : Ending) × (status ≡ status_of ending) × EndsWithoutOpening g k disk disk' sink sink' refusal ending

@@ -19,7 +19,7 @@ ghost use Rattle.vl_replay.specs.Start.{StartsIn, StaysOpenable};
 ghost use Rattle.vl_replay.specs.Steps.{IsRefusedRun};
 ghost use Rattle.vl_replay.specs.declared.ending.Ending.{Ending as HowEnded};
 ghost use Rattle.vl_replay.specs.declared.fails.Refusal.{Refusal};
-ghost use Rattle.vl_cli.specs.Run.{AnswersInput, EndsBy, StaysUnopened, is_plain};
+ghost use Rattle.vl_cli.specs.Run.{EndsBy, StatusOfAnswers, StatusWithoutOpening, is_plain};
 
 use crate::command_line::words::are_plain;
 use std::alloc::Global;
@@ -51,7 +51,7 @@ pub fn run<S: Source, K: Sink, D: Disk>(
     // Where the words are plain and the disk opens as a store, the lines of the input are answered as the sequential store
     // does: so it is of what is printed, of how the run ends, and of what the disk holds in the end.
     ensures answers { is_plain (map string_bytes words.now) ≡ true
-        → AnswersInput D.Watched (outside S.Source K.Sink source.old sink.old disk)
+        → StatusOfAnswers D.Watched (outside S.Source K.Sink source.old sink.old disk)
         (outside S.Source K.Sink source.new sink.new result.disk) result.status }
 
     // What was read is explained by the history at the reader's number. This is a law of the sequential store's answers,
@@ -72,14 +72,14 @@ pub fn run<S: Source, K: Sink, D: Disk>(
         → D.faults result.disk ≡ D.faults disk }
 
     // Where the words are plain, status 4 comes exactly where reads of the disk refuse it as a store, but not where the disk
-    // failed, memory ran out, or the last line couldn't be put. Then nothing was changed or read, and the last line is all
-    // that is printed.
+    // failed, memory ran out, or the last line couldn't be put. Then no line was read, and the disk wasn't changed. The last
+    // line is all that is printed.
     ensures refused { result.status ≡ 4
         → ((refusal : Refusal) × IsRefusedRun D.Watched K.Sink disk result.disk sink.old sink.new refusal)
         × (source.new ≡ source.old) }
     ensures refuses { is_plain (map string_bytes words.now) ≡ true → (state : DiskState) (read : Image) (refusal : Refusal)
         → D.told disk ≡ Some state → IsRead read state → IsRefused read refusal
-        → StaysUnopened D.Watched K.Sink disk result.disk sink.old sink.new refusal result.status
+        → StatusWithoutOpening D.Watched K.Sink disk result.disk sink.old sink.new refusal result.status
         × (source.new ≡ source.old) }
 
     // Statuses 6 and 7 come only by faults of the source and of the sink, and the others only without.

@@ -34,7 +34,7 @@ use Rattle.vl_recover.specs.Opening.{Opening}
 use Rattle.vl_recover.specs.PlanViews.{plan_view}
 use Rattle.vl_recover.specs.Plans.{new_state}
 use Rattle.vl_recover.specs.ReadImage.{read_image}
-use Rattle.vl_recover.specs.Results.{HasFailed, IsRefused, came_by, frozen_log}
+use Rattle.vl_recover.specs.Results.{HasFailed, FailsWithoutFault, came_by, frozen_log}
 use Rattle.vl_recover.specs.Starts.{MayOpen}
 use Rattle.vl_recover.specs.Steps.{IsFailAt, Mends}
 use Rattle.vl_recover.specs.declared.fails.Why.{Why}
@@ -66,7 +66,7 @@ abbrev pub mending_of : (read : Image) (prepared : Prepared) → IsPrepared read
 mending_of read prepared is = record { found = is.finds; unused = is.unused; plan = plan_view prepared.plan; is = is.plan }
 
 -- a refusal is no failure
-pub refused_fine : (came : Came) → IsRefused came → HasFailed came → ⊥
+pub refused_fine : (came : Came) → FailsWithoutFault came → HasFailed came → ⊥
 refused_fine (Recovered opened) refused failed = refused
 refused_fine (Refused why) refused failed = failed
 refused_fine (UsedUp counter) refused failed = failed

@@ -23,9 +23,9 @@ use Rattle.vl_recover.specs.Answers.{AreStrayNames, Finds, as_segment, used_up}
 use Rattle.vl_recover.specs.HeldLaws.{settled_may_stand}
 use Rattle.vl_recover.specs.LeadsLaws.{nowhere_kept}
 use Rattle.vl_recover.specs.LogsLaws.{written_held}
-use Rattle.vl_recover.specs.Mending.{IsPlan, Plan, WhileLast, WhileLog, WhileMending, at_last, at_log, at_manifest, at_strays, behind_log, last_of, mended}
+use Rattle.vl_recover.specs.Mending.{IsPlan, Plan, WhileLast, WhileLog, WhileMending, at_last, at_log, at_manifest, at_strays, behind_log, last_of}
 use Rattle.vl_recover.specs.MendingAgain.{GoesWell, StandsWell, below_well, last_well, leads_may_open, log_well, strays_well}
-use Rattle.vl_recover.specs.MendingLaws.{last_ends, log_ends, mended_moment}
+use Rattle.vl_recover.specs.MendingLaws.{last_ends, log_ends}
 use Rattle.vl_recover.specs.MendingOpens.{first, first_stand, fits, last, log_free, piece, plan, s, second, third, third_spare}
 use Rattle.vl_recover.specs.MendingStages.{held_settled}
 use Rattle.vl_recover.specs.MendingStart.{Begins, all_say, free_unread, manifests_nowhere, new_range}
@@ -283,10 +283,3 @@ mending_may_open start now found plan lawful may is_read left is lawful_now duri
           left;
     }) plan.strays is.strays now lawful_now
     (subst (λ (p : Plan). WhileMending p start now) is.is during)
-
--- So it may when it is mended.
-pub mended_may_open : {read : Image} (start : DiskState) (found : Finds read) (plan : Plan) → IsLawful start
-    → MayOpen start → IsRead read start → used_up found ≡ None → IsPlan found plan → IsLawful (mended plan start)
-    → MayOpen (mended plan start)
-mended_may_open start found plan lawful may is_read left is lawful_now =
-    mending_may_open start (mended plan start) found plan lawful may is_read left is lawful_now (mended_moment plan start)

@@ -45,9 +45,9 @@ HasFailed NoRoom = ⊥
 HasFailed (Faulted name) = Unit {0}
 
 -- it wasn't opened, and the disk didn't fail
-abbrev pub IsRefused : Came → Type 0
-IsRefused (Recovered opened) = ⊥
-IsRefused (Refused refusal) = Unit {0}
-IsRefused (UsedUp counter) = Unit {0}
-IsRefused NoRoom = Unit {0}
-IsRefused (Faulted name) = ⊥
+abbrev pub FailsWithoutFault : Came → Type 0
+FailsWithoutFault (Recovered opened) = ⊥
+FailsWithoutFault (Refused refusal) = Unit {0}
+FailsWithoutFault (UsedUp counter) = Unit {0}
+FailsWithoutFault NoRoom = Unit {0}
+FailsWithoutFault (Faulted name) = ⊥

@@ -14,7 +14,7 @@ ghost use Rattle.vl_recover.specs.Answers.{AnswersBy, AreStrayNames, Finds, IsNo
 ghost use Rattle.vl_recover.specs.Deciding.{opened_by};
 ghost use Rattle.vl_recover.specs.Held.{HoldsStore};
 ghost use Rattle.vl_recover.specs.Meanwhile.{FaultsAt, IsAsLong, IsMeanwhile, IsMended};
-ghost use Rattle.vl_recover.specs.Results.{HasFailed, IsRefused, came, disk_of, opened_of};
+ghost use Rattle.vl_recover.specs.Results.{HasFailed, FailsWithoutFault, came, disk_of, opened_of};
 ghost use Rattle.vl_recover.specs.Starts.{MayOpen};
 
 use crate::mending::mend;
@@ -35,10 +35,10 @@ pub fn recover<D: Disk>(alloc: Global, disk: D, room: u64) -> Result<Parts<D>, O
         → AnswersBy read (came result) }
 
     // A refusal, and want of memory, changed nothing, at no moment.
-    ensures refused { IsRefused (came result) → ChangesNothing D.Watched disk (disk_of result) ⊥ }
+    ensures refused { FailsWithoutFault (came result) → ChangesNothing D.Watched disk (disk_of result) ⊥ }
 
     // Where what reads give is refused, nothing is changed, whatever is answered.
-    ensures kept { (state : DiskState) (read : Image) → D.told disk ≡ Some state → IsRead read state → IsNotOpened read
+    ensures not_opened { (state : DiskState) (read : Image) → D.told disk ≡ Some state → IsRead read state → IsNotOpened read
         → (D.told (disk_of result) ≡ D.told disk) × (D.calls (disk_of result) ≡ D.calls disk) }
 
     // Then the store was mended by a plan of what reads gave, and nothing else was done.

@@ -32,7 +32,7 @@ use Rattle.vl_seglog.specs.Frames.{frame_at, frames_end, frames_grammar}
 use Rattle.vl_seglog.specs.Staging.{IsStaged}
 use Rattle.vl_seglog.specs.declared.staged.Staged.{Staged}
 use Rattle.vl_replay.specs.Between.{ShowsBetween}
-use Rattle.vl_replay.specs.Durable.{GoesFrom, HoldsState, LeadsTo, Leaves}
+use Rattle.vl_replay.specs.Durable.{CrashesShow, HoldsState, LeadsTo, Leaves}
 use Rattle.vl_replay.specs.Stored.{IsStored, Shown, logs_of}
 use Rattle.vl_replay.specs.Writing.{WhileWriting, written}
 use Rattle.vl_replay.proofs.Deciding.{same_frame, staged_frame}
@@ -89,7 +89,7 @@ frame_staged r s disk writes list staged rep stored listed is =
 
 module _ {D : Type 0} (g : Ghosts D) (watched : IsWatched g) where
   -- a call that changes nothing
-  pub looked : (s : State) (old new : D) (failed : Type 0) → ChangesNothing g old new failed → HoldsState g IsStored s old → HoldsState g IsStored s new × GoesFrom g Shown old new s.history s.history
+  pub looked : (s : State) (old new : D) (failed : Type 0) → ChangesNothing g old new failed → HoldsState g IsStored s old → HoldsState g IsStored s new × CrashesShow g Shown old new s.history s.history
   looked s old new failed no_change held =
       let (state, is, here) = held.there in
       let P = Leaves (ShowsBetween Shown s.history s.history) in
@@ -172,7 +172,7 @@ module _ {D : Type 0} (g : Ghosts D) (watched : IsWatched g) where
         during)
 
     -- the frame was handed to the disk
-    goes_written : GoesFrom g Shown old new s.history after.history
+    goes_written : CrashesShow g Shown old new s.history after.history
     goes_written =
         let (kept, goes) = looked s old mid failed no_change held in
         let told : g.told mid ≡ Some state = no_change.told ∙ held.there.1 in

@@ -19,7 +19,7 @@ use Rattle.vl_model.specs.declared.log_frame.LogFrame.{LogFrame}
 use Rattle.vl_model.specs.declared.log_frame.LogFrame.TheVariants.{Committed}
 use Rattle.vl_script.specs.declared.answer.Answer.TheVariants.{Number, Nothing, Full, Exhausted}
 use Rattle.vl_replay.specs.Sequential.{State, OpenTransaction, without_handle, committed, bytes_in_log, after_commit}
-use Rattle.vl_replay.specs.Represents.{IsOpen, Represents, IsOutcome, HasOpen, CanCommit, handle_named}
+use Rattle.vl_replay.specs.Represents.{IsOpen, Represents, IsOutcome, HasOpen, HasWritesToCommit, handle_named}
 use Rattle.vl_replay.specs.declared.replayer.handle.Handle.{Handle}
 use Rattle.vl_replay.specs.declared.replayer.handle.Handle.TheVariants.{Transaction}
 use Rattle.vl_replay.specs.declared.replayer.handle.Open.{Open}
@@ -81,7 +81,7 @@ module _ (r : Store) (s : State) (name : List ℕ) (number : ℕ) (writes : Writ
           let within : s.log.length + bytes_in_log writes ≤ max_room = omega (arith, room_is, fits) in
           (writes, (number, open_named r.in_use name (Transaction number writes) is), numbered ∙ cond-true _ _ _ (le-leb _ _ within))
 
-pub can_commit : (r : Store) (name : List ℕ) (number : ℕ) (writes : Writes) → handle_named r.in_use name ≡ Some (Transaction number writes) → (len writes == 0) ≡ false → r.last < max_commit_number → CanCommit r
+pub can_commit : (r : Store) (name : List ℕ) (number : ℕ) (writes : Writes) → handle_named r.in_use name ≡ Some (Transaction number writes) → (len writes == 0) ≡ false → r.last < max_commit_number → HasWritesToCommit r
 can_commit r name number writes is some left = (name, writes, (number, open_named r.in_use name (Transaction number writes) is), some, left)
 
 -- ---- the open transaction
@@ -93,7 +93,7 @@ no_open : (o : Open) → None ≡ Some o → ⊥
 no_open o e = cc
 
 -- it is what a transaction that can commit is
-pub open_is_some : (r : Store) → CanCommit r → r.in_use ≡ None → ⊥
+pub open_is_some : (r : Store) → HasWritesToCommit r → r.in_use ≡ None → ⊥
 open_is_some r can none = no_open (record { name = can.0; handle = Transaction can.2.0 can.1 }) (sym none ∙ can.2.1)
 
 pub open_is : (r : Store) (name : List ℕ) (writes : Writes) (held : Open) → HasOpen r name writes → r.in_use ≡ Some held → (number : ℕ) × (held.handle ≡ Transaction number writes)

@@ -14,7 +14,7 @@ use Rattle.vl_replay.specs.Sequential.{State, state_after}
 use Rattle.vl_replay.specs.Exchanges.{Exchange, exchange_at, exchanged, state_behind, exchanges_from, and_later, last_state}
 use Rattle.vl_replay.specs.Between.{Showing, ShowsBetween}
 use Rattle.vl_replay.specs.Endings.{CutsAnswer, IsBetweenLines, culprit_of}
-use Rattle.vl_replay.specs.Durable.{DiskEnds, GoesAlong, GoesFrom, Holding, HoldsCommits, HoldsState, Leaves, LeavesItsHistory, StaysShown, Tells}
+use Rattle.vl_replay.specs.Durable.{DiskEnds, GoesAlong, CrashesShow, Holding, HoldsCommits, HoldsState, Leaves, LeavesItsHistory, StaysShown, StillTells, Tells}
 use Rattle.vl_replay.specs.declared.ending.Ending.{Ending}
 use Rattle.vl_replay.specs.declared.ending.Ending.TheVariants.{NoMemory}
 use Rattle.vl_replay.proofs.Betweens.{extends_itself, extends_then, between_wider, between_exactly}
@@ -80,23 +80,23 @@ rose_earlier f a b le rose = omega arith
 module _ {D : Type 0} (g : Ghosts D) (watched : IsWatched g) (holds : Holding) (shows : Showing)
     (stays : StaysShown shows) (exactly : LeavesItsHistory holds shows) where
   -- a wider pair of histories
-  pub goes_wider : (old new : D) (least less more most : History) → Extends least less → Extends more most → GoesFrom g shows old new less more → GoesFrom g shows old new least most
+  pub goes_wider : (old new : D) (least less more most : History) → Extends least less → Extends more most → CrashesShow g shows old new less more → CrashesShow g shows old new least most
   goes_wider old new least less more most lower upper goes =
       holds_weaker g (Leaves (ShowsBetween shows less more)) (Leaves (ShowsBetween shows least most)) old new goes
       (leaves_weaker (ShowsBetween shows less more) (ShowsBetween shows least most) (between_wider shows stays least less more most lower upper))
 
   -- nothing was done
-  pub rests : (s : State) (disk : D) → HoldsState g holds s disk → GoesFrom g shows disk disk s.history s.history
+  pub rests : (s : State) (disk : D) → HoldsState g holds s disk → CrashesShow g shows disk disk s.history s.history
   rests s disk held =
       let (state, is, here) = held.there in
       waits g (Leaves (ShowsBetween shows s.history s.history)) watched.only_now disk state is
       (leaves_weaker (λ (image : Image). shows image s.history (last_number s.history)) (ShowsBetween shows s.history s.history) (between_exactly shows s.history) state (exactly.leaves s state here))
 
-  pub rests_until : (s : State) (most : History) → Extends s.history most → (disk : D) → HoldsState g holds s disk → GoesFrom g shows disk disk s.history most
+  pub rests_until : (s : State) (most : History) → Extends s.history most → (disk : D) → HoldsState g holds s disk → CrashesShow g shows disk disk s.history most
   rests_until s most extends disk held = goes_wider disk disk s.history s.history s.history most (extends_itself s.history) extends (rests s disk held)
 
   -- one after the other
-  pub goes_then : (a b c : D) (least mid most : History) → Extends least mid → Extends mid most → GoesFrom g shows a b least mid → GoesFrom g shows b c mid most → GoesFrom g shows a c least most
+  pub goes_then : (a b c : D) (least mid most : History) → Extends least mid → Extends mid most → CrashesShow g shows a b least mid → CrashesShow g shows b c mid most → CrashesShow g shows a c least most
   goes_then a b c least mid most lower upper first second =
       holds_then g (Leaves (ShowsBetween shows least most)) a b c
       (goes_wider a b least least mid most (extends_itself least) upper first)
@@ -110,11 +110,11 @@ module _ {D : Type 0} (g : Ghosts D) (watched : IsWatched g) (holds : Holding) (
   opens_again s disk held = (held.there.0, held.there.1, exactly.may_open s held.there.0 held.there.2)
 
   -- what a crash leaves in the end
-  pub at_end : (old new : D) (least most : History) → GoesFrom g shows old new least most → Tells g new MayOpen → Tells g new (Leaves (ShowsBetween shows least most))
+  pub at_end : (old new : D) (least most : History) → CrashesShow g shows old new least most → Tells g new MayOpen → Tells g new (Leaves (ShowsBetween shows least most))
   at_end old new least most goes (state, is, may) = (state, is, goes.each state (watched.counts_now new state (g.moment old) is goes.time.later))
 
   -- the run ended before a line was answered
-  pub ends_within : (old new : D) (ending : Ending) (least most : State) → GoesFrom g shows old new least.history most.history → Tells g new MayOpen
+  pub ends_within : (old new : D) (ending : Ending) (least most : State) → CrashesShow g shows old new least.history most.history → Tells g new MayOpen
       → ((Rose (g.faults old) (g.faults new) → ⊥) → HoldsCommits g holds least new ⊎ HoldsCommits g holds most new)
       → (ending ≡ NoMemory → HoldsCommits g holds least new) → (IsBetweenLines (culprit_of ending) → HoldsCommits g holds least new) → (CutsAnswer ending → HoldsCommits g holds most new)
       → DiskEnds g holds shows ⊥ old new (record { ending = ending; first = least; answered = []; most = most })
@@ -130,7 +130,7 @@ module _ {D : Type 0} (g : Ghosts D) (watched : IsWatched g) (holds : Holding) (
   }
 
   -- it still holds what it held
-  pub ends_unchanged : (old new : D) (ending : Ending) (least most : State) → GoesFrom g shows old new least.history most.history → Tells g new MayOpen → HoldsCommits g holds least new
+  pub ends_unchanged : (old new : D) (ending : Ending) (least most : State) → CrashesShow g shows old new least.history most.history → Tells g new MayOpen → HoldsCommits g holds least new
       → (CutsAnswer ending → HoldsCommits g holds most new) → DiskEnds g holds shows ⊥ old new (record { ending = ending; first = least; answered = []; most = most })
   ends_unchanged old new ending least most goes tells held cut = ends_within old new ending least most goes tells (λ sound. inl held) (λ out. held) (λ whole. held) cut
 
@@ -141,14 +141,14 @@ module _ {D : Type 0} (g : Ghosts D) (watched : IsWatched g) (holds : Holding) (
       ends_unchanged disk disk ending s most (rests_until s most.history extends disk held) (opens_again s disk held) (it_holds s disk held) (λ cuts. absurd (none cuts))
 
   -- the last line was answered
-  pub ends_answered : (old new : D) (ending : Ending) (before : State) (e : Exchange) → GoesFrom g shows old new before.history e.after.history → HoldsState g holds e.after new
+  pub ends_answered : (old new : D) (ending : Ending) (before : State) (e : Exchange) → CrashesShow g shows old new before.history e.after.history → HoldsState g holds e.after new
       → DiskEnds g holds shows ⊥ old new (record { ending = ending; first = before; answered = e ∷ []; most = e.after })
   ends_answered old new ending before e goes held =
       let there = it_holds e.after new held in
       let rest = rests e.after new held in
       record {
         crash_during = goes;
-        line_by_line = (new, goes, there, rest, tt);
+        line_by_line = (new, record { before = goes; held = there; behind = rest }, tt);
         crash_after = at_end new new e.after.history e.after.history rest (opens_again e.after new held);
         without_fault = λ sound. inr (inl there);
         no_memory = λ out. inr there;
@@ -159,8 +159,8 @@ module _ {D : Type 0} (g : Ghosts D) (watched : IsWatched g) (holds : Holding) (
 
   -- a run that began earlier, and had answered some lines
   pub ends_later : (unopened : Type 0) (first old new : D) (ending : Ending) (start before most : State) (answered whole : List Exchange) → Extends start.history before.history → Extends before.history most.history → g.faults first ≤ g.faults old
-      → GoesFrom g shows first old start.history before.history
-      → (GoesFrom g shows old new before.history most.history → GoesAlong g holds shows new most old before answered → GoesAlong g holds shows new most first start whole)
+      → CrashesShow g shows first old start.history before.history
+      → (CrashesShow g shows old new before.history most.history → GoesAlong g holds shows new most old before answered → GoesAlong g holds shows new most first start whole)
       → last_state before answered ≡ last_state start whole
       → DiskEnds g holds shows ⊥ old new (record { ending = ending; first = before; answered = answered; most = most })
       → DiskEnds g holds shows unopened first new (record { ending = ending; first = start; answered = whole; most = most })

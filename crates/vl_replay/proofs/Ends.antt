@@ -192,7 +192,7 @@ module _ (cause cause' : Culprit → Type 0) (weaker : (culprit : Culprit) → c
   stops_weaker TheLine h = h
   stops_weaker TheWords h = h
   stops_weaker TheDisk h = weaker TheDisk h
-  stops_weaker TheFiles h = (weaker TheFiles h.0, h.1, h.2)
+  stops_weaker TheFiles h = h
   stops_weaker Memory h = h
   stops_weaker TheSource h = (weaker TheSource h.0, h.1)
   stops_weaker TheSink h = h
@@ -212,22 +212,22 @@ module _ (cause cause' : Culprit → Type 0) (weaker : (culprit : Culprit) → c
     printed_is = ends.printed_is;
   }
 
-pub evidence_weaker : (A B C A' B' C' : Type 0) → (A → A') → (B → B') → (C → C') → (culprit : Culprit) → Evidence A B C culprit → Evidence A' B' C' culprit
-evidence_weaker A B C A' B' C' f g h NoOne c = c
-evidence_weaker A B C A' B' C' f g h TheLine c = c
-evidence_weaker A B C A' B' C' f g h TheWords c = c
-evidence_weaker A B C A' B' C' f g h TheDisk c = g c
-evidence_weaker A B C A' B' C' f g h TheFiles c = h c
-evidence_weaker A B C A' B' C' f g h Memory c = c
-evidence_weaker A B C A' B' C' f g h TheSource c = f c
-evidence_weaker A B C A' B' C' f g h TheSink c = c
+pub evidence_weaker : (A B A' B' : Type 0) → (A → A') → (B → B') → (culprit : Culprit) → Evidence A B culprit → Evidence A' B' culprit
+evidence_weaker A B A' B' f g NoOne c = c
+evidence_weaker A B A' B' f g TheLine c = c
+evidence_weaker A B A' B' f g TheWords c = c
+evidence_weaker A B A' B' f g TheDisk c = g c
+evidence_weaker A B A' B' f g TheFiles c = c
+evidence_weaker A B A' B' f g Memory c = c
+evidence_weaker A B A' B' f g TheSource c = f c
+evidence_weaker A B A' B' f g TheSink c = c
 
 -- a run that ended without a cause being asked for
-pub before_weaker : (by_disk : Type 0) (script : Script) (left : Option (List ℕ)) (ending : Ending) (held held' : Option (List ℕ)) → EndsBefore (Evidence ⊥ ⊥ ⊥) script left ending held held' → EndsBefore (Evidence ⊥ by_disk ⊥) script left ending held held'
+pub before_weaker : (by_disk : Type 0) (script : Script) (left : Option (List ℕ)) (ending : Ending) (held held' : Option (List ℕ)) → EndsBefore (Evidence ⊥ ⊥) script left ending held held' → EndsBefore (Evidence ⊥ by_disk) script left ending held held'
 before_weaker by_disk script left ending held held' before = record {
   printed = before.printed;
   taken = before.taken;
-  ends = ends_weaker (Evidence ⊥ ⊥ ⊥) (Evidence ⊥ by_disk ⊥) (evidence_weaker ⊥ ⊥ ⊥ ⊥ by_disk ⊥ (λ never. never) (λ never. absurd never) (λ never. never)) script left 0 ending before.printed before.ends;
+  ends = ends_weaker (Evidence ⊥ ⊥) (Evidence ⊥ by_disk) (evidence_weaker ⊥ ⊥ ⊥ by_disk (λ never. never) (λ never. absurd never)) script left 0 ending before.printed before.ends;
 }
 
 -- ---- one more answer in front
@@ -242,7 +242,7 @@ module _ (whole rest : Script) (line : List ℕ) (e : Exchange) (parts : whole.b
       ap (exchanges_from whole.start) lines ∙ exchanges_from-answered whole.start line (lines_of rest.bytes) e is
       ∙ ap (λ (s : State). e ∷ exchanges_from s (lines_of rest.bytes)) (sym start_is)
 
-  module _ (cause : Culprit → Type 0) (opened : cause TheFiles → ⊥) (left : Option (List ℕ)) (m : ℕ) where
+  module _ (cause : Culprit → Type 0) (left : Option (List ℕ)) (m : ℕ) where
     next_is : next_number rest m ≡ next_number whole (suc m)
     next_is = omega (arith, before_is)
 
@@ -251,7 +251,7 @@ module _ (whole rest : Script) (line : List ℕ) (e : Exchange) (parts : whole.b
     stops_later TheLine (at, less) = (ap suc at ∙ sym (ap length longer), let count = ap length lines in omega arith)
     stops_later TheWords h = h
     stops_later TheDisk h = h
-    stops_later TheFiles (occupied, none, unread) = absurd (opened occupied)
+    stops_later TheFiles h = h
     stops_later Memory h = h
     stops_later TheSource (fault, (given, others, split, told, at)) = (
       fault,

@@ -14,7 +14,7 @@ use Rattle.vl_model.specs.History.{Extends}
 use Rattle.vl_replay.specs.Between.{Showing}
 use Rattle.vl_replay.specs.Endings.{Culprit, TheDisk, TheSink, TheSource, CountsFaultsOf, Evidence, CutsAnswer, IsBetweenLines, culprit_of, last_line}
 use Rattle.vl_replay.specs.Runs.{Script, exchanges, next_number, Stops, Course, Outside, EvidenceOf, EndsRun}
-use Rattle.vl_replay.specs.Durable.{Holding, IsAsBefore, LeavesItsHistory, StaysShown, Tells, HoldsState, GoesFrom, GoesAlong, DiskEnds, DiskEndsFrom}
+use Rattle.vl_replay.specs.Durable.{Holding, IsAsBefore, LeavesItsHistory, StaysShown, Tells, HoldsState, CrashesShow, GoesAlong, DiskEnds, DiskEndsFrom}
 use Rattle.vl_replay.specs.Opening.{IsFault, ending_unopened, why_refused}
 use Rattle.vl_replay.specs.declared.fails.Refusal.{Refusal}
 use Rattle.vl_replay.specs.declared.fails.Refusal.TheVariants as refusals
@@ -36,25 +36,25 @@ of_unopened P refused out fault (why.Exhausted counter) = refused (refusals.Exha
 of_unopened P refused out fault why.NoMemory = out
 of_unopened P refused out fault (why.Disk name) = fault
 
--- it stops the run before anything is read
-unopened_stops : (by_source by_disk by_files : Type 0) (script : Script) (left : Option (List ℕ)) (how : Why) → ((refusal : Refusal) → how ≡ why_refused refusal → by_files) → (IsFault (Some how) → by_disk) → left ≡ Some script.bytes
-    → Stops (Evidence by_source by_disk by_files) script left 0 (culprit_of (ending_unopened how))
-unopened_stops by_source by_disk by_files script left why.NotAStore files fault unread = (files refusals.NotAStore refl, refl, unread)
-unopened_stops by_source by_disk by_files script left (why.NewerFormat format) files fault unread = (files (refusals.NewerFormat format) refl, refl, unread)
-unopened_stops by_source by_disk by_files script left (why.Damaged name place) files fault unread = (files (refusals.Damaged name place) refl, refl, unread)
-unopened_stops by_source by_disk by_files script left (why.Exhausted counter) files fault unread = (files (refusals.Exhausted counter) refl, refl, unread)
-unopened_stops by_source by_disk by_files script left why.NoMemory files fault unread = tt
-unopened_stops by_source by_disk by_files script left (why.Disk name) files fault unread = fault tt
+-- what stops it: not a refusal, where the disk opens as a store
+unopened_stops : (by_source by_disk : Type 0) (script : Script) (left : Option (List ℕ)) (how : Why) → ((refusal : Refusal) → how ≡ why_refused refusal → ⊥) → (IsFault (Some how) → by_disk)
+    → Stops (Evidence by_source by_disk) script left 0 (culprit_of (ending_unopened how))
+unopened_stops by_source by_disk script left why.NotAStore never fault = absurd (never refusals.NotAStore refl)
+unopened_stops by_source by_disk script left (why.NewerFormat format) never fault = absurd (never (refusals.NewerFormat format) refl)
+unopened_stops by_source by_disk script left (why.Damaged name place) never fault = absurd (never (refusals.Damaged name place) refl)
+unopened_stops by_source by_disk script left (why.Exhausted counter) never fault = absurd (never (refusals.Exhausted counter) refl)
+unopened_stops by_source by_disk script left why.NoMemory never fault = tt
+unopened_stops by_source by_disk script left (why.Disk name) never fault = fault tt
 
 -- and its line is the same whatever line comes next
 same_line : (n : ℕ) (how : Why) → last_line n (ending_unopened how) ≡ last_line 0 (ending_unopened how)
 same_line n how = of_unopened (λ (e : Ending). last_line n e ≡ last_line 0 e) (λ refusal. refl) refl refl how
 
-pub refused : {K : Type 0} (k : sink.Ghosts K) (old new : K) (by_source by_disk by_files : Type 0) (script : Script) (left : Option (List ℕ)) (how : Why) (result : Ending) → ((refusal : Refusal) → how ≡ why_refused refusal → by_files) → (IsFault (Some how) → by_disk)
-    → left ≡ Some script.bytes → FinishesBy k old new (ending_unopened how) result → EndsBefore (Evidence by_source by_disk by_files) script left result (k.held old) (k.held new)
-refused k old new by_source by_disk by_files script left how result files fault unread (line, own, finishes) =
-    finished k old new (Evidence by_source by_disk by_files) script left (ending_unopened how) result line (same_line (next_number script 0) how ∙ own)
-    (unopened_stops by_source by_disk by_files script left how files fault unread) finishes
+pub refused : {K : Type 0} (k : sink.Ghosts K) (old new : K) (by_source by_disk : Type 0) (script : Script) (left : Option (List ℕ)) (how : Why) (result : Ending) → ((refusal : Refusal) → how ≡ why_refused refusal → ⊥) → (IsFault (Some how) → by_disk)
+    → FinishesBy k old new (ending_unopened how) result → EndsBefore (Evidence by_source by_disk) script left result (k.held old) (k.held new)
+refused k old new by_source by_disk script left how result never fault (line, own, finishes) =
+    finished k old new (Evidence by_source by_disk) script left (ending_unopened how) result line (same_line (next_number script 0) how ∙ own)
+    (unopened_stops by_source by_disk script left how never fault) finishes
 
 -- of such an ending and of a line that couldn't be put it holds that nothing was answered and no answer cut
 abbrev pub AnswersNothing : Ending → Type 0
@@ -82,15 +82,15 @@ out_of_memory k old new how result (line, own, finishes) = or_cut k old new line
     of (why.Disk name) e is = cc
 
 module _ {D : Type 0} (g : Ghosts D) (watched : IsWatched g) (holds : Holding) (shows : Showing)
-    (stays : StaysShown shows) (exactly : LeavesItsHistory holds shows) (P : Type 0) (by_files : Type 0) (script : Script) (first end : Outside D) where
+    (stays : StaysShown shows) (exactly : LeavesItsHistory holds shows) (P : Type 0) (script : Script) (first end : Outside D) where
   abbrev pub SoFar : Course → Type 0
   SoFar run = P → DiskEnds g holds shows (IsAsBefore g first.disk end.disk) first.disk end.disk run
 
   -- nothing was opened
-  pub ends_refused : (ending : Ending) → AnswersNothing ending → EndsBefore (EvidenceOf g first end by_files) script end.left ending first.held end.held → KeepsUp script.bytes end.asked 0
-      → (P → GoesFrom g shows first.disk end.disk script.start.history script.start.history) → (P → Tells g end.disk MayOpen)
+  pub ends_refused : (ending : Ending) → AnswersNothing ending → EndsBefore (EvidenceOf g first end) script end.left ending first.held end.held → KeepsUp script.bytes end.asked 0
+      → (P → CrashesShow g shows first.disk end.disk script.start.history script.start.history) → (P → Tells g end.disk MayOpen)
       → ((Rose (g.faults first.disk) (g.faults end.disk) → ⊥) → IsAsBefore g first.disk end.disk) → (ending ≡ NoMemory → IsAsBefore g first.disk end.disk)
-      → EndsRun g by_files SoFar script first end ending
+      → EndsRun g SoFar script first end ending
   ends_refused ending (none, none_cut) before kept_up goes tells kept kept_out =
       let h = script.start.history in
       let most = (last_state script.start (take 1 (exchanges script))).history in
@@ -116,18 +116,25 @@ module _ {D : Type 0} (g : Ghosts D) (watched : IsWatched g) (holds : Holding) (
 
   -- ---- the store was opened before the first line
 
-  along_opened : (mid new : D) (s most : State) (all : List Exchange) (m : ℕ) → Extends s.history (last_state s (take 1 all)).history → GoesFrom g shows first.disk mid s.history s.history
+  along_opened : (mid new : D) (s most : State) (all : List Exchange) (m : ℕ) → Extends s.history (last_state s (take 1 all)).history → CrashesShow g shows first.disk mid s.history s.history
       → GoesAlong g holds shows new most mid s (take m all) → GoesAlong g holds shows new most first.disk s (take m all)
   along_opened mid new s most [] zero extends goes along = tt
   along_opened mid new s most [] (suc m) extends goes along = tt
   along_opened mid new s most (e ∷ all) zero extends goes along = tt
-  along_opened mid new s most (e ∷ all) (suc m) extends goes (passed, step, there, on, later) =
-      (passed, goes_then g watched holds shows stays exactly first.disk mid passed s.history s.history e.after.history (extends_itself s.history) extends goes step, there, on, later)
+  along_opened mid new s most (e ∷ all) (suc m) extends goes (passed, line, later) = (
+    passed,
+    record {
+      before = goes_then g watched holds shows stays exactly first.disk mid passed s.history s.history e.after.history (extends_itself s.history) extends goes line.before;
+      held = line.held;
+      behind = line.behind;
+    },
+    later,
+  )
 
   pub ends_opened : (mid : Outside D) (ending : Ending) → mid.source_faults ≡ first.source_faults → mid.held ≡ first.held → g.faults first.disk ≤ g.faults mid.disk
-      → (P → HoldsState g holds script.start mid.disk) → (P → GoesFrom g shows first.disk mid.disk script.start.history script.start.history)
-      → EndsRun g ⊥ (DiskEndsFrom g holds shows mid.disk end.disk script.start) script mid end ending
-      → EndsRun g by_files SoFar script first end ending
+      → (P → HoldsState g holds script.start mid.disk) → (P → CrashesShow g shows first.disk mid.disk script.start.history script.start.history)
+      → EndsRun g (DiskEndsFrom g holds shows mid.disk end.disk script.start) script mid end ending
+      → EndsRun g SoFar script first end ending
   ends_opened mid ending same_faults same_held earlier opened goes run =
       let s = script.start in
       let all = exchanges script in
@@ -137,9 +144,9 @@ module _ {D : Type 0} (g : Ghosts D) (watched : IsWatched g) (holds : Holding) (
         answered = m;
         printed = run.printed;
         taken = subst (λ (held : Option (List ℕ)). Takes held end.held run.printed) same_held run.taken;
-        ends = ends_weaker (EvidenceOf g mid end ⊥) (EvidenceOf g first end by_files)
-            (evidence_weaker (Rose mid.source_faults end.source_faults) (Rose (g.faults mid.disk) (g.faults end.disk)) ⊥ (Rose first.source_faults end.source_faults) (Rose (g.faults first.disk) (g.faults end.disk)) by_files
-            (λ rose. subst (λ (n : ℕ). Rose n end.source_faults) same_faults rose) (λ rose. rose_earlier (g.faults first.disk) (g.faults mid.disk) (g.faults end.disk) earlier rose) (λ never. absurd never))
+        ends = ends_weaker (EvidenceOf g mid end) (EvidenceOf g first end)
+            (evidence_weaker (Rose mid.source_faults end.source_faults) (Rose (g.faults mid.disk) (g.faults end.disk)) (Rose first.source_faults end.source_faults) (Rose (g.faults first.disk) (g.faults end.disk))
+            (λ rose. subst (λ (n : ℕ). Rose n end.source_faults) same_faults rose) (λ rose. rose_earlier (g.faults first.disk) (g.faults mid.disk) (g.faults end.disk) earlier rose))
             script end.left m ending run.printed run.ends;
         kept_up = run.kept_up;
         disk = λ p.

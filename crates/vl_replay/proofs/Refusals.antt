@@ -12,7 +12,7 @@ use Rattle.vl_recover.specs.OpeningLaws.{single_opening}
 use Rattle.vl_replay.specs.Endings.{refusal_line}
 use Rattle.vl_recover.specs.declared.fails.Why.{Why}
 use Rattle.vl_recover.specs.declared.fails.Why.TheVariants as why
-use Rattle.vl_replay.specs.Opening.{IsFault, IsRefused, OpensBy, why_refused}
+use Rattle.vl_replay.specs.Opening.{IsFault, IsRefused, AnswersOpening, why_refused}
 use Rattle.vl_replay.specs.Steps.{CameFirst, EndsFor, EndsUnopened, Finishes}
 use Rattle.vl_replay.specs.declared.ending.Ending.{Ending}
 use Rattle.vl_replay.specs.declared.ending.Ending.TheVariants.{Refused}
@@ -70,7 +70,7 @@ module _ (read : Image) where
   one_refusal (Exhausted c) (Exhausted d) (found, used) (other, used_too) = ap Exhausted (one_used c d found other used used_too)
 
   -- where reads give a refusal, an opening answers it, unless memory ran out or the disk failed before
-  pub refused_or_first : (refusal : Refusal) → IsRefused read refusal → (reason : Why) → OpensBy read (Some reason) → (reason ≡ why_refused refusal) ⊎ CameFirst reason
+  pub refused_or_first : (refusal : Refusal) → IsRefused read refusal → (reason : Why) → AnswersOpening read (Some reason) → (reason ≡ why_refused refusal) ⊎ CameFirst reason
   refused_or_first refusal is why.NotAStore by = inl (ap why_refused (one_refusal NotAStore refusal by is))
   refused_or_first refusal is (why.NewerFormat format) by = inl (ap why_refused (one_refusal (NewerFormat format) refusal by is))
   refused_or_first refusal is (why.Damaged name place) by = inl (ap why_refused (one_refusal (Damaged name place) refusal by is))

@@ -22,7 +22,7 @@ use Rattle.vl_replay.specs.Sequential.{State}
 use Rattle.vl_disk.specs.Moments.{HoldsThroughout, holds_weaker}
 use Rattle.vl_disk.specs.declared.watched.Watched.{Ghosts}
 use Rattle.vl_replay.specs.Between.{ShowsBetween}
-use Rattle.vl_replay.specs.Durable.{GoesFrom, Leaves}
+use Rattle.vl_replay.specs.Durable.{CrashesShow, Leaves}
 use Rattle.vl_replay.proofs.Betweens.{between_exactly}
 use Rattle.vl_replay.specs.Start.{IsDurable, StartsIn}
 use Rattle.vl_replay.specs.Stored.{LogsShow, Shown, logs_entries, no_logs}
@@ -101,7 +101,7 @@ module _ (state : DiskState) (durable : IsDurable state) (read : Image) (is_read
 
 -- while the store is opened it shows what is opened
 pub opening_goes : {D : Type 0} (g : Ghosts D) (old new : D) (s : State) → StartsIn g old s → (state : DiskState) → g.told old ≡ Some state → IsDurable state
-    → HoldsThroughout g old new (OpensAsOf state) → GoesFrom g Shown old new s.history s.history
+    → HoldsThroughout g old new (OpensAsOf state) → CrashesShow g Shown old new s.history s.history
 opening_goes g old new s starts state is durable through =
     let same : starts.state ≡ state = some_same starts.state state (sym starts.told ∙ is) in
     let read = subst (IsRead starts.read) same starts.is_read in

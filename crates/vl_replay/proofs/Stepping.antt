@@ -12,7 +12,7 @@ use Rattle.vl_replay.specs.Exchanges.{Exchange, exchange_at, state_behind, excha
 use Rattle.vl_replay.specs.Endings.{Evidence, CutsAnswer, line_number}
 use Rattle.vl_replay.specs.Runs.{Script, exchanges, Outside, EvidenceOf, EndsRun}
 use Rattle.vl_replay.specs.Durable.{Holding, LeavesItsHistory, StaysShown, HoldsState, DiskEnds, DiskEndsFrom}
-use Rattle.vl_replay.specs.Steps.{IsNext, EndsBefore, StepsOn, MovesOn, DiskSteps, kept, Steps}
+use Rattle.vl_replay.specs.Steps.{IsNext, EndsBefore, PrintsStep, MovesOn, DiskSteps, kept, Steps}
 use Rattle.vl_replay.specs.declared.input.lines.Next.{Next}
 use Rattle.vl_replay.specs.declared.input.lines.Next.TheVariants.{Line as WholeLine, LastLine}
 use Rattle.vl_replay.specs.declared.replayer.store.Store.{Store}
@@ -42,15 +42,15 @@ module _ {D : Type 0} (g : Ghosts D) (watched : IsWatched g) (holds : Holding) (
     (stays : StaysShown shows) (exactly : LeavesItsHistory holds shows) (script : Script) (old new : Outside D) where
   -- a run that ended before it answered a line
   ended : (by_source by_disk : Type 0) → (by_source → Rose old.source_faults new.source_faults) → (by_disk → Rose (g.faults old.disk) (g.faults new.disk))
-      → (ending : Ending) → EndsBefore (Evidence by_source by_disk ⊥) script new.left ending old.held new.held → KeepsUp script.bytes new.asked 0
+      → (ending : Ending) → EndsBefore (Evidence by_source by_disk) script new.left ending old.held new.held → KeepsUp script.bytes new.asked 0
       → (HoldsState g holds script.start old.disk → DiskEnds g holds shows ⊥ old.disk new.disk (record { ending = ending; first = script.start; answered = []; most = last_state script.start (take 1 (exchanges script)) }))
-      → EndsRun g ⊥ (DiskEndsFrom g holds shows old.disk new.disk script.start) script old new ending
+      → EndsRun g (DiskEndsFrom g holds shows old.disk new.disk script.start) script old new ending
   ended by_source by_disk source disk ending before kept_up disk_ends = record {
     answered = 0;
     printed = before.printed;
     taken = before.taken;
-    ends = ends_weaker (Evidence by_source by_disk ⊥) (EvidenceOf g old new ⊥)
-        (evidence_weaker by_source by_disk ⊥ (Rose old.source_faults new.source_faults) (Rose (g.faults old.disk) (g.faults new.disk)) ⊥ source disk (λ never. never))
+    ends = ends_weaker (Evidence by_source by_disk) (EvidenceOf g old new)
+        (evidence_weaker by_source by_disk (Rose old.source_faults new.source_faults) (Rose (g.faults old.disk) (g.faults new.disk)) source disk)
         script new.left 0 ending before.printed before.ends;
     kept_up = kept_up;
     disk = disk_ends;
@@ -58,8 +58,8 @@ module _ {D : Type 0} (g : Ghosts D) (watched : IsWatched g) (holds : Holding) (
 
   -- where the disk was left alone
   pub step_apart : (by_source : Type 0) → (by_source → Rose old.source_faults new.source_faults) → (ending : Ending) → (CutsAnswer ending → ⊥) → new.disk ≡ old.disk
-      → EndsBefore (Evidence by_source ⊥ ⊥) script new.left ending old.held new.held → KeepsUp script.bytes new.asked 0
-      → EndsRun g ⊥ (DiskEndsFrom g holds shows old.disk new.disk script.start) script old new ending
+      → EndsBefore (Evidence by_source ⊥) script new.left ending old.held new.held → KeepsUp script.bytes new.asked 0
+      → EndsRun g (DiskEndsFrom g holds shows old.disk new.disk script.start) script old new ending
   step_apart by_source source ending none same before kept_up =
       let most = last_state script.start (take 1 (exchanges script)) in
       ended by_source ⊥ source (λ never. absurd never) ending before kept_up
@@ -68,10 +68,10 @@ module _ {D : Type 0} (g : Ghosts D) (watched : IsWatched g) (holds : Holding) (
 
   -- there is no further line
   pub step_end : script.bytes ≡ [] → new.left ≡ Some [] → new.disk ≡ old.disk → new.held ≡ old.held → KeepsUp script.bytes new.asked 0
-      → EndsRun g ⊥ (DiskEndsFrom g holds shows old.disk new.disk script.start) script old new Complete
+      → EndsRun g (DiskEndsFrom g holds shows old.disk new.disk script.start) script old new Complete
   step_end none told same quiet kept_up =
       step_apart ⊥ (λ never. absurd never) Complete no_cut same
-      (record { printed = []; taken = subst (λ (h : Option (List ℕ)). Takes old.held h []) (sym quiet) (takes_nothing old.held); ends = none_left (Evidence ⊥ ⊥ ⊥) script new.left none told }) kept_up
+      (record { printed = []; taken = subst (λ (h : Option (List ℕ)). Takes old.held h []) (sym quiet) (takes_nothing old.held); ends = none_left (Evidence ⊥ ⊥) script new.left none told }) kept_up
     where
       no_cut : CutsAnswer Complete → ⊥
       no_cut e = cc
@@ -81,9 +81,9 @@ module _ {D : Type 0} (g : Ghosts D) (watched : IsWatched g) (holds : Holding) (
     behind = state_behind script.start (exchange_at script.start line)
 
     -- the line ended the run
-    line_ended : (texts : List (List ℕ)) → lines_of script.bytes ≡ line ∷ texts → (ending : Ending) → EndsBefore (Evidence ⊥ (Rose (g.faults old.disk) (g.faults new.disk)) ⊥) script new.left ending old.held new.held
+    line_ended : (texts : List (List ℕ)) → lines_of script.bytes ≡ line ∷ texts → (ending : Ending) → EndsBefore (Evidence ⊥ (Rose (g.faults old.disk) (g.faults new.disk))) script new.left ending old.held new.held
         → KeepsUp script.bytes new.asked 0 → (HoldsState g holds script.start old.disk → DiskSteps g holds shows old.disk new.disk script.start behind (Some ending))
-        → EndsRun g ⊥ (DiskEndsFrom g holds shows old.disk new.disk script.start) script old new ending
+        → EndsRun g (DiskEndsFrom g holds shows old.disk new.disk script.start) script old new ending
     line_ended texts lines ending before kept_up moves =
         let most : last_state script.start (take 1 (exchanges script)) ≡ behind =
         ap (λ (ls : List (List ℕ)). last_state script.start (take 1 (exchanges_from script.start ls))) lines ∙ first_behind script.start line texts in
@@ -92,7 +92,7 @@ module _ {D : Type 0} (g : Ghosts D) (watched : IsWatched g) (holds : Holding) (
 
     -- a line that was read with its end was answered, or the run ended there
     pub step_line : (buffer : List ℕ) (answered : ℕ) (result : Option Ending) → answered ≡ line_number (script.before + 1) → ReadsLine WholeLine script.bytes line buffer new.left
-        → StepsOn (Rose (g.faults old.disk) (g.faults new.disk)) script line store result old.held new.held
+        → PrintsStep (Rose (g.faults old.disk) (g.faults new.disk)) script line store result old.held new.held
         → (HoldsState g holds script.start old.disk → DiskSteps g holds shows old.disk new.disk script.start behind result)
         → KeepsUp script.bytes new.asked 0 → Steps g holds shows script old new (kept store buffer answered) result
     step_line buffer answered None count (rest, told, parts, unended) (e, is, stands, taken) moves kept_up = record {
@@ -118,17 +118,17 @@ module _ {D : Type 0} (g : Ghosts D) (watched : IsWatched g) (holds : Holding) (
 
     -- the last line was answered, and so the run is complete, or it ended there
     pub step_last : (buffer : List ℕ) (ended_by : Option Ending) (result : Ending) → result ≡ unwrap_or ended_by Complete → ReadsLine LastLine script.bytes line buffer new.left
-        → StepsOn (Rose (g.faults old.disk) (g.faults new.disk)) script line store ended_by old.held new.held
+        → PrintsStep (Rose (g.faults old.disk) (g.faults new.disk)) script line store ended_by old.held new.held
         → (HoldsState g holds script.start old.disk → DiskSteps g holds shows old.disk new.disk script.start behind ended_by)
-        → KeepsUp script.bytes new.asked 0 → EndsRun g ⊥ (DiskEndsFrom g holds shows old.disk new.disk script.start) script old new result
+        → KeepsUp script.bytes new.asked 0 → EndsRun g (DiskEndsFrom g holds shows old.disk new.disk script.start) script old new result
     step_last buffer None result r (told, same, unended, some) (e, is, stands, taken) moves kept_up =
         let lines : lines_of script.bytes ≡ line ∷ [] = ap lines_of same ∙ lines_of-unended line unended some in
         let all : exchanges script ≡ e ∷ [] = next_answered script line ([], lines) e is in
-        subst (λ (x : Ending). EndsRun g ⊥ (DiskEndsFrom g holds shows old.disk new.disk script.start) script old new x) (sym r) (record {
+        subst (λ (x : Ending). EndsRun g (DiskEndsFrom g holds shows old.disk new.disk script.start) script old new x) (sym r) (record {
           answered = 1;
           printed = text_of e.answer;
           taken = taken;
-          ends = last_answered (EvidenceOf g old new ⊥) script line new.left e lines is told;
+          ends = last_answered (EvidenceOf g old new) script line new.left e lines is told;
           kept_up = keeps_up_more script.bytes new.asked 1 kept_up;
           disk = λ held.
               let m = subst (λ (o : Option Exchange). MovesOn g holds shows old.disk new.disk script.start (state_behind script.start o)) is (moves held) in
@@ -137,5 +137,5 @@ module _ {D : Type 0} (g : Ghosts D) (watched : IsWatched g) (holds : Holding) (
         })
     step_last buffer (Some ending) result r (told, same, unended, some) ends moves kept_up =
         let lines : lines_of script.bytes ≡ line ∷ [] = ap lines_of same ∙ lines_of-unended line unended some in
-        subst (λ (x : Ending). EndsRun g ⊥ (DiskEndsFrom g holds shows old.disk new.disk script.start) script old new x) (sym r)
+        subst (λ (x : Ending). EndsRun g (DiskEndsFrom g holds shows old.disk new.disk script.start) script old new x) (sym r)
         (line_ended [] lines ending (ends new.left) kept_up moves)

@@ -12,7 +12,7 @@ use Rattle.vl_model.specs.History.{Extends}
 use Rattle.vl_replay.specs.Between.{Showing}
 use Rattle.vl_replay.specs.Endings.{Evidence}
 use Rattle.vl_replay.specs.Runs.{Script, script_of, exchanges, Outside, EvidenceOf, EndsSo, EndsRun}
-use Rattle.vl_replay.specs.Durable.{Holding, LeavesItsHistory, StaysShown, HoldsState, GoesFrom, GoesAlong, DiskEnds, DiskEndsFrom}
+use Rattle.vl_replay.specs.Durable.{Holding, LeavesItsHistory, StaysShown, HoldsState, CrashesShow, GoesAlong, DiskEnds, DiskEndsFrom}
 use Rattle.vl_replay.specs.Steps.{Kept, kept, HasToDo, GoesOn}
 use Rattle.vl_replay.specs.declared.replayer.store.Store.{Store}
 use Rattle.vl_replay.specs.declared.ending.Ending.{Ending}
@@ -25,8 +25,8 @@ use Rattle.vl_replay.proofs.DiskSteps.{IsWatched, exchange_extends, exchanges_ex
 -- the lines of the rest goes along those of the whole.
 pub record Carried {D : Type 0} (g : Ghosts D) (holds : Holding) (shows : Showing) (first disk : D) (whole rest : Script) : Type 0 where
   pub held : HoldsState g holds rest.start disk
-  pub goes : GoesFrom g shows first disk whole.start.history rest.start.history
-  pub along : (new : D) (most : State) (m : ℕ) → Extends rest.start.history most.history → GoesFrom g shows disk new rest.start.history most.history
+  pub goes : CrashesShow g shows first disk whole.start.history rest.start.history
+  pub along : (new : D) (most : State) (m : ℕ) → Extends rest.start.history most.history → CrashesShow g shows disk new rest.start.history most.history
       → GoesAlong g holds shows new most disk rest.start (take m (exchanges rest))
       → GoesAlong g holds shows new most first whole.start (take (m + rest.before) (exchanges whole))
 
@@ -38,8 +38,8 @@ pub record UnderWay {D : Type 0} (g : Ghosts D) (holds : Holding) (shows : Showi
   pub extends : Extends whole.start.history rest.start.history
   pub taken : Takes begin.held now.held so_far
   pub later : (t td : ℕ) (left : Option (List ℕ)) (m : ℕ) (ending : Ending) (printed : List ℕ)
-      → EndsSo (Evidence (Rose begin.source_faults t) (Rose (g.faults begin.disk) td) ⊥) rest left m ending printed
-      → EndsSo (Evidence (Rose begin.source_faults t) (Rose (g.faults begin.disk) td) ⊥) whole left (m + rest.before) ending (so_far ++ printed)
+      → EndsSo (Evidence (Rose begin.source_faults t) (Rose (g.faults begin.disk) td)) rest left m ending printed
+      → EndsSo (Evidence (Rose begin.source_faults t) (Rose (g.faults begin.disk) td)) whole left (m + rest.before) ending (so_far ++ printed)
   pub later_kept_up : (asked : Option (List ℕ)) (m : ℕ) → KeepsUp rest.bytes asked m → KeepsUp whole.bytes asked (m + rest.before)
   pub later_state : (m : ℕ) → last_state rest.start (take m (exchanges rest)) ≡ last_state whole.start (take (m + rest.before) (exchanges whole))
   pub carried : HoldsState g holds whole.start begin.disk → Carried g holds shows begin.disk now.disk whole rest
@@ -66,7 +66,7 @@ module _ {D : Type 0} (g : Ghosts D) (watched : IsWatched g) (holds : Holding) (
         so_far = [];
         extends = extends_itself start.history;
         taken = takes_nothing begin.held;
-        later = λ t td left m ending printed run. subst (λ (n : ℕ). EndsSo (Evidence (Rose begin.source_faults t) (Rose (g.faults begin.disk) td) ⊥) whole left n ending printed) (none m) run;
+        later = λ t td left m ending printed run. subst (λ (n : ℕ). EndsSo (Evidence (Rose begin.source_faults t) (Rose (g.faults begin.disk) td)) whole left n ending printed) (none m) run;
         later_kept_up = λ asked m kept_up. subst (KeepsUp input asked) (none m) kept_up;
         later_state = λ m. ap (λ (n : ℕ). last_state start (take n (exchanges whole))) (none m);
         carried = λ held. record {
@@ -94,11 +94,11 @@ module _ {D : Type 0} (g : Ghosts D) (watched : IsWatched g) (holds : Holding) (
           extends = extends_then start.history rest.start.history e.after.history u.extends step;
           taken = takes_both begin.held now.held next.held u.so_far (text_of e.answer) u.taken s.taken;
           later = λ t td left m ending printed run.
-              let evidence = Evidence (Rose begin.source_faults t) (Rose (g.faults begin.disk) td) ⊥ in
+              let evidence = Evidence (Rose begin.source_faults t) (Rose (g.faults begin.disk) td) in
               subst (λ (n : ℕ). EndsSo evidence whole left n ending ((u.so_far ++ text_of e.answer) ++ printed)) (on m)
               (subst (λ (p : List ℕ). EndsSo evidence whole left (suc m + rest.before) ending p) (sym (append_assoc u.so_far (text_of e.answer) printed))
               (u.later t td left (suc m) ending (text_of e.answer ++ printed)
-              (goes_on rest others s.text e s.bytes_are s.unended s.exchange_is refl refl evidence (λ never. never) left m ending printed run)));
+              (goes_on rest others s.text e s.bytes_are s.unended s.exchange_is refl refl evidence left m ending printed run)));
           later_kept_up = λ asked m kept. subst (KeepsUp input asked) (on m) (u.later_kept_up asked (suc m) (keeps_up_behind rest.bytes s.text s.later asked m s.bytes_are s.unended kept));
           later_state = λ m.
               sym (ap (λ (es : List Exchange). last_state rest.start (take (suc m) es)) all)
@@ -115,13 +115,13 @@ module _ {D : Type 0} (g : Ghosts D) (watched : IsWatched g) (holds : Holding) (
                     (c.along new most (suc k) (extends_then rest.start.history e.after.history most.history step extends)
                     (goes_then g watched holds shows stays exactly now.disk next.disk new rest.start.history e.after.history most.history step extends moves.through goes)
                     (subst (λ (es : List Exchange). GoesAlong g holds shows new most now.disk rest.start (take (suc k) es)) (sym all)
-                    (next.disk, moves.through, it_holds g watched holds shows stays exactly e.after next.disk moves.held, goes, along)));
+                    (next.disk, record { before = moves.through; held = it_holds g watched holds shows stays exactly e.after next.disk moves.held; behind = goes }, along)));
               };
         }
 
     pub over : (ending : Ending) → begin.source_faults ≤ now.source_faults → g.faults begin.disk ≤ g.faults now.disk
-        → EndsRun g ⊥ (DiskEndsFrom g holds shows now.disk next.disk rest.start) rest now next ending
-        → EndsRun g ⊥ (DiskEndsFrom g holds shows begin.disk next.disk start) whole begin next ending
+        → EndsRun g (DiskEndsFrom g holds shows now.disk next.disk rest.start) rest now next ending
+        → EndsRun g (DiskEndsFrom g holds shows begin.disk next.disk start) whole begin next ending
     over ending earlier earlier_disk run =
         let m = run.answered in
         let most = last_state rest.start (take (suc m) (exchanges rest)) in
@@ -133,10 +133,10 @@ module _ {D : Type 0} (g : Ghosts D) (watched : IsWatched g) (holds : Holding) (
           printed = u.so_far ++ run.printed;
           taken = takes_both begin.held now.held next.held u.so_far run.printed u.taken run.taken;
           ends = u.later next.source_faults (g.faults next.disk) next.left m ending run.printed
-              (ends_weaker (EvidenceOf g now next ⊥) (EvidenceOf g begin next ⊥)
-              (evidence_weaker (Rose now.source_faults next.source_faults) (Rose (g.faults now.disk) (g.faults next.disk)) ⊥ (Rose begin.source_faults next.source_faults) (Rose (g.faults begin.disk) (g.faults next.disk)) ⊥
+              (ends_weaker (EvidenceOf g now next) (EvidenceOf g begin next)
+              (evidence_weaker (Rose now.source_faults next.source_faults) (Rose (g.faults now.disk) (g.faults next.disk)) (Rose begin.source_faults next.source_faults) (Rose (g.faults begin.disk) (g.faults next.disk))
               (λ rose. rose_earlier begin.source_faults now.source_faults next.source_faults earlier rose)
-              (λ rose. rose_earlier (g.faults begin.disk) (g.faults now.disk) (g.faults next.disk) earlier_disk rose) (λ never. never))
+              (λ rose. rose_earlier (g.faults begin.disk) (g.faults now.disk) (g.faults next.disk) earlier_disk rose))
               rest next.left m ending run.printed run.ends);
           kept_up = u.later_kept_up next.asked m run.kept_up;
           disk = λ held.

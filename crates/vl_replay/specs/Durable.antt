@@ -52,6 +52,10 @@ StaysShown shows =
 abbrev pub Tells : {D : Type 0} → Ghosts D → D → (DiskState → Type 0) → Type 0
 Tells g disk P = (state : DiskState) × (g.told disk ≡ Some state) × P state
 
+-- it tells its bytes
+abbrev pub StillTells : {D : Type 0} → Ghosts D → D → Type 0
+StillTells g disk = Tells g disk (λ _. Unit {0})
+
 -- the disk holds the state, and was asked for the changing calls that the state counts
 pub record HoldsState {D : Type 0} (g : Ghosts D) (holds : Holding)
     (s : State) (disk : D) : Type 0 where
@@ -63,10 +67,11 @@ abbrev pub HoldsCommits : {D : Type 0} → Ghosts D → Holding → State → D 
 HoldsCommits g holds t disk =
     (s : State) × (s.history ≡ t.history) × (s.calls ≡ t.calls) × HoldsState g holds s disk
 
--- what a crash meanwhile leaves shows what was there before, or more of what is there in the end
-abbrev pub GoesFrom : {D : Type 0} → Ghosts D → Showing → (old new : D) → (least most : History)
+-- Whatever a crash leaves at any moment from the old disk to the new one shows at least the one history and at most the
+-- other.
+abbrev pub CrashesShow : {D : Type 0} → Ghosts D → Showing → (old new : D) → (least most : History)
     → Type 0
-GoesFrom g shows old new least most =
+CrashesShow g shows old new least most =
     HoldsThroughout g old new (Leaves (ShowsBetween shows least most))
 
 -- A call took a disk from one state to the next, or failed on the way.
@@ -79,7 +84,7 @@ pub record LeadsTo {D T : Type 0} (g : Ghosts D) (holds : Holding) (shows : Show
   -- it tells its bytes, and a store may be opened on them, also where it failed;
   pub tells : Tells g new MayOpen
   -- what a crash meanwhile leaves shows the commits before, or those after it
-  pub through : GoesFrom g shows old new before.history after.history
+  pub through : CrashesShow g shows old new before.history after.history
 
 -- A line, or a text, was carried out: so it is where the disk held the state before.
 abbrev pub CarriesOut : {D T : Type 0} → Ghosts D → Holding → Showing → (old new : D)
@@ -87,17 +92,22 @@ abbrev pub CarriesOut : {D T : Type 0} → Ghosts D → Holding → Showing → 
 CarriesOut g holds shows old new before after result =
     HoldsState g holds before old → LeadsTo g holds shows old new before after result
 
--- The disk went, from one that held the commits of a state, through one for each of these lines, in order: that of a line
--- held the commits up to it and nothing else, after just the changing calls of these lines. What a crash leaves at a moment
--- between that of the line before and it shows the commits before the line or those after it, and what one leaves from it
--- on, until the run's end, shows at least the latter. When the line was answered isn't said.
+-- A disk that held the commits of a state went through this one for the next line. When the line was answered isn't said.
+pub record PassesLine {D : Type 0} (g : Ghosts D) (holds : Holding) (shows : Showing) (new : D) (most : State)
+    (disk : D) (s : State) (e : Exchange) (passed : D) : Type 0 where
+  -- what a crash leaves up to it shows the commits before the line, or those after it;
+  pub before : CrashesShow g shows disk passed s.history e.after.history
+  -- it held the commits up to the line and nothing else, after just the changing calls of these lines;
+  pub held : HoldsCommits g holds e.after passed
+  -- and what a crash leaves from it on, until the run's end, shows at least the latter
+  pub behind : CrashesShow g shows passed new e.after.history most.history
+
+-- The disk went, from one that held the commits of a state, through one for each of these lines, in order.
 abbrev pub GoesAlong : {D : Type 0} → Ghosts D → Holding → Showing → (new : D) (most : State) → D
     → State → List Exchange → Type 0
 GoesAlong g holds shows new most disk s [] = Unit {0}
 GoesAlong {D} g holds shows new most disk s (e ∷ later) =
-    (passed : D) × GoesFrom g shows disk passed s.history e.after.history
-    × HoldsCommits g holds e.after passed
-    × GoesFrom g shows passed new e.after.history most.history
+    (passed : D) × PassesLine g holds shows new most disk s e passed
     × GoesAlong g holds shows new most passed e.after later
 
 -- What a run that came so far did to its disk. The commits of the answered lines are the acknowledged ones. `unopened` says
@@ -105,7 +115,7 @@ GoesAlong {D} g holds shows new most disk s (e ∷ later) =
 pub record DiskEnds {D : Type 0} (g : Ghosts D) (holds : Holding) (shows : Showing)
     (unopened : Type 0) (old new : D) (run : Course) : Type 0 where
   -- what a crash at any moment since the begin leaves shows a first part of the commits
-  pub crash_during : GoesFrom g shows old new run.first.history run.most.history
+  pub crash_during : CrashesShow g shows old new run.first.history run.most.history
   -- and the disk went through one for each answered line, from which on a crash leaves its commit too
   pub line_by_line : GoesAlong g holds shows new run.most old run.first run.answered
   -- what a crash leaves after the run's end shows each acknowledged one; so it is over a disk of which each call from some

@@ -138,14 +138,17 @@ pub record CountsFaultsOf (who : Culprit) (ended : Option Ending) (before now : 
   -- and else none, unless its last line failed, which may have been about such a fault
   pub steady : (EndedBy who ended → ⊥) → (LastLineFailed ended → ⊥) → now ≡ before
 
--- what shows that a culprit ended a run, where that is asked for: of the source and the disk that a fault was counted, and
--- of the files what stands there
-abbrev pub Evidence : (by_source by_disk by_files : Type 0) → Culprit → Type 0
-Evidence by_source by_disk by_files NoOne = ⊥
-Evidence by_source by_disk by_files TheLine = ⊥
-Evidence by_source by_disk by_files TheWords = ⊥
-Evidence by_source by_disk by_files TheDisk = by_disk
-Evidence by_source by_disk by_files TheFiles = by_files
-Evidence by_source by_disk by_files Memory = ⊥
-Evidence by_source by_disk by_files TheSource = by_source
-Evidence by_source by_disk by_files TheSink = ⊥
+-- what shows that a culprit ended a run, where that is asked for: of the source and the disk that a fault was counted
+abbrev pub Evidence : (by_source by_disk : Type 0) → Culprit → Type 0
+Evidence by_source by_disk NoOne = ⊥
+Evidence by_source by_disk TheLine = ⊥
+Evidence by_source by_disk TheWords = ⊥
+Evidence by_source by_disk TheDisk = by_disk
+Evidence by_source by_disk TheFiles = ⊥
+Evidence by_source by_disk Memory = ⊥
+Evidence by_source by_disk TheSource = by_source
+Evidence by_source by_disk TheSink = ⊥
+
+-- so it is where only the disk is asked: `failed` says that it did
+abbrev pub OnlyByDisk : (failed : Type 0) → Culprit → Type 0
+OnlyByDisk failed = Evidence ⊥ failed

@@ -44,9 +44,9 @@ IsRefused read refusal = AnswersBy read (came_by (why_refused refusal))
 
 -- an opening answers so by what reads give: a store that is there, with a number left for each file that is made, is
 -- opened; a refusal has its cause; want of memory and faults may come instead
-abbrev pub OpensBy : Image → Option Why → Type 0
-OpensBy read None = (found : Finds read) × (used_up found ≡ None)
-OpensBy read (Some reason) = AnswersBy read (came_by reason)
+abbrev pub AnswersOpening : Image → Option Why → Type 0
+AnswersOpening read None = (found : Finds read) × (used_up found ≡ None)
+AnswersOpening read (Some reason) = AnswersBy read (came_by reason)
 
 -- the disk failed
 abbrev pub IsFault : Option Why → Type 0

@@ -71,8 +71,8 @@ HasOpen r name writes =
     (number : ℕ) × (r.in_use ≡ Some (record { name = name; handle = Transaction number writes }))
 
 -- a transaction is open that has written something, and there is a number for its commit
-abbrev pub CanCommit : Store → Type 0
-CanCommit r =
+abbrev pub HasWritesToCommit : Store → Type 0
+HasWritesToCommit r =
     (name : List ℕ) × (writes : Writes) × HasOpen r name writes × ((len writes == 0) ≡ false)
     × (r.last < max_commit_number)
 

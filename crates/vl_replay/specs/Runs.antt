@@ -50,8 +50,8 @@ Stops evidence script left m TheLine =
 -- the words were plain
 Stops evidence script left m TheWords = ⊥
 Stops evidence script left m TheDisk = evidence TheDisk
--- nothing was read
-Stops evidence script left m TheFiles = evidence TheFiles × (m ≡ 0) × (left ≡ Some script.bytes)
+-- the store was opened
+Stops evidence script left m TheFiles = ⊥
 Stops evidence script left m Memory = Unit {0}
 -- each line that had ended in the bytes that the source gave was answered
 Stops evidence script left m TheSource = evidence TheSource × GaveLines script.bytes left m
@@ -114,20 +114,19 @@ course script m ending = record {
   most = last_state script.start (take (suc m) (exchanges script));
 }
 
--- What shows which of them ended a run: a fault of the source or of the disk was counted, or this is so of the files.
-abbrev pub EvidenceOf : {D : Type 0} → Ghosts D → (old new : Outside D) → (by_files : Type 0)
-    → Culprit → Type 0
-EvidenceOf g old new by_files =
-    Evidence (Rose old.source_faults new.source_faults) (Rose (g.faults old.disk) (g.faults new.disk)) by_files
+-- What shows which of them ended a run: a fault of the source or of the disk was counted.
+abbrev pub EvidenceOf : {D : Type 0} → Ghosts D → (old new : Outside D) → Culprit → Type 0
+EvidenceOf g old new =
+    Evidence (Rose old.source_faults new.source_faults) (Rose (g.faults old.disk) (g.faults new.disk))
 
 -- A run ended so. `disk_ends` says what it did to its disk, by how far it came.
-pub record EndsRun {D : Type 0} (g : Ghosts D) (by_files : Type 0) (disk_ends : Course → Type 0)
+pub record EndsRun {D : Type 0} (g : Ghosts D) (disk_ends : Course → Type 0)
     (script : Script) (old new : Outside D) (ending : Ending) : Type 0 where
   -- how many lines were answered, and what was printed
   pub answered : ℕ
   pub printed : List ℕ
   pub taken : Takes old.held new.held printed
-  pub ends : EndsSo (EvidenceOf g old new by_files) script new.left answered ending printed
+  pub ends : EndsSo (EvidenceOf g old new) script new.left answered ending printed
   -- each answer was put whole before the next line was read
   pub kept_up : KeepsUp script.bytes new.asked answered
   pub disk : disk_ends (course script answered ending)

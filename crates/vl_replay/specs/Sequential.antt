@@ -1,5 +1,5 @@
 -- The store as one thread of script lines sees it: what each line is answered, and what it leaves.
--- Nothing here knows of memtables, logs or tables.
+-- Nothing here knows of memtables or tables. Of the log and the disk it counts only bytes and changing calls.
 use Rattle.std.specs.Prelude.{◌+◌, ℕ, Bool, not, ◌&&◌, ◌==◌, nat_le, if◌then◌else◌, List, [], ◌∷◌, ◌++◌, length, Option, Some, None}
 use Rattle.std.specs.FinMap.{FinMap, get, insert, remove, contains_key, len, empty}
 use Rattle.vl_model.specs.Keys.{Stored, Writes, key_cmp, value_bytes, is_key_length, is_value_length}

@@ -16,9 +16,10 @@ use Rattle.vl_recover.specs.Starts.{MayOpen}
 use Rattle.vl_replay.specs.Durable.{DiskEnds, IsAsBefore, Tells}
 use Rattle.vl_replay.specs.Exchanges.{AreExplained, exchanges_from}
 use Rattle.vl_replay.specs.Laws.{IsSound, exchanges_from-explained, none_in_empty, nothing_there}
-use Rattle.vl_replay.specs.Runs.{Course}
+use Rattle.vl_replay.specs.Runs.{Course, EndsRun, Outside, script_of}
 use Rattle.vl_replay.specs.Sequential.{Handle, State}
 use Rattle.vl_replay.specs.Stored.{IsStored, LogsShow, Shown}
+use Rattle.vl_replay.specs.declared.ending.Ending.{Ending}
 
 -- A run over this disk begins in this state: the disk opens as a store, whose logs show the state's history, which has
 -- no commits yet but those of the logs.
@@ -29,7 +30,7 @@ pub record StartsIn {D : Type 0} (g : Ghosts D) (disk : D) (s : State) : Type 0 
   pub read : Image
   pub is_read : IsRead read state
   pub found : Finds read
-  pub left : used_up found ≡ None
+  pub unused : used_up found ≡ None
   -- the history is the opened one
   pub first : s.history.first ≡ found.opening.number
   pub commits : s.history.commits ≡ []
@@ -56,6 +57,13 @@ StaysOpenable g old new = Tells g old MayOpen → Tells g new MayOpen
 abbrev pub DiskEndsFromStart : {D : Type 0} → Ghosts D → (old new : D) → Course → Type 0
 DiskEndsFromStart g old new run =
     Tells g old IsDurable → DiskEnds g IsStored Shown (IsAsBefore g old new) old new run
+
+-- A run answered the lines of the input that its source had left, as the sequential store does from the state in which a run
+-- over its disk begins, and ended so.
+abbrev pub AnswersInput : {D : Type 0} → Ghosts D → (old new : Outside D) → Ending → Type 0
+AnswersInput g old new ending = (start : State) (input : List ℕ)
+    → StartsIn g old.disk start → old.left ≡ Some input
+    → EndsRun g (DiskEndsFromStart g old.disk new.disk) (script_of start 0 input) old new ending
 
 -- ---- what is read in such a run is explained
 

@@ -119,7 +119,7 @@ starts_empty g disk state told bare = record {
   read = empty;
   is_read = record { each = λ name. nothing name ∙ sym (ap (option_map (λ (file : File). file.bytes)) (bare name)) };
   found = finds_nothing;
-  left = refl;
+  unused = refl;
   first = refl;
   commits = refl;
   shows = shows_nothing;
@@ -176,7 +176,7 @@ starts_shown g disk state read found strays h m told is_read left are_strays sho
       read = read;
       is_read = is_read;
       found = found;
-      left = left;
+      unused = left;
       first = number;
       commits = refl;
       shows = subst (λ (n : ℕ). LogsShow found.opening.logs (gone_on_from h m) n) number

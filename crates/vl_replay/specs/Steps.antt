@@ -12,13 +12,13 @@ use Rattle.vl_replay.specs.Between.{Showing}
 use Rattle.vl_replay.specs.Sequential.{State}
 use Rattle.vl_replay.specs.Input.{HasNoLineEnd}
 use Rattle.vl_replay.specs.Exchanges.{Exchange, exchange_at, KeepsUp}
-use Rattle.vl_replay.specs.Endings.{Culprit, Evidence, last_line, line_number}
+use Rattle.vl_replay.specs.Endings.{Culprit, Evidence, OnlyByDisk, last_line, line_number}
 use Rattle.vl_replay.specs.Opening.{IsRefused, ending_unopened, why_refused}
 use Rattle.vl_recover.specs.declared.fails.Why.{Why}
 use Rattle.vl_recover.specs.declared.fails.Why.TheVariants as why
 use Rattle.vl_replay.specs.Runs.{Script, script_of, IsFront, EndsSo, Outside, EndsRun}
 use Rattle.vl_replay.specs.Represents.{Represents}
-use Rattle.vl_replay.specs.Durable.{Holding, HoldsState, GoesFrom, DiskEnds, DiskEndsFrom, IsAsBefore}
+use Rattle.vl_replay.specs.Durable.{Holding, HoldsState, CrashesShow, DiskEnds, DiskEndsFrom, IsAsBefore}
 use Rattle.vl_replay.specs.declared.replayer.store.Store.{Store}
 use Rattle.vl_replay.specs.declared.ending.Ending.{Ending}
 use Rattle.vl_replay.specs.declared.ending.Ending.TheVariants.{Refused, WriteFault}
@@ -61,7 +61,7 @@ EndsUnopened g old new reason result =
     (how : Why) × EndsFor reason how × FinishesBy g old new (ending_unopened how) result
 
 -- A run ended by this refusal.
-pub record IsRefusedRun {D K : Type 0} (g : Ghosts D) (k : sink.Ghosts K) (disk disk' : D) (old new : K)
+pub record IsRefusedRun {D K : Type 0} (g : Ghosts D) (k : sink.Ghosts K) (disk disk' : D) (sink sink' : K)
     (refusal : Refusal) : Type 0 where
   -- reads of its disk give the refusal;
   pub given : (state : DiskState) (read : Image) → g.told disk ≡ Some state → IsRead read state
@@ -69,16 +69,16 @@ pub record IsRefusedRun {D K : Type 0} (g : Ghosts D) (k : sink.Ghosts K) (disk 
   -- the disk was left as it was;
   pub unchanged : IsAsBefore g disk disk'
   -- and the refusal's line was put, and nothing else
-  pub printed : FinishesBy k old new (Refused refusal) (Refused refusal)
+  pub printed : FinishesBy k sink sink' (Refused refusal) (Refused refusal)
 
 -- A run ended over a disk of which reads give this refusal.
-pub record StaysRefused {D K : Type 0} (g : Ghosts D) (k : sink.Ghosts K) (disk disk' : D) (old new : K)
+pub record EndsWithoutOpening {D K : Type 0} (g : Ghosts D) (k : sink.Ghosts K) (disk disk' : D) (sink sink' : K)
     (refusal : Refusal) (ending : Ending) : Type 0 where
   -- it ended by the refusal, unless memory ran out or the disk failed before;
   pub how : Why
   pub how_is : (how ≡ why_refused refusal) ⊎ CameFirst how
   -- the line of that was put, or the sink failed there;
-  pub printed : FinishesBy k old new (ending_unopened how) ending
+  pub printed : FinishesBy k sink sink' (ending_unopened how) ending
   -- and the disk was left as it was
   pub unchanged : IsAsBefore g disk disk'
 
@@ -106,22 +106,23 @@ EndsAtBadLine answered ending held held' =
     (script : Script) (text : List ℕ) (left : Option (List ℕ))
     → answered ≡ line_number script.before
     → IsNext script text → exchange_at script.start text ≡ None
-    → EndsBefore (Evidence ⊥ ⊥ ⊥) script left ending held held'
+    → EndsBefore (Evidence ⊥ ⊥) script left ending held held'
 
--- the next line was answered and printed, and the run goes on; or it ended there. `failed` says that the disk failed.
-abbrev pub StepsOn : (failed : Type 0) → Script → List ℕ → Store → Option Ending
+-- the next line was answered and printed, and the run goes on; or it ended there, whatever the source has left. `failed` says
+-- that the disk failed.
+abbrev pub PrintsStep : (failed : Type 0) → Script → List ℕ → Store → Option Ending
     → (held held' : Option (List ℕ)) → Type 0
-StepsOn failed script text after None held held' =
+PrintsStep failed script text after None held held' =
     (e : Exchange) × (exchange_at script.start text ≡ Some e) × Represents after e.after
     × Takes held held' (text_of e.answer)
-StepsOn failed script text after (Some ending) held held' =
-    (left : Option (List ℕ)) → EndsBefore (Evidence ⊥ failed ⊥) script left ending held held'
+PrintsStep failed script text after (Some ending) held held' =
+    (left : Option (List ℕ)) → EndsBefore (OnlyByDisk failed) script left ending held held'
 
 -- the disk holds the state after a line, and a crash meanwhile left what was before it or after it
 pub record MovesOn {D : Type 0} (g : Ghosts D) (holds : Holding) (shows : Showing)
     (old new : D) (before after : State) : Type 0 where
   pub held : HoldsState g holds after new
-  pub through : GoesFrom g shows old new before.history after.history
+  pub through : CrashesShow g shows old new before.history after.history
 
 -- what a step did to a disk that held the state before it
 abbrev pub DiskSteps : {D : Type 0} → Ghosts D → Holding → Showing → (old new : D)
@@ -174,4 +175,4 @@ abbrev pub Steps : {D : Type 0} → Ghosts D → Holding → Showing → Script 
     → Kept → Option Ending → Type 0
 Steps g holds shows script old new kept None = GoesOn g holds shows script old new kept
 Steps g holds shows script old new kept (Some ending) =
-    EndsRun g ⊥ (DiskEndsFrom g holds shows old.disk new.disk script.start) script old new ending
+    EndsRun g (DiskEndsFrom g holds shows old.disk new.disk script.start) script old new ending

@@ -9,7 +9,7 @@ ghost use Rattle.vl_replay.specs.Endings.{TheDisk, TheSink, TheSource, CountsFau
 ghost use Rattle.vl_replay.specs.Runs.{Script};
 ghost use Rattle.vl_replay.specs.Durable.{HoldsState, CarriesOut};
 ghost use Rattle.vl_replay.specs.Stored.{IsStored, Shown};
-ghost use Rattle.vl_replay.specs.Steps.{IsAnswered, IsNext, EndsAtBadLine, StepsOn, DiskSteps};
+ghost use Rattle.vl_replay.specs.Steps.{IsAnswered, IsNext, EndsAtBadLine, PrintsStep, DiskSteps};
 ghost use Rattle.vl_replay.specs.Halts.{HaltsByDisk};
 ghost use Rattle.vl_replay.specs.declared.fails.Refusal.{Refusal};
 
@@ -71,7 +71,7 @@ pub fn answer<K: Sink, D: Disk>(
     ensures printed { (script : Script) → Represents replayer.old.store script.start
         → answered ≡ line_number script.before
         → IsNext script text.now
-        → StepsOn (Rose (D.faults replayer.old.disk) (D.faults replayer.new.disk)) script text.now replayer.new.store
+        → PrintsStep (Rose (D.faults replayer.old.disk) (D.faults replayer.new.disk)) script text.now replayer.new.store
         result (K.held sink.old) (K.held sink.new) }
     ensures moves { (s : State) → Represents replayer.old.store s
         → HoldsState D.Watched IsStored s replayer.old.disk

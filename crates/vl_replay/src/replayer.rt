@@ -5,12 +5,12 @@ ghost use Rattle.vl_disk.specs.declared.name.Name.TheVariants as names;
 ghost use Rattle.vl_disk.specs.DiskState.{DiskState};
 ghost use Rattle.vl_disk.specs.Disk.{Stands};
 ghost use Rattle.vl_disk.specs.Faults.{HasCause};
-ghost use Rattle.vl_replay.specs.Durable.{CarriesOut, GoesFrom, HoldsState, IsAsBefore, Tells};
+ghost use Rattle.vl_replay.specs.Durable.{CarriesOut, CrashesShow, HoldsState, IsAsBefore, StillTells, Tells};
 ghost use Rattle.vl_replay.specs.Stored.{IsStored, Shown};
 ghost use Rattle.vl_replay.specs.Start.{IsDurable, StartsIn};
 ghost use Rattle.vl_replay.specs.Sequential.{State, answer_to, state_after};
 ghost use Rattle.vl_replay.specs.Represents.{Represents};
-ghost use Rattle.vl_replay.specs.Opening.{IsFault, IsRefused, OpensBy, disk_of, why_of};
+ghost use Rattle.vl_replay.specs.Opening.{IsFault, IsRefused, AnswersOpening, disk_of, why_of};
 ghost use Rattle.vl_replay.specs.Halts.{HaltsByDisk};
 ghost use Rattle.vl_replay.specs.declared.fails.Refusal.{Refusal};
 ghost use Rattle.vl_recover.specs.Meanwhile.{FaultsAt};
@@ -49,7 +49,7 @@ use vl_script::{Answer, Line};
 pub struct Replayer<D: Disk> {
     store: Store,
     disk: D,
-    ghost ready: { ForSome (D.told disk) (Stands (names.Log store.log.number)) },
+    ghost stands: { ForSome (D.told disk) (Stands (names.Log store.log.number)) },
 }
 
 impl<D: Disk> Replayer<D> {
@@ -63,14 +63,14 @@ impl<D: Disk> Replayer<D> {
 
         // What a crash leaves meanwhile shows what was opened.
         ensures through { (s : State) → StartsIn D.Watched disk s → Tells D.Watched disk IsDurable
-            → GoesFrom D.Watched Shown disk (disk_of (λ replayer. replayer.disk) result) s.history s.history }
+            → CrashesShow D.Watched Shown disk (disk_of (λ replayer. replayer.disk) result) s.history s.history }
         ensures tells { (state : DiskState) → D.told disk ≡ Some state
-            → Tells D.Watched (disk_of (λ replayer. replayer.disk) result) (λ _. Unit {0}) }
+            → StillTells D.Watched (disk_of (λ replayer. replayer.disk) result) }
 
         // It answers what reads give, unless memory runs out or the disk fails. Where that is a refusal nothing is changed,
         // whatever is answered; and nothing where memory ran out.
         ensures answer { (state : DiskState) (read : Image) → D.told disk ≡ Some state → IsRead read state
-            → OpensBy read (why_of result) }
+            → AnswersOpening read (why_of result) }
         ensures refused { (state : DiskState) (read : Image) (refusal : Refusal) → D.told disk ≡ Some state
             → IsRead read state → IsRefused read refusal
             → IsErr result × IsAsBefore D.Watched disk (disk_of (λ replayer. replayer.disk) result) }

@@ -12,10 +12,10 @@ ghost use Rattle.vl_disk.specs.Faults.{Rose};
 ghost use Rattle.vl_replay.specs.Runs.{Script, script_of, outside, EndsRun};
 ghost use Rattle.vl_replay.specs.Durable.{HoldsState, DiskEndsFrom};
 ghost use Rattle.vl_replay.specs.Stored.{IsStored, Shown};
-ghost use Rattle.vl_replay.specs.Start.{StartsIn, StaysOpenable, DiskEndsFromStart};
+ghost use Rattle.vl_replay.specs.Start.{AnswersInput, StartsIn, StaysOpenable};
 ghost use Rattle.vl_replay.specs.Opening.{IsRefused};
 ghost use Rattle.vl_replay.specs.declared.fails.Refusal.{Refusal};
-ghost use Rattle.vl_replay.specs.Steps.{IsNext, StepsOn, DiskSteps, kept, HasToDo, Steps, IsRefusedRun, StaysRefused};
+ghost use Rattle.vl_replay.specs.Steps.{IsNext, PrintsStep, DiskSteps, kept, HasToDo, Steps, IsRefusedRun, EndsWithoutOpening};
 
 use crate::answering::{answer, end_at_bad_line};
 use crate::ending::{Ended, Ending, NO_MEMORY, READ_FAULT, finish};
@@ -70,7 +70,7 @@ impl<D: Disk> Progress<D> {
     fn answer<K: Sink>(&mut self, sink: &mut K) -> Option<Ending>
         ensures printed { (script : Script) → Represents self.old.replayer.store script.start
             → self.old.answered ≡ line_number script.before → IsNext script self.old.line.items
-            → StepsOn (Rose (D.faults self.old.replayer.disk) (D.faults self.new.replayer.disk)) script self.old.line.items
+            → PrintsStep (Rose (D.faults self.old.replayer.disk) (D.faults self.new.replayer.disk)) script self.old.line.items
             self.new.replayer.store result (K.held sink.old) (K.held sink.new) }
         ensures moves { (s : State) → Represents self.old.replayer.store s
             → HoldsState D.Watched IsStored s self.old.replayer.disk
@@ -104,10 +104,9 @@ pub fn replay<S: Source, K: Sink, D: Disk>(
     sink: &mut K,
     disk: D,
 ) -> Ended<D>
-    ensures runs { (s : State) (input : List ℕ) → StartsIn D.Watched disk s
-        → S.left source.old ≡ Some input
-        → EndsRun D.Watched ⊥ (DiskEndsFromStart D.Watched disk result.disk)
-        (script_of s 0 input) (outside S.Source K.Sink source.old sink.old disk)
+    // Where the disk opens as a store, the lines of the input are answered as the sequential store does: so it is of what is
+    // printed, of how the run ends, and of what the disk holds in the end.
+    ensures runs { AnswersInput D.Watched (outside S.Source K.Sink source.old sink.old disk)
         (outside S.Source K.Sink source.new sink.new result.disk) result.ending }
     ensures source_faults { CountsFaultsOf TheSource (Some result.ending) (S.faults source.old) (S.faults source.new) }
     ensures sink_faults { CountsFaultsOf TheSink (Some result.ending) (K.faults sink.old) (K.faults sink.new) }
@@ -115,12 +114,12 @@ pub fn replay<S: Source, K: Sink, D: Disk>(
     ensures not_the_words { result.ending ≢ Ending.BadWords }
 
     // The run ends by a refusal only where reads of the disk give it, and there always, unless a fault or want of memory
-    // comes first. Then nothing was changed or read, and the last line is all that is printed.
+    // comes first. Then no line was read, and the disk wasn't changed. The last line is all that is printed.
     ensures refused { (refusal : Refusal) → result.ending ≡ Ending.Refused refusal
         → IsRefusedRun D.Watched K.Sink disk result.disk sink.old sink.new refusal × (source.new ≡ source.old) }
     ensures refuses { (state : DiskState) (read : Image) (refusal : Refusal) → D.told disk ≡ Some state
         → IsRead read state → IsRefused read refusal
-        → StaysRefused D.Watched K.Sink disk result.disk sink.old sink.new refusal result.ending
+        → EndsWithoutOpening D.Watched K.Sink disk result.disk sink.old sink.new refusal result.ending
         × (source.new ≡ source.old) }
 
     // However the run ends, and whatever failed, a store may be opened on the disk again where one might before.
@@ -145,7 +144,7 @@ fn answer_lines<S: Source, K: Sink, D: Disk>(
 ) -> Ended<D>
     ensures runs { (s : State) (input : List ℕ) → Represents replayer.store s
         → S.left source.old ≡ Some input
-        → EndsRun D.Watched ⊥ (DiskEndsFrom D.Watched IsStored Shown replayer.disk result.disk s)
+        → EndsRun D.Watched (DiskEndsFrom D.Watched IsStored Shown replayer.disk result.disk s)
         (script_of s 0 input) (outside S.Source K.Sink source.old sink.old replayer.disk)
         (outside S.Source K.Sink source.new sink.new result.disk) result.ending }
     ensures source_faults { CountsFaultsOf TheSource (Some result.ending) (S.faults source.old) (S.faults source.new) }

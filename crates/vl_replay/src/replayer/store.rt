@@ -10,7 +10,7 @@ ghost use Rattle.vl_model.specs.History.{last_number, value_left};
 ghost use Rattle.vl_model.specs.Keys.{Writes};
 ghost use Rattle.vl_replay.specs.Sequential.{State, answer_to, state_after, opened, read, written, committed, bytes_in_log, after_commit, dropped, found};
 ghost use Rattle.vl_replay.specs.Sequential as sequential;
-ghost use Rattle.vl_replay.specs.Represents.{Represents, IsOutcome, StandsFor, HasOpen, CanCommit, Decides, handle_named, write_answer, writes_after, answer_of};
+ghost use Rattle.vl_replay.specs.Represents.{Represents, IsOutcome, StandsFor, HasOpen, HasWritesToCommit, Decides, handle_named, write_answer, writes_after, answer_of};
 ghost use Rattle.vl_replay.specs.Durable.{CarriesOut};
 ghost use Rattle.vl_replay.specs.Stored.{IsStored, Shown};
 ghost use Rattle.vl_replay.specs.Halts.{HaltsByDisk};
@@ -179,7 +179,7 @@ impl Store {
         ensures kept { (s : State) → Represents self.old s
             → OnErr result (Represents self.new s) }
         ensures carries { (s : State) → Represents self.old s
-            → CarriesOut D.Watched IsStored Shown disk.old disk.new s (committed s name (get s.handles name)).1 result }
+            → CarriesOut D.Watched IsStored Shown disk.old disk.new s (state_after s (Line.Commit name)) result }
         ensures stands { ForSome (D.told disk.new) (Stands (names.Log self.new.log.number)) }
         ensures no_memory { result ≡ Err Halt.NoMemory → D.told disk.new ≡ D.told disk.old }
         ensures cause { HasCause (D.faults disk.old) (D.faults disk.new) (HaltsByDisk result) }
@@ -198,7 +198,7 @@ impl Store {
     // What becomes of a commit.
     fn decide(&self, name: Ident) -> Decision
         ensures decides { (s : State) → Represents self.now s → Decides self.now s name result }
-        ensures can { result ≡ Decision.Write → CanCommit self.now }
+        ensures can { result ≡ Decision.Write → HasWritesToCommit self.now }
     {
         let Some(handle) = self.find(name.as_slice()) else {
             return Decision::Refuse(Answer::Unknown { name });
@@ -223,7 +223,7 @@ impl Store {
     // Writes the open transaction's commit. All memory is taken before the first call that changes the disk.
     fn log_commit<D: Disk>(&mut self, disk: &mut D) -> Result<Answer, Halt>
         requires stands { ForSome (D.told disk.old) (Stands (names.Log self.old.log.number)) }
-        requires can { CanCommit self.old }
+        requires can { HasWritesToCommit self.old }
         ensures answer { (s : State) (name : List ℕ) (writes : Writes) → Represents self.old s
             → HasOpen self.old name writes
             → IfOk result (λ answer. IsOutcome answer self.new (NumberAnswer (last_number s.history + 1), after_commit s name writes)) }

@@ -14,7 +14,7 @@ below n m less le e = omega arith
 -- ---- plain words
 
 pub returns-then-are_plain-clause-answers : goal.returns-then-are_plain-clause-answers
-returns-then-are_plain-clause-answers g c plain s input starts told = record { ending = c.replay-ending.result.ending; status_is = c.status-status.ensures; run = c.replay-ending.ensures.runs s input starts told }
+returns-then-are_plain-clause-answers g c plain = (c.replay-ending.result.ending, c.status-status.ensures, c.replay-ending.ensures.runs)
 
 pub returns-then-are_plain-clause-explained : goal.returns-then-are_plain-clause-explained
 returns-then-are_plain-clause-explained g c s input starts = all_explained g.D.Watched c.args.disk s (lines_of input) starts
@@ -67,7 +67,7 @@ returns-then-are_plain-clause-no_stream_fault g c less =
 -- ---- other words
 
 pub returns-clause-answers : goal.returns-clause-answers
-returns-clause-answers g c plain s input starts told = absurd (not_both (sym plain ∙ sym c.are_plain.ensures ∙ c.if-are_plain.false))
+returns-clause-answers g c plain = absurd (not_both (sym plain ∙ sym c.are_plain.ensures ∙ c.if-are_plain.false))
 
 pub returns-clause-explained : goal.returns-clause-explained
 returns-clause-explained g c s input starts = all_explained g.D.Watched c.args.disk s (lines_of input) starts

@@ -52,8 +52,8 @@ returns-in-Err-NoMemory-clause-tells g c state told =
     mended_tells g.D.Watched g.met.D.Disk.only_now _ _ c.in-Ok.ensures.no_change state told _ c.in-Ok.prepared c.mend.result c.mend.ensures
 
 -- the disk failed
-pub returns-clause-kept : goal.returns-clause-kept
-returns-clause-kept g c state read told is_read not =
+pub returns-clause-not_opened : goal.returns-clause-not_opened
+returns-clause-not_opened g c state read told is_read not =
     let is = c.in-Ok.ensures.answer state read told is_read in
     absurd (opened_not read is.finds is.unused not)
 
@@ -82,8 +82,8 @@ returns-in-Ok-mend-clause-answer g c state read told is_read =
     let is = c.in-Ok.ensures.answer state read told is_read in
     (is.finds, is.unused, c.opened.ensures.opened ∙ opened_same read c.in-Ok.prepared is)
 
-pub returns-in-Ok-mend-clause-kept : goal.returns-in-Ok-mend-clause-kept
-returns-in-Ok-mend-clause-kept g c state read told is_read not =
+pub returns-in-Ok-mend-clause-not_opened : goal.returns-in-Ok-mend-clause-not_opened
+returns-in-Ok-mend-clause-not_opened g c state read told is_read not =
     let is = c.in-Ok.ensures.answer state read told is_read in
     absurd (opened_not read is.finds is.unused not)
 

@@ -12,8 +12,8 @@ returns-in-Ok-clause-printed g c script text left count next bad =
     let line : c.deref.result.now ≡ bad_line (script.before + 0 + 1) =
     c.deref.ensures.value ∙ bad_line_text c.args.answered script.before c.saturating_add.result c.print_bad_line.new.text.items count c.saturating_add.ensures
     (c.in-Ok.ensures ∙ ap (λ (l : List ℕ). ((l ++ codes "bad line ") ++ decimal c.saturating_add.result) ++ (10 ∷ [])) c.new-line.ensures.items) in
-    finished g.K.Sink c.args.sink.now c.finish.new.sink (Evidence ⊥ ⊥ ⊥) script left BadLine c.finish.result (bad_line (script.before + 0 + 1)) refl
-    (bad_line_stops (Evidence ⊥ ⊥ ⊥) script text left next bad)
+    finished g.K.Sink c.args.sink.now c.finish.new.sink (Evidence ⊥ ⊥) script left BadLine c.finish.result (bad_line (script.before + 0 + 1)) refl
+    (bad_line_stops (Evidence ⊥ ⊥) script text left next bad)
     (subst (λ (l : List ℕ). Finishes g.K.Sink c.args.sink.now c.finish.new.sink l BadLine c.finish.result) line c.finish.ensures)
 
 pub returns-in-Ok-clause-sink_faults : goal.returns-in-Ok-clause-sink_faults
@@ -21,7 +21,7 @@ returns-in-Ok-clause-sink_faults g c = finish_counts g.K.Sink _ _ _ BadLine c.fi
 
 pub returns-clause-printed : goal.returns-clause-printed
 returns-clause-printed g c script text left count next bad =
-    finished g.K.Sink c.args.sink.now c.finish-in-Err.new.sink (Evidence ⊥ ⊥ ⊥) script left NoMemory c.finish-in-Err.result no_memory_line refl tt c.finish-in-Err.ensures
+    finished g.K.Sink c.args.sink.now c.finish-in-Err.new.sink (Evidence ⊥ ⊥) script left NoMemory c.finish-in-Err.result no_memory_line refl tt c.finish-in-Err.ensures
 
 pub returns-clause-sink_faults : goal.returns-clause-sink_faults
 returns-clause-sink_faults g c = finish_counts g.K.Sink _ _ _ NoMemory c.finish-in-Err.result (λ e. cc) c.finish-in-Err.ensures

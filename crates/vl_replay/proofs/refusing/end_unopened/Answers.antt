@@ -1,6 +1,5 @@
 use Rattle.std.proofs.Common.{inl, refl, sym}
 use Rattle.vl_replay.specs.Endings.{disk_fault_line}
-use Rattle.vl_replay.specs.declared.ending.Ending.TheVariants.{DiskFault}
 use Rattle.vl_recover.specs.declared.fails.Why.TheVariants.{Disk}
 use Rattle.vl_replay.proofs.refusing.end_unopened.Goals as goal
 

@@ -17,7 +17,7 @@ returns-in_default-clause-runs g c s input stands told =
     step_apart g.D.Watched (record { only_now = g.met.D.Disk.only_now; counts_now = g.met.D.Disk.counts_now }) IsStored Shown shown_stays stored_exactly script
     (outside g.S.Source g.K.Sink c.args.source.now c.args.sink.now c.args.replayer.disk) (outside g.S.Source g.K.Sink c.args.source.now c.finish.new.sink c.close.result)
     ⊥ (λ never. absurd never) c.finish.result (no_cut g.K.Sink _ _ _ NoMemory c.finish.result (λ e. cc) c.finish.ensures) c.close.ensures
-    (finished g.K.Sink c.args.sink.now c.finish.new.sink (Evidence ⊥ ⊥ ⊥) script (g.S.Source.left c.args.source.now) NoMemory c.finish.result no_memory_line refl tt c.finish.ensures)
+    (finished g.K.Sink c.args.sink.now c.finish.new.sink (Evidence ⊥ ⊥) script (g.S.Source.left c.args.source.now) NoMemory c.finish.result no_memory_line refl tt c.finish.ensures)
     (keeps_up_at_first input (g.S.Source.asked c.args.source.now) (g.met.S.Source.since_asked c.args.source.now input told))
 
 pub lines-init : goal.lines-init

@@ -18,7 +18,7 @@ use Rattle.vl_replay.proofs.running.replay.Goals as goal
 pub returns-in-Ok-clause-runs : goal.returns-in-Ok-clause-runs
 returns-in-Ok-clause-runs g c s input starts told =
     ends_opened g.D.Watched (record { only_now = g.met.D.Disk.only_now; counts_now = g.met.D.Disk.counts_now }) IsStored Shown shown_stays stored_exactly
-    (Tells g.D.Watched c.args.disk IsDurable) ⊥ (script_of s 0 input)
+    (Tells g.D.Watched c.args.disk IsDurable) (script_of s 0 input)
     (outside g.S.Source g.K.Sink c.args.source.now c.args.sink.now c.args.disk) (outside g.S.Source g.K.Sink c.answer_lines.new.source c.answer_lines.new.sink c.answer_lines.result.disk)
     (outside g.S.Source g.K.Sink c.args.source.now c.args.sink.now c.in-Ok.replayer.disk) c.answer_lines.result.ending refl refl c.in-Ok.ensures.cause.later
     (λ durable. c.in-Ok.ensures.holds s starts (durable.0, durable.1, durable.2.may_open)) (c.in-Ok.ensures.through s starts) (c.answer_lines.ensures.runs s input (c.in-Ok.ensures.store s starts) told)
@@ -40,13 +40,13 @@ returns-in-Err-clause-runs g c s input starts told =
     let script = script_of s 0 input in
     let by_disk = Rose (g.D.Watched.faults c.args.disk) (g.D.Watched.faults c.in-Err.field-0.disk) in
     ends_refused g.D.Watched (record { only_now = g.met.D.Disk.only_now; counts_now = g.met.D.Disk.counts_now }) IsStored Shown shown_stays stored_exactly
-    (Tells g.D.Watched c.args.disk IsDurable) ⊥ script
+    (Tells g.D.Watched c.args.disk IsDurable) script
     (outside g.S.Source g.K.Sink c.args.source.now c.args.sink.now c.args.disk) (outside g.S.Source g.K.Sink c.args.source.now ended.new.sink c.in-Err.field-0.disk)
     ended.result (refused_nothing g.K.Sink c.args.sink.now ended.new.sink how ended.result ended.ensures.2)
-    (refused g.K.Sink c.args.sink.now ended.new.sink (Rose (g.S.Source.faults c.args.source.now) (g.S.Source.faults c.args.source.now)) by_disk ⊥ script (g.S.Source.left c.args.source.now) how ended.result
-    (λ refusal is. opened_not_refused starts.read starts.found starts.left refusal
+    (refused g.K.Sink c.args.sink.now ended.new.sink (Rose (g.S.Source.faults c.args.source.now) (g.S.Source.faults c.args.source.now)) by_disk script (g.S.Source.left c.args.source.now) how ended.result
+    (λ refusal is. opened_not_refused starts.read starts.found starts.unused refusal
     (subst (λ (w : Why). AnswersBy starts.read (came_by w)) (refused_for reason how refusal ended.ensures.1 is) (c.in-Err.ensures.answer starts.state starts.read starts.told starts.is_read)))
-    (λ fault. c.in-Err.ensures.cause.rose (fault_for reason how ended.ensures.1 fault)) told ended.ensures.2)
+    (λ fault. c.in-Err.ensures.cause.rose (fault_for reason how ended.ensures.1 fault)) ended.ensures.2)
     (keeps_up_at_first input (g.S.Source.asked c.args.source.now) (g.met.S.Source.since_asked c.args.source.now input told))
     (c.in-Err.ensures.through s starts) (λ p. let told = c.in-Err.ensures.tells p.0 p.1 in (told.0, told.1, c.in-Err.ensures.again p.0 told.0 p.1 p.2.may_open told.1))
     (λ sound. c.in-Err.ensures.left_alone (λ fault. sound (c.in-Err.ensures.cause.rose fault)) refl)

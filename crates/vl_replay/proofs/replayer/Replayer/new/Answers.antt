@@ -14,7 +14,7 @@ returns-in-Err-clause-tells g c state is = let told = c.in-Err.ensures.tells sta
 
 pub returns-in-Err-clause-refused : goal.returns-in-Err-clause-refused
 returns-in-Err-clause-refused g c state read refusal is is_read refused =
-    (refl, c.in-Err.ensures.kept state read is is_read (refused_not read refusal refused))
+    (refl, c.in-Err.ensures.not_opened state read is is_read (refused_not read refusal refused))
 
 pub returns-in-Ok-clause-store : goal.returns-in-Ok-clause-store
 returns-in-Ok-clause-store g c s starts =

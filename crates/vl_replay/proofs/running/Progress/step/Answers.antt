@@ -50,7 +50,7 @@ returns-in-Err-NoMemory-clause-runs g c script to_do =
     step_apart g.D.Watched (record { only_now = g.met.D.Disk.only_now; counts_now = g.met.D.Disk.counts_now }) IsStored Shown shown_stays stored_exactly script
     (outside g.S.Source g.K.Sink c.args.source.now c.args.sink.now c.args.self.now.replayer.disk) (outside g.S.Source g.K.Sink c.read_line.new.source c.finish.new.sink c.args.self.now.replayer.disk)
     ⊥ (λ never. absurd never) c.finish.result (no_cut g.K.Sink _ _ _ NoMemory c.finish.result (λ e. cc) c.finish.ensures) refl
-    (finished g.K.Sink c.args.sink.now c.finish.new.sink (Evidence ⊥ ⊥ ⊥) script (g.S.Source.left c.read_line.new.source) NoMemory c.finish.result no_memory_line refl tt c.finish.ensures)
+    (finished g.K.Sink c.args.sink.now c.finish.new.sink (Evidence ⊥ ⊥) script (g.S.Source.left c.read_line.new.source) NoMemory c.finish.result no_memory_line refl tt c.finish.ensures)
     (still_keeps_up script.bytes (c.args.self.now.buffer ++ to_do.rest) (g.S.Source.asked c.args.source.now) (g.S.Source.asked c.read_line.new.source) to_do.bytes_are (c.read_line.ensures.keeps_up to_do.rest to_do.left_is) to_do.kept_up)
 
 pub returns-in-Err-NoMemory-clause-sink_faults : goal.returns-in-Err-NoMemory-clause-sink_faults
@@ -65,7 +65,7 @@ returns-in-Err-Fault-clause-runs g c script to_do =
     step_apart g.D.Watched (record { only_now = g.met.D.Disk.only_now; counts_now = g.met.D.Disk.counts_now }) IsStored Shown shown_stays stored_exactly script
     (outside g.S.Source g.K.Sink c.args.source.now c.args.sink.now c.args.self.now.replayer.disk) (outside g.S.Source g.K.Sink c.read_line.new.source ended.new.sink c.args.self.now.replayer.disk)
     (Rose (g.S.Source.faults c.args.source.now) (g.S.Source.faults c.read_line.new.source)) (λ rose. rose) ended.result (no_cut g.K.Sink _ _ _ ReadFault ended.result (λ e. cc) ended.ensures) refl
-    (finished g.K.Sink c.args.sink.now ended.new.sink (Evidence (Rose (g.S.Source.faults c.args.source.now) (g.S.Source.faults c.read_line.new.source)) ⊥ ⊥) script (g.S.Source.left c.read_line.new.source) ReadFault ended.result read_fault_line refl
+    (finished g.K.Sink c.args.sink.now ended.new.sink (Evidence (Rose (g.S.Source.faults c.args.source.now) (g.S.Source.faults c.read_line.new.source)) ⊥) script (g.S.Source.left c.read_line.new.source) ReadFault ended.result read_fault_line refl
     (rose, (given, rest, to_do.bytes_are ∙ parts, left_is, sym (ended_lines-none given unended))) ended.ensures)
     (still_keeps_up script.bytes (c.args.self.now.buffer ++ to_do.rest) (g.S.Source.asked c.args.source.now) (g.S.Source.asked c.read_line.new.source) to_do.bytes_are (c.read_line.ensures.keeps_up to_do.rest to_do.left_is) to_do.kept_up)
 

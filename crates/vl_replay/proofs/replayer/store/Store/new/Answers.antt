@@ -1,4 +1,4 @@
-use Rattle.std.proofs.Common.{refl, sym, ◌∙◌, ap, arith}
+use Rattle.std.proofs.Common.{sym, ap, arith}
 use Rattle.std.specs.Prelude.{length}
 use Rattle.vl_replay.proofs.Starting.{shows_opened}
 use Rattle.vl_replay.proofs.replayer.store.Store.new.Goals as goal
