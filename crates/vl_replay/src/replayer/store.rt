@@ -290,7 +290,6 @@ impl Store {
             _ => None,
         }
     }
-
 }
 
 // The value that a change leaves, as an answer.
@@ -310,10 +309,12 @@ fn found_opened(entry: Option<&Entry>) -> Result<Answer, Halt>
     ensures halt { IfErr result (λ halt. halt ≡ Halt.NoMemory) }
 {
     match entry {
-        Some(Entry {
-            body: Body::Logged(value, _) | Body::Inline(value),
-            ..
-        }) => found_value(value),
+        Some(
+            Entry {
+                body: Body::Logged(value, _) | Body::Inline(value),
+                ..
+            },
+        ) => found_value(value),
         _ => Ok(Answer::NoValue),
     }
 }

@@ -35,8 +35,12 @@ returns-in-Ok-clause-holds g c s starts (state, is, may) =
     let same : state ≡ starts.state = cc in
     record {
       calls = c.in-Ok.ensures.calls starts.state starts.read starts.found starts.strays starts.told starts.is_read starts.are_strays ∙ sym starts.calls;
-      there = (now, told, opened_stored g.D.Watched c.args.disk s starts c.in-Ok.parts other opened now
-          (c.in-Ok.ensures.held starts.state now starts.read starts.found starts.told (subst MayOpen same may) starts.is_read told));
+      there = (
+        now,
+        told,
+        opened_stored g.D.Watched c.args.disk s starts c.in-Ok.parts other opened now
+            (c.in-Ok.ensures.held starts.state now starts.read starts.found starts.told (subst MayOpen same may) starts.is_read told),
+      );
     }
 
 pub returns-in-Ok-clause-through : goal.returns-in-Ok-clause-through
