@@ -32,7 +32,7 @@ EndsBy g old new meant status =
     (ending : Ending) × (status ≡ status_of ending) × FinishesBy g old new meant ending
 
 -- a run over a disk of which reads give this refusal ended by it, by want of memory or by a fault
-abbrev pub StatusWithoutOpening : {D K : Type 0} → Ghosts D → sink.Ghosts K → (disk disk' : D) → (sink sink' : K) → Refusal
-    → (status : ℕ) → Type 0
+abbrev pub StatusWithoutOpening : {D K : Type 0} → Ghosts D → sink.Ghosts K → (disk disk' : D)
+    → (sink sink' : K) → Refusal → (status : ℕ) → Type 0
 StatusWithoutOpening g k disk disk' sink sink' refusal status =
     (ending : Ending) × (status ≡ status_of ending) × EndsWithoutOpening g k disk disk' sink sink' refusal ending

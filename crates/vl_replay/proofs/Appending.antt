@@ -14,8 +14,9 @@ tells_part name piece old new state is (taken, le, changed) = (appended name pie
 
 pub tells_all : (name other : Name) (piece : List ℕ) (told0 told1 told2 : Option DiskState) (state : DiskState) → told0 ≡ Some state → IsChangedBy (appended name piece (length piece)) told0 told1
     → (result : Result (Unit {0}) Failed) → OnOk result (IsChangedBy (synced other) told1 told2) → OnErr result (told2 ≡ told1) → (now : DiskState) × (told2 ≡ Some now)
-tells_all name other piece told0 told1 told2 state is appends (Ok x) changed err =
-    (synced other (appended name piece (length piece) state),
-      told_after (synced other) told1 told2 (appended name piece (length piece) state) (told_after (appended name piece (length piece)) told0 told1 state is appends) changed)
+tells_all name other piece told0 told1 told2 state is appends (Ok x) changed err = (
+  synced other (appended name piece (length piece) state),
+  told_after (synced other) told1 told2 (appended name piece (length piece) state) (told_after (appended name piece (length piece)) told0 told1 state is appends) changed,
+)
 tells_all name other piece told0 told1 told2 state is appends (Err e) ok same =
     (appended name piece (length piece) state, same ∙ told_after (appended name piece (length piece)) told0 told1 state is appends)

@@ -82,7 +82,7 @@ frame_staged r s disk writes list staged rep stored listed is =
     let place : r.log.length ≡ frames_end stored.frames = ap (λ (l : ActiveLog). l.length) rep.log ∙ stored.length_is in (
       subst (HasFrame frames_grammar) same is.has,
       is.frame ∙ ap (frame_at r.log.number r.log.length) same ∙ ap (λ (n : ℕ). frame_at n r.log.length (next_frame s.history writes)) number
-      ∙ ap (λ (n : ℕ). frame_at s.log.number n (next_frame s.history writes)) place,
+          ∙ ap (λ (n : ℕ). frame_at s.log.number n (next_frame s.history writes)) place,
     )
 
 -- ---- disks
@@ -150,14 +150,21 @@ module _ {D : Type 0} (g : Ghosts D) (watched : IsWatched g) where
     -- an image with the commits before, or with this one too
     shown_either : (image : Image) → OpensEither stored.manifest stored.frozen (new_segment s.log.number stored.frames) (next_frame s.history writes) (last_number s.history) (last_number s.history + 1) image → between image
     shown_either image either = ⊎_elim
-        (λ (before : Opens image (Ok (opening_held stored.manifest (logs_of s stored.frozen stored.frames) (last_number s.history)))).
-        (last_number s.history, omega arith, last-extends s.history after.history extends, shown_stays s.history after.history extends image (last_number s.history) (omega arith)
-          (shown_by image stored.manifest (logs_of s stored.frozen stored.frames) s.history (last_number s.history) before stored.shows)))
-        (λ (now : Opens image (Ok (opening_held stored.manifest (stored.frozen ++ with_frame (next_frame s.history writes) (new_segment s.log.number stored.frames) ∷ []) (last_number s.history + 1)))).
-        (last_number after.history, last-extends s.history after.history extends, omega arith,
+        (λ (before : Opens image (Ok (opening_held stored.manifest (logs_of s stored.frozen stored.frames) (last_number s.history)))). (
+          last_number s.history,
+          omega arith,
+          last-extends s.history after.history extends,
+          shown_stays s.history after.history extends image (last_number s.history) (omega arith)
+              (shown_by image stored.manifest (logs_of s stored.frozen stored.frames) s.history (last_number s.history) before stored.shows),
+        ))
+        (λ (now : Opens image (Ok (opening_held stored.manifest (stored.frozen ++ with_frame (next_frame s.history writes) (new_segment s.log.number stored.frames) ∷ []) (last_number s.history + 1)))). (
+          last_number after.history,
+          last-extends s.history after.history extends,
+          omega arith,
           subst (Shown image after.history) (sym one_more)
-          (shown_by image stored.manifest (stored.frozen ++ with_frame (next_frame s.history writes) (new_segment s.log.number stored.frames) ∷ []) after.history (last_number s.history + 1) now
-          (shows_next stored.frozen (new_segment s.log.number stored.frames) s.history writes stored.shows))))
+              (shown_by image stored.manifest (stored.frozen ++ with_frame (next_frame s.history writes) (new_segment s.log.number stored.frames) ∷ []) after.history (last_number s.history + 1) now
+              (shows_next stored.frozen (new_segment s.log.number stored.frames) s.history writes stored.shows)),
+        ))
         either
 
     -- what a crash leaves while the frame is written

@@ -11,11 +11,13 @@ use Rattle.vl_replay.specs.declared.ending.Ending.{Ending}
 use Rattle.vl_replay.specs.declared.ending.Ending.TheVariants.{Refused, NoMemory, DiskFault}
 use Rattle.vl_replay.specs.declared.fails.Refusal.{Refusal}
 use Rattle.vl_replay.specs.declared.fails.Refusal.TheVariants as refusals
+use Rattle.vl_replay.specs.declared.replayer.Replayer.{Replayer}
 
--- the disk, in the store or handed back
-abbrev pub disk_of : {R D : Type 0} → (R → D) → Result R (OpenFail D) → D
-disk_of in_store (Ok replayer) = in_store replayer
-disk_of in_store (Err fail) = fail.disk
+-- the disk behind an opening: in the store, or handed back. The type of a store names all that its disk has.
+abbrev pub disk_behind : {D Held Reader : Type 0} {watched : _} {held : _} {cloned : _} {read : _}
+    → Result (Replayer D Held Reader watched held cloned read) (OpenFail D) → D
+disk_behind (Ok replayer) = replayer.disk
+disk_behind (Err fail) = fail.disk
 
 -- why none was opened
 abbrev pub why_of : {R D : Type 0} → Result R (OpenFail D) → Option Why

@@ -59,7 +59,9 @@ DiskEndsFromStart g old new run =
     Tells g old IsDurable → DiskEnds g IsStored Shown (IsAsBefore g old new) old new run
 
 -- A run answered the lines of the input that its source had left, as the sequential store does from the state in which a run
--- over its disk begins, and ended so.
+-- over its disk begins, and ended so. It says what was printed and how many lines were answered, that each answer was put before
+-- the next line was read, and what was done to a disk whose store is durable: each accepted commit is one synced frame of its
+-- log.
 abbrev pub AnswersInput : {D : Type 0} → Ghosts D → (old new : Outside D) → Ending → Type 0
 AnswersInput g old new ending = (start : State) (input : List ℕ)
     → StartsIn g old.disk start → old.left ≡ Some input

@@ -61,8 +61,8 @@ EndsUnopened g old new reason result =
     (how : Why) × EndsFor reason how × FinishesBy g old new (ending_unopened how) result
 
 -- A run ended by this refusal.
-pub record IsRefusedRun {D K : Type 0} (g : Ghosts D) (k : sink.Ghosts K) (disk disk' : D) (sink sink' : K)
-    (refusal : Refusal) : Type 0 where
+pub record IsRefusedRun {D K : Type 0} (g : Ghosts D) (k : sink.Ghosts K) (disk disk' : D)
+    (sink sink' : K) (refusal : Refusal) : Type 0 where
   -- reads of its disk give the refusal;
   pub given : (state : DiskState) (read : Image) → g.told disk ≡ Some state → IsRead read state
       → IsRefused read refusal
@@ -72,8 +72,8 @@ pub record IsRefusedRun {D K : Type 0} (g : Ghosts D) (k : sink.Ghosts K) (disk 
   pub printed : FinishesBy k sink sink' (Refused refusal) (Refused refusal)
 
 -- A run ended over a disk of which reads give this refusal.
-pub record EndsWithoutOpening {D K : Type 0} (g : Ghosts D) (k : sink.Ghosts K) (disk disk' : D) (sink sink' : K)
-    (refusal : Refusal) (ending : Ending) : Type 0 where
+pub record EndsWithoutOpening {D K : Type 0} (g : Ghosts D) (k : sink.Ghosts K) (disk disk' : D)
+    (sink sink' : K) (refusal : Refusal) (ending : Ending) : Type 0 where
   -- it ended by the refusal, unless memory ran out or the disk failed before;
   pub how : Why
   pub how_is : (how ≡ why_refused refusal) ⊎ CameFirst how

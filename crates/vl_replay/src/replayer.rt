@@ -10,7 +10,6 @@ ghost use Rattle.vl_replay.specs.Stored.{IsStored, Shown};
 ghost use Rattle.vl_replay.specs.Start.{IsDurable, StartsIn};
 ghost use Rattle.vl_replay.specs.Sequential.{State, answer_to, state_after};
 ghost use Rattle.vl_replay.specs.Represents.{Represents};
-ghost use Rattle.vl_replay.specs.Opening.{IsFault, IsRefused, AnswersOpening, disk_of, why_of};
 ghost use Rattle.vl_replay.specs.Halts.{HaltsByDisk};
 ghost use Rattle.vl_replay.specs.declared.fails.Refusal.{Refusal};
 ghost use Rattle.vl_recover.specs.Meanwhile.{FaultsAt};
@@ -53,6 +52,8 @@ pub struct Replayer<D: Disk> {
 }
 
 impl<D: Disk> Replayer<D> {
+    ghost use Rattle.vl_replay.specs.Opening.{IsFault, IsRefused, AnswersOpening, disk_behind, why_of};
+
     /// Opens the store on a disk, or makes one where nothing stands. Each log may have 1,073,741,824 bytes.
     pub fn new(alloc: Global, disk: D) -> Result<Self, OpenFail<D>>
         // It stands for the store that the disk opens as, and the disk holds it.
@@ -63,9 +64,9 @@ impl<D: Disk> Replayer<D> {
 
         // What a crash leaves meanwhile shows what was opened.
         ensures through { (s : State) → StartsIn D.Watched disk s → Tells D.Watched disk IsDurable
-            → CrashesShow D.Watched Shown disk (disk_of (λ replayer. replayer.disk) result) s.history s.history }
+            → CrashesShow D.Watched Shown disk (disk_behind result) s.history s.history }
         ensures tells { (state : DiskState) → D.told disk ≡ Some state
-            → StillTells D.Watched (disk_of (λ replayer. replayer.disk) result) }
+            → StillTells D.Watched (disk_behind result) }
 
         // It answers what reads give, unless memory runs out or the disk fails. Where that is a refusal nothing is changed,
         // whatever is answered; and nothing where memory ran out.
@@ -73,10 +74,10 @@ impl<D: Disk> Replayer<D> {
             → AnswersOpening read (why_of result) }
         ensures refused { (state : DiskState) (read : Image) (refusal : Refusal) → D.told disk ≡ Some state
             → IsRead read state → IsRefused read refusal
-            → IsErr result × IsAsBefore D.Watched disk (disk_of (λ replayer. replayer.disk) result) }
+            → IsErr result × IsAsBefore D.Watched disk (disk_behind result) }
         ensures left_alone { (IsFault (why_of result) → ⊥) → IsErr result
-            → IsAsBefore D.Watched disk (disk_of (λ replayer. replayer.disk) result) }
-        ensures cause { HasCause (D.faults disk) (D.faults (disk_of (λ replayer. replayer.disk) result)) (IsFault (why_of result)) }
+            → IsAsBefore D.Watched disk (disk_behind result) }
+        ensures cause { HasCause (D.faults disk) (D.faults (disk_behind result)) (IsFault (why_of result)) }
 
         // A fault is named by the file at which it came.
         ensures at { (state : DiskState) (read : Image) → D.told disk ≡ Some state → IsRead read state
@@ -84,7 +85,7 @@ impl<D: Disk> Replayer<D> {
 
         // And a store may be opened on the disk again, whatever is answered.
         ensures again { (state now : DiskState) → D.told disk ≡ Some state → MayOpen state
-            → D.told (disk_of (λ replayer. replayer.disk) result) ≡ Some now → MayOpen now }
+            → D.told (disk_behind result) ≡ Some now → MayOpen now }
     {
         match recover(alloc, disk, MAX_ROOM) {
             Ok(parts) => Ok(Replayer {

@@ -294,7 +294,6 @@ impl Store {
             _ => None,
         }
     }
-
 }
 
 // The value that a change leaves, as an answer.
@@ -314,10 +313,12 @@ fn found_opened(entry: Option<&Entry>) -> Result<Answer, Halt>
     ensures halt { IfErr result (λ halt. halt ≡ Halt.NoMemory) }
 {
     match entry {
-        Some(Entry {
-            body: Body::Logged(value, _) | Body::Inline(value),
-            ..
-        }) => found_value(value),
+        Some(
+            Entry {
+                body: Body::Logged(value, _) | Body::Inline(value),
+                ..
+            },
+        ) => found_value(value),
         _ => Ok(Answer::NoValue),
     }
 }

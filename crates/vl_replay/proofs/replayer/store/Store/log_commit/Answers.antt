@@ -51,7 +51,6 @@ returns-clause-answer g c s name writes rep there =
     subst (λ o. IsOutcome (Number last) (record { alloc = r.alloc; last = last; log = c.append_durably.new.log; frozen = r.frozen; memtable = new; in_use = o }) (Number (last_number s.history + 1), after_commit s name writes)) (sym c.take.ensures.after)
     (gives_commit r s name writes c.append_durably.new.log new rep there log_is takes)
 
-
 pub returns-in_default-append_durably-clause-carries : goal.returns-in_default-append_durably-clause-carries
 returns-in_default-append_durably-clause-carries g c s name writes rep there held =
     let r = c.args.self.now in
