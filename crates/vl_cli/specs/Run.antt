@@ -5,6 +5,7 @@ use Rattle.vl_disk.specs.declared.watched.Watched.{Ghosts}
 use Rattle.vl_io.specs.declared.sink.Sink as sink
 use Rattle.vl_replay.specs.Sequential.{State}
 use Rattle.vl_replay.specs.Endings.{status_of}
+use Rattle.vl_replay.specs.Reading.{Streams, ReadsInput}
 use Rattle.vl_replay.specs.Runs.{Outside, EndsRun, script_of}
 use Rattle.vl_replay.specs.Start.{StartsIn, DiskEndsFromStart}
 use Rattle.vl_replay.specs.Steps.{FinishesBy, StaysRefused}
@@ -46,3 +47,8 @@ abbrev pub StaysUnopened : {D K : Type 0} → Ghosts D → sink.Ghosts K → (di
     → (status : ℕ) → Type 0
 StaysUnopened g k disk disk' old new refusal status =
     (ending : Ending) × (status ≡ status_of ending) × StaysRefused g k disk disk' old new refusal ending
+
+-- whatever the disk is, a run over what its source had left tells so much of it: at status 0 and at status 1 by their endings
+abbrev pub TellsOfInput : (old new : Streams) → (status : ℕ) → Type 0
+TellsOfInput old new status = (input : List ℕ) → old.left ≡ Some input
+    → (ending : Ending) × (status ≡ status_of ending) × ReadsInput input old new ending
