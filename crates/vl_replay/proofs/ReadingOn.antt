@@ -55,11 +55,14 @@ pub finishes_badly : {K : Type 0} (g : sink.Ghosts K) (old new : K) (line : List
     → Finishes g old new line BadLine result → EndsBadly (Unit {0}) count result (g.held old) (g.held new)
 finishes_badly g old new line result count text finishes = (
   or_cut g old new line BadLine result (λ (e : Ending). e ≢ Complete) finishes bad_is_not_complete (λ e. cc),
-  λ bad. (tt, λ before counted. ⊎_elim
-      (λ (whole : (result ≡ BadLine) × (finishes.printed ≡ line) × (g.faults new ≡ g.faults old)).
-      subst (λ (p : List ℕ). Takes (g.held old) (g.held new) p) (whole.1 ∙ text before counted) finishes.taken)
-      (λ (cut : (result ≡ WriteFault) × IsFront finishes.printed line × Rose (g.faults old) (g.faults new)). absurd (cut_is_not_bad (sym cut.0 ∙ bad)))
-      finishes.how),
+  λ bad. (
+    tt,
+    λ before counted. ⊎_elim
+        (λ (whole : (result ≡ BadLine) × (finishes.printed ≡ line) × (g.faults new ≡ g.faults old)).
+        subst (λ (p : List ℕ). Takes (g.held old) (g.held new) p) (whole.1 ∙ text before counted) finishes.taken)
+        (λ (cut : (result ≡ WriteFault) × IsFront finishes.printed line × Rose (g.faults old) (g.faults new)). absurd (cut_is_not_bad (sym cut.0 ∙ bad)))
+        finishes.how,
+  ),
 )
 
 -- a text that is none of the language has another reason as well
@@ -114,8 +117,8 @@ pub unopened_reads_nothing : {K : Type 0} (g : sink.Ghosts K) (old new : K) (how
     → ReadsInput input begin end result
 unopened_reads_nothing g old new how result (line, own, finishes) input begin end kept_up =
     let incomplete = finished_incomplete g old new line (ending_unopened how) result
-        (of_unopened (λ (e : Ending). e ≢ Complete) (λ refusal e. cc) (λ e. cc) (λ e. cc) how)
-        (of_unopened (λ (e : Ending). e ≢ BadLine) (λ refusal e. cc) (λ e. cc) (λ e. cc) how) finishes in
+    (of_unopened (λ (e : Ending). e ≢ Complete) (λ refusal e. cc) (λ e. cc) (λ e. cc) how)
+    (of_unopened (λ (e : Ending). e ≢ BadLine) (λ refusal e. cc) (λ e. cc) (λ e. cc) how) finishes in
     reads_nothing input begin end result incomplete.0 incomplete.1 kept_up
 
 all_and_one : (texts : List (List ℕ)) (text : List ℕ) → AllByRecursion IsLine texts → IsLine text → AllByRecursion IsLine (texts ++ (text ∷ []))
@@ -161,8 +164,12 @@ module _ (input : List ℕ) (begin old new : Streams) (buffer : List ℕ) (count
     complete = λ is. (
       refl,
       told,
-      (h.answers, h.as_many, subst (λ (p : List ℕ). Takes begin.held new.held p) (sym (append-nil (flat_map text_of h.answers)))
-      (subst (λ (held : Option (List ℕ)). Takes begin.held held (flat_map text_of h.answers)) (sym quiet) h.taken)),
+      (
+        h.answers,
+        h.as_many,
+        subst (λ (p : List ℕ). Takes begin.held new.held p) (sym (append-nil (flat_map text_of h.answers)))
+            (subst (λ (held : Option (List ℕ)). Takes begin.held held (flat_map text_of h.answers)) (sym quiet) h.taken),
+      ),
     );
     bad = λ is. absurd (bad_is_not_complete (sym is));
     kept_up = still kept_up;
