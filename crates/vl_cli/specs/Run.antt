@@ -48,7 +48,7 @@ abbrev pub StaysUnopened : {D K : Type 0} → Ghosts D → sink.Ghosts K → (di
 StaysUnopened g k disk disk' old new refusal status =
     (ending : Ending) × (status ≡ status_of ending) × StaysRefused g k disk disk' old new refusal ending
 
--- whatever the disk is, a run over what its source had left tells so much of it: at status 0 and at status 1 by their endings
+-- A run with this status tells so much of the input that its source had left, by the ending that the status is of.
 abbrev pub TellsOfInput : (old new : Streams) → (status : ℕ) → Type 0
 TellsOfInput old new status = (input : List ℕ) → old.left ≡ Some input
     → (ending : Ending) × (status ≡ status_of ending) × ReadsInput input old new ending

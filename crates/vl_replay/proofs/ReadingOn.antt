@@ -15,7 +15,7 @@ use Rattle.vl_replay.specs.Exchanges.{KeepsUp, ended_lines}
 use Rattle.vl_replay.specs.Endings.{bad_line, line_number}
 use Rattle.vl_replay.specs.Input.{ReadsLine}
 use Rattle.vl_replay.specs.Opening.{ending_unopened}
-use Rattle.vl_replay.specs.Reading.{IsLine, IsNoLine, Streams, BeginsBadly, ReadsInput, HasRead, ReadsOn, EndsBadly, AnswersText}
+use Rattle.vl_replay.specs.Reading.{IsLine, IsNoLine, Streams, TakesAnswers, TakesSome, BeginsBadly, ReadsInput, HasRead, ReadsOn, EndsBadly, AnswersText}
 use Rattle.vl_replay.specs.Steps.{Finishes, FinishesBy}
 use Rattle.vl_replay.specs.declared.ending.Ending.{Ending}
 use Rattle.vl_replay.specs.declared.ending.Ending.TheVariants.{Complete, BadLine, WriteFault}
@@ -27,8 +27,8 @@ use Rattle.vl_replay.proofs.OpenedRuns.{of_unopened}
 -- ---- endings
 
 -- neither complete nor at a bad line
-pub ends_otherwise : (by : Type 0) (count : ℕ) (ending : Ending) (held held' : Option (List ℕ)) → ending ≢ Complete → ending ≢ BadLine → EndsBadly by count ending held held'
-ends_otherwise by count ending held held' some good = (some, λ bad. absurd (good bad))
+pub ends_otherwise : (by : Type 0) (count : ℕ) (ending : Ending) (held held' : Option (List ℕ)) → TakesSome held held' → ending ≢ Complete → ending ≢ BadLine → EndsBadly by count ending held held'
+ends_otherwise by count ending held held' taken some good = (taken, some, λ bad. absurd (good bad))
 
 -- a last line that couldn't be put is neither
 pub finished_incomplete : {K : Type 0} (g : sink.Ghosts K) (old new : K) (line : List ℕ) (ending result : Ending) → ending ≢ Complete → ending ≢ BadLine → Finishes g old new line ending result → (result ≢ Complete) × (result ≢ BadLine)
@@ -38,11 +38,11 @@ finished_incomplete g old new line ending result some good finishes = (
 )
 
 -- by a last line that is of something else
-pub finishes_otherwise : {K : Type 0} (g : sink.Ghosts K) (old new : K) (line : List ℕ) (ending result : Ending) (by : Type 0) (count : ℕ) (held held' : Option (List ℕ)) → ending ≢ Complete → ending ≢ BadLine
-    → Finishes g old new line ending result → EndsBadly by count result held held'
-finishes_otherwise g old new line ending result by count held held' some good finishes =
+pub finishes_otherwise : {K : Type 0} (g : sink.Ghosts K) (old new : K) (line : List ℕ) (ending result : Ending) (by : Type 0) (count : ℕ) → ending ≢ Complete → ending ≢ BadLine
+    → Finishes g old new line ending result → EndsBadly by count result (g.held old) (g.held new)
+finishes_otherwise g old new line ending result by count some good finishes =
     let incomplete = finished_incomplete g old new line ending result some good finishes in
-    ends_otherwise by count result held held' incomplete.0 incomplete.1
+    ends_otherwise by count result (g.held old) (g.held new) (finishes.printed, finishes.taken) incomplete.0 incomplete.1
 
 bad_is_not_complete : BadLine ≢ Complete
 bad_is_not_complete e = cc
@@ -54,6 +54,7 @@ cut_is_not_bad e = cc
 pub finishes_badly : {K : Type 0} (g : sink.Ghosts K) (old new : K) (line : List ℕ) (result : Ending) (count : ℕ) → ((before : ℕ) → count ≡ line_number before → line ≡ bad_line (before + 1))
     → Finishes g old new line BadLine result → EndsBadly (Unit {0}) count result (g.held old) (g.held new)
 finishes_badly g old new line result count text finishes = (
+  (finishes.printed, finishes.taken),
   or_cut g old new line BadLine result (λ (e : Ending). e ≢ Complete) finishes bad_is_not_complete (λ e. cc),
   λ bad. (
     tt,
@@ -67,7 +68,7 @@ finishes_badly g old new line result count text finishes = (
 
 -- a text that is none of the language has another reason as well
 pub ends_for : (by by' : Type 0) (count : ℕ) (ending : Ending) (held held' : Option (List ℕ)) → by' → EndsBadly by count ending held held' → EndsBadly by' count ending held held'
-ends_for by by' count ending held held' reason (some, bad) = (some, λ is. (reason, (bad is).1))
+ends_for by by' count ending held held' reason (taken, some, bad) = (taken, some, λ is. (reason, (bad is).1))
 
 chosen_false : {A : Type 0} (b : Bool) (x y : A) → b ≡ false → cond b x y ≡ y
 chosen_false true x y e = absurd (cc)
@@ -102,24 +103,25 @@ read_nothing input begin told kept_up = record {
 }
 
 -- a run that was never under way
-pub reads_nothing : (input : List ℕ) (old new : Streams) (ending : Ending) → ending ≢ Complete → ending ≢ BadLine → KeepsUp input new.asked 0 → ReadsInput input old new ending
-reads_nothing input old new ending some good kept_up = record {
+pub reads_nothing : (input : List ℕ) (old new : Streams) (ending : Ending) → TakesSome old.held new.held → ending ≢ Complete → ending ≢ BadLine → KeepsUp input new.asked 0 → ReadsInput input old new ending
+reads_nothing input old new ending (piece, taken) some good kept_up = record {
   answered = [];
   others = lines_of input;
   lines_are = refl;
   of_language = tt;
+  taken = (piece, ([], refl, taken));
   complete = λ is. absurd (some is);
   bad = λ is. absurd (good is);
   kept_up = kept_up;
 }
 
-pub unopened_reads_nothing : {K : Type 0} (g : sink.Ghosts K) (old new : K) (how : Why) (result : Ending) → FinishesBy g old new (ending_unopened how) result → (input : List ℕ) (begin end : Streams) → KeepsUp input end.asked 0
-    → ReadsInput input begin end result
-unopened_reads_nothing g old new how result (line, own, finishes) input begin end kept_up =
+pub unopened_reads_nothing : {K : Type 0} (g : sink.Ghosts K) (old new : K) (how : Why) (result : Ending) → FinishesBy g old new (ending_unopened how) result → (input : List ℕ) (begin end : Streams) → (TakesSome (g.held old) (g.held new) → TakesSome begin.held end.held)
+    → KeepsUp input end.asked 0 → ReadsInput input begin end result
+unopened_reads_nothing g old new how result (line, own, finishes) input begin end seen kept_up =
     let incomplete = finished_incomplete g old new line (ending_unopened how) result
     (of_unopened (λ (e : Ending). e ≢ Complete) (λ refusal e. cc) (λ e. cc) (λ e. cc) how)
     (of_unopened (λ (e : Ending). e ≢ BadLine) (λ refusal e. cc) (λ e. cc) (λ e. cc) how) finishes in
-    reads_nothing input begin end result incomplete.0 incomplete.1 kept_up
+    reads_nothing input begin end result (seen (finishes.printed, finishes.taken)) incomplete.0 incomplete.1 kept_up
 
 all_and_one : (texts : List (List ℕ)) (text : List ℕ) → AllByRecursion IsLine texts → IsLine text → AllByRecursion IsLine (texts ++ (text ∷ []))
 all_and_one [] text all is = (is, tt)
@@ -141,11 +143,12 @@ module _ (input : List ℕ) (begin old new : Streams) (buffer : List ℕ) (count
 
   -- the run ended before it answered a line
   pub reads_end : (ending : Ending) → KeepsUp had new.asked 0 → EndsBadly (BeginsBadly (lines_of had)) count ending old.held new.held → ReadsInput input begin new ending
-  reads_end ending kept_up (some, bad) = record {
+  reads_end ending kept_up (taken, some, bad) = record {
     answered = h.answered;
     others = lines_of had;
     lines_are = h.lines_are;
     of_language = h.of_language;
+    taken = (taken.0, (h.answers, h.as_many, takes_both begin.held old.held new.held (flat_map text_of h.answers) taken.0 h.taken taken.1));
     complete = λ is. absurd (some is);
     bad = λ is. (
       (bad is).0,
@@ -161,19 +164,19 @@ module _ (input : List ℕ) (begin old new : Streams) (buffer : List ℕ) (count
     others = [];
     lines_are = h.lines_are ∙ ap (λ (bytes : List ℕ). h.answered ++ lines_of bytes) none;
     of_language = h.of_language;
-    complete = λ is. (
-      refl,
-      told,
-      (
+    taken = ([], all);
+    complete = λ is. (refl, told, all);
+    bad = λ is. absurd (bad_is_not_complete (sym is));
+    kept_up = still kept_up;
+  }
+    where
+      all : TakesAnswers begin.held new.held so_many []
+      all = (
         h.answers,
         h.as_many,
         subst (λ (p : List ℕ). Takes begin.held new.held p) (sym (append-nil (flat_map text_of h.answers)))
             (subst (λ (held : Option (List ℕ)). Takes begin.held held (flat_map text_of h.answers)) (sym quiet) h.taken),
-      ),
-    );
-    bad = λ is. absurd (bad_is_not_complete (sym is));
-    kept_up = still kept_up;
-  }
+      )
 
   module _ (line : List ℕ) where
     abbrev behind : List (List ℕ)
@@ -194,7 +197,7 @@ module _ (input : List ℕ) (begin old new : Streams) (buffer : List ℕ) (count
         (takes_both begin.held old.held new.held (flat_map text_of h.answers) (text_of answer) h.taken taken)
 
     begins_badly : (later : List (List ℕ)) (ending : Ending) → lines_of had ≡ line ∷ later → EndsBadly (IsNoLine line) count ending old.held new.held → EndsBadly (BeginsBadly (lines_of had)) count ending old.held new.held
-    begins_badly later ending lines (some, bad) = (some, λ is. ((line, later, lines, (bad is).0), (bad is).1))
+    begins_badly later ending lines (taken, some, bad) = (taken, some, λ is. ((line, later, lines, (bad is).0), (bad is).1))
 
     -- a line that was read with its end was answered, or the run ended there
     pub reads_line : (buffer' : List ℕ) (count' : ℕ) (result : Option Ending) → ((before : ℕ) → count ≡ line_number before → count' ≡ line_number (before + 1))
@@ -226,15 +229,15 @@ module _ (input : List ℕ) (begin old new : Streams) (buffer : List ℕ) (count
           others = [];
           lines_are = h.lines_are ∙ ap (λ (ls : List (List ℕ)). h.answered ++ ls) (ap lines_of same ∙ lines_of-unended line unended some) ∙ sym (append-nil behind);
           of_language = all_and_one h.answered line h.of_language is;
-          complete = λ is_complete. (
-            refl,
-            told,
-            (more answer, as_many_more answer, subst (λ (p : List ℕ). Takes begin.held new.held p) (sym (append-nil (flat_map text_of (more answer)))) (takes_more answer taken)),
-          );
+          taken = ([], all);
+          complete = λ is_complete. (refl, told, all);
           bad = λ is_bad. absurd (bad_is_not_complete (sym is_bad));
           kept_up = still_more (still kept_up);
         })
       where
+        all : TakesAnswers begin.held new.held (length behind) []
+        all = (more answer, as_many_more answer, subst (λ (p : List ℕ). Takes begin.held new.held p) (sym (append-nil (flat_map text_of (more answer)))) (takes_more answer taken))
+
         still_more : KeepsUp input new.asked so_many → KeepsUp input new.asked (length behind)
         still_more (earlier, was, le) = let n = one_more in (earlier, was, omega arith)
     reads_last buffer' (Some ending) result r (told, same, unended, some) ends kept_up =

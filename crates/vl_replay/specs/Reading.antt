@@ -35,6 +35,10 @@ abbrev pub TakesAnswers : (held held' : Option (List ℕ)) → (count : ℕ) →
 TakesAnswers held held' count piece =
     (answers : List Answer) × (length answers ≡ count) × Takes held held' (flat_map text_of answers ++ piece)
 
+-- it took some piece, which may be empty
+abbrev pub TakesSome : (held held' : Option (List ℕ)) → Type 0
+TakesSome held held' = (piece : List ℕ) × Takes held held' piece
+
 -- the first of these is none of the language
 abbrev pub BeginsBadly : List (List ℕ) → Type 0
 BeginsBadly lines =
@@ -46,8 +50,9 @@ pub record ReadsInput (input : List ℕ) (old new : Streams) (ending : Ending) :
   pub answered : List (List ℕ)
   pub others : List (List ℕ)
   pub lines_are : lines_of input ≡ answered ++ others
-  -- each line that was answered is one of the language
+  -- each line that was answered is one of the language, and the sink took an answer for each, and then some last piece
   pub of_language : AllByRecursion IsLine answered
+  pub taken : (piece : List ℕ) × TakesAnswers old.held new.held (length answered) piece
   -- A complete run answered every line and read its source to the end. Its sink took an answer for each line, and nothing
   -- else.
   pub complete : ending ≡ Complete
@@ -91,10 +96,10 @@ ReadsText text None = IsNoLine text
 abbrev pub TakesBadLine : (count : ℕ) → (held held' : Option (List ℕ)) → Type 0
 TakesBadLine count held held' = (before : ℕ) → count ≡ line_number before → Takes held held' (bad_line (before + 1))
 
--- a run ended incomplete, and at a bad line only with this and with the line's number
+-- a run took some last piece and ended incomplete, and at a bad line only with this and with the line's number
 abbrev pub EndsBadly : (by : Type 0) → (count : ℕ) → Ending → (held held' : Option (List ℕ)) → Type 0
 EndsBadly by count ending held held' =
-    (ending ≢ Complete) × (ending ≡ BadLine → by × TakesBadLine count held held')
+    TakesSome held held' × (ending ≢ Complete) × (ending ≡ BadLine → by × TakesBadLine count held held')
 
 -- a line of the language was answered; or the run ended there, at a bad line only where the text is none of the language
 abbrev pub AnswersText : List ℕ → (count : ℕ) → Option Ending → (held held' : Option (List ℕ)) → Type 0

@@ -69,7 +69,7 @@ returns-in-Ok-clause-reads g c =
     (is, (answer, subst (λ (l : List ℕ). Takes (g.K.Sink.held c.args.sink.now) (g.K.Sink.held c.put.new.self) l) (c.deref.ensures.value ∙ out_is) c.in-Ok.ensures.taken))
 
 pub returns-in-Ok-Some-clause-reads : goal.returns-in-Ok-Some-clause-reads
-returns-in-Ok-Some-clause-reads g c = ends_otherwise _ c.args.answered AnswerCut _ _ (λ e. cc) (λ e. cc)
+returns-in-Ok-Some-clause-reads g c = ends_otherwise _ c.args.answered AnswerCut _ _ (_, c.in-Err.ensures.part.2) (λ e. cc) (λ e. cc)
 
 pub returns-in-Ok-None-clause-reads : goal.returns-in-Ok-None-clause-reads
 returns-in-Ok-None-clause-reads g c =
@@ -78,8 +78,8 @@ returns-in-Ok-None-clause-reads g c =
 
 pub returns-in-Err-NoMemory-clause-reads : goal.returns-in-Err-NoMemory-clause-reads
 returns-in-Err-NoMemory-clause-reads g c =
-    finishes_otherwise g.K.Sink c.args.sink.now c.finish.new.sink no_memory_line NoMemory c.finish.result _ c.args.answered _ _ (λ e. cc) (λ e. cc) c.finish.ensures
+    finishes_otherwise g.K.Sink c.args.sink.now c.finish.new.sink no_memory_line NoMemory c.finish.result _ c.args.answered (λ e. cc) (λ e. cc) c.finish.ensures
 
 pub returns-clause-reads : goal.returns-clause-reads
 returns-clause-reads g c =
-    finishes_otherwise g.K.Sink c.args.sink.now c.finish-in-Err-Disk.new.sink disk_fault_line DiskFault c.finish-in-Err-Disk.result _ c.args.answered _ _ (λ e. cc) (λ e. cc) c.finish-in-Err-Disk.ensures
+    finishes_otherwise g.K.Sink c.args.sink.now c.finish-in-Err-Disk.new.sink disk_fault_line DiskFault c.finish-in-Err-Disk.result _ c.args.answered (λ e. cc) (λ e. cc) c.finish-in-Err-Disk.ensures

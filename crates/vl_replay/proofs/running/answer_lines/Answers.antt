@@ -64,7 +64,7 @@ returns-in-Some-clause-runs g c s input stands told =
 pub returns-in_default-clause-input : goal.returns-in_default-clause-input
 returns-in_default-clause-input g c input told =
     let (some, good) = finished_incomplete g.K.Sink c.args.sink.now c.finish.new.sink no_memory_line NoMemory c.finish.result (λ e. cc) (λ e. cc) c.finish.ensures in
-    reads_nothing input (streams g.S.Source g.K.Sink c.args.source.now c.args.sink.now) (streams g.S.Source g.K.Sink c.args.source.now c.finish.new.sink) c.finish.result some good
+    reads_nothing input (streams g.S.Source g.K.Sink c.args.source.now c.args.sink.now) (streams g.S.Source g.K.Sink c.args.source.now c.finish.new.sink) c.finish.result (c.finish.ensures.printed, c.finish.ensures.taken) some good
     (keeps_up_at_first input (g.S.Source.asked c.args.source.now) (g.met.S.Source.since_asked c.args.source.now input told))
 
 pub returns-in-Some-clause-input : goal.returns-in-Some-clause-input

@@ -101,5 +101,5 @@ pub returns-in-Err-clause-input : goal.returns-in-Err-clause-input
 returns-in-Err-clause-input g c input told =
     let ended = c.end_unopened-ending in
     unopened_reads_nothing g.K.Sink c.args.sink.now ended.new.sink ended.ensures.0 ended.result ended.ensures.2 input
-    (streams g.S.Source g.K.Sink c.args.source.now c.args.sink.now) (streams g.S.Source g.K.Sink c.args.source.now ended.new.sink)
+    (streams g.S.Source g.K.Sink c.args.source.now c.args.sink.now) (streams g.S.Source g.K.Sink c.args.source.now ended.new.sink) (λ taken. taken)
     (keeps_up_at_first input (g.S.Source.asked c.args.source.now) (g.met.S.Source.since_asked c.args.source.now input told))

@@ -122,7 +122,7 @@ returns-in-Err-NoMemory-clause-reads g c input begin h =
     let buffer = c.args.self.now.buffer in
     let count = c.args.self.now.answered in
     reads_end input begin old new buffer count h c.finish.result (c.read_line.ensures.keeps_up h.rest h.left_is h.kept_up)
-    (finishes_otherwise g.K.Sink c.args.sink.now c.finish.new.sink no_memory_line NoMemory c.finish.result _ count _ _ (λ e. cc) (λ e. cc) c.finish.ensures)
+    (finishes_otherwise g.K.Sink c.args.sink.now c.finish.new.sink no_memory_line NoMemory c.finish.result _ count (λ e. cc) (λ e. cc) c.finish.ensures)
 
 pub returns-in-Err-Fault-clause-reads : goal.returns-in-Err-Fault-clause-reads
 returns-in-Err-Fault-clause-reads g c input begin h =
@@ -132,4 +132,4 @@ returns-in-Err-Fault-clause-reads g c input begin h =
     let buffer = c.args.self.now.buffer in
     let count = c.args.self.now.answered in
     reads_end input begin old new buffer count h ended.result (c.read_line.ensures.keeps_up h.rest h.left_is h.kept_up)
-    (finishes_otherwise g.K.Sink c.args.sink.now ended.new.sink read_fault_line ReadFault ended.result _ count _ _ (λ e. cc) (λ e. cc) ended.ensures)
+    (finishes_otherwise g.K.Sink c.args.sink.now ended.new.sink read_fault_line ReadFault ended.result _ count (λ e. cc) (λ e. cc) ended.ensures)
