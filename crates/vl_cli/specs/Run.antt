@@ -4,6 +4,7 @@ use Rattle.std.specs.Str.{bytes_eq}
 use Rattle.vl_disk.specs.declared.watched.Watched.{Ghosts}
 use Rattle.vl_io.specs.declared.sink.Sink as sink
 use Rattle.vl_replay.specs.Endings.{status_of}
+use Rattle.vl_replay.specs.Reading.{Streams, ReadsInput}
 use Rattle.vl_replay.specs.Runs.{Outside}
 use Rattle.vl_replay.specs.Start.{AnswersInput}
 use Rattle.vl_replay.specs.Steps.{FinishesBy, EndsWithoutOpening}
@@ -36,3 +37,8 @@ abbrev pub StatusWithoutOpening : {D K : Type 0} → Ghosts D → sink.Ghosts K 
     → (sink sink' : K) → Refusal → (status : ℕ) → Type 0
 StatusWithoutOpening g k disk disk' sink sink' refusal status =
     (ending : Ending) × (status ≡ status_of ending) × EndsWithoutOpening g k disk disk' sink sink' refusal ending
+
+-- A run with this status tells so much of the input that its source had left, by the ending that the status is of.
+abbrev pub TellsOfInput : (old new : Streams) → (status : ℕ) → Type 0
+TellsOfInput old new status = (input : List ℕ) → old.left ≡ Some input
+    → (ending : Ending) × (status ≡ status_of ending) × ReadsInput input old new ending

@@ -14,12 +14,13 @@ ghost use Rattle.vl_replay.specs.Sequential.{State};
 ghost use Rattle.vl_replay.specs.Endings.{status_of};
 ghost use Rattle.vl_replay.specs.Exchanges.{exchanges_from, AreExplained};
 ghost use Rattle.vl_replay.specs.Opening.{IsRefused};
+ghost use Rattle.vl_replay.specs.Reading.{streams};
 ghost use Rattle.vl_replay.specs.Runs.{outside};
 ghost use Rattle.vl_replay.specs.Start.{StartsIn, StaysOpenable};
 ghost use Rattle.vl_replay.specs.Steps.{IsRefusedRun};
 ghost use Rattle.vl_replay.specs.declared.ending.Ending.{Ending as HowEnded};
 ghost use Rattle.vl_replay.specs.declared.fails.Refusal.{Refusal};
-ghost use Rattle.vl_cli.specs.Run.{EndsBy, StatusOfAnswers, StatusWithoutOpening, is_plain};
+ghost use Rattle.vl_cli.specs.Run.{EndsBy, StatusOfAnswers, StatusWithoutOpening, TellsOfInput, is_plain};
 
 use crate::command_line::words::are_plain;
 use std::alloc::Global;
@@ -96,6 +97,12 @@ pub fn run<S: Source, K: Sink, D: Disk>(
     // However the run ends, and whatever failed, a store may be opened on the disk again where one might before.
     ensures again { (s : State) (input : List ℕ) → StartsIn D.Watched disk s → S.left source.old ≡ Some input
         → StaysOpenable D.Watched disk result.disk }
+
+    // Where the words are plain, the status tells of the input over every disk, also where nothing is known of what it holds:
+    // after 0 every line was of the language and was answered, and after 1 just those before the bad one.
+    ensures input { is_plain (map string_bytes words.now) ≡ true
+        → TellsOfInput (streams S.Source K.Sink source.old sink.old) (streams S.Source K.Sink source.new sink.new)
+        result.status }
 {
     if are_plain(words) {
         let Replayed { ending, disk } = replay(alloc, source, sink, disk);

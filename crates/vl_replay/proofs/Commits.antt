@@ -1,6 +1,6 @@
 -- What a line does to the disk, by each exit of the functions that answer it.
 use Rattle.std.proofs.Common.{◌≡◌, ◌==◌, ⊎_elim, ℕ, ◌+◌, ◌<◌, ◌≤◌, List, [], ◌∷◌, ◌++◌, length, Some, false, IsTrue, Result, Ok, Err, OnOk, refl, sym, ◌∙◌, ap, subst, arith, length-append}
-use Rattle.std.specs.Prelude.{IsErr, IsErrAnd}
+use Rattle.std.specs.Prelude.{IsErr}
 use Rattle.std.specs.FinMap.{entries, len, len-entries, is_sorted}
 use Rattle.std.specs.List.{AllByRecursion}
 use Rattle.std.proofs.lemmas.Bool.{eqb-false}
@@ -15,7 +15,6 @@ use Rattle.vl_disk.specs.Faults.{after_calls}
 use Rattle.vl_seglog.specs.declared.active.ActiveLog.{ActiveLog}
 use Rattle.vl_txn.specs.Writes.{IsLawful}
 use Rattle.std.specs.Option.{option_map}
-use Rattle.std.specs.Prelude.{◌⊎◌}
 use Rattle.vl_disk.specs.Crash.{Image, Unchanged, WhileAppending, WhileSyncing}
 use Rattle.vl_disk.specs.Disk.{IsChangedBy}
 use Rattle.vl_disk.specs.Moments.{Elapses, While, goes_by}
@@ -45,7 +44,7 @@ use Rattle.vl_replay.specs.declared.fails.Halt.{Halt}
 use Rattle.vl_replay.specs.declared.fails.Halt.TheVariants.{NoMemory as NoRoom}
 use Rattle.vl_replay.proofs.Betweens.{extends_itself, extends_same, extends_one, last-extends}
 use Rattle.vl_replay.proofs.Outcomes.{Keeps}
-use Rattle.vl_replay.proofs.DiskSteps.{IsWatched, leaves_weaker, rests, rests_until, goes_then, goes_wider, it_holds, opens_again}
+use Rattle.vl_replay.proofs.DiskSteps.{IsWatched, rests, rests_until, goes_then, goes_wider, it_holds, opens_again}
 
 -- ---- results
 

@@ -14,7 +14,7 @@ use Rattle.vl_replay.specs.Sequential.{State, state_after}
 use Rattle.vl_replay.specs.Exchanges.{Exchange, exchange_at, exchanged, state_behind, exchanges_from, and_later, last_state}
 use Rattle.vl_replay.specs.Between.{Showing, ShowsBetween}
 use Rattle.vl_replay.specs.Endings.{CutsAnswer, IsBetweenLines, culprit_of}
-use Rattle.vl_replay.specs.Durable.{DiskEnds, GoesAlong, CrashesShow, Holding, HoldsCommits, HoldsState, Leaves, LeavesItsHistory, StaysShown, StillTells, Tells}
+use Rattle.vl_replay.specs.Durable.{DiskEnds, GoesAlong, CrashesShow, Holding, HoldsCommits, HoldsState, Leaves, LeavesItsHistory, StaysShown, Tells}
 use Rattle.vl_replay.specs.declared.ending.Ending.{Ending}
 use Rattle.vl_replay.specs.declared.ending.Ending.TheVariants.{NoMemory}
 use Rattle.vl_replay.proofs.Betweens.{extends_itself, extends_then, between_wider, between_exactly}

@@ -154,7 +154,7 @@ ended_lines-none [] h = refl
 ended_lines-none (b ∷ bytes) h = ended_lines-cons b bytes ∙ counted (b == 10) (ended_lines bytes) (tested_no b h.0) ∙ ended_lines-none bytes h.1
 
 -- a line with its end is one more
-ended_lines-line : (line rest : List ℕ) → HasNoLineEnd line → ended_lines (line ++ 10 ∷ rest) ≡ suc (ended_lines rest)
+pub ended_lines-line : (line rest : List ℕ) → HasNoLineEnd line → ended_lines (line ++ 10 ∷ rest) ≡ suc (ended_lines rest)
 ended_lines-line [] rest h = ended_lines-cons 10 rest ∙ one-add (ended_lines rest)
 ended_lines-line (b ∷ line) rest h = ended_lines-cons b (line ++ 10 ∷ rest) ∙ counted (b == 10) (ended_lines (line ++ 10 ∷ rest)) (tested_no b h.0) ∙ ended_lines-line line rest h.1
 

@@ -13,6 +13,7 @@ pub mod OpenedRuns
 pub mod Outcomes
 pub mod Pending
 pub mod Places
+pub mod ReadingOn
 pub mod Recovering
 pub mod Refusals
 pub mod Starting

@@ -2,10 +2,9 @@
 use Rattle.std.specs.Prelude.{◌≡◌, ℕ, ◌+◌, ◌≤◌, List, [], ◌∷◌, ◌++◌, map, refl, Some}
 use Rattle.std.proofs.Common.{sym, ap, subst, ◌∙◌, append_assoc, arith}
 use Rattle.std.specs.FinMap.{entries}
-use Rattle.std.specs.List.{AllByRecursion}
 use Rattle.vl_layout.specs.CommitShows.{committed_entries, shows_committed}
 use Rattle.vl_layout.specs.LayoutShows.{logged_entries-more, place_behind}
-use Rattle.vl_layout.specs.Logs.{committed_records, logged_entries, memtable, new_segment, record_entry}
+use Rattle.vl_layout.specs.Logs.{logged_entries, memtable, new_segment}
 use Rattle.vl_layout.specs.OrderShows.{all-taken_in, shows_taken_in}
 use Rattle.vl_layout.specs.Shows.{AreUpTo, Shows}
 use Rattle.vl_layout.specs.ShowsLaws.{all_both, all_parts}

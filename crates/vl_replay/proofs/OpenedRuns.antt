@@ -28,7 +28,7 @@ use Rattle.vl_replay.proofs.DiskSteps.{IsWatched, exchanges_extend, goes_wider, 
 -- ---- the store wasn't opened
 
 -- how such a run ends: by a refusal, by want of memory, or by the disk
-of_unopened : (P : Ending → Type 0) → ((refusal : Refusal) → P (Refused refusal)) → P NoMemory → P DiskFault → (how : Why) → P (ending_unopened how)
+pub of_unopened : (P : Ending → Type 0) → ((refusal : Refusal) → P (Refused refusal)) → P NoMemory → P DiskFault → (how : Why) → P (ending_unopened how)
 of_unopened P refused out fault why.NotAStore = refused refusals.NotAStore
 of_unopened P refused out fault (why.NewerFormat format) = refused (refusals.NewerFormat format)
 of_unopened P refused out fault (why.Damaged name place) = refused (refusals.Damaged name place)

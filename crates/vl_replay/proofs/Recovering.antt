@@ -1,6 +1,6 @@
 -- A store that `recover` opened: what is kept of it, and what the disk holds.
-use Rattle.std.proofs.Common.{◌≡◌, ◌⊎◌, ℕ, List, [], ◌∷◌, ◌++◌, length, refl, ap, sym, ◌∙◌, subst, inl, inr, arith}
-use Rattle.std.specs.Prelude.{◌≢◌, ◌+◌, Option, Some, None, Ok, map}
+use Rattle.std.proofs.Common.{◌≡◌, ℕ, List, [], ◌∷◌, ◌++◌, length, refl, ap, sym, ◌∙◌, subst, inl, inr, arith}
+use Rattle.std.specs.Prelude.{◌+◌, Option, Some, None, map}
 use Rattle.vl_disk.specs.Crash.{Image}
 use Rattle.vl_disk.specs.DiskState.{DiskState, IsLawful}
 use Rattle.vl_disk.specs.declared.watched.Watched.{Ghosts}
@@ -8,18 +8,18 @@ use Rattle.vl_layout.specs.Logs.{memtable, new_segment}
 use Rattle.vl_layout.specs.Shows.{AreUpTo, Shows}
 use Rattle.vl_layout.specs.declared.segment.Segment.{Segment}
 use Rattle.vl_manifest.specs.declared.state.ManifestState.{ManifestState}
-use Rattle.vl_model.specs.History.{History, last_number}
+use Rattle.vl_model.specs.History.{last_number}
 use Rattle.vl_model.specs.declared.entry.Entry.{Entry}
 use Rattle.vl_model.specs.declared.log_frame.LogFrame.{LogFrame}
-use Rattle.vl_recover.specs.Answers.{Finds, HeldLog, IsNotOpened, Opened, and_made, as_segment, held_log, logs_then, opened_from, used_up}
+use Rattle.vl_recover.specs.Answers.{Finds, HeldLog, IsNotOpened, Opened, and_made, as_segment, held_log, logs_then, opened_from}
 use Rattle.vl_recover.specs.Held.{HoldsStore}
-use Rattle.vl_recover.specs.HeldLaws.{GoOn, log_as_held}
+use Rattle.vl_recover.specs.HeldLaws.{GoOn}
 use Rattle.vl_recover.specs.OneFinding.{same_greatest, same_logs, same_opening}
 use Rattle.vl_recover.specs.Opening.{Opening}
 use Rattle.vl_recover.specs.Plans.{Greatest, active_log, active_of, last_number as last_log, log_behind, log_made, new_state}
 use Rattle.vl_recover.specs.RecoveredLaws.{found_goes_on, found_shows}
 use Rattle.vl_recover.specs.Results.{frozen_log, opened_of}
-use Rattle.vl_recover.specs.Walk.{StandingLog, filled}
+use Rattle.vl_recover.specs.Walk.{StandingLog}
 use Rattle.vl_recover.specs.declared.parts.FrozenLog.{FrozenLog}
 use Rattle.vl_recover.specs.declared.parts.Parts.{Parts}
 use Rattle.vl_replay.specs.Opened.{IsOpenedStore, entries_in}

@@ -1,6 +1,6 @@
 -- Reads of a disk give one refusal at most, and none where the disk opens; and what a refusal puts.
 use Rattle.std.proofs.Common.{◌≡◌, ◌⊎◌, ⊎_elim, inl, inr, refl, sym, ap, subst, ◌∙◌}
-use Rattle.std.specs.Prelude.{Option, None, Some, Result, Ok, Err}
+use Rattle.std.specs.Prelude.{None, Some, Result, Ok, Err}
 use Rattle.vl_disk.specs.Crash.{Image}
 use Rattle.vl_io.specs.declared.sink.Sink as sink
 use Rattle.vl_model.specs.declared.counter.Counter.{Counter}

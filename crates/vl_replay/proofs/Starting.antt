@@ -1,12 +1,12 @@
 -- A store that was opened: what is kept and stored of it, and what a crash leaves meanwhile.
 use Rattle.std.proofs.Common.{◌≡◌, ℕ, zero, suc, take, get_or, ◌<◌, ◌+◌, ◌≤◌, List, [], ◌∷◌, ◌++◌, refl, ap, sym, ◌∙◌, subst, arith, append_assoc}
-use Rattle.std.specs.Prelude.{Option, Some, None, Ok, length, map}
+use Rattle.std.specs.Prelude.{Option, Some, None, length}
 use Rattle.vl_disk.specs.Crash.{Image}
 use Rattle.vl_disk.specs.DiskState.{DiskState}
 use Rattle.vl_disk.specs.Started.{IsRead}
 use Rattle.vl_layout.specs.CommitShows.{same_from}
 use Rattle.vl_layout.specs.declared.segment.Segment.{Segment}
-use Rattle.vl_model.specs.History.{History, last_change, last_number, value_at, value_left}
+use Rattle.vl_model.specs.History.{History, last_number, value_at}
 use Rattle.vl_model.specs.Keys.{Stored}
 use Rattle.vl_model.specs.Winners.{resolved_at, winner}
 use Rattle.vl_model.specs.declared.entry.Body.{Body}
@@ -17,7 +17,7 @@ use Rattle.vl_recover.specs.Answers.{Finds}
 use Rattle.vl_recover.specs.declared.parts.FrozenLog.{FrozenLog}
 use Rattle.vl_seglog.specs.declared.active.ActiveLog.{ActiveLog}
 use Rattle.vl_replay.specs.Opened.{IsOpenedStore, any_number, body_value, entries_in, entry_value, opened_value}
-use Rattle.vl_replay.specs.Represents.{IsReadable, ShowsHistory}
+use Rattle.vl_replay.specs.Represents.{ShowsHistory}
 use Rattle.vl_replay.specs.Sequential.{State}
 use Rattle.vl_disk.specs.Moments.{HoldsThroughout, holds_weaker}
 use Rattle.vl_disk.specs.declared.watched.Watched.{Ghosts}

@@ -9,6 +9,7 @@ pub mod Limits
 pub mod Memtable
 pub mod Opened
 pub mod Opening
+pub mod Reading
 pub mod Represents
 pub mod Runs
 pub mod Sequential

@@ -16,7 +16,7 @@ use Rattle.vl_manifest.specs.States.{fresh_state}
 use Rattle.vl_model.specs.History.{History, contents_at, last_number, no_history, value_at}
 use Rattle.vl_model.specs.HistoryLaws.{get-contents_at, value_at-first}
 use Rattle.vl_model.specs.Keys.{key_cmp}
-use Rattle.vl_recover.specs.Alike.{OpensLike, ShowsAs}
+use Rattle.vl_recover.specs.Alike.{OpensLike}
 use Rattle.vl_recover.specs.AlikeLaws.{like_same, shows_same}
 use Rattle.vl_recover.specs.Answers.{AreStrayNames, Finds, calls_to_open, used_up}
 use Rattle.vl_recover.specs.HeldLaws.{held_may_open, held_opens, held_reads, started_may_open}

@@ -11,6 +11,7 @@ ghost use Rattle.vl_replay.specs.Durable.{HoldsState, CarriesOut};
 ghost use Rattle.vl_replay.specs.Stored.{IsStored, Shown};
 ghost use Rattle.vl_replay.specs.Steps.{IsAnswered, IsNext, EndsAtBadLine, PrintsStep, DiskSteps};
 ghost use Rattle.vl_replay.specs.Halts.{HaltsByDisk};
+ghost use Rattle.vl_replay.specs.Reading.{AnswersText, EndsBadly, ReadsText};
 ghost use Rattle.vl_replay.specs.declared.fails.Refusal.{Refusal};
 
 use crate::ending::{DISK_FAULT, Ending, NO_MEMORY, finish};
@@ -33,6 +34,7 @@ fn carry_out<D: Disk>(
     ensures carries { (s : State) → Represents replayer.old.store s
         → CarriesOut D.Watched IsStored Shown replayer.old.disk replayer.new.disk s (state_behind s (exchange_at s text.now)) result }
     ensures cause { HasCause (D.faults replayer.old.disk) (D.faults replayer.new.disk) (HaltsByDisk result) }
+    ensures reads { IfOk result (λ out. ReadsText text.now (option_map (λ text. text.items) out)) }
 {
     let Some(line) = parse_line(alloc, text)? else {
         return Ok(None);
@@ -52,6 +54,7 @@ pub fn end_at_bad_line<K: Sink>(alloc: Global, answered: u64, sink: &mut K) -> E
     ensures not_the_files { (refusal : Refusal) → result ≢ Ending.Refused refusal }
     ensures not_the_words { result ≢ Ending.BadWords }
     ensures whole { CutsAnswer result → ⊥ }
+    ensures reads { EndsBadly (Unit {0}) answered result (K.held sink.old) (K.held sink.new) }
 {
     let mut line = Vec::new(alloc);
     match print_bad_line(&mut line, answered.saturating_add(1)) {
@@ -81,6 +84,7 @@ pub fn answer<K: Sink, D: Disk>(
     ensures not_the_source { option_map culprit_of result ≢ Some TheSource }
     ensures not_the_files { (refusal : Refusal) → result ≢ Some (Ending.Refused refusal) }
     ensures not_the_words { result ≢ Some Ending.BadWords }
+    ensures reads { AnswersText text.now answered result (K.held sink.old) (K.held sink.new) }
 {
     match carry_out(alloc, replayer, text) {
         Ok(Some(answer)) => match sink.put(&answer) {

@@ -15,6 +15,7 @@ ghost use Rattle.vl_replay.specs.Stored.{IsStored, Shown};
 ghost use Rattle.vl_replay.specs.Start.{AnswersInput, StartsIn, StaysOpenable};
 ghost use Rattle.vl_replay.specs.Opening.{IsRefused};
 ghost use Rattle.vl_replay.specs.declared.fails.Refusal.{Refusal};
+ghost use Rattle.vl_replay.specs.Reading.{AnswersText, HasRead, ReadsInput, ReadsOn, Streams, streams};
 ghost use Rattle.vl_replay.specs.Steps.{IsNext, PrintsStep, DiskSteps, kept, HasToDo, Steps, IsRefusedRun, EndsWithoutOpening};
 
 use crate::answering::{answer, end_at_bad_line};
@@ -55,6 +56,9 @@ impl<D: Disk> Progress<D> {
         ensures disk_faults { CountsFaultsOf TheDisk result (D.faults self.old.replayer.disk) (D.faults self.new.replayer.disk) }
         ensures not_the_files { (refusal : Refusal) → result ≢ Some (Ending.Refused refusal) }
         ensures not_the_words { result ≢ Some Ending.BadWords }
+        ensures reads { (input : List ℕ) (begin : Streams)
+            → HasRead input begin (streams S.Source K.Sink source.old sink.old) self.old.buffer self.old.answered
+            → ReadsOn input begin (streams S.Source K.Sink source.new sink.new) self.new.buffer self.new.answered result }
     {
         match read_line(&mut self.buffer, source, &mut self.line) {
             Ok(Next::Line) => self.answer(sink),
@@ -84,6 +88,7 @@ impl<D: Disk> Progress<D> {
         ensures not_the_source { option_map culprit_of result ≢ Some TheSource }
         ensures not_the_files { (refusal : Refusal) → result ≢ Some (Ending.Refused refusal) }
         ensures not_the_words { result ≢ Some Ending.BadWords }
+        ensures reads { AnswersText self.old.line.items self.old.answered result (K.held sink.old) (K.held sink.new) }
     {
         let ended = answer(
             self.alloc,
@@ -125,6 +130,11 @@ pub fn replay<S: Source, K: Sink, D: Disk>(
     // However the run ends, and whatever failed, a store may be opened on the disk again where one might before.
     ensures again { (s : State) (input : List ℕ) → StartsIn D.Watched disk s → S.left source.old ≡ Some input
         → StaysOpenable D.Watched disk result.disk }
+
+    // Whatever the disk is and holds, the run tells so much of its input.
+    ensures input { (input : List ℕ) → S.left source.old ≡ Some input
+        → ReadsInput input (streams S.Source K.Sink source.old sink.old) (streams S.Source K.Sink source.new sink.new)
+        result.ending }
 {
     match Replayer::new(alloc, disk) {
         Ok(replayer) => answer_lines(alloc, source, sink, replayer),
@@ -152,6 +162,9 @@ fn answer_lines<S: Source, K: Sink, D: Disk>(
     ensures disk_faults { CountsFaultsOf TheDisk (Some result.ending) (D.faults replayer.disk) (D.faults result.disk) }
     ensures not_the_files { (refusal : Refusal) → result.ending ≢ Ending.Refused refusal }
     ensures not_the_words { result.ending ≢ Ending.BadWords }
+    ensures input { (input : List ℕ) → S.left source.old ≡ Some input
+        → ReadsInput input (streams S.Source K.Sink source.old sink.old) (streams S.Source K.Sink source.new sink.new)
+        result.ending }
 {
     let Ok(buffer) = Buffer::new(alloc) else {
         return Ended {

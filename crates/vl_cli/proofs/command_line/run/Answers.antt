@@ -64,6 +64,9 @@ returns-then-are_plain-clause-no_stream_fault g c less =
       steady_by TheSink 7 sink_status ending _ _ c.replay-ending.ensures.sink_faults (below (status_of ending) 7 small (omega arith)) (below (status_of ending) 7 small (omega arith)),
     )
 
+pub returns-then-are_plain-clause-input : goal.returns-then-are_plain-clause-input
+returns-then-are_plain-clause-input g c plain input told = (c.replay-ending.result.ending, c.status-status.ensures, c.replay-ending.ensures.input input told)
+
 -- ---- other words
 
 pub returns-clause-answers : goal.returns-clause-answers
@@ -101,3 +104,6 @@ returns-then-are_plain-clause-again g c s input starts told = c.replay-ending.en
 
 pub returns-clause-again : goal.returns-clause-again
 returns-clause-again g c s input starts told may = may
+
+pub returns-clause-input : goal.returns-clause-input
+returns-clause-input g c plain = absurd (not_both (sym plain ∙ sym c.are_plain.ensures ∙ c.if-are_plain.false))

@@ -2,9 +2,10 @@ use Rattle.std.proofs.Common.{◌∙◌, ap, Err, ℕ, List, refl, subst}
 use Rattle.std.specs.Prelude.{is_ok}
 use Rattle.vl_io.specs.Sink.{Takes, TakesPrefix}
 use Rattle.vl_replay.specs.Endings.{no_memory_line, disk_fault_line}
-use Rattle.vl_replay.specs.declared.ending.Ending.TheVariants.{NoMemory, DiskFault}
+use Rattle.vl_replay.specs.declared.ending.Ending.TheVariants.{NoMemory, DiskFault, AnswerCut}
 use Rattle.vl_replay.proofs.Ends.{answer_cut, finished, finish_counts, before_weaker}
 use Rattle.vl_replay.proofs.Texts.{halts, of_ok, ends_cut, ends_bad, ends_out, ends_fault}
+use Rattle.vl_replay.proofs.ReadingOn.{ends_for, ends_otherwise, finishes_otherwise}
 use Rattle.vl_replay.proofs.answering.answer.Goals as goal
 
 pub returns-in-Ok-clause-printed : goal.returns-in-Ok-clause-printed
@@ -61,3 +62,24 @@ returns-clause-moves g c s stands held =
 
 pub returns-clause-sink_faults : goal.returns-clause-sink_faults
 returns-clause-sink_faults g c = finish_counts g.K.Sink _ _ _ DiskFault c.finish-in-Err-Disk.result (λ e. cc) c.finish-in-Err-Disk.ensures
+
+pub returns-in-Ok-clause-reads : goal.returns-in-Ok-clause-reads
+returns-in-Ok-clause-reads g c =
+    let (is, (answer, out_is)) = rw c.in-Ok-Some.field-0-is at c.in-Ok-Some.ensures.reads in
+    (is, (answer, subst (λ (l : List ℕ). Takes (g.K.Sink.held c.args.sink.now) (g.K.Sink.held c.put.new.self) l) (c.deref.ensures.value ∙ out_is) c.in-Ok.ensures.taken))
+
+pub returns-in-Ok-Some-clause-reads : goal.returns-in-Ok-Some-clause-reads
+returns-in-Ok-Some-clause-reads g c = ends_otherwise _ c.args.answered AnswerCut _ _ (_, c.in-Err.ensures.part.2) (λ e. cc) (λ e. cc)
+
+pub returns-in-Ok-None-clause-reads : goal.returns-in-Ok-None-clause-reads
+returns-in-Ok-None-clause-reads g c =
+    let none = rw c.in-Ok-None.field-0-is at c.in-Ok-None.ensures.reads in
+    ends_for (Unit {0}) _ c.args.answered c.end_at_bad_line.result _ _ none c.end_at_bad_line.ensures.reads
+
+pub returns-in-Err-NoMemory-clause-reads : goal.returns-in-Err-NoMemory-clause-reads
+returns-in-Err-NoMemory-clause-reads g c =
+    finishes_otherwise g.K.Sink c.args.sink.now c.finish.new.sink no_memory_line NoMemory c.finish.result _ c.args.answered (λ e. cc) (λ e. cc) c.finish.ensures
+
+pub returns-clause-reads : goal.returns-clause-reads
+returns-clause-reads g c =
+    finishes_otherwise g.K.Sink c.args.sink.now c.finish-in-Err-Disk.new.sink disk_fault_line DiskFault c.finish-in-Err-Disk.result _ c.args.answered (λ e. cc) (λ e. cc) c.finish-in-Err-Disk.ensures

@@ -56,3 +56,13 @@ pub returns-clause-carries : goal.returns-clause-carries
 returns-clause-carries g c s stands held =
     carries_line g.D.Watched (record { only_now = g.met.D.Disk.only_now; counts_now = g.met.D.Disk.counts_now }) s c.args.text.now c.args.replayer.now.disk c.line.new.self.disk c.in-Some.line c.line.result _
     (sym c.in_ok-line.ensures ∙ c.in-Some.is) (c.line.ensures.carries s stands held) (λ ok. ap is_ok c.in_ok-answer.was) (λ out. absurd (ok_not_out _ out))
+
+pub returns-in_default-clause-reads : goal.returns-in_default-clause-reads
+returns-in_default-clause-reads g c = sym c.in_ok-line.ensures ∙ c.in_default.is
+
+pub returns-clause-reads : goal.returns-clause-reads
+returns-clause-reads g c =
+    let answer = c.in_ok-answer.answer in (
+      (c.in-Some.line, sym c.in_ok-line.ensures ∙ c.in-Some.is),
+      (answer, c.in_ok-print_answer.ensures.text ∙ ap (λ (l : List ℕ). l ++ text_of answer) c.in_ok-out.ensures.items),
+    )

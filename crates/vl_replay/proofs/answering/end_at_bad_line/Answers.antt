@@ -1,10 +1,11 @@
-use Rattle.std.proofs.Common.{◌≡◌, ◌+◌, ◌++◌, ◌∷◌, [], ◌∙◌, ℕ, List, refl, ap, subst}
+use Rattle.std.proofs.Common.{◌≡◌, ◌+◌, ◌++◌, arith, ◌∷◌, [], ◌∙◌, ℕ, List, refl, ap, subst}
 use Rattle.std.specs.Prelude.{codes}
 use Rattle.std.specs.Fmt.{decimal}
 use Rattle.vl_replay.specs.Endings.{Evidence, bad_line, no_memory_line}
 use Rattle.vl_replay.specs.Steps.{Finishes}
 use Rattle.vl_replay.specs.declared.ending.Ending.TheVariants.{BadLine, NoMemory}
 use Rattle.vl_replay.proofs.Ends.{finished, finish_counts, no_cut, bad_line_stops, bad_line_text}
+use Rattle.vl_replay.proofs.ReadingOn.{finishes_badly, finishes_otherwise}
 use Rattle.vl_replay.proofs.answering.end_at_bad_line.Goals as goal
 
 pub returns-in-Ok-clause-printed : goal.returns-in-Ok-clause-printed
@@ -31,3 +32,17 @@ returns-in-Ok-clause-whole g c = no_cut g.K.Sink _ _ _ BadLine c.finish.result (
 
 pub returns-clause-whole : goal.returns-clause-whole
 returns-clause-whole g c = no_cut g.K.Sink _ _ _ NoMemory c.finish-in-Err.result (λ e. cc) c.finish-in-Err.ensures
+
+pub returns-in-Ok-clause-reads : goal.returns-in-Ok-clause-reads
+returns-in-Ok-clause-reads g c =
+    finishes_badly g.K.Sink c.args.sink.now c.finish.new.sink _ c.finish.result c.args.answered
+    (λ before count.
+    let same : before + 0 + 1 ≡ before + 1 = omega arith in
+    c.deref.ensures.value ∙ bad_line_text c.args.answered before c.saturating_add.result c.print_bad_line.new.text.items count c.saturating_add.ensures
+    (c.in-Ok.ensures ∙ ap (λ (l : List ℕ). ((l ++ codes "bad line ") ++ decimal c.saturating_add.result) ++ (10 ∷ [])) c.new-line.ensures.items)
+    ∙ ap bad_line same)
+    c.finish.ensures
+
+pub returns-clause-reads : goal.returns-clause-reads
+returns-clause-reads g c =
+    finishes_otherwise g.K.Sink c.args.sink.now c.finish-in-Err.new.sink no_memory_line NoMemory c.finish-in-Err.result (Unit {0}) c.args.answered (λ e. cc) (λ e. cc) c.finish-in-Err.ensures

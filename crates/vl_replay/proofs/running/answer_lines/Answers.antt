@@ -1,12 +1,14 @@
 use Rattle.std.proofs.Common.{◌∙◌, ℕ, List, refl, arith, subst, sym}
 use Rattle.vl_replay.specs.Endings.{Evidence, no_memory_line}
 use Rattle.vl_replay.specs.Laws.{keeps_up_at_first}
+use Rattle.vl_replay.specs.Reading.{HasRead, streams}
 use Rattle.vl_replay.specs.Runs.{script_of, outside}
 use Rattle.vl_replay.specs.Steps.{kept}
 use Rattle.vl_replay.specs.Stored.{IsStored, Shown}
 use Rattle.vl_replay.specs.declared.ending.Ending.TheVariants.{NoMemory}
 use Rattle.vl_replay.proofs.Ends.{finished, no_cut}
 use Rattle.vl_replay.proofs.Logged.{shown_stays, stored_exactly}
+use Rattle.vl_replay.proofs.ReadingOn.{finished_incomplete, read_nothing, reads_nothing}
 use Rattle.vl_replay.proofs.Stepping.{step_apart}
 use Rattle.vl_replay.proofs.UnderWay.{UnderWay, begun, further, over}
 use Rattle.vl_replay.proofs.running.answer_lines.Goals as goal
@@ -26,6 +28,10 @@ lines-init g c = record {
       let begin = outside g.S.Source g.K.Sink c.args.source.now c.args.sink.now c.args.replayer.disk in
       subst (λ (b : List ℕ). UnderWay g.D.Watched IsStored Shown (script_of s 0 input) begin begin (kept c.args.replayer.store b 0)) (sym c.in-Ok.ensures)
       (begun g.D.Watched (record { only_now = g.met.D.Disk.only_now; counts_now = g.met.D.Disk.counts_now }) IsStored Shown shown_stays stored_exactly s input begin c.args.replayer.store stands told (g.met.S.Source.since_asked c.args.source.now));
+  has_read = λ input told.
+      let begin = streams g.S.Source g.K.Sink c.args.source.now c.args.sink.now in
+      subst (λ (b : List ℕ). HasRead input begin begin b 0) (sym c.in-Ok.ensures)
+      (read_nothing input begin told (keeps_up_at_first input begin.asked (g.met.S.Source.since_asked c.args.source.now input told)));
   source_steady = refl;
   sink_steady = refl;
   disk_steady = refl;
@@ -39,6 +45,7 @@ lines-preserved g c = record {
       (outside g.S.Source g.K.Sink c.args.source.now c.args.sink.now c.args.replayer.disk) (outside g.S.Source g.K.Sink c.lines.source c.lines.sink c.lines.progress.replayer.disk) (outside g.S.Source g.K.Sink c.step.new.source c.step.new.sink c.step.new.self.replayer.disk)
       (kept c.lines.progress.replayer.store c.lines.progress.buffer c.lines.progress.answered) (kept c.step.new.self.replayer.store c.step.new.self.buffer c.step.new.self.answered) u
       (c.in_default-step.ensures.runs u.rest u.to_do);
+  has_read = λ input told. c.in_default-step.ensures.reads input (streams g.S.Source g.K.Sink c.args.source.now c.args.sink.now) (c.lines.invariant.has_read input told);
   source_steady = c.in_default-step.ensures.source_faults.steady (λ e. cc) (λ e. cc) ∙ c.lines.invariant.source_steady;
   sink_steady = c.in_default-step.ensures.sink_faults.steady (λ e. cc) (λ e. cc) ∙ c.lines.invariant.sink_steady;
   disk_steady = c.in_default-step.ensures.disk_faults.steady (λ e. cc) (λ e. cc) ∙ c.lines.invariant.disk_steady;
@@ -53,3 +60,12 @@ returns-in-Some-clause-runs g c s input stands told =
     (outside g.S.Source g.K.Sink c.args.source.now c.args.sink.now c.args.replayer.disk) (outside g.S.Source g.K.Sink c.lines.source c.lines.sink c.lines.progress.replayer.disk) (outside g.S.Source g.K.Sink c.step.new.source c.step.new.sink c.step.new.self.replayer.disk)
     (kept c.lines.progress.replayer.store c.lines.progress.buffer c.lines.progress.answered) (kept c.step.new.self.replayer.store c.step.new.self.buffer c.step.new.self.answered) u
     c.in-Some.ending (omega arith) (omega arith) (c.in-Some.ensures.runs u.rest u.to_do))
+
+pub returns-in_default-clause-input : goal.returns-in_default-clause-input
+returns-in_default-clause-input g c input told =
+    let (some, good) = finished_incomplete g.K.Sink c.args.sink.now c.finish.new.sink no_memory_line NoMemory c.finish.result (λ e. cc) (λ e. cc) c.finish.ensures in
+    reads_nothing input (streams g.S.Source g.K.Sink c.args.source.now c.args.sink.now) (streams g.S.Source g.K.Sink c.args.source.now c.finish.new.sink) c.finish.result (c.finish.ensures.printed, c.finish.ensures.taken) some good
+    (keeps_up_at_first input (g.S.Source.asked c.args.source.now) (g.met.S.Source.since_asked c.args.source.now input told))
+
+pub returns-in-Some-clause-input : goal.returns-in-Some-clause-input
+returns-in-Some-clause-input g c input told = c.in-Some.ensures.reads input (streams g.S.Source g.K.Sink c.args.source.now c.args.sink.now) (c.lines.invariant.has_read input told)

@@ -1,4 +1,5 @@
 use Rattle.std.proofs.Common.{◌≡◌, ◌+◌, ℕ, List, length, Some}
+use Rattle.vl_replay.specs.Reading.{HasRead, streams}
 use Rattle.vl_replay.specs.Represents.{Represents}
 use Rattle.vl_replay.specs.Runs.{script_of, outside}
 use Rattle.vl_replay.specs.Sequential.{State}
@@ -14,6 +15,8 @@ invariant-lines g l =
     record {
       under_way : (s : State) (input : List ℕ) → Represents l.fn.replayer.store s → begin.left ≡ Some input
           → UnderWay g.D.Watched IsStored Shown (script_of s 0 input) begin now (kept l.progress.replayer.store l.progress.buffer l.progress.answered);
+      has_read : (input : List ℕ) → begin.left ≡ Some input
+          → HasRead input (streams g.S.Source g.K.Sink l.fn.source l.fn.sink) (streams g.S.Source g.K.Sink l.source l.sink) l.progress.buffer l.progress.answered;
       source_steady : g.S.Source.faults l.source ≡ g.S.Source.faults l.fn.source;
       sink_steady : g.K.Sink.faults l.sink ≡ g.K.Sink.faults l.fn.sink;
       disk_steady : g.D.Watched.faults l.progress.replayer.disk ≡ g.D.Watched.faults l.fn.replayer.disk;

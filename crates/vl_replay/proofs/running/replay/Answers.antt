@@ -6,12 +6,14 @@ use Rattle.vl_recover.specs.declared.fails.Why.{Why}
 use Rattle.vl_replay.specs.Durable.{Tells}
 use Rattle.vl_replay.specs.Laws.{keeps_up_at_first}
 use Rattle.vl_replay.specs.Opening.{IsFault}
+use Rattle.vl_replay.specs.Reading.{streams}
 use Rattle.vl_replay.specs.Runs.{script_of, outside}
 use Rattle.vl_replay.specs.Start.{IsDurable}
 use Rattle.vl_replay.specs.Stored.{IsStored, Shown}
 use Rattle.std.specs.Prelude.{Some, true, false}
 use Rattle.vl_replay.proofs.Logged.{shown_stays, stored_exactly}
 use Rattle.vl_replay.proofs.OpenedRuns.{ends_opened, ends_refused, refused, refused_nothing, refused_as, refused_line, not_for_words, out_of_memory, counts_sink, counts_source, counts_disk}
+use Rattle.vl_replay.proofs.ReadingOn.{unopened_reads_nothing}
 use Rattle.vl_replay.proofs.Refusals.{fault_for, fault_of, first_for, no_fault, opened_not_refused, refused_for, refused_or_first}
 use Rattle.vl_replay.proofs.running.replay.Goals as goal
 
@@ -103,3 +105,10 @@ pub returns-in-Err-clause-again : goal.returns-in-Err-clause-again
 returns-in-Err-clause-again g c s input starts told (state, is, may) =
     let now = c.in-Err.ensures.tells state is in
     (now.0, now.1, c.in-Err.ensures.again state now.0 is may now.1)
+
+pub returns-in-Err-clause-input : goal.returns-in-Err-clause-input
+returns-in-Err-clause-input g c input told =
+    let ended = c.end_unopened-ending in
+    unopened_reads_nothing g.K.Sink c.args.sink.now ended.new.sink ended.ensures.0 ended.result ended.ensures.2 input
+    (streams g.S.Source g.K.Sink c.args.source.now c.args.sink.now) (streams g.S.Source g.K.Sink c.args.source.now ended.new.sink) (λ taken. taken)
+    (keeps_up_at_first input (g.S.Source.asked c.args.source.now) (g.met.S.Source.since_asked c.args.source.now input told))

@@ -1,6 +1,7 @@
 use Rattle.std.proofs.Common.{◌∙◌, ◌++◌, ℕ, List, refl, subst, sym, ap, Err}
 use Rattle.vl_disk.specs.Faults.{Rose}
 use Rattle.vl_replay.specs.Endings.{Evidence, no_memory_line, read_fault_line}
+use Rattle.vl_replay.specs.Reading.{ReadsOn, streams}
 use Rattle.vl_replay.specs.Runs.{outside}
 use Rattle.vl_replay.specs.Steps.{kept, Steps}
 use Rattle.vl_replay.specs.Stored.{IsStored, Shown}
@@ -8,6 +9,7 @@ use Rattle.vl_replay.specs.declared.ending.Ending.TheVariants.{NoMemory, ReadFau
 use Rattle.vl_replay.specs.declared.input.lines.Next.TheVariants.{Line as WholeLine, LastLine, TooLong, End}
 use Rattle.vl_replay.proofs.Ends.{too_long_is_bad, finished, finish_counts, no_cut, ended_lines-none}
 use Rattle.vl_replay.proofs.Logged.{shown_stays, stored_exactly}
+use Rattle.vl_replay.proofs.ReadingOn.{ends_at_long, finishes_otherwise, reads_all, reads_end, reads_last, reads_line}
 use Rattle.vl_replay.proofs.Stepping.{reads_script, still_keeps_up, next_line, next_last, step_line, step_last, step_apart, step_end}
 use Rattle.vl_replay.proofs.running.Progress.step.Goals as goal
 
@@ -71,3 +73,63 @@ returns-in-Err-Fault-clause-runs g c script to_do =
 
 pub returns-in-Err-Fault-clause-sink_faults : goal.returns-in-Err-Fault-clause-sink_faults
 returns-in-Err-Fault-clause-sink_faults g c = finish_counts g.K.Sink _ _ _ ReadFault c.finish-in-Err-Fault.result (λ e. cc) c.finish-in-Err-Fault.ensures
+
+-- ---- what is told of the input
+
+pub returns-in-Ok-Line-clause-reads : goal.returns-in-Ok-Line-clause-reads
+returns-in-Ok-Line-clause-reads g c input begin h =
+    let old = streams g.S.Source g.K.Sink c.args.source.now c.args.sink.now in
+    let new = streams g.S.Source g.K.Sink c.read_line.new.source c.answer.new.sink in
+    let buffer = c.args.self.now.buffer in
+    let count = c.args.self.now.answered in
+    let reads = rw c.in-Ok-Line.field-0-is at (c.in-Ok-Line.ensures.line h.rest h.left_is) in
+    subst (λ (b : List ℕ). ReadsOn input begin new b c.answer.new.self.answered c.answer.result) (sym c.answer.ensures.same)
+    (reads_line input begin old new buffer count h c.read_line.new.line.items c.read_line.new.buffer c.answer.new.self.answered c.answer.result c.answer.ensures.counted reads c.answer.ensures.reads (c.read_line.ensures.keeps_up h.rest h.left_is h.kept_up))
+
+pub returns-in-Ok-LastLine-clause-reads : goal.returns-in-Ok-LastLine-clause-reads
+returns-in-Ok-LastLine-clause-reads g c input begin h =
+    let answered = c.answer-in-Ok-LastLine in
+    let old = streams g.S.Source g.K.Sink c.args.source.now c.args.sink.now in
+    let new = streams g.S.Source g.K.Sink c.read_line.new.source answered.new.sink in
+    let buffer = c.args.self.now.buffer in
+    let count = c.args.self.now.answered in
+    let reads = rw c.in-Ok-LastLine.field-0-is at (c.in-Ok-LastLine.ensures.line h.rest h.left_is) in
+    reads_last input begin old new buffer count h c.read_line.new.line.items c.read_line.new.buffer answered.result c.unwrap_or.result c.unwrap_or.ensures reads answered.ensures.reads (c.read_line.ensures.keeps_up h.rest h.left_is h.kept_up)
+
+pub returns-in-Ok-TooLong-clause-reads : goal.returns-in-Ok-TooLong-clause-reads
+returns-in-Ok-TooLong-clause-reads g c input begin h =
+    let old = streams g.S.Source g.K.Sink c.args.source.now c.args.sink.now in
+    let new = streams g.S.Source g.K.Sink c.read_line.new.source c.end_at_bad_line.new.sink in
+    let buffer = c.args.self.now.buffer in
+    let count = c.args.self.now.answered in
+    let reads = rw c.in-Ok-TooLong.field-0-is at (c.in-Ok-TooLong.ensures.line h.rest h.left_is) in
+    reads_end input begin old new buffer count h c.end_at_bad_line.result (c.read_line.ensures.keeps_up h.rest h.left_is h.kept_up)
+    (ends_at_long (buffer ++ h.rest) c.read_line.new.line.items c.read_line.new.buffer new.left count c.end_at_bad_line.result old.held new.held reads c.end_at_bad_line.ensures.reads)
+
+pub returns-in-Ok-End-clause-reads : goal.returns-in-Ok-End-clause-reads
+returns-in-Ok-End-clause-reads g c input begin h =
+    let old = streams g.S.Source g.K.Sink c.args.source.now c.args.sink.now in
+    let new = streams g.S.Source g.K.Sink c.read_line.new.source c.args.sink.now in
+    let buffer = c.args.self.now.buffer in
+    let count = c.args.self.now.answered in
+    let reads = rw c.in-Ok-End.field-0-is at (c.in-Ok-End.ensures.line h.rest h.left_is) in
+    reads_all input begin old new buffer count h reads.1 reads.0 refl (c.read_line.ensures.keeps_up h.rest h.left_is h.kept_up)
+
+pub returns-in-Err-NoMemory-clause-reads : goal.returns-in-Err-NoMemory-clause-reads
+returns-in-Err-NoMemory-clause-reads g c input begin h =
+    let old = streams g.S.Source g.K.Sink c.args.source.now c.args.sink.now in
+    let new = streams g.S.Source g.K.Sink c.read_line.new.source c.finish.new.sink in
+    let buffer = c.args.self.now.buffer in
+    let count = c.args.self.now.answered in
+    reads_end input begin old new buffer count h c.finish.result (c.read_line.ensures.keeps_up h.rest h.left_is h.kept_up)
+    (finishes_otherwise g.K.Sink c.args.sink.now c.finish.new.sink no_memory_line NoMemory c.finish.result _ count (λ e. cc) (λ e. cc) c.finish.ensures)
+
+pub returns-in-Err-Fault-clause-reads : goal.returns-in-Err-Fault-clause-reads
+returns-in-Err-Fault-clause-reads g c input begin h =
+    let ended = c.finish-in-Err-Fault in
+    let old = streams g.S.Source g.K.Sink c.args.source.now c.args.sink.now in
+    let new = streams g.S.Source g.K.Sink c.read_line.new.source ended.new.sink in
+    let buffer = c.args.self.now.buffer in
+    let count = c.args.self.now.answered in
+    reads_end input begin old new buffer count h ended.result (c.read_line.ensures.keeps_up h.rest h.left_is h.kept_up)
+    (finishes_otherwise g.K.Sink c.args.sink.now ended.new.sink read_fault_line ReadFault ended.result _ count (λ e. cc) (λ e. cc) ended.ensures)
