@@ -1,6 +1,6 @@
 #!/usr/bin/env bash
-# Stops the program by SIGKILL at twenty points in time, all over one folder. After each stop the next run must show every
-# commit whose answer was printed, and at most one more. No gate calls this.
+# Stops the program by SIGKILL at twenty points in time, all over one folder. After each stop the next run must show
+# every commit whose answer was printed, and at most one more. No gate calls this.
 set -eu
 home="$(cd "$(dirname "${BASH_SOURCE[0]}")/.." && pwd)"
 program="$home/crates/vl_prog/out/vl_prog"

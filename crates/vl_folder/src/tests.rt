@@ -90,6 +90,9 @@ fn another_disk_finds_what_one_left(rt: HostRuntime) -> Result<(), Fail> {
     drop(first);
     assert!(rt; has_only(&rt, &mut second, TABLE));
     assert_eq!(rt; second.size(TABLE)?, 3);
+    // A file that was only read is closed when another one is made, and opened again when it is used.
+    second.ready(LOG, 1)?;
+    make_file(&mut second, LOG, b"e")?;
     second.append(TABLE, b"d")?;
     let mut two = [0; 2];
     second.read(TABLE, 2, &mut two)?;
