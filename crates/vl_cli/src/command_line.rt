@@ -94,7 +94,7 @@ pub fn run<S: Source, K: Sink, D: Disk>(
     // There are no other statuses.
     ensures status { (ending : HowEnded) × (result.status ≡ status_of ending) }
 
-    // However the run ends, and whatever failed, a store may be opened on the disk again where one might before.
+    // Over a disk that opens as a store: however the run ends, and whatever failed, a store may be opened on it again.
     ensures again { (s : State) (input : List ℕ) → StartsIn D.Watched disk s → S.left source.old ≡ Some input
         → StaysOpenable D.Watched disk result.disk }
 

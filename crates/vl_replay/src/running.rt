@@ -127,7 +127,7 @@ pub fn replay<S: Source, K: Sink, D: Disk>(
         → EndsWithoutOpening D.Watched K.Sink disk result.disk sink.old sink.new refusal result.ending
         × (source.new ≡ source.old) }
 
-    // However the run ends, and whatever failed, a store may be opened on the disk again where one might before.
+    // Over a disk that opens as a store: however the run ends, and whatever failed, a store may be opened on it again.
     ensures again { (s : State) (input : List ℕ) → StartsIn D.Watched disk s → S.left source.old ≡ Some input
         → StaysOpenable D.Watched disk result.disk }
 
