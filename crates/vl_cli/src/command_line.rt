@@ -94,7 +94,8 @@ pub fn run<S: Source, K: Sink, D: Disk>(
     // There are no other statuses.
     ensures status { (ending : HowEnded) × (result.status ≡ status_of ending) }
 
-    // Over a disk that opens as a store: however the run ends, and whatever failed, a store may be opened on it again.
+    // Over a source that tells, and a disk on which a store may be opened: however the run ends, and whatever failed, one may
+    // be opened there again.
     ensures again { (s : State) (input : List ℕ) → StartsIn D.Watched disk s → S.left source.old ≡ Some input
         → StaysOpenable D.Watched disk result.disk }
 

@@ -22,6 +22,7 @@ pub fn serve<R: Env + Input + Print + AllocGlobal, D: Disk, M: FnOnce(String) ->
 ) -> Ended<Option<D>>
     requires { M.IsAlwaysCallable make_disk }
     ensures status { (ending : HowEnded) × (result.status ≡ status_of ending) }
+    // The disk is one that `make_disk` gave for a folder, and the run counted its faults. For which folder, `folder_in` says.
     ensures disk { IfSome result.disk (λ disk.
         ServedOver D.Watched (λ made. (folder : _) × M.post make_disk folder made) disk result.status) }
 {

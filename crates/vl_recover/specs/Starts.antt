@@ -19,7 +19,8 @@ HasWrongHeader (Manifest number) file = ⊥
 
 -- A file may stand under this name.
 pub record MayStand (name : Name) (file : File) : Type 0 where
-  -- what reads give has no frame by chance, but for frames behind a wrong header
+  -- Where the header isn't wrong, a frame at the first place that may be torn was handed over, and so was one right behind it.
+  -- As no more than one frame at a time isn't synced, none stands there.
   pub no_chance : (HasWrongHeader name file → ⊥) → NoChanceOne Spells name (Some file) (Some file.bytes)
   -- behind a wrong header no piece is due that goes past the header
   pub headless : HasWrongHeader name file → All (λ piece. piece.place + length piece.bytes ≤ 16) file.due

@@ -118,8 +118,8 @@ pub record DiskEnds {D : Type 0} (g : Ghosts D) (holds : Holding) (shows : Showi
   pub crash_during : CrashesShow g shows old new run.first.history run.most.history
   -- and the disk went through one for each answered line, from which on a crash leaves its commit too
   pub line_by_line : GoesAlong g holds shows new run.most old run.first run.answered
-  -- what a crash leaves after the run's end shows each acknowledged one; so it is over a disk of which each call from some
-  -- put on failed too
+  -- what a crash leaves after the run's end shows each acknowledged one. This covers a stop inside the run too: by the run
+  -- over a disk of which each call fails from that moment on, as docs/PROMISES.md argues
   pub crash_after : Tells g new (Leaves (ShowsBetween shows (last_state run.first run.answered).history run.most.history))
   -- where the disk didn't fail nothing is torn: it wasn't opened, or holds the acknowledged commits, or these and that of
   -- one line more

@@ -44,7 +44,8 @@ pub record StartsIn {D : Type 0} (g : Ghosts D) (disk : D) (s : State) : Type 0 
   pub calls : s.calls ≡ after_calls (calls_to_open found (length strays)) (g.calls disk)
 
 -- Crashes are spoken of where all of the store is durable: whatever a crash leaves of the disk opens as what reads give. So
--- it is with a disk that was just started, and with one that a run left.
+-- it is with a disk that was just started, and with one that a run left
+-- without a fault.
 pub record IsDurable (disk : DiskState) : Type 0 where
   pub may_open : MayOpen disk
   pub as_read : (read image : Image) → IsRead read disk → IsLeft disk image → OpensLike image read

@@ -33,7 +33,7 @@ pub record Finishes {K : Type 0} (g : sink.Ghosts K) (old new : K) (line : List 
   pub how : ((result ≡ ending) × (printed ≡ line) × (g.faults new ≡ g.faults old))
       ⊎ ((result ≡ WriteFault) × IsFront printed line × Rose (g.faults old) (g.faults new))
 
--- so it was with the line that this ending has of its own
+-- so it was with the line that this ending has of its own; none of them has a number in it, for which 0 stands
 abbrev pub FinishesBy : {K : Type 0} → sink.Ghosts K → (old new : K) → (ending result : Ending)
     → Type 0
 FinishesBy g old new ending result =

@@ -106,8 +106,8 @@ impl<D: Disk> Replayer<D> {
         ensures kept { (s : State) → Represents self.old.store s
             → OnErr result (Represents self.new.store s) }
 
-        // Each accepted commit is one synced frame of the log, which is written before the answer.
-        // However the line ends, a store may be opened on the disk again.
+        // Over a disk that holds the state: where there is an answer it holds the state behind the line, in which a commit has
+        // made two calls and its log is longer by a frame. However the line ends, a store may be opened on the disk again.
         ensures carries { (s : State) → Represents self.old.store s
             → CarriesOut D.Watched IsStored Shown self.old.disk self.new.disk s (state_after s line) result }
         ensures no_memory { result ≡ Err Halt.NoMemory

@@ -49,6 +49,7 @@ impl<D: Disk> Progress<D> {
             (outside S.Source K.Sink source.old sink.old self.old.replayer.disk)
             (outside S.Source K.Sink source.new sink.new self.new.replayer.disk)
             (kept self.new.replayer.store self.new.buffer self.new.answered) result }
+        // A step after which the run goes on leaves less to be read, so that the run ends.
         ensures shorter { result ≡ None
             → length self.new.buffer + S.budget source.new < length self.old.buffer + S.budget source.old }
         ensures source_faults { CountsFaultsOf TheSource result (S.faults source.old) (S.faults source.new) }
@@ -127,7 +128,8 @@ pub fn replay<S: Source, K: Sink, D: Disk>(
         → EndsWithoutOpening D.Watched K.Sink disk result.disk sink.old sink.new refusal result.ending
         × (source.new ≡ source.old) }
 
-    // Over a disk that opens as a store: however the run ends, and whatever failed, a store may be opened on it again.
+    // Over a source that tells, and a disk on which a store may be opened: however the run ends, and whatever failed, one may
+    // be opened there again.
     ensures again { (s : State) (input : List ℕ) → StartsIn D.Watched disk s → S.left source.old ≡ Some input
         → StaysOpenable D.Watched disk result.disk }
 
