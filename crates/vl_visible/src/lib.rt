@@ -6,6 +6,8 @@
 
 mod held;
 mod laws;
+#[cfg(test)]
+mod tests;
 mod visible;
 
 pub use laws::visible_entries_are_the_winners;
