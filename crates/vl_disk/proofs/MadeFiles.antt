@@ -102,7 +102,7 @@ module _ {D X E : Type 0} (g : Ghosts D) (name : Name) (bytes : List ℕ) (old o
     failed = create_failed name bytes (g.told old) (g.told one) call.failed;
     calls = tt;
     stops = (1, omega arith, omega arith, call.as_call.calls);
-    time = passes_weaker _ _ _ _ _ _ call.as_call.time (while_created name bytes (g.told old));
+    time = passes_weaker _ _ _ _ call.as_call.time (while_created name bytes (g.told old));
     cause = call.as_call.cause;
     hold = call.spare.hold;
     spare = call.spare.elsewhere;
@@ -111,7 +111,7 @@ module _ {D X E : Type 0} (g : Ghosts D) (name : Name) (bytes : List ℕ) (old o
   module _ (x : X) (creates : Creates {E = E} g name old one (Ok x)) (two : D) where
     -- time until behind the second call
     two_pass : Elapses g one two (WhileAppending name bytes) → Elapses g old two (WhileMaking name bytes)
-    two_pass time = passes_then _ _ _ _ _ _ _ _ _ creates.as_call.time time
+    two_pass time = passes_then _ _ _ _ _ _ creates.as_call.time time
         (while_created name bytes (g.told old)) (while_appended name bytes (g.told old) (g.told one) creates.created)
 
     pub ends_at_append : (e : E) (result : Result X E) → IsErr result → Appends {T = X} g name bytes one two (Err e) → Makes g name bytes old two result
@@ -136,7 +136,7 @@ module _ {D X E : Type 0} (g : Ghosts D) (name : Name) (bytes : List ℕ) (old o
         failed = on_err_weaker result (sync_failed name bytes (g.told old) (g.told one) (g.told two) (g.told new) creates.created appends.appended) call.failed;
         calls = on_ok_always result counts;
         stops = on_err_always result (3, omega arith, omega arith, counts);
-        time = passes_then _ _ _ _ _ _ _ _ _ (two_pass appends.as_call.time) call.as_call.time
+        time = passes_then _ _ _ _ _ _ (two_pass appends.as_call.time) call.as_call.time
             (λ now is. is) (λ now. while_synced name bytes (g.told old) (g.told one) creates.created now (g.told two) appends.appended);
         cause = cause_then _ _ _ _ _ creates.as_call.cause false_true (cause_then _ _ _ _ _ appends.as_call.cause false_true call.as_call.cause);
         hold = ap (λ (s : Spare). s.hold) (call.spare name) ∙ appends.spare.hold ∙ creates.spare.hold;

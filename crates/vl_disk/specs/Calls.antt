@@ -57,7 +57,7 @@ pub record Syncs {D T E : Type 0} (g : Ghosts D) (name : Name) (old new : D) (re
   pub as_call : ChangingCall g old new (WhileSyncing name) (IsErr result)
   pub spare : SameSpare (g.spare old) (g.spare new)
 
--- a file keeps its bytes, of which no more than so many are durable
+-- a file keeps its bytes, but isn't wholly synced any more, and no more of them than so many are durable
 abbrev pub OnlyLowers : Name → ℕ → (old new : Option DiskState) → Type 0
 OnlyLowers name len old new =
     ForSome old (λ disk. IsChangedBy (cut_to name len (length (file_at disk name).bytes)) old new)

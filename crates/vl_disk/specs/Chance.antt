@@ -26,7 +26,8 @@ torn_from file = max 16 file.synced
 abbrev pub WasHandedOver : File → ℕ → List ℕ → Type 0
 WasHandedOver file place frame = Any (StandsIn place frame) file.due
 
--- Where the bytes that a crash left of this file may be torn, they have only frames that were handed over there.
+-- Of the frames that a crash left of this file where it may be torn, the first, and one right behind it, were handed over for
+-- their places.
 -- `spells place frame` says that they have at this place a frame with these bytes.
 pub record HasOnlyHandedOver (file : File) (spells : ℕ → List ℕ → Type 0) : Type 0 where
   -- a frame at the first place that may be torn was handed over for that place,

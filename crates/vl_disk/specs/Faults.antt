@@ -1,5 +1,5 @@
 -- The counts of calls and of faults that each outside object has: a disk, a reader, a source, a sink.
-use Rattle.std.specs.Prelude.{◌≡◌, ◌+◌, ◌-◌, ◌^◌, ◌≤◌, ℕ, zero, suc, min}
+use Rattle.std.specs.Prelude.{◌≡◌, ◌+◌, ◌-◌, ◌^◌, ◌<◌, ◌≤◌, ℕ, zero, suc, min, Option, None, Some}
 
 -- one more; a count stands still at its last value
 abbrev pub one_more : ℕ → ℕ
@@ -19,3 +19,13 @@ pub record HasCause (before now : ℕ) (failed : Type 0) : Type 0 where
   pub later : before ≤ now
   pub rose : failed → Rose before now
   pub steady : (failed → ⊥) → now ≡ before
+
+-- A fault was counted for each call past the stop, and for nothing else. The counts stand still at their last value.
+pub record CountsPastStop (stop calls faults : ℕ) : Type 0 where
+  pub at_least : calls - stop ≤ faults
+  pub exactly : calls < 2 ^ 64 - 1 → faults ≡ calls - stop
+
+-- the same where there may be no stop, so that nothing fails
+abbrev pub CountsPast : Option ℕ → (calls faults : ℕ) → Type 0
+CountsPast None calls faults = faults ≡ 0
+CountsPast (Some stop) calls faults = CountsPastStop stop calls faults

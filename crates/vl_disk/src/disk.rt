@@ -1,8 +1,9 @@
-ghost use Rattle.std.specs.Prelude.{◌≡◌, ℕ, ◌+◌, ◌≤◌, length, Some, IsTrue, All, IfOk, OnOk, OnErr, IsErr, IsErrOf};
+ghost use Rattle.std.specs.Prelude.{◌≡◌, ℕ, ◌+◌, ◌≤◌, length, Option, Some, IsTrue, All, IfOk, OnOk, OnErr, IsErr, IsErrOf};
 ghost use Rattle.std.specs.Option.{ForSome};
 ghost use Rattle.vl_disk.specs.declared.name.Name.{Name};
 ghost use Rattle.vl_disk.specs.Name.{IsNumbered};
 ghost use Rattle.vl_disk.specs.DiskState.{DiskState, IsLawful, bytes_at, file_at};
+ghost use Rattle.vl_disk.specs.Faults.{CountsPast};
 ghost use Rattle.vl_disk.specs.Disk.{Stands, IsFree, IsInside, Lists};
 ghost use Rattle.vl_disk.specs.Spare.{IsReady, CanAppend, SameSpare, SameSpareElsewhere, UsesHold};
 ghost use Rattle.vl_disk.specs.Calls.{ChangesNothing, Creates, Appends, Syncs, Cuts, Removes};
@@ -103,4 +104,8 @@ pub trait Disk: Watched {
     /// Since this moment it was only what it is.
     ghost only_now: { (disk : Self) (state other : DiskState)
         → Self.told disk ≡ Some state → Self.states_since disk (Self.moment disk) other → other ≡ state };
+
+    /// It has counted a fault for each call that was to fail, and no other.
+    ghost counts_past: { (disk : Self) (stop : Option ℕ)
+        → Self.fails_past disk stop → CountsPast stop (Self.calls disk) (Self.faults disk) };
 }

@@ -26,4 +26,8 @@ pub trait Watched {
 
     /// Whether a changing call that fails leaves what a read gives of each file, and which files stand, as they are.
     ghost fails_cleanly: { Bool };
+
+    /// Of its calls just the changing ones past so many fail, or none. A disk that doesn't tell when it fails claims
+    /// nothing.
+    ghost fails_past: { Self → Option ℕ → Type 0 };
 }

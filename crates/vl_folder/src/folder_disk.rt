@@ -73,6 +73,8 @@ impl<R: Files<File = File>> Watched for FolderDisk<R> {
     ghost spare = { λ _ _. all_room };
 
     ghost fails_cleanly = { false };
+
+    ghost fails_past = { λ _ _. ⊥ };
 }
 
 impl<R: Files<File = File> + Drop> Disk for FolderDisk<R> {
@@ -87,6 +89,8 @@ impl<R: Files<File = File> + Drop> Disk for FolderDisk<R> {
     ghost counts_now = { λ _ state _ told _. untold state told };
 
     ghost only_now = { λ _ state _ told _. untold state told };
+
+    ghost counts_past = { λ _ _ past. absurd past };
 
     fn list(&mut self, alloc: Global) -> Result<Vec<Name>, ListFail> {
         match self.folder.list(alloc) {

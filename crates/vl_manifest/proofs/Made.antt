@@ -9,7 +9,7 @@ use Rattle.vl_disk.specs.Calls.{ChangesNothing}
 use Rattle.vl_disk.specs.Crash.{Unchanged}
 use Rattle.vl_disk.specs.Faults.{HasCause, after_calls}
 use Rattle.vl_disk.specs.MadeFile.{Makes, TellsPart, WhileMaking, made, not_there}
-use Rattle.vl_disk.specs.Moments.{Elapses, While, passes_then}
+use Rattle.vl_disk.specs.Moments.{Elapses, While, passes_then, past_of}
 use Rattle.vl_disk.specs.Spare.{SameSpareElsewhere}
 use Rattle.vl_manifest.specs.declared.edit.Edit.{Edit}
 use Rattle.vl_manifest.specs.declared.fails.IoFail.TheVariants.{Disk}
@@ -33,7 +33,7 @@ module _ {D : Type 0} (g : Ghosts D) (number : ℕ) (edits : List Edit) (old mid
 
   time : Elapses g mid new (WhileMaking (names.Manifest number) (new_manifest number edits))
       → Elapses g old new (WhileMaking (names.Manifest number) (new_manifest number edits))
-  time making = passes_then (g.moment old) (g.moment mid) (g.moment new) (g.states_since old) (g.states_since mid) (g.states_since new)
+  time making = passes_then (past_of g old) (past_of g mid) (past_of g new)
       (While (g.told old) Unchanged) (While (g.told mid) (WhileMaking (names.Manifest number) (new_manifest number edits)))
       (While (g.told old) (WhileMaking (names.Manifest number) (new_manifest number edits))) no_change.time making
       (λ state before disk is. not_there (before disk is)) (λ state meanwhile disk is. meanwhile disk (no_change.told ∙ is))

@@ -11,7 +11,7 @@ use Rattle.vl_disk.specs.Crash.{WhileCreating, WhileAppending, WhileSyncing, Whi
 use Rattle.vl_disk.specs.Disk.{Stands, IsInside, IsChangedBy}
 use Rattle.vl_disk.specs.Faults.{HasCause}
 use Rattle.vl_disk.specs.Lawful.{synced_again}
-use Rattle.vl_disk.specs.Moments.{Passes, While}
+use Rattle.vl_disk.specs.Moments.{Passes, While, past_of}
 use Rattle.vl_disk.specs.Spare.{SameSpare, UsesChange, UsesAppend}
 use Rattle.vl_disk.specs.Standing.{changed_stands, created_stands, removed_free}
 use Rattle.vl_mem.specs.contracts.mem_disk.MemDiskWatched.TheImpl as memory
@@ -22,6 +22,7 @@ use Rattle.vl_mem.specs.ChangePlan.{FollowsPlan}
 use Rattle.vl_mem.specs.Entry.{Entries, HasFiles, entry_of, file_of, plain, standing_in}
 use Rattle.vl_mem.specs.Event.{after_event, replayed-push, state_after, told_lawful, WasSince}
 use Rattle.vl_mem.specs.MemDisk.{state_of, told_by, room_of, Goes}
+use Rattle.vl_mem.specs.FailsPast.{FailsPast, changed_past, same_past}
 use Rattle.vl_mem.proofs.Steps.{stood}
 
 abbrev watched : Ghosts MemDisk
@@ -38,22 +39,36 @@ false_true e = cc
 le_or_last : (k n : ℕ) → k ≤ n + 1 → (k ≤ n) ⊎ (k ≡ n + 1)
 le_or_last k n le = grind arith
 
-passes_push : (events later : List Event) (event : Event) (P : DiskState → Type 0) → later ≡ events ++ event ∷ [] → ((now : DiskState) → now ≡ after_event event (state_after events) → P now)
-    → Passes (length events) (length later) (WasSince events) (WasSince later) P
-passes_push events later event P pushed there = subst (λ es. Passes (length events) (length es) (WasSince events) (WasSince es) P) (sym pushed) (record {
+-- the call left one event, and fails when it was to
+passes_push : (old new : MemDisk) (event : Event) (P : DiskState → Type 0) → new.events.items ≡ old.events.items ++ event ∷ []
+    → ((now : DiskState) → now ≡ after_event event (state_of old) → P now)
+    → ((stop : Option ℕ) → FailsPast old stop → FailsPast new stop) → Passes (past_of watched old) (past_of watched new) P
+passes_push old new event P pushed there planned = record {
   later = omega (arith, longer);
-  nothing_else = λ t now le left. ⊎_elim
-      (λ (within : left.0 ≤ length events). inl (left.0, left.1, within, left.3 ∙ ap state_after (take-append-le left.0 events (event ∷ []) within)))
-      (λ (last : left.0 ≡ length events + 1). inr (there now (left.3 ∙ ap state_after (take_all left.0 (events ++ event ∷ []) (omega (arith, longer, last))) ∙ replayed-push events event empty_disk)))
-      (le_or_last left.0 (length events) (omega (arith, longer, left.2)));
-  keeps = λ t now le left. (left.0, left.1, omega (arith, longer, left.2), left.3 ∙ sym (ap state_after (take-append-le left.0 events (event ∷ []) left.2)));
-})
+  nothing_else = λ t now le left. let was = subst (λ es. WasSince es t now) pushed left in ⊎_elim
+      (λ (within : was.0 ≤ length events). inl (was.0, was.1, within, was.3 ∙ ap state_after (take-append-le was.0 events (event ∷ []) within)))
+      (λ (last : was.0 ≡ length events + 1). inr (there now (was.3 ∙ ap state_after (take_all was.0 (events ++ event ∷ []) (omega (arith, length-append events (event ∷ []), last))) ∙ replayed-push events event empty_disk)))
+      (le_or_last was.0 (length events) (omega (arith, length-append events (event ∷ []), was.2)));
+  keeps = λ t now le left. subst (λ es. WasSince es t now) (sym pushed)
+      (left.0, left.1, omega (arith, length-append events (event ∷ []), left.2), left.3 ∙ sym (ap state_after (take-append-le left.0 events (event ∷ []) left.2)));
+  as_planned = planned;
+}
   where
-    longer : length (events ++ event ∷ []) ≡ length events + 1
-    longer = length-append events (event ∷ [])
+    events : List Event
+    events = old.events.items
 
-passes_still : (events : List Event) (P : DiskState → Type 0) → Passes (length events) (length events) (WasSince events) (WasSince events) P
-passes_still events P = record { later = omega arith; nothing_else = λ t now le left. inl left; keeps = λ t now le left. left }
+    longer : length new.events.items ≡ length events + 1
+    longer = ap length pushed ∙ length-append events (event ∷ [])
+
+-- and where it left none
+pub passes_still : (old new : MemDisk) (P : DiskState → Type 0) → new.events.items ≡ old.events.items
+    → ((stop : Option ℕ) → FailsPast old stop → FailsPast new stop) → Passes (past_of watched old) (past_of watched new) P
+passes_still old new P same planned = record {
+  later = omega (arith, ap length same);
+  nothing_else = λ t now le left. inl (subst (λ es. WasSince es t now) same left);
+  keeps = λ t now le left. subst (λ es. WasSince es t now) (sym same) left;
+  as_planned = planned;
+}
 
 -- ---- counts
 
@@ -89,8 +104,9 @@ module _ (old mid new : MemDisk) (failed : Bool) (counts : Counts old mid failed
     as_call : (during : DiskState → DiskState → Type 0) → ((next : DiskState) → next ≡ change now → during now next) → ChangingCall watched old new during (IsTrue failed)
     as_call during meanwhile = record {
       calls = ap (λ p. p.listed.calls) goes.changes ∙ counts.follows.calls;
-      time = passes_push old.events.items new.events.items goes.event (While (told_by old) during) pushed
-          (λ next is disk told. subst (λ d. during d next) (some_state now disk told) (meanwhile next (is ∙ goes.does now)));
+      time = passes_push old new goes.event (While (told_by old) during) pushed
+          (λ next is disk told. subst (λ d. during d next) (some_state now disk told) (meanwhile next (is ∙ goes.does now)))
+          (λ stop past. same_past mid new stop (changed_past old mid stop past (IsTrue failed) counts.follows counts.reads) goes.changes goes.reads);
       cause = subst (λ n. HasCause (old.changes.listed.faults + old.reads.faults) n (IsTrue failed))
           (sym (ap (λ p. p.listed.faults + new.reads.faults) goes.changes ∙ ap (λ p. mid.changes.listed.faults + p.faults) (goes.reads ∙ counts.reads)))
           (cause_of old.changes.listed.faults mid.changes.listed.faults old.reads.faults failed counts.cause);
@@ -214,8 +230,8 @@ syncs_again name old new entry x stands counts found whole spare = record {
   stands = λ disk is. subst (Stands name) (some_state (state_of old) disk (sym (ap (λ es. Some (state_after es)) counts.events) ∙ is)) stands;
   as_call = record {
     calls = counts.follows.calls;
-    time = subst (λ es. Passes (length old.events.items) (length es) (WasSince old.events.items) (WasSince es) (While (told_by old) (WhileSyncing name))) (sym counts.events)
-        (passes_still old.events.items (While (told_by old) (WhileSyncing name)));
+    time = passes_still old new (While (told_by old) (WhileSyncing name)) counts.events
+        (λ stop past. changed_past old new stop past (IsTrue false) counts.follows counts.reads);
     cause = subst (λ n. HasCause (old.changes.listed.faults + old.reads.faults) n (IsTrue false)) (ap (λ p. new.changes.listed.faults + p.faults) (sym counts.reads))
         (cause_of old.changes.listed.faults new.changes.listed.faults old.reads.faults false counts.cause);
   };

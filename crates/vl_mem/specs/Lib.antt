@@ -7,4 +7,4 @@ pub mod Event
 pub mod Held
 pub mod Kept
 pub mod MemDisk
-pub mod StopsAt
+pub mod FailsPast

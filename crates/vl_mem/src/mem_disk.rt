@@ -134,6 +134,7 @@ impl Watched for MemDisk {
     ghost use Rattle.vl_disk.specs.Started.{Started};
     ghost use Rattle.vl_mem.specs.Kept.{image_of};
     ghost use Rattle.vl_mem.specs.MemDisk.{told_by, moment_of, was_since, changes_of, faults_of, room_of};
+    ghost use Rattle.vl_mem.specs.FailsPast.{FailsPast};
 
     ghost told = { told_by };
 
@@ -148,6 +149,8 @@ impl Watched for MemDisk {
     ghost spare = { room_of };
 
     ghost fails_cleanly = { true };
+
+    ghost fails_past = { FailsPast };
 }
 
 impl Disk for MemDisk {
@@ -165,12 +168,15 @@ impl Disk for MemDisk {
     ghost use Rattle.vl_disk.specs.Spare.{IsReady, CanAppend, SameSpare, SameSpareElsewhere, UsesHold};
     ghost use Rattle.vl_mem.specs.Event.{told_lawful, counts_present, only_present};
     ghost use Rattle.vl_mem.specs.MemDisk.{told_by, room_of, changes_of, reads_of, reads_by, CountsChange, CountsRead};
+    ghost use Rattle.vl_mem.specs.FailsPast.{counted_past};
 
     ghost lawful = { λ m. told_lawful m.events.items m.kept.sound };
 
     ghost counts_now = { λ m. counts_present m.events.items };
 
     ghost only_now = { λ m. only_present m.events.items };
+
+    ghost counts_past = { counted_past };
 
     fn list(&mut self, alloc: Global) -> Result<Vec<Name>, ListFail>
         ensures names { IfOk result (λ names. ForSome (told_by self.old) (Lists names.items)) }

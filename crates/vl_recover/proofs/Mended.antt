@@ -4,7 +4,7 @@ use Rattle.std.specs.Prelude.{true, false, Result, Ok, Err, IfErr, IsErr, IsErrA
 use Rattle.std.specs.Option.{ForSome}
 use Rattle.vl_disk.specs.DiskState.{DiskState}
 use Rattle.vl_disk.specs.MadeFile.{WhileMaking}
-use Rattle.vl_disk.specs.Moments.{While, passes_weaker}
+use Rattle.vl_disk.specs.Moments.{While, passes_weaker, past_of}
 use Rattle.vl_disk.specs.Standing.{holds_after}
 use Rattle.vl_disk.specs.declared.name.Name.{Name}
 use Rattle.vl_disk.specs.declared.name.Name.TheVariants.{Manifest}
@@ -98,7 +98,7 @@ module _ {D : Type 0} (g : Ghosts D) (plan : MendingPlan) (edits : List Edit) (s
         at = tt;
         no_room = λ _. makes.answer;
         tells = same_tells (g.told old) (g.told mid) makes.answer.told;
-        time = passes_weaker (g.moment old) (g.moment mid) (g.states_since old) (g.states_since mid)
+        time = passes_weaker (past_of g old) (past_of g mid)
             (While (g.told old) (WhileMaking (Manifest plan.manifest) view.piece)) (While (g.told old) (WhileMending view)) makes.time
             (λ now is disk told. at_manifest (is disk told));
         cause = makes.cause;
@@ -110,7 +110,7 @@ module _ {D : Type 0} (g : Ghosts D) (plan : MendingPlan) (edits : List Edit) (s
         at = is_manifest makes.answer.name_is;
         no_room = λ e. absurd (disk_room name e);
         tells = part_tells (Manifest plan.manifest) view.piece (g.told old) (g.told mid) makes.answer.part;
-        time = passes_weaker (g.moment old) (g.moment mid) (g.states_since old) (g.states_since mid)
+        time = passes_weaker (past_of g old) (past_of g mid)
             (While (g.told old) (WhileMaking (Manifest plan.manifest) view.piece)) (While (g.told old) (WhileMending view)) makes.time
             (λ now is disk told. at_manifest (is disk told));
         cause = makes.cause;

@@ -8,7 +8,7 @@ use Rattle.vl_disk.specs.Disk.{IsChangedBy}
 use Rattle.vl_disk.specs.DiskState.{DiskState, appended, cut_to, synced, without}
 use Rattle.vl_disk.specs.Faults.{HasCause, after_calls, one_more}
 use Rattle.vl_disk.specs.MadeFile.{Makes, TellsPart, WhileMaking, made}
-use Rattle.vl_disk.specs.Moments.{While, passes_none, passes_then, passes_weaker}
+use Rattle.vl_disk.specs.Moments.{While, passes_none, passes_then, passes_weaker, past_of}
 use Rattle.vl_disk.specs.declared.failed.Failed.{Failed}
 use Rattle.vl_disk.specs.declared.name.Name.{Name}
 use Rattle.vl_disk.specs.declared.name.Name.TheVariants.{Log}
@@ -146,7 +146,7 @@ module _ {D T E : Type 0} (g : Ghosts D) (old new : D) where
     done = stays (g.told old);
     calls = refl;
     tells = λ state is. (state, is);
-    time = passes_none (g.moment old) (g.states_since old) (While (g.told old) during);
+    time = passes_none (past_of g old) (While (g.told old) during);
     cause = record { later = omega arith; rose = λ fault. absurd (false_true fault); steady = λ fine. refl };
   })
     where
@@ -162,7 +162,7 @@ module _ {D T E : Type 0} (g : Ghosts D) (old new : D) where
       done = step.done;
       calls = subst (λ (k : ℕ). OnOk result (g.calls new ≡ after_calls k (g.calls old))) same step.calls;
       tells = step.tells;
-      time = passes_weaker (g.moment old) (g.moment new) (g.states_since old) (g.states_since new)
+      time = passes_weaker (past_of g old) (past_of g new)
           (While (g.told old) during) (While (g.told old) meanwhile) step.time
           (λ now is disk told. weaker disk now (is disk told));
       cause = step.cause;
@@ -176,7 +176,7 @@ module _ {D T E : Type 0} (g : Ghosts D) (old new : D) where
       done = tt;
       calls = tt;
       tells = step.tells;
-      time = passes_weaker (g.moment old) (g.moment new) (g.states_since old) (g.states_since new)
+      time = passes_weaker (past_of g old) (past_of g new)
           (While (g.told old) during) (While (g.told old) meanwhile) step.time
           (λ now is disk told. weaker disk now (is disk told));
       cause = record { later = step.cause.later; rose = λ fault. step.cause.rose refl; steady = λ fine. absurd (fine refl) };
@@ -197,7 +197,7 @@ module _ {D T U E F : Type 0} (g : Ghosts D) (after later : DiskState → DiskSt
     done = both result second.done;
     calls = counted result second.calls;
     tells = λ state is. second.tells (after state) (first.done ∙ ap (option_map after) is);
-    time = passes_then (g.moment old) (g.moment mid) (g.moment new) (g.states_since old) (g.states_since mid) (g.states_since new)
+    time = passes_then (past_of g old) (past_of g mid) (past_of g new)
         (While (g.told old) during) (While (g.told mid) meanwhile) (While (g.told old) (λ disk now. during disk now ⊎ meanwhile (after disk) now))
         first.time second.time
         (λ now is disk told. inl (is disk told))

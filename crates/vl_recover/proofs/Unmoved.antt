@@ -1,19 +1,19 @@
 -- Calls that change nothing, one behind the other.
-use Rattle.std.proofs.Common.{◌≡◌, ℕ, refl, sym, ◌∙◌, subst, arith, inl}
+use Rattle.std.proofs.Common.{◌≡◌, ℕ, refl, sym, ◌∙◌, subst, arith}
 use Rattle.std.specs.Option.{ForSome}
 use Rattle.vl_disk.specs.declared.watched.Watched.{Ghosts}
 use Rattle.vl_disk.specs.Calls.{ChangesNothing}
 use Rattle.vl_disk.specs.Crash.{Unchanged}
 use Rattle.vl_disk.specs.DiskState.{DiskState}
 use Rattle.vl_disk.specs.Faults.{Rose}
-use Rattle.vl_disk.specs.Moments.{While, passes_then}
+use Rattle.vl_disk.specs.Moments.{While, passes_none, passes_then, past_of}
 
 module _ {D : Type 0} (g : Ghosts D) where
   pub no_call : (disk : D) → ChangesNothing g disk disk ⊥
   no_call disk = record {
     told = refl;
     calls = refl;
-    time = record { later = omega arith; nothing_else = λ t state earlier was. inl was; keeps = λ t state earlier was. was };
+    time = passes_none (past_of g disk) (While (g.told disk) Unchanged);
     cause = record { later = omega arith; rose = λ none. absurd none; steady = λ _. refl };
   }
 
@@ -21,7 +21,7 @@ module _ {D : Type 0} (g : Ghosts D) where
   then_call a b c failed first second = record {
     told = second.told ∙ first.told;
     calls = second.calls ∙ first.calls;
-    time = passes_then (g.moment a) (g.moment b) (g.moment c) (g.states_since a) (g.states_since b) (g.states_since c)
+    time = passes_then (past_of g a) (past_of g b) (past_of g c)
         (While (g.told a) Unchanged) (While (g.told b) Unchanged) (While (g.told a) Unchanged) first.time second.time
         (λ state now. now)
         (λ state now disk is. now disk (first.told ∙ is));
