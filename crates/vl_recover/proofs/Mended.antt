@@ -36,7 +36,7 @@ module _ {D : Type 0} (g : Ghosts D) (plan : Plan) where
       (λ disk now. WhileLast plan.last disk now ⊎ WhileLog plan.log (behind_last plan.last disk) now) (WhileBehind plan)
       (calls_to_make plan.log + calls_to_mend plan.last) (calls_behind plan)
       (λ disk now during. ⊎_elim (λ (w : WhileLast plan.last disk now). inl w) (λ (w : WhileLog plan.log (behind_last plan.last disk) now). inr (inl w)) during)
-      (behind_manifest plan) e result stopped
+      (behind_manifest plan) e result stopped (omega arith)
       (performs_then g (behind_last plan.last) (behind_log plan.log) (WhileLast plan.last) (WhileLog plan.log) (calls_to_mend plan.last) (calls_to_make plan.log) old mid new x (Err e)
       (subst (λ (r : Result T E). MendsLast g plan.last old mid r) went last)
       (subst (λ (r : Result U F). MakesLog g plan.log mid new r) failed log))
@@ -95,6 +95,7 @@ module _ {D : Type 0} (g : Ghosts D) (plan : MendingPlan) (edits : List Edit) (s
         manifest = tt;
         done = tt;
         calls = tt;
+        stops = (0, omega arith, makes.answer.calls);
         at = tt;
         no_room = λ _. makes.answer;
         tells = same_tells (g.told old) (g.told mid) makes.answer.told;
@@ -107,6 +108,7 @@ module _ {D : Type 0} (g : Ghosts D) (plan : MendingPlan) (edits : List Edit) (s
         manifest = tt;
         done = tt;
         calls = tt;
+        stops = (makes.answer.stops.0, omega (arith, makes.answer.stops.2), makes.answer.stops.3);
         at = is_manifest makes.answer.name_is;
         no_room = λ e. absurd (disk_room name e);
         tells = part_tells (Manifest plan.manifest) view.piece (g.told old) (g.told mid) makes.answer.part;
@@ -128,6 +130,7 @@ module _ {D : Type 0} (g : Ghosts D) (plan : MendingPlan) (edits : List Edit) (s
     first_step = record {
       done = done_so.answer.file;
       calls = done_so.answer.calls;
+      stops = tt;
       tells = changed_tells (with_manifest view) (g.told old) (g.told mid) done_so.answer.file;
       time = done_so.time;
       cause = record { later = done_so.cause.later; rose = λ fault. absurd (false_true fault); steady = λ _. done_so.cause.steady (λ no. no) };
@@ -162,6 +165,7 @@ module _ {D : Type 0} (g : Ghosts D) (plan : MendingPlan) (edits : List Edit) (s
             manifest = done_so.answer.log_is;
             done = step.done;
             calls = step.calls;
+            stops = tt;
             at = tt;
             no_room = λ e. absurd (ok_err log fails.NoMemory e);
             tells = step.tells;
@@ -180,6 +184,7 @@ module _ {D : Type 0} (g : Ghosts D) (plan : MendingPlan) (edits : List Edit) (s
             manifest = tt;
             done = tt;
             calls = tt;
+            stops = step.stops;
             at = at;
             no_room = λ e. absurd (disk_room name e);
             tells = step.tells;

@@ -1,5 +1,5 @@
 -- What an opening gives, by what was prepared and how the mending went.
-use Rattle.std.proofs.Common.{◌≡◌, ℕ, ◌+◌, ◌≤◌, List, [], ◌∷◌, length, map, ⊎_elim, refl, sym, ap, subst, ◌∙◌}
+use Rattle.std.proofs.Common.{◌≡◌, ℕ, ◌+◌, ◌≤◌, List, [], ◌∷◌, length, map, ⊎_elim, refl, sym, ap, subst, ◌∙◌, arith}
 use Rattle.std.specs.Prelude.{Option, None, Some, Result, Ok, Err, IfErr}
 use Rattle.std.specs.Option.{ForSome, option_map}
 use Rattle.vl_disk.specs.Calls.{ChangesNothing}
@@ -25,7 +25,7 @@ use Rattle.vl_recover.specs.Deciding.{IsPrepared, opened_by}
 use Rattle.vl_recover.specs.Finding.{IsFaultAt}
 use Rattle.vl_recover.specs.Held.{HoldsStore}
 use Rattle.vl_recover.specs.Meanwhile.{FaultsAt, IsAsLong, IsFaultName, IsMeanwhile, IsMended, Mending, as_before, at_list, at_mended, at_mending, at_read}
-use Rattle.vl_recover.specs.Mending.{Plan, WhileMending, mended}
+use Rattle.vl_recover.specs.Mending.{Plan, WhileMending, calls_of_plan, mended}
 use Rattle.vl_recover.specs.MendingLaws.{plan_calls}
 use Rattle.vl_recover.specs.MendingMayOpen.{mending_may_open}
 use Rattle.vl_recover.specs.MendingOpens.{mended_holds, mending_opens}
@@ -36,7 +36,7 @@ use Rattle.vl_recover.specs.Plans.{new_state}
 use Rattle.vl_recover.specs.ReadImage.{read_image}
 use Rattle.vl_recover.specs.Results.{HasFailed, FailsWithoutFault, came_by, frozen_log}
 use Rattle.vl_recover.specs.Starts.{MayOpen}
-use Rattle.vl_recover.specs.Steps.{IsFailAt, Mends}
+use Rattle.vl_recover.specs.Steps.{IsFailAt, MakesSome, Mends}
 use Rattle.vl_recover.specs.declared.fails.Why.{Why}
 use Rattle.vl_recover.specs.declared.fails.Why.TheVariants as why
 use Rattle.vl_recover.specs.declared.prepared.Prepared.{Prepared}
@@ -177,6 +177,29 @@ module _ {D : Type 0} (g : Ghosts D) (only_now : (disk : D) (state other : DiskS
         mends.calls
         ∙ ap (λ (n : ℕ). after_calls n (g.calls mid)) (plan_calls is.finds done is.plan ∙ ap (calls_to_open is.finds) many ∙ same_calls read is.finds found (length strays))
         ∙ ap (after_calls (calls_to_open found (length strays))) no_change.calls
+
+  -- and where the disk failed or memory ran out
+  module _ (new : D) (prepared : Prepared) (result : Result ManifestLog IoFail) (e : IoFail) (is_err : result ≡ Err e)
+      (mends : Mends g (plan_view prepared.plan) mid new result) (read : Image) (is_read : IsRead read state) (is : IsPrepared read prepared) (found : Finds read) where
+    pub calls_stopped : (strays : List Name) → AreStrayNames read found.opening.state.head strays
+        → MakesSome (calls_to_open found (length strays)) (g.calls old) (g.calls new)
+    calls_stopped strays are =
+        let plan : Plan = plan_view prepared.plan in
+        let many : length plan.strays ≡ length strays = as_many read found.opening.state.head plan.strays strays
+        (subst (λ (o : Opening). AreStrayNames read o.state.head plan.strays) (same_opening read is.finds found) is.plan.strays) are in
+        let counted : calls_of_plan plan ≡ calls_to_open found (length strays) =
+        plan_calls is.finds plan is.plan ∙ ap (calls_to_open is.finds) many ∙ same_calls read is.finds found (length strays) in
+        let stops : MakesSome (calls_of_plan plan) (g.calls mid) (g.calls new) =
+        (subst (λ (r : Result ManifestLog IoFail). Mends g plan mid new r) is_err mends).stops in (
+          stops.0,
+          subst (λ (n : ℕ). stops.0 ≤ n) counted stops.1,
+          stops.2 ∙ ap (after_calls stops.0) no_change.calls,
+        )
+
+-- none where nothing was changed
+pub none_made : {D : Type 0} (g : Ghosts D) (old new : D) (failed : Type 0) (count : ℕ) → ChangesNothing g old new failed
+    → MakesSome count (g.calls old) (g.calls new)
+none_made g old new failed count no_change = (0, omega arith, no_change.calls)
 
 -- the manifest is the one that was made
 pub as_long : (plan : Plan) (state given : ManifestState) (log end : ManifestLog) → plan.piece ≡ manifest_bytes plan.manifest (whole_edits state ∷ [])

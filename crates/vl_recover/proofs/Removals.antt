@@ -77,5 +77,5 @@ module _ {D : Type 0} (g : Ghosts D) (start now new : D) (all : List Name) where
     removing_stops (Err f) e result at failed stopped call =
         so_far.ends new result (subst (λ (names : List Name). RemovesAll g names now new result) (sym is)
         (performs_stop g now new (without name) (WhileRemoving name) (WhileStrays (name ∷ rest)) 1 (length (name ∷ rest))
-        (λ disk state during. inl during) (behind_strays (name ∷ rest)) f result stopped
+        (λ disk state during. inl during) (behind_strays (name ∷ rest)) f result stopped (omega arith)
         (remove_performs g now new name (Err f) call)))

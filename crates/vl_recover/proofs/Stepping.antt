@@ -1,6 +1,6 @@
 -- Steps of a mending: each call is one, and one behind another is one.
 use Rattle.std.proofs.Common.{◌≡◌, ◌⊎◌, ⊎_elim, inl, inr, ℕ, ◌+◌, List, length, refl, sym, ap, subst, ◌∙◌, arith}
-use Rattle.std.specs.Prelude.{zero, suc, true, false, Option, None, Some, Result, Ok, Err, IfErr, IsErr, IsErrAnd, OnOk}
+use Rattle.std.specs.Prelude.{zero, suc, true, false, Option, None, Some, Result, Ok, Err, IfErr, IsErr, IsErrAnd, OnErr, OnOk, ◌≤◌}
 use Rattle.std.specs.Option.{option_map}
 use Rattle.vl_disk.specs.Calls.{Appends, Cuts, Removes, Syncs}
 use Rattle.vl_disk.specs.Crash.{WhileAppending, WhileCutting, WhileRemoving, WhileSyncing}
@@ -16,7 +16,7 @@ use Rattle.vl_disk.specs.declared.watched.Watched.{Ghosts}
 use Rattle.vl_recover.specs.Mending.{LastLog, NoLast, WhileLast, WhileLog, behind_last, calls_to_mend}
 use Rattle.vl_recover.specs.PlanViews.{at_file}
 use Rattle.vl_seglog.specs.Frames.{log_header}
-use Rattle.vl_recover.specs.Steps.{GoesOnTelling, MakesLog, MendsLast, Performs}
+use Rattle.vl_recover.specs.Steps.{GoesOnTelling, MakesLog, MakesSome, MendsLast, Performs}
 
 false_true : false ≡ true → ⊥
 false_true e = cc
@@ -49,6 +49,7 @@ module _ {D T E : Type 0} (g : Ghosts D) (old new : D) where
   cut_performs name len (Ok x) call = record {
     done = call.cut;
     calls = call.as_call.calls;
+    stops = tt;
     tells = changed_tells (cut_to name len len) (g.told old) (g.told new) call.cut;
     time = call.as_call.time;
     cause = call.as_call.cause;
@@ -56,6 +57,7 @@ module _ {D T E : Type 0} (g : Ghosts D) (old new : D) where
   cut_performs name len (Err e) call = record {
     done = tt;
     calls = tt;
+    stops = (1, omega arith, call.as_call.calls);
     tells = changed_tells (cut_to name len call.failed.0) (g.told old) (g.told new) call.failed.3;
     time = call.as_call.time;
     cause = call.as_call.cause;
@@ -66,6 +68,7 @@ module _ {D T E : Type 0} (g : Ghosts D) (old new : D) where
   append_performs name piece (Ok x) call = record {
     done = call.appended;
     calls = call.as_call.calls;
+    stops = tt;
     tells = changed_tells (appended name piece (length piece)) (g.told old) (g.told new) call.appended;
     time = call.as_call.time;
     cause = call.as_call.cause;
@@ -73,6 +76,7 @@ module _ {D T E : Type 0} (g : Ghosts D) (old new : D) where
   append_performs name piece (Err e) call = record {
     done = tt;
     calls = tt;
+    stops = (1, omega arith, call.as_call.calls);
     tells = changed_tells (appended name piece call.failed.0) (g.told old) (g.told new) call.failed.2;
     time = call.as_call.time;
     cause = call.as_call.cause;
@@ -89,6 +93,7 @@ module _ {D T E : Type 0} (g : Ghosts D) (old new : D) where
   sync_performs name (Ok x) call = record {
     done = call.synced;
     calls = call.as_call.calls;
+    stops = tt;
     tells = changed_tells (synced name) (g.told old) (g.told new) call.synced;
     time = call.as_call.time;
     cause = call.as_call.cause;
@@ -96,6 +101,7 @@ module _ {D T E : Type 0} (g : Ghosts D) (old new : D) where
   sync_performs name (Err e) call = record {
     done = tt;
     calls = tt;
+    stops = (1, omega arith, call.as_call.calls);
     tells = same_tells (g.told old) (g.told new) call.failed;
     time = call.as_call.time;
     cause = call.as_call.cause;
@@ -106,6 +112,7 @@ module _ {D T E : Type 0} (g : Ghosts D) (old new : D) where
   remove_performs name (Ok x) call = record {
     done = call.removed;
     calls = call.as_call.calls;
+    stops = tt;
     tells = changed_tells (without name) (g.told old) (g.told new) call.removed;
     time = call.as_call.time;
     cause = call.as_call.cause;
@@ -113,6 +120,7 @@ module _ {D T E : Type 0} (g : Ghosts D) (old new : D) where
   remove_performs name (Err e) call = record {
     done = tt;
     calls = tt;
+    stops = (1, omega arith, call.as_call.calls);
     tells = ⊎_elim
         (λ (same : g.told new ≡ g.told old). same_tells (g.told old) (g.told new) same)
         (λ (gone : IsChangedBy (without name) (g.told old) (g.told new)). changed_tells (without name) (g.told old) (g.told new) gone)
@@ -127,6 +135,7 @@ module _ {D T E : Type 0} (g : Ghosts D) (old new : D) where
   make_performs name bytes (Ok x) call = record {
     done = call.made;
     calls = call.calls;
+    stops = tt;
     tells = changed_tells (made name bytes) (g.told old) (g.told new) call.made;
     time = call.time;
     cause = call.cause;
@@ -134,6 +143,7 @@ module _ {D T E : Type 0} (g : Ghosts D) (old new : D) where
   make_performs name bytes (Err e) call = record {
     done = tt;
     calls = tt;
+    stops = (call.stops.0, call.stops.2, call.stops.3);
     tells = part_tells name bytes (g.told old) (g.told new) call.failed;
     time = call.time;
     cause = call.cause;
@@ -145,6 +155,7 @@ module _ {D T E : Type 0} (g : Ghosts D) (old new : D) where
   nothing_performed x during same = subst (λ (d : D). Performs {T = T} {E = E} g (λ disk. disk) during 0 old d (Ok x)) (sym same) (record {
     done = stays (g.told old);
     calls = refl;
+    stops = tt;
     tells = λ state is. (state, is);
     time = passes_none (past_of g old) (While (g.told old) during);
     cause = record { later = omega arith; rose = λ fault. absurd (false_true fault); steady = λ fine. refl };
@@ -161,6 +172,7 @@ module _ {D T E : Type 0} (g : Ghosts D) (old new : D) where
     performs_as result same step = record {
       done = step.done;
       calls = subst (λ (k : ℕ). OnOk result (g.calls new ≡ after_calls k (g.calls old))) same step.calls;
+      stops = subst (λ (k : ℕ). OnErr result (MakesSome k (g.calls old) (g.calls new))) same step.stops;
       tells = step.tells;
       time = passes_weaker (past_of g old) (past_of g new)
           (While (g.told old) during) (While (g.told old) meanwhile) step.time
@@ -169,12 +181,13 @@ module _ {D T E : Type 0} (g : Ghosts D) (old new : D) where
     }
 
     -- it failed, and the whole with it
-    pub performs_stop : {U F : Type 0} (later : DiskState → DiskState) (e : E) (result : Result U F) → IsErr result
+    pub performs_stop : {U F : Type 0} (later : DiskState → DiskState) (e : E) (result : Result U F) → IsErr result → n ≤ m
         → Performs {T = T} g after during n old new (Err e) → Performs g later meanwhile m old new result
-    performs_stop later e (Ok x) failed step = absurd (false_true failed)
-    performs_stop later e (Err f) failed step = record {
+    performs_stop later e (Ok x) failed less step = absurd (false_true failed)
+    performs_stop later e (Err f) failed less step = record {
       done = tt;
       calls = tt;
+      stops = (step.stops.0, omega (arith, less, step.stops.1), step.stops.2);
       tells = step.tells;
       time = passes_weaker (past_of g old) (past_of g new)
           (While (g.told old) during) (While (g.told old) meanwhile) step.time
@@ -185,8 +198,8 @@ module _ {D T E : Type 0} (g : Ghosts D) (old new : D) where
 -- with the file's name where it failed
 pub performs_at : {D A : Type 0} (g : Ghosts D) (after : DiskState → DiskState) (during : DiskState → DiskState → Type 0) (n : ℕ) (old new : D)
     (name : Name) (result : Result A Failed) → Performs g after during n old new result → Performs g after during n old new (at_file name result)
-performs_at g after during n old new name (Ok x) step = record { done = step.done; calls = step.calls; tells = step.tells; time = step.time; cause = step.cause }
-performs_at g after during n old new name (Err e) step = record { done = tt; calls = tt; tells = step.tells; time = step.time; cause = step.cause }
+performs_at g after during n old new name (Ok x) step = record { done = step.done; calls = step.calls; stops = tt; tells = step.tells; time = step.time; cause = step.cause }
+performs_at g after during n old new name (Err e) step = record { done = tt; calls = tt; stops = step.stops; tells = step.tells; time = step.time; cause = step.cause }
 
 -- One step behind another.
 module _ {D T U E F : Type 0} (g : Ghosts D) (after later : DiskState → DiskState) (during meanwhile : DiskState → DiskState → Type 0) (n m : ℕ)
@@ -196,6 +209,7 @@ module _ {D T U E F : Type 0} (g : Ghosts D) (after later : DiskState → DiskSt
   performs_then result first second = record {
     done = both result second.done;
     calls = counted result second.calls;
+    stops = some result second.stops;
     tells = λ state is. second.tells (after state) (first.done ∙ ap (option_map after) is);
     time = passes_then (past_of g old) (past_of g mid) (past_of g new)
         (While (g.told old) during) (While (g.told mid) meanwhile) (While (g.told old) (λ disk now. during disk now ⊎ meanwhile (after disk) now))
@@ -212,6 +226,10 @@ module _ {D T U E F : Type 0} (g : Ghosts D) (after later : DiskState → DiskSt
       both : (r : Result U F) → OnOk r (IsChangedBy later (g.told mid) (g.told new)) → OnOk r (IsChangedBy (λ disk. later (after disk)) (g.told old) (g.told new))
       both (Ok y) changed = changed ∙ ap (option_map later) first.done ∙ one (g.told old)
       both (Err f) changed = tt
+
+      some : (r : Result U F) → OnErr r (MakesSome m (g.calls mid) (g.calls new)) → OnErr r (MakesSome (m + n) (g.calls old) (g.calls new))
+      some (Ok y) is = tt
+      some (Err f) is = (is.0 + n, omega (arith, is.1), is.2 ∙ ap (after_calls is.0) first.calls ∙ sym (calls_then is.0 n (g.calls old)))
 
       counted : (r : Result U F) → OnOk r (g.calls new ≡ after_calls m (g.calls mid)) → OnOk r (g.calls new ≡ after_calls (m + n) (g.calls old))
       counted (Ok y) is = is ∙ ap (after_calls m) first.calls ∙ sym (calls_then m n (g.calls old))

@@ -19,8 +19,8 @@ HasWrongHeader (Manifest number) file = ⊥
 
 -- A file may stand under this name.
 pub record MayStand (name : Name) (file : File) : Type 0 where
-  -- Where the header isn't wrong, a frame at the first place that may be torn was handed over, and so was one right behind it.
-  -- As no more than one frame at a time isn't synced, none stands there.
+  -- Where the header isn't wrong and the file isn't wholly synced: a frame that a read gives at the first place that may be torn
+  -- was handed over there, and so was one right behind it, if any.
   pub no_chance : (HasWrongHeader name file → ⊥) → NoChanceOne Spells name (Some file) (Some file.bytes)
   -- behind a wrong header no piece is due that goes past the header
   pub headless : HasWrongHeader name file → All (λ piece. piece.place + length piece.bytes ≤ 16) file.due
@@ -32,7 +32,7 @@ AllMayStand disk = (name : Name) (file : File) → get disk.standing name ≡ So
 -- A store may be opened on it. So it is with a disk that was just started, and with one that an opening or a run left.
 pub record MayOpen (disk : DiskState) : Type 0 where
   pub files : AllMayStand disk
-  -- whatever a crash could leave says the same state
+  -- whatever a crash could leave says the same state, where both it and what a read gives open
   pub says : (read before : Image) (o p : Opening) → IsRead read disk → Opens read (Ok o)
       → IsLeft disk before → Opens before (Ok p) → SameState o.state p.state
   -- what was removed is below: a manifest below one that stands,

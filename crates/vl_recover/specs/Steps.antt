@@ -1,5 +1,5 @@
 -- What a step of a mending does: some changing calls, one behind the other, of which one that fails is the last.
-use Rattle.std.specs.Prelude.{◌≡◌, ◌⊎◌, ℕ, ◌+◌, length, List, Option, Some, Result, Err, IfErr, IfOk, OnOk, IsErr}
+use Rattle.std.specs.Prelude.{◌≡◌, ◌⊎◌, ℕ, ◌+◌, length, ◌≤◌, List, Option, Some, Result, Err, IfErr, IfOk, OnOk, OnErr, IsErr}
 use Rattle.vl_disk.specs.Calls.{ChangesNothing}
 use Rattle.vl_disk.specs.Disk.{IsChangedBy}
 use Rattle.vl_disk.specs.DiskState.{DiskState}
@@ -20,6 +20,10 @@ abbrev pub GoesOnTelling : Option DiskState → Option DiskState → Type 0
 GoesOnTelling old new =
     (state : DiskState) → old ≡ Some state → (now : DiskState) × (new ≡ Some now)
 
+-- some of so many changing calls were made, or all
+abbrev pub MakesSome : (count before now : ℕ) → Type 0
+MakesSome count before now = (n : ℕ) × (n ≤ count) × (now ≡ after_calls n before)
+
 -- A step, by what it makes of a disk, what the disk may be meanwhile, and the count of its calls.
 pub record Performs {D T E : Type 0} (g : Ghosts D) (after : DiskState → DiskState)
     (during : DiskState → DiskState → Type 0) (count : ℕ) (old new : D) (result : Result T E) : Type 0 where
@@ -27,6 +31,8 @@ pub record Performs {D T E : Type 0} (g : Ghosts D) (after : DiskState → DiskS
   pub done : OnOk result (IsChangedBy after (g.told old) (g.told new))
   -- after just so many changing calls
   pub calls : OnOk result (g.calls new ≡ after_calls count (g.calls old))
+  -- where it failed, after some of them
+  pub stops : OnErr result (MakesSome count (g.calls old) (g.calls new))
   pub tells : GoesOnTelling (g.told old) (g.told new)
   pub time : Elapses g old new during
   pub cause : HasCause (g.faults old) (g.faults new) (IsErr result)
@@ -75,6 +81,7 @@ pub record Mends {D : Type 0} (g : Ghosts D) (plan : Plan) (old new : D)
   pub manifest : IfOk result (λ log. log ≡ record { number = plan.manifest; length = length plan.piece })
   pub done : OnOk result (IsChangedBy (mended plan) (g.told old) (g.told new))
   pub calls : OnOk result (g.calls new ≡ after_calls (calls_of_plan plan) (g.calls old))
+  pub stops : OnErr result (MakesSome (calls_of_plan plan) (g.calls old) (g.calls new))
   -- where the disk failed, it was at a file of the plan; for want of memory it does nothing
   pub at : IfErr result (IsFailAt plan)
   pub no_room : result ≡ Err NoMemory → ChangesNothing g old new ⊥

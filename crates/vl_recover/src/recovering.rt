@@ -1,4 +1,4 @@
-ghost use Rattle.std.specs.Prelude.{◌≡◌, ℕ, List, length, Some, IfOk};
+ghost use Rattle.std.specs.Prelude.{◌≡◌, ℕ, List, length, Some, IfErr, IfOk};
 ghost use Rattle.std.specs.Option.{ForSome};
 ghost use Rattle.vl_disk.specs.Calls.{ChangesNothing};
 ghost use Rattle.vl_disk.specs.Crash.{Image};
@@ -16,6 +16,7 @@ ghost use Rattle.vl_recover.specs.Held.{HoldsStore};
 ghost use Rattle.vl_recover.specs.Meanwhile.{FaultsAt, IsAsLong, IsMeanwhile, IsMended};
 ghost use Rattle.vl_recover.specs.Results.{HasFailed, FailsWithoutFault, came, disk_of, opened_of};
 ghost use Rattle.vl_recover.specs.Starts.{MayOpen};
+ghost use Rattle.vl_recover.specs.Steps.{MakesSome};
 
 use crate::mending::mend;
 use crate::prepared::Prepared;
@@ -78,6 +79,12 @@ pub fn recover<D: Disk>(alloc: Global, disk: D, room: u64) -> Result<Parts<D>, O
     // The log that takes commits stands, and has only its header.
     ensures stands { IfOk result (λ parts. ForSome (D.told parts.disk) (Stands (Log parts.active.number))) }
     ensures active { IfOk result (λ parts. parts.active.length ≡ 16) }
+
+    // Where it failed, it was asked for some of these calls, or for none.
+    ensures stopped { (state : DiskState) (read : Image) (found : Finds read) (strays : List Name)
+        → D.told disk ≡ Some state → IsRead read state
+        → AreStrayNames read found.opening.state.head strays
+        → IfErr result (λ fail. MakesSome (calls_to_open found (length strays)) (D.calls disk) (D.calls fail.disk)) }
 {
     let mut disk = disk;
     let prepared = match prepare(alloc, &mut disk) {

@@ -1,8 +1,9 @@
 -- A store that was opened: what is kept and stored of it, and what a crash leaves meanwhile.
-use Rattle.std.proofs.Common.{◌≡◌, ℕ, zero, suc, take, get_or, ◌<◌, ◌+◌, ◌≤◌, List, [], ◌∷◌, ◌++◌, refl, ap, sym, ◌∙◌, subst, arith, append_assoc}
+use Rattle.std.proofs.Common.{◌≡◌, ℕ, zero, suc, take, get_or, ◌<◌, ◌+◌, ◌-◌, ◌^◌, ◌≤◌, List, [], ◌∷◌, ◌++◌, refl, ap, sym, ◌∙◌, subst, arith, append_assoc}
 use Rattle.std.specs.Prelude.{Option, Some, None, length}
 use Rattle.vl_disk.specs.Crash.{Image}
 use Rattle.vl_disk.specs.DiskState.{DiskState}
+use Rattle.vl_disk.specs.Faults.{after_calls}
 use Rattle.vl_disk.specs.Started.{IsRead}
 use Rattle.vl_layout.specs.CommitShows.{same_from}
 use Rattle.vl_layout.specs.declared.segment.Segment.{Segment}
@@ -14,6 +15,7 @@ use Rattle.vl_model.specs.declared.entry.Body.TheVariants.{Far, Gone, Inline, Lo
 use Rattle.vl_model.specs.declared.entry.Entry.{Entry}
 use Rattle.vl_recover.specs.Alike.{IsLeft, OpensAsOf}
 use Rattle.vl_recover.specs.Answers.{Finds}
+use Rattle.vl_recover.specs.Steps.{MakesSome}
 use Rattle.vl_recover.specs.declared.parts.FrozenLog.{FrozenLog}
 use Rattle.vl_seglog.specs.declared.active.ActiveLog.{ActiveLog}
 use Rattle.vl_replay.specs.Opened.{IsOpenedStore, any_number, body_value, entries_in, entry_value, opened_value}
@@ -109,3 +111,29 @@ opening_goes g old new s starts state is durable through =
     holds_weaker g (OpensAsOf state) (Leaves (ShowsBetween Shown s.history s.history)) old new through
     (λ now as_of image left. between_exactly Shown s.history image (subst (Shown image s.history) number
     (opening_shows state durable starts.read read starts.found s.history starts.shows now as_of image left)))
+
+-- ---- how many calls an opening makes
+
+-- a count stays within its type
+within_type : (n count : ℕ) → count ≤ 2 ^ 64 - 1 → after_calls n count ≤ 2 ^ 64 - 1
+within_type zero count below = below
+within_type (suc n) count below = omega arith
+
+-- more calls are counted as no fewer
+more_calls : (k n count : ℕ) → count ≤ 2 ^ 64 - 1 → after_calls n count ≤ after_calls (k + n) count
+more_calls zero n count below = ap_le (let e : 0 + n ≡ n = omega arith in e)
+  where
+    ap_le : (0 + n) ≡ n → after_calls n count ≤ after_calls (0 + n) count
+    ap_le e = subst (λ (m : ℕ). after_calls n count ≤ after_calls m count) (sym e) (omega arith)
+more_calls (suc k) n count below =
+    let e : suc k + n ≡ suc (k + n) = omega arith in
+    let so_far = more_calls k n count below in
+    let last = within_type (k + n) count below in
+    subst (λ (m : ℕ). after_calls n count ≤ after_calls m count) (sym e) (omega (arith, so_far, last))
+
+pub at_most : (count before now most : ℕ) → before ≤ 2 ^ 64 - 1 → MakesSome count before now → most ≡ after_calls count before → now ≤ most
+at_most count before now most below (n, within, is) all =
+    let e : (count - n) + n ≡ count = omega (arith, within) in
+    let less : after_calls n before ≤ after_calls ((count - n) + n) before = more_calls (count - n) n before below in
+    let same : after_calls ((count - n) + n) before ≡ after_calls count before = ap (λ (k : ℕ). after_calls k before) e in
+    omega (arith, less, same, is, all)

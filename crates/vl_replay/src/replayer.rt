@@ -1,5 +1,5 @@
 //! A script's lines answered, one after the other, over the disk that holds the store.
-ghost use Rattle.std.specs.Prelude.{◌≡◌, ◌≢◌, Some, Err, IfOk, IfErr, IsErr, OnOk, OnErr};
+ghost use Rattle.std.specs.Prelude.{◌≡◌, ◌≢◌, ◌≤◌, ◌^◌, ◌-◌, Some, Err, IfOk, IfErr, IsErr, OnOk, OnErr};
 ghost use Rattle.std.specs.Option.{ForSome};
 ghost use Rattle.vl_disk.specs.declared.name.Name.TheVariants as names;
 ghost use Rattle.vl_disk.specs.DiskState.{DiskState};
@@ -86,6 +86,10 @@ impl<D: Disk> Replayer<D> {
         // And a store may be opened on the disk again, whatever is answered.
         ensures again { (state now : DiskState) → D.told disk ≡ Some state → MayOpen state
             → D.told (disk_behind result) ≡ Some now → MayOpen now }
+
+        // Whatever is answered, it asked for no more changing calls than the opened store counts.
+        ensures at_most { (s : State) → StartsIn D.Watched disk s → D.calls disk ≤ 2 ^ 64 - 1
+            → D.calls (disk_behind result) ≤ s.calls }
     {
         match recover(alloc, disk, MAX_ROOM) {
             Ok(parts) => Ok(Replayer {

@@ -1,4 +1,4 @@
-use Rattle.std.proofs.Common.{inl}
+use Rattle.std.proofs.Common.{arith, inl}
 use Rattle.vl_disk.specs.Crash.{WhileCutting, WhileSyncing}
 use Rattle.vl_disk.specs.DiskState.{cut_to, synced}
 use Rattle.vl_disk.specs.declared.name.Name.TheVariants.{Log}
@@ -11,7 +11,7 @@ returns-in_err-cut-clause-mended g c =
     let name = Log c.args.number in
     let len = c.args.length in
     performs_stop g.D.Watched _ _ (cut_to name len len) (WhileCutting name len) (WhileLast (Cut c.args.number len)) 1 2 (λ disk now is. inl is)
-    (behind_last (Cut c.args.number len)) _ c.from_residual.result c.from_residual.ensures.0
+    (behind_last (Cut c.args.number len)) _ c.from_residual.result c.from_residual.ensures.0 (omega arith)
     (cut_performs g.D.Watched _ _ name len _ c.in_err-cut.ensures)
 
 pub returns-clause-mended : goal.returns-clause-mended

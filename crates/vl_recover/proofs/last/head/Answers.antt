@@ -1,4 +1,4 @@
-use Rattle.std.proofs.Common.{inl}
+use Rattle.std.proofs.Common.{arith, inl}
 use Rattle.vl_disk.specs.Crash.{WhileAppending, WhileSyncing}
 use Rattle.vl_disk.specs.DiskState.{synced}
 use Rattle.vl_disk.specs.declared.name.Name.TheVariants.{Log}
@@ -11,7 +11,7 @@ pub returns-in_err-append-clause-mended : goal.returns-in_err-append-clause-mend
 returns-in_err-append-clause-mended g c =
     let name = Log c.args.number in
     performs_stop g.D.Watched _ _ (headed c.args.number) (WhileAppending name (log_header c.args.number)) (WhileLast (Headed c.args.number)) 1 2 (λ disk now is. inl is)
-    (behind_last (Headed c.args.number)) _ c.from_residual.result c.from_residual.ensures.0
+    (behind_last (Headed c.args.number)) _ c.from_residual.result c.from_residual.ensures.0 (omega arith)
     (append_as g.D.Watched _ _ name _ (log_header c.args.number) _ c.log_header.ensures c.in_err-append.ensures)
 
 pub returns-clause-mended : goal.returns-clause-mended

@@ -1,4 +1,4 @@
-use Rattle.std.proofs.Common.{inl}
+use Rattle.std.proofs.Common.{arith, inl}
 use Rattle.vl_disk.specs.Crash.{WhileCutting}
 use Rattle.vl_disk.specs.DiskState.{cut_to}
 use Rattle.vl_disk.specs.declared.name.Name.TheVariants.{Log}
@@ -10,7 +10,7 @@ pub returns-in_err-cut-clause-mended : goal.returns-in_err-cut-clause-mended
 returns-in_err-cut-clause-mended g c =
     let name = Log c.args.number in
     performs_stop g.D.Watched _ _ (cut_to name 0 0) (WhileCutting name 0) (WhileLast (Rewritten c.args.number)) 1 3 (λ disk now is. inl is)
-    (behind_last (Rewritten c.args.number)) _ c.from_residual.result c.from_residual.ensures.0
+    (behind_last (Rewritten c.args.number)) _ c.from_residual.result c.from_residual.ensures.0 (omega arith)
     (cut_performs g.D.Watched _ _ name 0 _ c.in_err-cut.ensures)
 
 pub returns-clause-mended : goal.returns-clause-mended

@@ -4,7 +4,7 @@ use Rattle.vl_manifest.specs.Manifest.{manifest_bytes}
 use Rattle.vl_recover.specs.OneFinding.{opened_not}
 use Rattle.vl_recover.specs.PlanViews.{plan_view}
 use Rattle.vl_recover.specs.Results.{HasFailed, came_by}
-use Rattle.vl_recover.proofs.Recovered.{active_stays, as_long, calls_counted, disk_mended, mended_again, mended_faults, mended_meanwhile, mended_tells, mended_through, opened_same, read_faults, refused_fine, still_tells, store_held, unchanged_again, unchanged_meanwhile, unchanged_through}
+use Rattle.vl_recover.proofs.Recovered.{active_stays, as_long, calls_counted, calls_stopped, none_made, disk_mended, mended_again, mended_faults, mended_meanwhile, mended_tells, mended_through, opened_same, read_faults, refused_fine, still_tells, store_held, unchanged_again, unchanged_meanwhile, unchanged_through}
 use Rattle.vl_recover.proofs.Unmoved.{call_as, then_call}
 use Rattle.vl_seglog.specs.declared.active.ActiveLog.{ActiveLog}
 use Rattle.vl_recover.proofs.recovering.recover.Goals as goal
@@ -150,3 +150,18 @@ pub returns-clause-at : goal.returns-clause-at
 returns-clause-at g c state read told is_read =
     let failed = rw c.in-Err-Disk.field-0-is at c.in-Err-Disk.is in
     mended_faults read state c.in-Ok.prepared (c.in-Ok.ensures.answer state read told is_read) c.mend.result c.in-Err-Disk.name failed c.mend.ensures.at
+
+-- and how many calls it had made
+pub returns-in-Err-clause-stopped : goal.returns-in-Err-clause-stopped
+returns-in-Err-clause-stopped g c state read found strays told is_read are = none_made g.D.Watched _ _ _ _ c.in-Err.ensures.no_change
+
+pub returns-in-Err-NoMemory-clause-stopped : goal.returns-in-Err-NoMemory-clause-stopped
+returns-in-Err-NoMemory-clause-stopped g c state read found strays told is_read are =
+    let failed = rw c.in-Err-NoMemory.field-0-is at c.in-Err-NoMemory.is in
+    none_made g.D.Watched _ _ _ _ (then_call g.D.Watched _ _ _ ⊥ c.in-Ok.ensures.no_change (c.mend.ensures.no_room failed))
+
+pub returns-clause-stopped : goal.returns-clause-stopped
+returns-clause-stopped g c state read found strays told is_read are =
+    let failed = rw c.in-Err-Disk.field-0-is at c.in-Err-Disk.is in
+    calls_stopped g.D.Watched g.met.D.Disk.only_now _ _ c.in-Ok.ensures.no_change state told _ c.in-Ok.prepared c.mend.result _ failed c.mend.ensures
+    read is_read (c.in-Ok.ensures.answer state read told is_read) found strays are

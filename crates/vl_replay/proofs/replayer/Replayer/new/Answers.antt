@@ -1,8 +1,8 @@
-use Rattle.std.proofs.Common.{◌≡◌, sym, subst, ◌∙◌, refl}
+use Rattle.std.proofs.Common.{◌≡◌, sym, subst, ◌∙◌, refl, arith}
 use Rattle.vl_recover.specs.OneFinding.{opened_not}
 use Rattle.vl_recover.specs.Starts.{MayOpen}
 use Rattle.vl_replay.proofs.Recovering.{opened_store, opened_stored, refused_not}
-use Rattle.vl_replay.proofs.Starting.{opening_goes}
+use Rattle.vl_replay.proofs.Starting.{at_most, opening_goes}
 use Rattle.vl_replay.proofs.replayer.Replayer.new.Goals as goal
 
 pub returns-in-Err-clause-through : goal.returns-in-Err-clause-through
@@ -51,3 +51,12 @@ pub returns-in-Ok-clause-refused : goal.returns-in-Ok-clause-refused
 returns-in-Ok-clause-refused g c state read refusal is is_read refused =
     let (found, unused, opened) = c.in-Ok.ensures.answer state read is is_read in
     absurd (opened_not read found unused (refused_not read refusal refused))
+
+pub returns-in-Err-clause-at_most : goal.returns-in-Err-clause-at_most
+returns-in-Err-clause-at_most g c s starts below =
+    at_most _ _ _ s.calls below (c.in-Err.ensures.stopped starts.state starts.read starts.found starts.strays starts.told starts.is_read starts.are_strays) starts.calls
+
+pub returns-in-Ok-clause-at_most : goal.returns-in-Ok-clause-at_most
+returns-in-Ok-clause-at_most g c s starts below =
+    let made = c.in-Ok.ensures.calls starts.state starts.read starts.found starts.strays starts.told starts.is_read starts.are_strays in
+    let same = made ∙ sym starts.calls in omega (arith, same)
