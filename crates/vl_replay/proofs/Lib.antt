@@ -4,6 +4,7 @@ pub mod Commits
 pub mod Deciding
 pub mod DiskSteps
 pub mod Ends
+pub mod Halting
 pub mod Lines
 pub mod Logged
 pub mod LogsShown

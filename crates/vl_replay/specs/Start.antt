@@ -54,10 +54,11 @@ pub record IsDurable (disk : DiskState) : Type 0 where
 abbrev pub StaysOpenable : {D : Type 0} → Ghosts D → (old new : D) → Type 0
 StaysOpenable g old new = Tells g old MayOpen → Tells g new MayOpen
 
--- What a run did to a disk whose store is durable; where the store wasn't opened, the disk is as it was.
+-- What a run did to a disk whose store is durable. Where the store wasn't opened, the disk is as it was, unless it failed; and
+-- no line was answered.
 abbrev pub DiskEndsFromStart : {D : Type 0} → Ghosts D → (old new : D) → Course → Type 0
 DiskEndsFromStart g old new run =
-    Tells g old IsDurable → DiskEnds g IsStored Shown (IsAsBefore g old new) old new run
+    Tells g old IsDurable → DiskEnds g IsStored Shown (IsAsBefore g old new) (run.answered ≡ []) old new run
 
 -- A run answered the lines of the input that its source had left, as the sequential store does from the state in which a run
 -- over its disk begins, and ended so. It says what was printed and how many lines were answered, that each answer was put before
