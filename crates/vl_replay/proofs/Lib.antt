@@ -10,6 +10,7 @@ pub mod Logged
 pub mod LogsShown
 pub mod MemtableEntries
 pub mod Noting
+pub mod Numbered
 pub mod OpenedRuns
 pub mod Outcomes
 pub mod Pending
