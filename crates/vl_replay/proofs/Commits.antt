@@ -10,7 +10,7 @@ use Rattle.vl_model.specs.Keys.{Writes, key_cmp}
 use Rattle.vl_model.specs.Limits.{max_commit_number}
 use Rattle.vl_disk.specs.declared.watched.Watched.{Ghosts}
 use Rattle.vl_disk.specs.Calls.{ChangesNothing}
-use Rattle.vl_disk.specs.DiskState.{DiskState}
+use Rattle.vl_disk.specs.DiskState.{DiskState, appended}
 use Rattle.vl_disk.specs.Faults.{after_calls}
 use Rattle.vl_seglog.specs.declared.active.ActiveLog.{ActiveLog}
 use Rattle.vl_txn.specs.Writes.{IsLawful}
@@ -31,9 +31,11 @@ use Rattle.vl_seglog.specs.Frames.{frame_at, frames_end, frames_grammar}
 use Rattle.vl_seglog.specs.Staging.{IsStaged}
 use Rattle.vl_seglog.specs.declared.staged.Staged.{Staged}
 use Rattle.vl_replay.specs.Between.{ShowsBetween}
-use Rattle.vl_replay.specs.Durable.{CrashesShow, HoldsState, LeadsTo, Leaves}
+use Rattle.vl_replay.specs.Durable.{CrashesShow, HoldsState, LeadsTo, Leaves, StopsWithin}
+use Rattle.vl_replay.specs.Halts.{HaltsByDisk}
+use Rattle.vl_replay.specs.Stopped.{Commits, append_failed, sync_failed}
 use Rattle.vl_replay.specs.Stored.{IsStored, Shown, logs_of}
-use Rattle.vl_replay.specs.Writing.{WhileWriting, written}
+use Rattle.vl_replay.specs.Writing.{StopsWriting, WhileWriting, at_append, at_sync, written}
 use Rattle.vl_replay.proofs.Deciding.{same_frame, staged_frame}
 use Rattle.vl_replay.proofs.Logged.{numbers_next, shown_by, shown_stays, stored_exactly, stored_kept, stored_next}
 use Rattle.vl_replay.proofs.LogsShown.{next_frame, shows_next}
@@ -102,24 +104,26 @@ module _ {D : Type 0} (g : Ghosts D) (watched : IsWatched g) where
   held_kept before after disk keeps held = record { calls = held.calls ∙ sym keeps.calls; there = (held.there.0, held.there.1, stored_kept before after held.there.0 keeps held.there.2) }
 
   -- the disk was left alone, and the commits stay
-  pub carries_kept : {T : Type 0} (s after : State) (disk : D) (result : Result T Halt) → Keeps s after → HoldsState g IsStored s disk → LeadsTo g IsStored Shown disk disk s after result
-  carries_kept s after disk result keeps held = record {
+  pub carries_kept : {T : Type 0} (s after : State) (disk : D) (result : Result T Halt) → (HaltsByDisk result → ⊥) → Keeps s after → HoldsState g IsStored s disk → LeadsTo g IsStored Shown disk disk s after result
+  carries_kept s after disk result sound keeps held = record {
     answered = on_ok_of result _ (held_kept s after disk keeps held);
     no_commit = λ _. it_holds g watched IsStored Shown shown_stays stored_exactly s disk held;
     tells = opens_again g watched IsStored Shown shown_stays stored_exactly s disk held;
     through = rests_until g watched IsStored Shown shown_stays stored_exactly s after.history (extends_same s.history after.history keeps.history) disk held;
+    stopped = λ by. absurd (sound by);
   }
 
   -- memory ran out before anything was written
-  pub carries_no_memory : {T : Type 0} (s after : State) (old new : D) (failed : Type 0) (result : Result T Halt) → IsErr result → Extends s.history after.history → ChangesNothing g old new failed → HoldsState g IsStored s old
+  pub carries_no_memory : {T : Type 0} (s after : State) (old new : D) (failed : Type 0) (result : Result T Halt) → IsErr result → (HaltsByDisk result → ⊥) → Extends s.history after.history → ChangesNothing g old new failed → HoldsState g IsStored s old
       → LeadsTo g IsStored Shown old new s after result
-  carries_no_memory s after old new failed result err extends no_change held =
+  carries_no_memory s after old new failed result err sound extends no_change held =
       let (kept, goes) = looked s old new failed no_change held in
       record {
         answered = on_ok_at_err result _ err;
         no_commit = λ _. it_holds g watched IsStored Shown shown_stays stored_exactly s new kept;
         tells = opens_again g watched IsStored Shown shown_stays stored_exactly s new kept;
         through = goes_wider g watched IsStored Shown shown_stays stored_exactly old new s.history s.history s.history after.history (extends_itself s.history) extends goes;
+        stopped = λ by. absurd (sound by);
       }
 
   module _ (s : State) (name : List ℕ) (writes : Writes) (old mid new : D) (failed : Type 0) (no_change : ChangesNothing g old mid failed) (held : HoldsState g IsStored s old)
@@ -207,13 +211,54 @@ module _ {D : Type 0} (g : Ghosts D) (watched : IsWatched g) where
         frame_may_open now (subst (λ (frame : List ℕ). WhileWriting (names.Log s.log.number) frame state now) staged.1 (during state told)))
         (time.nothing_else (g.moment mid) now (omega arith) (watched.counts_now new now (g.moment mid) is time.later))
 
+    -- the frame makes the state the next
+    abbrev commits : Commits IsStored s after
+    commits = record {
+      old = state;
+      held = stored;
+      item = next_frame s.history writes;
+      has = staged.0;
+      frame = bytes;
+      frame_is = staged.1 ∙ ap (λ (n : ℕ). frame_at s.log.number n (next_frame s.history writes)) (sym stored.length_is);
+      done = subst (λ (frame : List ℕ). IsStored after (written (names.Log s.log.number) frame state)) (sym staged.1) (stored_next s name writes state stored staged.0);
+    }
+
+    told_after : (change : DiskState → DiskState) → IsChangedBy change (g.told mid) (g.told new) → g.told new ≡ Some (change state)
+    told_after change changed = changed ∙ ap (option_map change) (no_change.told ∙ held.there.1)
+
+    counted : (n : ℕ) → g.calls new ≡ after_calls n (g.calls mid) → g.calls new ≡ after_calls n s.calls
+    counted n calls = calls ∙ ap (after_calls n) (no_change.calls ∙ held.calls)
+
+    -- a disk that fails cleanly took nothing of it, or all
+    stops_within : StopsWriting g (names.Log s.log.number) bytes mid new → StopsWithin g IsStored s after new
+    stops_within (at_append changed calls) = record {
+      now = appended (names.Log s.log.number) bytes 0 state;
+      told = told_after (appended (names.Log s.log.number) bytes 0) changed;
+      stopped = append_failed commits refl;
+      calls = counted 1 calls;
+      writes = writes;
+      one_more = refl;
+      both = refl;
+    }
+    stops_within (at_sync changed calls) = record {
+      now = appended (names.Log s.log.number) bytes (length bytes) state;
+      told = told_after (appended (names.Log s.log.number) bytes (length bytes)) changed;
+      stopped = sync_failed commits refl;
+      calls = counted 2 calls;
+      writes = writes;
+      one_more = refl;
+      both = refl;
+    }
+
     -- the disk failed while it was written
-    pub carries_failed : {T : Type 0} (result : Result T Halt) → IsErr result → (result ≡ Err NoRoom → ⊥) → (now : DiskState) × (g.told new ≡ Some now) → LeadsTo g IsStored Shown old new s after result
-    carries_failed result err failed tells = record {
+    pub carries_failed : {T : Type 0} (result : Result T Halt) → IsErr result → (result ≡ Err NoRoom → ⊥) → (now : DiskState) × (g.told new ≡ Some now)
+        → (IsTrue g.fails_cleanly → StopsWriting g (names.Log s.log.number) bytes mid new) → LeadsTo g IsStored Shown old new s after result
+    carries_failed result err failed tells stops = record {
       answered = on_ok_at_err result _ err;
       no_commit = λ none. absurd (failed none);
       tells = (tells.0, tells.1, now_may_open tells.0 tells.1);
       through = goes_written;
+      stopped = λ by clean. stops_within (stops clean);
     }
 
     -- it was written
@@ -229,4 +274,5 @@ module _ {D : Type 0} (g : Ghosts D) (watched : IsWatched g) where
           no_commit = λ none. cc;
           tells = (written (names.Log s.log.number) whole state, is, now_may_open (written (names.Log s.log.number) whole state) is);
           through = goes_written;
+          stopped = λ by. absurd by;
         }

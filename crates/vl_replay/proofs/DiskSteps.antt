@@ -1,5 +1,5 @@
 -- What a line, and a run of lines, does to a disk that holds the state before it: by what is held and shown, whatever these are.
-use Rattle.std.proofs.Common.{◌≡◌, ◌⊎◌, ⊎_elim, inl, inr, ℕ, zero, suc, ◌≤◌, List, [], ◌∷◌, take, Option, None, Some, refl, sym, subst, arith}
+use Rattle.std.proofs.Common.{◌≡◌, ◌⊎◌, ⊎_elim, inl, inr, ℕ, zero, suc, ◌≤◌, List, [], ◌∷◌, take, Option, None, Some, IsTrue, refl, sym, subst, arith}
 use Rattle.std.specs.Option.{option_map}
 use Rattle.vl_model.specs.History.{Extends, History, last_number}
 use Rattle.vl_disk.specs.declared.watched.Watched.{Ghosts}
@@ -14,10 +14,11 @@ use Rattle.vl_replay.specs.Sequential.{State, state_after}
 use Rattle.vl_replay.specs.Exchanges.{Exchange, exchange_at, exchanged, state_behind, exchanges_from, and_later, last_state}
 use Rattle.vl_replay.specs.Between.{Showing, ShowsBetween}
 use Rattle.vl_replay.specs.Endings.{CutsAnswer, IsBetweenLines, culprit_of}
-use Rattle.vl_replay.specs.Durable.{DiskEnds, GoesAlong, CrashesShow, Holding, HoldsCommits, HoldsState, Leaves, LeavesItsHistory, StaysShown, Tells}
+use Rattle.vl_replay.specs.Durable.{DiskEnds, GoesAlong, CrashesShow, Holding, HoldsCommits, HoldsState, Leaves, LeavesItsHistory, StaysShown, StopsWithin, Tells}
 use Rattle.vl_replay.specs.declared.ending.Ending.{Ending}
-use Rattle.vl_replay.specs.declared.ending.Ending.TheVariants.{NoMemory}
+use Rattle.vl_replay.specs.declared.ending.Ending.TheVariants.{DiskFault, NoMemory}
 use Rattle.vl_replay.proofs.Betweens.{extends_itself, extends_then, between_wider, between_exactly}
+use Rattle.vl_replay.proofs.Ends.{LeavesDisk}
 use Rattle.vl_replay.proofs.Outcomes.{line_extends}
 
 -- ---- exchanges
@@ -117,8 +118,9 @@ module _ {D : Type 0} (g : Ghosts D) (watched : IsWatched g) (holds : Holding) (
   pub ends_within : (old new : D) (ending : Ending) (least most : State) → CrashesShow g shows old new least.history most.history → Tells g new MayOpen
       → ((Rose (g.faults old) (g.faults new) → ⊥) → HoldsCommits g holds least new ⊎ HoldsCommits g holds most new)
       → (ending ≡ NoMemory → HoldsCommits g holds least new) → (IsBetweenLines (culprit_of ending) → HoldsCommits g holds least new) → (CutsAnswer ending → HoldsCommits g holds most new)
-      → DiskEnds g holds shows ⊥ old new (record { ending = ending; first = least; answered = []; most = most })
-  ends_within old new ending least most goes tells settled no_memory whole cut = record {
+      → (ending ≡ DiskFault → IsTrue g.fails_cleanly → StopsWithin g holds least most new)
+      → DiskEnds g holds shows ⊥ ⊥ old new (record { ending = ending; first = least; answered = []; most = most })
+  ends_within old new ending least most goes tells settled no_memory whole cut stops = record {
     crash_during = goes;
     line_by_line = tt;
     crash_after = at_end old new least.history most.history goes tells;
@@ -127,23 +129,24 @@ module _ {D : Type 0} (g : Ghosts D) (watched : IsWatched g) (holds : Holding) (
     between_lines = whole;
     answer_cut = cut;
     again = tells;
+    stopped = λ fault clean. inr (stops fault clean);
   }
 
   -- it still holds what it held
   pub ends_unchanged : (old new : D) (ending : Ending) (least most : State) → CrashesShow g shows old new least.history most.history → Tells g new MayOpen → HoldsCommits g holds least new
-      → (CutsAnswer ending → HoldsCommits g holds most new) → DiskEnds g holds shows ⊥ old new (record { ending = ending; first = least; answered = []; most = most })
-  ends_unchanged old new ending least most goes tells held cut = ends_within old new ending least most goes tells (λ sound. inl held) (λ out. held) (λ whole. held) cut
+      → (CutsAnswer ending → HoldsCommits g holds most new) → (ending ≡ DiskFault → ⊥) → DiskEnds g holds shows ⊥ ⊥ old new (record { ending = ending; first = least; answered = []; most = most })
+  ends_unchanged old new ending least most goes tells held cut sound = ends_within old new ending least most goes tells (λ sound. inl held) (λ out. held) (λ whole. held) cut (λ fault. absurd (sound fault))
 
   -- the disk was left alone
-  pub ends_untouched : (s most : State) → Extends s.history most.history → (disk : D) (ending : Ending) → (CutsAnswer ending → ⊥) → HoldsState g holds s disk
-      → DiskEnds g holds shows ⊥ disk disk (record { ending = ending; first = s; answered = []; most = most })
-  ends_untouched s most extends disk ending none held =
-      ends_unchanged disk disk ending s most (rests_until s most.history extends disk held) (opens_again s disk held) (it_holds s disk held) (λ cuts. absurd (none cuts))
+  pub ends_untouched : (s most : State) → Extends s.history most.history → (disk : D) (ending : Ending) → LeavesDisk ending → HoldsState g holds s disk
+      → DiskEnds g holds shows ⊥ ⊥ disk disk (record { ending = ending; first = s; answered = []; most = most })
+  ends_untouched s most extends disk ending (none, sound) held =
+      ends_unchanged disk disk ending s most (rests_until s most.history extends disk held) (opens_again s disk held) (it_holds s disk held) (λ cuts. absurd (none cuts)) sound
 
   -- the last line was answered
-  pub ends_answered : (old new : D) (ending : Ending) (before : State) (e : Exchange) → CrashesShow g shows old new before.history e.after.history → HoldsState g holds e.after new
-      → DiskEnds g holds shows ⊥ old new (record { ending = ending; first = before; answered = e ∷ []; most = e.after })
-  ends_answered old new ending before e goes held =
+  pub ends_answered : (old new : D) (ending : Ending) (before : State) (e : Exchange) → (ending ≡ DiskFault → ⊥) → CrashesShow g shows old new before.history e.after.history → HoldsState g holds e.after new
+      → DiskEnds g holds shows ⊥ ⊥ old new (record { ending = ending; first = before; answered = e ∷ []; most = e.after })
+  ends_answered old new ending before e sound goes held =
       let there = it_holds e.after new held in
       let rest = rests e.after new held in
       record {
@@ -155,16 +158,17 @@ module _ {D : Type 0} (g : Ghosts D) (watched : IsWatched g) (holds : Holding) (
         between_lines = λ whole. there;
         answer_cut = λ cuts. there;
         again = opens_again e.after new held;
+        stopped = λ fault. absurd (sound fault);
       }
 
   -- a run that began earlier, and had answered some lines
-  pub ends_later : (unopened : Type 0) (first old new : D) (ending : Ending) (start before most : State) (answered whole : List Exchange) → Extends start.history before.history → Extends before.history most.history → g.faults first ≤ g.faults old
+  pub ends_later : (unopened failed_to_open : Type 0) (first old new : D) (ending : Ending) (start before most : State) (answered whole : List Exchange) → Extends start.history before.history → Extends before.history most.history → g.faults first ≤ g.faults old
       → CrashesShow g shows first old start.history before.history
       → (CrashesShow g shows old new before.history most.history → GoesAlong g holds shows new most old before answered → GoesAlong g holds shows new most first start whole)
       → last_state before answered ≡ last_state start whole
-      → DiskEnds g holds shows ⊥ old new (record { ending = ending; first = before; answered = answered; most = most })
-      → DiskEnds g holds shows unopened first new (record { ending = ending; first = start; answered = whole; most = most })
-  ends_later unopened first old new ending start before most answered whole lower upper earlier so_far longer same ends =
+      → DiskEnds g holds shows ⊥ ⊥ old new (record { ending = ending; first = before; answered = answered; most = most })
+      → DiskEnds g holds shows unopened failed_to_open first new (record { ending = ending; first = start; answered = whole; most = most })
+  ends_later unopened failed_to_open first old new ending start before most answered whole lower upper earlier so_far longer same ends =
       let moved : HoldsCommits g holds (last_state before answered) new → HoldsCommits g holds (last_state start whole) new =
       λ (held : HoldsCommits g holds (last_state before answered) new). subst (λ (s : State). HoldsCommits g holds s new) same held in
       record {
@@ -185,4 +189,8 @@ module _ {D : Type 0} (g : Ghosts D) (watched : IsWatched g) (holds : Holding) (
         between_lines = λ between. moved (ends.between_lines between);
         answer_cut = ends.answer_cut;
         again = ends.again;
+        stopped = λ fault clean. ⊎_elim
+            (λ (never : ⊥). absurd never)
+            (λ (within : StopsWithin g holds (last_state before answered) most new). inr (subst (λ (s : State). StopsWithin g holds s most new) same within))
+            (ends.stopped fault clean);
       }

@@ -21,7 +21,7 @@ use Rattle.vl_replay.specs.Endings.{Culprit, NoOne, TheLine, TheWords, TheDisk, 
 use Rattle.vl_replay.specs.Runs.{Script, exchanges, next_number, IsFront, Stops, Puts, EndsSo}
 use Rattle.vl_replay.specs.Steps.{Finishes, IsNext, EndsBefore}
 use Rattle.vl_replay.specs.declared.ending.Ending.{Ending}
-use Rattle.vl_replay.specs.declared.ending.Ending.TheVariants.{Complete, WriteFault, AnswerCut}
+use Rattle.vl_replay.specs.declared.ending.Ending.TheVariants.{Complete, DiskFault, WriteFault, AnswerCut}
 use Rattle.vl_replay.specs.Laws.{ended_lines-cons}
 use Rattle.vl_replay.proofs.Lines.{lines_of-ended}
 
@@ -314,9 +314,13 @@ or_cut g old new line ending result P f whole cut = ⊎_elim
     (λ (failed : (result ≡ WriteFault) × IsFront f.printed line × Rose (g.faults old) (g.faults new)). subst P (sym failed.0) cut)
     f.how
 
--- an ending with a line of its own cuts no answer, and nor does that line where it can't be put
-pub no_cut : {K : Type 0} (g : sink.Ghosts K) (old new : K) (line : List ℕ) (ending result : Ending) → (CutsAnswer ending → ⊥) → Finishes g old new line ending result → CutsAnswer result → ⊥
-no_cut g old new line ending result whole f = or_cut g old new line ending result (λ (e : Ending). CutsAnswer e → ⊥) f whole (λ e. cc)
+-- no answer was cut, and the disk didn't fail
+abbrev pub LeavesDisk : Ending → Type 0
+LeavesDisk ending = (CutsAnswer ending → ⊥) × (ending ≡ DiskFault → ⊥)
+
+-- an ending with a line of its own leaves the disk alone, and so does that line where it can't be put
+pub line_leaves_disk : {K : Type 0} (g : sink.Ghosts K) (old new : K) (line : List ℕ) (ending result : Ending) → LeavesDisk ending → Finishes g old new line ending result → LeavesDisk result
+line_leaves_disk g old new line ending result whole f = or_cut g old new line ending result LeavesDisk f whole (λ e. cc, λ e. cc)
 
 some_culprit : (c who : Culprit) → Some c ≡ Some who → c ≡ who
 some_culprit c who e = cc

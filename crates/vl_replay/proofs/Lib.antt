@@ -4,11 +4,13 @@ pub mod Commits
 pub mod Deciding
 pub mod DiskSteps
 pub mod Ends
+pub mod Halting
 pub mod Lines
 pub mod Logged
 pub mod LogsShown
 pub mod MemtableEntries
 pub mod Noting
+pub mod Numbered
 pub mod OpenedRuns
 pub mod Outcomes
 pub mod Pending

@@ -24,9 +24,11 @@ use Rattle.vl_seglog.specs.FrameLaws.{frames_end-more}
 use Rattle.vl_seglog.specs.Frames.{frames_end, frames_grammar}
 use Rattle.vl_replay.specs.Sequential.{State, bytes_in_log, after_commit}
 use Rattle.vl_replay.specs.Durable.{LeavesItsHistory, StaysShown}
+use Rattle.vl_replay.specs.Stopped.{AreNumberedUpTo, GivesUpTo}
 use Rattle.vl_replay.specs.Stored.{IsStored, LogsShow, Shown, logs_of}
 use Rattle.vl_replay.specs.Writing.{written}
 use Rattle.vl_replay.proofs.LogsShown.{held_show, next_frame, shows_later, shows_next}
+use Rattle.vl_replay.proofs.Numbered.{changed_numbered}
 use Rattle.vl_replay.proofs.Outcomes.{Keeps}
 
 -- ---- the laws
@@ -68,6 +70,8 @@ stored_kept before after disk keeps stored =
           (subst (λ g. LogsShow (logs_of before stored.frozen stored.frames) g (last_number g)) h stored.shows);
       length_is = ap (λ l. l.length) keeps.log ∙ stored.length_is;
       lawful = stored.lawful;
+      numbered = subst (λ n. AreNumberedUpTo n disk) (sym keeps.files) stored.numbered;
+      next = subst (λ n. GivesUpTo n stored.manifest) (sym keeps.files) stored.next;
     }
 
 -- ---- one commit more
@@ -110,4 +114,7 @@ module _ (s : State) (name : List ℕ) (writes : Writes) (disk : DiskState) (sto
     length_is = omega (arith, stored.length_is, frames_end-more stored.frames (next_frame s.history writes), commit-length (m + 1) writes);
     lawful = synced_lawful (appended (names.Log s.log.number) frame (length frame) disk)
         (appended_lawful disk stored.lawful (names.Log s.log.number) frame (length frame)) (names.Log s.log.number);
+    numbered = changed_numbered s.files (names.Log s.log.number) _ (appended (names.Log s.log.number) frame (length frame) disk)
+        (changed_numbered s.files (names.Log s.log.number) _ disk stored.numbered);
+    next = stored.next;
   }

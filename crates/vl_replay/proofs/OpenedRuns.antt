@@ -84,7 +84,7 @@ out_of_memory k old new how result (line, own, finishes) = or_cut k old new line
 module _ {D : Type 0} (g : Ghosts D) (watched : IsWatched g) (holds : Holding) (shows : Showing)
     (stays : StaysShown shows) (exactly : LeavesItsHistory holds shows) (P : Type 0) (script : Script) (first end : Outside D) where
   abbrev pub SoFar : Course → Type 0
-  SoFar run = P → DiskEnds g holds shows (IsAsBefore g first.disk end.disk) first.disk end.disk run
+  SoFar run = P → DiskEnds g holds shows (IsAsBefore g first.disk end.disk) (run.answered ≡ []) first.disk end.disk run
 
   -- nothing was opened
   pub ends_refused : (ending : Ending) → AnswersNothing ending → EndsBefore (EvidenceOf g first end) script end.left ending first.held end.held → KeepsUp script.bytes end.asked 0
@@ -111,6 +111,7 @@ module _ {D : Type 0} (g : Ghosts D) (watched : IsWatched g) (holds : Holding) (
               between_lines = λ between. absurd (none between);
               answer_cut = λ cuts. absurd (none_cut cuts);
               again = tells p;
+              stopped = λ fault clean. inl refl;
             };
       }
 
@@ -150,7 +151,7 @@ module _ {D : Type 0} (g : Ghosts D) (watched : IsWatched g) (holds : Holding) (
             script end.left m ending run.printed run.ends;
         kept_up = run.kept_up;
         disk = λ p.
-            ends_later g watched holds shows stays exactly (IsAsBefore g first.disk end.disk) first.disk mid.disk end.disk ending s s (last_state s (take (suc m) all)) (take m all) (take m all)
+            ends_later g watched holds shows stays exactly (IsAsBefore g first.disk end.disk) (take m all ≡ []) first.disk mid.disk end.disk ending s s (last_state s (take (suc m) all)) (take m all) (take m all)
             (extends_itself s.history) (extends (suc m)) earlier (goes p) (λ _ along. along_opened mid.disk end.disk s (last_state s (take (suc m) all)) all m (extends 1) (goes p) along) refl
             (run.disk (opened p));
       }

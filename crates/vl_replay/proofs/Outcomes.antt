@@ -15,15 +15,16 @@ use Rattle.vl_script.specs.declared.line.Line.TheVariants.{Begin, View, Get, Set
 use Rattle.vl_replay.specs.Sequential.{State, Handle, Outcome, OpenTransaction, OpenView, most_open, with_handle, without_handle, opened, found, read, read_in_transaction, is_lawful_write, written, committed, dropped, fits_transaction, bytes_in_log, after_commit, answer_to, state_after}
 use Rattle.vl_replay.proofs.Betweens.{extends_same, extends_one}
 
--- the commits, the log and the calls stay
+-- the commits, the log, the calls and the files stay
 pub record Keeps (before after : State) : Type 0 where
   pub history : after.history ≡ before.history
   pub log : after.log ≡ before.log
   pub calls : after.calls ≡ before.calls
+  pub files : after.files ≡ before.files
 
 -- nothing changes
 pub kept_nothing : (s : State) → Keeps s s
-kept_nothing s = record { history = refl; log = refl; calls = refl }
+kept_nothing s = record { history = refl; log = refl; calls = refl; files = refl }
 
 either : (P : Outcome → Type 0) (b : Bool) (x y : Outcome) → P x → P y → P (cond b x y)
 either P true x y p q = p
@@ -37,11 +38,11 @@ kept_opened s name handle =
     let new : Outcome = (Number (last_number s.history), with_handle s name handle) in
     let free : Outcome = cond (nat_le most_open (len s.handles)) (TooMany, s) new in
     either (KeepsIn s) (contains_key s.handles name) (Taken name, s) free (kept_nothing s)
-    (either (KeepsIn s) (nat_le most_open (len s.handles)) (TooMany, s) new (kept_nothing s) (record { history = refl; log = refl; calls = refl }))
+    (either (KeepsIn s) (nat_le most_open (len s.handles)) (TooMany, s) new (kept_nothing s) (record { history = refl; log = refl; calls = refl; files = refl }))
 
 kept_read_in : (s : State) (name key : List ℕ) (number : ℕ) (reads : List Read) (writes : Writes) (own : Option Change) → Keeps s (read_in_transaction s name key number reads writes own).1
 kept_read_in s name key number reads writes (Some change) = kept_nothing s
-kept_read_in s name key number reads writes None = record { history = refl; log = refl; calls = refl }
+kept_read_in s name key number reads writes None = record { history = refl; log = refl; calls = refl; files = refl }
 
 pub kept_read : (s : State) (name key : List ℕ) (handle : Option Handle) → Keeps s (read s name key handle).1
 kept_read s name key None = kept_nothing s
@@ -57,10 +58,10 @@ kept_written s name key change (Some (OpenTransaction number reads writes)) =
     let done : Outcome = (Done, with_handle s name (OpenTransaction number reads more)) in
     let lawful : Outcome = cond (fits_transaction more) done (TooBig, s) in
     either (KeepsIn s) (not (is_lawful_write key change)) (Invalid, s) lawful (kept_nothing s)
-    (either (KeepsIn s) (fits_transaction more) done (TooBig, s) (record { history = refl; log = refl; calls = refl }) (kept_nothing s))
+    (either (KeepsIn s) (fits_transaction more) done (TooBig, s) (record { history = refl; log = refl; calls = refl; files = refl }) (kept_nothing s))
 
 pub kept_without : (s : State) (name : List ℕ) → Keeps s (without_handle s name)
-kept_without s name = record { history = refl; log = refl; calls = refl }
+kept_without s name = record { history = refl; log = refl; calls = refl; files = refl }
 
 pub kept_dropped : (s : State) (name : List ℕ) (handle : Option Handle) → Keeps s (dropped s name handle).1
 kept_dropped s name None = kept_nothing s

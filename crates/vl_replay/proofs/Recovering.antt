@@ -1,8 +1,9 @@
 -- A store that `recover` opened: what is kept of it, and what the disk holds.
 use Rattle.std.proofs.Common.{◌≡◌, ℕ, List, [], ◌∷◌, ◌++◌, length, refl, ap, sym, ◌∙◌, subst, inl, inr, arith}
-use Rattle.std.specs.Prelude.{◌+◌, Option, Some, None, map}
+use Rattle.std.specs.Prelude.{◌+◌, ◌≤◌, Option, Some, None, map}
 use Rattle.vl_disk.specs.Crash.{Image}
 use Rattle.vl_disk.specs.DiskState.{DiskState, IsLawful}
+use Rattle.vl_disk.specs.declared.name.Name.{Name}
 use Rattle.vl_disk.specs.declared.watched.Watched.{Ghosts}
 use Rattle.vl_layout.specs.Logs.{memtable, new_segment}
 use Rattle.vl_layout.specs.Shows.{AreUpTo, Shows}
@@ -14,6 +15,8 @@ use Rattle.vl_model.specs.declared.log_frame.LogFrame.{LogFrame}
 use Rattle.vl_recover.specs.Answers.{Finds, HeldLog, IsNotOpened, Opened, and_made, as_segment, held_log, logs_then, opened_from}
 use Rattle.vl_recover.specs.Held.{HoldsStore}
 use Rattle.vl_recover.specs.HeldLaws.{GoOn}
+use Rattle.vl_recover.specs.Meanwhile.{IsMended}
+use Rattle.vl_recover.specs.Mending.{Plan, mended, plan_from, plan_of}
 use Rattle.vl_recover.specs.OneFinding.{same_greatest, same_logs, same_opening}
 use Rattle.vl_recover.specs.Opening.{Opening}
 use Rattle.vl_recover.specs.Plans.{Greatest, active_log, active_of, last_number as last_log, log_behind, log_made, new_state}
@@ -26,10 +29,12 @@ use Rattle.vl_replay.specs.Opened.{IsOpenedStore, entries_in}
 use Rattle.vl_replay.specs.Opening.{IsRefused}
 use Rattle.vl_replay.specs.Sequential.{State}
 use Rattle.vl_replay.specs.Start.{StartsIn}
+use Rattle.vl_replay.specs.Stopped.{AreNumberedUpTo, GivesUpTo}
 use Rattle.vl_replay.specs.Stored.{IsStored, LogsShow, logs_entries, logs_of, no_logs}
 use Rattle.vl_replay.specs.declared.fails.Refusal.{Refusal}
 use Rattle.vl_replay.specs.declared.fails.Refusal.TheVariants.{NotAStore, NewerFormat, Damaged, Exhausted}
 use Rattle.vl_replay.proofs.LogsShown.{held-entries}
+use Rattle.vl_replay.proofs.Numbered.{IsLogUpTo, mended_numbered}
 
 -- ---- what is kept
 
@@ -63,6 +68,13 @@ same_opened image a b =
       frozen = map held_log o.logs;
       active = active_log g o.state logs;
     }
+
+-- and so is the plan of its mending
+same_plan : (image : Image) (a b : Finds image) (strays : List Name) → plan_of a strays ≡ plan_of b strays
+same_plan image a b strays =
+    ap (λ (g : Greatest). plan_from g a.opening.state a.logs strays) (same_greatest image a b)
+    ∙ ap (λ (o : Opening). plan_from b.greatest o.state a.logs strays) (same_opening image a b)
+    ∙ ap (λ (logs : List StandingLog). plan_from b.greatest b.opening.state logs strays) (same_logs image a b)
 
 module _ {D : Type 0} (g : Ghosts D) (disk : D) (s : State) (starts : StartsIn g disk s) (parts : Parts D)
     (other : Finds starts.read) (opened : opened_of parts ≡ opened_from other) where
@@ -134,8 +146,27 @@ module _ {D : Type 0} (g : Ghosts D) (disk : D) (s : State) (starts : StartsIn g
         up_to = subst (AreUpTo found.opening.number) (sym same) starts.shows.up_to;
       }
 
-  pub opened_stored : (now : DiskState) → IsLawful now → HoldsStore parts.state (logs_then found) now → IsStored s now
-  opened_stored now lawful holds =
+  -- no file passes the number that the state counts up to
+  log_up_to : (made : Option ℕ) → active_of made found.logs ≤ s.files → IsLogUpTo s.files made
+  log_up_to None within = tt
+  log_up_to (Some log) within = within
+
+  opened_numbered : (now : DiskState) → IsMended starts.read starts.state (Some now) → AreNumberedUpTo s.files now
+  opened_numbered now is_mended =
+      let mending = is_mended.mending in
+      let plan_is : mending.plan ≡ plan_of found mending.plan.strays = mending.is.is ∙ same_plan starts.read mending.found found mending.plan.strays in
+      let now_is : now ≡ mended mending.plan starts.state = same_state now (mended mending.plan starts.state) is_mended.told in
+      subst (AreNumberedUpTo s.files) (sym now_is)
+      (mended_numbered s.files mending.plan starts.state
+      (subst (λ (p : Plan). p.manifest ≤ s.files) (sym plan_is) starts.files.manifest)
+      (subst (λ (p : Plan). IsLogUpTo s.files p.log) (sym plan_is) (log_up_to (log_made (new_state found.greatest found.opening.state) found.logs) starts.files.log))
+      starts.files.numbered)
+    where
+      same_state : (a b : DiskState) → Some a ≡ Some b → a ≡ b
+      same_state a b e = cc
+
+  pub opened_stored : (now : DiskState) → IsLawful now → IsMended starts.read starts.state (Some now) → HoldsStore parts.state (logs_then found) now → IsStored s now
+  opened_stored now lawful is_mended holds =
       let (frozen, last) = last_stands in
       record {
         manifest = parts.state;
@@ -149,6 +180,8 @@ module _ {D : Type 0} (g : Ghosts D) (disk : D) (s : State) (starts : StartsIn g
             (subst (LogsShow (logs_then found) s.history) last_is shows_then);
         length_is = ap (λ l. l.length) starts.log;
         lawful = lawful;
+        numbered = opened_numbered now is_mended;
+        next = subst (GivesUpTo s.files) (sym parts_state) starts.files.next;
       }
 
 -- ---- a refusal

@@ -9,7 +9,7 @@ use Rattle.vl_replay.specs.Between.{Showing}
 use Rattle.vl_replay.specs.Input.{ReadsLine}
 use Rattle.vl_replay.specs.Sequential.{State}
 use Rattle.vl_replay.specs.Exchanges.{Exchange, exchange_at, state_behind, exchanges_from, last_state, KeepsUp}
-use Rattle.vl_replay.specs.Endings.{Evidence, CutsAnswer, line_number}
+use Rattle.vl_replay.specs.Endings.{Evidence, line_number}
 use Rattle.vl_replay.specs.Runs.{Script, exchanges, Outside, EvidenceOf, EndsRun}
 use Rattle.vl_replay.specs.Durable.{Holding, LeavesItsHistory, StaysShown, HoldsState, DiskEnds, DiskEndsFrom}
 use Rattle.vl_replay.specs.Steps.{IsNext, EndsBefore, PrintsStep, MovesOn, DiskSteps, kept, Steps}
@@ -19,7 +19,7 @@ use Rattle.vl_replay.specs.declared.replayer.store.Store.{Store}
 use Rattle.vl_replay.specs.declared.ending.Ending.{Ending}
 use Rattle.vl_replay.specs.declared.ending.Ending.TheVariants.{Complete}
 use Rattle.vl_replay.proofs.Lines.{lines_of-ended, lines_of-unended}
-use Rattle.vl_replay.proofs.Ends.{keeps_up_after, keeps_up_more, last_answered, next_answered, none_left, takes_nothing, ends_weaker, evidence_weaker}
+use Rattle.vl_replay.proofs.Ends.{LeavesDisk, keeps_up_after, keeps_up_more, last_answered, next_answered, none_left, takes_nothing, ends_weaker, evidence_weaker}
 use Rattle.vl_replay.proofs.DiskSteps.{IsWatched, exchanges_extend, first_behind, ends_untouched, ends_answered}
 
 -- the bytes of a script that is still to do are those that were read, and those that the source has left
@@ -43,7 +43,7 @@ module _ {D : Type 0} (g : Ghosts D) (watched : IsWatched g) (holds : Holding) (
   -- a run that ended before it answered a line
   ended : (by_source by_disk : Type 0) → (by_source → Rose old.source_faults new.source_faults) → (by_disk → Rose (g.faults old.disk) (g.faults new.disk))
       → (ending : Ending) → EndsBefore (Evidence by_source by_disk) script new.left ending old.held new.held → KeepsUp script.bytes new.asked 0
-      → (HoldsState g holds script.start old.disk → DiskEnds g holds shows ⊥ old.disk new.disk (record { ending = ending; first = script.start; answered = []; most = last_state script.start (take 1 (exchanges script)) }))
+      → (HoldsState g holds script.start old.disk → DiskEnds g holds shows ⊥ ⊥ old.disk new.disk (record { ending = ending; first = script.start; answered = []; most = last_state script.start (take 1 (exchanges script)) }))
       → EndsRun g (DiskEndsFrom g holds shows old.disk new.disk script.start) script old new ending
   ended by_source by_disk source disk ending before kept_up disk_ends = record {
     answered = 0;
@@ -57,24 +57,24 @@ module _ {D : Type 0} (g : Ghosts D) (watched : IsWatched g) (holds : Holding) (
   }
 
   -- where the disk was left alone
-  pub step_apart : (by_source : Type 0) → (by_source → Rose old.source_faults new.source_faults) → (ending : Ending) → (CutsAnswer ending → ⊥) → new.disk ≡ old.disk
+  pub step_apart : (by_source : Type 0) → (by_source → Rose old.source_faults new.source_faults) → (ending : Ending) → LeavesDisk ending → new.disk ≡ old.disk
       → EndsBefore (Evidence by_source ⊥) script new.left ending old.held new.held → KeepsUp script.bytes new.asked 0
       → EndsRun g (DiskEndsFrom g holds shows old.disk new.disk script.start) script old new ending
   step_apart by_source source ending none same before kept_up =
       let most = last_state script.start (take 1 (exchanges script)) in
       ended by_source ⊥ source (λ never. absurd never) ending before kept_up
-      (λ held. subst (λ (d : D). DiskEnds g holds shows ⊥ old.disk d (record { ending = ending; first = script.start; answered = []; most = most })) (sym same)
+      (λ held. subst (λ (d : D). DiskEnds g holds shows ⊥ ⊥ old.disk d (record { ending = ending; first = script.start; answered = []; most = most })) (sym same)
       (ends_untouched g watched holds shows stays exactly script.start most (exchanges_extend (lines_of script.bytes) script.start 1) old.disk ending none held))
 
   -- there is no further line
   pub step_end : script.bytes ≡ [] → new.left ≡ Some [] → new.disk ≡ old.disk → new.held ≡ old.held → KeepsUp script.bytes new.asked 0
       → EndsRun g (DiskEndsFrom g holds shows old.disk new.disk script.start) script old new Complete
   step_end none told same quiet kept_up =
-      step_apart ⊥ (λ never. absurd never) Complete no_cut same
+      step_apart ⊥ (λ never. absurd never) Complete leaves_disk same
       (record { printed = []; taken = subst (λ (h : Option (List ℕ)). Takes old.held h []) (sym quiet) (takes_nothing old.held); ends = none_left (Evidence ⊥ ⊥) script new.left none told }) kept_up
     where
-      no_cut : CutsAnswer Complete → ⊥
-      no_cut e = cc
+      leaves_disk : LeavesDisk Complete
+      leaves_disk = (λ cuts. cc, λ fault. cc)
 
   module _ (line : List ℕ) (store : Store) where
     abbrev behind : State
@@ -88,7 +88,7 @@ module _ {D : Type 0} (g : Ghosts D) (watched : IsWatched g) (holds : Holding) (
         let most : last_state script.start (take 1 (exchanges script)) ≡ behind =
         ap (λ (ls : List (List ℕ)). last_state script.start (take 1 (exchanges_from script.start ls))) lines ∙ first_behind script.start line texts in
         ended ⊥ (Rose (g.faults old.disk) (g.faults new.disk)) (λ never. absurd never) (λ rose. rose) ending before kept_up
-        (λ held. subst (λ (s : State). DiskEnds g holds shows ⊥ old.disk new.disk (record { ending = ending; first = script.start; answered = []; most = s })) (sym most) (moves held))
+        (λ held. subst (λ (s : State). DiskEnds g holds shows ⊥ ⊥ old.disk new.disk (record { ending = ending; first = script.start; answered = []; most = s })) (sym most) (moves held))
 
     -- a line that was read with its end was answered, or the run ended there
     pub step_line : (buffer : List ℕ) (answered : ℕ) (result : Option Ending) → answered ≡ line_number (script.before + 1) → ReadsLine WholeLine script.bytes line buffer new.left
@@ -132,8 +132,8 @@ module _ {D : Type 0} (g : Ghosts D) (watched : IsWatched g) (holds : Holding) (
           kept_up = keeps_up_more script.bytes new.asked 1 kept_up;
           disk = λ held.
               let m = subst (λ (o : Option Exchange). MovesOn g holds shows old.disk new.disk script.start (state_behind script.start o)) is (moves held) in
-              subst (λ (es : List Exchange). DiskEnds g holds shows ⊥ old.disk new.disk (record { ending = Complete; first = script.start; answered = take 1 es; most = last_state script.start (take 2 es) })) (sym all)
-              (ends_answered g watched holds shows stays exactly old.disk new.disk Complete script.start e m.through m.held);
+              subst (λ (es : List Exchange). DiskEnds g holds shows ⊥ ⊥ old.disk new.disk (record { ending = Complete; first = script.start; answered = take 1 es; most = last_state script.start (take 2 es) })) (sym all)
+              (ends_answered g watched holds shows stays exactly old.disk new.disk Complete script.start e (λ fault. cc) m.through m.held);
         })
     step_last buffer (Some ending) result r (told, same, unended, some) ends moves kept_up =
         let lines : lines_of script.bytes ≡ line ∷ [] = ap lines_of same ∙ lines_of-unended line unended some in

@@ -70,12 +70,13 @@ module _ {D : Type 0} (g : Ghosts D) (watched : IsWatched g) (s : State) (text :
   behind = state_behind s (exchange_at s text)
 
   -- memory ran out before the text was looked at
-  pub carries_nothing : {T : Type 0} (disk : D) (result : Result T Halt) → IsErr result → HoldsState g IsStored s disk → LeadsTo g IsStored Shown disk disk s behind result
-  carries_nothing disk result err held = record {
+  pub carries_nothing : {T : Type 0} (disk : D) (result : Result T Halt) → IsErr result → (HaltsByDisk result → ⊥) → HoldsState g IsStored s disk → LeadsTo g IsStored Shown disk disk s behind result
+  carries_nothing disk result err sound held = record {
     answered = on_ok_at_err result _ err;
     no_commit = λ _. it_holds g watched IsStored Shown shown_stays stored_exactly s disk held;
     tells = opens_again g watched IsStored Shown shown_stays stored_exactly s disk held;
     through = rests_until g watched IsStored Shown shown_stays stored_exactly s behind.history (text_extends s text) disk held;
+    stopped = λ by. absurd (sound by);
   }
 
   -- it is a bad line
@@ -85,18 +86,20 @@ module _ {D : Type 0} (g : Ghosts D) (watched : IsWatched g) (s : State) (text :
     no_commit = λ out. absurd (ok_not_out x out);
     tells = opens_again g watched IsStored Shown shown_stays stored_exactly s disk held;
     through = rests_until g watched IsStored Shown shown_stays stored_exactly s behind.history (text_extends s text) disk held;
+    stopped = λ by. absurd by;
   }
 
   module _ (old new : D) where
     -- the line was carried out, or failed
     pub carries_line : {T U : Type 0} (line : Line) (carried : Result U Halt) (result : Result T Halt) → line_of text ≡ Some line → LeadsTo g IsStored Shown old new s (state_after s line) carried
-        → (IsOk result → IsOk carried) → (result ≡ Err NoRoom → HoldsCommits g IsStored s new) → LeadsTo g IsStored Shown old new s behind result
-    carries_line line carried result spelled carries ok out =
+        → (IsOk result → IsOk carried) → (HaltsByDisk result → HaltsByDisk carried) → (result ≡ Err NoRoom → HoldsCommits g IsStored s new) → LeadsTo g IsStored Shown old new s behind result
+    carries_line line carried result spelled carries ok by_disk out =
         subst (λ (t : State). LeadsTo g IsStored Shown old new s t result) (sym (line_behind s text line spelled)) (record {
           answered = on_ok_if result carried _ ok carries.answered;
           no_commit = out;
           tells = carries.tells;
           through = carries.through;
+          stopped = λ by. carries.stopped (by_disk by);
         })
 
     -- the answer to a line that makes no commit found no memory
@@ -106,31 +109,33 @@ module _ {D : Type 0} (g : Ghosts D) (watched : IsWatched g) (s : State) (text :
     -- ---- how a run ends there
 
     -- the sink failed within the answer
-    pub ends_cut : {T : Type 0} (result : Result T Halt) → IsOk result → LeadsTo g IsStored Shown old new s behind result → DiskEnds g IsStored Shown ⊥ old new (record { ending = AnswerCut; first = s; answered = []; most = behind })
+    pub ends_cut : {T : Type 0} (result : Result T Halt) → IsOk result → LeadsTo g IsStored Shown old new s behind result → DiskEnds g IsStored Shown ⊥ ⊥ old new (record { ending = AnswerCut; first = s; answered = []; most = behind })
     ends_cut result ok carries =
         let held = it_holds g watched IsStored Shown shown_stays stored_exactly behind new (of_ok result _ ok carries.answered) in
-        ends_within g watched IsStored Shown shown_stays stored_exactly old new AnswerCut s behind carries.through carries.tells (λ sound. inr held) (λ out. cc) (λ whole. absurd whole) (λ cuts. held)
+        ends_within g watched IsStored Shown shown_stays stored_exactly old new AnswerCut s behind carries.through carries.tells (λ sound. inr held) (λ out. cc) (λ whole. absurd whole) (λ cuts. held) (λ fault. cc)
 
     -- it is a bad line, whatever could be put
-    pub ends_bad : {T : Type 0} (result : Result T Halt) (ending : Ending) → IsOk result → exchange_at s text ≡ None → LeadsTo g IsStored Shown old new s behind result
-        → DiskEnds g IsStored Shown ⊥ old new (record { ending = ending; first = s; answered = []; most = behind })
-    ends_bad result ending ok bad carries =
+    pub ends_bad : {T : Type 0} (result : Result T Halt) (ending : Ending) → IsOk result → (ending ≡ DiskFault → ⊥) → exchange_at s text ≡ None → LeadsTo g IsStored Shown old new s behind result
+        → DiskEnds g IsStored Shown ⊥ ⊥ old new (record { ending = ending; first = s; answered = []; most = behind })
+    ends_bad result ending ok sound bad carries =
         let held = of_ok result _ ok carries.answered in
         ends_unchanged g watched IsStored Shown shown_stays stored_exactly old new ending s behind carries.through carries.tells
-        (behind, ap (λ (t : State). t.history) (bad_behind s text bad), ap (λ (t : State). t.calls) (bad_behind s text bad), held) (λ cuts. it_holds g watched IsStored Shown shown_stays stored_exactly behind new held)
+        (behind, ap (λ (t : State). t.history) (bad_behind s text bad), ap (λ (t : State). t.calls) (bad_behind s text bad), held) (λ cuts. it_holds g watched IsStored Shown shown_stays stored_exactly behind new held) sound
 
     -- memory ran out
     pub ends_out : {T K : Type 0} (k : sink.Ghosts K) (sink_old sink_new : K) (line : List ℕ) (result : Result T Halt) (ending : Ending) → result ≡ Err NoRoom → Finishes k sink_old sink_new line NoMemory ending
-        → LeadsTo g IsStored Shown old new s behind result → DiskEnds g IsStored Shown ⊥ old new (record { ending = ending; first = s; answered = []; most = behind })
+        → LeadsTo g IsStored Shown old new s behind result → DiskEnds g IsStored Shown ⊥ ⊥ old new (record { ending = ending; first = s; answered = []; most = behind })
     ends_out k sink_old sink_new line result ending out finishes carries =
         ends_unchanged g watched IsStored Shown shown_stays stored_exactly old new ending s behind carries.through carries.tells (carries.no_commit out)
         (λ cuts. absurd (or_cut k sink_old sink_new line NoMemory ending (λ (e : Ending). CutsAnswer e → ⊥) finishes (λ e. cc) (λ e. cc) cuts))
+        (or_cut k sink_old sink_new line NoMemory ending (λ (e : Ending). e ≡ DiskFault → ⊥) finishes (λ e. cc) (λ e. cc))
 
     -- the disk failed
-    pub ends_fault : {T K : Type 0} (k : sink.Ghosts K) (sink_old sink_new : K) (line : List ℕ) (result : Result T Halt) (ending : Ending) → Rose (g.faults old) (g.faults new) → Finishes k sink_old sink_new line DiskFault ending
-        → LeadsTo g IsStored Shown old new s behind result → DiskEnds g IsStored Shown ⊥ old new (record { ending = ending; first = s; answered = []; most = behind })
-    ends_fault k sink_old sink_new line result ending rose finishes carries =
+    pub ends_fault : {T K : Type 0} (k : sink.Ghosts K) (sink_old sink_new : K) (line : List ℕ) (result : Result T Halt) (ending : Ending) → Rose (g.faults old) (g.faults new) → HaltsByDisk result → Finishes k sink_old sink_new line DiskFault ending
+        → LeadsTo g IsStored Shown old new s behind result → DiskEnds g IsStored Shown ⊥ ⊥ old new (record { ending = ending; first = s; answered = []; most = behind })
+    ends_fault k sink_old sink_new line result ending rose by finishes carries =
         ends_within g watched IsStored Shown shown_stays stored_exactly old new ending s behind carries.through carries.tells (λ sound. absurd (sound rose))
         (λ out. absurd (or_cut k sink_old sink_new line DiskFault ending (λ (e : Ending). e ≡ NoMemory → ⊥) finishes (λ e. cc) (λ e. cc) out))
         (λ whole. absurd (or_cut k sink_old sink_new line DiskFault ending (λ (e : Ending). IsBetweenLines (culprit_of e) → ⊥) finishes (λ never. never) (λ never. never) whole))
         (λ cuts. absurd (or_cut k sink_old sink_new line DiskFault ending (λ (e : Ending). CutsAnswer e → ⊥) finishes (λ e. cc) (λ e. cc) cuts))
+        (λ fault. carries.stopped by)

@@ -142,7 +142,7 @@ module _ {D : Type 0} (g : Ghosts D) (watched : IsWatched g) (holds : Holding) (
           disk = λ held.
               let c = u.carried held in
               let extends = exchanges_extend (lines_of rest.bytes) rest.start (suc m) in
-              subst (λ (s : State). DiskEnds g holds shows ⊥ begin.disk next.disk (record { ending = ending; first = start; answered = take (m + rest.before) (exchanges whole); most = s })) most_is
-              (ends_later g watched holds shows stays exactly ⊥ begin.disk now.disk next.disk ending start rest.start most (take m (exchanges rest)) (take (m + rest.before) (exchanges whole))
+              subst (λ (s : State). DiskEnds g holds shows ⊥ ⊥ begin.disk next.disk (record { ending = ending; first = start; answered = take (m + rest.before) (exchanges whole); most = s })) most_is
+              (ends_later g watched holds shows stays exactly ⊥ ⊥ begin.disk now.disk next.disk ending start rest.start most (take m (exchanges rest)) (take (m + rest.before) (exchanges whole))
               u.extends extends earlier_disk c.goes (c.along next.disk most m extends) (u.later_state m) (run.disk c.held));
         }

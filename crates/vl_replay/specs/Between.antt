@@ -1,7 +1,13 @@
--- Images that show a history at a number between two.
+-- What disks hold, and images show: of images, a history at a number between two.
 use Rattle.std.specs.Prelude.{◌≤◌, ℕ}
 use Rattle.vl_model.specs.History.{History, last_number}
 use Rattle.vl_disk.specs.Crash.{Image}
+use Rattle.vl_disk.specs.DiskState.{DiskState}
+use Rattle.vl_replay.specs.Sequential.{State}
+
+-- what a disk holds of a state
+abbrev pub Holding : Type 1
+Holding = State → DiskState → Type 0
 
 -- what an image shows of a history at a number
 abbrev pub Showing : Type 1

@@ -1,9 +1,10 @@
 -- What a disk holds while a script is answered, and what a crash leaves of it. `holds` says what a disk holds of a state,
 -- and `shows` what an image shows of a history at a number: both are parameters throughout.
-use Rattle.std.specs.Prelude.{◌≡◌, ◌⊎◌, ℕ, ◌≤◌, List, [], ◌∷◌, Some, Err, Result, OnOk}
-use Rattle.vl_model.specs.History.{Extends, History, last_number}
+use Rattle.std.specs.Prelude.{◌≡◌, ◌⊎◌, ℕ, ◌≤◌, List, [], ◌∷◌, Some, Err, Result, OnOk, IsTrue}
+use Rattle.vl_model.specs.History.{Extends, History, last_number, with_commit}
+use Rattle.vl_model.specs.Keys.{Writes}
 use Rattle.vl_disk.specs.declared.watched.Watched.{Ghosts}
-use Rattle.vl_disk.specs.Faults.{Rose}
+use Rattle.vl_disk.specs.Faults.{Rose, after_calls}
 use Rattle.vl_disk.specs.DiskState.{DiskState}
 use Rattle.vl_disk.specs.Crash.{Image}
 use Rattle.vl_disk.specs.Moments.{HoldsThroughout}
@@ -11,12 +12,15 @@ use Rattle.vl_recover.specs.Alike.{IsLeft}
 use Rattle.vl_recover.specs.Starts.{MayOpen}
 use Rattle.vl_replay.specs.Sequential.{State}
 use Rattle.vl_replay.specs.Exchanges.{Exchange, last_state}
+pub use Rattle.vl_replay.specs.Between.{Holding}
 use Rattle.vl_replay.specs.Between.{Showing, ShowsBetween}
 use Rattle.vl_replay.specs.Endings.{CutsAnswer, IsBetweenLines, culprit_of}
 use Rattle.vl_replay.specs.Runs.{Course}
+use Rattle.vl_replay.specs.Halts.{HaltsByDisk}
+use Rattle.vl_replay.specs.Stopped.{IsStoppedIn, calls_until}
 use Rattle.vl_replay.specs.declared.fails.Halt.{Halt}
 use Rattle.vl_replay.specs.declared.fails.Halt.TheVariants.{NoMemory as NoRoom}
-use Rattle.vl_replay.specs.declared.ending.Ending.TheVariants.{NoMemory}
+use Rattle.vl_replay.specs.declared.ending.Ending.TheVariants.{DiskFault, NoMemory}
 
 -- P holds of whatever a crash leaves of this disk, if no torn bytes spell a frame by chance
 abbrev pub Leaves : (Image → Type 0) → DiskState → Type 0
@@ -25,10 +29,6 @@ Leaves P disk = (image : Image) → IsLeft disk image → P image
 -- the disk is as it was, and was asked for no changing call
 abbrev pub IsAsBefore : {D : Type 0} → Ghosts D → (old new : D) → Type 0
 IsAsBefore g old new = (g.told new ≡ g.told old) × (g.calls new ≡ g.calls old)
-
--- what a disk holds of a state
-abbrev pub Holding : Type 1
-Holding = State → DiskState → Type 0
 
 -- ---- what the loop needs of the two parameters
 
@@ -74,6 +74,20 @@ abbrev pub CrashesShow : {D : Type 0} → Ghosts D → Showing → (old new : D)
 CrashesShow g shows old new least most =
     HoldsThroughout g old new (Leaves (ShowsBetween shows least most))
 
+-- A disk that failed, and failed cleanly, was stopped within a commit, which makes one state the next.
+pub record StopsWithin {D : Type 0} (g : Ghosts D) (holds : Holding) (before after : State) (new : D)
+    : Type 0 where
+  -- so much of the commit is on the disk;
+  pub now : DiskState
+  pub told : g.told new ≡ Some now
+  pub stopped : IsStoppedIn holds before after now
+  -- the call that failed, the commit's first or second one, was the last;
+  pub calls : g.calls new ≡ after_calls (calls_until stopped) before.calls
+  -- and the state after has these writes more, and counts both calls
+  pub writes : Writes
+  pub one_more : after.history ≡ with_commit before.history writes
+  pub both : after.calls ≡ after_calls 2 before.calls
+
 -- A call took a disk from one state to the next, or failed on the way.
 pub record LeadsTo {D T : Type 0} (g : Ghosts D) (holds : Holding) (shows : Showing)
     (old new : D) (before after : State) (result : Result T Halt) : Type 0 where
@@ -83,8 +97,10 @@ pub record LeadsTo {D T : Type 0} (g : Ghosts D) (holds : Holding) (shows : Show
   pub no_commit : result ≡ Err NoRoom → HoldsCommits g holds before new
   -- it tells its bytes, and a store may be opened on them, also where it failed;
   pub tells : Tells g new MayOpen
-  -- what a crash meanwhile leaves shows the commits before, or those after it
+  -- what a crash meanwhile leaves shows the commits before, or those after it;
   pub through : CrashesShow g shows old new before.history after.history
+  -- and where the disk failed, and fails cleanly, it was stopped within a commit
+  pub stopped : HaltsByDisk result → IsTrue g.fails_cleanly → StopsWithin g holds before after new
 
 -- A line, or a text, was carried out: so it is where the disk held the state before.
 abbrev pub CarriesOut : {D T : Type 0} → Ghosts D → Holding → Showing → (old new : D)
@@ -110,10 +126,10 @@ GoesAlong {D} g holds shows new most disk s (e ∷ later) =
     (passed : D) × PassesLine g holds shows new most disk s e passed
     × GoesAlong g holds shows new most passed e.after later
 
--- What a run that came so far did to its disk. The commits of the answered lines are the acknowledged ones. `unopened` says
--- what the disk is where the store wasn't opened.
+-- What a run that came so far did to its disk. The commits of the answered lines are the acknowledged ones. Where the store
+-- wasn't opened, `unopened` says what the disk is, and `failed_to_open` what is said of a fault.
 pub record DiskEnds {D : Type 0} (g : Ghosts D) (holds : Holding) (shows : Showing)
-    (unopened : Type 0) (old new : D) (run : Course) : Type 0 where
+    (unopened failed_to_open : Type 0) (old new : D) (run : Course) : Type 0 where
   -- what a crash at any moment since the begin leaves shows a first part of the commits
   pub crash_during : CrashesShow g shows old new run.first.history run.most.history
   -- and the disk went through one for each answered line, from which on a crash leaves its commit too
@@ -136,9 +152,13 @@ pub record DiskEnds {D : Type 0} (g : Ghosts D) (holds : Holding) (shows : Showi
   pub answer_cut : CutsAnswer run.ending → HoldsCommits g holds run.most new
   -- however it ended, a store may be opened on the disk again
   pub again : Tells g new MayOpen
+  -- where it ended by a disk that fails cleanly, the store wasn't opened, or the disk was stopped within the commit of one
+  -- line more
+  pub stopped : run.ending ≡ DiskFault → IsTrue g.fails_cleanly
+      → failed_to_open ⊎ StopsWithin g holds (last_state run.first run.answered) run.most new
 
 -- so it is of a run over an open store, where the disk held the state in which it began
 abbrev pub DiskEndsFrom : {D : Type 0} → Ghosts D → Holding → Showing → (old new : D) → State
     → Course → Type 0
 DiskEndsFrom g holds shows old new s run =
-    HoldsState g holds s old → DiskEnds g holds shows ⊥ old new run
+    HoldsState g holds s old → DiskEnds g holds shows ⊥ ⊥ old new run

@@ -16,5 +16,6 @@ pub mod Sequential
 pub mod Start
 pub mod StartLaws
 pub mod Steps
+pub mod Stopped
 pub mod Stored
 pub mod Writing

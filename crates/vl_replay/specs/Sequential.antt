@@ -24,13 +24,14 @@ pub data Handle : Type 0 where
   OpenTransaction : ℕ → List Read → Writes → Handle
   OpenView : ℕ → Handle
 
--- the history, the log that takes its commits, with its length in bytes, what the names in use stand for, and how many
--- changing calls the disk was asked for
+-- the history, the log that takes its commits, with its length in bytes, what the names in use stand for, how many
+-- changing calls the disk was asked for, and a number that none of its files passes
 pub record State : Type 0 where
   pub history : History
   pub log : ActiveLog
   pub handles : FinMap key_cmp Handle
   pub calls : ℕ
+  pub files : ℕ
 
 -- how many transactions and views may be open together
 abbrev pub most_open : ℕ
@@ -99,6 +100,7 @@ after_commit s name writes = record {
   log = record { number = s.log.number; length = s.log.length + bytes_in_log writes };
   handles = remove s.handles name;
   calls = after_calls 2 s.calls;
+  files = s.files;
 }
 
 -- While one of them is open at a time no commit comes between a transaction's begin and its own commit, so

@@ -1,5 +1,5 @@
 -- The state in which a run begins: that of the store that its disk opens as.
-use Rattle.std.specs.Prelude.{◌≡◌, ℕ, List, [], length, None, Some}
+use Rattle.std.specs.Prelude.{◌≡◌, ◌≤◌, ◌+◌, ℕ, List, [], length, None, Some}
 use Rattle.std.specs.FinMap.{empty, get, len, len-empty}
 use Rattle.std.proofs.Common.{sym, ◌∙◌, ap, zero-le}
 use Rattle.vl_disk.specs.Crash.{Image}
@@ -11,15 +11,26 @@ use Rattle.vl_disk.specs.declared.watched.Watched.{Ghosts}
 use Rattle.vl_model.specs.Keys.{key_cmp}
 use Rattle.vl_recover.specs.Alike.{IsLeft, OpensLike}
 use Rattle.vl_recover.specs.Answers.{AreStrayNames, Finds, calls_to_open, used_up}
-use Rattle.vl_recover.specs.Plans.{active_log}
+use Rattle.vl_recover.specs.Plans.{active_log, new_state}
 use Rattle.vl_recover.specs.Starts.{MayOpen}
 use Rattle.vl_replay.specs.Durable.{DiskEnds, IsAsBefore, Tells}
 use Rattle.vl_replay.specs.Exchanges.{AreExplained, exchanges_from}
 use Rattle.vl_replay.specs.Laws.{IsSound, exchanges_from-explained, none_in_empty, nothing_there}
 use Rattle.vl_replay.specs.Runs.{Course, EndsRun, Outside, script_of}
 use Rattle.vl_replay.specs.Sequential.{Handle, State}
+use Rattle.vl_replay.specs.Stopped.{AreNumberedUpTo, GivesUpTo}
 use Rattle.vl_replay.specs.Stored.{IsStored, LogsShow, Shown}
 use Rattle.vl_replay.specs.declared.ending.Ending.{Ending}
+
+-- Of a disk on which this is found an opening makes a store whose files pass no number above this one.
+pub record OpensUpTo {read : Image} (files : ℕ) (disk : DiskState) (found : Finds read) : Type 0 where
+  -- none that stands or was removed passes it,
+  pub numbered : AreNumberedUpTo files disk
+  -- nor does the manifest that is made, or the log that takes commits then;
+  pub manifest : found.greatest.manifest + 1 ≤ files
+  pub log : active_log found.greatest found.opening.state found.logs ≤ files
+  -- and that manifest gives at most the next one
+  pub next : GivesUpTo files (new_state found.greatest found.opening.state)
 
 -- A run over this disk begins in this state: the disk opens as a store, whose logs show the state's history, which has
 -- no commits yet but those of the logs.
@@ -42,6 +53,8 @@ pub record StartsIn {D : Type 0} (g : Ghosts D) (disk : D) (s : State) : Type 0 
   pub strays : List Name
   pub are_strays : AreStrayNames read found.opening.state.head strays
   pub calls : s.calls ≡ after_calls (calls_to_open found (length strays)) (g.calls disk)
+  -- and the files' numbers are counted up to any that none of them passes
+  pub files : OpensUpTo s.files state found
 
 -- Crashes are spoken of where all of the store is durable: whatever a crash leaves of the disk opens as what reads give. So
 -- it is with a disk that was just started, and with one that a run left
@@ -54,10 +67,11 @@ pub record IsDurable (disk : DiskState) : Type 0 where
 abbrev pub StaysOpenable : {D : Type 0} → Ghosts D → (old new : D) → Type 0
 StaysOpenable g old new = Tells g old MayOpen → Tells g new MayOpen
 
--- What a run did to a disk whose store is durable; where the store wasn't opened, the disk is as it was.
+-- What a run did to a disk whose store is durable. Where the store wasn't opened, the disk is as it was, unless it failed; and
+-- no line was answered.
 abbrev pub DiskEndsFromStart : {D : Type 0} → Ghosts D → (old new : D) → Course → Type 0
 DiskEndsFromStart g old new run =
-    Tells g old IsDurable → DiskEnds g IsStored Shown (IsAsBefore g old new) old new run
+    Tells g old IsDurable → DiskEnds g IsStored Shown (IsAsBefore g old new) (run.answered ≡ []) old new run
 
 -- A run answered the lines of the input that its source had left, as the sequential store does from the state in which a run
 -- over its disk begins, and ended so. It says what was printed and how many lines were answered, that each answer was put before

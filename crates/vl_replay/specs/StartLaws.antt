@@ -1,12 +1,12 @@
 -- In which states runs begin: over an empty disk, and behind another run. And of which disks all of the store is durable.
-use Rattle.std.specs.Prelude.{◌≡◌, ◌<◌, ◌≤◌, ℕ, List, [], length, Option, None, Some, Ok, Contains, IsSome, refl, true, false}
+use Rattle.std.specs.Prelude.{◌≡◌, ◌≢◌, ◌<◌, ◌≤◌, ◌+◌, ◌^◌, ℕ, List, [], length, Option, None, Some, Ok, Contains, IsSome, refl, true, false}
 use Rattle.std.specs.FinMap.{empty, get, get-empty}
 use Rattle.std.specs.Option.{option_map}
 use Rattle.std.proofs.Common.{sym, ◌∙◌, ap, subst, arith}
 use Rattle.vl_disk.specs.Crash.{Image}
-use Rattle.vl_disk.specs.DiskState.{DiskState, File}
+use Rattle.vl_disk.specs.DiskState.{DiskState, File, IsLawful}
 use Rattle.vl_disk.specs.Faults.{after_calls}
-use Rattle.vl_disk.specs.Name.{name_cmp}
+use Rattle.vl_disk.specs.Name.{IsNumbered, file_number, name_cmp}
 use Rattle.vl_disk.specs.Started.{IsRead, Started, read_left, started_left}
 use Rattle.vl_disk.specs.declared.name.Name.{Name}
 use Rattle.vl_disk.specs.declared.name.Name.TheVariants.{Log, Manifest, Table}
@@ -22,21 +22,24 @@ use Rattle.vl_recover.specs.Answers.{AreStrayNames, Finds, calls_to_open, used_u
 use Rattle.vl_recover.specs.HeldLaws.{held_may_open, held_opens, held_reads, started_may_open}
 use Rattle.vl_recover.specs.Opening.{Bare, Opening, Opens, Refusal}
 use Rattle.vl_recover.specs.OpeningLaws.{single_opening}
-use Rattle.vl_recover.specs.Plans.{active_log}
+use Rattle.vl_recover.specs.Plans.{active_log, new_state}
 use Rattle.vl_recover.specs.StageLaws.{ok_same}
 use Rattle.vl_replay.specs.Sequential.{State}
-use Rattle.vl_replay.specs.Start.{IsDurable, StartsIn}
+use Rattle.vl_replay.specs.Start.{IsDurable, OpensUpTo, StartsIn}
+use Rattle.vl_replay.specs.Stopped.{AreNumberedUpTo}
 use Rattle.vl_replay.specs.Stored.{IsStored, LogsShow, Shown, logs_of}
 
 -- ---- an empty disk
 
--- the state without commits, of which the disk was asked for so many changing calls
+-- the state without commits, of which the disk was asked for so many changing calls, and the manifest and the log have
+-- number 1
 abbrev pub empty_store : ℕ → State
 empty_store calls = record {
   history = no_history;
   log = record { number = 1; length = 16 };
   handles = empty;
   calls = calls;
+  files = 1;
 }
 
 pub none_some : {X : Type 0} (x : X) → None ≡ Some x → ⊥
@@ -109,11 +112,12 @@ shows_nothing = record {
   up_to = tt;
 }
 
--- A run over a disk on which nothing stands begins in it, after six changing calls.
-pub starts_empty : {D : Type 0} (g : Ghosts D) (disk : D) (state : DiskState) → g.told disk ≡ Some state
-    → ((name : Name) → get state.standing name ≡ None)
-    → StartsIn g disk (empty_store (after_calls 6 (g.calls disk)))
-starts_empty g disk state told bare = record {
+-- A run over a disk on which nothing stands begins in it, after six changing calls. What was removed there may have greater
+-- numbers.
+pub starts_bare : {D : Type 0} (g : Ghosts D) (disk : D) (state : DiskState) (files : ℕ) → g.told disk ≡ Some state
+    → ((name : Name) → get state.standing name ≡ None) → 1 ≤ files → AreNumberedUpTo files state
+    → StartsIn g disk (record (empty_store (after_calls 6 (g.calls disk))) { files = files })
+starts_bare g disk state files told bare some numbered = record {
   state = state;
   told = told;
   read = empty;
@@ -128,7 +132,17 @@ starts_empty g disk state told bare = record {
   strays = [];
   are_strays = no_strays 1;
   calls = refl;
+  files = record { numbered = numbered; manifest = some; log = some; next = omega (arith, some) };
 }
+
+-- so also where nothing ever stood
+pub starts_empty : {D : Type 0} (g : Ghosts D) (disk : D) (state : DiskState) → g.told disk ≡ Some state
+    → ((name : Name) → get state.standing name ≡ None) → ((name : Name) → get state.removed name ≡ None)
+    → StartsIn g disk (empty_store (after_calls 6 (g.calls disk)))
+starts_empty g disk state told bare none = starts_bare g disk state 1 told bare (omega arith) (record {
+  standing = λ name there. absurd (there (bare name));
+  removed = λ name there. absurd (there (none name));
+})
 
 -- ---- a disk that shows a history
 
@@ -152,21 +166,44 @@ shows_again logs h m shown = record {
 }
 
 -- the store that is opened then
-abbrev pub reopened : {read : Image} → Finds read → History → ℕ → (calls : ℕ) → State
-reopened found h m calls = record {
+abbrev pub reopened : {read : Image} → Finds read → History → ℕ → (calls files : ℕ) → State
+reopened found h m calls files = record {
   history = gone_on_from h m;
   log = record { number = active_log found.greatest found.opening.state found.logs; length = 16 };
   handles = empty;
   calls = calls;
+  files = files;
 }
+
+-- there is always a number that its files don't pass
+pub opens_up_to : {read : Image} (disk : DiskState) (found : Finds read) → IsLawful disk → (files : ℕ) × OpensUpTo files disk found
+opens_up_to disk found lawful =
+    let active : ℕ = active_log found.greatest found.opening.state found.logs in
+    let next : ℕ = (new_state found.greatest found.opening.state).next_log in (
+      2 ^ 32 + (found.greatest.manifest + 1) + active + next,
+      record {
+        numbered = record {
+          standing = λ name there. of name (get disk.standing name) there (lawful.numbered name);
+          removed = λ name there. of name (get disk.removed name) there (lawful.removed_numbered name);
+        };
+        manifest = omega arith;
+        log = omega arith;
+        next = omega arith;
+      },
+    )
+  where
+    of : (name : Name) (o : Option File) → o ≢ None → ((file : File) → o ≡ Some file → IsNumbered name)
+        → file_number name ≤ 2 ^ 32 + (found.greatest.manifest + 1) + active_log found.greatest found.opening.state found.logs + (new_state found.greatest found.opening.state).next_log
+    of name None some is = absurd (some refl)
+    of name (Some file) some is = omega (arith, (is file refl).1)
 
 -- A run over a disk whose reads show a history at a number, as whatever a run left does, begins with what the history has
 -- there.
 pub starts_shown : {D : Type 0} (g : Ghosts D) (disk : D) (state : DiskState) (read : Image) (found : Finds read)
-    (strays : List Name) (h : History) (m : ℕ) → g.told disk ≡ Some state → IsRead read state → used_up found ≡ None
-    → AreStrayNames read found.opening.state.head strays → Shown read h m
-    → StartsIn g disk (reopened found h m (after_calls (calls_to_open found (length strays)) (g.calls disk)))
-starts_shown g disk state read found strays h m told is_read left are_strays shown =
+    (strays : List Name) (h : History) (m files : ℕ) → g.told disk ≡ Some state → IsRead read state → used_up found ≡ None
+    → AreStrayNames read found.opening.state.head strays → Shown read h m → OpensUpTo files state found
+    → StartsIn g disk (reopened found h m (after_calls (calls_to_open found (length strays)) (g.calls disk)) files)
+starts_shown g disk state read found strays h m files told is_read left are_strays shown up_to =
     let same : shown.opening ≡ found.opening = ok_same {E = Refusal} shown.opening found.opening
     (single_opening read (Ok shown.opening) (Ok found.opening) shown.opens found.opens) in
     let number : m ≡ found.opening.number = sym shown.number ∙ ap (λ (o : Opening). o.number) same in
@@ -186,6 +223,7 @@ starts_shown g disk state read found strays h m told is_read left are_strays sho
       strays = strays;
       are_strays = are_strays;
       calls = refl;
+      files = up_to;
     }
 
 -- ---- durable stores

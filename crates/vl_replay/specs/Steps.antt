@@ -129,7 +129,7 @@ abbrev pub DiskSteps : {D : Type 0} → Ghosts D → Holding → Showing → (ol
     → (before after : State) → Option Ending → Type 0
 DiskSteps g holds shows old new before after None = MovesOn g holds shows old new before after
 DiskSteps g holds shows old new before after (Some ending) =
-    DiskEnds g holds shows ⊥ old new (record { ending = ending; first = before; answered = []; most = after })
+    DiskEnds g holds shows ⊥ ⊥ old new (record { ending = ending; first = before; answered = []; most = after })
 
 -- what a run under way keeps: its store, the bytes that were read and not answered yet, and how many lines were answered
 pub record Kept : Type 0 where

@@ -14,6 +14,7 @@ use Rattle.vl_recover.specs.Held.{HoldsStore}
 use Rattle.vl_recover.specs.Opening.{Opening, Opens}
 use Rattle.vl_recover.specs.HeldLaws.{GoOn}
 use Rattle.vl_replay.specs.Sequential.{State}
+use Rattle.vl_replay.specs.Stopped.{AreNumberedUpTo, GivesUpTo}
 
 -- the entries of logs that rise, end to end, the newest first
 abbrev pub logs_entries : List Segment → List Entry
@@ -50,5 +51,8 @@ pub record IsStored (s : State) (disk : DiskState) : Type 0 where
   pub numbers : GoOn manifest.covered (logs_of s frozen frames) (last_number s.history)
   pub shows : LogsShow (logs_of s frozen frames) s.history (last_number s.history)
   pub length_is : s.log.length ≡ log_length frames
-  -- and it is lawful, as whatever a disk tells
+  -- it is lawful, as whatever a disk tells;
   pub lawful : IsLawful disk
+  -- and no file has a greater number than the state counts up to, nor is one to be given more than the next above it
+  pub numbered : AreNumberedUpTo s.files disk
+  pub next : GivesUpTo s.files manifest

@@ -1,5 +1,5 @@
 //! Writing a frame.
-ghost use Rattle.std.specs.Prelude.{◌≡◌, ◌+◌, ◌-◌, ◌^◌, min, length, Some, IsErr, OnOk};
+ghost use Rattle.std.specs.Prelude.{◌≡◌, ◌+◌, ◌-◌, ◌^◌, min, length, Some, IsErr, IsTrue, OnErr, OnOk};
 ghost use Rattle.std.specs.Option.{ForSome};
 ghost use Rattle.vl_disk.specs.declared.name.Name.TheVariants as names;
 ghost use Rattle.vl_disk.specs.Disk.{IsChangedBy, Stands};
@@ -8,13 +8,13 @@ ghost use Rattle.vl_disk.specs.Faults.{HasCause, after_calls};
 ghost use Rattle.vl_disk.specs.Moments.{Elapses};
 ghost use Rattle.vl_disk.specs.Spare.{CanAppend};
 ghost use Rattle.vl_seglog.specs.Staging.{IsStagedFor};
-ghost use Rattle.vl_replay.specs.Writing.{WhileWriting, written};
+ghost use Rattle.vl_replay.specs.Writing.{StopsWriting, WhileWriting, written};
 
 use vl_disk::{Disk, Failed};
 use vl_seglog::{ActiveLog, Staged};
 
 /// Appends a staged frame to its log by one call, and makes it durable by another. If it fails, the log is not to be
-/// appended to any more.
+/// appended to any more: it has taken some first bytes of the frame, or on a disk that fails cleanly all or none.
 pub fn append_durably<D: Disk>(
     log: &mut ActiveLog,
     disk: &mut D,
@@ -34,6 +34,8 @@ pub fn append_durably<D: Disk>(
     ensures longer { OnOk result
         (log.new.length ≡ min (log.old.length + length staged.now.frame.items) (2 ^ 64 - 1)) }
     ensures cause { HasCause (D.faults disk.old) (D.faults disk.new) (IsErr result) }
+    ensures stopped { IsTrue D.fails_cleanly
+        → OnErr result (StopsWriting D.Watched (names.Log log.old.number) staged.now.frame.items disk.old disk.new) }
 {
     log.append(disk, staged)?;
     log.sync(disk)

@@ -1,7 +1,7 @@
 use Rattle.std.proofs.Common.{◌∙◌, ap, Err, ℕ, List, refl, subst}
 use Rattle.std.specs.Prelude.{is_ok}
 use Rattle.vl_io.specs.Sink.{Takes, TakesPrefix}
-use Rattle.vl_replay.specs.Endings.{no_memory_line, disk_fault_line}
+use Rattle.vl_replay.specs.Endings.{culprit_of, no_memory_line, disk_fault_line}
 use Rattle.vl_replay.specs.declared.ending.Ending.TheVariants.{NoMemory, DiskFault, AnswerCut}
 use Rattle.vl_replay.proofs.Ends.{answer_cut, finished, finish_counts, before_weaker}
 use Rattle.vl_replay.proofs.Texts.{halts, of_ok, ends_cut, ends_bad, ends_out, ends_fault}
@@ -36,7 +36,7 @@ returns-in-Ok-None-clause-printed g c script stands count next left =
 pub returns-in-Ok-None-clause-moves : goal.returns-in-Ok-None-clause-moves
 returns-in-Ok-None-clause-moves g c s stands held =
     let bad = rw c.in-Ok-None.field-0-is at (c.in-Ok-None.ensures.answers s stands) in
-    ends_bad g.D.Watched (record { only_now = g.met.D.Disk.only_now; counts_now = g.met.D.Disk.counts_now }) s c.args.text.now c.args.replayer.now.disk c.carry_out.new.replayer.disk c.carry_out.result c.end_at_bad_line.result (ap is_ok c.in-Ok-None.is) bad (c.carry_out.ensures.carries s stands held)
+    ends_bad g.D.Watched (record { only_now = g.met.D.Disk.only_now; counts_now = g.met.D.Disk.counts_now }) s c.args.text.now c.args.replayer.now.disk c.carry_out.new.replayer.disk c.carry_out.result c.end_at_bad_line.result (ap is_ok c.in-Ok-None.is) (λ fault. c.end_at_bad_line.ensures.not_the_disk (ap culprit_of fault)) bad (c.carry_out.ensures.carries s stands held)
 
 pub returns-in-Err-NoMemory-clause-printed : goal.returns-in-Err-NoMemory-clause-printed
 returns-in-Err-NoMemory-clause-printed g c script stands count next left =
@@ -57,8 +57,9 @@ returns-clause-printed g c script stands count next left =
 
 pub returns-clause-moves : goal.returns-clause-moves
 returns-clause-moves g c s stands held =
+    let by = halts c.carry_out.result c.in-Err-Disk.field-0-0 (c.in-Err-Disk.is ∙ ap Err c.in-Err-Disk.field-0-is) in
     ends_fault g.D.Watched (record { only_now = g.met.D.Disk.only_now; counts_now = g.met.D.Disk.counts_now }) s c.args.text.now c.args.replayer.now.disk c.carry_out.new.replayer.disk g.K.Sink c.args.sink.now c.finish-in-Err-Disk.new.sink disk_fault_line c.carry_out.result c.finish-in-Err-Disk.result
-    (c.carry_out.ensures.cause.rose (halts c.carry_out.result c.in-Err-Disk.field-0-0 (c.in-Err-Disk.is ∙ ap Err c.in-Err-Disk.field-0-is))) c.finish-in-Err-Disk.ensures (c.carry_out.ensures.carries s stands held)
+    (c.carry_out.ensures.cause.rose by) by c.finish-in-Err-Disk.ensures (c.carry_out.ensures.carries s stands held)
 
 pub returns-clause-sink_faults : goal.returns-clause-sink_faults
 returns-clause-sink_faults g c = finish_counts g.K.Sink _ _ _ DiskFault c.finish-in-Err-Disk.result (λ e. cc) c.finish-in-Err-Disk.ensures

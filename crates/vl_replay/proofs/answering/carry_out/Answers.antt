@@ -6,6 +6,7 @@ use Rattle.vl_replay.specs.Exchanges.{exchanged}
 use Rattle.vl_replay.specs.Sequential.{state_after}
 use Rattle.vl_replay.specs.declared.fails.Halt.TheVariants.{NoMemory as NoRoom}
 use Rattle.vl_replay.proofs.Ends.{exchange_at-answered}
+use Rattle.vl_replay.proofs.Halting.{by_disk_still, out_not_by_disk}
 use Rattle.vl_replay.proofs.Texts.{carries_nothing, carries_bad, carries_line, kept_without_number, of_ok, ok_not_err, ok_not_out, same_halt}
 use Rattle.vl_replay.proofs.answering.carry_out.Goals as goal
 
@@ -21,7 +22,7 @@ returns-clause-answers g c s stands =
 
 pub returns-in_err-line-clause-carries : goal.returns-in_err-line-clause-carries
 returns-in_err-line-clause-carries g c s stands held =
-    carries_nothing g.D.Watched (record { only_now = g.met.D.Disk.only_now; counts_now = g.met.D.Disk.counts_now }) s c.args.text.now c.args.replayer.now.disk c.from_residual.result c.from_residual.ensures.0 held
+    carries_nothing g.D.Watched (record { only_now = g.met.D.Disk.only_now; counts_now = g.met.D.Disk.counts_now }) s c.args.text.now c.args.replayer.now.disk c.from_residual.result c.from_residual.ensures.0 (out_not_by_disk c.from_residual.result c.from_residual.ensures.1) held
 
 pub returns-in_default-clause-carries : goal.returns-in_default-clause-carries
 returns-in_default-clause-carries g c s stands held =
@@ -29,7 +30,8 @@ returns-in_default-clause-carries g c s stands held =
 
 pub returns-in_err-out-clause-carries : goal.returns-in_err-out-clause-carries
 returns-in_err-out-clause-carries g c s stands held =
-    carries_nothing g.D.Watched (record { only_now = g.met.D.Disk.only_now; counts_now = g.met.D.Disk.counts_now }) s c.args.text.now c.args.replayer.now.disk c.from_residual-in_err-out.result c.from_residual-in_err-out.ensures.0 held
+    carries_nothing g.D.Watched (record { only_now = g.met.D.Disk.only_now; counts_now = g.met.D.Disk.counts_now }) s c.args.text.now c.args.replayer.now.disk c.from_residual-in_err-out.result c.from_residual-in_err-out.ensures.0
+    (out_not_by_disk c.from_residual-in_err-out.result c.from_residual-in_err-out.ensures.1) held
 
 pub returns-in_err-answer-clause-carries : goal.returns-in_err-answer-clause-carries
 returns-in_err-answer-clause-carries g c s stands held =
@@ -38,6 +40,7 @@ returns-in_err-answer-clause-carries g c s stands held =
     carries_line g.D.Watched (record { only_now = g.met.D.Disk.only_now; counts_now = g.met.D.Disk.counts_now }) s c.args.text.now c.args.replayer.now.disk c.line.new.self.disk c.in-Some.line c.line.result residual.result
     (sym c.in_ok-line.ensures ∙ c.in-Some.is) carried
     (λ ok. absurd (ok_not_err residual.result ok residual.ensures.0))
+    (by_disk_still c.line.result residual.result _ c.in_err-answer.was residual.ensures.1)
     (λ out. carried.no_commit (c.in_err-answer.was ∙ ap Err (same_halt residual.result _ NoRoom out residual.ensures.1)))
 
 pub returns-in_err-print_answer-clause-carries : goal.returns-in_err-print_answer-clause-carries
@@ -48,6 +51,7 @@ returns-in_err-print_answer-clause-carries g c s stands held =
     carries_line g.D.Watched (record { only_now = g.met.D.Disk.only_now; counts_now = g.met.D.Disk.counts_now }) s c.args.text.now c.args.replayer.now.disk c.line.new.self.disk c.in-Some.line c.line.result residual.result
     (sym c.in_ok-line.ensures ∙ c.in-Some.is) carried
     (λ is_it. absurd (ok_not_err residual.result is_it residual.ensures.0))
+    (λ by. absurd (out_not_by_disk residual.result residual.ensures.1 by))
     (λ out. kept_without_number g.D.Watched (record { only_now = g.met.D.Disk.only_now; counts_now = g.met.D.Disk.counts_now }) s c.args.text.now c.args.replayer.now.disk c.line.new.self.disk c.in-Some.line c.in_ok-answer.answer (c.in_ok-answer.ensures.answer s stands)
     (λ number is_number. ok_not_err c.print_answer.result (c.print_answer.ensures.room number is_number (omega (arith, ap length c.in_ok-out.ensures.items, c.in_ok-out.ensures.capacity))) (ap is_err c.in_err-print_answer.was))
     (of_ok c.line.result _ ok carried.answered))
@@ -55,7 +59,7 @@ returns-in_err-print_answer-clause-carries g c s stands held =
 pub returns-clause-carries : goal.returns-clause-carries
 returns-clause-carries g c s stands held =
     carries_line g.D.Watched (record { only_now = g.met.D.Disk.only_now; counts_now = g.met.D.Disk.counts_now }) s c.args.text.now c.args.replayer.now.disk c.line.new.self.disk c.in-Some.line c.line.result _
-    (sym c.in_ok-line.ensures ∙ c.in-Some.is) (c.line.ensures.carries s stands held) (λ ok. ap is_ok c.in_ok-answer.was) (λ out. absurd (ok_not_out _ out))
+    (sym c.in_ok-line.ensures ∙ c.in-Some.is) (c.line.ensures.carries s stands held) (λ ok. ap is_ok c.in_ok-answer.was) (λ by. absurd by) (λ out. absurd (ok_not_out _ out))
 
 pub returns-in_default-clause-reads : goal.returns-in_default-clause-reads
 returns-in_default-clause-reads g c = sym c.in_ok-line.ensures ∙ c.in_default.is

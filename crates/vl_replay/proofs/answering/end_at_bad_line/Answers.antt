@@ -4,7 +4,7 @@ use Rattle.std.specs.Fmt.{decimal}
 use Rattle.vl_replay.specs.Endings.{Evidence, bad_line, no_memory_line}
 use Rattle.vl_replay.specs.Steps.{Finishes}
 use Rattle.vl_replay.specs.declared.ending.Ending.TheVariants.{BadLine, NoMemory}
-use Rattle.vl_replay.proofs.Ends.{finished, finish_counts, no_cut, bad_line_stops, bad_line_text}
+use Rattle.vl_replay.proofs.Ends.{finished, finish_counts, line_leaves_disk, bad_line_stops, bad_line_text}
 use Rattle.vl_replay.proofs.ReadingOn.{finishes_badly, finishes_otherwise}
 use Rattle.vl_replay.proofs.answering.end_at_bad_line.Goals as goal
 
@@ -28,10 +28,10 @@ pub returns-clause-sink_faults : goal.returns-clause-sink_faults
 returns-clause-sink_faults g c = finish_counts g.K.Sink _ _ _ NoMemory c.finish-in-Err.result (λ e. cc) c.finish-in-Err.ensures
 
 pub returns-in-Ok-clause-whole : goal.returns-in-Ok-clause-whole
-returns-in-Ok-clause-whole g c = no_cut g.K.Sink _ _ _ BadLine c.finish.result (λ e. cc) c.finish.ensures
+returns-in-Ok-clause-whole g c = (line_leaves_disk g.K.Sink _ _ _ BadLine c.finish.result (λ e. cc, λ e. cc) c.finish.ensures).0
 
 pub returns-clause-whole : goal.returns-clause-whole
-returns-clause-whole g c = no_cut g.K.Sink _ _ _ NoMemory c.finish-in-Err.result (λ e. cc) c.finish-in-Err.ensures
+returns-clause-whole g c = (line_leaves_disk g.K.Sink _ _ _ NoMemory c.finish-in-Err.result (λ e. cc, λ e. cc) c.finish-in-Err.ensures).0
 
 pub returns-in-Ok-clause-reads : goal.returns-in-Ok-clause-reads
 returns-in-Ok-clause-reads g c =

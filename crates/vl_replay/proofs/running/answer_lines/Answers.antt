@@ -6,7 +6,7 @@ use Rattle.vl_replay.specs.Runs.{script_of, outside}
 use Rattle.vl_replay.specs.Steps.{kept}
 use Rattle.vl_replay.specs.Stored.{IsStored, Shown}
 use Rattle.vl_replay.specs.declared.ending.Ending.TheVariants.{NoMemory}
-use Rattle.vl_replay.proofs.Ends.{finished, no_cut}
+use Rattle.vl_replay.proofs.Ends.{finished, line_leaves_disk}
 use Rattle.vl_replay.proofs.Logged.{shown_stays, stored_exactly}
 use Rattle.vl_replay.proofs.ReadingOn.{finished_incomplete, read_nothing, reads_nothing}
 use Rattle.vl_replay.proofs.Stepping.{step_apart}
@@ -18,7 +18,7 @@ returns-in_default-clause-runs g c s input stands told =
     let script = script_of s 0 input in
     step_apart g.D.Watched (record { only_now = g.met.D.Disk.only_now; counts_now = g.met.D.Disk.counts_now }) IsStored Shown shown_stays stored_exactly script
     (outside g.S.Source g.K.Sink c.args.source.now c.args.sink.now c.args.replayer.disk) (outside g.S.Source g.K.Sink c.args.source.now c.finish.new.sink c.close.result)
-    ⊥ (λ never. absurd never) c.finish.result (no_cut g.K.Sink _ _ _ NoMemory c.finish.result (λ e. cc) c.finish.ensures) c.close.ensures
+    ⊥ (λ never. absurd never) c.finish.result (line_leaves_disk g.K.Sink _ _ _ NoMemory c.finish.result (λ e. cc, λ e. cc) c.finish.ensures) c.close.ensures
     (finished g.K.Sink c.args.sink.now c.finish.new.sink (Evidence ⊥ ⊥) script (g.S.Source.left c.args.source.now) NoMemory c.finish.result no_memory_line refl tt c.finish.ensures)
     (keeps_up_at_first input (g.S.Source.asked c.args.source.now) (g.met.S.Source.since_asked c.args.source.now input told))
 

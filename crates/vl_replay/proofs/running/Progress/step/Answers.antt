@@ -1,13 +1,13 @@
 use Rattle.std.proofs.Common.{◌∙◌, ◌++◌, ℕ, List, refl, subst, sym, ap, Err}
 use Rattle.vl_disk.specs.Faults.{Rose}
-use Rattle.vl_replay.specs.Endings.{Evidence, no_memory_line, read_fault_line}
+use Rattle.vl_replay.specs.Endings.{Evidence, culprit_of, no_memory_line, read_fault_line}
 use Rattle.vl_replay.specs.Reading.{ReadsOn, streams}
 use Rattle.vl_replay.specs.Runs.{outside}
 use Rattle.vl_replay.specs.Steps.{kept, Steps}
 use Rattle.vl_replay.specs.Stored.{IsStored, Shown}
 use Rattle.vl_replay.specs.declared.ending.Ending.TheVariants.{NoMemory, ReadFault}
 use Rattle.vl_replay.specs.declared.input.lines.Next.TheVariants.{Line as WholeLine, LastLine, TooLong, End}
-use Rattle.vl_replay.proofs.Ends.{too_long_is_bad, finished, finish_counts, no_cut, ended_lines-none}
+use Rattle.vl_replay.proofs.Ends.{too_long_is_bad, finished, finish_counts, line_leaves_disk, ended_lines-none}
 use Rattle.vl_replay.proofs.Logged.{shown_stays, stored_exactly}
 use Rattle.vl_replay.proofs.ReadingOn.{ends_at_long, finishes_otherwise, reads_all, reads_end, reads_last, reads_line}
 use Rattle.vl_replay.proofs.Stepping.{reads_script, still_keeps_up, next_line, next_last, step_line, step_last, step_apart, step_end}
@@ -38,7 +38,7 @@ returns-in-Ok-TooLong-clause-runs g c script to_do =
     let ended = c.end_at_bad_line in
     step_apart g.D.Watched (record { only_now = g.met.D.Disk.only_now; counts_now = g.met.D.Disk.counts_now }) IsStored Shown shown_stays stored_exactly script
     (outside g.S.Source g.K.Sink c.args.source.now c.args.sink.now c.args.self.now.replayer.disk) (outside g.S.Source g.K.Sink c.read_line.new.source ended.new.sink c.args.self.now.replayer.disk)
-    ⊥ (λ never. absurd never) ended.result ended.ensures.whole refl (ended.ensures.printed script text left to_do.count (texts, lines) (too_long_is_bad script.start text long)) (still_keeps_up script.bytes (c.args.self.now.buffer ++ to_do.rest) (g.S.Source.asked c.args.source.now) (g.S.Source.asked c.read_line.new.source) to_do.bytes_are (c.read_line.ensures.keeps_up to_do.rest to_do.left_is) to_do.kept_up)
+    ⊥ (λ never. absurd never) ended.result (ended.ensures.whole, λ fault. ended.ensures.not_the_disk (ap culprit_of fault)) refl (ended.ensures.printed script text left to_do.count (texts, lines) (too_long_is_bad script.start text long)) (still_keeps_up script.bytes (c.args.self.now.buffer ++ to_do.rest) (g.S.Source.asked c.args.source.now) (g.S.Source.asked c.read_line.new.source) to_do.bytes_are (c.read_line.ensures.keeps_up to_do.rest to_do.left_is) to_do.kept_up)
 
 pub returns-in-Ok-End-clause-runs : goal.returns-in-Ok-End-clause-runs
 returns-in-Ok-End-clause-runs g c script to_do =
@@ -51,7 +51,7 @@ pub returns-in-Err-NoMemory-clause-runs : goal.returns-in-Err-NoMemory-clause-ru
 returns-in-Err-NoMemory-clause-runs g c script to_do =
     step_apart g.D.Watched (record { only_now = g.met.D.Disk.only_now; counts_now = g.met.D.Disk.counts_now }) IsStored Shown shown_stays stored_exactly script
     (outside g.S.Source g.K.Sink c.args.source.now c.args.sink.now c.args.self.now.replayer.disk) (outside g.S.Source g.K.Sink c.read_line.new.source c.finish.new.sink c.args.self.now.replayer.disk)
-    ⊥ (λ never. absurd never) c.finish.result (no_cut g.K.Sink _ _ _ NoMemory c.finish.result (λ e. cc) c.finish.ensures) refl
+    ⊥ (λ never. absurd never) c.finish.result (line_leaves_disk g.K.Sink _ _ _ NoMemory c.finish.result (λ e. cc, λ e. cc) c.finish.ensures) refl
     (finished g.K.Sink c.args.sink.now c.finish.new.sink (Evidence ⊥ ⊥) script (g.S.Source.left c.read_line.new.source) NoMemory c.finish.result no_memory_line refl tt c.finish.ensures)
     (still_keeps_up script.bytes (c.args.self.now.buffer ++ to_do.rest) (g.S.Source.asked c.args.source.now) (g.S.Source.asked c.read_line.new.source) to_do.bytes_are (c.read_line.ensures.keeps_up to_do.rest to_do.left_is) to_do.kept_up)
 
@@ -66,7 +66,7 @@ returns-in-Err-Fault-clause-runs g c script to_do =
     let rose = c.read_line.ensures.cause.rose fault in
     step_apart g.D.Watched (record { only_now = g.met.D.Disk.only_now; counts_now = g.met.D.Disk.counts_now }) IsStored Shown shown_stays stored_exactly script
     (outside g.S.Source g.K.Sink c.args.source.now c.args.sink.now c.args.self.now.replayer.disk) (outside g.S.Source g.K.Sink c.read_line.new.source ended.new.sink c.args.self.now.replayer.disk)
-    (Rose (g.S.Source.faults c.args.source.now) (g.S.Source.faults c.read_line.new.source)) (λ rose. rose) ended.result (no_cut g.K.Sink _ _ _ ReadFault ended.result (λ e. cc) ended.ensures) refl
+    (Rose (g.S.Source.faults c.args.source.now) (g.S.Source.faults c.read_line.new.source)) (λ rose. rose) ended.result (line_leaves_disk g.K.Sink _ _ _ ReadFault ended.result (λ e. cc, λ e. cc) ended.ensures) refl
     (finished g.K.Sink c.args.sink.now ended.new.sink (Evidence (Rose (g.S.Source.faults c.args.source.now) (g.S.Source.faults c.read_line.new.source)) ⊥) script (g.S.Source.left c.read_line.new.source) ReadFault ended.result read_fault_line refl
     (rose, (given, rest, to_do.bytes_are ∙ parts, left_is, sym (ended_lines-none given unended))) ended.ensures)
     (still_keeps_up script.bytes (c.args.self.now.buffer ++ to_do.rest) (g.S.Source.asked c.args.source.now) (g.S.Source.asked c.read_line.new.source) to_do.bytes_are (c.read_line.ensures.keeps_up to_do.rest to_do.left_is) to_do.kept_up)

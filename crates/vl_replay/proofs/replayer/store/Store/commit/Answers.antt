@@ -14,14 +14,14 @@ returns-in-Refuse-clause-carries g c s rep held =
     let disk = c.args.disk.now in
     let decided = rw c.in-Refuse.is at (c.decide.ensures.decides s rep) in
     subst (λ (o : Outcome). LeadsTo g.D.Watched IsStored Shown disk disk s o.1 (Ok c.in-Refuse.answer)) (sym decided)
-    (carries_kept g.D.Watched (record { only_now = g.met.D.Disk.only_now; counts_now = g.met.D.Disk.counts_now }) s s disk (Ok c.in-Refuse.answer) (kept_nothing s) held)
+    (carries_kept g.D.Watched (record { only_now = g.met.D.Disk.only_now; counts_now = g.met.D.Disk.counts_now }) s s disk (Ok c.in-Refuse.answer) (λ by. by) (kept_nothing s) held)
 
 pub returns-in-Empty-clause-carries : goal.returns-in-Empty-clause-carries
 returns-in-Empty-clause-carries g c s rep held =
     let disk = c.args.disk.now in
     let decided = rw c.in-Empty.is at (c.decide.ensures.decides s rep) in
     subst (λ (o : Outcome). LeadsTo g.D.Watched IsStored Shown disk disk s o.1 (Ok Nothing)) (sym decided.0)
-    (carries_kept g.D.Watched (record { only_now = g.met.D.Disk.only_now; counts_now = g.met.D.Disk.counts_now }) s (without_handle s c.args.name) disk (Ok Nothing) (kept_without s c.args.name) held)
+    (carries_kept g.D.Watched (record { only_now = g.met.D.Disk.only_now; counts_now = g.met.D.Disk.counts_now }) s (without_handle s c.args.name) disk (Ok Nothing) (λ by. by) (kept_without s c.args.name) held)
 
 pub returns-in-Write-clause-answer : goal.returns-in-Write-clause-answer
 returns-in-Write-clause-answer g c s rep =

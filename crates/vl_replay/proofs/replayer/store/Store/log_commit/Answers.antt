@@ -7,11 +7,12 @@ use Rattle.vl_disk.specs.Disk.{IsChangedBy}
 use Rattle.vl_disk.specs.Moments.{Elapses}
 use Rattle.vl_disk.specs.declared.name.Name.TheVariants as names
 use Rattle.vl_seglog.specs.declared.active.ActiveLog.{ActiveLog}
-use Rattle.vl_replay.specs.Writing.{WhileWriting, written}
+use Rattle.vl_replay.specs.Writing.{StopsWriting, WhileWriting, written}
 use Rattle.vl_replay.specs.Represents.{IsOutcome}
 use Rattle.vl_replay.specs.Sequential.{after_commit}
 use Rattle.vl_replay.proofs.Betweens.{extends_one}
 use Rattle.vl_replay.proofs.Commits.{is_commit, frame_staged, carries_no_memory, carries_failed, carries_commit}
+use Rattle.vl_replay.proofs.Halting.{out_not_by_disk}
 use Rattle.vl_replay.proofs.Deciding.{open_is, same_writes, log_after, gives_commit}
 use Rattle.vl_replay.proofs.States.{Takes}
 use Rattle.vl_replay.proofs.replayer.store.Store.log_commit.Goals as goal
@@ -27,12 +28,13 @@ stage_commit-requires g c =
 pub returns-in_err-staged-clause-carries : goal.returns-in_err-staged-clause-carries
 returns-in_err-staged-clause-carries g c s name writes rep there held =
     carries_no_memory g.D.Watched (record { only_now = g.met.D.Disk.only_now; counts_now = g.met.D.Disk.counts_now }) s (after_commit s name writes) c.args.disk.now c.stage_commit.new.disk _
-    c.from_residual.result c.from_residual.ensures.0 (extends_one s.history (after_commit s name writes).history writes refl) c.in_err-staged.ensures.no_change held
+    c.from_residual.result c.from_residual.ensures.0 (out_not_by_disk c.from_residual.result c.from_residual.ensures.1) (extends_one s.history (after_commit s name writes).history writes refl) c.in_err-staged.ensures.no_change held
 
 pub returns-in_err-reserve-clause-carries : goal.returns-in_err-reserve-clause-carries
 returns-in_err-reserve-clause-carries g c s name writes rep there held =
     carries_no_memory g.D.Watched (record { only_now = g.met.D.Disk.only_now; counts_now = g.met.D.Disk.counts_now }) s (after_commit s name writes) c.args.disk.now c.stage_commit.new.disk _
-    c.from_residual-in_err-reserve.result c.from_residual-in_err-reserve.ensures.0 (extends_one s.history (after_commit s name writes).history writes refl) c.in_ok-staged.ensures.no_change held
+    c.from_residual-in_err-reserve.result c.from_residual-in_err-reserve.ensures.0
+    (out_not_by_disk c.from_residual-in_err-reserve.result c.from_residual-in_err-reserve.ensures.1) (extends_one s.history (after_commit s name writes).history writes refl) c.in_ok-staged.ensures.no_change held
 
 pub returns-clause-answer : goal.returns-clause-answer
 returns-clause-answer g c s name writes rep there =
@@ -59,9 +61,11 @@ returns-in_default-append_durably-clause-carries g c s name writes rep there hel
     let same : c.in-Transaction.writes ≡ writes = same_writes _ _ _ _ _ c.in-Transaction.is kept.1 in
     let listed = c.as_slice.ensures.entries ∙ ap (λ (w : Writes). entries w) same in
     let staged = frame_staged r s state writes c.as_slice.result.now c.in_ok-staged.staged rep stored listed c.in_ok-staged.ensures.staged in
-    let time = subst (λ (n : ℕ). Elapses g.D.Watched c.stage_commit.new.disk c.append_durably.new.disk (WhileWriting (names.Log n) c.in_ok-staged.staged.frame.items)) (ap (λ (l : ActiveLog). l.number) rep.log) c.append_durably.ensures.time in
+    let number = ap (λ (l : ActiveLog). l.number) rep.log in
+    let time = subst (λ (n : ℕ). Elapses g.D.Watched c.stage_commit.new.disk c.append_durably.new.disk (WhileWriting (names.Log n) c.in_ok-staged.staged.frame.items)) number c.append_durably.ensures.time in
     carries_failed g.D.Watched (record { only_now = g.met.D.Disk.only_now; counts_now = g.met.D.Disk.counts_now }) s name writes c.args.disk.now c.stage_commit.new.disk c.append_durably.new.disk _ c.in_ok-staged.ensures.no_change held
     c.in_ok-staged.staged.frame.items staged time _ refl (λ e. cc) (c.append_durably.ensures.tells state (c.in_ok-staged.ensures.no_change.told ∙ is))
+    (λ clean. subst (λ (n : ℕ). StopsWriting g.D.Watched (names.Log n) c.in_ok-staged.staged.frame.items c.stage_commit.new.disk c.append_durably.new.disk) number (c.in_default-append_durably.ensures.stopped clean))
 
 pub returns-clause-carries : goal.returns-clause-carries
 returns-clause-carries g c s name writes rep there held =
