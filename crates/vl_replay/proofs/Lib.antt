@@ -10,6 +10,7 @@ pub mod LogsShown
 pub mod MemtableEntries
 pub mod Noting
 pub mod OpenedRuns
+pub mod OpenedText
 pub mod Outcomes
 pub mod Pending
 pub mod Places
