@@ -9,17 +9,17 @@ use Rattle.std.specs.Option.{option_map, option_to_list}
 use Rattle.std.specs.Ordering.{eq_by_cmp, is_eq, is_gt, is_lt, nat_cmp, ordering_then}
 use Rattle.std.specs.declared.cmp.Ordering.{Ordering}
 use Rattle.std.specs.declared.cmp.Ordering.TheVariants.{Less, Equal, Greater}
-use Rattle.vl_model.specs.Keys.{Pairs, Row, Stored, key_cmp}
+use Rattle.vl_model.specs.Keys.{Pairs, Stored, key_cmp}
 use Rattle.vl_model.specs.Entries.{is_gone}
 use Rattle.vl_model.specs.WinnerLaws.{key_exact, key_tied}
-use Rattle.vl_model.specs.Winners.{winner}
+use Rattle.vl_model.specs.Winners.{resolved_at, winner}
 use Rattle.vl_model.specs.declared.entry.Body.{Body}
 use Rattle.vl_model.specs.declared.entry.Body.TheVariants.{Far, Gone, Inline, Logged}
 use Rattle.vl_model.specs.declared.entry.Entry.{Entry}
 use Rattle.vl_model.specs.declared.way.Way.TheVariants.{Up}
 use Rattle.vl_merge.specs.Merging.{IsAlong, IsFirst}
 use Rattle.vl_visible.specs.Visible.{shown}
-use Rattle.vl_contents.specs.Contents.{WinnersHave, body_value, entry_value, row_of, rows_in}
+use Rattle.vl_contents.specs.Contents.{WinnersHave, body_value, rows_in, unfollowed}
 
 -- the entries of a key
 abbrev pub of_key : List ℕ → List Entry → List Entry
@@ -115,15 +115,20 @@ find-rows key (e ∷ es) =
     by later true (Some v) is = ap (λ t. cond t (Some v) (find key_cmp key (rows_in es))) is
     by later false (Some v) is = ap (λ t. cond t (Some v) (find key_cmp key (rows_in es))) is ∙ later
 
-first-shown : (w : Option Entry) → first_value (shown w) ≡ entry_value w
-first-shown None = refl
-first-shown (Some e) = by e.body
+some_same : (a b : Option Stored) → Some a ≡ Some b → a ≡ b
+some_same a b e = cc
+
+-- what a winner leads to is the value that is shown of it
+first-shown : (w : Option Entry) (v : Option Stored) → resolved_at unfollowed w ≡ Some v → first_value (shown w) ≡ v
+first-shown None v leads = some_same None v leads
+first-shown (Some e) v leads = by e.body leads
   where
-    by : (body : Body) → first_value (cond (is_gone body) [] (record { key = e.key; version = e.version; body = body } ∷ [])) ≡ body_value body
-    by (Inline value) = refl
-    by Gone = refl
-    by (Far pointer) = refl
-    by (Logged value pointer) = refl
+    by : (body : Body) → resolved_at unfollowed (Some (record { key = e.key; version = e.version; body = body })) ≡ Some v
+        → first_value (cond (is_gone body) [] (record { key = e.key; version = e.version; body = body } ∷ [])) ≡ v
+    by (Inline value) leads = some_same (Some value) v leads
+    by Gone leads = some_same None v leads
+    by (Far pointer) leads = absurd cc
+    by (Logged value pointer) leads = some_same (Some value) v leads
 
 shown-once : (w : Option Entry) → length (shown w) ≤ 1
 shown-once None = omega arith
@@ -143,4 +148,4 @@ rows-entries pairs number all seen along winners have =
     same_entries key_cmp nat_list_cmp_total key_exact (rows_in seen) (entries pairs)
     (sorted-rows seen along (λ key. subst (λ (es : List Entry). length es ≤ 1) (sym (winners key)) (shown-once (winner all key number))))
     (entries_sorted pairs)
-    (λ key. find-rows key seen ∙ ap first_value (winners key) ∙ first-shown (winner all key number) ∙ have key ∙ get-entries pairs key)
+    (λ key. find-rows key seen ∙ ap first_value (winners key) ∙ first-shown (winner all key number) (get pairs key) (have key) ∙ get-entries pairs key)

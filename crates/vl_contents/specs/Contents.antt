@@ -3,7 +3,7 @@ use Rattle.std.specs.Prelude.{◌≡◌, ℕ, List, [], ◌∷◌, ◌++◌, Opt
 use Rattle.std.specs.FinMap.{get}
 use Rattle.std.specs.Option.{option_map, option_to_list}
 use Rattle.vl_model.specs.Keys.{Pairs, Row, Stored}
-use Rattle.vl_model.specs.Winners.{winner}
+use Rattle.vl_model.specs.Winners.{Logs, resolved_at, winner}
 use Rattle.vl_model.specs.declared.entry.Body.{Body}
 use Rattle.vl_model.specs.declared.entry.Body.TheVariants.{Far, Gone, Inline, Logged}
 use Rattle.vl_model.specs.declared.entry.Entry.{Entry}
@@ -15,11 +15,6 @@ body_value Gone = None
 body_value (Far pointer) = None
 body_value (Logged value pointer) = Some value
 
--- the value of an entry, where there is one
-abbrev pub entry_value : Option Entry → Option Stored
-entry_value None = None
-entry_value (Some e) = body_value e.body
-
 -- the key of an entry with the value that it holds
 abbrev pub row_of : Entry → Option Row
 row_of e = option_map (λ value. (e.key, value)) (body_value e.body)
@@ -29,6 +24,11 @@ abbrev pub rows_in : List Entry → List Row
 rows_in [] = []
 rows_in (e ∷ es) = option_to_list (row_of e) ++ rows_in es
 
--- each key's winner at a number has the value that these pairs have of the key, and none where they have none
+-- no pointer is followed
+abbrev pub unfollowed : Logs
+unfollowed pointer key = None
+
+-- each key's winner at a number leads to what these pairs have of the key, and no pointer is followed
 abbrev pub WinnersHave : Pairs → ℕ → List Entry → Type 0
-WinnersHave pairs number es = (key : List ℕ) → entry_value (winner es key number) ≡ get pairs key
+WinnersHave pairs number es =
+    (key : List ℕ) → resolved_at unfollowed (winner es key number) ≡ Some (get pairs key)

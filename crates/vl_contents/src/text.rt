@@ -35,12 +35,7 @@ fn push_count(text: &mut Vec<u8>, front: &[u8], number: u64) -> Result<(), Alloc
     Ok(())
 }
 
-fn push_row(
-    alloc: Global,
-    text: &mut Vec<u8>,
-    key: &Bytes,
-    value: &Bytes,
-) -> Result<(), AllocError>
+fn push_row(alloc: Global, text: &mut Vec<u8>, key: &Bytes, value: &Bytes) -> Result<(), AllocError>
     ensures { OnOk result (text.new.items ≡ text.old.items ++ row_text (key.now, value.now)) }
 {
     push_bytes(alloc, text, key)?;

@@ -4,7 +4,7 @@ use Rattle.std.specs.Prelude.{Some, None, Option}
 use Rattle.std.specs.List.{AllByRecursion, flat_map}
 use Rattle.std.proofs.lemmas.Grind.{flat_map-append}
 use Rattle.std.proofs.lemmas.List.{drop_more}
-use Rattle.vl_contents.specs.Contents as contents
+use Rattle.vl_contents.specs.Contents.{WinnersHave}
 use Rattle.vl_layout.specs.declared.segment.Segment.{Segment}
 use Rattle.vl_memtable.specs.Contents.{Contents, GiveAll, all_of}
 use Rattle.vl_merge.specs.Merging.{IsAlong}
@@ -13,8 +13,6 @@ use Rattle.vl_model.specs.HistoryLaws.{get-contents_at}
 use Rattle.vl_model.specs.Keys.{Stored}
 use Rattle.vl_model.specs.WinnerLaws.{winner-append, winner-in_order}
 use Rattle.vl_model.specs.Winners.{newest_of, resolved_at, winner}
-use Rattle.vl_model.specs.declared.entry.Body.{Body}
-use Rattle.vl_model.specs.declared.entry.Body.TheVariants.{Far, Gone, Inline, Logged}
 use Rattle.vl_model.specs.declared.entry.Entry.{Entry}
 use Rattle.vl_model.specs.declared.way.Way.TheVariants.{Up}
 use Rattle.vl_recover.specs.declared.parts.FrozenLog.{FrozenLog}
@@ -69,26 +67,11 @@ give_next logs i log held sources left now within is same give joined so =
 
 -- ---- what stands there
 
-some_same : {X : Type 0} (a b : X) → Some a ≡ Some b → a ≡ b
-some_same a b e = cc
-
--- what an entry leads to is the value that it holds
-value_held : (w : Option Entry) (v : Option Stored) → resolved_at no_logs w ≡ Some v → contents.entry_value w ≡ v
-value_held None v is = some_same None v is
-value_held (Some e) v is = by e.body is
-  where
-    by : (body : Body) → resolved_at no_logs (Some (record { key = e.key; version = e.version; body = body })) ≡ Some v → contents.body_value body ≡ v
-    by (Inline value) is = some_same (Some value) v is
-    by Gone is = some_same None v is
-    by (Far pointer) is = cc
-    by (Logged value pointer) is = some_same (Some value) v is
-
 -- the winners at the last number have what the history has there
 pub winners_have : (number : ℕ) (frozen : List FrozenLog) (log : ActiveLog) (s : State) (left : List (List Entry)) → GiveEntries (entries_in frozen) left
     → IsOpenedStore number frozen log s
-    → contents.WinnersHave (contents_at s.history number) number (flat_map (λ (fs : List Entry). fs) left)
+    → WinnersHave (contents_at s.history number) number (flat_map (λ (fs : List Entry). fs) left)
 winners_have number frozen log s left give opened key =
-    value_held (winner (flat_map (λ (fs : List Entry). fs) left) key number) (value_at s.history number key)
-    (ap (resolved_at no_logs) (give.winners key number ∙ ap (λ es. winner es key number) opened.entries)
-    ∙ opened.shows.shows.values key number (omega arith) (omega arith))
-    ∙ sym (get-contents_at s.history number key)
+    ap (resolved_at no_logs) (give.winners key number ∙ ap (λ es. winner es key number) opened.entries)
+    ∙ opened.shows.shows.values key number (omega arith) (omega arith)
+    ∙ sym (ap Some (get-contents_at s.history number key))

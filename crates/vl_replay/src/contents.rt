@@ -15,11 +15,7 @@ use vl_run::RunCursor;
 
 /// What is printed of a store that was opened with these logs, which rise, and whose last commit has this number: the number,
 /// and what stands there.
-pub fn opened_text(
-    alloc: Global,
-    number: u64,
-    frozen: &[FrozenLog],
-) -> Result<Vec<u8>, AllocError>
+pub fn opened_text(alloc: Global, number: u64, frozen: &[FrozenLog]) -> Result<Vec<u8>, AllocError>
     ensures { (log : ActiveLog) (s : State) → IsOpenedStore number frozen.now log s
         → IfOk result (λ text. text.items ≡ reopened_text number (contents_at s.history number)) }
 {
