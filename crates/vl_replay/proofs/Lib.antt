@@ -12,6 +12,7 @@ pub mod MemtableEntries
 pub mod Noting
 pub mod Numbered
 pub mod OpenedRuns
+pub mod OpenedText
 pub mod Outcomes
 pub mod Pending
 pub mod Places

@@ -1,4 +1,5 @@
 pub mod Between
+pub mod Contents
 pub mod Durable
 pub mod Endings
 pub mod Exchanges

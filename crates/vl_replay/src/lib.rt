@@ -2,6 +2,7 @@
 #![tactic(auto)]
 
 mod answering;
+mod contents;
 mod ending;
 mod fails;
 mod input;
