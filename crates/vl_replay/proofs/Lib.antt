@@ -19,6 +19,7 @@ pub mod Refusals
 pub mod Starting
 pub mod States
 pub mod Stepping
+pub mod StoppedLaws
 pub mod Texts
 pub mod UnderWay
 pub mod Writing

@@ -10,11 +10,13 @@ pub mod Memtable
 pub mod Opened
 pub mod Opening
 pub mod Reading
+pub mod Reopens
 pub mod Represents
 pub mod Runs
 pub mod Sequential
 pub mod Start
 pub mod StartLaws
 pub mod Steps
+pub mod Stopped
 pub mod Stored
 pub mod Writing
