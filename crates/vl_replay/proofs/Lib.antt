@@ -9,6 +9,7 @@ pub mod Logged
 pub mod LogsShown
 pub mod MemtableEntries
 pub mod Noting
+pub mod NumbersLeft
 pub mod OpenedRuns
 pub mod Outcomes
 pub mod Pending

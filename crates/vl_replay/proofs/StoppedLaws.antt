@@ -43,12 +43,13 @@ use Rattle.vl_recover.specs.TornFrames.{frame_behind, torn_log}
 use Rattle.vl_recover.specs.Walk.{StandingLog, filled, walked, with_frames}
 use Rattle.vl_seglog.specs.Frames.{frame_at, frames_end, frames_grammar, log_bytes}
 use Rattle.vl_seglog.specs.LogReadingLaws.{SaysFrames, reads_with_tail}
-use Rattle.vl_replay.specs.Reopens.{HasNumbersLeft, Reopens, state_left}
+use Rattle.vl_replay.specs.Reopens.{NamesUpTo, Reopens, commits_of, state_left}
 use Rattle.vl_replay.specs.Sequential.{State}
 use Rattle.vl_replay.specs.Stopped.{AreNumberedUpTo, Commits, GivesUpTo, IsStoppedIn, append_failed, append_passed, sync_failed, with_taken}
 use Rattle.vl_replay.specs.Stored.{IsStored, Shown, logs_of}
 use Rattle.vl_replay.specs.Writing.{written}
 use Rattle.vl_replay.proofs.Logged.{shown_by}
+use Rattle.vl_replay.proofs.NumbersLeft.{names_left, numbered_changed, numbers_left, reopens_by}
 
 -- ---- a log that ends with a part of a frame
 
@@ -295,87 +296,76 @@ stopped_shows before after now (sync_failed commits is) outcome =
 
 -- ---- numbers that are left
 
--- no name of the image has a greater number
-abbrev pub NamesUpTo : ℕ → Image → Type 0
-NamesUpTo n image = (name : Name) → get image name ≢ None → file_number name ≤ n
-
--- of what a crash leaves the names are among those of the disk
-pub names_left : (n : ℕ) (disk : DiskState) (image : Image) → MayLeave disk image → AreNumberedUpTo n disk → NamesUpTo n image
-names_left n disk image may numbered name there =
-    of (get disk.standing name) (get disk.removed name) (get image name) refl refl (may name) there
-  where
-    of : (standing removed : Option File) (left : Option (List ℕ)) → get disk.standing name ≡ standing → get disk.removed name ≡ removed
-        → MayLeaveOne standing removed left → left ≢ None → file_number name ≤ n
-    of (Some file) removed left stands gone one some = numbered.standing name (λ none. some_none file (sym stands ∙ none))
-    of None (Some file) left stands gone one some = numbered.removed name (λ none. some_none file (sym gone ∙ none))
-    of None None None stands gone one some = absurd (some refl)
-    of None None (Some bytes) stands gone one some = absurd one
-
--- they stay where a file is changed
-pub numbered_changed : (n : ℕ) (name : Name) (change : File → File) (disk : DiskState) → AreNumberedUpTo n disk
-    → AreNumberedUpTo n (with_file name change disk)
-numbered_changed n name change disk numbered = record {
-  standing = λ q there. numbered.standing q (λ none. there (⊎_elim
-      (λ (same : q ≡ name). subst (λ (x : Name). get disk.standing x ≡ None → get (with_file name change disk).standing x ≡ None) (sym same)
-      (λ (e : get disk.standing name ≡ None). changed_there name disk change ∙ ap (option_map change) e) none)
-      (λ (other : q ≢ name). (changed_elsewhere name disk change).standing q other ∙ none)
-      (same_or_other q name)));
-  removed = numbered.removed;
-}
-
-module _ (n : ℕ) (fits : n + 2 ≤ max_file_number) where
-  passes_none : (state : ManifestState) (logs : List StandingLog) → state.head ≤ n + 1 → state.next_log ≤ n + 1
-      → passes (log_made state logs) ≡ false
-  passes_none state [] head next = grind (arith, nat_tests, fits, head, next)
-  passes_none state (q ∷ []) head next = by q.reading.frames
-    where
-      by : (frames : List LogFrame) → passes (log_behind state frames) ≡ false
-      by [] = refl
-      by (f ∷ fs) = grind (arith, nat_tests, fits, next)
-  passes_none state (q ∷ p ∷ ps) head next = passes_none state (p ∷ ps) head next
-
-  module _ (image : Image) (names : NamesUpTo n image) where
-    greatest_within : (kind : ℕ → Name) → ((m : ℕ) → file_number (kind m) ≡ m) → (g : ℕ) → IsGreatest image kind g → g ≤ n
-    greatest_within kind same g is = ⊎_elim
-        (λ (none : g < 1). omega (arith, none))
-        (λ (some : 1 ≤ g). subst (λ (m : ℕ). m ≤ n) (same g) (names (kind g) (is.stands some)))
-        (cases_lt g 1)
-
-    -- Where the manifest gives no number far above those of the files, numbers are left.
-    pub numbers_left : (found : Finds image) → found.opening.state.head ≤ n + 1 → found.opening.state.next_log ≤ n + 1
-        → used_up found ≡ None
-    numbers_left found head next =
-        let g = found.greatest in
-        let state = found.opening.state in
-        let log = greatest_within Log (λ m. refl) g.log found.are_greatest.log in
-        let manifest = greatest_within Manifest (λ m. refl) g.manifest found.are_greatest.manifest in
-        let made : passes (log_made (new_state g state) found.logs) ≡ false =
-        passes_none (new_state g state) found.logs head (omega (arith, next, log)) in
-        let below : (g.manifest == max_file_number) ≡ false = grind (arith, nat_tests, manifest, fits) in
-        ap (λ (b : Bool). if b then Some counters.Log else (if g.manifest == max_file_number then Some counters.Manifest else None)) made
-        ∙ ap (λ (b : Bool). if b then Some counters.Manifest else None) below
-
-  -- So it is of an image that opens as what a disk holds of a state, whose files have small numbers.
-  pub held_numbers_left : (s : State) (disk : DiskState) (stored : IsStored s disk) → AreNumberedUpTo n disk
-      → GivesUpTo n stored.manifest → (image : Image) → OpensAsHeld s disk stored image → NamesUpTo n image
-      → HasNumbersLeft image
-  held_numbers_left s disk stored numbered gives image opens names found =
+module _ (n : ℕ) (fits : n + 2 ≤ max_file_number) (s : State) (disk : DiskState) (stored : IsStored s disk)
+    (numbered : AreNumberedUpTo n disk) (gives : GivesUpTo n stored.manifest) where
+  -- An image that opens as what a disk holds of a state, whose files have small numbers, opens again.
+  pub held_reopens : (image : Image) → OpensAsHeld s disk stored image → NamesUpTo n image
+      → Reopens image s.history (last_number s.history)
+  held_reopens image opens names =
+      reopens_by n image names s.history (last_number s.history) (held_shows s disk stored image opens) (λ found.
       let last = last_held stored.manifest.head stored.frozen (new_segment s.log.number stored.frames) disk stored.holds.logs_are in
       let within : s.log.number ≤ n = numbered.standing (Log s.log.number) (λ none. some_none _ (sym last.stands ∙ none)) in
       let same : found.opening ≡ opening_held stored.manifest (logs_of s stored.frozen stored.frames) (last_number s.history) =
       ok_same {E = Refusal} found.opening _ (single_opening image (Ok found.opening) _ found.opens opens) in
       let state : found.opening.state ≡ stored.manifest = ap (λ (o : Opening). o.state) same in
-      numbers_left image names found
+      numbers_left n fits image names found
       (subst (λ (x : ManifestState). x.head ≤ n + 1) (sym state) (let from = last.from in omega (arith, from, within)))
-      (subst (λ (x : ManifestState). x.next_log ≤ n + 1) (sym state) gives)
+      (subst (λ (x : ManifestState). x.next_log ≤ n + 1) (sym state) gives))
 
-  -- The image of a disk that holds a state opens showing its history, with numbers left.
-  pub stored_reopens : (s : State) (disk : DiskState) (stored : IsStored s disk) → AreNumberedUpTo n disk → GivesUpTo n stored.manifest
-      → (outcome : Outcome) → Reopens (crash_image outcome disk) s.history (last_number s.history)
-  stored_reopens s disk stored numbered gives outcome =
+  -- So does the image of a disk that holds a state.
+  pub stored_reopens : (outcome : Outcome) → Reopens (crash_image outcome disk) s.history (last_number s.history)
+  stored_reopens outcome =
       let may = crash_left outcome disk stored.lawful in
-      let opens = stored_opens s disk stored (crash_image outcome disk) may in
-      record {
-        shown = held_shows s disk stored (crash_image outcome disk) opens;
-        left = held_numbers_left s disk stored numbered gives (crash_image outcome disk) opens (names_left n disk (crash_image outcome disk) may numbered);
-      }
+      held_reopens (crash_image outcome disk) (stored_opens s disk stored (crash_image outcome disk) may)
+      (names_left n disk (crash_image outcome disk) may numbered)
+
+-- And so does the image of a disk on which a commit was stopped.
+module _ (before after : State) (commits : Commits IsStored before after) (n : ℕ) (fits : n + 2 ≤ max_file_number)
+    (numbered : AreNumberedUpTo n commits.old) (gives : GivesUpTo n commits.held.manifest) where
+  names_torn : (taken : ℕ) (outcome : Outcome) → NamesUpTo n (crash_image outcome (with_taken commits taken))
+  names_torn taken outcome = names_left n (with_taken commits taken) (crash_image outcome (with_taken commits taken))
+      (crash_left outcome (with_taken commits taken) (appended_lawful commits.old commits.held.lawful (Log before.log.number) commits.frame taken))
+      (numbered_changed n (Log before.log.number) (lengthened commits.frame taken) commits.old numbered)
+
+  pub append_failed_reopens : (outcome : Outcome)
+      → Reopens (crash_image outcome (with_taken commits 0)) before.history (last_number before.history)
+  append_failed_reopens outcome = held_reopens n fits before commits.old commits.held numbered gives
+      (crash_image outcome (with_taken commits 0)) (append_failed_opens before after commits outcome) (names_torn 0 outcome)
+
+  pub sync_failed_reopens : (k : ℕ) → k + 2 ≤ max_file_number
+      → AreNumberedUpTo k (written (Log before.log.number) commits.frame commits.old) → GivesUpTo k commits.done.manifest
+      → (outcome : Outcome) → let s = state_left outcome true before after in
+      Reopens (crash_image outcome (with_taken commits (length commits.frame))) s.history (last_number s.history)
+  sync_failed_reopens k fits_after numbered_after gives_after Lost = held_reopens n fits before commits.old commits.held numbered gives
+      (crash_image Lost (with_taken commits (length commits.frame))) (sync_failed_lost before after commits)
+      (names_torn (length commits.frame) Lost)
+  sync_failed_reopens k fits_after numbered_after gives_after Kept =
+      let durable = written (Log before.log.number) commits.frame commits.old in
+      let image = crash_image Kept (with_taken commits (length commits.frame)) in
+      held_reopens k fits_after after durable commits.done numbered_after gives_after image (sync_failed_kept before after commits)
+      (names_left k durable image (kept_left (Log before.log.number) (with_taken commits (length commits.frame))) numbered_after)
+  sync_failed_reopens k fits_after numbered_after gives_after Halved = held_reopens n fits before commits.old commits.held numbered gives
+      (crash_image Halved (with_taken commits (length commits.frame))) (sync_failed_halved before after commits)
+      (names_torn (length commits.frame) Halved)
+
+-- Behind a stop in a commit the image opens again, showing the commits before it, or with it where its append passed and all
+-- is kept.
+pub stopped_reopens : (before after : State) (now : DiskState) (stopped : IsStoppedIn IsStored before after now) (outcome : Outcome)
+    (n k : ℕ) → n + 2 ≤ max_file_number → k + 2 ≤ max_file_number
+    → AreNumberedUpTo n (commits_of stopped).old → GivesUpTo n (commits_of stopped).held.manifest
+    → AreNumberedUpTo k (written (Log before.log.number) (commits_of stopped).frame (commits_of stopped).old)
+    → GivesUpTo k (commits_of stopped).done.manifest → let s = state_left outcome (append_passed stopped) before after in
+    Reopens (crash_image outcome now) s.history (last_number s.history)
+stopped_reopens before after now (append_failed commits is) outcome n k fits fits_after numbered gives numbered_after gives_after =
+    subst (λ (s : State). Reopens (crash_image outcome now) s.history (last_number s.history)) (of outcome)
+    (subst (λ (d : DiskState). Reopens (crash_image outcome d) before.history (last_number before.history)) (sym is)
+    (append_failed_reopens before after commits n fits numbered gives outcome))
+  where
+    of : (o : Outcome) → before ≡ state_left o false before after
+    of Lost = refl
+    of Kept = refl
+    of Halved = refl
+stopped_reopens before after now (sync_failed commits is) outcome n k fits fits_after numbered gives numbered_after gives_after =
+    subst (λ (d : DiskState). Reopens (crash_image outcome d) (state_left outcome true before after).history
+    (last_number (state_left outcome true before after).history)) (sym is)
+    (sync_failed_reopens before after commits n fits numbered gives k fits_after numbered_after gives_after outcome)
