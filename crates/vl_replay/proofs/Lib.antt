@@ -11,6 +11,7 @@ pub mod MemtableEntries
 pub mod Noting
 pub mod NumbersLeft
 pub mod OpenedRuns
+pub mod OpeningStopped
 pub mod Outcomes
 pub mod Pending
 pub mod Places
