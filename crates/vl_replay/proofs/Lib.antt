@@ -11,8 +11,10 @@ pub mod LogsShown
 pub mod MemtableEntries
 pub mod Noting
 pub mod Numbered
+pub mod NumbersLeft
 pub mod OpenedRuns
 pub mod OpenedText
+pub mod OpeningStopped
 pub mod Outcomes
 pub mod Pending
 pub mod Places
@@ -22,6 +24,7 @@ pub mod Refusals
 pub mod Starting
 pub mod States
 pub mod Stepping
+pub mod StoppedLaws
 pub mod Texts
 pub mod UnderWay
 pub mod Writing

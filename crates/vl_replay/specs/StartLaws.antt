@@ -49,7 +49,7 @@ none_some x e = cc
 pub nothing : (name : Name) → get (empty {K = Name} {X = List ℕ} {R = name_cmp}) name ≡ None
 nothing name = get-empty name_cmp name
 
-not_there : (name : Name) → IsSome (get (empty {K = Name} {X = List ℕ} {R = name_cmp}) name) → ⊥
+pub not_there : (name : Name) → IsSome (get (empty {K = Name} {X = List ℕ} {R = name_cmp}) name) → ⊥
 not_there name there = of (get (empty {K = Name} {X = List ℕ} {R = name_cmp}) name) (nothing name) there
   where
     of : (o : Option (List ℕ)) → o ≡ None → IsSome o → ⊥
@@ -101,7 +101,7 @@ no_strays head = record {
     none_among : (name : Name) → Contains [] name → ⊥
     none_among name (i, less, is) = behind i less
 
-shows_nothing : LogsShow [] no_history 0
+pub shows_nothing : LogsShow [] no_history 0
 shows_nothing = record {
   shows = record {
     values = λ key number from to. ap Some (sym (value_at-first no_history number key to ∙ get-empty key_cmp key));
