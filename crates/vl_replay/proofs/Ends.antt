@@ -21,7 +21,7 @@ use Rattle.vl_replay.specs.Endings.{Culprit, NoOne, TheLine, TheWords, TheDisk, 
 use Rattle.vl_replay.specs.Runs.{Script, exchanges, next_number, IsFront, Stops, Puts, EndsSo}
 use Rattle.vl_replay.specs.Steps.{Finishes, IsNext, EndsBefore}
 use Rattle.vl_replay.specs.declared.ending.Ending.{Ending}
-use Rattle.vl_replay.specs.declared.ending.Ending.TheVariants.{Complete, WriteFault, AnswerCut}
+use Rattle.vl_replay.specs.declared.ending.Ending.TheVariants.{Complete, WriteFault, AnswerCut, Stopped}
 use Rattle.vl_replay.specs.Laws.{ended_lines-cons}
 use Rattle.vl_replay.proofs.Lines.{lines_of-ended}
 
@@ -110,6 +110,14 @@ finished g old new cause script left ending result line is stops f = record {
       subst (λ (e : Ending). EndsSo cause script left 0 e f.printed) (sym cut.0)
       (record { within = zero-le; piece = f.printed; puts = (ending, line, is, stops, cut.1); printed_is = refl }))
       f.how;
+}
+
+-- it ends where the disk failed, and nothing is put
+pub stopped : (cause : Culprit → Type 0) (script : Script) (left held : Option (List ℕ)) → cause TheDisk → EndsBefore cause script left Stopped held held
+stopped cause script left held by = record {
+  printed = [];
+  taken = takes_nothing held;
+  ends = record { within = zero-le; piece = []; puts = (by, refl); printed_is = refl };
 }
 
 -- it is a bad line

@@ -20,7 +20,7 @@ use Rattle.vl_replay.specs.Steps.{Finishes}
 use Rattle.vl_replay.specs.declared.fails.Halt.{Halt}
 use Rattle.vl_replay.specs.declared.fails.Halt.TheVariants.{NoMemory as NoRoom, Disk as DiskFailed}
 use Rattle.vl_replay.specs.declared.ending.Ending.{Ending}
-use Rattle.vl_replay.specs.declared.ending.Ending.TheVariants.{NoMemory, DiskFault, AnswerCut}
+use Rattle.vl_replay.specs.declared.ending.Ending.TheVariants.{NoMemory, DiskFault, AnswerCut, Stopped}
 use Rattle.vl_replay.proofs.Ends.{or_cut}
 use Rattle.vl_replay.proofs.DiskSteps.{IsWatched, text_extends, rests_until, it_holds, opens_again, ends_within, ends_unchanged}
 use Rattle.vl_replay.proofs.Logged.{shown_stays, stored_exactly}
@@ -125,6 +125,13 @@ module _ {D : Type 0} (g : Ghosts D) (watched : IsWatched g) (s : State) (text :
     ends_out k sink_old sink_new line result ending out finishes carries =
         ends_unchanged g watched IsStored Shown shown_stays stored_exactly old new ending s behind carries.through carries.tells (carries.no_commit out)
         (λ cuts. absurd (or_cut k sink_old sink_new line NoMemory ending (λ (e : Ending). CutsAnswer e → ⊥) finishes (λ e. cc) (λ e. cc) cuts))
+
+    -- the disk failed, and nothing was put
+    pub ends_stopped : {T : Type 0} (result : Result T Halt) → Rose (g.faults old) (g.faults new)
+        → LeadsTo g IsStored Shown old new s behind result → DiskEnds g IsStored Shown ⊥ old new (record { ending = Stopped; first = s; answered = []; most = behind })
+    ends_stopped result rose carries =
+        ends_within g watched IsStored Shown shown_stays stored_exactly old new Stopped s behind carries.through carries.tells (λ sound. absurd (sound rose))
+        (λ out. cc) (λ whole. absurd whole) (λ cuts. cc)
 
     -- the disk failed
     pub ends_fault : {T K : Type 0} (k : sink.Ghosts K) (sink_old sink_new : K) (line : List ℕ) (result : Result T Halt) (ending : Ending) → Rose (g.faults old) (g.faults new) → Finishes k sink_old sink_new line DiskFault ending

@@ -32,6 +32,17 @@ pub enum Ending {
     WriteFault,
     /// Status 7: the sink failed at the answer to a line.
     AnswerCut,
+    /// The disk of a trial failed, which goes on behind that; nothing was put.
+    Stopped,
+}
+
+/// What a run puts last where its disk fails.
+#[derive(Clone, Copy, Debug, PartialEq, Eq)]
+pub enum OnFault {
+    /// A line that says so.
+    Report,
+    /// Nothing: a trial's disk met its stop.
+    Stop,
 }
 
 impl Ending {
@@ -45,7 +56,7 @@ impl Ending {
             Ending::Complete => 0,
             Ending::BadLine => 1,
             Ending::BadWords => 2,
-            Ending::DiskFault => 3,
+            Ending::DiskFault | Ending::Stopped => 3,
             Ending::Refused(_) => 4,
             Ending::NoMemory => 5,
             Ending::ReadFault => 6,

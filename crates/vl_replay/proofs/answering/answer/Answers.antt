@@ -50,18 +50,18 @@ returns-in-Err-NoMemory-clause-moves g c s stands held =
 pub returns-in-Err-NoMemory-clause-sink_faults : goal.returns-in-Err-NoMemory-clause-sink_faults
 returns-in-Err-NoMemory-clause-sink_faults g c = finish_counts g.K.Sink _ _ _ NoMemory c.finish.result (λ e. cc) c.finish.ensures
 
-pub returns-clause-printed : goal.returns-clause-printed
-returns-clause-printed g c script stands count next left =
-    finished g.K.Sink c.args.sink.now c.finish-in-Err-Disk.new.sink _ script left DiskFault c.finish-in-Err-Disk.result disk_fault_line refl
-    (c.carry_out.ensures.cause.rose (halts c.carry_out.result c.in-Err-Disk.field-0-0 (c.in-Err-Disk.is ∙ ap Err c.in-Err-Disk.field-0-is))) c.finish-in-Err-Disk.ensures
+pub returns-in-Err-Disk-Report-clause-printed : goal.returns-in-Err-Disk-Report-clause-printed
+returns-in-Err-Disk-Report-clause-printed g c script stands count next left =
+    finished g.K.Sink c.args.sink.now c.finish-in-Err-Disk-Report.new.sink _ script left DiskFault c.finish-in-Err-Disk-Report.result disk_fault_line refl
+    (c.carry_out.ensures.cause.rose (halts c.carry_out.result c.in-Err-Disk.field-0-0 (c.in-Err-Disk.is ∙ ap Err c.in-Err-Disk.field-0-is))) c.finish-in-Err-Disk-Report.ensures
 
-pub returns-clause-moves : goal.returns-clause-moves
-returns-clause-moves g c s stands held =
-    ends_fault g.D.Watched (record { only_now = g.met.D.Disk.only_now; counts_now = g.met.D.Disk.counts_now }) s c.args.text.now c.args.replayer.now.disk c.carry_out.new.replayer.disk g.K.Sink c.args.sink.now c.finish-in-Err-Disk.new.sink disk_fault_line c.carry_out.result c.finish-in-Err-Disk.result
-    (c.carry_out.ensures.cause.rose (halts c.carry_out.result c.in-Err-Disk.field-0-0 (c.in-Err-Disk.is ∙ ap Err c.in-Err-Disk.field-0-is))) c.finish-in-Err-Disk.ensures (c.carry_out.ensures.carries s stands held)
+pub returns-in-Err-Disk-Report-clause-moves : goal.returns-in-Err-Disk-Report-clause-moves
+returns-in-Err-Disk-Report-clause-moves g c s stands held =
+    ends_fault g.D.Watched (record { only_now = g.met.D.Disk.only_now; counts_now = g.met.D.Disk.counts_now }) s c.args.text.now c.args.replayer.now.disk c.carry_out.new.replayer.disk g.K.Sink c.args.sink.now c.finish-in-Err-Disk-Report.new.sink disk_fault_line c.carry_out.result c.finish-in-Err-Disk-Report.result
+    (c.carry_out.ensures.cause.rose (halts c.carry_out.result c.in-Err-Disk.field-0-0 (c.in-Err-Disk.is ∙ ap Err c.in-Err-Disk.field-0-is))) c.finish-in-Err-Disk-Report.ensures (c.carry_out.ensures.carries s stands held)
 
-pub returns-clause-sink_faults : goal.returns-clause-sink_faults
-returns-clause-sink_faults g c = finish_counts g.K.Sink _ _ _ DiskFault c.finish-in-Err-Disk.result (λ e. cc) c.finish-in-Err-Disk.ensures
+pub returns-in-Err-Disk-Report-clause-sink_faults : goal.returns-in-Err-Disk-Report-clause-sink_faults
+returns-in-Err-Disk-Report-clause-sink_faults g c = finish_counts g.K.Sink _ _ _ DiskFault c.finish-in-Err-Disk-Report.result (λ e. cc) c.finish-in-Err-Disk-Report.ensures
 
 pub returns-in-Ok-clause-reads : goal.returns-in-Ok-clause-reads
 returns-in-Ok-clause-reads g c =
@@ -80,6 +80,6 @@ pub returns-in-Err-NoMemory-clause-reads : goal.returns-in-Err-NoMemory-clause-r
 returns-in-Err-NoMemory-clause-reads g c =
     finishes_otherwise g.K.Sink c.args.sink.now c.finish.new.sink no_memory_line NoMemory c.finish.result _ c.args.answered (λ e. cc) (λ e. cc) c.finish.ensures
 
-pub returns-clause-reads : goal.returns-clause-reads
-returns-clause-reads g c =
-    finishes_otherwise g.K.Sink c.args.sink.now c.finish-in-Err-Disk.new.sink disk_fault_line DiskFault c.finish-in-Err-Disk.result _ c.args.answered (λ e. cc) (λ e. cc) c.finish-in-Err-Disk.ensures
+pub returns-in-Err-Disk-Report-clause-reads : goal.returns-in-Err-Disk-Report-clause-reads
+returns-in-Err-Disk-Report-clause-reads g c =
+    finishes_otherwise g.K.Sink c.args.sink.now c.finish-in-Err-Disk-Report.new.sink disk_fault_line DiskFault c.finish-in-Err-Disk-Report.result _ c.args.answered (λ e. cc) (λ e. cc) c.finish-in-Err-Disk-Report.ensures
