@@ -13,10 +13,10 @@ use Rattle.vl_script.specs.Script.{line_of}
 use Rattle.vl_replay.specs.Sequential.{State, state_after}
 use Rattle.vl_replay.specs.Exchanges.{Exchange, exchange_at, exchanged, state_behind, exchanges_from, and_later, last_state}
 use Rattle.vl_replay.specs.Between.{Showing, ShowsBetween}
-use Rattle.vl_replay.specs.Endings.{CutsAnswer, IsBetweenLines, culprit_of}
+use Rattle.vl_replay.specs.Endings.{CutsAnswer, IsBetweenLines, TheDisk, culprit_of}
 use Rattle.vl_replay.specs.Durable.{DiskEnds, GoesAlong, CrashesShow, Holding, HoldsCommits, HoldsState, Leaves, LeavesItsHistory, StaysShown, StopsWithin, Tells}
 use Rattle.vl_replay.specs.declared.ending.Ending.{Ending}
-use Rattle.vl_replay.specs.declared.ending.Ending.TheVariants.{DiskFault, NoMemory}
+use Rattle.vl_replay.specs.declared.ending.Ending.TheVariants.{NoMemory}
 use Rattle.vl_replay.proofs.Betweens.{extends_itself, extends_then, between_wider, between_exactly}
 use Rattle.vl_replay.proofs.Ends.{LeavesDisk}
 use Rattle.vl_replay.proofs.Outcomes.{line_extends}
@@ -118,7 +118,7 @@ module _ {D : Type 0} (g : Ghosts D) (watched : IsWatched g) (holds : Holding) (
   pub ends_within : (old new : D) (ending : Ending) (least most : State) → CrashesShow g shows old new least.history most.history → Tells g new MayOpen
       → ((Rose (g.faults old) (g.faults new) → ⊥) → HoldsCommits g holds least new ⊎ HoldsCommits g holds most new)
       → (ending ≡ NoMemory → HoldsCommits g holds least new) → (IsBetweenLines (culprit_of ending) → HoldsCommits g holds least new) → (CutsAnswer ending → HoldsCommits g holds most new)
-      → (ending ≡ DiskFault → IsTrue g.fails_cleanly → StopsWithin g holds least most new)
+      → (culprit_of ending ≡ TheDisk → IsTrue g.fails_cleanly → StopsWithin g holds least most new)
       → DiskEnds g holds shows ⊥ ⊥ old new (record { ending = ending; first = least; answered = []; most = most })
   ends_within old new ending least most goes tells settled no_memory whole cut stops = record {
     crash_during = goes;
@@ -134,7 +134,7 @@ module _ {D : Type 0} (g : Ghosts D) (watched : IsWatched g) (holds : Holding) (
 
   -- it still holds what it held
   pub ends_unchanged : (old new : D) (ending : Ending) (least most : State) → CrashesShow g shows old new least.history most.history → Tells g new MayOpen → HoldsCommits g holds least new
-      → (CutsAnswer ending → HoldsCommits g holds most new) → (ending ≡ DiskFault → ⊥) → DiskEnds g holds shows ⊥ ⊥ old new (record { ending = ending; first = least; answered = []; most = most })
+      → (CutsAnswer ending → HoldsCommits g holds most new) → (culprit_of ending ≡ TheDisk → ⊥) → DiskEnds g holds shows ⊥ ⊥ old new (record { ending = ending; first = least; answered = []; most = most })
   ends_unchanged old new ending least most goes tells held cut sound = ends_within old new ending least most goes tells (λ sound. inl held) (λ out. held) (λ whole. held) cut (λ fault. absurd (sound fault))
 
   -- the disk was left alone
@@ -144,14 +144,14 @@ module _ {D : Type 0} (g : Ghosts D) (watched : IsWatched g) (holds : Holding) (
       ends_unchanged disk disk ending s most (rests_until s most.history extends disk held) (opens_again s disk held) (it_holds s disk held) (λ cuts. absurd (none cuts)) sound
 
   -- the last line was answered
-  pub ends_answered : (old new : D) (ending : Ending) (before : State) (e : Exchange) → (ending ≡ DiskFault → ⊥) → CrashesShow g shows old new before.history e.after.history → HoldsState g holds e.after new
+  pub ends_answered : (old new : D) (ending : Ending) (before : State) (e : Exchange) → (culprit_of ending ≡ TheDisk → ⊥) → CrashesShow g shows old new before.history e.after.history → HoldsState g holds e.after new → g.faults new ≡ g.faults old
       → DiskEnds g holds shows ⊥ ⊥ old new (record { ending = ending; first = before; answered = e ∷ []; most = e.after })
-  ends_answered old new ending before e sound goes held =
+  ends_answered old new ending before e sound goes held steady =
       let there = it_holds e.after new held in
       let rest = rests e.after new held in
       record {
         crash_during = goes;
-        line_by_line = (new, record { before = goes; held = there; behind = rest }, tt);
+        line_by_line = (new, record { before = goes; held = there; steady = steady; behind = rest }, tt);
         crash_after = at_end new new e.after.history e.after.history rest (opens_again e.after new held);
         without_fault = λ sound. inr (inl there);
         no_memory = λ out. inr there;

@@ -7,7 +7,7 @@ use Rattle.std.specs.List.{slice_get}
 use Rattle.std.specs.Option.{option_map}
 use Rattle.std.specs.Fmt.{decimal}
 use Rattle.std.proofs.lemmas.Bool.Decides.{nat_tests}
-use Rattle.vl_disk.specs.Faults.{Rose}
+use Rattle.vl_disk.specs.Faults.{HasCause, Rose}
 use Rattle.vl_io.specs.declared.sink.Sink as sink
 use Rattle.vl_io.specs.Sink.{Takes, TakesPrefix}
 use Rattle.vl_script.specs.declared.line.Line.{Line as ScriptLine}
@@ -17,11 +17,13 @@ use Rattle.vl_script.specs.Script.{text_of, lines_of, line_of}
 use Rattle.vl_replay.specs.Sequential.{State, answer_to, state_after}
 use Rattle.vl_replay.specs.Input.{HasNoLineEnd}
 use Rattle.vl_replay.specs.Exchanges.{Exchange, exchange_at, exchanged, exchanges_from, and_later, answers_text, ended_lines, KeepsUp}
-use Rattle.vl_replay.specs.Endings.{Culprit, NoOne, TheLine, TheWords, TheDisk, TheFiles, Memory, TheSource, TheSink, LastPiece, NoPiece, BadLinePiece, Line, LineFront, AnswerFront, CountsFaultsOf, Evidence, CutsAnswer, culprit_of, end_of, last_line, line_of_piece, line_number, bad_line}
+use Rattle.vl_replay.specs.Endings.{Culprit, NoOne, TheLine, TheWords, TheDisk, TheFiles, Memory, TheSource, TheSink, LastPiece, NoPiece, BadLinePiece, Line, LineFront, AnswerFront, CountsFaultsOf, EndsAs, Evidence, CutsAnswer, culprit_of, end_of, ending_at, last_line, line_at, line_of_piece, line_number, bad_line}
 use Rattle.vl_replay.specs.Runs.{Script, exchanges, next_number, IsFront, Stops, Puts, EndsSo}
 use Rattle.vl_replay.specs.Steps.{Finishes, IsNext, EndsBefore}
 use Rattle.vl_replay.specs.declared.ending.Ending.{Ending}
-use Rattle.vl_replay.specs.declared.ending.Ending.TheVariants.{Complete, DiskFault, WriteFault, AnswerCut}
+use Rattle.vl_replay.specs.declared.ending.Ending.TheVariants.{Complete, DiskFault, WriteFault, AnswerCut, Stopped}
+use Rattle.vl_replay.specs.declared.ending.OnFault.{OnFault}
+use Rattle.vl_replay.specs.declared.ending.OnFault.TheVariants.{Report, Stop}
 use Rattle.vl_replay.specs.Laws.{ended_lines-cons}
 use Rattle.vl_replay.proofs.Lines.{lines_of-ended}
 
@@ -314,16 +316,63 @@ or_cut g old new line ending result P f whole cut = ⊎_elim
     (λ (failed : (result ≡ WriteFault) × IsFront f.printed line × Rose (g.faults old) (g.faults new)). subst P (sym failed.0) cut)
     f.how
 
+some_culprit : (c who : Culprit) → Some c ≡ Some who → c ≡ who
+some_culprit c who e = cc
+
+-- what holds of both endings where the disk fails
+pub at_fault : (P : Ending → Type 0) → P DiskFault → P Stopped → (f : OnFault) → P (ending_at f)
+at_fault P report stop Report = report
+at_fault P report stop Stop = stop
+
+pub fault_line : (n : ℕ) (f : OnFault) → last_line n (ending_at f) ≡ Some (line_at f)
+fault_line n Report = refl
+fault_line n Stop = refl
+
+pub fault_stops : (cause : Culprit → Type 0) (script : Script) (left : Option (List ℕ)) (m : ℕ) → cause TheDisk → (f : OnFault)
+    → Stops cause script left m (culprit_of (ending_at f))
+fault_stops cause script left m by Report = by
+fault_stops cause script left m by Stop = by
+
+-- a run that ended by its disk did so as it was to
+pub ends_as : (f : OnFault) (ending : Ending) → (culprit_of ending ≢ TheDisk) ⊎ (ending ≡ ending_at f) → EndsAs f (Some ending)
+ends_as f ending either by = ⊎_elim
+    (λ (other : culprit_of ending ≢ TheDisk). absurd (other (some_culprit (culprit_of ending) TheDisk by)))
+    (λ (same : ending ≡ ending_at f). ap Some same)
+    either
+
+pub otherwise_as : {K : Type 0} (g : sink.Ghosts K) (old new : K) (line : List ℕ) (ending result : Ending) (f : OnFault) → culprit_of ending ≢ TheDisk
+    → Finishes g old new line ending result → EndsAs f (Some result)
+otherwise_as g old new line ending result f other finishes = ends_as f result (inl (or_cut g old new line ending result (λ (e : Ending). culprit_of e ≢ TheDisk) finishes other (λ e. cc)))
+
+pub fault_as : {K : Type 0} (g : sink.Ghosts K) (old new : K) (line : List ℕ) (result : Ending) (f : OnFault) → Finishes g old new line (ending_at f) result → EndsAs f (Some result)
+fault_as g old new line result f finishes = ⊎_elim
+    (λ (same : (result ≡ ending_at f) × (finishes.printed ≡ line) × (g.faults new ≡ g.faults old)). ends_as f result (inr same.0))
+    (λ (cut : (result ≡ WriteFault) × IsFront finishes.printed line × Rose (g.faults old) (g.faults new)). ends_as f result (inl (λ by. cut_is_the_sinks (sym (ap culprit_of cut.0) ∙ by))))
+    finishes.how
+  where
+    cut_is_the_sinks : TheSink ≡ TheDisk → ⊥
+    cut_is_the_sinks e = cc
+
+-- the disk counted a fault where it ended the run, or the last line failed
+pub fault_counts : {K : Type 0} (g : sink.Ghosts K) (old new : K) (line : List ℕ) (result : Ending) (f : OnFault) (before now : ℕ) (failed : Type 0) → failed → HasCause before now failed
+    → Finishes g old new line (ending_at f) result → CountsFaultsOf TheDisk (Some result) before now
+fault_counts g old new line result f before now failed by cause finishes = record {
+  later = cause.later;
+  rose = λ _. cause.rose by;
+  steady = λ other whole. absurd (⊎_elim
+      (λ (same : (result ≡ ending_at f) × (finishes.printed ≡ line) × (g.faults new ≡ g.faults old)).
+      other (ap (λ (e : Ending). Some (culprit_of e)) same.0 ∙ at_fault (λ (e : Ending). Some (culprit_of e) ≡ Some TheDisk) refl refl f))
+      (λ (cut : (result ≡ WriteFault) × IsFront finishes.printed line × Rose (g.faults old) (g.faults new)). whole (ap Some cut.0))
+      finishes.how);
+}
+
 -- no answer was cut, and the disk didn't fail
 abbrev pub LeavesDisk : Ending → Type 0
-LeavesDisk ending = (CutsAnswer ending → ⊥) × (ending ≡ DiskFault → ⊥)
+LeavesDisk ending = (CutsAnswer ending → ⊥) × (culprit_of ending ≡ TheDisk → ⊥)
 
 -- an ending with a line of its own leaves the disk alone, and so does that line where it can't be put
 pub line_leaves_disk : {K : Type 0} (g : sink.Ghosts K) (old new : K) (line : List ℕ) (ending result : Ending) → LeavesDisk ending → Finishes g old new line ending result → LeavesDisk result
 line_leaves_disk g old new line ending result whole f = or_cut g old new line ending result LeavesDisk f whole (λ e. cc, λ e. cc)
-
-some_culprit : (c who : Culprit) → Some c ≡ Some who → c ≡ who
-some_culprit c who e = cc
 
 -- an ending by another object counts nothing of this one
 pub counts_none : (who : Culprit) (ending : Ending) (n : ℕ) → culprit_of ending ≢ who → CountsFaultsOf who (Some ending) n n

@@ -133,7 +133,7 @@ module _ {D : Type 0} (g : Ghosts D) (watched : IsWatched g) (holds : Holding) (
           disk = λ held.
               let m = subst (λ (o : Option Exchange). MovesOn g holds shows old.disk new.disk script.start (state_behind script.start o)) is (moves held) in
               subst (λ (es : List Exchange). DiskEnds g holds shows ⊥ ⊥ old.disk new.disk (record { ending = Complete; first = script.start; answered = take 1 es; most = last_state script.start (take 2 es) })) (sym all)
-              (ends_answered g watched holds shows stays exactly old.disk new.disk Complete script.start e (λ fault. cc) m.through m.held);
+              (ends_answered g watched holds shows stays exactly old.disk new.disk Complete script.start e (λ fault. cc) m.through m.held m.steady);
         })
     step_last buffer (Some ending) result r (told, same, unended, some) ends moves kept_up =
         let lines : lines_of script.bytes ≡ line ∷ [] = ap lines_of same ∙ lines_of-unended line unended some in

@@ -13,15 +13,16 @@ use Rattle.vl_replay.specs.Sequential.{State, answer_to, state_after}
 use Rattle.vl_replay.specs.Exchanges.{exchange_at, exchanged, state_behind}
 use Rattle.vl_disk.specs.declared.name.Name.{Name}
 use Rattle.vl_replay.specs.Halts.{HaltsByDisk}
-use Rattle.vl_replay.specs.Endings.{CutsAnswer, IsBetweenLines, culprit_of}
+use Rattle.vl_replay.specs.Endings.{CutsAnswer, IsBetweenLines, TheDisk, culprit_of, ending_at}
 use Rattle.vl_replay.specs.Durable.{HoldsState, HoldsCommits, LeadsTo, DiskEnds}
 use Rattle.vl_replay.specs.Stored.{IsStored, Shown}
 use Rattle.vl_replay.specs.Steps.{Finishes}
 use Rattle.vl_replay.specs.declared.fails.Halt.{Halt}
 use Rattle.vl_replay.specs.declared.fails.Halt.TheVariants.{NoMemory as NoRoom, Disk as DiskFailed}
 use Rattle.vl_replay.specs.declared.ending.Ending.{Ending}
-use Rattle.vl_replay.specs.declared.ending.Ending.TheVariants.{NoMemory, DiskFault, AnswerCut}
-use Rattle.vl_replay.proofs.Ends.{or_cut}
+use Rattle.vl_replay.specs.declared.ending.Ending.TheVariants.{NoMemory, AnswerCut}
+use Rattle.vl_replay.specs.declared.ending.OnFault.{OnFault}
+use Rattle.vl_replay.proofs.Ends.{at_fault, or_cut}
 use Rattle.vl_replay.proofs.DiskSteps.{IsWatched, text_extends, rests_until, it_holds, opens_again, ends_within, ends_unchanged}
 use Rattle.vl_replay.proofs.Logged.{shown_stays, stored_exactly}
 use Rattle.vl_replay.proofs.Outcomes.{line_keeps}
@@ -115,7 +116,7 @@ module _ {D : Type 0} (g : Ghosts D) (watched : IsWatched g) (s : State) (text :
         ends_within g watched IsStored Shown shown_stays stored_exactly old new AnswerCut s behind carries.through carries.tells (λ sound. inr held) (λ out. cc) (λ whole. absurd whole) (λ cuts. held) (λ fault. cc)
 
     -- it is a bad line, whatever could be put
-    pub ends_bad : {T : Type 0} (result : Result T Halt) (ending : Ending) → IsOk result → (ending ≡ DiskFault → ⊥) → exchange_at s text ≡ None → LeadsTo g IsStored Shown old new s behind result
+    pub ends_bad : {T : Type 0} (result : Result T Halt) (ending : Ending) → IsOk result → (culprit_of ending ≡ TheDisk → ⊥) → exchange_at s text ≡ None → LeadsTo g IsStored Shown old new s behind result
         → DiskEnds g IsStored Shown ⊥ ⊥ old new (record { ending = ending; first = s; answered = []; most = behind })
     ends_bad result ending ok sound bad carries =
         let held = of_ok result _ ok carries.answered in
@@ -128,14 +129,14 @@ module _ {D : Type 0} (g : Ghosts D) (watched : IsWatched g) (s : State) (text :
     ends_out k sink_old sink_new line result ending out finishes carries =
         ends_unchanged g watched IsStored Shown shown_stays stored_exactly old new ending s behind carries.through carries.tells (carries.no_commit out)
         (λ cuts. absurd (or_cut k sink_old sink_new line NoMemory ending (λ (e : Ending). CutsAnswer e → ⊥) finishes (λ e. cc) (λ e. cc) cuts))
-        (or_cut k sink_old sink_new line NoMemory ending (λ (e : Ending). e ≡ DiskFault → ⊥) finishes (λ e. cc) (λ e. cc))
+        (or_cut k sink_old sink_new line NoMemory ending (λ (e : Ending). culprit_of e ≡ TheDisk → ⊥) finishes (λ e. cc) (λ e. cc))
 
     -- the disk failed
-    pub ends_fault : {T K : Type 0} (k : sink.Ghosts K) (sink_old sink_new : K) (line : List ℕ) (result : Result T Halt) (ending : Ending) → Rose (g.faults old) (g.faults new) → HaltsByDisk result → Finishes k sink_old sink_new line DiskFault ending
+    pub ends_fault : {T K : Type 0} (k : sink.Ghosts K) (sink_old sink_new : K) (line : List ℕ) (result : Result T Halt) (f : OnFault) (ending : Ending) → Rose (g.faults old) (g.faults new) → HaltsByDisk result → Finishes k sink_old sink_new line (ending_at f) ending
         → LeadsTo g IsStored Shown old new s behind result → DiskEnds g IsStored Shown ⊥ ⊥ old new (record { ending = ending; first = s; answered = []; most = behind })
-    ends_fault k sink_old sink_new line result ending rose by finishes carries =
+    ends_fault k sink_old sink_new line result f ending rose by finishes carries =
         ends_within g watched IsStored Shown shown_stays stored_exactly old new ending s behind carries.through carries.tells (λ sound. absurd (sound rose))
-        (λ out. absurd (or_cut k sink_old sink_new line DiskFault ending (λ (e : Ending). e ≡ NoMemory → ⊥) finishes (λ e. cc) (λ e. cc) out))
-        (λ whole. absurd (or_cut k sink_old sink_new line DiskFault ending (λ (e : Ending). IsBetweenLines (culprit_of e) → ⊥) finishes (λ never. never) (λ never. never) whole))
-        (λ cuts. absurd (or_cut k sink_old sink_new line DiskFault ending (λ (e : Ending). CutsAnswer e → ⊥) finishes (λ e. cc) (λ e. cc) cuts))
+        (λ out. absurd (or_cut k sink_old sink_new line (ending_at f) ending (λ (e : Ending). e ≡ NoMemory → ⊥) finishes (at_fault (λ (e : Ending). e ≡ NoMemory → ⊥) (λ e. cc) (λ e. cc) f) (λ e. cc) out))
+        (λ whole. absurd (or_cut k sink_old sink_new line (ending_at f) ending (λ (e : Ending). IsBetweenLines (culprit_of e) → ⊥) finishes (at_fault (λ (e : Ending). IsBetweenLines (culprit_of e) → ⊥) (λ never. never) (λ never. never) f) (λ never. never) whole))
+        (λ cuts. absurd (or_cut k sink_old sink_new line (ending_at f) ending (λ (e : Ending). CutsAnswer e → ⊥) finishes (at_fault (λ (e : Ending). CutsAnswer e → ⊥) (λ e. cc) (λ e. cc) f) (λ e. cc) cuts))
         (λ fault. carries.stopped by)

@@ -115,7 +115,7 @@ module _ {D : Type 0} (g : Ghosts D) (watched : IsWatched g) (holds : Holding) (
                     (c.along new most (suc k) (extends_then rest.start.history e.after.history most.history step extends)
                     (goes_then g watched holds shows stays exactly now.disk next.disk new rest.start.history e.after.history most.history step extends moves.through goes)
                     (subst (λ (es : List Exchange). GoesAlong g holds shows new most now.disk rest.start (take (suc k) es)) (sym all)
-                    (next.disk, record { before = moves.through; held = it_holds g watched holds shows stays exactly e.after next.disk moves.held; behind = goes }, along)));
+                    (next.disk, record { before = moves.through; held = it_holds g watched holds shows stays exactly e.after next.disk moves.held; steady = moves.steady; behind = goes }, along)));
               };
         }
 

@@ -14,13 +14,13 @@ use Rattle.vl_replay.specs.Sequential.{State}
 use Rattle.vl_replay.specs.Exchanges.{Exchange, last_state}
 pub use Rattle.vl_replay.specs.Between.{Holding}
 use Rattle.vl_replay.specs.Between.{Showing, ShowsBetween}
-use Rattle.vl_replay.specs.Endings.{CutsAnswer, IsBetweenLines, culprit_of}
+use Rattle.vl_replay.specs.Endings.{CutsAnswer, IsBetweenLines, TheDisk, culprit_of}
 use Rattle.vl_replay.specs.Runs.{Course}
 use Rattle.vl_replay.specs.Halts.{HaltsByDisk}
 use Rattle.vl_replay.specs.Stopped.{IsStoppedIn, calls_until}
 use Rattle.vl_replay.specs.declared.fails.Halt.{Halt}
 use Rattle.vl_replay.specs.declared.fails.Halt.TheVariants.{NoMemory as NoRoom}
-use Rattle.vl_replay.specs.declared.ending.Ending.TheVariants.{DiskFault, NoMemory}
+use Rattle.vl_replay.specs.declared.ending.Ending.TheVariants.{NoMemory}
 
 -- P holds of whatever a crash leaves of this disk, if no torn bytes spell a frame by chance
 abbrev pub Leaves : (Image → Type 0) → DiskState → Type 0
@@ -115,6 +115,8 @@ pub record PassesLine {D : Type 0} (g : Ghosts D) (holds : Holding) (shows : Sho
   pub before : CrashesShow g shows disk passed s.history e.after.history
   -- it held the commits up to the line and nothing else, after just the changing calls of these lines;
   pub held : HoldsCommits g holds e.after passed
+  -- no fault was counted meanwhile;
+  pub steady : g.faults passed ≡ g.faults disk
   -- and what a crash leaves from it on, until the run's end, shows at least the latter
   pub behind : CrashesShow g shows passed new e.after.history most.history
 
@@ -154,7 +156,7 @@ pub record DiskEnds {D : Type 0} (g : Ghosts D) (holds : Holding) (shows : Showi
   pub again : Tells g new MayOpen
   -- where it ended by a disk that fails cleanly, the store wasn't opened, or the disk was stopped within the commit of one
   -- line more
-  pub stopped : run.ending ≡ DiskFault → IsTrue g.fails_cleanly
+  pub stopped : culprit_of run.ending ≡ TheDisk → IsTrue g.fails_cleanly
       → failed_to_open ⊎ StopsWithin g holds (last_state run.first run.answered) run.most new
 
 -- so it is of a run over an open store, where the disk held the state in which it began

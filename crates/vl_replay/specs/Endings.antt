@@ -9,7 +9,9 @@ use Rattle.vl_script.specs.Script.{counter_text}
 use Rattle.vl_replay.specs.declared.fails.Refusal.{Refusal}
 use Rattle.vl_replay.specs.declared.fails.Refusal.TheVariants.{NotAStore, NewerFormat, Damaged, Exhausted}
 use Rattle.vl_replay.specs.declared.ending.Ending.{Ending}
-use Rattle.vl_replay.specs.declared.ending.Ending.TheVariants.{Complete, BadLine, BadWords, DiskFault, Refused, NoMemory, ReadFault, WriteFault, AnswerCut}
+use Rattle.vl_replay.specs.declared.ending.OnFault.{OnFault}
+use Rattle.vl_replay.specs.declared.ending.OnFault.TheVariants.{Report, Stop}
+use Rattle.vl_replay.specs.declared.ending.Ending.TheVariants.{Complete, BadLine, BadWords, DiskFault, Refused, NoMemory, ReadFault, WriteFault, AnswerCut, Stopped}
 
 -- a count of lines stands still at its type's end
 abbrev pub line_number : ℕ → ℕ
@@ -89,6 +91,7 @@ end_of NoMemory = record { status = 5; culprit = Memory; last = Line no_memory_l
 end_of ReadFault = record { status = 6; culprit = TheSource; last = Line read_fault_line }
 end_of WriteFault = record { status = 7; culprit = TheSink; last = LineFront }
 end_of AnswerCut = record { status = 7; culprit = TheSink; last = AnswerFront }
+end_of Stopped = record { status = 3; culprit = TheDisk; last = Line [] }
 
 abbrev pub status_of : Ending → ℕ
 status_of ending = (end_of ending).status
@@ -152,3 +155,17 @@ Evidence by_source by_disk TheSink = ⊥
 -- so it is where only the disk is asked: `failed` says that it did
 abbrev pub OnlyByDisk : (failed : Type 0) → Culprit → Type 0
 OnlyByDisk failed = Evidence ⊥ failed
+
+-- how a run ends where its disk fails
+abbrev pub ending_at : OnFault → Ending
+ending_at Report = DiskFault
+ending_at Stop = Stopped
+
+-- and what it puts then
+abbrev pub line_at : OnFault → List ℕ
+line_at Report = disk_fault_line
+line_at Stop = []
+
+-- where a step, or a run, ended by its disk, it ended so
+abbrev pub EndsAs : OnFault → Option Ending → Type 0
+EndsAs on_fault ended = EndedBy TheDisk ended → ended ≡ Some (ending_at on_fault)

@@ -123,6 +123,8 @@ pub record MovesOn {D : Type 0} (g : Ghosts D) (holds : Holding) (shows : Showin
     (old new : D) (before after : State) : Type 0 where
   pub held : HoldsState g holds after new
   pub through : CrashesShow g shows old new before.history after.history
+  -- no fault was counted
+  pub steady : g.faults new ≡ g.faults old
 
 -- what a step did to a disk that held the state before it
 abbrev pub DiskSteps : {D : Type 0} → Ghosts D → Holding → Showing → (old new : D)

@@ -5,7 +5,7 @@ ghost use Rattle.vl_disk.specs.Faults.{Rose, HasCause};
 ghost use Rattle.vl_replay.specs.Sequential.{State};
 ghost use Rattle.vl_replay.specs.Represents.{Represents};
 ghost use Rattle.vl_replay.specs.Exchanges.{exchange_at, state_behind};
-ghost use Rattle.vl_replay.specs.Endings.{TheDisk, TheSink, TheSource, CountsFaultsOf, CutsAnswer, culprit_of, line_number};
+ghost use Rattle.vl_replay.specs.Endings.{TheDisk, TheSink, TheSource, CountsFaultsOf, CutsAnswer, EndsAs, culprit_of, line_number};
 ghost use Rattle.vl_replay.specs.Runs.{Script};
 ghost use Rattle.vl_replay.specs.Durable.{HoldsState, CarriesOut};
 ghost use Rattle.vl_replay.specs.Stored.{IsStored, Shown};
@@ -14,7 +14,7 @@ ghost use Rattle.vl_replay.specs.Halts.{HaltsByDisk};
 ghost use Rattle.vl_replay.specs.Reading.{AnswersText, EndsBadly, ReadsText};
 ghost use Rattle.vl_replay.specs.declared.fails.Refusal.{Refusal};
 
-use crate::ending::{DISK_FAULT, Ending, NO_MEMORY, finish};
+use crate::ending::{Ending, NO_MEMORY, OnFault, end_at_fault, finish};
 use crate::fails::Halt;
 use crate::replayer::Replayer;
 use std::alloc::Global;
@@ -70,6 +70,7 @@ pub fn answer<K: Sink, D: Disk>(
     text: &[u8],
     answered: u64,
     sink: &mut K,
+    on_fault: OnFault,
 ) -> Option<Ending>
     ensures printed { (script : Script) → Represents replayer.old.store script.start
         → answered ≡ line_number script.before
@@ -85,6 +86,7 @@ pub fn answer<K: Sink, D: Disk>(
     ensures not_the_files { (refusal : Refusal) → result ≢ Some (Ending.Refused refusal) }
     ensures not_the_words { result ≢ Some Ending.BadWords }
     ensures reads { AnswersText text.now answered result (K.held sink.old) (K.held sink.new) }
+    ensures as_meant { EndsAs on_fault result }
 {
     match carry_out(alloc, replayer, text) {
         Ok(Some(answer)) => match sink.put(&answer) {
@@ -93,6 +95,6 @@ pub fn answer<K: Sink, D: Disk>(
         },
         Ok(None) => Some(end_at_bad_line(alloc, answered, sink)),
         Err(Halt::NoMemory) => Some(finish(sink, NO_MEMORY, Ending::NoMemory)),
-        Err(Halt::Disk { .. }) => Some(finish(sink, DISK_FAULT, Ending::DiskFault)),
+        Err(Halt::Disk { .. }) => Some(end_at_fault(sink, on_fault)),
     }
 }

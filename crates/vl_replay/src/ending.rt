@@ -1,5 +1,6 @@
 //! How a run ends, and what it puts last.
 ghost use Rattle.std.specs.Prelude.{◌≡◌};
+ghost use Rattle.vl_replay.specs.Endings.{ending_at, line_at};
 ghost use Rattle.vl_replay.specs.Steps.{Finishes};
 
 use crate::fails::Refusal;
@@ -32,6 +33,17 @@ pub enum Ending {
     WriteFault,
     /// Status 7: the sink failed at the answer to a line.
     AnswerCut,
+    /// The disk of a trial failed, which goes on behind that; nothing was put.
+    Stopped,
+}
+
+/// What a run puts last where its disk fails.
+#[derive(Clone, Copy, Debug, PartialEq, Eq)]
+pub enum OnFault {
+    /// A line that says so.
+    Report,
+    /// Nothing: a trial's disk met its stop.
+    Stop,
 }
 
 impl Ending {
@@ -45,7 +57,7 @@ impl Ending {
             Ending::Complete => 0,
             Ending::BadLine => 1,
             Ending::BadWords => 2,
-            Ending::DiskFault => 3,
+            Ending::DiskFault | Ending::Stopped => 3,
             Ending::Refused(_) => 4,
             Ending::NoMemory => 5,
             Ending::ReadFault => 6,
@@ -71,5 +83,15 @@ pub fn finish<K: Sink>(sink: &mut K, line: &[u8], ending: Ending) -> Ending
     match sink.put(line) {
         Ok(()) => ending,
         Err(_) => Ending::WriteFault,
+    }
+}
+
+/// Ends a run whose disk failed.
+pub fn end_at_fault<K: Sink>(sink: &mut K, on_fault: OnFault) -> Ending
+    ensures { Finishes K.Sink sink.old sink.new (line_at on_fault) (ending_at on_fault) result }
+{
+    match on_fault {
+        OnFault::Report => finish(sink, DISK_FAULT, Ending::DiskFault),
+        OnFault::Stop => Ending::Stopped,
     }
 }

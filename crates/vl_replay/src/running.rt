@@ -6,7 +6,7 @@ ghost use Rattle.vl_disk.specs.Started.{IsRead};
 ghost use Rattle.vl_replay.specs.Sequential.{State};
 ghost use Rattle.vl_replay.specs.Represents.{Represents};
 ghost use Rattle.vl_replay.specs.Exchanges.{exchange_at, state_behind};
-ghost use Rattle.vl_replay.specs.Endings.{TheDisk, TheSink, TheSource, CountsFaultsOf, culprit_of, line_number};
+ghost use Rattle.vl_replay.specs.Endings.{TheDisk, TheSink, TheSource, CountsFaultsOf, EndsAs, culprit_of, line_number};
 ghost use Rattle.std.specs.Option.{option_map};
 ghost use Rattle.vl_disk.specs.Faults.{Rose};
 ghost use Rattle.vl_replay.specs.Runs.{Script, script_of, outside, EndsRun};
@@ -19,7 +19,7 @@ ghost use Rattle.vl_replay.specs.Reading.{AnswersText, HasRead, ReadsInput, Read
 ghost use Rattle.vl_replay.specs.Steps.{IsNext, PrintsStep, DiskSteps, kept, HasToDo, Steps, IsRefusedRun, EndsWithoutOpening};
 
 use crate::answering::{answer, end_at_bad_line};
-use crate::ending::{Ended, Ending, NO_MEMORY, READ_FAULT, finish};
+use crate::ending::{Ended, Ending, NO_MEMORY, OnFault, READ_FAULT, finish};
 use crate::fails::InputFail;
 use crate::input::{Buffer, Next, read_line};
 use crate::refusing::end_unopened;
@@ -37,6 +37,7 @@ struct Progress<D: Disk> {
     line: Vec<u8>,
     replayer: Replayer<D>,
     answered: u64,
+    on_fault: OnFault,
 }
 
 impl<D: Disk> Progress<D> {
@@ -60,6 +61,8 @@ impl<D: Disk> Progress<D> {
         ensures reads { (input : List ℕ) (begin : Streams)
             → HasRead input begin (streams S.Source K.Sink source.old sink.old) self.old.buffer self.old.answered
             → ReadsOn input begin (streams S.Source K.Sink source.new sink.new) self.new.buffer self.new.answered result }
+        ensures as_meant { EndsAs self.old.on_fault result }
+        ensures same_mode { self.new.on_fault ≡ self.old.on_fault }
     {
         match read_line(&mut self.buffer, source, &mut self.line) {
             Ok(Next::Line) => self.answer(sink),
@@ -90,6 +93,8 @@ impl<D: Disk> Progress<D> {
         ensures not_the_files { (refusal : Refusal) → result ≢ Some (Ending.Refused refusal) }
         ensures not_the_words { result ≢ Some Ending.BadWords }
         ensures reads { AnswersText self.old.line.items self.old.answered result (K.held sink.old) (K.held sink.new) }
+        ensures as_meant { EndsAs self.old.on_fault result }
+        ensures same_mode { self.new.on_fault ≡ self.old.on_fault }
     {
         let ended = answer(
             self.alloc,
@@ -97,6 +102,7 @@ impl<D: Disk> Progress<D> {
             &self.line,
             self.answered,
             sink,
+            self.on_fault,
         );
         self.answered = self.answered.saturating_add(1);
         ended
@@ -118,6 +124,8 @@ pub fn replay<S: Source, K: Sink, D: Disk>(
     ensures sink_faults { CountsFaultsOf TheSink (Some result.ending) (K.faults sink.old) (K.faults sink.new) }
     ensures disk_faults { CountsFaultsOf TheDisk (Some result.ending) (D.faults disk) (D.faults result.disk) }
     ensures not_the_words { result.ending ≢ Ending.BadWords }
+    // It says how it ended.
+    ensures reported { result.ending ≢ Ending.Stopped }
 
     // The run ends by a refusal only where reads of the disk give it, and there always, unless a fault or want of memory
     // comes first. Then no line was read, and the disk wasn't changed. The last line is all that is printed.
@@ -139,7 +147,7 @@ pub fn replay<S: Source, K: Sink, D: Disk>(
         result.ending }
 {
     match Replayer::new(alloc, disk) {
-        Ok(replayer) => answer_lines(alloc, source, sink, replayer),
+        Ok(replayer) => answer_lines(alloc, source, sink, replayer, OnFault::Report),
         Err(OpenFail { why, disk }) => {
             let ending = end_unopened(alloc, sink, why);
             Ended { ending, disk }
@@ -148,11 +156,12 @@ pub fn replay<S: Source, K: Sink, D: Disk>(
 }
 
 /// Answers the lines of a source over an open store.
-fn answer_lines<S: Source, K: Sink, D: Disk>(
+pub(crate) fn answer_lines<S: Source, K: Sink, D: Disk>(
     alloc: Global,
     source: &mut S,
     sink: &mut K,
     replayer: Replayer<D>,
+    on_fault: OnFault,
 ) -> Ended<D>
     ensures runs { (s : State) (input : List ℕ) → Represents replayer.store s
         → S.left source.old ≡ Some input
@@ -167,6 +176,7 @@ fn answer_lines<S: Source, K: Sink, D: Disk>(
     ensures input { (input : List ℕ) → S.left source.old ≡ Some input
         → ReadsInput input (streams S.Source K.Sink source.old sink.old) (streams S.Source K.Sink source.new sink.new)
         result.ending }
+    ensures as_meant { EndsAs on_fault (Some result.ending) }
 {
     let Ok(buffer) = Buffer::new(alloc) else {
         return Ended {
@@ -180,6 +190,7 @@ fn answer_lines<S: Source, K: Sink, D: Disk>(
         line: Vec::new(alloc),
         replayer,
         answered: 0,
+        on_fault,
     };
     'lines: loop {
         if let Some(ending) = progress.step(source, sink) {

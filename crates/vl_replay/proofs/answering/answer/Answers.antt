@@ -1,9 +1,10 @@
-use Rattle.std.proofs.Common.{◌∙◌, ap, Err, ℕ, List, refl, subst}
+use Rattle.std.proofs.Common.{◌≡◌, ◌≢◌, inl, ◌∙◌, ap, Err, ℕ, List, refl, subst, sym}
+use Rattle.std.specs.Prelude.{Some}
 use Rattle.std.specs.Prelude.{is_ok}
 use Rattle.vl_io.specs.Sink.{Takes, TakesPrefix}
-use Rattle.vl_replay.specs.Endings.{culprit_of, no_memory_line, disk_fault_line}
-use Rattle.vl_replay.specs.declared.ending.Ending.TheVariants.{NoMemory, DiskFault, AnswerCut}
-use Rattle.vl_replay.proofs.Ends.{answer_cut, finished, finish_counts, before_weaker}
+use Rattle.vl_replay.specs.Endings.{culprit_of, no_memory_line, (line_at c.args.on_fault)}
+use Rattle.vl_replay.specs.declared.ending.Ending.TheVariants.{AnswerCut, BadLine, BadWords, Complete, NoMemory, Refused}
+use Rattle.vl_replay.proofs.Ends.{answer_cut, finished, finish_counts, before_weaker, at_fault, ends_as, fault_as, fault_counts, fault_line, fault_stops, or_cut, otherwise_as}
 use Rattle.vl_replay.proofs.Texts.{halts, of_ok, ends_cut, ends_bad, ends_out, ends_fault}
 use Rattle.vl_replay.proofs.ReadingOn.{ends_for, ends_otherwise, finishes_otherwise}
 use Rattle.vl_replay.proofs.answering.answer.Goals as goal
@@ -16,7 +17,7 @@ returns-in-Ok-clause-printed g c script stands count next =
 pub returns-in-Ok-clause-moves : goal.returns-in-Ok-clause-moves
 returns-in-Ok-clause-moves g c s stands held =
     let carried = c.carry_out.ensures.carries s stands held in
-    record { held = of_ok c.carry_out.result _ (ap is_ok c.in-Ok-Some.is) carried.answered; through = carried.through }
+    record { held = of_ok c.carry_out.result _ (ap is_ok c.in-Ok-Some.is) carried.answered; through = carried.through; steady = c.carry_out.ensures.cause.steady (subst (λ r. HaltsByDisk r → ⊥) (sym c.in-Ok-Some.is) (λ by. by)) }
 
 pub returns-in-Ok-Some-clause-printed : goal.returns-in-Ok-Some-clause-printed
 returns-in-Ok-Some-clause-printed g c script stands count next left =
@@ -52,17 +53,17 @@ returns-in-Err-NoMemory-clause-sink_faults g c = finish_counts g.K.Sink _ _ _ No
 
 pub returns-clause-printed : goal.returns-clause-printed
 returns-clause-printed g c script stands count next left =
-    finished g.K.Sink c.args.sink.now c.finish-in-Err-Disk.new.sink _ script left DiskFault c.finish-in-Err-Disk.result disk_fault_line refl
-    (c.carry_out.ensures.cause.rose (halts c.carry_out.result c.in-Err-Disk.field-0-0 (c.in-Err-Disk.is ∙ ap Err c.in-Err-Disk.field-0-is))) c.finish-in-Err-Disk.ensures
+    finished g.K.Sink c.args.sink.now c.end_at_fault.new.sink _ script left (ending_at c.args.on_fault) c.end_at_fault.result (line_at c.args.on_fault) (fault_line _ c.args.on_fault)
+    (fault_stops _ script left 0 (c.carry_out.ensures.cause.rose (halts c.carry_out.result c.in-Err-Disk.field-0-0 (c.in-Err-Disk.is ∙ ap Err c.in-Err-Disk.field-0-is))) c.args.on_fault) c.end_at_fault.ensures
 
 pub returns-clause-moves : goal.returns-clause-moves
 returns-clause-moves g c s stands held =
     let by = halts c.carry_out.result c.in-Err-Disk.field-0-0 (c.in-Err-Disk.is ∙ ap Err c.in-Err-Disk.field-0-is) in
-    ends_fault g.D.Watched (record { only_now = g.met.D.Disk.only_now; counts_now = g.met.D.Disk.counts_now }) s c.args.text.now c.args.replayer.now.disk c.carry_out.new.replayer.disk g.K.Sink c.args.sink.now c.finish-in-Err-Disk.new.sink disk_fault_line c.carry_out.result c.finish-in-Err-Disk.result
-    (c.carry_out.ensures.cause.rose by) by c.finish-in-Err-Disk.ensures (c.carry_out.ensures.carries s stands held)
+    ends_fault g.D.Watched (record { only_now = g.met.D.Disk.only_now; counts_now = g.met.D.Disk.counts_now }) s c.args.text.now c.args.replayer.now.disk c.carry_out.new.replayer.disk g.K.Sink c.args.sink.now c.end_at_fault.new.sink (line_at c.args.on_fault) c.carry_out.result c.args.on_fault c.end_at_fault.result
+    (c.carry_out.ensures.cause.rose by) by c.end_at_fault.ensures (c.carry_out.ensures.carries s stands held)
 
 pub returns-clause-sink_faults : goal.returns-clause-sink_faults
-returns-clause-sink_faults g c = finish_counts g.K.Sink _ _ _ DiskFault c.finish-in-Err-Disk.result (λ e. cc) c.finish-in-Err-Disk.ensures
+returns-clause-sink_faults g c = finish_counts g.K.Sink _ _ _ (ending_at c.args.on_fault) c.end_at_fault.result (at_fault (λ (e : Ending). culprit_of e ≢ TheSink) (λ e. cc) (λ e. cc) c.args.on_fault) c.end_at_fault.ensures
 
 pub returns-in-Ok-clause-reads : goal.returns-in-Ok-clause-reads
 returns-in-Ok-clause-reads g c =
@@ -83,4 +84,42 @@ returns-in-Err-NoMemory-clause-reads g c =
 
 pub returns-clause-reads : goal.returns-clause-reads
 returns-clause-reads g c =
-    finishes_otherwise g.K.Sink c.args.sink.now c.finish-in-Err-Disk.new.sink disk_fault_line DiskFault c.finish-in-Err-Disk.result _ c.args.answered (λ e. cc) (λ e. cc) c.finish-in-Err-Disk.ensures
+    finishes_otherwise g.K.Sink c.args.sink.now c.end_at_fault.new.sink (line_at c.args.on_fault) (ending_at c.args.on_fault) c.end_at_fault.result _ c.args.answered
+    (at_fault (λ (e : Ending). e ≢ Complete) (λ e. cc) (λ e. cc) c.args.on_fault) (at_fault (λ (e : Ending). e ≢ BadLine) (λ e. cc) (λ e. cc) c.args.on_fault) c.end_at_fault.ensures
+
+-- ---- how it ends where the disk fails
+
+pub returns-clause-disk_faults : goal.returns-clause-disk_faults
+returns-clause-disk_faults g c =
+    let by = halts c.carry_out.result c.in-Err-Disk.field-0-0 (c.in-Err-Disk.is ∙ ap Err c.in-Err-Disk.field-0-is) in
+    fault_counts g.K.Sink _ _ _ c.end_at_fault.result c.args.on_fault _ _ _ by c.carry_out.ensures.cause c.end_at_fault.ensures
+
+pub returns-clause-not_the_source : goal.returns-clause-not_the_source
+returns-clause-not_the_source g c =
+    or_cut g.K.Sink _ _ _ (ending_at c.args.on_fault) c.end_at_fault.result (λ (e : Ending). Some (culprit_of e) ≢ Some TheSource) c.end_at_fault.ensures
+    (at_fault (λ (e : Ending). Some (culprit_of e) ≢ Some TheSource) (λ e. cc) (λ e. cc) c.args.on_fault) (λ e. cc)
+
+pub returns-clause-not_the_files : goal.returns-clause-not_the_files
+returns-clause-not_the_files g c refusal =
+    or_cut g.K.Sink _ _ _ (ending_at c.args.on_fault) c.end_at_fault.result (λ (e : Ending). Some e ≢ Some (Refused refusal)) c.end_at_fault.ensures
+    (at_fault (λ (e : Ending). Some e ≢ Some (Refused refusal)) (λ e. cc) (λ e. cc) c.args.on_fault) (λ e. cc)
+
+pub returns-clause-not_the_words : goal.returns-clause-not_the_words
+returns-clause-not_the_words g c =
+    or_cut g.K.Sink _ _ _ (ending_at c.args.on_fault) c.end_at_fault.result (λ (e : Ending). Some e ≢ Some BadWords) c.end_at_fault.ensures
+    (at_fault (λ (e : Ending). Some e ≢ Some BadWords) (λ e. cc) (λ e. cc) c.args.on_fault) (λ e. cc)
+
+pub returns-clause-as_meant : goal.returns-clause-as_meant
+returns-clause-as_meant g c = fault_as g.K.Sink _ _ _ c.end_at_fault.result c.args.on_fault c.end_at_fault.ensures
+
+pub returns-in-Err-NoMemory-clause-as_meant : goal.returns-in-Err-NoMemory-clause-as_meant
+returns-in-Err-NoMemory-clause-as_meant g c = otherwise_as g.K.Sink _ _ _ NoMemory c.finish.result c.args.on_fault (λ e. cc) c.finish.ensures
+
+pub returns-in-Ok-None-clause-as_meant : goal.returns-in-Ok-None-clause-as_meant
+returns-in-Ok-None-clause-as_meant g c = ends_as c.args.on_fault c.end_at_bad_line.result (inl c.end_at_bad_line.ensures.not_the_disk)
+
+pub returns-in-Ok-Some-clause-as_meant : goal.returns-in-Ok-Some-clause-as_meant
+returns-in-Ok-Some-clause-as_meant g c = ends_as c.args.on_fault AnswerCut (inl (λ e. cc))
+
+pub returns-in-Ok-clause-as_meant : goal.returns-in-Ok-clause-as_meant
+returns-in-Ok-clause-as_meant g c by = absurd (cc)
