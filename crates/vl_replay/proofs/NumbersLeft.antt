@@ -1,5 +1,5 @@
 -- An image whose files have small numbers opens with numbers left, if it opens: what is found there, and how a run over it begins.
-use Rattle.std.proofs.Common.{◌≡◌, ◌⊎◌, ⊎_elim, inl, inr, ℕ, ◌+◌, ◌*◌, ◌<◌, ◌≤◌, List, [], ◌∷◌, ◌++◌, length, get_or, Option, Some, None, Ok, true, false, refl, sym, ◌∙◌, ap, subst, arith}
+use Rattle.std.proofs.Common.{◌≡◌, ◌⊎◌, ⊎_elim, inl, inr, ℕ, ◌+◌, ◌*◌, ◌<◌, ◌≤◌, List, [], ◌∷◌, ◌++◌, length, get_or, Option, Some, None, Ok, false, refl, sym, ◌∙◌, ap, subst, arith}
 use Rattle.std.specs.Prelude.{◌≢◌, ◌==◌, zero, suc, Bool, if◌then◌else◌, AllPairs, Contains, IsSome}
 use Rattle.std.specs.FinMap.{get}
 use Rattle.std.specs.Option.{option_map}
@@ -64,6 +64,7 @@ numbered_changed n name change disk numbered = record {
 }
 
 module _ (n : ℕ) (fits : n + 2 ≤ max_file_number) where
+  -- the log that would be made has a number
   passes_none : (state : ManifestState) (logs : List StandingLog) → state.head ≤ n + 1 → state.next_log ≤ n + 1
       → passes (log_made state logs) ≡ false
   passes_none state [] head next = grind (arith, nat_tests, fits, head, next)
@@ -75,6 +76,7 @@ module _ (n : ℕ) (fits : n + 2 ≤ max_file_number) where
   passes_none state (q ∷ p ∷ ps) head next = passes_none state (p ∷ ps) head next
 
   module _ (image : Image) (names : NamesUpTo n image) where
+    -- the greatest number of a kind is no greater
     greatest_within : (kind : ℕ → Name) → ((m : ℕ) → file_number (kind m) ≡ m) → (g : ℕ) → IsGreatest image kind g → g ≤ n
     greatest_within kind same g is = ⊎_elim
         (λ (none : g < 1). omega (arith, none))
@@ -112,6 +114,7 @@ greatest_to image kind (suc n) above = of (get image (kind (suc n))) refl (great
         (cases_lt (suc n) m))
 
 module _ (n : ℕ) (image : Image) (names : NamesUpTo n image) where
+  -- so each kind has a greatest number
   greatest_of : (kind : ℕ → Name) → ((m : ℕ) → file_number (kind m) ≡ m) → (g : ℕ) × IsGreatest image kind g
   greatest_of kind same = greatest_to image kind n (λ m above. of m above (get image (kind m)) refl)
     where
@@ -156,6 +159,7 @@ record ArePicked (P : Name → Type 0) (n : ℕ) (names : List Name) : Type 0 wh
   once : AllPairs (λ a b. a ≢ b) names
 
 module _ (P : Name → Type 0) (decide : (name : Name) → P name ⊎ (P name → ⊥)) where
+  -- they can be picked where the kind can be decided
   pick : (n : ℕ) → (names : List Name) × ArePicked P n names
   pick zero = (
     [],
@@ -211,6 +215,7 @@ module _ (P : Name → Type 0) (decide : (name : Name) → P name ⊎ (P name �
           )
 
 module _ (n : ℕ) (image : Image) (names : NamesUpTo n image) (head : ℕ) where
+  -- the name of a file that the new manifest doesn't need
   abbrev IsStray : Name → Type 0
   IsStray name = IsSome (get image name) × IsStrayName head name
 

@@ -1,12 +1,11 @@
 -- What a stop leaves inside the first opening of an empty disk: the image of its crash opens without commits.
-use Rattle.std.proofs.Common.{◌≡◌, ⊎_elim, ℕ, ◌+◌, ◌≤◌, List, [], ◌∷◌, length, take, drop, Option, Some, None, Ok, Err, true, false, refl, sym, ◌∙◌, ap, subst, arith}
-use Rattle.std.specs.Prelude.{◌≢◌, ◌^◌, ◌<◌, Bool, Contains, Result}
+use Rattle.std.proofs.Common.{◌≡◌, ⊎_elim, ℕ, ◌≤◌, List, [], ◌∷◌, length, take, drop, Option, Some, None, Ok, Err, refl, sym, ◌∙◌, ap, subst, arith}
+use Rattle.std.specs.Prelude.{◌≢◌, Result}
 use Rattle.std.specs.FinMap.{empty, get, get-empty, insert}
 use Rattle.std.proofs.lemmas.Bool.{true≢false}
 use Rattle.std.proofs.lemmas.List.{take_at}
 use Rattle.vl_disk.specs.Changes.{SameElsewhere}
-use Rattle.vl_disk.specs.Chance.{GrowsByFrames}
-use Rattle.vl_disk.specs.Crash.{Image, MayLeave, MayLeaveOne, last_file}
+use Rattle.vl_disk.specs.Crash.{Image, MayLeaveOne}
 use Rattle.vl_disk.specs.DiskState.{DiskState, File, IsLawful, created, empty_disk, new_file, settled}
 use Rattle.vl_disk.specs.Lawful.{appended_lawful, created_lawful, empty_lawful, made_lawful}
 use Rattle.vl_disk.specs.MadeFile as making
@@ -18,7 +17,6 @@ use Rattle.vl_disk.specs.declared.name.Name.{Name}
 use Rattle.vl_disk.specs.declared.name.Name.TheVariants.{Log, Manifest, Table}
 use Rattle.vl_frame.specs.RunLaws.{frame_is_some}
 use Rattle.vl_frame.specs.Runs.{item_frame}
-use Rattle.vl_manifest.specs.Current.{IsCurrent}
 use Rattle.vl_manifest.specs.EditLaws.{edits_grammar}
 use Rattle.vl_manifest.specs.Manifest.{IsReadable, ManifestSays, SaysState, manifest_bytes}
 use Rattle.vl_manifest.specs.ManifestLaws.{one_saying, whole_manifest}
@@ -31,7 +29,7 @@ use Rattle.vl_mem.specs.CrashLaws.{crash_left}
 use Rattle.vl_mem.specs.declared.outcome.Outcome.{Outcome}
 use Rattle.vl_model.specs.History.{no_history}
 use Rattle.vl_recover.specs.Alike.{IsLeft, OpensAsOf, Spells}
-use Rattle.vl_recover.specs.Answers.{AreStrayNames, Finds, used_up}
+use Rattle.vl_recover.specs.Answers.{AreStrayNames}
 use Rattle.vl_recover.specs.Held.{IsNowhere}
 use Rattle.vl_recover.specs.HeldLaws.{left_nowhere, left_settled, started_may_open, started_settled}
 use Rattle.vl_recover.specs.Meanwhile.{IsMeanwhile, Mending, as_before, at_mending}
@@ -49,7 +47,7 @@ use Rattle.vl_recover.specs.Torn.{torn_manifest}
 use Rattle.vl_recover.specs.Walk.{StandingLog}
 use Rattle.vl_seglog.specs.Frames.{frames_grammar, log_header}
 use Rattle.vl_replay.specs.Reopens.{NamesUpTo, Reopens}
-use Rattle.vl_replay.specs.StartLaws.{finds_nothing, not_there, nothing, shows_nothing, started_durable}
+use Rattle.vl_replay.specs.StartLaws.{finds_nothing, not_there, shows_nothing, started_durable}
 use Rattle.vl_replay.specs.Stopped.{AreNumberedUpTo}
 use Rattle.vl_replay.proofs.NumbersLeft.{names_left, numbers_left, reopens_by}
 use Rattle.vl_replay.proofs.Starting.{opening_shows}
@@ -84,13 +82,16 @@ spells_what_stands = record { stands = stands; some = some }
 abbrev piece : List ℕ
 piece = manifest_bytes 1 (whole_edits fresh_state ∷ [])
 
+-- a manifest and a log are made, each of number 1
 abbrev first_plan : Plan
 first_plan = record { manifest = 1; piece = piece; last = NoLast; log = Some 1; strays = [] }
 
+-- nothing is stray in the empty image
 none_stray : (head : ℕ) (strays : List Name) → AreStrayNames empty head strays → strays ≡ []
 none_stray head [] are = refl
 none_stray head (name ∷ strays) are = absurd (not_there name ((are.all name).0 (0, omega arith, refl)).0)
 
+-- and the plan is this one
 is_first_plan : (mending : Mending empty) → mending.plan ≡ first_plan
 is_first_plan mending =
     let a = mending.found in
@@ -122,6 +123,7 @@ part_torn bytes file (part_some taken) = lengthened_torn bytes taken new_file (o
 
 module _ (image : Image) (old : DiskState) (started : Started image old) (small : IsSmall old) (name : Name)
     (is_numbered : IsNumbered name) (within : file_number name ≤ 1) (bytes : List ℕ) where
+  -- it stays lawful,
   making_lawful : (now : DiskState) → WhileMaking name bytes old now → IsLawful now
   making_lawful now (making.not_there is) = subst IsLawful (sym is) small.lawful
   making_lawful now (making.empty is) = subst IsLawful (sym is) (created_lawful old small.lawful name is_numbered)
@@ -129,6 +131,7 @@ module _ (image : Image) (old : DiskState) (started : Started image old) (small 
       (appended_lawful (created name old) (created_lawful old small.lawful name is_numbered) name bytes taken)
   making_lawful now (making.durable is) = subst IsLawful (sym is) (made_lawful old small.lawful name bytes is_numbered)
 
+  -- its numbers stay small,
   numbered_by : (now : DiskState) → SameElsewhere name old now → AreNumberedUpTo 1 now
   numbered_by now same = record {
     standing = λ q there. ⊎_elim
@@ -141,6 +144,7 @@ module _ (image : Image) (old : DiskState) (started : Started image old) (small 
         (same_or_other q name);
   }
 
+  -- and only the file that is made may be torn
   torn_by : (now : DiskState) (file : File) → IsTornInOnePiece file → get now.standing name ≡ Some file → SameElsewhere name old now
       → IsTornByPieces now
   torn_by now file here stands same = record {
@@ -264,6 +268,7 @@ module _ (now : DiskState) (small : IsSmall now) (manifest : IsFirstManifest now
       by Headless headed says = absurd (ok_err o.state _ says)
       by (Newest format) headed says = absurd (ok_err o.state _ says)
 
+  -- and the image opens again, without commits
   small_reopens : Reopens image no_history 0
   small_reopens = reopens_by 1 image names no_history 0
       (opening_shows empty_disk (started_durable empty empty_disk started_empty) empty is_read finds_nothing no_history shows_nothing
@@ -277,11 +282,13 @@ module _ (now : DiskState) (small : IsSmall now) (manifest : IsFirstManifest now
 
 -- ---- a stop inside the opening
 
+-- whatever a crash leaves meanwhile opens as an empty image does
 first_opening : (now : DiskState) → IsMeanwhile empty empty_disk now → OpensAsOf empty_disk now
 first_opening now (as_before is) = subst (OpensAsOf empty_disk) (sym is) (one.as_before empty_disk)
 first_opening now (at_mending mending during) = mending_opens empty_disk now mending.found mending.plan empty_lawful
     (started_may_open empty empty_disk started_empty) (started_read empty empty_disk started_empty) mending.unused mending.is during
 
+-- what the disk is then
 record IsFirst (now : DiskState) : Type 0 where
   small : IsSmall now
   manifest : IsFirstManifest now

@@ -1,43 +1,37 @@
 -- What a stop leaves of a disk: which history the image of its crash shows.
 use Rattle.std.proofs.Common.{◌≡◌, ⊎_elim, ℕ, ◌+◌, ◌<◌, ◌≤◌, List, [], ◌∷◌, ◌++◌, length, map, take, Option, Some, None, Ok, true, false, refl, sym, ◌∙◌, ap, subst, arith, length-append}
-use Rattle.std.specs.Prelude.{◌≢◌, ◌-◌, ◌/◌, ◌==◌, Bool, if◌then◌else◌}
+use Rattle.std.specs.Prelude.{◌≢◌, ◌-◌, ◌/◌}
 use Rattle.std.specs.FinMap.{get}
 use Rattle.std.specs.List.{AllByRecursion}
 use Rattle.std.specs.Option.{option_map}
 use Rattle.std.proofs.Math.Seq.{take-append-add}
-use Rattle.std.proofs.lemmas.Bool.{cases_lt}
-use Rattle.std.proofs.lemmas.Bool.Decides.{nat_tests}
 use Rattle.std.proofs.lemmas.List.{length-take, map-append, take-take, take_all, take_at}
 use Rattle.vl_disk.specs.Changes.{changed_elsewhere, changed_there}
-use Rattle.vl_disk.specs.Crash.{Image, MayLeave, MayLeaveOne}
-use Rattle.vl_disk.specs.DiskState.{DiskState, File, IsLawful, appended, lengthened, settled, synced, synced_file, with_file}
+use Rattle.vl_disk.specs.Crash.{Image, MayLeave}
+use Rattle.vl_disk.specs.DiskState.{DiskState, File, IsLawful, appended, lengthened, synced, synced_file}
 use Rattle.vl_disk.specs.Lawful.{appended_lawful}
-use Rattle.vl_disk.specs.Name.{file_number}
 use Rattle.vl_disk.specs.NameMap.{same_or_other}
-use Rattle.vl_disk.specs.Started.{IsRead, read_left}
+use Rattle.vl_disk.specs.Started.{read_left}
 use Rattle.vl_disk.specs.declared.name.Name.{Name}
-use Rattle.vl_disk.specs.declared.name.Name.TheVariants.{Log, Manifest}
+use Rattle.vl_disk.specs.declared.name.Name.TheVariants.{Log}
 use Rattle.vl_frame.specs.RunLaws.{frame_is_some, one_front}
 use Rattle.vl_frame.specs.Runs.{HasFrame, StandsNone, item_frame}
 use Rattle.vl_layout.specs.Logs.{new_segment}
 use Rattle.vl_layout.specs.declared.segment.Segment.{Segment}
 use Rattle.vl_manifest.specs.declared.state.ManifestState.{ManifestState}
-use Rattle.vl_mem.specs.CrashImage.{crash_image, half_torn_bytes, left_of}
+use Rattle.vl_mem.specs.CrashImage.{crash_image, left_of}
 use Rattle.vl_mem.specs.CrashLaws.{crash_left, image_left}
 use Rattle.vl_mem.specs.declared.outcome.Outcome.{Outcome}
 use Rattle.vl_mem.specs.declared.outcome.Outcome.TheVariants.{Lost, Kept, Halved}
 use Rattle.vl_model.specs.History.{last_number}
 use Rattle.vl_model.specs.Limits.{max_file_number}
-use Rattle.vl_model.specs.declared.counter.Counter.TheVariants as counters
 use Rattle.vl_model.specs.declared.log_frame.LogFrame.{LogFrame}
 use Rattle.vl_recover.specs.AlikeLaws.{standing_log}
-use Rattle.vl_recover.specs.Answers.{Finds, used_up}
 use Rattle.vl_recover.specs.AppendLaws.{last_held, manifest_kept, standing_with, walked_with}
 use Rattle.vl_recover.specs.Held.{HoldsStore}
 use Rattle.vl_recover.specs.HeldLaws.{GoOn, held_current, held_opens, held_says, log_as_held, opening_held}
 use Rattle.vl_recover.specs.Opening.{Led, Opening, Opens, Refusal, StandingLogs}
 use Rattle.vl_recover.specs.OpeningLaws.{opens_by, single_opening, some_none}
-use Rattle.vl_recover.specs.Plans.{IsGreatest, log_behind, log_made, new_state, passes}
 use Rattle.vl_recover.specs.StageLaws.{ok_same}
 use Rattle.vl_recover.specs.TornFrames.{frame_behind, torn_log}
 use Rattle.vl_recover.specs.Walk.{StandingLog, filled, walked, with_frames}
@@ -71,7 +65,7 @@ module _ (number : ℕ) (frames : List LogFrame) (f : LogFrame) (has : HasFrame 
       omega (arith, less, within, all)
 
   -- so the log says the frames before it
-  pub part_says : k < length whole → AllByRecursion (HasFrame frames_grammar) frames → SaysFrames number (log_bytes number frames ++ take k whole) frames
+  part_says : k < length whole → AllByRecursion (HasFrame frames_grammar) frames → SaysFrames number (log_bytes number frames ++ take k whole) frames
   part_says less have = (_, reads_with_tail number frames have (take k whole) (part_says_none less))
 
 -- the logs with frames are the same where the last one has the same
@@ -175,16 +169,18 @@ module _ (state : ManifestState) (before : List Segment) (last : Segment) (f : L
       omega (arith, size, frame_some)
 
   module _ (lawful : IsLawful disk) (number : ℕ) (goes : GoOn state.covered (before ++ last ∷ []) number) where
+    -- each outcome's image is one that the disk may leave,
     left : (outcome : Outcome) (taken : ℕ) → MayLeave (torn taken) (crash_image outcome (torn taken))
     left outcome taken = crash_left outcome (torn taken) (appended_lawful disk lawful (Log last.number) frame taken)
 
-    pub none_opens : (outcome : Outcome) → Opens (crash_image outcome (torn 0)) (Ok (opening_held state (before ++ last ∷ []) number))
+    -- and opens with the logs before the frame where nothing of it was taken, where it is lost, and where half of it is left
+    none_opens : (outcome : Outcome) → Opens (crash_image outcome (torn 0)) (Ok (opening_held state (before ++ last ∷ []) number))
     none_opens outcome = part_opens number goes 0 (crash_image outcome (torn 0)) (left outcome 0) 0 frame_some (none_left outcome)
 
-    pub lost_opens : Opens (crash_image Lost (torn (length frame))) (Ok (opening_held state (before ++ last ∷ []) number))
+    lost_opens : Opens (crash_image Lost (torn (length frame))) (Ok (opening_held state (before ++ last ∷ []) number))
     lost_opens = part_opens number goes (length frame) (crash_image Lost (torn (length frame))) (left Lost (length frame)) 0 frame_some (lost_left (length frame))
 
-    pub half_opens : Opens (crash_image Halved (torn (length frame))) (Ok (opening_held state (before ++ last ∷ []) number))
+    half_opens : Opens (crash_image Halved (torn (length frame))) (Ok (opening_held state (before ++ last ∷ []) number))
     half_opens = part_opens number goes (length frame) (crash_image Halved (torn (length frame))) (left Halved (length frame)) half half_less half_left
 
 -- What is kept of a disk whose last sync failed is what it would have had behind it.
@@ -214,6 +210,7 @@ pub held_shows : (s : State) (disk : DiskState) (stored : IsStored s disk) (imag
 held_shows s disk stored image opens =
     shown_by image stored.manifest (logs_of s stored.frozen stored.frames) s.history (last_number s.history) opens stored.shows
 
+-- Whatever a crash leaves of the disk opens so.
 pub stored_opens : (s : State) (disk : DiskState) (stored : IsStored s disk) (image : Image) → MayLeave disk image
     → OpensAsHeld s disk stored image
 stored_opens s disk stored image may =
@@ -235,35 +232,32 @@ module _ (before after : State) (commits : Commits IsStored before after) where
   abbrev number : ℕ
   number = before.log.number
 
-  spelled : List ℕ
-  spelled = frame_behind number stored.frames commits.item
-
   same_frame : frame_behind number stored.frames commits.item ≡ commits.frame
   same_frame = ap (λ (place : ℕ). frame_at number place commits.item) (sym stored.length_is) ∙ sym commits.frame_is
 
   -- Where its append failed, the image opens as the store before,
-  pub append_failed_opens : (outcome : Outcome) → OpensAsHeld before old stored (crash_image outcome (with_taken commits 0))
+  append_failed_opens : (outcome : Outcome) → OpensAsHeld before old stored (crash_image outcome (with_taken commits 0))
   append_failed_opens outcome = subst
       (λ (frame : List ℕ). OpensAsHeld before old stored (crash_image outcome (appended (Log number) frame 0 old))) same_frame
       (none_opens stored.manifest stored.frozen (new_segment number stored.frames) commits.item old stored.holds commits.has
       stored.lawful (last_number before.history) stored.numbers outcome)
 
   -- and where its sync failed too, if what wasn't durable was lost,
-  pub sync_failed_lost : OpensAsHeld before old stored (crash_image Lost (with_taken commits (length commits.frame)))
+  sync_failed_lost : OpensAsHeld before old stored (crash_image Lost (with_taken commits (length commits.frame)))
   sync_failed_lost = subst
       (λ (frame : List ℕ). OpensAsHeld before old stored (crash_image Lost (appended (Log number) frame (length frame) old))) same_frame
       (lost_opens stored.manifest stored.frozen (new_segment number stored.frames) commits.item old stored.holds commits.has
       stored.lawful (last_number before.history) stored.numbers)
 
   -- or half of it.
-  pub sync_failed_halved : OpensAsHeld before old stored (crash_image Halved (with_taken commits (length commits.frame)))
+  sync_failed_halved : OpensAsHeld before old stored (crash_image Halved (with_taken commits (length commits.frame)))
   sync_failed_halved = subst
       (λ (frame : List ℕ). OpensAsHeld before old stored (crash_image Halved (appended (Log number) frame (length frame) old))) same_frame
       (half_opens stored.manifest stored.frozen (new_segment number stored.frames) commits.item old stored.holds commits.has
       stored.lawful (last_number before.history) stored.numbers)
 
   -- If all of it was kept, it opens as the store after.
-  pub sync_failed_kept : OpensAsHeld after (written (Log number) commits.frame old) commits.done
+  sync_failed_kept : OpensAsHeld after (written (Log number) commits.frame old) commits.done
       (crash_image Kept (with_taken commits (length commits.frame)))
   sync_failed_kept = stored_opens after (written (Log number) commits.frame old) commits.done
       (crash_image Kept (with_taken commits (length commits.frame))) (kept_left (Log number) (with_taken commits (length commits.frame)))
@@ -322,17 +316,20 @@ module _ (n : ℕ) (fits : n + 2 ≤ max_file_number) (s : State) (disk : DiskSt
 -- And so does the image of a disk on which a commit was stopped.
 module _ (before after : State) (commits : Commits IsStored before after) (n : ℕ) (fits : n + 2 ≤ max_file_number)
     (numbered : AreNumberedUpTo n commits.old) (gives : GivesUpTo n commits.held.manifest) where
+  -- its names are among those of the disk before
   names_torn : (taken : ℕ) (outcome : Outcome) → NamesUpTo n (crash_image outcome (with_taken commits taken))
   names_torn taken outcome = names_left n (with_taken commits taken) (crash_image outcome (with_taken commits taken))
       (crash_left outcome (with_taken commits taken) (appended_lawful commits.old commits.held.lawful (Log before.log.number) commits.frame taken))
       (numbered_changed n (Log before.log.number) (lengthened commits.frame taken) commits.old numbered)
 
-  pub append_failed_reopens : (outcome : Outcome)
+  -- where the append failed,
+  append_failed_reopens : (outcome : Outcome)
       → Reopens (crash_image outcome (with_taken commits 0)) before.history (last_number before.history)
   append_failed_reopens outcome = held_reopens n fits before commits.old commits.held numbered gives
       (crash_image outcome (with_taken commits 0)) (append_failed_opens before after commits outcome) (names_torn 0 outcome)
 
-  pub sync_failed_reopens : (k : ℕ) → k + 2 ≤ max_file_number
+  -- and where the sync failed
+  sync_failed_reopens : (k : ℕ) → k + 2 ≤ max_file_number
       → AreNumberedUpTo k (written (Log before.log.number) commits.frame commits.old) → GivesUpTo k commits.done.manifest
       → (outcome : Outcome) → let s = state_left outcome true before after in
       Reopens (crash_image outcome (with_taken commits (length commits.frame))) s.history (last_number s.history)
