@@ -2,7 +2,9 @@ use Rattle.std.proofs.Common.{◌≡◌, ◌≢◌, inl, ◌∙◌, ap, Err, ℕ
 use Rattle.std.specs.Prelude.{Some}
 use Rattle.std.specs.Prelude.{is_ok}
 use Rattle.vl_io.specs.Sink.{Takes, TakesPrefix}
-use Rattle.vl_replay.specs.Endings.{culprit_of, no_memory_line, (line_at c.args.on_fault)}
+use Rattle.vl_replay.specs.Endings.{TheSink, TheSource, culprit_of, ending_at, line_at, no_memory_line}
+use Rattle.vl_replay.specs.Halts.{HaltsByDisk}
+use Rattle.vl_replay.specs.declared.ending.Ending.{Ending}
 use Rattle.vl_replay.specs.declared.ending.Ending.TheVariants.{AnswerCut, BadLine, BadWords, Complete, NoMemory, Refused}
 use Rattle.vl_replay.proofs.Ends.{answer_cut, finished, finish_counts, before_weaker, at_fault, ends_as, fault_as, fault_counts, fault_line, fault_stops, or_cut, otherwise_as}
 use Rattle.vl_replay.proofs.Texts.{halts, of_ok, ends_cut, ends_bad, ends_out, ends_fault}
