@@ -1,4 +1,4 @@
--- What disks hold, and images show: of images, a history at a number between two.
+-- What a disk holds of a state, and an image shows of a history, at a number between two.
 use Rattle.std.specs.Prelude.{◌≤◌, ℕ}
 use Rattle.vl_model.specs.History.{History, last_number}
 use Rattle.vl_disk.specs.Crash.{Image}

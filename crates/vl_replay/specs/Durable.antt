@@ -99,7 +99,7 @@ pub record LeadsTo {D T : Type 0} (g : Ghosts D) (holds : Holding) (shows : Show
   pub tells : Tells g new MayOpen
   -- what a crash meanwhile leaves shows the commits before, or those after it;
   pub through : CrashesShow g shows old new before.history after.history
-  -- and where the disk failed, and fails cleanly, it was stopped within a commit
+  -- and where the disk failed, and fails cleanly, it was stopped within the commit that leads from one state to the next
   pub stopped : HaltsByDisk result → IsTrue g.fails_cleanly → StopsWithin g holds before after new
 
 -- A line, or a text, was carried out: so it is where the disk held the state before.

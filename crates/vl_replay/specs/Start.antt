@@ -22,7 +22,7 @@ use Rattle.vl_replay.specs.Stopped.{AreNumberedUpTo, GivesUpTo}
 use Rattle.vl_replay.specs.Stored.{IsStored, LogsShow, Shown}
 use Rattle.vl_replay.specs.declared.ending.Ending.{Ending}
 
--- Of a disk on which this is found an opening makes a store whose files pass no number above this one.
+-- An opening of a disk on which this is found makes a store of which no file passes this number.
 pub record OpensUpTo {read : Image} (files : ℕ) (disk : DiskState) (found : Finds read) : Type 0 where
   -- none that stands or was removed passes it,
   pub numbered : AreNumberedUpTo files disk
@@ -53,7 +53,7 @@ pub record StartsIn {D : Type 0} (g : Ghosts D) (disk : D) (s : State) : Type 0 
   pub strays : List Name
   pub are_strays : AreStrayNames read found.opening.state.head strays
   pub calls : s.calls ≡ after_calls (calls_to_open found (length strays)) (g.calls disk)
-  -- and the files' numbers are counted up to any that none of them passes
+  -- and `files` is a number, any such one, that no file of the store passes
   pub files : OpensUpTo s.files state found
 
 -- Crashes are spoken of where all of the store is durable: whatever a crash leaves of the disk opens as what reads give. So

@@ -175,7 +175,7 @@ reopened found h m calls files = record {
   files = files;
 }
 
--- there is always a number that its files don't pass
+-- for each lawful disk there is a number that no file of the store passes
 pub opens_up_to : {read : Image} (disk : DiskState) (found : Finds read) → IsLawful disk → (files : ℕ) × OpensUpTo files disk found
 opens_up_to disk found lawful =
     let active : ℕ = active_log found.greatest found.opening.state found.logs in

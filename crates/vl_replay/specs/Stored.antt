@@ -53,6 +53,7 @@ pub record IsStored (s : State) (disk : DiskState) : Type 0 where
   pub length_is : s.log.length ≡ log_length frames
   -- it is lawful, as whatever a disk tells;
   pub lawful : IsLawful disk
-  -- and no file has a greater number than the state counts up to, nor is one to be given more than the next above it
+  -- no file passes the number that the state has for that,
   pub numbered : AreNumberedUpTo s.files disk
+  -- and the manifest gives at most the next one
   pub next : GivesUpTo s.files manifest
