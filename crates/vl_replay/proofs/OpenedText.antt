@@ -1,16 +1,14 @@
 -- The entries of the logs that were opened, source by source, and what stands there.
 use Rattle.std.proofs.Common.{◌≡◌, ℕ, ◌<◌, ◌+◌, List, [], ◌∷◌, ◌++◌, length, drop, get_or, map, refl, ap, sym, ◌∙◌, subst, arith}
-use Rattle.std.specs.Prelude.{Some, None, Option}
+use Rattle.std.specs.Prelude.{Some}
 use Rattle.std.specs.List.{AllByRecursion, flat_map}
 use Rattle.std.proofs.lemmas.Grind.{flat_map-append}
 use Rattle.std.proofs.lemmas.List.{drop_more}
 use Rattle.vl_contents.specs.Contents.{WinnersHave}
-use Rattle.vl_layout.specs.declared.segment.Segment.{Segment}
 use Rattle.vl_memtable.specs.Contents.{Contents, GiveAll, all_of}
 use Rattle.vl_merge.specs.Merging.{IsAlong}
-use Rattle.vl_model.specs.History.{contents_at, value_at}
+use Rattle.vl_model.specs.History.{contents_at}
 use Rattle.vl_model.specs.HistoryLaws.{get-contents_at}
-use Rattle.vl_model.specs.Keys.{Stored}
 use Rattle.vl_model.specs.WinnerLaws.{winner-append, winner-in_order}
 use Rattle.vl_model.specs.Winners.{newest_of, resolved_at, winner}
 use Rattle.vl_model.specs.declared.entry.Entry.{Entry}
@@ -21,7 +19,7 @@ use Rattle.vl_seglog.specs.declared.active.ActiveLog.{ActiveLog}
 use Rattle.vl_replay.specs.Contents.{GiveEntries}
 use Rattle.vl_replay.specs.Opened.{IsOpenedStore, entries_in}
 use Rattle.vl_replay.specs.Sequential.{State}
-use Rattle.vl_replay.specs.Stored.{logs_entries, no_logs}
+use Rattle.vl_replay.specs.Stored.{no_logs}
 
 -- ---- source by source
 
