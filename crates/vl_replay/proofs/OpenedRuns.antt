@@ -1,5 +1,5 @@
 -- A run that opens its store first, or can't.
-use Rattle.std.proofs.Common.{◌≡◌, ◌≢◌, inl, ℕ, zero, suc, ◌≤◌, List, [], ◌∷◌, take, Option, Some, refl, ap, ◌∙◌, subst}
+use Rattle.std.proofs.Common.{◌≡◌, ◌≢◌, inl, ℕ, zero, suc, ◌≤◌, List, [], ◌∷◌, take, Option, Some, refl, ap, ◌∙◌, subst, arith}
 use Rattle.vl_disk.specs.declared.watched.Watched.{Ghosts}
 use Rattle.vl_disk.specs.Faults.{Rose, HasCause}
 use Rattle.vl_io.specs.declared.sink.Sink as sink
@@ -20,7 +20,7 @@ use Rattle.vl_replay.specs.declared.fails.Refusal.{Refusal}
 use Rattle.vl_replay.specs.declared.fails.Refusal.TheVariants as refusals
 use Rattle.vl_replay.specs.Steps.{EndsBefore, FinishesBy}
 use Rattle.vl_replay.specs.declared.ending.Ending.{Ending}
-use Rattle.vl_replay.specs.declared.ending.Ending.TheVariants.{BadWords, DiskFault, NoMemory, Refused, WriteFault}
+use Rattle.vl_replay.specs.declared.ending.Ending.TheVariants.{BadWords, DiskFault, NoMemory, Refused, Stopped, WriteFault}
 use Rattle.vl_replay.proofs.Betweens.{extends_itself}
 use Rattle.vl_replay.proofs.Ends.{ends_weaker, evidence_weaker, finished, or_cut, finish_counts, counts_none}
 use Rattle.vl_replay.proofs.DiskSteps.{IsWatched, exchanges_extend, goes_wider, goes_then, at_end, ends_later, rose_earlier}
@@ -117,26 +117,28 @@ module _ {D : Type 0} (g : Ghosts D) (watched : IsWatched g) (holds : Holding) (
 
   -- ---- the store was opened before the first line
 
-  along_opened : (mid new : D) (s most : State) (all : List Exchange) (m : ℕ) → Extends s.history (last_state s (take 1 all)).history → CrashesShow g shows first.disk mid s.history s.history
+  along_opened : (mid new : D) (s most : State) (all : List Exchange) (m : ℕ) → Extends s.history (last_state s (take 1 all)).history → CrashesShow g shows first.disk mid s.history s.history → g.faults mid ≡ g.faults first.disk
       → GoesAlong g holds shows new most mid s (take m all) → GoesAlong g holds shows new most first.disk s (take m all)
-  along_opened mid new s most [] zero extends goes along = tt
-  along_opened mid new s most [] (suc m) extends goes along = tt
-  along_opened mid new s most (e ∷ all) zero extends goes along = tt
-  along_opened mid new s most (e ∷ all) (suc m) extends goes (passed, line, later) = (
+  along_opened mid new s most [] zero extends goes steady along = tt
+  along_opened mid new s most [] (suc m) extends goes steady along = tt
+  along_opened mid new s most (e ∷ all) zero extends goes steady along = tt
+  along_opened mid new s most (e ∷ all) (suc m) extends goes steady (passed, line, later) = (
     passed,
     record {
       before = goes_then g watched holds shows stays exactly first.disk mid passed s.history s.history e.after.history (extends_itself s.history) extends goes line.before;
       held = line.held;
+      steady = line.steady ∙ steady;
       behind = line.behind;
     },
     later,
   )
 
-  pub ends_opened : (mid : Outside D) (ending : Ending) → mid.source_faults ≡ first.source_faults → mid.held ≡ first.held → g.faults first.disk ≤ g.faults mid.disk
+  pub ends_opened : (mid : Outside D) (ending : Ending) → mid.source_faults ≡ first.source_faults → mid.held ≡ first.held → g.faults mid.disk ≡ g.faults first.disk
       → (P → HoldsState g holds script.start mid.disk) → (P → CrashesShow g shows first.disk mid.disk script.start.history script.start.history)
       → EndsRun g (DiskEndsFrom g holds shows mid.disk end.disk script.start) script mid end ending
       → EndsRun g SoFar script first end ending
-  ends_opened mid ending same_faults same_held earlier opened goes run =
+  ends_opened mid ending same_faults same_held steady opened goes run =
+      let earlier : g.faults first.disk ≤ g.faults mid.disk = omega (arith, steady) in
       let s = script.start in
       let all = exchanges script in
       let m = run.answered in
@@ -152,7 +154,7 @@ module _ {D : Type 0} (g : Ghosts D) (watched : IsWatched g) (holds : Holding) (
         kept_up = run.kept_up;
         disk = λ p.
             ends_later g watched holds shows stays exactly (IsAsBefore g first.disk end.disk) (take m all ≡ []) first.disk mid.disk end.disk ending s s (last_state s (take (suc m) all)) (take m all) (take m all)
-            (extends_itself s.history) (extends (suc m)) earlier (goes p) (λ _ along. along_opened mid.disk end.disk s (last_state s (take (suc m) all)) all m (extends 1) (goes p) along) refl
+            (extends_itself s.history) (extends (suc m)) earlier (goes p) (λ _ along. along_opened mid.disk end.disk s (last_state s (take (suc m) all)) all m (extends 1) (goes p) steady along) refl
             (run.disk (opened p));
       }
 
@@ -195,6 +197,10 @@ module _ {K : Type 0} (k : sink.Ghosts K) (old new : K) (how : Why) (result : En
   -- and not for its words
   pub not_for_words : result ≢ BadWords
   not_for_words = of_result (λ (e : Ending). e ≢ BadWords) (of_unopened (λ (e : Ending). e ≢ BadWords) (λ refusal e. cc) (λ e. cc) (λ e. cc) how) (λ e. cc)
+
+  -- and says how it ended
+  pub not_silent : result ≢ Stopped
+  not_silent = of_result (λ (e : Ending). e ≢ Stopped) (of_unopened (λ (e : Ending). e ≢ Stopped) (λ refusal e. cc) (λ e. cc) (λ e. cc) how) (λ e. cc)
 
   pub counts_sink : CountsFaultsOf TheSink (Some result) (k.faults old) (k.faults new)
   counts_sink = finish_counts k old new finishes.0 (ending_unopened how) result

@@ -2,7 +2,9 @@ use Rattle.std.proofs.Common.{◌≡◌, ◌≢◌, inl, ◌∙◌, ap, Err, ℕ
 use Rattle.std.specs.Prelude.{Some}
 use Rattle.std.specs.Prelude.{is_ok}
 use Rattle.vl_io.specs.Sink.{Takes, TakesPrefix}
-use Rattle.vl_replay.specs.Endings.{TheSink, TheSource, culprit_of, ending_at, line_at, no_memory_line}
+use Rattle.vl_disk.specs.Faults.{Rose}
+use Rattle.vl_replay.specs.Runs.{next_number}
+use Rattle.vl_replay.specs.Endings.{OnlyByDisk, TheSink, TheSource, culprit_of, ending_at, line_at, no_memory_line}
 use Rattle.vl_replay.specs.Halts.{HaltsByDisk}
 use Rattle.vl_replay.specs.declared.ending.Ending.{Ending}
 use Rattle.vl_replay.specs.declared.ending.Ending.TheVariants.{AnswerCut, BadLine, BadWords, Complete, NoMemory, Refused}
@@ -14,7 +16,7 @@ use Rattle.vl_replay.proofs.answering.answer.Goals as goal
 pub returns-in-Ok-clause-printed : goal.returns-in-Ok-clause-printed
 returns-in-Ok-clause-printed g c script stands count next =
     let made = rw c.in-Ok-Some.field-0-is at (c.in-Ok-Some.ensures.answers script.start stands) in
-    (made.0, made.1, made.2, subst (λ (l : List ℕ). Takes (g.K.Sink.held c.args.sink.now) (g.K.Sink.held c.put.new.self) l) (c.deref.ensures.value ∙ made.3) c.in-Ok.ensures.taken)
+    (made.0, made.1, made.2, subst (λ (l : List ℕ). Takes (g.K.Sink.held c.args.sink.now) (g.K.Sink.held c.put.new.self) l) ((rw c.in-Ok-Some.field-0-is at c.deref.ensures.value) ∙ made.3) c.in-Ok.ensures.taken)
 
 pub returns-in-Ok-clause-moves : goal.returns-in-Ok-clause-moves
 returns-in-Ok-clause-moves g c s stands held =
@@ -25,7 +27,7 @@ pub returns-in-Ok-Some-clause-printed : goal.returns-in-Ok-Some-clause-printed
 returns-in-Ok-Some-clause-printed g c script stands count next left =
     let made = rw c.in-Ok-Some.field-0-is at (c.in-Ok-Some.ensures.answers script.start stands) in
     answer_cut _ script c.args.text.now left made.0 (g.K.Sink.held c.args.sink.now) (g.K.Sink.held c.put.new.self) next made.1
-    (subst (λ (l : List ℕ). TakesPrefix (g.K.Sink.held c.args.sink.now) (g.K.Sink.held c.put.new.self) l) (c.deref.ensures.value ∙ made.3) c.in-Err.ensures.part)
+    (subst (λ (l : List ℕ). TakesPrefix (g.K.Sink.held c.args.sink.now) (g.K.Sink.held c.put.new.self) l) ((rw c.in-Ok-Some.field-0-is at c.deref.ensures.value) ∙ made.3) c.in-Err.ensures.part)
 
 pub returns-in-Ok-Some-clause-moves : goal.returns-in-Ok-Some-clause-moves
 returns-in-Ok-Some-clause-moves g c s stands held =
@@ -39,7 +41,7 @@ returns-in-Ok-None-clause-printed g c script stands count next left =
 pub returns-in-Ok-None-clause-moves : goal.returns-in-Ok-None-clause-moves
 returns-in-Ok-None-clause-moves g c s stands held =
     let bad = rw c.in-Ok-None.field-0-is at (c.in-Ok-None.ensures.answers s stands) in
-    ends_bad g.D.Watched (record { only_now = g.met.D.Disk.only_now; counts_now = g.met.D.Disk.counts_now }) s c.args.text.now c.args.replayer.now.disk c.carry_out.new.replayer.disk c.carry_out.result c.end_at_bad_line.result (ap is_ok c.in-Ok-None.is) (λ fault. c.end_at_bad_line.ensures.not_the_disk (ap culprit_of fault)) bad (c.carry_out.ensures.carries s stands held)
+    ends_bad g.D.Watched (record { only_now = g.met.D.Disk.only_now; counts_now = g.met.D.Disk.counts_now }) s c.args.text.now c.args.replayer.now.disk c.carry_out.new.replayer.disk c.carry_out.result c.end_at_bad_line.result (ap is_ok c.in-Ok-None.is) c.end_at_bad_line.ensures.not_the_disk bad (c.carry_out.ensures.carries s stands held)
 
 pub returns-in-Err-NoMemory-clause-printed : goal.returns-in-Err-NoMemory-clause-printed
 returns-in-Err-NoMemory-clause-printed g c script stands count next left =
@@ -55,8 +57,8 @@ returns-in-Err-NoMemory-clause-sink_faults g c = finish_counts g.K.Sink _ _ _ No
 
 pub returns-clause-printed : goal.returns-clause-printed
 returns-clause-printed g c script stands count next left =
-    finished g.K.Sink c.args.sink.now c.end_at_fault.new.sink _ script left (ending_at c.args.on_fault) c.end_at_fault.result (line_at c.args.on_fault) (fault_line _ c.args.on_fault)
-    (fault_stops _ script left 0 (c.carry_out.ensures.cause.rose (halts c.carry_out.result c.in-Err-Disk.field-0-0 (c.in-Err-Disk.is ∙ ap Err c.in-Err-Disk.field-0-is))) c.args.on_fault) c.end_at_fault.ensures
+    finished g.K.Sink c.args.sink.now c.end_at_fault.new.sink _ script left (ending_at c.args.on_fault) c.end_at_fault.result (line_at c.args.on_fault) (fault_line (next_number script 0) c.args.on_fault)
+    (fault_stops (OnlyByDisk (Rose (g.D.Watched.faults c.args.replayer.now.disk) (g.D.Watched.faults c.carry_out.new.replayer.disk))) script left 0 (c.carry_out.ensures.cause.rose (halts c.carry_out.result c.in-Err-Disk.field-0-0 (c.in-Err-Disk.is ∙ ap Err c.in-Err-Disk.field-0-is))) c.args.on_fault) c.end_at_fault.ensures
 
 pub returns-clause-moves : goal.returns-clause-moves
 returns-clause-moves g c s stands held =
@@ -70,7 +72,7 @@ returns-clause-sink_faults g c = finish_counts g.K.Sink _ _ _ (ending_at c.args.
 pub returns-in-Ok-clause-reads : goal.returns-in-Ok-clause-reads
 returns-in-Ok-clause-reads g c =
     let (is, (answer, out_is)) = rw c.in-Ok-Some.field-0-is at c.in-Ok-Some.ensures.reads in
-    (is, (answer, subst (λ (l : List ℕ). Takes (g.K.Sink.held c.args.sink.now) (g.K.Sink.held c.put.new.self) l) (c.deref.ensures.value ∙ out_is) c.in-Ok.ensures.taken))
+    (is, (answer, subst (λ (l : List ℕ). Takes (g.K.Sink.held c.args.sink.now) (g.K.Sink.held c.put.new.self) l) ((rw c.in-Ok-Some.field-0-is at c.deref.ensures.value) ∙ out_is) c.in-Ok.ensures.taken))
 
 pub returns-in-Ok-Some-clause-reads : goal.returns-in-Ok-Some-clause-reads
 returns-in-Ok-Some-clause-reads g c = ends_otherwise _ c.args.answered AnswerCut _ _ (_, c.in-Err.ensures.part.2) (λ e. cc) (λ e. cc)

@@ -1,12 +1,14 @@
 use Rattle.std.proofs.Common.{◌∙◌, ℕ, List, refl, arith, subst, sym}
-use Rattle.vl_replay.specs.Endings.{Evidence, no_memory_line}
+use Rattle.std.specs.Prelude.{Some}
+use Rattle.vl_replay.specs.Endings.{EndsAs, Evidence, no_memory_line}
+use Rattle.vl_replay.specs.declared.ending.OnFault.{OnFault}
 use Rattle.vl_replay.specs.Laws.{keeps_up_at_first}
 use Rattle.vl_replay.specs.Reading.{HasRead, streams}
 use Rattle.vl_replay.specs.Runs.{script_of, outside}
 use Rattle.vl_replay.specs.Steps.{kept}
 use Rattle.vl_replay.specs.Stored.{IsStored, Shown}
 use Rattle.vl_replay.specs.declared.ending.Ending.TheVariants.{NoMemory}
-use Rattle.vl_replay.proofs.Ends.{finished, line_leaves_disk}
+use Rattle.vl_replay.proofs.Ends.{finished, line_leaves_disk, otherwise_as}
 use Rattle.vl_replay.proofs.Logged.{shown_stays, stored_exactly}
 use Rattle.vl_replay.proofs.ReadingOn.{finished_incomplete, read_nothing, reads_nothing}
 use Rattle.vl_replay.proofs.Stepping.{step_apart}
@@ -35,6 +37,7 @@ lines-init g c = record {
   source_steady = refl;
   sink_steady = refl;
   disk_steady = refl;
+  mode = refl;
 }
 
 pub lines-preserved : goal.lines-preserved
@@ -49,6 +52,7 @@ lines-preserved g c = record {
   source_steady = c.in_default-step.ensures.source_faults.steady (λ e. cc) (λ e. cc) ∙ c.lines.invariant.source_steady;
   sink_steady = c.in_default-step.ensures.sink_faults.steady (λ e. cc) (λ e. cc) ∙ c.lines.invariant.sink_steady;
   disk_steady = c.in_default-step.ensures.disk_faults.steady (λ e. cc) (λ e. cc) ∙ c.lines.invariant.disk_steady;
+  mode = c.in_default-step.ensures.same_mode ∙ c.lines.invariant.mode;
 }
 
 pub returns-in-Some-clause-runs : goal.returns-in-Some-clause-runs
@@ -69,3 +73,11 @@ returns-in_default-clause-input g c input told =
 
 pub returns-in-Some-clause-input : goal.returns-in-Some-clause-input
 returns-in-Some-clause-input g c input told = c.in-Some.ensures.reads input (streams g.S.Source g.K.Sink c.args.source.now c.args.sink.now) (c.lines.invariant.has_read input told)
+
+-- ---- how it ends where the disk fails
+
+pub returns-in_default-clause-as_meant : goal.returns-in_default-clause-as_meant
+returns-in_default-clause-as_meant g c = otherwise_as g.K.Sink _ _ _ NoMemory c.finish.result c.args.on_fault (λ e. cc) c.finish.ensures
+
+pub returns-in-Some-clause-as_meant : goal.returns-in-Some-clause-as_meant
+returns-in-Some-clause-as_meant g c = subst (λ (f : OnFault). EndsAs f (Some c.in-Some.ending)) c.lines.invariant.mode c.in-Some.ensures.as_meant

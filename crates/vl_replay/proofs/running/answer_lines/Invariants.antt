@@ -20,6 +20,7 @@ invariant-lines g l =
       source_steady : g.S.Source.faults l.source ≡ g.S.Source.faults l.fn.source;
       sink_steady : g.K.Sink.faults l.sink ≡ g.K.Sink.faults l.fn.sink;
       disk_steady : g.D.Watched.faults l.progress.replayer.disk ≡ g.D.Watched.faults l.fn.replayer.disk;
+      mode : l.progress.on_fault ≡ l.fn.on_fault;
     }
 
 abbrev pub decreases-lines : goal.decreases-lines

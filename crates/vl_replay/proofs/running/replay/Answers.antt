@@ -1,9 +1,12 @@
-use Rattle.std.proofs.Common.{◌≡◌, refl, subst}
+use Rattle.std.proofs.Common.{◌≡◌, ap, refl, subst, sym}
 use Rattle.vl_disk.specs.Faults.{Rose}
 use Rattle.vl_recover.specs.Answers.{AnswersBy}
 use Rattle.vl_recover.specs.Results.{came_by}
 use Rattle.vl_recover.specs.declared.fails.Why.{Why}
 use Rattle.vl_replay.specs.Durable.{Tells}
+use Rattle.vl_replay.specs.Endings.{culprit_of}
+use Rattle.vl_replay.specs.declared.ending.Ending.{Ending}
+use Rattle.vl_replay.specs.declared.ending.Ending.TheVariants.{DiskFault, Stopped}
 use Rattle.vl_replay.specs.Laws.{keeps_up_at_first}
 use Rattle.vl_replay.specs.Opening.{IsFault}
 use Rattle.vl_replay.specs.Reading.{streams}
@@ -12,7 +15,7 @@ use Rattle.vl_replay.specs.Start.{IsDurable}
 use Rattle.vl_replay.specs.Stored.{IsStored, Shown}
 use Rattle.std.specs.Prelude.{Some, true, false}
 use Rattle.vl_replay.proofs.Logged.{shown_stays, stored_exactly}
-use Rattle.vl_replay.proofs.OpenedRuns.{ends_opened, ends_refused, refused, refused_nothing, refused_as, refused_line, not_for_words, out_of_memory, counts_sink, counts_source, counts_disk}
+use Rattle.vl_replay.proofs.OpenedRuns.{ends_opened, ends_refused, refused, refused_nothing, refused_as, refused_line, not_for_words, not_silent, out_of_memory, counts_sink, counts_source, counts_disk}
 use Rattle.vl_replay.proofs.ReadingOn.{unopened_reads_nothing}
 use Rattle.vl_replay.proofs.Refusals.{fault_for, fault_of, first_for, no_fault, opened_not_refused, refused_for, refused_or_first}
 use Rattle.vl_replay.proofs.running.replay.Goals as goal
@@ -22,7 +25,7 @@ returns-in-Ok-clause-runs g c s input starts told =
     ends_opened g.D.Watched (record { only_now = g.met.D.Disk.only_now; counts_now = g.met.D.Disk.counts_now }) IsStored Shown shown_stays stored_exactly
     (Tells g.D.Watched c.args.disk IsDurable) (script_of s 0 input)
     (outside g.S.Source g.K.Sink c.args.source.now c.args.sink.now c.args.disk) (outside g.S.Source g.K.Sink c.answer_lines.new.source c.answer_lines.new.sink c.answer_lines.result.disk)
-    (outside g.S.Source g.K.Sink c.args.source.now c.args.sink.now c.in-Ok.replayer.disk) c.answer_lines.result.ending refl refl c.in-Ok.ensures.cause.later
+    (outside g.S.Source g.K.Sink c.args.source.now c.args.sink.now c.in-Ok.replayer.disk) c.answer_lines.result.ending refl refl (c.in-Ok.ensures.cause.steady (λ by. by))
     (λ durable. c.in-Ok.ensures.holds s starts (durable.0, durable.1, durable.2.may_open)) (c.in-Ok.ensures.through s starts) (c.answer_lines.ensures.runs s input (c.in-Ok.ensures.store s starts) told)
 
 pub returns-in-Ok-clause-refused : goal.returns-in-Ok-clause-refused
@@ -112,3 +115,18 @@ returns-in-Err-clause-input g c input told =
     unopened_reads_nothing g.K.Sink c.args.sink.now ended.new.sink ended.ensures.0 ended.result ended.ensures.2 input
     (streams g.S.Source g.K.Sink c.args.source.now c.args.sink.now) (streams g.S.Source g.K.Sink c.args.source.now ended.new.sink) (λ taken. taken)
     (keeps_up_at_first input (g.S.Source.asked c.args.source.now) (g.met.S.Source.since_asked c.args.source.now input told))
+
+-- ---- it says how it ended
+
+pub returns-in-Ok-clause-reported : goal.returns-in-Ok-clause-reported
+returns-in-Ok-clause-reported g c silent =
+    not_both (sym silent) (some_ending _ _ (c.answer_lines.ensures.as_meant (ap (λ (e : Ending). Some (culprit_of e)) silent)))
+  where
+    some_ending : (a b : Ending) → Some a ≡ Some b → a ≡ b
+    some_ending a b e = cc
+
+    not_both : {e : Ending} → Stopped ≡ e → e ≡ DiskFault → ⊥
+    not_both a b = cc
+
+pub returns-in-Err-clause-reported : goal.returns-in-Err-clause-reported
+returns-in-Err-clause-reported g c = not_silent g.K.Sink _ _ c.end_unopened-ending.ensures.0 c.end_unopened-ending.result c.end_unopened-ending.ensures.2

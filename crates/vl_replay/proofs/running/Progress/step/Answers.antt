@@ -38,7 +38,7 @@ returns-in-Ok-TooLong-clause-runs g c script to_do =
     let ended = c.end_at_bad_line in
     step_apart g.D.Watched (record { only_now = g.met.D.Disk.only_now; counts_now = g.met.D.Disk.counts_now }) IsStored Shown shown_stays stored_exactly script
     (outside g.S.Source g.K.Sink c.args.source.now c.args.sink.now c.args.self.now.replayer.disk) (outside g.S.Source g.K.Sink c.read_line.new.source ended.new.sink c.args.self.now.replayer.disk)
-    ⊥ (λ never. absurd never) ended.result (ended.ensures.whole, λ fault. ended.ensures.not_the_disk (ap culprit_of fault)) refl (ended.ensures.printed script text left to_do.count (texts, lines) (too_long_is_bad script.start text long)) (still_keeps_up script.bytes (c.args.self.now.buffer ++ to_do.rest) (g.S.Source.asked c.args.source.now) (g.S.Source.asked c.read_line.new.source) to_do.bytes_are (c.read_line.ensures.keeps_up to_do.rest to_do.left_is) to_do.kept_up)
+    ⊥ (λ never. absurd never) ended.result (ended.ensures.whole, ended.ensures.not_the_disk) refl (ended.ensures.printed script text left to_do.count (texts, lines) (too_long_is_bad script.start text long)) (still_keeps_up script.bytes (c.args.self.now.buffer ++ to_do.rest) (g.S.Source.asked c.args.source.now) (g.S.Source.asked c.read_line.new.source) to_do.bytes_are (c.read_line.ensures.keeps_up to_do.rest to_do.left_is) to_do.kept_up)
 
 pub returns-in-Ok-End-clause-runs : goal.returns-in-Ok-End-clause-runs
 returns-in-Ok-End-clause-runs g c script to_do =
