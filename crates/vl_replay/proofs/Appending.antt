@@ -1,5 +1,9 @@
 -- A disk that tells its bytes still tells them where a frame was written, or where that failed.
-use Rattle.std.proofs.Common.{◌≡◌, ℕ, ◌≤◌, List, length, Option, Some, Result, Ok, Err, OnOk, OnErr, ◌∙◌}
+use Rattle.std.proofs.Common.{◌≡◌, ℕ, ◌≤◌, List, length, Option, Some, Result, Ok, Err, OnOk, OnErr, ◌∙◌, ap, true, false}
+use Rattle.vl_disk.specs.Calls.{Appends, Syncs}
+use Rattle.vl_disk.specs.Faults.{one_more}
+use Rattle.vl_disk.specs.declared.watched.Watched.{Ghosts}
+use Rattle.vl_replay.specs.Writing.{StopsWriting, at_sync}
 use Rattle.vl_disk.specs.declared.failed.Failed.{Failed}
 use Rattle.vl_disk.specs.declared.name.Name.{Name}
 use Rattle.vl_disk.specs.Disk.{IsChangedBy}
@@ -20,3 +24,21 @@ tells_all name other piece told0 told1 told2 state is appends (Ok x) changed err
 )
 tells_all name other piece told0 told1 told2 state is appends (Err e) ok same =
     (appended name piece (length piece) state, same ∙ told_after (appended name piece (length piece)) told0 told1 state is appends)
+
+false_true : false ≡ true → ⊥
+false_true e = cc
+
+-- where the sync failed, the disk was stopped behind an append that passed
+pub sync_stops : {D T U E F : Type 0} (g : Ghosts D) (name other : Name) (frame : List ℕ) (old mid new : D) (x : T)
+    → Appends {T = T} {E = E} g name frame old mid (Ok x) → (result : Result U F) → Syncs g other mid new result
+    → OnErr result (StopsWriting g name frame old new)
+sync_stops g name other frame old mid new x appends (Ok y) syncs = tt
+sync_stops g name other frame old mid new x appends (Err f) syncs = at_sync
+    (syncs.failed ∙ appends.appended)
+    (syncs.as_call.calls ∙ ap one_more appends.as_call.calls)
+    (record {
+      mid = mid;
+      counted = appends.as_call.calls;
+      steady = appends.as_call.cause.steady (λ e. false_true e);
+      as_planned = appends.as_call.time.as_planned;
+    })

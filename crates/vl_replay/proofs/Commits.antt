@@ -229,22 +229,32 @@ module _ {D : Type 0} (g : Ghosts D) (watched : IsWatched g) where
     counted : (n : ℕ) → g.calls new ≡ after_calls n (g.calls mid) → g.calls new ≡ after_calls n s.calls
     counted n calls = calls ∙ ap (after_calls n) (no_change.calls ∙ held.calls)
 
+    not_true : IsTrue false → ⊥
+    not_true e = cc
+
     -- a disk that fails cleanly took nothing of it, or all
-    stops_within : StopsWriting g (names.Log s.log.number) bytes mid new → StopsWithin g IsStored s after new
-    stops_within (at_append changed calls) = record {
+    stops_within : (failed → ⊥) → StopsWriting g (names.Log s.log.number) bytes mid new → StopsWithin g IsStored s after old new
+    stops_within fine (at_append changed calls) = record {
       now = appended (names.Log s.log.number) bytes 0 state;
       told = told_after (appended (names.Log s.log.number) bytes 0) changed;
       stopped = append_failed commits refl;
       calls = counted 1 calls;
+      passed = λ append. absurd (not_true append);
       writes = writes;
       one_more = refl;
       both = refl;
     }
-    stops_within (at_sync changed calls) = record {
+    stops_within fine (at_sync changed calls one) = record {
       now = appended (names.Log s.log.number) bytes (length bytes) state;
       told = told_after (appended (names.Log s.log.number) bytes (length bytes)) changed;
       stopped = sync_failed commits refl;
       calls = counted 2 calls;
+      passed = λ _. record {
+        mid = one.mid;
+        counted = one.counted ∙ ap (after_calls 1) (no_change.calls ∙ held.calls);
+        steady = one.steady ∙ no_change.cause.steady fine;
+        as_planned = λ stop past. one.as_planned stop (no_change.time.as_planned stop past);
+      };
       writes = writes;
       one_more = refl;
       both = refl;
@@ -252,13 +262,13 @@ module _ {D : Type 0} (g : Ghosts D) (watched : IsWatched g) where
 
     -- the disk failed while it was written
     pub carries_failed : {T : Type 0} (result : Result T Halt) → IsErr result → (result ≡ Err NoRoom → ⊥) → (now : DiskState) × (g.told new ≡ Some now)
-        → (IsTrue g.fails_cleanly → StopsWriting g (names.Log s.log.number) bytes mid new) → LeadsTo g IsStored Shown old new s after result
-    carries_failed result err failed tells stops = record {
+        → (failed → ⊥) → (IsTrue g.fails_cleanly → StopsWriting g (names.Log s.log.number) bytes mid new) → LeadsTo g IsStored Shown old new s after result
+    carries_failed result err no_room tells fine stops = record {
       answered = on_ok_at_err result _ err;
-      no_commit = λ none. absurd (failed none);
+      no_commit = λ none. absurd (no_room none);
       tells = (tells.0, tells.1, now_may_open tells.0 tells.1);
       through = goes_written;
-      stopped = λ by clean. stops_within (stops clean);
+      stopped = λ by clean. stops_within fine (stops clean);
     }
 
     -- it was written

@@ -1,5 +1,5 @@
 -- What a line, and a run of lines, does to a disk that holds the state before it: by what is held and shown, whatever these are.
-use Rattle.std.proofs.Common.{◌≡◌, ◌⊎◌, ⊎_elim, inl, inr, ℕ, zero, suc, ◌≤◌, List, [], ◌∷◌, take, Option, None, Some, IsTrue, refl, sym, subst, arith}
+use Rattle.std.proofs.Common.{◌≡◌, ◌⊎◌, ⊎_elim, inl, inr, ℕ, zero, suc, ◌≤◌, List, [], ◌∷◌, take, Option, None, Some, IsTrue, refl, sym, ◌∙◌, subst, arith}
 use Rattle.std.specs.Option.{option_map}
 use Rattle.vl_model.specs.History.{Extends, History, last_number}
 use Rattle.vl_disk.specs.declared.watched.Watched.{Ghosts}
@@ -104,7 +104,7 @@ module _ {D : Type 0} (g : Ghosts D) (watched : IsWatched g) (holds : Holding) (
       (goes_wider b c least mid most most lower (extends_itself most) second)
 
   pub it_holds : (s : State) (disk : D) → HoldsState g holds s disk → HoldsCommits g holds s disk
-  it_holds s disk held = (s, refl, refl, held)
+  it_holds s disk held = (s, refl, refl, refl, held)
 
   -- a store may be opened on it
   pub opens_again : (s : State) (disk : D) → HoldsState g holds s disk → Tells g disk MayOpen
@@ -118,7 +118,7 @@ module _ {D : Type 0} (g : Ghosts D) (watched : IsWatched g) (holds : Holding) (
   pub ends_within : (old new : D) (ending : Ending) (least most : State) → CrashesShow g shows old new least.history most.history → Tells g new MayOpen
       → ((Rose (g.faults old) (g.faults new) → ⊥) → HoldsCommits g holds least new ⊎ HoldsCommits g holds most new)
       → (ending ≡ NoMemory → HoldsCommits g holds least new) → (IsBetweenLines (culprit_of ending) → HoldsCommits g holds least new) → (CutsAnswer ending → HoldsCommits g holds most new)
-      → (culprit_of ending ≡ TheDisk → IsTrue g.fails_cleanly → StopsWithin g holds least most new)
+      → (culprit_of ending ≡ TheDisk → IsTrue g.fails_cleanly → StopsWithin g holds least most old new)
       → DiskEnds g holds shows ⊥ ⊥ old new (record { ending = ending; first = least; answered = []; most = most })
   ends_within old new ending least most goes tells settled no_memory whole cut stops = record {
     crash_during = goes;
@@ -161,14 +161,30 @@ module _ {D : Type 0} (g : Ghosts D) (watched : IsWatched g) (holds : Holding) (
         stopped = λ fault. absurd (sound fault);
       }
 
+  -- a stop since a later disk, up to which nothing failed
+  stops_earlier : (first old new : D) (before after : State) → g.faults old ≡ g.faults first → ((stop : Option ℕ) → g.fails_past first stop → g.fails_past old stop)
+      → StopsWithin g holds before after old new → StopsWithin g holds before after first new
+  stops_earlier first old new before after steady planned within = record {
+    now = within.now;
+    told = within.told;
+    stopped = within.stopped;
+    calls = within.calls;
+    passed = λ append. let one = within.passed append in
+        record { mid = one.mid; counted = one.counted; steady = one.steady ∙ steady; as_planned = λ stop past. one.as_planned stop (planned stop past) };
+    writes = within.writes;
+    one_more = within.one_more;
+    both = within.both;
+  }
+
   -- a run that began earlier, and had answered some lines
-  pub ends_later : (unopened failed_to_open : Type 0) (first old new : D) (ending : Ending) (start before most : State) (answered whole : List Exchange) → Extends start.history before.history → Extends before.history most.history → g.faults first ≤ g.faults old
+  pub ends_later : (unopened failed_to_open : Type 0) (first old new : D) (ending : Ending) (start before most : State) (answered whole : List Exchange) → Extends start.history before.history → Extends before.history most.history → g.faults old ≡ g.faults first
       → CrashesShow g shows first old start.history before.history
       → (CrashesShow g shows old new before.history most.history → GoesAlong g holds shows new most old before answered → GoesAlong g holds shows new most first start whole)
       → last_state before answered ≡ last_state start whole
       → DiskEnds g holds shows ⊥ ⊥ old new (record { ending = ending; first = before; answered = answered; most = most })
       → DiskEnds g holds shows unopened failed_to_open first new (record { ending = ending; first = start; answered = whole; most = most })
-  ends_later unopened failed_to_open first old new ending start before most answered whole lower upper earlier so_far longer same ends =
+  ends_later unopened failed_to_open first old new ending start before most answered whole lower upper steady so_far longer same ends =
+      let earlier : g.faults first ≤ g.faults old = omega (arith, steady) in
       let moved : HoldsCommits g holds (last_state before answered) new → HoldsCommits g holds (last_state start whole) new =
       λ (held : HoldsCommits g holds (last_state before answered) new). subst (λ (s : State). HoldsCommits g holds s new) same held in
       record {
@@ -191,6 +207,7 @@ module _ {D : Type 0} (g : Ghosts D) (watched : IsWatched g) (holds : Holding) (
         again = ends.again;
         stopped = λ fault clean. ⊎_elim
             (λ (never : ⊥). absurd never)
-            (λ (within : StopsWithin g holds (last_state before answered) most new). inr (subst (λ (s : State). StopsWithin g holds s most new) same within))
+            (λ (within : StopsWithin g holds (last_state before answered) most old new).
+            inr (subst (λ (s : State). StopsWithin g holds s most first new) same (stops_earlier first old new (last_state before answered) most steady so_far.time.as_planned within)))
             (ends.stopped fault clean);
       }

@@ -154,7 +154,7 @@ module _ {D : Type 0} (g : Ghosts D) (watched : IsWatched g) (holds : Holding) (
         kept_up = run.kept_up;
         disk = λ p.
             ends_later g watched holds shows stays exactly (IsAsBefore g first.disk end.disk) (take m all ≡ []) first.disk mid.disk end.disk ending s s (last_state s (take (suc m) all)) (take m all) (take m all)
-            (extends_itself s.history) (extends (suc m)) earlier (goes p) (λ _ along. along_opened mid.disk end.disk s (last_state s (take (suc m) all)) all m (extends 1) (goes p) steady along) refl
+            (extends_itself s.history) (extends (suc m)) steady (goes p) (λ _ along. along_opened mid.disk end.disk s (last_state s (take (suc m) all)) all m (extends 1) (goes p) steady along) refl
             (run.disk (opened p));
       }
 

@@ -105,7 +105,7 @@ module _ {D : Type 0} (g : Ghosts D) (watched : IsWatched g) (s : State) (text :
 
     -- the answer to a line that makes no commit found no memory
     pub kept_without_number : (line : Line) (answer : Answer) → answer ≡ answer_to s line → ((n : ℕ) → answer ≡ Number n → ⊥) → HoldsState g IsStored (state_after s line) new → HoldsCommits g IsStored s new
-    kept_without_number line answer is none held = let kept = line_keeps s line (λ n numbered. none n (is ∙ numbered)) in (state_after s line, kept.history, kept.calls, held)
+    kept_without_number line answer is none held = let kept = line_keeps s line (λ n numbered. none n (is ∙ numbered)) in (state_after s line, kept.history, kept.calls, kept.files, held)
 
     -- ---- how a run ends there
 
@@ -121,7 +121,7 @@ module _ {D : Type 0} (g : Ghosts D) (watched : IsWatched g) (s : State) (text :
     ends_bad result ending ok sound bad carries =
         let held = of_ok result _ ok carries.answered in
         ends_unchanged g watched IsStored Shown shown_stays stored_exactly old new ending s behind carries.through carries.tells
-        (behind, ap (λ (t : State). t.history) (bad_behind s text bad), ap (λ (t : State). t.calls) (bad_behind s text bad), held) (λ cuts. it_holds g watched IsStored Shown shown_stays stored_exactly behind new held) sound
+        (behind, ap (λ (t : State). t.history) (bad_behind s text bad), ap (λ (t : State). t.calls) (bad_behind s text bad), ap (λ (t : State). t.files) (bad_behind s text bad), held) (λ cuts. it_holds g watched IsStored Shown shown_stays stored_exactly behind new held) sound
 
     -- memory ran out
     pub ends_out : {T K : Type 0} (k : sink.Ghosts K) (sink_old sink_new : K) (line : List ℕ) (result : Result T Halt) (ending : Ending) → result ≡ Err NoRoom → Finishes k sink_old sink_new line NoMemory ending

@@ -119,10 +119,11 @@ module _ {D : Type 0} (g : Ghosts D) (watched : IsWatched g) (holds : Holding) (
               };
         }
 
-    pub over : (ending : Ending) → begin.source_faults ≤ now.source_faults → g.faults begin.disk ≤ g.faults now.disk
+    pub over : (ending : Ending) → begin.source_faults ≤ now.source_faults → g.faults now.disk ≡ g.faults begin.disk
         → EndsRun g (DiskEndsFrom g holds shows now.disk next.disk rest.start) rest now next ending
         → EndsRun g (DiskEndsFrom g holds shows begin.disk next.disk start) whole begin next ending
-    over ending earlier earlier_disk run =
+    over ending earlier steady run =
+        let earlier_disk : g.faults begin.disk ≤ g.faults now.disk = omega (arith, steady) in
         let m = run.answered in
         let most = last_state rest.start (take (suc m) (exchanges rest)) in
         let on : suc m + rest.before ≡ suc (m + rest.before) = omega arith in
@@ -144,5 +145,5 @@ module _ {D : Type 0} (g : Ghosts D) (watched : IsWatched g) (holds : Holding) (
               let extends = exchanges_extend (lines_of rest.bytes) rest.start (suc m) in
               subst (λ (s : State). DiskEnds g holds shows ⊥ ⊥ begin.disk next.disk (record { ending = ending; first = start; answered = take (m + rest.before) (exchanges whole); most = s })) most_is
               (ends_later g watched holds shows stays exactly ⊥ ⊥ begin.disk now.disk next.disk ending start rest.start most (take m (exchanges rest)) (take (m + rest.before) (exchanges whole))
-              u.extends extends earlier_disk c.goes (c.along next.disk most m extends) (u.later_state m) (run.disk c.held));
+              u.extends extends steady c.goes (c.along next.disk most m extends) (u.later_state m) (run.disk c.held));
         }

@@ -17,7 +17,8 @@ use Rattle.vl_replay.specs.Between.{Showing, ShowsBetween}
 use Rattle.vl_replay.specs.Endings.{CutsAnswer, IsBetweenLines, TheDisk, culprit_of}
 use Rattle.vl_replay.specs.Runs.{Course}
 use Rattle.vl_replay.specs.Halts.{HaltsByDisk}
-use Rattle.vl_replay.specs.Stopped.{IsStoppedIn, calls_until}
+use Rattle.vl_replay.specs.Stopped.{IsStoppedIn, append_passed, calls_until}
+use Rattle.vl_replay.specs.Writing.{PassedOne}
 use Rattle.vl_replay.specs.declared.fails.Halt.{Halt}
 use Rattle.vl_replay.specs.declared.fails.Halt.TheVariants.{NoMemory as NoRoom}
 use Rattle.vl_replay.specs.declared.ending.Ending.TheVariants.{NoMemory}
@@ -62,10 +63,11 @@ pub record HoldsState {D : Type 0} (g : Ghosts D) (holds : Holding)
   pub calls : g.calls disk ≡ s.calls
   pub there : Tells g disk (holds s)
 
--- it holds the commits of a state and nothing else, and was asked for the changing calls that this one counts
+-- it holds the commits of a state and nothing else, and was asked for the changing calls that this one counts; the numbers of
+-- its files are bounded as there
 abbrev pub HoldsCommits : {D : Type 0} → Ghosts D → Holding → State → D → Type 0
 HoldsCommits g holds t disk =
-    (s : State) × (s.history ≡ t.history) × (s.calls ≡ t.calls) × HoldsState g holds s disk
+    (s : State) × (s.history ≡ t.history) × (s.calls ≡ t.calls) × (s.files ≡ t.files) × HoldsState g holds s disk
 
 -- Whatever a crash leaves at any moment from the old disk to the new one shows at least the one history and at most the
 -- other.
@@ -74,8 +76,9 @@ abbrev pub CrashesShow : {D : Type 0} → Ghosts D → Showing → (old new : D)
 CrashesShow g shows old new least most =
     HoldsThroughout g old new (Leaves (ShowsBetween shows least most))
 
--- A disk that failed, and failed cleanly, was stopped within a commit, which makes one state the next.
-pub record StopsWithin {D : Type 0} (g : Ghosts D) (holds : Holding) (before after : State) (new : D)
+-- A disk that failed, and failed cleanly, was stopped within a commit, which makes one state the next. So it is since an old disk
+-- on which nothing failed before.
+pub record StopsWithin {D : Type 0} (g : Ghosts D) (holds : Holding) (before after : State) (old new : D)
     : Type 0 where
   -- so much of the commit is on the disk;
   pub now : DiskState
@@ -83,6 +86,7 @@ pub record StopsWithin {D : Type 0} (g : Ghosts D) (holds : Holding) (before aft
   pub stopped : IsStoppedIn holds before after now
   -- the call that failed, the commit's first or second one, was the last;
   pub calls : g.calls new ≡ after_calls (calls_until stopped) before.calls
+  pub passed : IsTrue (append_passed stopped) → PassedOne g old (after_calls 1 before.calls)
   -- and the state after has these writes more, and counts both calls
   pub writes : Writes
   pub one_more : after.history ≡ with_commit before.history writes
@@ -100,7 +104,7 @@ pub record LeadsTo {D T : Type 0} (g : Ghosts D) (holds : Holding) (shows : Show
   -- what a crash meanwhile leaves shows the commits before, or those after it;
   pub through : CrashesShow g shows old new before.history after.history
   -- and where the disk failed, and fails cleanly, it was stopped within the commit that leads from one state to the next
-  pub stopped : HaltsByDisk result → IsTrue g.fails_cleanly → StopsWithin g holds before after new
+  pub stopped : HaltsByDisk result → IsTrue g.fails_cleanly → StopsWithin g holds before after old new
 
 -- A line, or a text, was carried out: so it is where the disk held the state before.
 abbrev pub CarriesOut : {D T : Type 0} → Ghosts D → Holding → Showing → (old new : D)
@@ -157,7 +161,7 @@ pub record DiskEnds {D : Type 0} (g : Ghosts D) (holds : Holding) (shows : Showi
   -- where it ended by a disk that fails cleanly, the store wasn't opened, or the disk was stopped within the commit of one
   -- line more
   pub stopped : culprit_of run.ending ≡ TheDisk → IsTrue g.fails_cleanly
-      → failed_to_open ⊎ StopsWithin g holds (last_state run.first run.answered) run.most new
+      → failed_to_open ⊎ StopsWithin g holds (last_state run.first run.answered) run.most old new
 
 -- so it is of a run over an open store, where the disk held the state in which it began
 abbrev pub DiskEndsFrom : {D : Type 0} → Ghosts D → Holding → Showing → (old new : D) → State

@@ -20,4 +20,6 @@ pub mod StartLaws
 pub mod Steps
 pub mod Stopped
 pub mod Stored
+pub mod Trial
+pub mod Trying
 pub mod Writing

@@ -63,7 +63,7 @@ returns-in-Some-clause-runs g c s input stands told =
     rw c.close-in-Some.ensures (over g.D.Watched (record { only_now = g.met.D.Disk.only_now; counts_now = g.met.D.Disk.counts_now }) IsStored Shown shown_stays stored_exactly s input
     (outside g.S.Source g.K.Sink c.args.source.now c.args.sink.now c.args.replayer.disk) (outside g.S.Source g.K.Sink c.lines.source c.lines.sink c.lines.progress.replayer.disk) (outside g.S.Source g.K.Sink c.step.new.source c.step.new.sink c.step.new.self.replayer.disk)
     (kept c.lines.progress.replayer.store c.lines.progress.buffer c.lines.progress.answered) (kept c.step.new.self.replayer.store c.step.new.self.buffer c.step.new.self.answered) u
-    c.in-Some.ending (omega arith) (omega arith) (c.in-Some.ensures.runs u.rest u.to_do))
+    c.in-Some.ending (omega arith) same_disk (c.in-Some.ensures.runs u.rest u.to_do))
 
 pub returns-in_default-clause-input : goal.returns-in_default-clause-input
 returns-in_default-clause-input g c input told =

@@ -64,7 +64,7 @@ returns-in_default-append_durably-clause-carries g c s name writes rep there hel
     let number = ap (λ (l : ActiveLog). l.number) rep.log in
     let time = subst (λ (n : ℕ). Elapses g.D.Watched c.stage_commit.new.disk c.append_durably.new.disk (WhileWriting (names.Log n) c.in_ok-staged.staged.frame.items)) number c.append_durably.ensures.time in
     carries_failed g.D.Watched (record { only_now = g.met.D.Disk.only_now; counts_now = g.met.D.Disk.counts_now }) s name writes c.args.disk.now c.stage_commit.new.disk c.append_durably.new.disk _ c.in_ok-staged.ensures.no_change held
-    c.in_ok-staged.staged.frame.items staged time _ refl (λ e. cc) (c.append_durably.ensures.tells state (c.in_ok-staged.ensures.no_change.told ∙ is))
+    c.in_ok-staged.staged.frame.items staged time _ refl (λ e. cc) (c.append_durably.ensures.tells state (c.in_ok-staged.ensures.no_change.told ∙ is)) (λ none. none)
     (λ clean. subst (λ (n : ℕ). StopsWriting g.D.Watched (names.Log n) c.in_ok-staged.staged.frame.items c.stage_commit.new.disk c.append_durably.new.disk) number (c.in_default-append_durably.ensures.stopped clean))
 
 pub returns-clause-carries : goal.returns-clause-carries
