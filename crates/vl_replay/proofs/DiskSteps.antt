@@ -27,7 +27,7 @@ use Rattle.vl_replay.proofs.Outcomes.{line_extends}
 pub exchange_leaves : (s : State) (line : Line) (e : Exchange) → Some (exchanged s line) ≡ Some e → e.after ≡ state_after s line
 exchange_leaves s line e is = cc
 
-exchange_after : (s : State) (o : Option Line) (e : Exchange) → option_map (exchanged s) o ≡ Some e → (line : Line) × (e.after ≡ state_after s line)
+pub exchange_after : (s : State) (o : Option Line) (e : Exchange) → option_map (exchanged s) o ≡ Some e → (line : Line) × (e.after ≡ state_after s line)
 exchange_after s None e is = cc
 exchange_after s (Some line) e is = (line, exchange_leaves s line e is)
 

@@ -21,10 +21,13 @@ pub mod Places
 pub mod ReadingOn
 pub mod Recovering
 pub mod Refusals
+pub mod Reopening
 pub mod Starting
 pub mod States
 pub mod Stepping
 pub mod StoppedLaws
 pub mod Texts
+pub mod TrialLines
+pub mod TrialRun
 pub mod UnderWay
 pub mod Writing

@@ -26,7 +26,7 @@ pub record Keeps (before after : State) : Type 0 where
 pub kept_nothing : (s : State) → Keeps s s
 kept_nothing s = record { history = refl; log = refl; calls = refl; files = refl }
 
-either : (P : Outcome → Type 0) (b : Bool) (x y : Outcome) → P x → P y → P (cond b x y)
+pub either : (P : Outcome → Type 0) (b : Bool) (x y : Outcome) → P x → P y → P (cond b x y)
 either P true x y p q = p
 either P false x y p q = q
 

@@ -5,6 +5,7 @@ ghost use Rattle.vl_disk.specs.declared.name.Name.TheVariants as names;
 ghost use Rattle.vl_disk.specs.DiskState.{DiskState};
 ghost use Rattle.vl_disk.specs.Disk.{Stands};
 ghost use Rattle.vl_disk.specs.Faults.{HasCause};
+ghost use Rattle.vl_disk.specs.Moments.{HoldsThroughout};
 ghost use Rattle.vl_replay.specs.Durable.{CarriesOut, CrashesShow, HoldsState, IsAsBefore, StillTells, Tells};
 ghost use Rattle.vl_replay.specs.Stored.{IsStored, Shown};
 ghost use Rattle.vl_replay.specs.Start.{IsDurable, StartsIn};
@@ -12,7 +13,7 @@ ghost use Rattle.vl_replay.specs.Sequential.{State, answer_to, state_after};
 ghost use Rattle.vl_replay.specs.Represents.{Represents};
 ghost use Rattle.vl_replay.specs.Halts.{HaltsByDisk};
 ghost use Rattle.vl_replay.specs.declared.fails.Refusal.{Refusal};
-ghost use Rattle.vl_recover.specs.Meanwhile.{FaultsAt};
+ghost use Rattle.vl_recover.specs.Meanwhile.{FaultsAt, IsMeanwhile};
 ghost use Rattle.vl_recover.specs.Results.{came_by};
 ghost use Rattle.vl_recover.specs.Starts.{MayOpen};
 ghost use Rattle.vl_disk.specs.declared.name.Name.{Name};
@@ -86,6 +87,10 @@ impl<D: Disk> Replayer<D> {
         // And a store may be opened on the disk again, whatever is answered.
         ensures again { (state now : DiskState) → D.told disk ≡ Some state → MayOpen state
             → D.told (disk_behind result) ≡ Some now → MayOpen now }
+
+        // Meanwhile the disk is as it was, or is being mended by a plan of what reads gave.
+        ensures meanwhile { (state : DiskState) (read : Image) → D.told disk ≡ Some state → IsRead read state
+            → HoldsThroughout D.Watched disk (disk_behind result) (IsMeanwhile read state) }
 
         // Whatever is answered, it asked for no more changing calls than the opened store counts.
         ensures at_most { (s : State) → StartsIn D.Watched disk s → D.calls disk ≤ 2 ^ 64 - 1

@@ -63,6 +63,7 @@ impl<D: Disk> Progress<D> {
             → ReadsOn input begin (streams S.Source K.Sink source.new sink.new) self.new.buffer self.new.answered result }
         ensures as_meant { EndsAs self.old.on_fault result }
         ensures same_mode { self.new.on_fault ≡ self.old.on_fault }
+        ensures still_told { (left : List ℕ) → S.left source.old ≡ Some left → (rest : List ℕ) × (S.left source.new ≡ Some rest) }
     {
         match read_line(&mut self.buffer, source, &mut self.line) {
             Ok(Next::Line) => self.answer(sink),
@@ -177,6 +178,7 @@ pub(crate) fn answer_lines<S: Source, K: Sink, D: Disk>(
         → ReadsInput input (streams S.Source K.Sink source.old sink.old) (streams S.Source K.Sink source.new sink.new)
         result.ending }
     ensures as_meant { EndsAs on_fault (Some result.ending) }
+    ensures still_told { (left : List ℕ) → S.left source.old ≡ Some left → (rest : List ℕ) × (S.left source.new ≡ Some rest) }
 {
     let Ok(buffer) = Buffer::new(alloc) else {
         return Ended {

@@ -40,6 +40,8 @@ pub fn read_line<S: Source>(
         → KeepsUp (buffer.old ++ left) (S.asked source.old) 0
         → KeepsUp (buffer.old ++ left) (S.asked source.new) 0 }
     ensures cause { HasCause (S.faults source.old) (S.faults source.new) (result ≡ Err InputFail.Fault) }
+    // What is told of the source stays told.
+    ensures still_told { (left : List ℕ) → S.left source.old ≡ Some left → (rest : List ℕ) × (S.left source.new ≡ Some rest) }
 {
     line.clear();
     loop {

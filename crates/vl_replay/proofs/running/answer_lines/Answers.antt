@@ -81,3 +81,11 @@ returns-in_default-clause-as_meant g c = otherwise_as g.K.Sink _ _ _ NoMemory c.
 
 pub returns-in-Some-clause-as_meant : goal.returns-in-Some-clause-as_meant
 returns-in-Some-clause-as_meant g c = subst (λ (f : OnFault). EndsAs f (Some c.in-Some.ending)) c.lines.invariant.mode c.in-Some.ensures.as_meant
+
+-- ---- what is told of the source stays told
+
+pub returns-in_default-clause-still_told : goal.returns-in_default-clause-still_told
+returns-in_default-clause-still_told g c left told = (left, told)
+
+pub returns-in-Some-clause-still_told : goal.returns-in-Some-clause-still_told
+returns-in-Some-clause-still_told g c left told = let h = c.lines.invariant.has_read left told in c.in-Some.ensures.still_told h.rest h.left_is

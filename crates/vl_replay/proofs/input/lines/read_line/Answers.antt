@@ -59,3 +59,16 @@ loop-line-preserved g c =
       spent = omega (arith, ap length taken.2, length-append c.loop-line.line.items c.loop-line.buffer, c.in_ok-refill.ensures.budget, c.loop-line.invariant.spent);
       steady = c.in_ok-refill.ensures.cause.steady (λ e. cc) ∙ c.loop-line.invariant.steady;
     }
+
+-- ---- what is told of the source stays told
+
+pub returns-then-branch-clause-still_told : goal.returns-then-branch-clause-still_told
+returns-then-branch-clause-still_told g c left told = let was = c.loop-line.invariant.told left told in (was.0, was.1)
+
+pub returns-then-len-gt-MAX_LINE_BYTES-clause-still_told : goal.returns-then-len-gt-MAX_LINE_BYTES-clause-still_told
+returns-then-len-gt-MAX_LINE_BYTES-clause-still_told g c left told = let was = c.loop-line.invariant.told left told in (was.0, was.1)
+
+pub returns-in_err-refill-clause-still_told : goal.returns-in_err-refill-clause-still_told
+returns-in_err-refill-clause-still_told g c left told =
+    let was = c.loop-line.invariant.told left told in
+    (was.0, c.in_err-refill.ensures.kept ∙ was.1)
