@@ -16,6 +16,7 @@ pub mod OpenedRuns
 pub mod OpenedText
 pub mod OpeningStopped
 pub mod Outcomes
+pub mod Passing
 pub mod Pending
 pub mod Places
 pub mod ReadingOn
@@ -27,6 +28,7 @@ pub mod States
 pub mod Stepping
 pub mod StoppedLaws
 pub mod Texts
+pub mod TrialEnds
 pub mod TrialLines
 pub mod TrialRun
 pub mod UnderWay

@@ -14,8 +14,8 @@ use Rattle.vl_disk.specs.declared.name.Name.{Name}
 use Rattle.vl_io.specs.declared.sink.Sink as sink
 use Rattle.vl_mem.specs.CrashImage.{crash_image}
 use Rattle.vl_mem.specs.Event.{counts_present, told_lawful}
-use Rattle.vl_mem.specs.FailsPast.{FailsPast, counted_past, never_fails}
-use Rattle.vl_mem.specs.ChangePlan.{new_changes}
+use Rattle.vl_mem.specs.FailsPast.{FailsPast, counted_past, never_fails, stops_after}
+use Rattle.vl_mem.specs.ChangePlan.{ChangePlan, new_changes, stopping_after}
 use Rattle.vl_disk.specs.FaultPlan.{new_plan}
 use Rattle.vl_mem.specs.MemDisk.{changes_of, faults_of, reads_of, state_of, told_by}
 use Rattle.vl_mem.specs.contracts.mem_disk.MemDiskWatched.TheImpl as memory
@@ -58,13 +58,13 @@ use Rattle.vl_replay.proofs.Refusals.{opened_not_refused}
 some_list : (a b : List ℕ) → Some a ≡ Some b → a ≡ b
 some_list a b e = cc
 
+pub bare_read : IsRead empty empty_disk
+bare_read = started_read empty empty_disk started_empty
+
 -- ---- the first opening
 
 module _ (stop : ℕ) (disk : MemDisk) (told : told_by disk ≡ Some empty_disk) (past : FailsPast disk (Some stop))
     (none : (changes_of disk).listed.calls ≡ 0) where
-  pub bare_read : IsRead empty empty_disk
-  bare_read = started_read empty empty_disk started_empty
-
   sound : faults_of disk ≡ 0
   sound = let exactly = (counted_past disk (Some stop) past).exactly (omega (arith, none)) in omega (arith, exactly, none)
 
@@ -195,3 +195,17 @@ module _ {K : Type 0} (k : sink.Ghosts K) (old new : K) (reason : Why) (result :
       for in
       let (line, line_is, finishes) = subst (λ (w : Why). FinishesBy k old new (ending_unopened w) result) same by in
       subst (λ (l : List ℕ). Finishes k old new l NoMemory result) (sym (some_list no_memory_line line line_is)) finishes
+
+-- ---- an empty disk that is made to stop
+
+pub made_to_stop : (stop : ℕ) (old new : MemDisk) (faults read_faults : List ℕ) → faults ≡ [] → read_faults ≡ []
+    → changes_of old ≡ new_changes faults → reads_of old ≡ new_plan read_faults
+    → changes_of new ≡ stopping_after stop (changes_of old) → reads_of new ≡ reads_of old
+    → FailsPast new (Some stop) × ((changes_of new).listed.calls ≡ 0)
+made_to_stop stop old new faults read_faults no_faults no_read_faults changes reads stopping same =
+    let fresh : changes_of old ≡ new_changes [] = changes ∙ ap new_changes no_faults in
+    let none : (changes_of old).listed.calls ≡ 0 = ap (λ (p : ChangePlan). p.listed.calls) fresh in
+    let past = stops_after stop old new (never_fails old fresh (reads ∙ ap new_plan no_read_faults)) stopping same in (
+      subst (λ (n : ℕ). FailsPast new (Some n)) (omega (arith, none)) past,
+      ap (λ (p : ChangePlan). p.listed.calls) stopping ∙ none,
+    )

@@ -29,7 +29,7 @@ pub chosen_true : {A : Type 0} (b : Bool) (x y : A) → b ≡ true → cond b x 
 chosen_true true x y e = refl
 chosen_true false x y e = absurd (cc)
 
-chosen_false : {A : Type 0} (b : Bool) (x y : A) → b ≡ false → cond b x y ≡ y
+pub chosen_false : {A : Type 0} (b : Bool) (x y : A) → b ≡ false → cond b x y ≡ y
 chosen_false true x y e = absurd (cc)
 chosen_false false x y e = refl
 

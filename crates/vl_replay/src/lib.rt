@@ -9,11 +9,11 @@ mod input;
 mod refusing;
 mod replayer;
 mod running;
-// mod trying;
+mod trying;
 
 pub use ending::{Ended, Ending, NO_MEMORY, USAGE, finish};
 pub use fails::{Halt, Refusal};
 pub use replayer::{MAX_OPEN, Replayer, drops_free_names, reads_are_noted, writes_are_read_back};
 pub use running::replay;
-// pub use trying::trial;
+pub use trying::trial;
 pub use vl_recover::{OpenFail, Why};

@@ -1,0 +1,32 @@
+use Rattle.std.proofs.Common.{◌≡◌, arith, true, false, sym, ◌∙◌}
+use Rattle.vl_replay.specs.Runs.{outside}
+use Rattle.vl_replay.specs.Trial.{begun}
+use Rattle.vl_replay.specs.Trying.{trial_of}
+use Rattle.vl_replay.proofs.Reopening.{memory_line}
+use Rattle.vl_replay.proofs.TrialEnds.{comes_nowhere, stopped_opening, stops_by_fault, stops_by_memory}
+use Rattle.vl_replay.proofs.TrialRun.{comes}
+use Rattle.vl_replay.proofs.trying.run_to_stop.Goals as goal
+
+not_both : true ≡ false → ⊥
+not_both e = cc
+
+pub returns-in-Ok-clause-comes : goal.returns-in-Ok-clause-comes
+returns-in-Ok-clause-comes g c input told =
+    let still = c.answer_lines.ensures.still_told input told in
+    comes c.args.stop (omega (arith, c.ranges.stop.fits)) input c.in-Ok.replayer.store
+    (outside g.S.Source g.K.Sink c.args.source.now c.args.sink.now c.in-Ok.replayer.disk)
+    (outside g.S.Source g.K.Sink c.answer_lines.new.source c.answer_lines.new.sink c.answer_lines.result.disk)
+    c.in-Ok.ensures.opened c.answer_lines.result.ending (c.answer_lines.ensures.runs begun input c.in-Ok.ensures.opened.stands told)
+    c.answer_lines.ensures.as_meant c.answer_lines.ensures.disk_faults still.0 still.1
+
+pub returns-then-is_fault-clause-comes : goal.returns-then-is_fault-clause-comes
+returns-then-is_fault-clause-comes g c input told =
+    let stops = stops_by_fault c.args.stop c.in-Err.field-0.disk c.in-Err.field-0.why (c.is_fault.ensures.0 c.if-is_fault.true) c.in-Err.ensures.stopped in
+    stopped_opening c.args.stop input c.in-Err.field-0.disk _ _ stops.0 stops.1 input told
+
+pub returns-else-is_fault-clause-comes : goal.returns-else-is_fault-clause-comes
+returns-else-is_fault-clause-comes g c input told =
+    comes_nowhere g.K.Sink c.args.sink.now c.end_unopened-ending.new.sink c.end_unopened-ending.result
+    (memory_line g.K.Sink c.args.sink.now c.end_unopened-ending.new.sink c.in-Err.field-0.why c.end_unopened-ending.result c.end_unopened-ending.ensures
+    (stops_by_memory c.args.stop c.in-Err.field-0.disk c.in-Err.field-0.why (λ by. not_both (sym (c.is_fault.ensures.1 by) ∙ c.if-is_fault.false)) c.in-Err.ensures.stopped))
+    (trial_of c.args.stop input) _ c.in-Err.field-0.disk
