@@ -9,7 +9,7 @@ use Rattle.vl_frame.specs.declared.kinds.FrameKind.TheVariants as kinds
 use Rattle.vl_model.specs.declared.entry.Entry.{Entry}
 use Rattle.vl_block.specs.Blocks.{SpellsBlock}
 use Rattle.vl_block.specs.declared.index.BlockPlace.{BlockPlace}
-use Rattle.vl_table.specs.Opening.{FrameAt}
+use Rattle.vl_part.specs.Begun.{FrameAt}
 use Rattle.vl_table.specs.declared.block_buffer.BlockBuffer.{BlockBuffer}
 
 -- a block of so many bytes stands at the place, with these entries

@@ -4,9 +4,10 @@ use Rattle.std.proofs.Common.{subst, ◌∙◌}
 use Rattle.vl_block.specs.Footer.{Foot, foot_of}
 use Rattle.vl_block.specs.declared.footer.Footer.{Footer}
 use Rattle.vl_block.specs.declared.index.BlockPlace.{BlockPlace}
-use Rattle.vl_table.specs.Answers.{Answers, and_then, fails}
-use Rattle.vl_table.specs.Opening.{IsBegun, IsDamaged, IsInside, IsRead, StandsFooter, StandsIndex, no_footer, no_index, said_place}
-use Rattle.vl_table.specs.declared.fault.TableFault.{TableFault}
+use Rattle.vl_part.specs.Answers.{Answers, and_then, fails}
+use Rattle.vl_part.specs.Begun.{IsBegun, IsInside, said_place}
+use Rattle.vl_table.specs.Opening.{IsDamaged, IsRead, StandsFooter, StandsIndex, no_footer, no_index}
+use Rattle.vl_part.specs.declared.fault.TableFault.{TableFault}
 
 -- what each stage reads, and its damage
 abbrev pub NoHeader : ℕ → List ℕ → ℕ → Type 0

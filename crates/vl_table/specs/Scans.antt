@@ -7,7 +7,7 @@ use Rattle.vl_run.specs.Lookup.{if_of_key, is_ahead}
 use Rattle.vl_run.specs.Places.{first_failing}
 use Rattle.vl_block.specs.Blocks.{entries}
 use Rattle.vl_list.specs.ListLaws.{Behind}
-use Rattle.vl_table.specs.Lookups.{first_failing-append, none_failing, or_else}
+use Rattle.vl_run.specs.LookupLaws.{first_failing-append, none_failing, or_else}
 use Rattle.vl_table.specs.declared.scanning.Scan.{Scan}
 use Rattle.vl_table.specs.declared.scanning.Scan.TheVariants as scans
 

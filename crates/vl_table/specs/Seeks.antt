@@ -7,25 +7,27 @@ use Rattle.vl_frame.specs.Laws.{length-frame_bytes, one_frame}
 use Rattle.vl_frame.specs.declared.kinds.FileKind.TheVariants as files
 use Rattle.vl_frame.specs.declared.kinds.FrameKind.TheVariants as kinds
 use Rattle.vl_model.specs.declared.entry.Entry.{Entry}
-use Rattle.vl_layout.specs.Tables.{blocks}
+use Rattle.vl_block.specs.Cutting.{blocks}
 use Rattle.vl_run.specs.Lookup.{if_of_key, is_ahead}
 use Rattle.vl_run.specs.Places.{IsParted, first_failing}
 use Rattle.vl_block.specs.Blocks.{IsBlock, SpellsBlock, block_body}
 use Rattle.vl_block.specs.BlockLaws.{one_block}
 use Rattle.vl_block.specs.declared.index.BlockPlace.{BlockPlace}
 use Rattle.std.specs.Prelude.{Result, Ok, Err}
-use Rattle.vl_layout.specs.TableLaws.{blocks-whole, joined}
+use Rattle.vl_block.specs.CuttingLaws.{blocks-whole, joined, blocks-some}
 use Rattle.vl_run.specs.Order.{IsInOrder}
 use Rattle.vl_run.specs.OrderLaws.{rising}
-use Rattle.vl_table.specs.Answers.{Answers, and_then, fails, gives, no_room}
-use Rattle.vl_table.specs.declared.fault.TableFault.{TableFault}
-use Rattle.vl_table.specs.declared.fault.TableFault.TheVariants.{NoMemory}
+use Rattle.vl_part.specs.Answers.{Answers, and_then, fails, gives, no_room}
+use Rattle.vl_part.specs.declared.fault.TableFault.{TableFault}
+use Rattle.vl_part.specs.declared.fault.TableFault.TheVariants.{NoMemory}
 use Rattle.vl_table.specs.Buffers.{IsKept, HasBlock, NoBlock, StandsBlock}
-use Rattle.vl_table.specs.Bytes.{table_bytes}
-use Rattle.vl_table.specs.Lengths.{length-block}
-use Rattle.vl_table.specs.Lookups.{blocks-some, first-skipped, first_over, index-parted, is_below, or_else}
-use Rattle.vl_table.specs.Opened.{IsOf, IsTable}
-use Rattle.vl_table.specs.Places.{BlockAt, block_at, block_bytes, length-block_places}
+use Rattle.vl_block.specs.Bytes.{table_bytes, IsTable}
+use Rattle.vl_block.specs.Lengths.{length-block}
+use Rattle.vl_table.specs.Lookups.{first-skipped, first_over, index-parted}
+use Rattle.vl_run.specs.LookupLaws.{is_below, or_else}
+use Rattle.vl_table.specs.Opened.{IsOf}
+use Rattle.vl_table.specs.Places.{BlockAt, block_at, block_bytes}
+use Rattle.vl_block.specs.Places.{length-block_places}
 use Rattle.vl_table.specs.declared.block_buffer.BlockBuffer.{BlockBuffer}
 use Rattle.vl_table.specs.declared.table.Table.{Table}
 

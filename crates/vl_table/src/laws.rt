@@ -1,11 +1,11 @@
 // Laws of the definitions: each is the contract of a function that does nothing.
 ghost use Rattle.std.specs.Prelude.{◌≡◌, ◌<◌, ◌^◌, ◌++◌, ◌∷◌, [], ℕ, List, length};
 ghost use Rattle.vl_model.specs.declared.entry.Entry.{Entry};
-ghost use Rattle.vl_layout.specs.Tables.{blocks, points_of, table_length, with_point};
+ghost use Rattle.vl_block.specs.Cutting.{blocks, points_of, table_length, with_point};
 ghost use Rattle.vl_block.specs.Footer.{Foot};
 ghost use Rattle.vl_block.specs.declared.index.BlockPlace.{BlockPlace};
-ghost use Rattle.vl_table.specs.Bytes.{AreTabled, block_places, foot, table_bytes};
-ghost use Rattle.vl_table.specs.Opened.{IsOf, IsTable};
+ghost use Rattle.vl_block.specs.Bytes.{AreTabled, block_places, foot, table_bytes, IsTable};
+ghost use Rattle.vl_table.specs.Opened.{IsOf};
 ghost use Rattle.vl_table.specs.Seeks.{IsBadBlock};
 ghost use Rattle.vl_table.specs.declared.table.Table.{Table};
 ghost use Rattle.vl_table.specs.Opening.{IsDamaged, IsRead};
@@ -25,21 +25,10 @@ pub fn tables_are_read_in_one_way()
         → IsRead number bytes f ps → IsDamaged number bytes place → ⊥ }
 {}
 
-/// Of lawful entries in order there is a table, where it isn't longer than four bytes can say.
-pub fn tables_have_room()
-    ensures { (number : ℕ) (es : List Entry) → number < 2 ^ 32 → AreTabled es → table_length es < 2 ^ 32
-        → IsTable number es }
-{}
-
 /// The bytes of a table are read as its footer and its blocks.
 pub fn true_tables_are_read()
     ensures { (number : ℕ) (es : List Entry) → IsTable number es
         → IsRead number (table_bytes number es) (foot es (blocks es)) (block_places 16 (blocks es)) }
-{}
-
-/// The order in which entries are noted makes no difference to the points.
-pub fn points_grow_behind()
-    ensures { (es : List Entry) (e : Entry) → points_of (es ++ e ∷ []) ≡ with_point e.body (points_of es) }
 {}
 
 /// In a true table each block stands where the index says.

@@ -1,0 +1,4 @@
+pub mod Answers
+pub mod Begun
+pub mod Headers
+pub mod Parts
