@@ -1,5 +1,5 @@
 -- Items of bodies that are read.
-use Rattle.std.specs.Prelude.{◌≡◌, ◌-◌, ◌<◌, ◌≤◌, ℕ, IsTrue, nat_lt, Option, None, Some, List, length, get_or}
+use Rattle.std.specs.Prelude.{◌-◌, ◌<◌, ◌≤◌, ℕ, IsTrue, nat_lt, Option, None, Some, List, length, get_or}
 use Rattle.std.proofs.Common.{sym, subst, arith}
 use Rattle.std.proofs.lemmas.Bool.Decides.{nat_tests}
 use Rattle.vl_list.specs.Lists.{IsNext}

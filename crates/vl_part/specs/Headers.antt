@@ -1,7 +1,7 @@
 -- A table's header is that of its first bytes.
-use Rattle.std.specs.Prelude.{ℕ, List, [], ◌++◌, take, drop}
-use Rattle.std.proofs.Common.{refl, ap, sym, ◌∙◌, append-nil, append_assoc}
-use Rattle.std.proofs.lemmas.List.{take_at, take-append-drop}
+use Rattle.std.specs.Prelude.{ℕ, List, ◌++◌, drop}
+use Rattle.std.proofs.Common.{ap, sym, ◌∙◌, append_assoc}
+use Rattle.std.proofs.lemmas.List.{take-append-drop}
 use Rattle.vl_disk.specs.DiskState.{bytes_at}
 use Rattle.vl_frame.specs.Header.{header_bytes}
 use Rattle.vl_frame.specs.declared.kinds.FileKind.TheVariants as files
@@ -18,19 +18,5 @@ header_more number bytes h = record {
     rest = h.header.rest ++ drop 16 bytes;
     spelled = sym (take-append-drop 16 bytes) ∙ ap (λ (l : List ℕ). l ++ drop 16 bytes) h.header.spelled
         ∙ append_assoc (header_bytes files.Table h.format number) h.header.rest (drop 16 bytes);
-  };
-}
-
-pub header_less : (number : ℕ) (bytes : List ℕ) → HasHeader number bytes → HasHeader number (bytes_at 0 16 bytes)
-header_less number bytes h = record {
-  format = h.format;
-  first = h.first;
-  readable = h.readable;
-  header = record {
-    format_fits = h.header.format_fits;
-    number_fits = h.header.number_fits;
-    rest = [];
-    spelled = ap (take 16) h.header.spelled ∙ take_at (header_bytes files.Table h.format number) h.header.rest 16 refl
-        ∙ sym (append-nil (header_bytes files.Table h.format number));
   };
 }

@@ -2,3 +2,4 @@ pub mod Answers
 pub mod Begun
 pub mod Headers
 pub mod Parts
+pub mod Stages

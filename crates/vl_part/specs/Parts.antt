@@ -1,10 +1,9 @@
 -- One frame of a table, cut out of its bytes.
 use Rattle.std.specs.Prelude.{◌≡◌, ◌+◌, ◌-◌, ◌≤◌, ℕ, List, [], ◌∷◌, ◌++◌, take, drop, length}
-use Rattle.std.proofs.Common.{refl, ap, sym, ◌∙◌, append-nil, length-append, arith}
+use Rattle.std.proofs.Common.{refl, ap, sym, ◌∙◌, append-nil, length-append, arith, Vec}
 use Rattle.std.proofs.lemmas.List.{take_at, take-append-drop, length-drop, length-take-le, with_items_is}
 use Rattle.std.proofs.Math.Seq.{take-length}
 use Rattle.std.specs.Vec.{with_items}
-use Rattle.std.proofs.Common.{Vec}
 use Rattle.vl_disk.specs.DiskState.{bytes_at}
 use Rattle.vl_frame.specs.Frame.{IsSpelled, check_of, frame_bytes, frame_length}
 use Rattle.vl_frame.specs.Laws.{length-frame_bytes}

@@ -1,17 +1,15 @@
 -- A look-up finds in its blocks what it would find in all entries of the table.
 use Rattle.std.proofs.Common.{◌≡◌, ℕ, suc, ◌+◌, ◌≤◌, Bool, true, false, cond, List, [], ◌∷◌, ◌++◌, length, drop, refl, ap, sym, ◌∙◌, arith, Option, None}
 use Rattle.std.specs.List.{AllByRecursion, prefix_len}
-use Rattle.vl_model.specs.Winners.{winner}
+use Rattle.vl_model.specs.Winners.{winner, exact}
 use Rattle.vl_model.specs.declared.entry.Entry.{Entry}
 use Rattle.vl_block.specs.Cutting.{block_frame_length, blocks, last_key}
 use Rattle.vl_block.specs.CuttingLaws.{blocks-whole, joined}
 use Rattle.vl_run.specs.Order.{IsInOrder}
 use Rattle.vl_run.specs.OrderLaws.{IsBefore, IsRising, rising}
-use Rattle.vl_run.specs.Lookup.{found_winner, is_ahead, if_of_key, rising-parted}
+use Rattle.vl_run.specs.Lookup.{found_winner, is_ahead, if_of_key, rising-parted, found_exact, if_exact}
 use Rattle.vl_run.specs.Places.{first_failing, IsParted}
 use Rattle.vl_block.specs.declared.index.BlockPlace.{BlockPlace}
-use Rattle.vl_model.specs.Winners.{exact}
-use Rattle.vl_run.specs.Lookup.{found_exact, if_exact}
 use Rattle.vl_block.specs.Bytes.{block_places}
 use Rattle.vl_run.specs.LookupLaws.{all-back, all-front, below-chain, first_failing-append, is_below, none_failing, or_else, rising-back, rising-front, below-ahead}
 

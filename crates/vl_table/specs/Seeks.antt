@@ -1,5 +1,5 @@
 -- A look-up, block by block.
-use Rattle.std.specs.Prelude.{◌≡◌, ◌+◌, ◌≤◌, ◌<◌, ◌^◌, ℕ, List, [], ◌∷◌, ◌++◌, length, drop, get_or, Option, Some, None}
+use Rattle.std.specs.Prelude.{◌≡◌, ◌+◌, ◌≤◌, ◌<◌, ◌^◌, ℕ, List, [], ◌∷◌, ◌++◌, length, drop, get_or, Option, Some, None, Result, Ok, Err}
 use Rattle.std.specs.List.{AllByRecursion, prefix_len}
 use Rattle.std.proofs.Common.{refl, ap, sym, subst, ◌∙◌, append_assoc, length-append, arith}
 use Rattle.std.proofs.lemmas.List.{drop_at, length-drop, take-append-drop}
@@ -13,7 +13,6 @@ use Rattle.vl_run.specs.Places.{IsParted, first_failing}
 use Rattle.vl_block.specs.Blocks.{IsBlock, SpellsBlock, block_body}
 use Rattle.vl_block.specs.BlockLaws.{one_block}
 use Rattle.vl_block.specs.declared.index.BlockPlace.{BlockPlace}
-use Rattle.std.specs.Prelude.{Result, Ok, Err}
 use Rattle.vl_block.specs.CuttingLaws.{blocks-whole, joined, blocks-some}
 use Rattle.vl_run.specs.Order.{IsInOrder}
 use Rattle.vl_run.specs.OrderLaws.{rising}

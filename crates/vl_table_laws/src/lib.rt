@@ -1,13 +1,12 @@
-//! Of which entries there is a table: the law of it. The crate has no code.
+//! What holds of tables, as laws of their definitions, and tests of tables that are written and read.
 #![tactic(auto)]
 
-ghost use Rattle.std.specs.Prelude.{◌<◌, ◌^◌, ℕ, List};
-ghost use Rattle.vl_model.specs.declared.entry.Entry.{Entry};
-ghost use Rattle.vl_block.specs.Bytes.{AreTabled, IsTable};
-ghost use Rattle.vl_block.specs.Cutting.{table_length};
+mod laws;
 
-/// Of lawful entries in order there is a table, where it isn't longer than four bytes can say.
-pub fn tables_have_room()
-    ensures { (number : ℕ) (es : List Entry) → number < 2 ^ 32 → AreTabled es → table_length es < 2 ^ 32
-        → IsTable number es }
-{}
+pub use laws::{
+    a_worked_block, bodies_are_read_in_one_way, tables_are_read_in_one_way, tables_have_room,
+    tables_have_their_length, true_tables_are_read, true_tables_have_no_bad_block,
+};
+
+#[cfg(test)]
+mod tests;

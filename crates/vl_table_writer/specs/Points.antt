@@ -1,13 +1,15 @@
 -- How a point finds its place among others, and that the order in which points are added makes no difference.
-use Rattle.std.specs.Prelude.{◌≡◌, ℕ, ◌+◌, ◌<◌, ◌≤◌, map, List, [], ◌∷◌, ◌++◌, length, get_or}
-use Rattle.std.specs.Prelude.{◌≢◌, ◌⊎◌}
+use Rattle.std.specs.Prelude.{◌≡◌, ℕ, ◌+◌, ◌<◌, ◌≤◌, map, List, [], ◌∷◌, ◌++◌, length, get_or, ◌≢◌, ◌⊎◌, Bool, true, false, nat_lt}
 use Rattle.std.proofs.lemmas.Bool.{cases_eq}
 use Rattle.std.proofs.Common.{inl, inr, ⊎_elim, refl, ap, sym, subst, ◌∙◌, append_assoc, length-append, slice_set, arith}
 use Rattle.std.proofs.lemmas.List.{length-map}
+use Rattle.std.proofs.lemmas.Bool.Decides.{nat_tests}
+use Rattle.std.specs.Ordering.{nat_cmp}
+use Rattle.std.specs.declared.cmp.Ordering.TheVariants.{Less, Equal, Greater}
+use Rattle.vl_model.specs.Entries.{by_order}
 use Rattle.vl_model.specs.declared.entry.Entry.{Entry}
 use Rattle.vl_model.specs.declared.entry.Body.{Body}
 use Rattle.vl_model.specs.declared.entry.Body.TheVariants.{Inline, Gone, Far, Logged}
-use Rattle.vl_block.specs.CuttingLaws.{pointed-above, pointed-below, pointed-same, three_ways}
 use Rattle.vl_block.specs.Cutting.{pointed, points_of, with_point}
 use Rattle.vl_block.specs.declared.laid_point.LaidPoint.{LaidPoint}
 use Rattle.vl_block.specs.declared.points.Point.{Point}
@@ -31,6 +33,37 @@ IsStop segment (p ∷ ps) = segment ≤ p.segment
 pub record Stops (segment : ℕ) (ps : List LaidPoint) (at : ℕ) : Type 0 where
   pub passes : Passes segment ps at
   pub stop : IsStop segment passes.back
+
+is_above : (m n : ℕ) → n < m → nat_cmp m n ≡ Greater
+is_above m n less = grind (arith, nat_tests)
+
+is_below : (m n : ℕ) → m < n → nat_cmp m n ≡ Less
+is_below m n less = grind (arith, nat_tests)
+
+is_same : (m n : ℕ) → m ≡ n → nat_cmp m n ≡ Equal
+is_same m n same = grind (arith, nat_tests)
+
+pub pointed-above : (segment bytes : ℕ) (p : LaidPoint) (ps : List LaidPoint) → p.segment < segment
+    → pointed segment bytes (p ∷ ps) ≡ p ∷ pointed segment bytes ps
+pointed-above segment bytes p ps less =
+    ap (λ r. by_order r (record { segment = segment; bytes = bytes } ∷ p ∷ ps) (record { segment = p.segment; bytes = p.bytes + bytes } ∷ ps) (p ∷ pointed segment bytes ps)) (is_above segment p.segment less)
+
+pub pointed-below : (segment bytes : ℕ) (p : LaidPoint) (ps : List LaidPoint) → segment < p.segment
+    → pointed segment bytes (p ∷ ps) ≡ record { segment = segment; bytes = bytes } ∷ p ∷ ps
+pointed-below segment bytes p ps less =
+    ap (λ r. by_order r (record { segment = segment; bytes = bytes } ∷ p ∷ ps) (record { segment = p.segment; bytes = p.bytes + bytes } ∷ ps) (p ∷ pointed segment bytes ps)) (is_below segment p.segment less)
+
+pub pointed-same : (segment bytes : ℕ) (p : LaidPoint) (ps : List LaidPoint) → segment ≡ p.segment
+    → pointed segment bytes (p ∷ ps) ≡ record { segment = p.segment; bytes = p.bytes + bytes } ∷ ps
+pointed-same segment bytes p ps same =
+    ap (λ r. by_order r (record { segment = segment; bytes = bytes } ∷ p ∷ ps) (record { segment = p.segment; bytes = p.bytes + bytes } ∷ ps) (p ∷ pointed segment bytes ps)) (is_same segment p.segment same)
+
+pub three_ways : (m n : ℕ) → (m < n) ⊎ ((m ≡ n) ⊎ (n < m))
+three_ways m n = ⊎_elim (λ (e : m ≡ n). inr (inl e)) (λ (o : m ≢ n). apart (nat_lt m n) refl o) (cases_eq m n)
+  where
+    apart : (t : Bool) → nat_lt m n ≡ t → m ≢ n → (m < n) ⊎ ((m ≡ n) ⊎ (n < m))
+    apart true is o = inl (grind (arith, nat_tests))
+    apart false is o = inr (inr (grind (arith, nat_tests, o)))
 
 -- the first of the points behind
 pub record Here (segment : ℕ) (points : List Point) (at : ℕ) (d : Point) (back : List LaidPoint) : Type 0 where

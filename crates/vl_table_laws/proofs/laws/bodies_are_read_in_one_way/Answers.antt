@@ -1,6 +1,6 @@
 use Rattle.vl_block.specs.BlockLaws.{one_block, one_index}
 use Rattle.vl_block.specs.FooterLaws.{one_footer}
-use Rattle.vl_block.proofs.laws.bodies_are_read_in_one_way.Goals as goal
+use Rattle.vl_table_laws.proofs.laws.bodies_are_read_in_one_way.Goals as goal
 
 pub returns-clause-block : goal.returns-clause-block
 returns-clause-block c = one_block

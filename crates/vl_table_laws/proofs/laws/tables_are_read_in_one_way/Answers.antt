@@ -1,5 +1,5 @@
 use Rattle.vl_table.specs.Opened.{not_damaged, one_read}
-use Rattle.vl_table.proofs.laws.tables_are_read_in_one_way.Goals as goal
+use Rattle.vl_table_laws.proofs.laws.tables_are_read_in_one_way.Goals as goal
 
 pub returns-clause-one : goal.returns-clause-one
 returns-clause-one c = one_read
