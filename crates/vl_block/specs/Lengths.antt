@@ -50,7 +50,8 @@ length-blocks number at (b ∷ bs) =
       sum_by-cons block_frame_length b bs,
     )
 
-length-places : (at : ℕ) (bs : List (List Entry)) → length (items_bytes places (block_places at bs)) ≡ sum_by (λ block. 14 + length (last_key block)) bs
+length-places : (at : ℕ) (bs : List (List Entry))
+    → length (items_bytes places (block_places at bs)) ≡ sum_by (λ block. 14 + length (last_key block)) bs
 length-places at [] = refl
 length-places at (b ∷ bs) =
     omega (

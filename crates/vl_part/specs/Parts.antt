@@ -16,7 +16,8 @@ nothing_left [] none = refl
 nothing_left (b ∷ rest) none = absurd (omega arith)
 
 -- a frame that fills the bytes is all of them
-pub fills : (number place : ℕ) (b : List ℕ) (kind : FrameKind) (body : List ℕ) → IsSpelled files.Table number place b kind body → length b ≡ frame_length (length body)
+pub fills : (number place : ℕ) (b : List ℕ) (kind : FrameKind) (body : List ℕ)
+    → IsSpelled files.Table number place b kind body → length b ≡ frame_length (length body)
     → b ≡ frame_bytes number place kind body
 fills number place b kind body s sized =
     let frame = frame_bytes number place kind body in
@@ -24,7 +25,8 @@ fills number place b kind body s sized =
     s.spelled ∙ ap (λ (r : List ℕ). frame ++ r) (nothing_left s.rest none) ∙ append-nil frame
 
 -- what was cut out is a frame, so it stands there
-pub stands : (number place size : ℕ) (kind : FrameKind) (bytes b body : List ℕ) → b ≡ bytes_at place size bytes → IsSpelled files.Table number place b kind body
+pub stands : (number place size : ℕ) (kind : FrameKind) (bytes b body : List ℕ) → b ≡ bytes_at place size bytes
+    → IsSpelled files.Table number place b kind body
     → length b ≡ frame_length (length body) → size ≡ length b → FrameAt number bytes place size kind body
 stands number place size kind bytes b body cut s sized filled = record {
   frame = record {
@@ -43,7 +45,8 @@ cut_out number place size kind bytes body at =
     let frame = frame_bytes number place kind body in
     ap (take size) at.frame.spelled ∙ take_at frame at.frame.rest size (omega (arith, at.sized, length-frame_bytes number place kind body))
 
-pub spelled_of : (number place size : ℕ) (kind : FrameKind) (bytes b body : List ℕ) → b ≡ bytes_at place size bytes → FrameAt number bytes place size kind body
+pub spelled_of : (number place size : ℕ) (kind : FrameKind) (bytes b body : List ℕ) → b ≡ bytes_at place size bytes
+    → FrameAt number bytes place size kind body
     → IsSpelled files.Table number place b kind body × (length b ≡ frame_length (length body))
 spelled_of number place size kind bytes b body cut at =
     let frame = frame_bytes number place kind body in
@@ -53,7 +56,8 @@ spelled_of number place size kind bytes b body cut at =
     )
 
 -- and lies inside the file
-pub lies_inside : (number place size : ℕ) (kind : FrameKind) (bytes body : List ℕ) → FrameAt number bytes place size kind body → place + size ≤ length bytes
+pub lies_inside : (number place size : ℕ) (kind : FrameKind) (bytes body : List ℕ)
+    → FrameAt number bytes place size kind body → place + size ≤ length bytes
 lies_inside number place size kind bytes body at =
     let frame = frame_bytes number place kind body in
     omega (arith, at.sized, ap length at.frame.spelled, length-append frame at.frame.rest, length-frame_bytes number place kind body, length-drop place bytes)
@@ -69,7 +73,8 @@ pub length-cut : (place size : ℕ) (bytes : List ℕ) → place + size ≤ leng
 length-cut place size bytes inside = length-take-le size (drop place bytes) (omega (arith, inside, length-drop place bytes))
 
 -- what was read into a buffer
-pub cut_from : {Z : Type 0} (place size : ℕ) (bytes : List ℕ) (v : Vec ℕ Z) (read : List ℕ) (n : ℕ) → read ≡ bytes_at place n bytes → n ≡ size → n ≡ v.len → place + size ≤ length bytes
+pub cut_from : {Z : Type 0} (place size : ℕ) (bytes : List ℕ) (v : Vec ℕ Z) (read : List ℕ) (n : ℕ)
+    → read ≡ bytes_at place n bytes → n ≡ size → n ≡ v.len → place + size ≤ length bytes
     → (with_items v read).items ≡ bytes_at place size bytes
 cut_from place size bytes v read n is sized filled inside =
     let same : read ≡ bytes_at place size bytes = is ∙ ap (λ (k : ℕ). bytes_at place k bytes) sized in

@@ -67,7 +67,8 @@ last-lawful [] some each = absurd (omega arith)
 last-lawful (e ∷ []) some each = each.0.key
 last-lawful (e ∷ f ∷ fs) some each = last-lawful (f ∷ fs) (omega arith) each.1
 
-lawful-places : (at : ℕ) (bs : List (List Entry)) → AllByRecursion (λ b. 1 ≤ length b) bs → AllByRecursion IsEntry (joined bs) → at + sum_by block_frame_length bs < 2 ^ 32
+lawful-places : (at : ℕ) (bs : List (List Entry)) → AllByRecursion (λ b. 1 ≤ length b) bs
+    → AllByRecursion IsEntry (joined bs) → at + sum_by block_frame_length bs < 2 ^ 32
     → AllByRecursion IsPlace (block_places at bs)
 lawful-places at [] some each small = tt
 lawful-places at (b ∷ bs) some each small = (
@@ -128,7 +129,8 @@ module _ (n segment bytes : ℕ) (fits : segment < 2 ^ 32) (few : bytes < 2 ^ 32
       (three_ways segment p.segment)
 
   -- the first of them lies behind what lay in front of the others
-  front : (d : LaidPoint) (ps : List LaidPoint) → d.segment < segment → IsInFront points (said d) (map said ps) → IsInFront points (said d) (map said (pointed segment bytes ps))
+  front : (d : LaidPoint) (ps : List LaidPoint) → d.segment < segment → IsInFront points (said d) (map said ps)
+      → IsInFront points (said d) (map said (pointed segment bytes ps))
   front d [] less before = less
   front d (p ∷ ps) less before =
       let P = λ (l : List LaidPoint). IsInFront points (said d) (map said l) in
@@ -137,7 +139,8 @@ module _ (n segment bytes : ℕ) (fits : segment < 2 ^ 32) (few : bytes < 2 ^ 32
       (λ (above : p.segment < segment). subst P (sym (pointed-above segment bytes p ps above)) before))
       (three_ways segment p.segment)
 
-  merged-front : (p : LaidPoint) (sum : ℕ) (ps : List LaidPoint) → IsInFront points (said p) (map said ps) → IsInFront points (said (record { segment = p.segment; bytes = sum })) (map said ps)
+  merged-front : (p : LaidPoint) (sum : ℕ) (ps : List LaidPoint) → IsInFront points (said p) (map said ps)
+      → IsInFront points (said (record { segment = p.segment; bytes = sum })) (map said ps)
   merged-front p sum [] before = tt
   merged-front p sum (q ∷ ps) before = before
 
@@ -167,7 +170,9 @@ points-sums (e ∷ es) each = subst (λ (n : ℕ). AreSums n (points_of (e ∷ e
     one_more : (n : ℕ) → n + 1 ≡ suc n
     one_more n = omega arith
 
-fitting : (n : ℕ) (ps : List LaidPoint) → n < 2 ^ 32 → AllByRecursion (λ (p : LaidPoint). (p.segment < 2 ^ 32) × (p.bytes ≤ n * 4294967296)) ps → AllByRecursion IsPoint (map said ps)
+fitting : (n : ℕ) (ps : List LaidPoint) → n < 2 ^ 32
+    → AllByRecursion (λ (p : LaidPoint). (p.segment < 2 ^ 32) × (p.bytes ≤ n * 4294967296)) ps
+    → AllByRecursion IsPoint (map said ps)
 fitting n [] small each = tt
 fitting n (p ∷ ps) small each = (record { segment = each.0.0; bytes = omega (arith, small, each.0.1) }, fitting n ps small each.1)
 

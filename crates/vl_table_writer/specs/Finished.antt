@@ -24,7 +24,9 @@ three_pieces out one two three a b c first second third =
     ∙ append_assoc (out ++ a) b c ∙ append_assoc out a (b ++ c)
 
 -- The last block, the index and the footer complete the table's bytes.
-pub finishes : (w : TableWriter) (v : BlocksWriter) (number : ℕ) (es : List Entry) (given out one two three : List ℕ) (size : ℕ) (footer : Footer) → (is : IsWriting w number es given)
+pub finishes : (w : TableWriter) (v : BlocksWriter) (number : ℕ) (es : List Entry) (given out one two three : List ℕ)
+    (size : ℕ) (footer : Footer)
+    → (is : IsWriting w number es given)
     → HasBlocks v (is.closed ++ is.open_block ∷ []) [] → v.number ≡ w.blocks.number
     → one ≡ out ++ frame_bytes w.blocks.number w.blocks.place kinds.Block (block_body is.open_block)
     → two ≡ one ++ frame_bytes v.number v.place kinds.Index (index_body v.closed.items)

@@ -72,11 +72,13 @@ pub record Here (segment : ℕ) (points : List Point) (at : ℕ) (d : Point) (ba
   pub is : back ≡ point ∷ rest
   pub found : get_or points at d ≡ said point
 
-get-behind : (front : List LaidPoint) (p : LaidPoint) (rest : List LaidPoint) (d : Point) → get_or (map said (front ++ p ∷ rest)) (length front) d ≡ said p
+get-behind : (front : List LaidPoint) (p : LaidPoint) (rest : List LaidPoint) (d : Point)
+    → get_or (map said (front ++ p ∷ rest)) (length front) d ≡ said p
 get-behind [] p rest d = refl
 get-behind (q ∷ front) p rest d = get-behind front p rest d
 
-here_of : (segment : ℕ) (points : List Point) (at : ℕ) (d : Point) (front back : List LaidPoint) → points ≡ map said (front ++ back) → length front ≡ at → at < length points
+here_of : (segment : ℕ) (points : List Point) (at : ℕ) (d : Point) (front back : List LaidPoint)
+    → points ≡ map said (front ++ back) → length front ≡ at → at < length points
     → Here segment points at d back
 here_of segment points at d front [] is counted within = absurd (omega (arith, ap length is, length-map (front ++ []) said, length-append front [], counted))
 here_of segment points at d front (p ∷ rest) is counted within = record {
@@ -86,11 +88,13 @@ here_of segment points at d front (p ∷ rest) is counted within = record {
   found = ap (λ l. get_or l at d) is ∙ ap (λ n. get_or (map said (front ++ p ∷ rest)) n d) (sym counted) ∙ get-behind front p rest d;
 }
 
-pub point_here : (segment : ℕ) (points : List Point) (at : ℕ) (d : Point) (ps : List LaidPoint) → points ≡ map said ps → (passes : Passes segment ps at) → at < length points
+pub point_here : (segment : ℕ) (points : List Point) (at : ℕ) (d : Point) (ps : List LaidPoint) → points ≡ map said ps
+    → (passes : Passes segment ps at) → at < length points
     → Here segment points at d passes.back
 point_here segment points at d ps is passes within = here_of segment points at d passes.front passes.back (is ∙ ap (map said) passes.split) passes.counted within
 
-pub pass_one : (segment : ℕ) (points : List Point) (at : ℕ) (d : Point) (ps : List LaidPoint) → points ≡ map said ps → Passes segment ps at → at < length points
+pub pass_one : (segment : ℕ) (points : List Point) (at : ℕ) (d : Point) (ps : List LaidPoint) → points ≡ map said ps
+    → Passes segment ps at → at < length points
     → (get_or points at d).segment < segment → Passes segment ps (at + 1)
 pass_one segment points at d ps is passes within less =
     let here = point_here segment points at d ps is passes within in
@@ -106,7 +110,8 @@ pass_one segment points at d ps is passes within less =
           ∙ sym (append_assoc passes.front (p ∷ []) (pointed segment bytes here.rest));
     }
 
-pub stops_here : (segment : ℕ) (points : List Point) (at : ℕ) (d : Point) (ps : List LaidPoint) → points ≡ map said ps → Passes segment ps at → at < length points
+pub stops_here : (segment : ℕ) (points : List Point) (at : ℕ) (d : Point) (ps : List LaidPoint) → points ≡ map said ps
+    → Passes segment ps at → at < length points
     → segment ≤ (get_or points at d).segment → Stops segment ps at
 stops_here segment points at d ps is passes within le =
     let here = point_here segment points at d ps is passes within in
@@ -119,19 +124,22 @@ none_behind : (segment : ℕ) (back : List LaidPoint) → length back ≡ 0 → 
 none_behind segment [] none = tt
 none_behind segment (p ∷ back) none = absurd (omega arith)
 
-pub stops_end : (segment : ℕ) (points : List Point) (at : ℕ) (ps : List LaidPoint) → points ≡ map said ps → Passes segment ps at → length points ≤ at
+pub stops_end : (segment : ℕ) (points : List Point) (at : ℕ) (ps : List LaidPoint) → points ≡ map said ps
+    → Passes segment ps at → length points ≤ at
     → Stops segment ps at
 stops_end segment points at ps is passes past = record {
   passes = passes;
   stop = none_behind segment passes.back (omega (arith, ap length is, length-map ps said, ap length passes.split, length-append passes.front passes.back, passes.counted));
 }
 
-set-behind : (front : List LaidPoint) (p q : LaidPoint) (rest : List LaidPoint) → slice_set (map said (front ++ p ∷ rest)) (length front) (said q) ≡ map said (front ++ q ∷ rest)
+set-behind : (front : List LaidPoint) (p q : LaidPoint) (rest : List LaidPoint)
+    → slice_set (map said (front ++ p ∷ rest)) (length front) (said q) ≡ map said (front ++ q ∷ rest)
 set-behind [] p q rest = refl
 set-behind (r ∷ front) p q rest = ap (λ l. said r ∷ l) (set-behind front p q rest)
 
 -- bytes are added to a point that is there
-pub adds_to : (segment bytes : ℕ) (points : List Point) (at : ℕ) (x y : Point) (ps : List LaidPoint) → points ≡ map said ps → Stops segment ps at → at < length points
+pub adds_to : (segment bytes : ℕ) (points : List Point) (at : ℕ) (x y : Point) (ps : List LaidPoint)
+    → points ≡ map said ps → Stops segment ps at → at < length points
     → x ≡ get_or points at x → y ≡ get_or points at y → y.segment ≡ segment
     → slice_set points at (record { segment = x.segment; bytes = x.bytes + bytes }) ≡ map said (pointed segment bytes ps)
 adds_to segment bytes points at x y ps is stops within x_is y_is same =

@@ -27,7 +27,8 @@ pub greatest-push : (es : List Entry) (e : Entry) → greatest_version (es ++ e 
 greatest-push [] e = omega arith
 greatest-push (d ∷ es) e = omega (arith, greatest-push es e)
 
-pub sum-push : (closed : List (List Entry)) (b : List Entry) → sum_by block_frame_length (closed ++ b ∷ []) ≡ sum_by block_frame_length closed + block_frame_length b
+pub sum-push : (closed : List (List Entry)) (b : List Entry)
+    → sum_by block_frame_length (closed ++ b ∷ []) ≡ sum_by block_frame_length closed + block_frame_length b
 sum-push [] b = omega (arith, sum_by-cons block_frame_length b [])
 sum-push (a ∷ closed) b =
     omega (arith, sum_by-cons block_frame_length a (closed ++ b ∷ []), sum_by-cons block_frame_length a closed, sum-push closed b)
@@ -45,22 +46,26 @@ pub first_key-push : (es : List Entry) (e : Entry) → 1 ≤ length es → first
 first_key-push [] e some = absurd (omega arith)
 first_key-push (d ∷ es) e some = refl
 
-pub places_alike : (ps : List BlockPlace) (place other_place size other_size : ℕ) (last other_last : List ℕ) → place ≡ other_place → size ≡ other_size → last ≡ other_last
+pub places_alike : (ps : List BlockPlace) (place other_place size other_size : ℕ) (last other_last : List ℕ)
+    → place ≡ other_place → size ≡ other_size → last ≡ other_last
     → ps ++ record { place = place; length = size; last = last } ∷ [] ≡ ps ++ record { place = other_place; length = other_size; last = other_last } ∷ []
 places_alike ps place other_place size other_size last other_last a b c = λ k. ps ++ record { place = a k; length = b k; last = c k } ∷ []
 
 -- ---- a table that grows
 
 -- the frame of the block that is closed stands behind the others
-pub closed_frame : (number : ℕ) (closed : List (List Entry)) (b : List Entry) (said place : ℕ) (frame : List ℕ) → said ≡ number → place ≡ 16 + sum_by block_frame_length closed
-    → frame ≡ frame_bytes said place kinds.Block (block_body b) → blocks_bytes number 16 closed ++ frame ≡ blocks_bytes number 16 (closed ++ b ∷ [])
+pub closed_frame : (number : ℕ) (closed : List (List Entry)) (b : List Entry) (said place : ℕ) (frame : List ℕ)
+    → said ≡ number → place ≡ 16 + sum_by block_frame_length closed
+    → frame ≡ frame_bytes said place kinds.Block (block_body b)
+    → blocks_bytes number 16 closed ++ frame ≡ blocks_bytes number 16 (closed ++ b ∷ [])
 closed_frame number closed b said place frame numbered at written =
     ap (λ (l : List ℕ). blocks_bytes number 16 closed ++ l)
     (written ∙ ap (λ (n : ℕ). frame_bytes n place kinds.Block (block_body b)) numbered ∙ ap (λ (n : ℕ). frame_bytes number n kinds.Block (block_body b)) at
     ∙ sym (append-nil (frame_bytes number (16 + sum_by block_frame_length closed) kinds.Block (block_body b))))
     ∙ sym (blocks-split number 16 closed b [])
 
-pub begins : (w : TableWriter) (number : ℕ) (e : Entry) → w.blocks.number ≡ number → HasBlocks w.blocks [] (e ∷ []) → Sums w.summary (e ∷ []) → IsEntry e
+pub begins : (w : TableWriter) (number : ℕ) (e : Entry) → w.blocks.number ≡ number → HasBlocks w.blocks [] (e ∷ [])
+    → Sums w.summary (e ∷ []) → IsEntry e
     → IsWriting w number (e ∷ []) (table_header number)
 begins w number e numbered has sums lawful = record {
   some = omega arith;
@@ -86,7 +91,8 @@ not_chosen : (b : Bool) (x y : List (List Entry)) → b ≡ false → (if b then
 not_chosen true x y is = absurd cc
 not_chosen false x y is = refl
 
-body-push : (open_block : List Entry) (e : Entry) → length (block_body open_block) + entry_length e ≡ length (block_body (open_block ++ e ∷ []))
+body-push : (open_block : List Entry) (e : Entry)
+    → length (block_body open_block) + entry_length e ≡ length (block_body (open_block ++ e ∷ []))
 body-push open_block e = omega (arith, length-block_body open_block, length-block_body (open_block ++ e ∷ []), entries-push open_block e)
   where
     entries-push : (es : List Entry) (e : Entry) → sum_by entry_length (es ++ e ∷ []) ≡ sum_by entry_length es + entry_length e
@@ -143,7 +149,8 @@ closes w v number es given frame e is full has numbered summary written = record
 
 -- one entry more
 pub adds : (w v : TableWriter) (number : ℕ) (es : List Entry) (given : List ℕ) (e : Entry) → (room : HasRoom w number es given e)
-    → HasBlocks v.blocks room.closed (room.open_block ++ e ∷ []) → v.blocks.number ≡ w.blocks.number → Sums v.summary (es ++ e ∷ []) → IsEntry e
+    → HasBlocks v.blocks room.closed (room.open_block ++ e ∷ []) → v.blocks.number ≡ w.blocks.number
+    → Sums v.summary (es ++ e ∷ []) → IsEntry e
     → IsWriting v number (es ++ e ∷ []) given
 adds w v number es given e room has numbered sums lawful = record {
   some = omega (arith, length-append es (e ∷ []));
