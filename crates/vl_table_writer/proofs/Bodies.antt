@@ -1,5 +1,5 @@
 -- Bodies that are written.
-use Rattle.std.specs.Prelude.{◌≡◌, ◌+◌, ◌<◌, ℕ, suc, List, [], ◌∷◌, ◌++◌, length, drop, get_or}
+use Rattle.std.specs.Prelude.{◌≡◌, ◌+◌, ◌<◌, ℕ, suc, List, [], ◌∷◌, ◌++◌, length, take, drop, get_or}
 use Rattle.std.proofs.Math.Seq.{drop-cons}
 use Rattle.std.proofs.Common.{sym, ap, ◌∙◌, append_assoc, length-append, arith}
 use Rattle.byteorder.specs.Endian.{big_bytes}
@@ -9,14 +9,17 @@ use Rattle.vl_block.specs.Entries.{entry_bytes}
 use Rattle.vl_list.specs.ListLaws.{items_bytes-push}
 use Rattle.vl_list.specs.Lists.{Spelling, items_bytes}
 
-pub body_added : (n : ℕ) (es : List Entry) (e : Entry) (old with_entry new : List ℕ) → n ≡ length es → old ≡ block_body es
-    → with_entry ≡ old ++ entry_bytes e → new ≡ big_bytes 4 (n + 1) ++ drop 4 with_entry → new ≡ block_body (es ++ e ∷ [])
+pub body_added : (n : ℕ) (es : List Entry) (e : Entry) (old with_entry new : List ℕ) → n ≡ length es → old ≡ 0 ∷ 0 ∷ 0 ∷ 0 ∷ 0 ∷ block_body es
+    → with_entry ≡ old ++ entry_bytes e → new ≡ take 5 with_entry ++ (big_bytes 4 (n + 1) ++ drop 9 with_entry)
+    → new ≡ 0 ∷ 0 ∷ 0 ∷ 0 ∷ 0 ∷ block_body (es ++ e ∷ [])
 body_added n es e old with_entry new counted is added counts =
-    let whole : with_entry ≡ big_bytes 4 (length es) ++ (items_bytes entries es ++ entry_bytes e) =
+    let whole : with_entry ≡ 0 ∷ 0 ∷ 0 ∷ 0 ∷ 0 ∷ (big_bytes 4 (length es) ++ (items_bytes entries es ++ entry_bytes e)) =
     added ∙ ap (λ (l : List ℕ). l ++ entry_bytes e) is in
-    let behind : drop 4 with_entry ≡ items_bytes entries (es ++ e ∷ []) = ap (drop 4) whole ∙ sym (items_bytes-push entries es e) in
+    let behind : drop 9 with_entry ≡ items_bytes entries (es ++ e ∷ []) = ap (drop 9) whole ∙ sym (items_bytes-push entries es e) in
     let count : n + 1 ≡ length (es ++ e ∷ []) = omega (arith, counted, length-append es (e ∷ [])) in
-    counts ∙ ap (λ (l : List ℕ). big_bytes 4 (n + 1) ++ l) behind ∙ ap (λ (m : ℕ). big_bytes 4 m ++ items_bytes entries (es ++ e ∷ [])) count
+    counts ∙ ap (λ (l : List ℕ). take 5 l ++ (big_bytes 4 (n + 1) ++ drop 9 with_entry)) whole
+    ∙ ap (λ (l : List ℕ). 0 ∷ 0 ∷ 0 ∷ 0 ∷ 0 ∷ (big_bytes 4 (n + 1) ++ l)) behind
+    ∙ ap (λ (m : ℕ). 0 ∷ 0 ∷ 0 ∷ 0 ∷ 0 ∷ (big_bytes 4 m ++ items_bytes entries (es ++ e ∷ []))) count
 
 pub three_behind : (old one two a b c : List ℕ) → one ≡ old ++ a → two ≡ one ++ b → two ++ c ≡ old ++ (a ++ (b ++ c))
 three_behind old one two a b c first second =
@@ -40,10 +43,10 @@ writes_one S items i a d old new all within is written so_far =
     ∙ ap (λ l. old ++ items_bytes S l) (sym (drop_at items i a d within is)) ∙ so_far
 
 -- a count written over the old one leaves the length
-pub body_length : (es : List Entry) (e : Entry) (old with_entry new : List ℕ) (n : ℕ) → old ≡ block_body es
-    → with_entry ≡ old ++ entry_bytes e → new ≡ big_bytes 4 n ++ drop 4 with_entry → length new ≡ length with_entry
+pub body_length : (es : List Entry) (e : Entry) (old with_entry new : List ℕ) (n : ℕ) → old ≡ 0 ∷ 0 ∷ 0 ∷ 0 ∷ 0 ∷ block_body es
+    → with_entry ≡ old ++ entry_bytes e → new ≡ take 5 with_entry ++ (big_bytes 4 n ++ drop 9 with_entry) → length new ≡ length with_entry
 body_length es e old with_entry new n is added counts =
-    ap length (counts ∙ ap (λ (l : List ℕ). big_bytes 4 n ++ drop 4 l) whole) ∙ sym (ap length whole)
+    ap length (counts ∙ ap (λ (l : List ℕ). take 5 l ++ (big_bytes 4 n ++ drop 9 l)) whole) ∙ sym (ap length whole)
   where
-    whole : with_entry ≡ big_bytes 4 (length es) ++ (items_bytes entries es ++ entry_bytes e)
+    whole : with_entry ≡ 0 ∷ 0 ∷ 0 ∷ 0 ∷ 0 ∷ (big_bytes 4 (length es) ++ (items_bytes entries es ++ entry_bytes e))
     whole = added ∙ ap (λ (l : List ℕ). l ++ entry_bytes e) is

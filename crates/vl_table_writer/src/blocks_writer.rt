@@ -10,7 +10,7 @@ ghost use Rattle.vl_table_writer.specs.Writing.{HasBlocks};
 use crate::block_writer::BlockWriter;
 use std::alloc::{AllocError, Global};
 use vl_block::BlockPlace;
-use vl_frame::{FRAME_BYTES, FrameKind, HEADER_BYTES, write_frame};
+use vl_frame::HEADER_BYTES;
 use vl_model::{Body, Entry, Key, is_key_len};
 
 // A block's body has at most so many bytes, or one entry.
@@ -66,19 +66,16 @@ impl BlocksWriter {
             → OnOk result (out.new.items ≡ out.old.items
             ++ frame_bytes self.old.number self.old.place kinds.Block (block_body open_block)) }
     {
-        let body = self.written.as_slice();
-        write_frame(out, self.number, self.place, FrameKind::Block, body)?;
-        let length = body.len() + FRAME_BYTES;
+        let length = self.written.append_frame(out, self.number, self.place)?;
         if self.place > u64::MAX - length as u64 {
             return Err(AllocError);
         }
         self.closed.push(BlockPlace {
             place: self.place,
-            length: length as u32,
+            length,
             last: last.share()?,
         })?;
         self.place += length as u64;
-        self.written.clear();
         Ok(())
     }
 }

@@ -20,7 +20,8 @@ use vl_model::Entry;
 use vl_part::TABLE_FORMAT;
 
 /// A table that is written: its entries come in order, and its bytes are given out piece by piece. It holds one block at a
-/// time, the places of the others, and what the footer will say. Where a call fails, give it up.
+/// time, the places of the others, and what the footer will say. Where nothing stands in `out`, a block goes there as it was
+/// built, and isn't copied. Where a call fails, give it up.
 #[derive(Drop)]
 pub struct TableWriter {
     blocks: BlocksWriter,
