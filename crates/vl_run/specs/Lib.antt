@@ -5,4 +5,5 @@ pub mod LookupLaws
 pub mod Merged
 pub mod Order
 pub mod OrderLaws
+pub mod PartLaws
 pub mod Places

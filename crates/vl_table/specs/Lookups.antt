@@ -1,5 +1,5 @@
 -- A look-up finds in its blocks what it would find in all entries of the table.
-use Rattle.std.proofs.Common.{◌≡◌, ℕ, suc, ◌+◌, ◌≤◌, Bool, true, false, cond, List, [], ◌∷◌, ◌++◌, length, drop, refl, ap, sym, ◌∙◌, arith, Option, None}
+use Rattle.std.proofs.Common.{◌≡◌, ℕ, suc, ◌+◌, ◌≤◌, Bool, true, false, cond, List, [], ◌∷◌, ◌++◌, length, drop, refl, ap, sym, ◌∙◌, arith, Option}
 use Rattle.std.specs.List.{AllByRecursion, prefix_len}
 use Rattle.vl_model.specs.Winners.{winner, exact}
 use Rattle.vl_model.specs.declared.entry.Entry.{Entry}
@@ -11,6 +11,7 @@ use Rattle.vl_run.specs.Lookup.{found_winner, is_ahead, if_of_key, rising-parted
 use Rattle.vl_run.specs.Places.{first_failing, IsParted}
 use Rattle.vl_block.specs.declared.index.BlockPlace.{BlockPlace}
 use Rattle.vl_block.specs.Bytes.{block_places}
+use Rattle.vl_run.specs.PartLaws.{first_over}
 use Rattle.vl_run.specs.LookupLaws.{all-back, all-front, below-chain, first_failing-append, is_below, none_failing, or_else, rising-back, rising-front, below-ahead}
 
 module _ (key : List ℕ) (version : ℕ) where
@@ -24,12 +25,7 @@ module _ (key : List ℕ) (version : ℕ) where
 
   -- ---- blocks, one after the other
 
-  -- the first entry of these blocks that doesn't come before the place of the key and version
-  abbrev pub first_over : List (List Entry) → Option Entry
-  first_over [] = None
-  first_over (b ∷ bs) = or_else (first_failing (is_ahead key version) b) (first_over bs)
-
-  pub first-joined : (bs : List (List Entry)) → first_failing (is_ahead key version) (joined bs) ≡ first_over bs
+  pub first-joined : (bs : List (List Entry)) → first_failing (is_ahead key version) (joined bs) ≡ first_over key version bs
   first-joined [] = refl
   first-joined (b ∷ bs) =
       first_failing-append (is_ahead key version) b (joined bs)
@@ -37,7 +33,7 @@ module _ (key : List ℕ) (version : ℕ) where
 
   -- a look-up may begin behind the blocks whose last key is below the key
   pub first-skipped : (at : ℕ) (bs : List (List Entry)) → IsRising (joined bs)
-      → first_over (drop (prefix_len (λ (p : BlockPlace). is_below key p.last) (block_places at bs)) bs) ≡ first_over bs
+      → first_over key version (drop (prefix_len (λ (p : BlockPlace). is_below key p.last) (block_places at bs)) bs) ≡ first_over key version bs
   first-skipped at [] rising = refl
   first-skipped at (b ∷ bs) rising =
       by (first-skipped (at + block_frame_length b) bs (rising-back b (joined bs) rising)) (is_below key (last_key b)) refl
@@ -48,11 +44,11 @@ module _ (key : List ℕ) (version : ℕ) where
       one_more : (n : ℕ) → suc n ≡ 1 + n
       one_more n = omega arith
 
-      by : first_over (drop count bs) ≡ first_over bs → (t : Bool) → is_below key (last_key b) ≡ t
-          → first_over (drop (cond t (1 + count) 0) (b ∷ bs)) ≡ first_over (b ∷ bs)
+      by : first_over key version (drop count bs) ≡ first_over key version bs → (t : Bool) → is_below key (last_key b) ≡ t
+          → first_over key version (drop (cond t (1 + count) 0) (b ∷ bs)) ≡ first_over key version (b ∷ bs)
       by later true is =
-          ap (λ (n : ℕ). first_over (drop n (b ∷ bs))) (sym (one_more count)) ∙ later
-          ∙ ap (λ (o : Option Entry). or_else o (first_over bs)) (sym (none_failing (is_ahead key version) b
+          ap (λ (n : ℕ). first_over key version (drop n (b ∷ bs))) (sym (one_more count)) ∙ later
+          ∙ ap (λ (o : Option Entry). or_else o (first_over key version bs)) (sym (none_failing (is_ahead key version) b
           (last-ahead b (rising-parted key version b (rising-front b (joined bs) rising)) is)))
       by later false is = refl
 

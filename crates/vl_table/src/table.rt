@@ -10,7 +10,7 @@ ghost use Rattle.vl_run.specs.Places.{IsParted};
 ghost use Rattle.vl_block.specs.declared.index.BlockPlace.{BlockPlace};
 ghost use Rattle.vl_table.specs.Buffers.{IsKept};
 ghost use Rattle.vl_block.specs.Bytes.{table_bytes, IsTable};
-ghost use Rattle.vl_table.specs.Lookups.{first_over};
+ghost use Rattle.vl_run.specs.PartLaws.{first_over};
 ghost use Rattle.vl_run.specs.LookupLaws.{is_below};
 ghost use Rattle.vl_table.specs.Seeks.{IsBadBlock};
 ghost use Rattle.vl_table.specs.Opened.{IsOf, OpensAs};

@@ -1,13 +1,12 @@
 -- Bodies that are written.
-use Rattle.std.specs.Prelude.{◌≡◌, ◌+◌, ◌<◌, ℕ, suc, List, [], ◌∷◌, ◌++◌, length, take, drop, get_or}
-use Rattle.std.proofs.Math.Seq.{drop-cons}
+use Rattle.std.specs.Prelude.{◌≡◌, ◌+◌, ℕ, List, [], ◌∷◌, ◌++◌, length, take, drop}
 use Rattle.std.proofs.Common.{sym, ap, ◌∙◌, append_assoc, length-append, arith}
 use Rattle.byteorder.specs.Endian.{big_bytes}
 use Rattle.vl_model.specs.declared.entry.Entry.{Entry}
 use Rattle.vl_block.specs.Blocks.{block_body, entries}
 use Rattle.vl_block.specs.Entries.{entry_bytes}
 use Rattle.vl_list.specs.ListLaws.{items_bytes-push}
-use Rattle.vl_list.specs.Lists.{Spelling, items_bytes}
+use Rattle.vl_list.specs.Lists.{items_bytes}
 
 pub body_added : (n : ℕ) (es : List Entry) (e : Entry) (old with_entry new : List ℕ) → n ≡ length es → old ≡ 0 ∷ 0 ∷ 0 ∷ 0 ∷ 0 ∷ block_body es
     → with_entry ≡ old ++ entry_bytes e → new ≡ take 5 with_entry ++ (big_bytes 4 (n + 1) ++ drop 9 with_entry)
@@ -25,22 +24,6 @@ pub three_behind : (old one two a b c : List ℕ) → one ≡ old ++ a → two �
 three_behind old one two a b c first second =
     ap (λ (l : List ℕ). l ++ c) second ∙ ap (λ (l : List ℕ). (l ++ b) ++ c) first
     ∙ append_assoc (old ++ a) b c ∙ append_assoc old a (b ++ c)
-
-drop_at : {Item : Type 0} (items : List Item) (i : ℕ) (a d : Item) → i < length items → a ≡ get_or items i d → drop i items ≡ a ∷ drop (i + 1) items
-drop_at items i a d within is =
-    drop-cons items i d within ∙ ap (λ x. x ∷ drop (suc i) items) (sym is) ∙ ap (λ n. a ∷ drop n items) (more i)
-  where
-    more : (n : ℕ) → suc n ≡ n + 1
-    more n = omega arith
-
--- one item more is written
-pub writes_one : {Item : Type 0} (S : Spelling Item) (items : List Item) (i : ℕ) (a d : Item) (old new all : List ℕ)
-    → i < length items → a ≡ get_or items i d → new ≡ old ++ S.bytes a → old ++ items_bytes S (drop i items) ≡ all
-    → new ++ items_bytes S (drop (i + 1) items) ≡ all
-writes_one S items i a d old new all within is written so_far =
-    ap (λ (l : List ℕ). l ++ items_bytes S (drop (i + 1) items)) written
-    ∙ append_assoc old (S.bytes a) (items_bytes S (drop (i + 1) items))
-    ∙ ap (λ l. old ++ items_bytes S l) (sym (drop_at items i a d within is)) ∙ so_far
 
 -- a count written over the old one leaves the length
 pub body_length : (es : List Entry) (e : Entry) (old with_entry new : List ℕ) (n : ℕ) → old ≡ 0 ∷ 0 ∷ 0 ∷ 0 ∷ 0 ∷ block_body es

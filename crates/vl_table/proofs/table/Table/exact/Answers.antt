@@ -5,7 +5,8 @@ use Rattle.vl_model.specs.Winners.{exact}
 use Rattle.vl_model.specs.declared.entry.Entry.{Entry}
 use Rattle.vl_block.specs.Cutting.{blocks}
 use Rattle.vl_part.specs.Answers.{Answers, and_then, fails, gives}
-use Rattle.vl_table.specs.Lookups.{exact-blocks, first_over}
+use Rattle.vl_run.specs.PartLaws.{first_over}
+use Rattle.vl_table.specs.Lookups.{exact-blocks}
 use Rattle.vl_table.specs.Opened.{IsOf}
 use Rattle.vl_table.specs.Seeks.{IsBadBlock}
 use Rattle.vl_part.specs.declared.fault.TableFault.{TableFault}
