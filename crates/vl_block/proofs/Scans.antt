@@ -1,15 +1,14 @@
 -- A block's entries are read one after the other.
-use Rattle.std.specs.Prelude.{◌≡◌, ◌<◌, ◌+◌, ◌^◌, ℕ, List, [], ◌∷◌, ◌++◌, Option, Some, None, refl}
+use Rattle.std.specs.Prelude.{◌≡◌, ◌<◌, ◌+◌, ℕ, List, [], ◌∷◌, ◌++◌, Option, Some, None, refl}
 use Rattle.std.specs.Option.{option_map}
 use Rattle.std.proofs.Common.{sym, subst}
-use Rattle.byteorder.specs.Endian.{big_bytes}
 use Rattle.vl_model.specs.declared.entry.Entry.{Entry}
 use Rattle.vl_block.specs.declared.entry_ref.EntryRef.{EntryRef}
 use Rattle.vl_block.specs.BlockLaws.{entry_is_some}
-use Rattle.vl_block.specs.Blocks.{entries, SpellsBlock}
+use Rattle.vl_block.specs.Blocks.{entries}
 use Rattle.vl_block.specs.Entries.{entry_bytes, entry_of, IsEntry}
 use Rattle.vl_list.specs.Lists.{IsNext, IsRun}
-use Rattle.vl_list.specs.ListLaws.{SoFar, Behind, begins, cut, goes_on, last_item, last-push, next, none_taken, not_next, one_more, run_of}
+use Rattle.vl_list.specs.ListLaws.{SoFar, Behind, begins, cut, goes_on, last_item, last-push, next, not_next, one_more}
 
 -- so many entries were read, and the last of them is this
 pub record UnderWay (bytes : List ℕ) (total count : ℕ) (last : Option EntryRef) (rest : List ℕ) : Type 0 where
@@ -45,12 +44,6 @@ out_of_order bytes total count last rest e after u lawful spelled apart es run =
     (λ follows. apart (subst (λ (o : Option Entry). IsNext entries o (entry_of e)) u.last_is follows)) es run
 
 -- of a block's entries so many were copied
-pub copies_none : (body rest : List ℕ) (count : ℕ) → count < 2 ^ 32 → body ≡ big_bytes 4 count ++ rest
-    → (es : List Entry) → SpellsBlock body es → Behind entries es [] rest
-copies_none body rest count fits e es block =
-    let run = run_of entries body rest count es fits e block.lawful block.spelled in
-    none_taken entries es rest run.each run.spelled
-
 pub copies_one : (es copied : List Entry) (rest : List ℕ) (e : Entry) (after : List ℕ)
     → Behind entries es copied rest → IsEntry e → rest ≡ entry_bytes e ++ after → Behind entries es (copied ++ e ∷ []) after
 copies_one es copied rest e after behind lawful spelled =

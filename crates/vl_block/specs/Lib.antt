@@ -1,8 +1,12 @@
 pub mod BlockLaws
 pub mod Blocks
+pub mod Bytes
+pub mod Cutting
+pub mod CuttingLaws
 pub mod Entries
 pub mod EntryLaws
 pub mod Footer
 pub mod FooterLaws
 pub mod Index
-pub mod Writing
+pub mod Lengths
+pub mod Places

@@ -1,14 +1,11 @@
 //! The footer of a table.
 
-ghost use Rattle.std.specs.Prelude.{◌≡◌, ◌++◌, IfOk, IfNone, IfSome, OnOk};
-ghost use Rattle.byteorder.specs.Endian.{big_bytes};
-ghost use Rattle.vl_block.specs.Footer.{Foot, SpellsFooter, foot_of, footer_body, head_bytes, head_of};
+ghost use Rattle.std.specs.Prelude.{◌≡◌, IfOk, IfNone, IfSome};
+ghost use Rattle.vl_block.specs.Footer.{Foot, SpellsFooter, foot_of, head_of};
 ghost use Rattle.vl_block.specs.declared.footer_head.FooterHead.{FooterHead};
 
 use crate::footer_head::{FooterHead, take_head};
-use crate::keys::write_key;
-use crate::points::{Point, read_points, write_points};
-use byteorder::{BigEndian, ByteOrder};
+use crate::points::{Point, read_points};
 use std::alloc::{AllocError, Global};
 use vl_model::{Bytes, Key};
 
@@ -23,42 +20,6 @@ pub struct Footer {
     pub first: Key,
     pub last: Key,
     pub points: Vec<Point>,
-}
-
-/// Appends the body of a footer's frame. Want of memory is the answer too where a key has no lawful length.
-pub fn write_footer(out: &mut Vec<u8>, footer: &Footer) -> Result<(), AllocError>
-    ensures written { OnOk result (out.new.items ≡ out.old.items ++ footer_body (foot_of footer.now)) }
-{
-    let head = FooterHead {
-        index_place: footer.index_place,
-        index_length: footer.index_length,
-        count: footer.count,
-        greatest: footer.greatest,
-        first: footer.first.as_slice(),
-        last: footer.last.as_slice(),
-    };
-    write_head(out, &head)?;
-    write_points(out, &footer.points)
-}
-
-fn write_head(out: &mut Vec<u8>, head: &FooterHead) -> Result<(), AllocError>
-    ensures written { OnOk result (out.new.items ≡ out.old.items ++ head_bytes (head_of head.now)) }
-{
-    out.extend_from_slice(&number_bytes(head))?;
-    write_key(out, head.first)?;
-    write_key(out, head.last)
-}
-
-fn number_bytes(head: &FooterHead) -> [u8; 28]
-    ensures { result ≡ big_bytes 8 head.now.index_place ++ big_bytes 4 head.now.index_length
-        ++ big_bytes 8 head.now.count ++ big_bytes 8 head.now.greatest }
-{
-    let mut bytes = [0; 28];
-    BigEndian::write_u64(&mut bytes, head.index_place);
-    BigEndian::write_u32(&mut bytes[8..], head.index_length);
-    BigEndian::write_u64(&mut bytes[12..], head.count);
-    BigEndian::write_u64(&mut bytes[20..], head.greatest);
-    bytes
 }
 
 /// What the body of a footer's frame says, or None where it isn't a footer's.

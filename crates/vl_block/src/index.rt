@@ -1,14 +1,11 @@
 //! The index of a table: which blocks it has, where they stand, and which key is the last of each.
 
-ghost use Rattle.std.specs.Prelude.{◌≡◌, ◌++◌, ◌<◌, ℕ, List, length, IfOk, IfNone, IfSome, OnOk};
-ghost use Rattle.byteorder.specs.Endian.{big_bytes};
-ghost use Rattle.vl_block.specs.Index.{IsPlace, SpellsIndex, index_body, place_bytes, place_of, places};
+ghost use Rattle.std.specs.Prelude.{◌≡◌, ◌++◌, ◌<◌, ℕ, List, length, IfOk, IfNone, IfSome};
+ghost use Rattle.vl_block.specs.Index.{IsPlace, SpellsIndex, place_bytes, place_of, places};
 ghost use Rattle.vl_list.specs.Lists.{IsRun};
 ghost use Rattle.vl_block.specs.declared.index.BlockPlace.{BlockPlace};
 
-use crate::keys::{take_key, write_key};
-use crate::numbers::u32_bytes;
-use byteorder::{BigEndian, ByteOrder};
+use crate::keys::take_key;
 use std::alloc::{AllocError, Global};
 use vl_frame::{take_u32, take_u64};
 use vl_model::{Bytes, Key};
@@ -21,21 +18,6 @@ pub struct BlockPlace {
     pub last: Key,
 }
 
-/// Appends the body of an index's frame. Want of memory is the answer too where there are more blocks than can be
-/// counted, or a last key has no lawful length.
-pub fn write_index(out: &mut Vec<u8>, blocks: &[BlockPlace]) -> Result<(), AllocError>
-    ensures written { OnOk result (out.new.items ≡ out.old.items ++ index_body blocks.now) }
-{
-    if blocks.len() > u32::MAX as usize {
-        return Err(AllocError);
-    }
-    out.extend_from_slice(&u32_bytes(blocks.len() as u32))?;
-    for block in blocks {
-        write_place(out, block)?;
-    }
-    Ok(())
-}
-
 /// The blocks that the body of an index's frame names, or None where it isn't an index's.
 pub fn read_index(alloc: Global, body: &[u8]) -> Result<Option<Vec<BlockPlace>>, AllocError>
     ensures found { IfOk result (λ read. IfSome read (λ blocks. SpellsIndex body.now blocks.items)) }
@@ -45,24 +27,6 @@ pub fn read_index(alloc: Global, body: &[u8]) -> Result<Option<Vec<BlockPlace>>,
         return Ok(None);
     };
     take_places(alloc, count, rest)
-}
-
-// Appends what the index says of a block.
-fn write_place(out: &mut Vec<u8>, block: &BlockPlace) -> Result<(), AllocError>
-    ensures written { OnOk result (out.new.items ≡ out.old.items ++ place_bytes block.now) }
-    ensures lawful { OnOk result (IsPlace block.now) }
-{
-    out.extend_from_slice(&frame_bytes(block.place, block.length))?;
-    write_key(out, block.last.as_slice())
-}
-
-fn frame_bytes(place: u64, length: u32) -> [u8; 12]
-    ensures { result ≡ big_bytes 8 place ++ big_bytes 4 length }
-{
-    let mut bytes = [0; 12];
-    BigEndian::write_u64(&mut bytes, place);
-    BigEndian::write_u32(&mut bytes[8..], length);
-    bytes
 }
 
 // So many blocks, which these bytes are to the last.

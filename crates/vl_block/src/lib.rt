@@ -6,25 +6,21 @@
 #![tactic(auto)]
 
 mod block;
-mod block_writer;
-mod entry;
 mod entry_ref;
 mod footer;
 mod footer_head;
 mod index;
 mod keys;
-mod laws;
-mod numbers;
+mod laid_point;
 mod pointers;
 mod points;
 mod taking;
 
 pub use block::{block_entries, is_block, read_block};
-pub use block_writer::BlockWriter;
-pub use entry::write_entry;
 pub use entry_ref::{BodyRef, EntryRef};
-pub use footer::{Footer, read_footer, write_footer};
-pub use index::{BlockPlace, read_index, write_index};
-pub use laws::{a_worked_block, bodies_are_read_in_one_way};
+pub use footer::{Footer, read_footer};
+pub use footer_head::FooterHead;
+pub use index::{BlockPlace, read_index};
+pub use laid_point::LaidPoint;
 pub use points::Point;
-pub use taking::take_entry;
+pub use taking::{FAR, GONE, INLINE, take_entry};

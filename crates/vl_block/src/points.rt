@@ -1,12 +1,11 @@
 //! Which segments a table leads into, as its footer says it.
 
-ghost use Rattle.std.specs.Prelude.{◌≡◌, ◌↔◌, ◌++◌, ◌<◌, ℕ, List, IfOk, IfNone, IfSome, IsTrue, OnOk};
+ghost use Rattle.std.specs.Prelude.{◌≡◌, ◌↔◌, ◌++◌, ◌<◌, ℕ, List, IfOk, IfNone, IfSome, IsTrue};
 ghost use Rattle.vl_block.specs.Footer.{IsPoint, point_bytes, points};
 ghost use Rattle.vl_list.specs.ListLaws.{last_item};
 ghost use Rattle.vl_list.specs.Lists.{AreLawful, IsNext, IsRun, counted_bytes};
 ghost use Rattle.vl_block.specs.declared.points.Point.{Point};
 
-use crate::numbers::{u32_bytes, u64_bytes};
 use std::alloc::{AllocError, Global};
 use vl_frame::{take_u32, take_u64};
 
@@ -15,27 +14,6 @@ use vl_frame::{take_u32, take_u64};
 pub struct Point {
     pub segment: u32,
     pub bytes: u64,
-}
-
-// Appends the count of some points, and the points.
-pub fn write_points(out: &mut Vec<u8>, list: &[Point]) -> Result<(), AllocError>
-    ensures written { OnOk result (out.new.items ≡ out.old.items ++ counted_bytes points list.now) }
-{
-    if list.len() > u32::MAX as usize {
-        return Err(AllocError);
-    }
-    out.extend_from_slice(&u32_bytes(list.len() as u32))?;
-    for point in list {
-        write_point(out, point)?;
-    }
-    Ok(())
-}
-
-fn write_point(out: &mut Vec<u8>, point: &Point) -> Result<(), AllocError>
-    ensures written { OnOk result (out.new.items ≡ out.old.items ++ point_bytes point.now) }
-{
-    out.extend_from_slice(&u32_bytes(point.segment))?;
-    out.extend_from_slice(&u64_bytes(point.bytes))
 }
 
 // The points that these bytes are to the last, behind their count.

@@ -5,12 +5,20 @@ ghost use Rattle.vl_model.specs.declared.entry.Entry.{Entry};
 ghost use Rattle.vl_model.specs.declared.entry.Body.{Body};
 ghost use Rattle.vl_block.specs.Entries.{IsBody, IsEntry, body_bytes, body_of, entry_bytes, entry_of};
 
-use crate::entry::{FAR, GONE, INLINE};
 use crate::entry_ref::{BodyRef, EntryRef};
 use crate::keys::take_key;
 use crate::pointers::take_pointer;
 use vl_frame::{take_bytes, take_u8, take_u64};
 use vl_model::MAX_INLINE_BYTES;
+
+/// The byte that a value beside its key begins with.
+pub const INLINE: u8 = 0;
+
+/// The byte that stands for a deletion.
+pub const GONE: u8 = 1;
+
+/// The byte that a pointer begins with.
+pub const FAR: u8 = 2;
 
 /// The entry at the front of these bytes, and the bytes behind it; none where no entry of a table stands there.
 pub fn take_entry(bytes: &[u8]) -> Option<(EntryRef<'_>, &[u8])>

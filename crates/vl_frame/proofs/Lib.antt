@@ -1,3 +1,4 @@
+mod InPlace
 pub mod Fronts
 pub mod Headers
 pub mod Spellings

@@ -19,6 +19,7 @@
 mod checks;
 mod frame;
 mod header;
+mod in_place;
 mod kinds;
 mod limits;
 mod numbers;
@@ -28,6 +29,7 @@ mod writing;
 
 pub use frame::Frame;
 pub use header::{HEADER_BYTES, file_header, read_format, read_header};
+pub use in_place::{HEAD_BYTES, finish_frame};
 pub use kinds::{FileKind, FrameKind};
 pub use limits::{FRAME_BYTES, MAX_FRAME_BYTES};
 pub use numbers::{take_bytes, take_u8, take_u16, take_u32, take_u64};

@@ -1,4 +1,4 @@
--- Blocks hold the entries of their table and tables those of their merge, all and in order; and what a job began with are the
+-- Tables hold the entries of their merge, all and in order; and what a job began with are the
 -- sources of its layout.
 use Rattle.std.proofs.Common.{◌≡◌, ℕ, ◌+◌, Bool, true, false, not, ◌&&◌, List, [], ◌∷◌, ◌++◌, refl, ap, ◌∙◌, append_assoc}
 use Rattle.std.specs.Prelude.{nat_le, if◌then◌else◌}
@@ -12,15 +12,12 @@ use Rattle.vl_layout.specs.MergeShows.{Marked, marks_from, plain}
 use Rattle.vl_layout.specs.Merging.{Sourced, if_so, inputs_of as sourced_inputs, outside_of as sourced_outside, is_dropped, kept_from, kept}
 use Rattle.vl_layout.specs.Rulings.Plan.{marked_as, sourced}
 use Rattle.vl_layout.specs.Sources.{sources, tables, table_entries}
-use Rattle.vl_layout.specs.Tables.{max_block_bytes, full_table_bytes, entry_length, begun_length, around, blocks_from, blocks, tables_from, cut_into_tables, numbered}
+use Rattle.vl_block.specs.CuttingLaws.{joined}
+use Rattle.vl_block.specs.Cutting.{max_block_bytes, entry_length, begun_length, around}
+use Rattle.vl_layout.specs.Tables.{full_table_bytes, tables_from, cut_into_tables, numbered}
 use Rattle.vl_layout.specs.declared.job.Job.{Job}
 use Rattle.vl_layout.specs.declared.layout.Layout.{Layout}
 use Rattle.vl_layout.specs.declared.table.Table.{Table}
-
--- lists of entries, end to end
-abbrev pub joined : List (List Entry) → List Entry
-joined [] = []
-joined (es ∷ others) = es ++ joined others
 
 one_more : (open_part : List Entry) (e : Entry) (es : List Entry)
     → (open_part ++ e ∷ []) ++ es ≡ open_part ++ e ∷ es
@@ -30,21 +27,6 @@ by_test : (P : List Entry) (b : Bool) (x y : List (List Entry)) → joined x ≡
     → joined (if b then x else y) ≡ P
 by_test P true x y one other = one
 by_test P false x y one other = other
-
--- ---- blocks
-
-blocks_from-whole : (open_block : List Entry) (bytes : ℕ) (es : List Entry)
-    → joined (blocks_from open_block bytes es) ≡ open_block ++ es
-blocks_from-whole open_block bytes [] = refl
-blocks_from-whole open_block bytes (e ∷ es) =
-    by_test (open_block ++ e ∷ es) (nat_le (bytes + entry_length e) max_block_bytes)
-    (blocks_from (open_block ++ e ∷ []) (bytes + entry_length e) es) (open_block ∷ blocks_from (e ∷ []) (begun_length e) es)
-    (blocks_from-whole (open_block ++ e ∷ []) (bytes + entry_length e) es ∙ one_more open_block e es)
-    (ap (λ xs. open_block ++ xs) (blocks_from-whole (e ∷ []) (begun_length e) es))
-
-pub blocks-whole : (es : List Entry) → joined (blocks es) ≡ es
-blocks-whole [] = refl
-blocks-whole (e ∷ es) = blocks_from-whole (e ∷ []) (begun_length e) es
 
 -- ---- tables
 

@@ -22,4 +22,5 @@ pub use layout::Layout;
 pub use live::{Live, Pin};
 pub use lock_history::{LockEntry, LockStep};
 pub use segment::{Segment, SegmentStat};
-pub use table::{Point, Table};
+pub use table::Table;
+pub use vl_block::LaidPoint as Point;

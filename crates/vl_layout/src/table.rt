@@ -1,12 +1,6 @@
 use std::collections::LinkedList;
+use vl_block::LaidPoint;
 use vl_model::{Entry, Key};
-
-/// How many bytes of a segment's records a table leads to.
-#[derive(Drop)]
-pub struct Point {
-    pub segment: u32,
-    pub bytes: u64,
-}
 
 /// A table file: its number, its length in bytes, its entries in order, and what its footer says of
 /// them: the segments that they lead into, rising, and the least and the greatest key.
@@ -15,7 +9,7 @@ pub struct Table {
     pub number: u32,
     pub length: u64,
     pub entries: LinkedList<Entry>,
-    pub points: LinkedList<Point>,
+    pub points: LinkedList<LaidPoint>,
     pub first: Key,
     pub last: Key,
 }

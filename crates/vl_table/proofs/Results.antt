@@ -1,9 +1,5 @@
 -- What holds of a result that is handed on.
-use Rattle.std.specs.Prelude.{Option, None, Some, Result, Ok, Err, OnOk, IfOk, IfNone}
-
-pub on_ok_both : {T E : Type 0} (r : Result T E) (P Q : Type 0) → OnOk r P → OnOk r Q → OnOk r (P × Q)
-on_ok_both (Ok x) P Q p q = (p, q)
-on_ok_both (Err e) P Q p q = tt
+use Rattle.std.specs.Prelude.{Option, None, Some, Result, Ok, Err, IfOk, IfNone}
 
 pub none_weaker : {T E : Type 0} (r : Result (Option T) E) (P Q : Type 0) → (P → Q) → IfOk r (λ read. IfNone read P) → IfOk r (λ read. IfNone read Q)
 none_weaker (Ok None) P Q f p = f p

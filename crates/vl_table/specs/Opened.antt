@@ -1,6 +1,5 @@
 -- What a true table opens as.
-use Rattle.std.specs.Prelude.{◌≡◌, ◌+◌, ◌-◌, ◌<◌, ◌^◌, ℕ, List, [], ◌++◌, drop, length, Option, Some, Result, Ok, Err}
-use Rattle.std.specs.List.{AllByRecursion}
+use Rattle.std.specs.Prelude.{◌≡◌, ◌+◌, ◌-◌, ℕ, List, [], ◌++◌, drop, length, Option, Some, Result, Ok, Err, IfOk}
 use Rattle.std.proofs.Common.{refl, ap, sym, subst, ◌∙◌, append-nil, arith}
 use Rattle.byteorder.specs.Endian.{big_bytes, big_number}
 use Rattle.byteorder.specs.Numbers.{big_number-reads_back}
@@ -8,38 +7,21 @@ use Rattle.vl_frame.specs.Laws.{length-frame_bytes, one_frame}
 use Rattle.vl_frame.specs.declared.kinds.FileKind.TheVariants as files
 use Rattle.vl_frame.specs.declared.kinds.FrameKind.TheVariants as kinds
 use Rattle.vl_model.specs.declared.entry.Entry.{Entry}
-use Rattle.vl_layout.specs.Tables.{blocks}
-use Rattle.vl_block.specs.Blocks.{IsBlock, block_body}
-use Rattle.vl_block.specs.Footer.{Foot, IsHead, SpellsFooter, footer_body, points}
+use Rattle.vl_block.specs.Cutting.{blocks}
+use Rattle.vl_block.specs.Footer.{Foot, SpellsFooter, footer_body, foot_of}
 use Rattle.vl_block.specs.FooterLaws.{one_footer}
 use Rattle.vl_block.specs.Index.{index_body, places}
 use Rattle.vl_list.specs.ListLaws.{one_list}
-use Rattle.vl_list.specs.Lists.{AreLawful}
 use Rattle.vl_block.specs.declared.index.BlockPlace.{BlockPlace}
-use Rattle.vl_table.specs.declared.fault.TableFault.{TableFault}
-use Rattle.vl_table.specs.declared.fault.TableFault.TheVariants.{NoMemory, Disk, Damaged}
+use Rattle.vl_part.specs.declared.fault.TableFault.{TableFault}
+use Rattle.vl_part.specs.declared.fault.TableFault.TheVariants.{NoMemory, Disk, Damaged}
 use Rattle.vl_table.specs.declared.table.Table.{Table}
-use Rattle.std.specs.Prelude.{IfOk}
-use Rattle.vl_block.specs.Footer.{foot_of}
-use Rattle.vl_table.specs.Answers.{Answers}
-use Rattle.vl_table.specs.Bytes.{AreTabled, block_places, blocks_bytes, foot, footer_bytes, footer_place, index_bytes, index_place, table_bytes}
-use Rattle.vl_table.specs.Lengths.{length-footer, length-index, length-table_bytes}
-use Rattle.vl_table.specs.Opening.{IsDamaged, IsInside, IsRead, StandsFooter, StandsIndex, no_footer, no_header, no_index, no_place, said_place}
+use Rattle.vl_part.specs.Answers.{Answers}
+use Rattle.vl_block.specs.Bytes.{IsTable, block_places, blocks_bytes, foot, footer_bytes, footer_place, index_bytes, index_place, table_bytes}
+use Rattle.vl_block.specs.Lengths.{length-footer, length-index, length-table_bytes}
+use Rattle.vl_table.specs.Opening.{IsDamaged, IsRead, StandsFooter, StandsIndex, no_footer, no_header, no_index, no_place}
+use Rattle.vl_part.specs.Begun.{IsInside, said_place}
 use Rattle.vl_table.specs.Places.{drop-end, drop-footer, drop-index}
-
--- Entries of which there is a table with this number: they are lawful and in order, and its frames have room for what they
--- are to say.
-pub record IsTable (number : ℕ) (es : List Entry) : Type 0 where
-  pub tabled : AreTabled es
-  pub numbered : number < 2 ^ 32
-  pub each : AllByRecursion IsBlock (blocks es)
-  pub short : AllByRecursion (λ b. length (block_body b) < 2 ^ 32) (blocks es)
-  pub index : AreLawful places (block_places 16 (blocks es))
-  pub index_short : length (index_body (block_places 16 (blocks es))) < 2 ^ 32
-  pub head : IsHead (foot es (blocks es)).head
-  pub points : AreLawful points (foot es (blocks es)).points
-  pub footer_short : length (footer_body (foot es (blocks es))) < 2 ^ 32
-  pub place : footer_place (blocks es) < 2 ^ 64
 
 -- ---- one reading
 

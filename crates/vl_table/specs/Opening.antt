@@ -1,40 +1,12 @@
 -- What is read of a table when it is opened, and where it is damaged.
-use Rattle.std.specs.Prelude.{◌≡◌, ◌+◌, ◌-◌, ◌≤◌, ℕ, List, drop, length}
-use Rattle.byteorder.specs.Endian.{big_number}
-use Rattle.vl_frame.specs.Frame.{IsSpelled, frame_length}
-use Rattle.vl_frame.specs.Header.{IsHeader}
+use Rattle.std.specs.Prelude.{◌≡◌, ◌-◌, ℕ, List, drop, length}
+use Rattle.vl_frame.specs.Frame.{IsSpelled}
 use Rattle.vl_frame.specs.declared.kinds.FileKind.TheVariants as files
-use Rattle.vl_frame.specs.declared.kinds.FrameKind.{FrameKind}
 use Rattle.vl_frame.specs.declared.kinds.FrameKind.TheVariants as kinds
 use Rattle.vl_block.specs.Footer.{Foot, SpellsFooter}
 use Rattle.vl_block.specs.Index.{SpellsIndex}
 use Rattle.vl_block.specs.declared.index.BlockPlace.{BlockPlace}
-use Rattle.vl_table.specs.declared.format.TheConstants.{TABLE_FORMAT}
-
--- the bytes begin with the header of the table with this number, in a format that is read
-pub record HasHeader (number : ℕ) (bytes : List ℕ) : Type 0 where
-  pub format : ℕ
-  pub first : 1 ≤ format
-  pub readable : format ≤ TABLE_FORMAT
-  pub header : IsHeader files.Table format number bytes
-
--- so does the file, and it is long enough to be a table
-pub record IsBegun (number : ℕ) (bytes : List ℕ) : Type 0 where
-  pub long : 24 ≤ length bytes
-  pub header : HasHeader number bytes
-
--- the place that the last eight bytes say
-abbrev pub said_place : List ℕ → ℕ
-said_place bytes = big_number 8 (drop (length bytes - 8) bytes)
-
--- a footer has room there, behind the header and before its place
-abbrev pub IsInside : List ℕ → ℕ → Type 0
-IsInside bytes place = (16 ≤ place) × (place + 21 ≤ length bytes)
-
--- a frame of this kind and body stands at the place, and has so many bytes
-pub record FrameAt (number : ℕ) (bytes : List ℕ) (place size : ℕ) (kind : FrameKind) (body : List ℕ) : Type 0 where
-  pub frame : IsSpelled files.Table number place (drop place bytes) kind body
-  pub sized : size ≡ frame_length (length body)
+use Rattle.vl_part.specs.Begun.{FrameAt, IsBegun, IsInside, said_place}
 
 -- a footer stands at the front of the bytes, which are those of the table from a place on, and says this
 pub record FooterIn (number place : ℕ) (bytes : List ℕ) (f : Foot) : Type 0 where

@@ -1,23 +1,16 @@
 -- The stages of an opening, one behind the other.
-use Rattle.std.specs.Prelude.{◌≡◌, ◌-◌, ℕ, List, length, Option, Result, Ok, Err}
+use Rattle.std.specs.Prelude.{◌≡◌, ℕ, List, Option, Result, Ok, Err}
 use Rattle.std.proofs.Common.{subst, ◌∙◌}
 use Rattle.vl_block.specs.Footer.{Foot, foot_of}
 use Rattle.vl_block.specs.declared.footer.Footer.{Footer}
 use Rattle.vl_block.specs.declared.index.BlockPlace.{BlockPlace}
-use Rattle.vl_table.specs.Answers.{Answers, and_then, fails}
-use Rattle.vl_table.specs.Opening.{IsBegun, IsDamaged, IsInside, IsRead, StandsFooter, StandsIndex, no_footer, no_index, said_place}
-use Rattle.vl_table.specs.declared.fault.TableFault.{TableFault}
+use Rattle.vl_part.specs.Answers.{Answers, and_then, fails}
+use Rattle.vl_part.specs.Begun.{IsBegun, IsInside}
+use Rattle.vl_part.specs.Stages.{IsPlace, NoHeader, NoPlace, behind_place}
+use Rattle.vl_table.specs.Opening.{IsDamaged, IsRead, StandsFooter, StandsIndex, no_footer, no_index}
+use Rattle.vl_part.specs.declared.fault.TableFault.{TableFault}
 
--- what each stage reads, and its damage
-abbrev pub NoHeader : ℕ → List ℕ → ℕ → Type 0
-NoHeader number bytes damage = (IsBegun number bytes → ⊥) × (damage ≡ 0)
-
-abbrev pub IsPlace : List ℕ → ℕ → Type 0
-IsPlace bytes place = (place ≡ said_place bytes) × IsInside bytes place
-
-abbrev pub NoPlace : List ℕ → ℕ → Type 0
-NoPlace bytes damage = (IsInside bytes (said_place bytes) → ⊥) × (damage ≡ length bytes - 8)
-
+-- what the stages behind the place miss
 abbrev pub NoFooter : ℕ → ℕ → List ℕ → ℕ → Type 0
 NoFooter number place bytes damage = ((f : Foot) → StandsFooter number bytes place f → ⊥) × (damage ≡ place)
 
@@ -25,21 +18,6 @@ abbrev pub NoIndex : ℕ → ℕ → ℕ → List ℕ → ℕ → Type 0
 NoIndex number place size bytes damage = ((ps : List BlockPlace) → StandsIndex number bytes place size ps → ⊥) × (damage ≡ place)
 
 module _ (number : ℕ) (told : Option (List ℕ)) where
-  -- behind the header and the footer's place
-  behind_place : {T : Type 0} (a b c d place : ℕ) (good : List ℕ → T → Type 0) (bad : List ℕ → ℕ → Type 0) (r : Result T TableFault)
-      → Answers {T = Unit {0}} a b number told (λ bytes done. IsBegun number bytes) (NoHeader number) (Ok (tt {0})) → Answers b c number told IsPlace NoPlace (Ok place)
-      → ((bytes : List ℕ) → IsBegun number bytes → IsPlace bytes place → (damage : ℕ) → bad bytes damage → IsDamaged number bytes damage)
-      → Answers c d number told (λ bytes x. good bytes x) bad r → Answers a d number told (λ bytes x. IsBegun number bytes × IsPlace bytes place × good bytes x) (IsDamaged number) r
-  behind_place {T = T} a b c d place good bad r first second worse third =
-      and_then a b d number told (λ bytes done. IsBegun number bytes) (λ bytes x. IsPlace bytes place × good bytes x) (λ bytes x. IsBegun number bytes × IsPlace bytes place × good bytes x)
-      (NoHeader number) (λ bytes damage. IsPlace bytes place × bad bytes damage) (IsDamaged number) (tt {0}) r
-      (λ bytes told_is begun x rest. (begun, rest.0, rest.1)) (λ bytes told_is begun damage rest. worse bytes begun rest.0 damage rest.1) first
-      (and_then b c d number told IsPlace good (λ bytes x. IsPlace bytes place × good bytes x) NoPlace bad (λ bytes damage. IsPlace bytes place × bad bytes damage) place r
-      (λ bytes told_is at x is. (at, is)) (λ bytes told_is at damage is. (at, is)) second third)
-
-  at_said : (bytes : List ℕ) (place : ℕ) (P : ℕ → Type 0) → IsPlace bytes place → P place → P (said_place bytes)
-  at_said bytes place P at p = subst P at.0 p
-
   foot_damage : (place : ℕ) (bytes : List ℕ) → IsBegun number bytes → IsPlace bytes place → (damage : ℕ) → NoFooter number place bytes damage → IsDamaged number bytes damage
   foot_damage place bytes begun at damage bad =
       no_footer begun (subst (IsInside bytes) at.0 at.1) (subst (λ (n : ℕ). (f : Foot) → StandsFooter number bytes n f → ⊥) at.0 bad.0) (bad.1 ∙ at.0)
@@ -50,7 +28,7 @@ module _ (number : ℕ) (told : Option (List ℕ)) where
       → Answers {T = T} a d number told good (IsDamaged number) (Err e)
   footer_fails {T = T} a b c d place good e first second third =
       fails a d number told (λ bytes (footer : Footer). IsBegun number bytes × IsPlace bytes place × StandsFooter number bytes place (foot_of footer)) good (IsDamaged number) (IsDamaged number) e (λ bytes told_is p is. is)
-      (behind_place a b c d place (λ bytes footer. StandsFooter number bytes place (foot_of footer)) (NoFooter number place) (Err e) first second (foot_damage place) third)
+      (behind_place number told a b c d place (λ bytes footer. StandsFooter number bytes place (foot_of footer)) (NoFooter number place) (IsDamaged number) (Err e) first second (foot_damage place) third)
 
   index_damage : (place : ℕ) (footer : Footer) (bytes : List ℕ) → IsBegun number bytes → IsPlace bytes place → (damage : ℕ)
       → StandsFooter number bytes place (foot_of footer) × NoIndex number footer.index_place footer.index_length bytes damage → IsDamaged number bytes damage
@@ -64,8 +42,8 @@ module _ (number : ℕ) (told : Option (List ℕ)) where
       → Answers {T = T} d e number told good (NoIndex number footer.index_place footer.index_length) r
       → Answers {T = T} a e number told (λ bytes x. IsBegun number bytes × IsPlace bytes place × (StandsFooter number bytes place (foot_of footer) × good bytes x)) (IsDamaged number) r
   behind_footer {T = T} a b c d e place footer good r first second third fourth =
-      behind_place a b c e place (λ bytes x. StandsFooter number bytes place (foot_of footer) × good bytes x)
-      (λ bytes damage. StandsFooter number bytes place (foot_of footer) × NoIndex number footer.index_place footer.index_length bytes damage) r first second (index_damage place footer)
+      behind_place number told a b c e place (λ bytes x. StandsFooter number bytes place (foot_of footer) × good bytes x)
+      (λ bytes damage. StandsFooter number bytes place (foot_of footer) × NoIndex number footer.index_place footer.index_length bytes damage) (IsDamaged number) r first second (index_damage place footer)
       (and_then c d e number told (λ bytes (f : Footer). StandsFooter number bytes place (foot_of f)) good (λ bytes x. StandsFooter number bytes place (foot_of footer) × good bytes x)
       (NoFooter number place) (NoIndex number footer.index_place footer.index_length) (λ bytes damage. StandsFooter number bytes place (foot_of footer) × NoIndex number footer.index_place footer.index_length bytes damage) footer r
       (λ bytes told_is stands x is. (stands, is)) (λ bytes told_is stands damage is. (stands, is)) third fourth)

@@ -9,11 +9,12 @@ use Rattle.vl_frame.specs.Frame.{frame_bytes}
 use Rattle.vl_frame.specs.declared.kinds.FrameKind.TheVariants as kinds
 use Rattle.vl_disk.specs.DiskState.{bytes_at}
 use Rattle.vl_model.specs.declared.entry.Entry.{Entry}
-use Rattle.vl_layout.specs.Tables.{block_frame_length, last_key}
+use Rattle.vl_block.specs.Cutting.{block_frame_length, last_key}
 use Rattle.vl_block.specs.Blocks.{block_body}
 use Rattle.vl_block.specs.declared.index.BlockPlace.{BlockPlace}
-use Rattle.vl_table.specs.Bytes.{block_places, blocks_bytes, file_bytes, footer_bytes, footer_place, index_bytes, index_place, table_header}
-use Rattle.vl_table.specs.Lengths.{length-block, length-blocks, length-index}
+use Rattle.vl_block.specs.Bytes.{block_places, blocks_bytes, file_bytes, footer_bytes, footer_place, index_bytes, index_place, table_header}
+use Rattle.vl_block.specs.Places.{blocks-split}
+use Rattle.vl_block.specs.Lengths.{length-block, length-blocks, length-index}
 
 -- what stands behind the blocks
 abbrev pub tail_bytes : ℕ → List Entry → List (List Entry) → List ℕ
@@ -56,10 +57,6 @@ pub record BlockAt (at : ℕ) (bs : List (List Entry)) (i : ℕ) (p : BlockPlace
   pub length : p.length ≡ block_frame_length block
   pub last : p.last ≡ last_key block
 
-pub length-block_places : (at : ℕ) (bs : List (List Entry)) → length (block_places at bs) ≡ length bs
-length-block_places at [] = refl
-length-block_places at (b ∷ bs) = omega (arith, length-block_places (at + block_frame_length b) bs)
-
 pub block_at : (at : ℕ) (bs : List (List Entry)) (i : ℕ) (p : BlockPlace) → i < length bs → p ≡ get_or (block_places at bs) i p → BlockAt at bs i p
 block_at at [] i p within is = absurd (omega arith)
 block_at at (b ∷ bs) zero p within is = record {
@@ -87,23 +84,6 @@ block_at at (b ∷ bs) (suc i) p within is =
       length = rest.length;
       last = rest.last;
     }
-
-pub blocks-split : (number at : ℕ) (front : List (List Entry)) (b : List Entry) (back : List (List Entry))
-    → blocks_bytes number at (front ++ b ∷ back)
-    ≡ blocks_bytes number at front ++ (frame_bytes number (at + sum_by block_frame_length front) kinds.Block (block_body b)
-    ++ blocks_bytes number (at + sum_by block_frame_length front + block_frame_length b) back)
-blocks-split number at [] b back = ap (λ (n : ℕ). frame_bytes number n kinds.Block (block_body b) ++ blocks_bytes number (n + block_frame_length b) back) (none at)
-  where
-    none : (n : ℕ) → n ≡ n + 0
-    none n = omega arith
-blocks-split number at (a ∷ front) b back =
-    let frame = frame_bytes number at kinds.Block (block_body a) in
-    let next = at + block_frame_length a in
-    let behind : ℕ → List ℕ = λ (n : ℕ). frame_bytes number n kinds.Block (block_body b) ++ blocks_bytes number (n + block_frame_length b) back in
-    let place : next + sum_by block_frame_length front ≡ at + sum_by block_frame_length (a ∷ front) = omega (arith, sum_by-cons block_frame_length a front) in
-    ap (λ (l : List ℕ). frame ++ l) (blocks-split number next front b back)
-    ∙ sym (append_assoc frame (blocks_bytes number next front) (behind (next + sum_by block_frame_length front)))
-    ∙ ap (λ (n : ℕ). (frame ++ blocks_bytes number next front) ++ behind n) place
 
 -- a block's frame stands at its place
 pub block_bytes : (number : ℕ) (es : List Entry) (bs : List (List Entry)) (i : ℕ) (p : BlockPlace) → (b : BlockAt 16 bs i p)

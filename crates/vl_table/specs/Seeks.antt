@@ -1,31 +1,33 @@
 -- A look-up, block by block.
-use Rattle.std.specs.Prelude.{◌≡◌, ◌+◌, ◌≤◌, ◌<◌, ◌^◌, ℕ, List, [], ◌∷◌, ◌++◌, length, drop, get_or, Option, Some, None}
+use Rattle.std.specs.Prelude.{◌≡◌, ◌+◌, ◌≤◌, ◌<◌, ◌^◌, ℕ, List, [], ◌∷◌, ◌++◌, length, drop, get_or, Option, Some, None, Result, Ok, Err}
 use Rattle.std.specs.List.{AllByRecursion, prefix_len}
-use Rattle.std.proofs.Common.{refl, ap, sym, subst, ◌∙◌, append_assoc, length-append, arith}
-use Rattle.std.proofs.lemmas.List.{drop_at, length-drop, take-append-drop}
+use Rattle.std.proofs.Common.{refl, ap, sym, subst, ◌∙◌, arith}
+use Rattle.std.proofs.lemmas.List.{take-append-drop}
 use Rattle.vl_frame.specs.Laws.{length-frame_bytes, one_frame}
 use Rattle.vl_frame.specs.declared.kinds.FileKind.TheVariants as files
 use Rattle.vl_frame.specs.declared.kinds.FrameKind.TheVariants as kinds
 use Rattle.vl_model.specs.declared.entry.Entry.{Entry}
-use Rattle.vl_layout.specs.Tables.{blocks}
+use Rattle.vl_block.specs.Cutting.{blocks}
 use Rattle.vl_run.specs.Lookup.{if_of_key, is_ahead}
 use Rattle.vl_run.specs.Places.{IsParted, first_failing}
 use Rattle.vl_block.specs.Blocks.{IsBlock, SpellsBlock, block_body}
 use Rattle.vl_block.specs.BlockLaws.{one_block}
 use Rattle.vl_block.specs.declared.index.BlockPlace.{BlockPlace}
-use Rattle.std.specs.Prelude.{Result, Ok, Err}
-use Rattle.vl_layout.specs.TableLaws.{blocks-whole, joined}
+use Rattle.vl_block.specs.CuttingLaws.{blocks-whole, joined, blocks-some}
 use Rattle.vl_run.specs.Order.{IsInOrder}
 use Rattle.vl_run.specs.OrderLaws.{rising}
-use Rattle.vl_table.specs.Answers.{Answers, and_then, fails, gives, no_room}
-use Rattle.vl_table.specs.declared.fault.TableFault.{TableFault}
-use Rattle.vl_table.specs.declared.fault.TableFault.TheVariants.{NoMemory}
+use Rattle.vl_part.specs.Answers.{Answers, and_then, fails, gives, no_room}
+use Rattle.vl_part.specs.declared.fault.TableFault.{TableFault}
+use Rattle.vl_part.specs.declared.fault.TableFault.TheVariants.{NoMemory}
 use Rattle.vl_table.specs.Buffers.{IsKept, HasBlock, NoBlock, StandsBlock}
-use Rattle.vl_table.specs.Bytes.{table_bytes}
-use Rattle.vl_table.specs.Lengths.{length-block}
-use Rattle.vl_table.specs.Lookups.{blocks-some, first-skipped, first_over, index-parted, is_below, or_else}
-use Rattle.vl_table.specs.Opened.{IsOf, IsTable}
-use Rattle.vl_table.specs.Places.{BlockAt, block_at, block_bytes, length-block_places}
+use Rattle.vl_block.specs.Bytes.{table_bytes, IsTable}
+use Rattle.vl_block.specs.Lengths.{length-block}
+use Rattle.vl_table.specs.Lookups.{first-skipped, index-parted}
+use Rattle.vl_run.specs.LookupLaws.{is_below}
+use Rattle.vl_run.specs.PartLaws.{first_over, goes_behind, none_over, stops_in}
+use Rattle.vl_table.specs.Opened.{IsOf}
+use Rattle.vl_table.specs.Places.{BlockAt, block_at, block_bytes}
+use Rattle.vl_block.specs.Places.{length-block_places}
 use Rattle.vl_table.specs.declared.block_buffer.BlockBuffer.{BlockBuffer}
 use Rattle.vl_table.specs.declared.table.Table.{Table}
 
@@ -78,35 +80,6 @@ pub no_bad_block : {H : Type 0} (bytes_of : H → Option (List ℕ)) (t : Table 
 no_bad_block bytes_of t es damage is bad =
     let b = named_block bytes_of t es bad.at bad.place is bad.named bad.place_is in
     bad.none.0 b.block (block_stands t.number es bad.at bad.place is.table b)
-
--- ---- one step
-
-module _ (key : List ℕ) (version : ℕ) where
-  -- from a block on
-  pub from_block : (i : ℕ) (bs : List (List Entry)) (p : BlockPlace) → (b : BlockAt 16 bs i p)
-      → first_over key version (drop i bs) ≡ or_else (first_failing (is_ahead key version) b.block) (first_over key version (drop (i + 1) bs))
-  from_block i bs p b =
-      ap (λ l. first_over key version (drop i l)) b.split ∙ ap (first_over key version) (drop_at b.front (b.block ∷ b.back) i b.counted)
-      ∙ ap (λ l. or_else (first_failing (is_ahead key version) b.block) (first_over key version l))
-      (sym (ap (drop (i + 1)) (b.split ∙ sym (append_assoc b.front (b.block ∷ []) b.back))
-      ∙ drop_at (b.front ++ b.block ∷ []) b.back (i + 1) (omega (arith, b.counted, length-append b.front (b.block ∷ [])))))
-
-  pub goes_behind : (i : ℕ) (bs : List (List Entry)) (p : BlockPlace) (whole : Option Entry) → (b : BlockAt 16 bs i p) → first_failing (is_ahead key version) b.block ≡ None
-      → first_over key version (drop i bs) ≡ whole → first_over key version (drop (i + 1) bs) ≡ whole
-  goes_behind i bs p whole b none so_far =
-      sym (from_block i bs p b ∙ ap (λ o. or_else o (first_over key version (drop (i + 1) bs))) none) ∙ so_far
-
-  pub stops_in : (i : ℕ) (bs : List (List Entry)) (p : BlockPlace) (whole : Option Entry) (e : Entry) → (b : BlockAt 16 bs i p) → first_failing (is_ahead key version) b.block ≡ Some e
-      → first_over key version (drop i bs) ≡ whole → first_failing (is_ahead key version) b.block ≡ whole
-  stops_in i bs p whole e b some so_far =
-      some ∙ sym (from_block i bs p b ∙ ap (λ o. or_else o (first_over key version (drop (i + 1) bs))) some) ∙ so_far
-
-  pub none_over : (i : ℕ) (bs : List (List Entry)) → length bs ≤ i → first_over key version (drop i bs) ≡ None
-  none_over i bs past = by (drop i bs) (omega (arith, past, length-drop i bs))
-    where
-      by : (cs : List (List Entry)) → length cs ≡ 0 → first_over key version cs ≡ None
-      by [] none = refl
-      by (c ∷ cs) none = absurd (omega arith)
 
 -- ---- the exits of a look-up
 
@@ -188,7 +161,7 @@ module _ {H : Type 0} (bytes_of : H → Option (List ℕ)) (t : Table H) (key : 
       let said_of = said has.0 (spells bytes has.0 has.1) in
       let first : first_failing (is_ahead key version) one.0.block ≡ Some said_of.0 = ap (first_failing (is_ahead key version)) (sym one.1) ∙ said_of.1 in
       is_x ∙ sym said_of.2 ∙ ap (λ l. if_of_key key (first_failing (is_ahead key version) l)) one.1
-      ∙ ap (if_of_key key) (stops_in key version i (blocks es) p (first_over key version (blocks es)) said_of.0 one.0 first (so_far es is)))
+      ∙ ap (if_of_key key) (stops_in key version i (blocks es) one.0.front one.0.block one.0.back one.0.split one.0.counted (first_over key version (blocks es)) said_of.0 first (so_far es is)))
       (gives c t.number (bytes_of t.held) (λ bytes y. y ≡ x) (λ bytes damage. ⊥) x (λ bytes told. refl))
 
   pub moves_on : (a b c : ℕ) (files : ℕ → Option (List ℕ)) (old buffer : BlockBuffer) (body : List ℕ) → Seeking bytes_of t key version files a b old i → IsKept files buffer
@@ -203,7 +176,7 @@ module _ {H : Type 0} (bytes_of : H → Option (List ℕ)) (t : Table H) (key : 
         let bytes = table_bytes t.number es in
         let has = load.answer bytes is.told in
         let one = loaded buffer bytes es has.0 is.told is has.1 in
-        goes_behind key version i (blocks es) p (first_over key version (blocks es)) one.0
+        goes_behind key version i (blocks es) one.0.front one.0.block one.0.back one.0.split one.0.counted (first_over key version (blocks es))
         (ap (first_failing (is_ahead key version)) (sym one.1) ∙ said has.0 (spells bytes has.0 has.1)) (so.so_far es is);
   }
 

@@ -4,7 +4,7 @@ use Rattle.sha2.specs.Sha256.{compress, digest_bytes, first_words, hash_after, r
 use Rattle.vl_frame.specs.Frame.{check_of, frame_bytes}
 use Rattle.vl_model.specs.declared.entry.Entry.{Entry}
 use Rattle.vl_model.specs.declared.entry.Body.TheVariants.{Inline, Far}
-use Rattle.vl_table.specs.Bytes.{table_bytes}
+use Rattle.vl_block.specs.Bytes.{table_bytes}
 
 -- the byte aa 64 times
 abbrev pub short_value : List ℕ

@@ -1,74 +1,17 @@
-//! How a table is opened: its header and the last eight bytes, then the footer that these lead to, then the index that the
+//! How a table is opened: behind its header and the last eight bytes, the footer that these lead to, then the index that the
 //! footer leads to. Blocks aren't read.
 
-ghost use Rattle.std.specs.Prelude.{◌≡◌, ◌+◌, ◌-◌, ◌≤◌, ◌↔◌, List, length, IfOk, IfNone, IfSome, IsTrue, OnOk};
+ghost use Rattle.std.specs.Prelude.{◌≡◌, ◌+◌, ◌≤◌, List, length, IfOk, IfNone, IfSome};
 ghost use Rattle.vl_block.specs.Footer.{Foot, foot_of};
 ghost use Rattle.vl_block.specs.declared.index.BlockPlace.{BlockPlace};
-ghost use Rattle.vl_table.specs.Answers.{Answers};
-ghost use Rattle.vl_table.specs.Opening.{FooterIn, HasHeader, IsBegun, IsInside, StandsFooter, StandsIndex, said_place};
+ghost use Rattle.vl_part.specs.Answers.{Answers};
+ghost use Rattle.vl_table.specs.Opening.{FooterIn, StandsFooter, StandsIndex};
 
-use crate::fault::{TableFault, damaged};
-use crate::format::TABLE_FORMAT;
-use crate::part::{body_of, is_same, read_part};
-use crate::reading::{fill, read_bytes};
-use byteorder::{BigEndian, ByteOrder};
 use std::alloc::{AllocError, Global};
 use vl_block::{BlockPlace, Footer, read_footer, read_index};
 use vl_disk::{HeldFile, Reader};
-use vl_frame::{FileKind, FrameKind, HEADER_BYTES, read_frame, read_header};
-
-// A table has a header, a frame without a body and a place at least to be looked at.
-const MIN_TABLE_BYTES: u64 = 24;
-
-// Tests the header.
-pub fn read_begin<H: HeldFile, R: Reader<Held = H>>(
-    reader: &mut R,
-    held: &H,
-    number: u32,
-) -> Result<(), TableFault>
-    ensures answers { Answers (R.faults reader.old) (R.faults reader.new) number (H.bytes held.now)
-        (λ bytes done. IsBegun number bytes)
-        (λ bytes damage. (IsBegun number bytes → ⊥) × (damage ≡ 0)) result }
-    ensures long { OnOk result (24 ≤ H.size held.now) }
-{
-    if held.len() < MIN_TABLE_BYTES {
-        return Err(damaged(number, 0));
-    }
-    let mut header = [0; HEADER_BYTES];
-    fill(reader, held, number, 0, &mut header)?;
-    if !has_header(&header, number) {
-        return Err(damaged(number, 0));
-    }
-    Ok(())
-}
-
-fn has_header(bytes: &[u8], number: u32) -> bool
-    ensures { IsTrue result ↔ HasHeader number bytes.now }
-{
-    read_header(bytes, FileKind::Table, number, TABLE_FORMAT).is_some()
-}
-
-// The footer's place, as the last eight bytes say it.
-pub fn read_place<H: HeldFile, R: Reader<Held = H>>(
-    reader: &mut R,
-    held: &H,
-    number: u32,
-) -> Result<u64, TableFault>
-    requires { 24 ≤ H.size held.now }
-    ensures answers { Answers (R.faults reader.old) (R.faults reader.new) number (H.bytes held.now)
-        (λ bytes place. (place ≡ said_place bytes) × IsInside bytes place)
-        (λ bytes damage. (IsInside bytes (said_place bytes) → ⊥) × (damage ≡ length bytes - 8)) result }
-    ensures inside { IfOk result (λ place. place + 21 ≤ H.size held.now) }
-{
-    let end = held.len() - 8;
-    let mut last = [0; 8];
-    fill(reader, held, number, end, &mut last)?;
-    let place = BigEndian::read_u64(&last);
-    if place < HEADER_BYTES as u64 || place > end - 13 {
-        return Err(damaged(number, end));
-    }
-    Ok(place)
-}
+use vl_frame::{FileKind, FrameKind, read_frame};
+use vl_part::{TableFault, body_of, damaged, is_same, read_bytes, read_part};
 
 // The footer at a place.
 pub fn read_foot<H: HeldFile, R: Reader<Held = H>>(

@@ -7,7 +7,8 @@ use Rattle.vl_block.specs.BlockLaws.{entry_is_some}
 use Rattle.vl_block.specs.Blocks.{entries}
 use Rattle.vl_block.specs.Entries.{entry_of}
 use Rattle.vl_list.specs.ListLaws.{all_taken, next, one_more}
-use Rattle.vl_table.specs.Scans.{IsScan, all_passed, stops_at}
+use Rattle.vl_run.specs.PartLaws.{all_passed, stops_at}
+use Rattle.vl_table.specs.Scans.{IsScan}
 use Rattle.vl_table.proofs.scanning.look_in.Goals as goal
 
 pub returns-in_default-take_entry : goal.returns-in_default-take_entry

@@ -3,12 +3,13 @@ use Rattle.std.specs.Prelude.{Result, Err}
 use Rattle.std.proofs.lemmas.Result.{err_from_is_err_and}
 use Rattle.vl_model.specs.Winners.{exact}
 use Rattle.vl_model.specs.declared.entry.Entry.{Entry}
-use Rattle.vl_layout.specs.Tables.{blocks}
-use Rattle.vl_table.specs.Answers.{Answers, and_then, fails, gives}
-use Rattle.vl_table.specs.Lookups.{exact-blocks, first_over}
+use Rattle.vl_block.specs.Cutting.{blocks}
+use Rattle.vl_part.specs.Answers.{Answers, and_then, fails, gives}
+use Rattle.vl_run.specs.PartLaws.{first_over}
+use Rattle.vl_table.specs.Lookups.{exact-blocks}
 use Rattle.vl_table.specs.Opened.{IsOf}
 use Rattle.vl_table.specs.Seeks.{IsBadBlock}
-use Rattle.vl_table.specs.declared.fault.TableFault.{TableFault}
+use Rattle.vl_part.specs.declared.fault.TableFault.{TableFault}
 use Rattle.vl_table.proofs.table.Table.exact.Goals as goal
 
 pub returns-clause-answers : goal.returns-clause-answers

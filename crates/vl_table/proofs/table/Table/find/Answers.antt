@@ -1,5 +1,5 @@
 use Rattle.std.proofs.Common.{◌∙◌}
-use Rattle.vl_table.specs.Answers.{weaker}
+use Rattle.vl_part.specs.Answers.{weaker}
 use Rattle.vl_table.specs.Lookups.{found-blocks}
 use Rattle.vl_table.proofs.table.Table.find.Goals as goal
 

@@ -5,10 +5,10 @@ use Rattle.vl_model.specs.declared.entry.Entry.{Entry}
 use Rattle.vl_block.specs.declared.index.BlockPlace.{BlockPlace}
 use Rattle.std.specs.List.{prefix_len}
 use Rattle.vl_run.specs.Places.{IsParted}
-use Rattle.vl_table.specs.Answers.{Answers}
-use Rattle.vl_table.specs.Lookups.{is_below}
+use Rattle.vl_part.specs.Answers.{Answers}
+use Rattle.vl_run.specs.LookupLaws.{is_below}
 use Rattle.vl_table.specs.Seeks.{Finds, IsBadBlock, finds_none, found_here, load_fails, moves_on, no_memory, seeks}
-use Rattle.vl_table.specs.declared.fault.TableFault.{TableFault}
+use Rattle.vl_part.specs.declared.fault.TableFault.{TableFault}
 use Rattle.vl_table.proofs.table.Table.seek.Goals as goal
 
 pub loop-at-init : goal.loop-at-init

@@ -1,0 +1,53 @@
+-- Blocks hold the entries of their table, all and in order, and none is empty.
+use Rattle.std.proofs.Common.{◌≡◌, ℕ, ◌+◌, ◌≤◌, Bool, true, false, cond, List, [], ◌∷◌, ◌++◌, length, length-append, refl, ap, ◌∙◌, append_assoc, arith}
+use Rattle.std.specs.Prelude.{nat_le, if◌then◌else◌}
+use Rattle.std.specs.List.{AllByRecursion}
+use Rattle.vl_model.specs.declared.entry.Entry.{Entry}
+use Rattle.vl_block.specs.Cutting.{begun_length, blocks, blocks_from, entry_length, max_block_bytes}
+
+-- lists of entries, end to end
+abbrev pub joined : List (List Entry) → List Entry
+joined [] = []
+joined (es ∷ others) = es ++ joined others
+
+one_more : (open_part : List Entry) (e : Entry) (es : List Entry)
+    → (open_part ++ e ∷ []) ++ es ≡ open_part ++ e ∷ es
+one_more open_part e es = append_assoc open_part (e ∷ []) es
+
+by_test : (P : List Entry) (b : Bool) (x y : List (List Entry)) → joined x ≡ P → joined y ≡ P
+    → joined (if b then x else y) ≡ P
+by_test P true x y one other = one
+by_test P false x y one other = other
+
+blocks_from-whole : (open_block : List Entry) (bytes : ℕ) (es : List Entry)
+    → joined (blocks_from open_block bytes es) ≡ open_block ++ es
+blocks_from-whole open_block bytes [] = refl
+blocks_from-whole open_block bytes (e ∷ es) =
+    by_test (open_block ++ e ∷ es) (nat_le (bytes + entry_length e) max_block_bytes)
+    (blocks_from (open_block ++ e ∷ []) (bytes + entry_length e) es) (open_block ∷ blocks_from (e ∷ []) (begun_length e) es)
+    (blocks_from-whole (open_block ++ e ∷ []) (bytes + entry_length e) es ∙ one_more open_block e es)
+    (ap (λ xs. open_block ++ xs) (blocks_from-whole (e ∷ []) (begun_length e) es))
+
+pub blocks-whole : (es : List Entry) → joined (blocks es) ≡ es
+blocks-whole [] = refl
+blocks-whole (e ∷ es) = blocks_from-whole (e ∷ []) (begun_length e) es
+
+-- ---- no block is empty
+
+by_test-some : (t : Bool) (x y : List (List Entry)) → AllByRecursion (λ b. 1 ≤ length b) x → AllByRecursion (λ b. 1 ≤ length b) y
+    → AllByRecursion (λ b. 1 ≤ length b) (cond t x y)
+by_test-some true x y one other = one
+by_test-some false x y one other = other
+
+blocks_from-some : (open_block : List Entry) (bytes : ℕ) (es : List Entry) → 1 ≤ length open_block
+    → AllByRecursion (λ b. 1 ≤ length b) (blocks_from open_block bytes es)
+blocks_from-some open_block bytes [] some = (some, tt)
+blocks_from-some open_block bytes (e ∷ es) some =
+    by_test-some (nat_le (bytes + entry_length e) max_block_bytes)
+    (blocks_from (open_block ++ e ∷ []) (bytes + entry_length e) es) (open_block ∷ blocks_from (e ∷ []) (begun_length e) es)
+    (blocks_from-some (open_block ++ e ∷ []) (bytes + entry_length e) es (omega (arith, length-append open_block (e ∷ []))))
+    (some, blocks_from-some (e ∷ []) (begun_length e) es (omega arith))
+
+pub blocks-some : (es : List Entry) → AllByRecursion (λ b. 1 ≤ length b) (blocks es)
+blocks-some [] = tt
+blocks-some (e ∷ es) = blocks_from-some (e ∷ []) (begun_length e) es (omega arith)

@@ -1,0 +1,5 @@
+pub mod Answers
+pub mod Begun
+pub mod Headers
+pub mod Parts
+pub mod Stages

@@ -1,0 +1,6 @@
+-- What holds of a result that is handed on.
+use Rattle.std.specs.Prelude.{Result, Ok, Err, OnOk}
+
+pub on_ok_both : {T E : Type 0} (r : Result T E) (P Q : Type 0) → OnOk r P → OnOk r Q → OnOk r (P × Q)
+on_ok_both (Ok x) P Q p q = (p, q)
+on_ok_both (Err e) P Q p q = tt

@@ -1,0 +1,13 @@
+use Rattle.std.proofs.Common.{◌∙◌, sym}
+use Rattle.std.proofs.lemmas.Result.{on_ok_weaker}
+use Rattle.vl_table_writer.specs.Finished.{finishes}
+use Rattle.vl_table_writer.proofs.writer.TableWriter.finish.Goals as goal
+
+pub returns : goal.returns
+returns c = λ number es given is.
+    on_ok_weaker c.append_footer.result
+    (λ written. finishes c.args.self c.close.new.self number es given c.args.out.now.items c.close.new.out.items c.append_index.new.out.items c.append_footer.new.out.items
+    c.in_ok-index_length.index_length c.footer-footer.result is
+    (c.in_ok-close.ensures.blocks is.closed is.open_block is.has (is.sums.last ∙ sym is.last)) c.close.ensures.number
+    (c.in_ok-close.ensures.written is.closed is.open_block is.has) c.in_ok-index_length.ensures.written c.in_ok-index_length.ensures.length c.footer-footer.ensures written)
+    c.append_footer.ensures.written

@@ -1,0 +1,99 @@
+ghost use Rattle.std.specs.Prelude.{◌≡◌, ◌+◌, ◌++◌, ◌∷◌, [], nat_le, List, length, IfOk, OnOk};
+ghost use Rattle.vl_frame.specs.Frame.{frame_bytes};
+ghost use Rattle.vl_frame.specs.declared.kinds.FrameKind.TheVariants as kinds;
+ghost use Rattle.vl_model.specs.declared.entry.Entry.{Entry};
+ghost use Rattle.vl_block.specs.Cutting.{body_length, entry_length, last_key, max_block_bytes};
+ghost use Rattle.vl_block.specs.Blocks.{block_body};
+ghost use Rattle.vl_block.specs.Entries.{IsEntry};
+ghost use Rattle.vl_table_writer.specs.Writing.{HasBlocks};
+
+use crate::block_writer::BlockWriter;
+use std::alloc::{AllocError, Global};
+use vl_block::BlockPlace;
+use vl_frame::HEADER_BYTES;
+use vl_model::{Body, Entry, Key, is_key_len};
+
+// A block's body has at most so many bytes, or one entry.
+const MAX_BLOCK_BYTES: usize = 4096;
+
+/// The blocks of a table that is written: where those that are closed stand, and the body of the open one.
+#[derive(Drop)]
+pub struct BlocksWriter {
+    pub number: u32,
+    pub place: u64,
+    pub written: BlockWriter,
+    pub closed: Vec<BlockPlace>,
+}
+
+impl BlocksWriter {
+    pub fn new(alloc: Global, number: u32) -> Result<Self, AllocError>
+        ensures blocks { IfOk result (λ w. HasBlocks w [] []) }
+        ensures number { IfOk result (λ w. w.number ≡ number) }
+    {
+        Ok(BlocksWriter {
+            number,
+            place: HEADER_BYTES as u64,
+            written: BlockWriter::new(alloc)?,
+            closed: Vec::new(alloc),
+        })
+    }
+
+    /// Whether the open block has room for an entry.
+    pub fn has_room(&self, entry: &Entry) -> bool
+        ensures { (closed : List (List Entry)) (open_block : List Entry) → HasBlocks self.now closed open_block
+            → result ≡ nat_le (length (block_body open_block) + entry_length entry.now) max_block_bytes }
+    {
+        let used = self.written.len();
+        used <= MAX_BLOCK_BYTES && fits(entry, MAX_BLOCK_BYTES - used)
+    }
+
+    /// Adds an entry to the open block.
+    pub fn add(&mut self, entry: &Entry) -> Result<(), AllocError>
+        ensures blocks { (closed : List (List Entry)) (open_block : List Entry) → HasBlocks self.old closed open_block
+            → OnOk result (HasBlocks self.new closed (open_block ++ entry.now ∷ [])) }
+        ensures number { self.new.number ≡ self.old.number }
+        ensures lawful { OnOk result (IsEntry entry.now) }
+    {
+        self.written.add(entry)
+    }
+
+    /// Appends the frame of the open block, whose last key this is, and opens one without entries.
+    pub fn close(&mut self, out: &mut Vec<u8>, last: &Key) -> Result<(), AllocError>
+        ensures blocks { (closed : List (List Entry)) (open_block : List Entry) → HasBlocks self.old closed open_block
+            → last.now ≡ last_key open_block → OnOk result (HasBlocks self.new (closed ++ open_block ∷ []) []) }
+        ensures number { self.new.number ≡ self.old.number }
+        ensures written { (closed : List (List Entry)) (open_block : List Entry) → HasBlocks self.old closed open_block
+            → OnOk result (out.new.items ≡ out.old.items
+            ++ frame_bytes self.old.number self.old.place kinds.Block (block_body open_block)) }
+    {
+        let length = self.written.append_frame(out, self.number, self.place)?;
+        if self.place > u64::MAX - length as u64 {
+            return Err(AllocError);
+        }
+        self.closed.push(BlockPlace {
+            place: self.place,
+            length,
+            last: last.share()?,
+        })?;
+        self.place += length as u64;
+        Ok(())
+    }
+}
+
+// Whether an entry takes at most so many bytes.
+fn fits(entry: &Entry, room: usize) -> bool
+    ensures { result ≡ nat_le (entry_length entry.now) room }
+{
+    let key = entry.key.len();
+    key <= room && 11 <= room - key && body_fits(&entry.body, room - key - 11)
+}
+
+fn body_fits(body: &Body, room: usize) -> bool
+    ensures { result ≡ nat_le (body_length body.now) room }
+{
+    match body {
+        Body::Inline(value) => value.len() < room,
+        Body::Far(_) => 16 <= room,
+        Body::Gone | Body::Logged(_, _) => true,
+    }
+}

@@ -1,0 +1,129 @@
+ghost use Rattle.std.specs.Prelude.{◌≡◌, ◌+◌, length, ◌++◌, ◌∷◌, [], ℕ, List, IfOk, OnOk};
+ghost use Rattle.byteorder.specs.Endian.{big_bytes};
+ghost use Rattle.vl_frame.specs.Frame.{frame_bytes, frame_length};
+ghost use Rattle.vl_frame.specs.declared.kinds.FrameKind.TheVariants as kinds;
+ghost use Rattle.vl_model.specs.declared.entry.Entry.{Entry};
+ghost use Rattle.vl_block.specs.Footer.{foot_of, footer_body};
+ghost use Rattle.vl_block.specs.Index.{index_body};
+ghost use Rattle.vl_block.specs.Bytes.{table_bytes, table_header};
+ghost use Rattle.vl_table_writer.specs.Writing.{Appended, HasRoom, IsWriting};
+
+use crate::blocks_writer::BlocksWriter;
+use crate::footer::write_footer;
+use crate::index::write_index;
+use crate::summary::Summary;
+use byteorder::{BigEndian, ByteOrder};
+use std::alloc::{AllocError, Global};
+use vl_block::Footer;
+use vl_frame::{FRAME_BYTES, FileKind, FrameKind, file_header, write_frame};
+use vl_model::Entry;
+use vl_part::TABLE_FORMAT;
+
+/// A table that is written: its entries come in order, and its bytes are given out piece by piece. It holds one block at a
+/// time, the places of the others, and what the footer will say. Where nothing stands in `out`, a block goes there as it was
+/// built, and isn't copied. Where a call fails, give it up.
+#[derive(Drop)]
+pub struct TableWriter {
+    blocks: BlocksWriter,
+    summary: Summary,
+}
+
+impl TableWriter {
+    /// Begins the table with this number, which has this entry first, and appends the table's header.
+    pub fn begin(
+        alloc: Global,
+        out: &mut Vec<u8>,
+        number: u32,
+        first: &Entry,
+    ) -> Result<Self, AllocError>
+        ensures header { OnOk result (out.new.items ≡ out.old.items ++ table_header number) }
+        ensures begun { IfOk result (λ w. IsWriting w number (first.now ∷ []) (table_header number)) }
+    {
+        let mut blocks = BlocksWriter::new(alloc, number)?;
+        blocks.add(first)?;
+        let summary = Summary::of(alloc, first)?;
+        out.extend_from_slice(&file_header(FileKind::Table, TABLE_FORMAT, number))?;
+        Ok(TableWriter { blocks, summary })
+    }
+
+    /// Adds an entry, which has its place behind the others, and appends the block that is closed before it, if one is.
+    /// Want of memory is the answer too where no table may have the entry.
+    pub fn add(&mut self, out: &mut Vec<u8>, entry: &Entry) -> Result<(), AllocError>
+        ensures { (number : ℕ) (es : List Entry) (given : List ℕ) → IsWriting self.old number es given
+            → OnOk result (Appended out.old.items out.new.items
+            (λ piece. IsWriting self.new number (es ++ entry.now ∷ []) (given ++ piece))) }
+    {
+        self.make_room(out, entry)?;
+        self.blocks.add(entry)?;
+        self.summary.add(entry)
+    }
+
+    // Closes the open block where it has no room for an entry.
+    fn make_room(&mut self, out: &mut Vec<u8>, entry: &Entry) -> Result<(), AllocError>
+        ensures { (number : ℕ) (es : List Entry) (given : List ℕ) → IsWriting self.old number es given
+            → OnOk result (Appended out.old.items out.new.items
+            (λ piece. HasRoom self.new number es (given ++ piece) entry.now)) }
+    {
+        if self.blocks.has_room(entry) {
+            return Ok(());
+        }
+        self.blocks.close(out, &self.summary.last)
+    }
+
+    /// Appends the rest: the last block, the index, the footer and its place.
+    pub fn finish(self, alloc: Global, out: &mut Vec<u8>) -> Result<(), AllocError>
+        ensures { (number : ℕ) (es : List Entry) (given : List ℕ) → IsWriting self number es given
+            → OnOk result (Appended out.old.items out.new.items
+            (λ piece. given ++ piece ≡ table_bytes number es)) }
+    {
+        let TableWriter {
+            mut blocks,
+            summary,
+        } = self;
+        blocks.close(out, &summary.last)?;
+        let index_length = append_index(alloc, out, &blocks)?;
+        let footer = summary.footer(blocks.place, index_length);
+        append_footer(alloc, out, blocks.number, &footer)
+    }
+}
+
+// Appends the frame of the index, and says how long it is.
+fn append_index(alloc: Global, out: &mut Vec<u8>, blocks: &BlocksWriter) -> Result<u32, AllocError>
+    ensures written { OnOk result (out.new.items ≡ out.old.items
+        ++ frame_bytes blocks.now.number blocks.now.place kinds.Index (index_body blocks.now.closed.items)) }
+    ensures length { IfOk result (λ n. n ≡ frame_length (length (index_body blocks.now.closed.items))) }
+{
+    let mut body = Vec::new(alloc);
+    write_index(&mut body, &blocks.closed)?;
+    write_frame(out, blocks.number, blocks.place, FrameKind::Index, &body)?;
+    Ok((body.len() + FRAME_BYTES) as u32)
+}
+
+// Appends the frame of the footer, and its place.
+fn append_footer(
+    alloc: Global,
+    out: &mut Vec<u8>,
+    number: u32,
+    footer: &Footer,
+) -> Result<(), AllocError>
+    ensures written { OnOk result (out.new.items ≡ out.old.items
+        ++ (frame_bytes number (footer.now.index_place + footer.now.index_length) kinds.Footer (footer_body (foot_of footer.now))
+        ++ big_bytes 8 (footer.now.index_place + footer.now.index_length))) }
+{
+    if footer.index_place > u64::MAX - footer.index_length as u64 {
+        return Err(AllocError);
+    }
+    let place = footer.index_place + footer.index_length as u64;
+    let mut body = Vec::new(alloc);
+    write_footer(&mut body, footer)?;
+    write_frame(out, number, place, FrameKind::Footer, &body)?;
+    out.extend_from_slice(&place_bytes(place))
+}
+
+fn place_bytes(place: u64) -> [u8; 8]
+    ensures { result ≡ big_bytes 8 place }
+{
+    let mut bytes = [0; 8];
+    BigEndian::write_u64(&mut bytes, place);
+    bytes
+}
