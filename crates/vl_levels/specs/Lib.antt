@@ -3,3 +3,11 @@ pub mod BlocksRead
 pub mod BlockSteps
 pub mod CursorLeft
 pub mod CursorSteps
+pub mod KeyRanges
+pub mod LevelLaws
+pub mod LevelTables
+pub mod LevelsLooked
+pub mod LookedUp
+pub mod Looks
+pub mod LooksOn
+pub mod Parts
