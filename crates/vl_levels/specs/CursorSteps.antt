@@ -75,11 +75,12 @@ spends_in ps read p old new within is few =
 pub gives_last : (told : Option (List ℕ)) (way : Way) (ps : List BlockPlace) (old new : List Entry) (e : Entry) → old ≡ new ++ e ∷ []
     → Gives (left_from told way old ps) (left_from told way new ps) (Some e)
 gives_last None way ps old new e split = λ left is. absurd cc
-gives_last (Some bytes) way ps old new e split = λ left is.
-    (reverse new ++ blocks_entries way bytes ps,
-    some_same left (reverse old ++ blocks_entries way bytes ps) (sym is) ∙ ap (λ (l : List Entry). reverse l ++ blocks_entries way bytes ps) split
-    ∙ ap (λ (l : List Entry). l ++ blocks_entries way bytes ps) (reverse-append new (e ∷ [])),
-    refl)
+gives_last (Some bytes) way ps old new e split = λ left is. (
+  reverse new ++ blocks_entries way bytes ps,
+  some_same left (reverse old ++ blocks_entries way bytes ps) (sym is) ∙ ap (λ (l : List Entry). reverse l ++ blocks_entries way bytes ps) split
+      ∙ ap (λ (l : List Entry). l ++ blocks_entries way bytes ps) (reverse-append new (e ∷ [])),
+  refl,
+)
   where
     some_same : (x y : List Entry) → Some x ≡ Some y → x ≡ y
     some_same x y e = cc

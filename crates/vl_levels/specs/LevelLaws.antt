@@ -1,5 +1,5 @@
 -- In a level of tables that are apart one table at most has a key.
-use Rattle.std.specs.Prelude.{◌≡◌, ℕ, zero, suc, ◌+◌, ◌<◌, ◌≤◌, Bool, true, false, ◌&&◌, not, List, [], ◌∷◌, ◌++◌, length, get_or, Option}
+use Rattle.std.specs.Prelude.{◌≡◌, ℕ, suc, ◌+◌, ◌<◌, ◌≤◌, Bool, true, false, ◌&&◌, not, List, [], ◌∷◌, ◌++◌, length, get_or, Option}
 use Rattle.std.specs.List.{AllByRecursion, prefix_len}
 use Rattle.std.specs.Cmp.Lexicographic.{nat_list_cmp_total}
 use Rattle.std.specs.Ordering.{eq_by_cmp, is_gt, is_lt}
@@ -8,7 +8,7 @@ use Rattle.std.specs.declared.cmp.Ordering.TheVariants.{Less, Equal, Greater}
 use Rattle.std.proofs.Common.{refl, ap, sym, subst, ◌∙◌, append_assoc, arith, cond}
 use Rattle.vl_model.specs.Keys.{key_cmp}
 use Rattle.vl_model.specs.declared.entry.Entry.{Entry}
-use Rattle.vl_layout.specs.Tables.{blocks, first_key, last_key}
+use Rattle.vl_layout.specs.Tables.{first_key, last_key}
 use Rattle.vl_layout.specs.TableLaws.{joined}
 use Rattle.vl_run.specs.OrderLaws.{IsRising, all-append, rising}
 use Rattle.vl_run.specs.Places.{IsParted}

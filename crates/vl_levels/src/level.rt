@@ -54,7 +54,5 @@ pub fn ending_before<H: HeldFile>(tables: &[SharedTable<H>], key: &[u8]) -> usiz
     ensures first { IsParted (ends_before key.now) tables.now → result ≡ prefix_len (ends_before key.now) tables.now }
     ensures within { result ≤ length tables.now }
 {
-    tables.partition_point(|table| {
-        key.cmp(&table.table().footer().last.as_slice()).is_gt()
-    })
+    tables.partition_point(|table| { key.cmp(&table.table().footer().last.as_slice()).is_gt() })
 }

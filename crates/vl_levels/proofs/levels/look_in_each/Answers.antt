@@ -24,9 +24,11 @@ returns-in_err-older-clause-kept g c = λ files kept file.
     let i = c.loop-table.table-index in
     let ts = c.args.tables.now in
     let is = subst (λ (t : Table g.row.H.Denot). t ≡ get_or ts i t) (sym c.table.ensures) c.table-item.is in
-    c.look_in.ensures.kept files (c.loop-table.invariant files kept file).kept
-    (subst (λ (t : Table g.row.H.Denot). files t.number ≡ g.H.HeldFile.bytes t.held) (sym is)
-    (all_get (λ (t : Table g.row.H.Denot). files t.number ≡ g.H.HeldFile.bytes t.held) ts i c.table.result.now file c.loop-table-test.true), tt)
+    c.look_in.ensures.kept files (c.loop-table.invariant files kept file).kept (
+      subst (λ (t : Table g.row.H.Denot). files t.number ≡ g.H.HeldFile.bytes t.held) (sym is)
+          (all_get (λ (t : Table g.row.H.Denot). files t.number ≡ g.H.HeldFile.bytes t.held) ts i c.table.result.now file c.loop-table-test.true),
+      tt,
+    )
 
 pub returns-in_err-older-clause-answers : goal.returns-in_err-older-clause-answers
 returns-in_err-older-clause-answers g c = λ files kept file.
@@ -38,9 +40,11 @@ returns-in_err-older-clause-answers g c = λ files kept file.
     let p = err_from_is_err_and c.from_residual.result c.from_residual.ensures.1 in
     fails_on g.H.HeldFile.bytes files c.args.look c.args.key.now (Unit {0}) (take i ts) _ _ c.loop-table.buffer c.loop-table.best so
     (t ∷ []) (drop (suc i) ts) ts (Unit {0}) _ c.in_err-older.field-0.0 c.from_residual.result (split_at ts i t c.loop-table-test.true is) (p.1 ∙ ap Err p.2) (λ u. u)
-    (c.in_err-older.ensures.answers files so.kept
-    (subst (λ (u : Table g.row.H.Denot). files u.number ≡ g.H.HeldFile.bytes u.held) (sym is)
-    (all_get (λ (u : Table g.row.H.Denot). files u.number ≡ g.H.HeldFile.bytes u.held) ts i t file c.loop-table-test.true), tt))
+    (c.in_err-older.ensures.answers files so.kept (
+      subst (λ (u : Table g.row.H.Denot). files u.number ≡ g.H.HeldFile.bytes u.held) (sym is)
+          (all_get (λ (u : Table g.row.H.Denot). files u.number ≡ g.H.HeldFile.bytes u.held) ts i t file c.loop-table-test.true),
+      tt,
+    ))
 
 pub loop-table-preserved : goal.loop-table-preserved
 loop-table-preserved g c = λ files kept file.

@@ -1,4 +1,4 @@
-use Rattle.std.proofs.Common.{◌≡◌, ◌∙◌, ◌∷◌, [], sym, subst, true, false, not}
+use Rattle.std.proofs.Common.{◌∙◌, ◌∷◌, [], sym, subst}
 use Rattle.vl_levels.specs.LookedUp.{LookedUp, asks, asks_not}
 use Rattle.vl_levels.specs.declared.look.Look.{Look}
 use Rattle.vl_levels.specs.declared.look.Look.TheVariants.{UpTo, Exactly}

@@ -8,7 +8,7 @@ invariant-steps g l = record {
   left : Keeps (cursor_left g.H.HeldFile.bytes l.fn.self) (cursor_left g.H.HeldFile.bytes l.self);
   budget : cursor_budget l.self ≤ cursor_budget l.fn.self;
   steady : g.R.Reader.faults l.self.reader ≡ g.R.Reader.faults l.fn.self.reader;
-  table : l.self.table.now ≡ l.fn.self.table.now
+  table : l.self.table.now ≡ l.fn.self.table.now;
 }
 
 abbrev pub decreases-steps : goal.decreases-steps
