@@ -1,8 +1,3 @@
-pub mod BlockRead
-pub mod BlocksRead
-pub mod BlockSteps
-pub mod CursorLeft
-pub mod CursorSteps
 pub mod KeyRanges
 pub mod LevelLaws
 pub mod LevelTables

@@ -3,7 +3,7 @@
 ghost use Rattle.std.specs.Prelude.{◌≡◌, ◌≤◌, length, IfOk};
 ghost use Rattle.vl_table.specs.Answers.{Answers};
 ghost use Rattle.vl_table.specs.Buffers.{NoBlock};
-ghost use Rattle.vl_levels.specs.BlockRead.{block_entries};
+ghost use Rattle.vl_table_cursor.specs.BlockRead.{block_entries};
 
 use std::alloc::Global;
 use vl_block::{BlockPlace, block_entries};

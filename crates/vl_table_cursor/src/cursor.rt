@@ -5,7 +5,7 @@ ghost use Rattle.vl_run.specs.Order.{along};
 ghost use Rattle.vl_table.specs.Answers.{Answers};
 ghost use Rattle.vl_table.specs.Opened.{IsOf};
 ghost use Rattle.vl_table.specs.Seeks.{IsBadBlock};
-ghost use Rattle.vl_levels.specs.CursorLeft.{blocks_budget, cursor_budget, cursor_left, is_disk_fault};
+ghost use Rattle.vl_table_cursor.specs.CursorLeft.{blocks_budget, cursor_budget, cursor_left, is_disk_fault};
 
 use crate::block::read_entries;
 use crate::ways::{place_on, to_be_given};

@@ -2,9 +2,9 @@ use Rattle.std.proofs.Common.{◌∙◌, ap, List, [], Some, length, arith}
 use Rattle.vl_model.specs.declared.entry.Entry.{Entry}
 use Rattle.vl_block.specs.declared.index.BlockPlace.{BlockPlace}
 use Rattle.vl_table.specs.Bytes.{table_bytes}
-use Rattle.vl_levels.specs.BlocksRead.{blocks_entries, on_way, table_entries}
-use Rattle.vl_levels.specs.CursorSteps.{budget-on_way, left_from}
-use Rattle.vl_levels.proofs.cursor.TableCursor.new.Goals as goal
+use Rattle.vl_table_cursor.specs.BlocksRead.{blocks_entries, on_way, table_entries}
+use Rattle.vl_table_cursor.specs.CursorSteps.{budget-on_way, left_from}
+use Rattle.vl_table_cursor.proofs.cursor.TableCursor.new.Goals as goal
 
 pub returns-clause-left : goal.returns-clause-left
 returns-clause-left g c = λ es is.

@@ -14,7 +14,7 @@ use Rattle.vl_block.specs.declared.index.BlockPlace.{BlockPlace}
 use Rattle.vl_table.specs.Bytes.{block_places, table_bytes}
 use Rattle.vl_table.specs.Opened.{IsTable}
 use Rattle.vl_table.specs.Seeks.{block_stands}
-use Rattle.vl_levels.specs.BlockRead.{block_entries, block_entries-says}
+use Rattle.vl_table_cursor.specs.BlockRead.{block_entries, block_entries-says}
 
 -- a list as a way goes through it
 abbrev pub on_way : {X : Type 0} → Way → List X → List X

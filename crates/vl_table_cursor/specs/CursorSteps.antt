@@ -16,9 +16,9 @@ use Rattle.vl_table.specs.Buffers.{NoBlock}
 use Rattle.vl_table.specs.Seeks.{IsBadBlock}
 use Rattle.vl_table.specs.declared.fault.TableFault.{TableFault}
 use Rattle.vl_table.specs.declared.table.Table.{Table}
-use Rattle.vl_levels.specs.BlockRead.{block_entries}
-use Rattle.vl_levels.specs.BlocksRead.{blocks_entries, on_way}
-use Rattle.vl_levels.specs.CursorLeft.{blocks_budget}
+use Rattle.vl_table_cursor.specs.BlockRead.{block_entries}
+use Rattle.vl_table_cursor.specs.BlocksRead.{blocks_entries, on_way}
+use Rattle.vl_table_cursor.specs.CursorLeft.{blocks_budget}
 
 pub length-on_way : {X : Type 0} (way : Way) (xs : List X) → length (on_way way xs) ≡ length xs
 length-on_way Up xs = refl

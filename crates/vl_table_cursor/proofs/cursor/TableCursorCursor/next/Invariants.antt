@@ -1,7 +1,7 @@
 use Rattle.std.proofs.Common.{◌≡◌, ◌≤◌, ◌-◌, length}
 use Rattle.vl_model.specs.Cursors.{Keeps}
-use Rattle.vl_levels.specs.CursorLeft.{cursor_budget, cursor_left}
-use Rattle.vl_levels.proofs.cursor.TableCursorCursor.next.Given as goal
+use Rattle.vl_table_cursor.specs.CursorLeft.{cursor_budget, cursor_left}
+use Rattle.vl_table_cursor.proofs.cursor.TableCursorCursor.next.Given as goal
 
 abbrev pub invariant-steps : goal.invariant-steps
 invariant-steps g l = record {

@@ -3,7 +3,7 @@
 ghost use Rattle.std.specs.Prelude.{◌≡◌, ◌<◌, List, length, get_or, reverse};
 ghost use Rattle.vl_block.specs.declared.index.BlockPlace.{BlockPlace};
 ghost use Rattle.vl_run.specs.Order.{along};
-ghost use Rattle.vl_levels.specs.BlocksRead.{on_way};
+ghost use Rattle.vl_table_cursor.specs.BlocksRead.{on_way};
 
 use vl_model::{Entry, Way};
 

@@ -10,7 +10,7 @@ use Rattle.vl_table.specs.Buffers.{HasBlock, NoBlock}
 use Rattle.vl_table.specs.declared.block_buffer.BlockBuffer.{BlockBuffer}
 use Rattle.vl_table.specs.declared.fault.TableFault.{TableFault}
 use Rattle.vl_table.specs.declared.fault.TableFault.TheVariants.{NoMemory, Damaged}
-use Rattle.vl_levels.specs.BlockRead.{block-few, block_entries, block_entries-says}
+use Rattle.vl_table_cursor.specs.BlockRead.{block-few, block_entries, block_entries-says}
 
 module _ {T : Type 0} (items : T → List Entry) (before now number : ℕ) (told : Option (List ℕ)) (p : BlockPlace) (buffer : BlockBuffer) where
   -- the buffer has the block

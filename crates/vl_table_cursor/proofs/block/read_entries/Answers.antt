@@ -5,9 +5,9 @@ use Rattle.vl_model.specs.declared.entry.Entry.{Entry}
 use Rattle.vl_table.specs.Answers.{Answers}
 use Rattle.vl_table.specs.Buffers.{NoBlock}
 use Rattle.vl_table.specs.declared.fault.TableFault.{TableFault}
-use Rattle.vl_levels.specs.BlockRead.{block_entries}
-use Rattle.vl_levels.specs.BlockSteps.{load_fails, reads_all, reads_too_many, reads_without_room}
-use Rattle.vl_levels.proofs.block.read_entries.Goals as goal
+use Rattle.vl_table_cursor.specs.BlockRead.{block_entries}
+use Rattle.vl_table_cursor.specs.BlockSteps.{load_fails, reads_all, reads_too_many, reads_without_room}
+use Rattle.vl_table_cursor.proofs.block.read_entries.Goals as goal
 
 pub returns-in_err-load-clause-answers : goal.returns-in_err-load-clause-answers
 returns-in_err-load-clause-answers g c =

@@ -6,8 +6,8 @@ use Rattle.vl_model.specs.declared.entry.Entry.{Entry}
 use Rattle.vl_block.specs.declared.index.BlockPlace.{BlockPlace}
 use Rattle.vl_table.specs.declared.fault.TableFault.{TableFault}
 use Rattle.vl_table.specs.declared.fault.TableFault.TheVariants.{NoMemory, Disk, Damaged}
-use Rattle.vl_levels.specs.BlocksRead.{blocks_entries, on_way}
-use Rattle.vl_levels.specs.declared.cursor.TableCursor.{TableCursor}
+use Rattle.vl_table_cursor.specs.BlocksRead.{blocks_entries, on_way}
+use Rattle.vl_table_cursor.specs.declared.cursor.TableCursor.{TableCursor}
 
 -- the blocks that it hasn't read, as it goes
 abbrev pub unread : {H R : Type 0} → TableCursor H R → List BlockPlace

@@ -6,9 +6,9 @@ use Rattle.vl_table.specs.Answers.{Answers}
 use Rattle.vl_table.specs.Seeks.{IsBadBlock}
 use Rattle.vl_table.specs.declared.fault.TableFault.{TableFault}
 use Rattle.vl_run.specs.Order.{along}
-use Rattle.vl_levels.specs.BlocksRead.{on_way}
-use Rattle.vl_levels.specs.CursorSteps.{block_fails, length-on_way, spends_in, takes_in}
-use Rattle.vl_levels.proofs.cursor.TableCursor.read_block.Goals as goal
+use Rattle.vl_table_cursor.specs.BlocksRead.{on_way}
+use Rattle.vl_table_cursor.specs.CursorSteps.{block_fails, length-on_way, spends_in, takes_in}
+use Rattle.vl_table_cursor.proofs.cursor.TableCursor.read_block.Goals as goal
 
 pub returns-in_err-read-clause-answers : goal.returns-in_err-read-clause-answers
 returns-in_err-read-clause-answers g c =
