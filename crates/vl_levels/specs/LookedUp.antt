@@ -41,6 +41,7 @@ module _ {H : Type 0} (bytes_of : H → Option (List ℕ)) where
   abbrev pub IsDamagedAt : ℕ → Table H → Type 0
   IsDamagedAt place t = ForSome (bytes_of t.held) (λ bytes. IsBadBlock t bytes place)
 
+  -- where a look-up fails, of which table
   abbrev pub NamesAsked : List (Table H) → List ℕ → Result (Option Entry) TableFault → Type 0
   NamesAsked ts key (Ok found) = Unit {0}
   NamesAsked ts key (Err NoMemory) = Unit {0}

@@ -24,6 +24,7 @@ use Rattle.vl_table.specs.Buffers.{StandsBlock}
 
 -- ---- what the bytes say
 
+-- a pointer's three numbers
 unfoldable pub pointer_in : List ℕ → Pointer
 pointer_in bytes = record { segment = big_number 4 bytes; place = big_number 8 (drop 4 bytes); length = big_number 4 (drop 12 bytes) }
 
@@ -32,6 +33,7 @@ unfoldable pub value_in : List ℕ → List ℕ
 value_in [] = []
 value_in (n ∷ bytes) = take n bytes
 
+-- a body by its kind; other kinds than the three are read as the last of them
 unfoldable pub body_in : List ℕ → Body
 body_in [] = Gone
 body_in (zero ∷ bytes) = Inline (value_in bytes)
@@ -42,6 +44,7 @@ body_in (suc (suc kind) ∷ bytes) = Far (pointer_in bytes)
 unfoldable pub behind_key : List ℕ → List ℕ
 behind_key bytes = drop (big_number 2 bytes) (drop 2 bytes)
 
+-- a key of the length that is said, a version and a body
 unfoldable pub entry_in : List ℕ → Entry
 entry_in bytes = record {
   key = take (big_number 2 bytes) (drop 2 bytes);

@@ -18,10 +18,11 @@ abbrev pub cursor_left : {H R : Type 0} → (H → Option (List ℕ)) → TableC
 cursor_left bytes_of c =
     option_map (λ bytes. reverse c.entries.items ++ blocks_entries c.way bytes (unread c)) (bytes_of c.table.now.held)
 
--- a block has fewer entries than bytes
+-- the bytes of the blocks at these places; a block has fewer entries than bytes
 abbrev pub blocks_budget : List BlockPlace → ℕ
 blocks_budget ps = sum_by (λ (p : BlockPlace). p.length) ps
 
+-- the most entries that a cursor still gives
 abbrev pub cursor_budget : {H R : Type 0} → TableCursor H R → ℕ
 cursor_budget c = length c.entries.items + blocks_budget (unread c)
 
