@@ -170,6 +170,20 @@ impl<H: HeldFile> Table<H> {
         }
         Ok(None)
     }
+
+    /// The file that it stands in.
+    pub fn held(&self) -> &H
+        ensures { result.now ≡ self.now.held }
+    {
+        &self.held
+    }
+
+    /// Where its blocks stand, in the order of their keys.
+    pub fn blocks(&self) -> &[BlockPlace]
+        ensures { result.now ≡ self.now.blocks.items }
+    {
+        &self.blocks
+    }
 }
 
 // The entry that was found for a key and a version, if it is of that version.

@@ -1,0 +1,5 @@
+pub mod BlockRead
+pub mod BlocksRead
+pub mod BlockSteps
+pub mod CursorLeft
+pub mod CursorSteps
