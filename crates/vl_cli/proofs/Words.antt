@@ -7,7 +7,7 @@ use Rattle.vl_replay.specs.Runs.{IsFront}
 use Rattle.vl_replay.specs.Steps.{Finishes}
 use Rattle.vl_replay.specs.declared.ending.Ending.{Ending}
 use Rattle.vl_replay.specs.declared.fails.Refusal.{Refusal}
-use Rattle.vl_replay.specs.declared.ending.Ending.TheVariants.{Complete, BadLine, BadWords, DiskFault, Refused, NoMemory, ReadFault, WriteFault, AnswerCut}
+use Rattle.vl_replay.specs.declared.ending.Ending.TheVariants.{Complete, BadLine, BadWords, DiskFault, Refused, NoMemory, ReadFault, WriteFault, AnswerCut, Stopped}
 
 -- the status of an ending by an object
 abbrev pub StatusBy : Culprit → ℕ → Type 0
@@ -23,6 +23,7 @@ disk_status NoMemory = (λ e. cc, λ e. cc)
 disk_status ReadFault = (λ e. cc, λ e. cc)
 disk_status WriteFault = (λ e. cc, λ e. cc)
 disk_status AnswerCut = (λ e. cc, λ e. cc)
+disk_status Stopped = (λ e. refl, λ e. refl)
 
 pub source_status : StatusBy TheSource 6
 source_status Complete = (λ e. cc, λ e. cc)
@@ -34,6 +35,7 @@ source_status NoMemory = (λ e. cc, λ e. cc)
 source_status ReadFault = (λ e. refl, λ e. refl)
 source_status WriteFault = (λ e. cc, λ e. cc)
 source_status AnswerCut = (λ e. cc, λ e. cc)
+source_status Stopped = (λ e. cc, λ e. cc)
 
 pub sink_status : StatusBy TheSink 7
 sink_status Complete = (λ e. cc, λ e. cc)
@@ -45,6 +47,7 @@ sink_status NoMemory = (λ e. cc, λ e. cc)
 sink_status ReadFault = (λ e. cc, λ e. cc)
 sink_status WriteFault = (λ e. refl, λ e. refl)
 sink_status AnswerCut = (λ e. refl, λ e. refl)
+sink_status Stopped = (λ e. cc, λ e. cc)
 
 pub is_refused : (ending : Ending) → status_of ending ≡ 4 → (refusal : Refusal) × (ending ≡ Refused refusal)
 is_refused Complete e = absurd (cc)
@@ -56,6 +59,7 @@ is_refused NoMemory e = absurd (cc)
 is_refused ReadFault e = absurd (cc)
 is_refused WriteFault e = absurd (cc)
 is_refused AnswerCut e = absurd (cc)
+is_refused Stopped e = absurd (cc)
 
 pub is_bad_words : (ending : Ending) → status_of ending ≡ 2 → ending ≡ BadWords
 is_bad_words Complete e = cc
@@ -67,6 +71,7 @@ is_bad_words NoMemory e = cc
 is_bad_words ReadFault e = cc
 is_bad_words WriteFault e = cc
 is_bad_words AnswerCut e = cc
+is_bad_words Stopped e = cc
 
 same : (a b : Culprit) → Some a ≡ Some b → a ≡ b
 same a b e = cc

@@ -1,2 +1,3 @@
-pub mod Run
 pub mod Process
+pub mod Run
+pub mod Words

@@ -1,31 +1,32 @@
 -- Whole runs of the command line: what is done for its words and its input.
-use Rattle.std.specs.Prelude.{◌≡◌, ℕ, Bool, false, not, ◌==◌, ◌&&◌, List, [], ◌∷◌, codes, Some}
-use Rattle.std.specs.Str.{bytes_eq}
+use Rattle.std.specs.Prelude.{◌≡◌, ◌≢◌, ℕ, List, Option, None, Some}
 use Rattle.vl_disk.specs.declared.watched.Watched.{Ghosts}
+use Rattle.vl_cli.specs.Words.{command_of}
+use Rattle.vl_cli.specs.declared.command_line.words.Command.{Command}
 use Rattle.vl_io.specs.declared.sink.Sink as sink
 use Rattle.vl_replay.specs.Endings.{status_of}
 use Rattle.vl_replay.specs.Reading.{Streams, ReadsInput}
 use Rattle.vl_replay.specs.Runs.{Outside}
 use Rattle.vl_replay.specs.Start.{AnswersInput}
 use Rattle.vl_replay.specs.Steps.{FinishesBy, EndsWithoutOpening}
+use Rattle.vl_replay.specs.Trial.{EndsTrial, Trial}
 use Rattle.vl_replay.specs.declared.ending.Ending.{Ending}
+use Rattle.vl_replay.specs.declared.ending.Ending.TheVariants.{Stopped}
 use Rattle.vl_replay.specs.declared.fails.Refusal.{Refusal}
 
--- a word that is neither empty nor an option
-abbrev pub is_plain_word : List ℕ → Bool
-is_plain_word [] = false
-is_plain_word (b ∷ bytes) = not (b == 45)
+-- the words are plain, and ask for this
+abbrev pub AskFor : List (List ℕ) → Command → Type 0
+AskFor words command = command_of words ≡ Some command
 
--- the two words replay and a folder's name
-abbrev pub is_plain : List (List ℕ) → Bool
-is_plain (command ∷ folder ∷ []) = bytes_eq command (codes "replay") && is_plain_word folder
-is_plain words = false
+-- they aren't plain
+abbrev pub AreNotPlain : List (List ℕ) → Type 0
+AreNotPlain words = command_of words ≡ None
 
--- A run answered its input, and has the status of its ending. The table of endings says the status, the culprit and the
--- last line of each.
+-- A run answered its input, and has the status of its ending, which isn't silent. The table of endings says the status, the
+-- culprit and the last line of each.
 abbrev pub StatusOfAnswers : {D : Type 0} → Ghosts D → (old new : Outside D) → (status : ℕ) → Type 0
 StatusOfAnswers g old new status =
-    (ending : Ending) × (status ≡ status_of ending) × AnswersInput g old new ending
+    (ending : Ending) × (status ≡ status_of ending) × (ending ≢ Stopped) × AnswersInput g old new ending
 
 -- a run that wasn't begun put the line of this ending and has its status, or put a front of it and has the sink's
 abbrev pub EndsBy : {K : Type 0} → sink.Ghosts K → (old new : K) → Ending → (status : ℕ) → Type 0
@@ -42,3 +43,8 @@ StatusWithoutOpening g k disk disk' sink sink' refusal status =
 abbrev pub TellsOfInput : (old new : Streams) → (status : ℕ) → Type 0
 TellsOfInput old new status = (input : List ℕ) → old.left ≡ Some input
     → (ending : Ending) × (status ≡ status_of ending) × ReadsInput input old new ending
+
+-- A trial has the status of its ending, and printed what such a trial prints.
+abbrev pub StatusOfTrial : Trial → (held held' left : Option (List ℕ)) → (status : ℕ) → Type 0
+StatusOfTrial t held held' left status =
+    (ending : Ending) × (status ≡ status_of ending) × EndsTrial t held held' left ending

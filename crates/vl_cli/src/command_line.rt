@@ -4,7 +4,7 @@
 mod tests;
 mod words;
 
-ghost use Rattle.std.specs.Prelude.{◌≡◌, ◌≢◌, ◌<◌, ℕ, List, map, string_bytes, Some, true, false};
+ghost use Rattle.std.specs.Prelude.{◌≡◌, ◌≢◌, ◌<◌, ℕ, List, map, string_bytes, Some};
 ghost use Rattle.vl_disk.specs.Crash.{Image};
 ghost use Rattle.vl_disk.specs.DiskState.{DiskState};
 ghost use Rattle.vl_disk.specs.Faults.{Rose};
@@ -20,13 +20,16 @@ ghost use Rattle.vl_replay.specs.Start.{StartsIn, StaysOpenable};
 ghost use Rattle.vl_replay.specs.Steps.{IsRefusedRun};
 ghost use Rattle.vl_replay.specs.declared.ending.Ending.{Ending as HowEnded};
 ghost use Rattle.vl_replay.specs.declared.fails.Refusal.{Refusal};
-ghost use Rattle.vl_cli.specs.Run.{EndsBy, StatusOfAnswers, StatusWithoutOpening, TellsOfInput, is_plain};
+ghost use Rattle.vl_replay.specs.Trying.{trial_of};
+ghost use Rattle.vl_mem.specs.declared.outcome.Outcome.{Outcome};
+ghost use Rattle.vl_cli.specs.Run.{AreNotPlain, AskFor, EndsBy, StatusOfAnswers, StatusOfTrial, StatusWithoutOpening, TellsOfInput};
+ghost use Rattle.vl_cli.specs.declared.command_line.words.Command.{Command as Commands};
 
-use crate::command_line::words::are_plain;
+use crate::command_line::words::{Command, command_in};
 use std::alloc::Global;
 use vl_disk::Disk;
 use vl_io::{Sink, Source};
-use vl_replay::{Ended as Replayed, Ending, NO_MEMORY, USAGE, finish, replay};
+use vl_replay::{Ended as Replayed, Ending, NO_MEMORY, USAGE, finish, replay, trial};
 
 /// How a run ended: the process's status, as docs/SCRIPT.md lists them, and the disk.
 pub struct Ended<D> {
@@ -49,11 +52,17 @@ pub fn run<S: Source, K: Sink, D: Disk>(
     sink: &mut K,
     disk: D,
 ) -> Ended<D>
-    // Where the words are plain and the disk opens as a store, the lines of the input are answered as the sequential store
-    // does: so it is of what is printed, of how the run ends, and of what the disk holds in the end.
-    ensures answers { is_plain (map string_bytes words.now) ≡ true
+    // Where the words ask for a replay and the disk opens as a store, the lines of the input are answered as the sequential
+    // store does: so it is of what is printed, of how the run ends, and of what the disk holds in the end.
+    ensures answers { AskFor (map string_bytes words.now) Command.Replay
         → StatusOfAnswers D.Watched (outside S.Source K.Sink source.old sink.old disk)
         (outside S.Source K.Sink source.new sink.new result.disk) result.status }
+
+    // Where they ask for a trial, what is printed is this, to the byte: the answers to all lines before the stop, and then what
+    // the store has that is opened on what a crash leaves there.
+    ensures tries { (stop : ℕ) (outcome : Outcome) (input : List ℕ) → AskFor (map string_bytes words.now) (Command.Trial stop outcome)
+        → S.left source.old ≡ Some input
+        → StatusOfTrial (trial_of stop input outcome) (K.held sink.old) (K.held sink.new) (S.left source.new) result.status }
 
     // What was read is explained by the history at the reader's number. This is a law of the sequential store's answers,
     // and says nothing of the body. It stands here so that this contract has the whole headline.
@@ -62,23 +71,27 @@ pub fn run<S: Source, K: Sink, D: Disk>(
 
     // Where the words aren't plain nothing is opened or read and the usage line is printed, with status 2, or 7 where it
     // can't be. Status 2 comes nowhere else.
-    ensures no_usage_line { is_plain (map string_bytes words.now) ≡ true → result.status ≢ 2 }
-    ensures not_plain { is_plain (map string_bytes words.now) ≡ false
+    ensures no_usage_line { (command : Commands) → AskFor (map string_bytes words.now) command → result.status ≢ 2 }
+    ensures not_plain { AreNotPlain (map string_bytes words.now)
         → (source.new ≡ source.old) × (result.disk ≡ disk)
         × EndsBy K.Sink sink.old sink.new Ending.BadWords result.status }
 
-    // Status 3 comes only by a fault of the disk, and all others but 7 only without.
+    // A trial hands the disk back untouched.
+    ensures untouched { (stop : ℕ) (outcome : Outcome) → AskFor (map string_bytes words.now) (Command.Trial stop outcome)
+        → result.disk ≡ disk }
+
+    // Status 3 comes only by a fault of the disk, and all others but 7 only without. A trial's stop is none.
     ensures disk_fault { result.status ≡ 3 → Rose (D.faults disk) (D.faults result.disk) }
     ensures no_disk_fault { result.status ≢ 3 → result.status ≢ 7
         → D.faults result.disk ≡ D.faults disk }
 
-    // Where the words are plain, status 4 comes exactly where reads of the disk refuse it as a store, but not where the disk
-    // failed, memory ran out, or the last line couldn't be put. Then no line was read, and the disk wasn't changed. The last
-    // line is all that is printed.
-    ensures refused { result.status ≡ 4
+    // In a replay, status 4 comes exactly where reads of the disk refuse it as a store, but not where the disk failed, memory
+    // ran out, or the last line couldn't be put. Then no line was read, and the disk wasn't changed. The last line is all that
+    // is printed.
+    ensures refused { AskFor (map string_bytes words.now) Command.Replay → result.status ≡ 4
         → ((refusal : Refusal) × IsRefusedRun D.Watched K.Sink disk result.disk sink.old sink.new refusal)
         × (source.new ≡ source.old) }
-    ensures refuses { is_plain (map string_bytes words.now) ≡ true → (state : DiskState) (read : Image) (refusal : Refusal)
+    ensures refuses { AskFor (map string_bytes words.now) Command.Replay → (state : DiskState) (read : Image) (refusal : Refusal)
         → D.told disk ≡ Some state → IsRead read state → IsRefused read refusal
         → StatusWithoutOpening D.Watched K.Sink disk result.disk sink.old sink.new refusal result.status
         × (source.new ≡ source.old) }
@@ -94,22 +107,30 @@ pub fn run<S: Source, K: Sink, D: Disk>(
     // There are no other statuses.
     ensures status { (ending : HowEnded) × (result.status ≡ status_of ending) }
 
-    // Over a source that tells, and a disk on which a store may be opened: however the run ends, and whatever failed, one may
-    // be opened there again.
+    // Over a source that tells, and a disk on which a run may begin and a store be opened: however the run ends, and whatever
+    // failed, one may be opened there again.
     ensures again { (s : State) (input : List ℕ) → StartsIn D.Watched disk s → S.left source.old ≡ Some input
         → StaysOpenable D.Watched disk result.disk }
 
-    // Where the words are plain, the status tells of the input over every disk, also where nothing is known of what it holds:
-    // after 0 every line was of the language and was answered, and after 1 just those before the bad one.
-    ensures input { is_plain (map string_bytes words.now) ≡ true
+    // In a replay the status tells of the input over every disk, also where nothing is known of what it holds: after 0 every
+    // line was of the language and was answered, and after 1 just those before the bad one.
+    ensures input { AskFor (map string_bytes words.now) Command.Replay
         → TellsOfInput (streams S.Source K.Sink source.old sink.old) (streams S.Source K.Sink source.new sink.new)
         result.status }
 {
-    if are_plain(words) {
-        let Replayed { ending, disk } = replay(alloc, source, sink, disk);
-        let status = ending.status();
-        return Ended { status, disk };
+    match command_in(words) {
+        Some(Command::Replay) => {
+            let Replayed { ending, disk } = replay(alloc, source, sink, disk);
+            let status = ending.status();
+            Ended { status, disk }
+        }
+        Some(Command::Trial(stop, outcome)) => {
+            let status = trial(alloc, source, sink, stop, outcome).status();
+            Ended { status, disk }
+        }
+        None => {
+            let status = finish(sink, USAGE, Ending::BadWords).status();
+            Ended { status, disk }
+        }
     }
-    let status = finish(sink, USAGE, Ending::BadWords).status();
-    Ended { status, disk }
 }

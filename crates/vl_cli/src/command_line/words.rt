@@ -1,8 +1,41 @@
 ghost use Rattle.std.specs.Prelude.{◌≡◌, map, string_bytes};
-ghost use Rattle.vl_cli.specs.Run.{is_plain, is_plain_word};
+ghost use Rattle.vl_cli.specs.Words.{command_of, is_plain_word, number_of, outcome_of};
+
+use vl_mem::Outcome;
+
+/// The most changing calls that a trial lets pass.
+const MAX_STOP: u32 = 1_000_000;
+
+/// What plain words ask for.
+#[derive(Clone, Copy)]
+pub enum Command {
+    /// The lines of the input are answered over the disk.
+    Replay,
+    /// The lines of the input are tried over an empty disk that stops behind so many changing calls.
+    Trial(u32, Outcome),
+}
+
+/// What the words ask for; none where they aren't plain.
+pub fn command_in(words: &[String]) -> Option<Command>
+    ensures { result ≡ command_of (map string_bytes words.now) }
+{
+    match words {
+        [command, folder]
+            if command.as_bytes() == b"replay".as_slice() && is_plain_word(folder.as_bytes()) => {
+            Some(Command::Replay)
+        }
+        [command, stop, outcome] if command.as_bytes() == b"trial".as_slice() => {
+            Some(Command::Trial(
+                number(stop.as_str(), MAX_STOP)?,
+                outcome_in(outcome.as_bytes())?,
+            ))
+        }
+        _ => None,
+    }
+}
 
 /// Whether a word isn't empty and doesn't begin with `-`.
-fn is_plain_word_text(word: &[u8]) -> bool
+fn is_plain_word(word: &[u8]) -> bool
     ensures { result ≡ is_plain_word word.now }
 {
     match word {
@@ -11,13 +44,25 @@ fn is_plain_word_text(word: &[u8]) -> bool
     }
 }
 
-/// Whether the words are `replay` and one more, which is neither empty nor begins with `-`.
-pub fn are_plain(words: &[String]) -> bool
-    ensures { result ≡ is_plain (map string_bytes words.now) }
+/// The number that a word spells in decimal, without a sign or leading zeros, where it isn't over a limit.
+fn number(word: &str, most: u32) -> Option<u32>
+    ensures { result ≡ number_of most word.now }
 {
-    match words {
-        [command, folder] => command.as_bytes() == b"replay".as_slice()
-            && is_plain_word_text(folder.as_bytes()),
-        _ => false,
+    let number = word.parse::<u32>().ok()?;
+    let mut digits = itoa::Buffer::new();
+    if digits.format(number).as_bytes() != word.as_bytes() || number > most {
+        return None;
+    }
+    Some(number)
+}
+
+fn outcome_in(word: &[u8]) -> Option<Outcome>
+    ensures { result ≡ outcome_of word.now }
+{
+    match word {
+        b"0" => Some(Outcome::Lost),
+        b"1" => Some(Outcome::Kept),
+        b"2" => Some(Outcome::Halved),
+        _ => None,
     }
 }
