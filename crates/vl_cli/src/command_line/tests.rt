@@ -374,12 +374,23 @@ fn a_transaction_writes_at_most_4096_keys(rt: HostRuntime) -> Result<(), Fail> {
 
 #[test]
 fn words_that_are_not_plain_get_the_usage_line(rt: HostRuntime) -> Result<(), Fail> {
-    let lines: [&[&str]; 5] = [
+    let lines: [&[&str]; 16] = [
         &[],
         &["replay"],
         &["replay", "-h"],
         &["replay", ""],
+        &["replay", ".", "."],
         &["--help", "."],
+        &["trial"],
+        &["trial", "1"],
+        &["trial", "1", "3"],
+        &["trial", "1", "-"],
+        &["trial", "1", "00"],
+        &["trial", "1", "0", "0"],
+        &["trial", "", "0"],
+        &["trial", "01", "0"],
+        &["trial", "+1", "0"],
+        &["trial", "1000001", "0"],
     ];
     for words in lines {
         let case = Case {
