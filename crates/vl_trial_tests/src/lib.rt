@@ -1,0 +1,5 @@
+//! Tests of trials on the command line.
+#![tactic(auto)]
+
+#[cfg(test)]
+mod tests;
