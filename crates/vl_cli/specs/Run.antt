@@ -22,7 +22,7 @@ AskFor words command = command_of words ≡ Some command
 abbrev pub AreNotPlain : List (List ℕ) → Type 0
 AreNotPlain words = command_of words ≡ None
 
--- A run answered its input, and has the status of its ending, which isn't silent. The table of endings says the status, the
+-- A run answered its input, and has the status of its ending, which isn't that of a trial's stop. The table of endings says the status, the
 -- culprit and the last line of each.
 abbrev pub StatusOfAnswers : {D : Type 0} → Ghosts D → (old new : Outside D) → (status : ℕ) → Type 0
 StatusOfAnswers g old new status =

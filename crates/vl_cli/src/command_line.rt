@@ -20,6 +20,7 @@ ghost use Rattle.vl_replay.specs.Start.{StartsIn, StaysOpenable};
 ghost use Rattle.vl_replay.specs.Steps.{IsRefusedRun};
 ghost use Rattle.vl_replay.specs.declared.ending.Ending.{Ending as HowEnded};
 ghost use Rattle.vl_replay.specs.declared.fails.Refusal.{Refusal};
+ghost use Rattle.vl_replay.specs.Trial.{begun};
 ghost use Rattle.vl_replay.specs.Trying.{trial_of};
 ghost use Rattle.vl_mem.specs.declared.outcome.Outcome.{Outcome};
 ghost use Rattle.vl_cli.specs.Run.{AreNotPlain, AskFor, EndsBy, StatusOfAnswers, StatusOfTrial, StatusWithoutOpening, TellsOfInput};
@@ -59,7 +60,7 @@ pub fn run<S: Source, K: Sink, D: Disk>(
         (outside S.Source K.Sink source.new sink.new result.disk) result.status }
 
     // Where they ask for a trial, what is printed is this, to the byte: the answers to all lines before the stop, and then what
-    // the store has that is opened on what a crash leaves there.
+    // the store has that is opened on what a crash leaves there. Other endings print a front of that and their last line.
     ensures tries { (stop : ℕ) (outcome : Outcome) (input : List ℕ) → AskFor (map string_bytes words.now) (Command.Trial stop outcome)
         → S.left source.old ≡ Some input
         → StatusOfTrial (trial_of stop input outcome) (K.held sink.old) (K.held sink.new) (S.left source.new) result.status }
@@ -68,6 +69,7 @@ pub fn run<S: Source, K: Sink, D: Disk>(
     // and says nothing of the body. It stands here so that this contract has the whole headline.
     ensures explained { (s : State) (input : List ℕ) → StartsIn D.Watched disk s
         → AreExplained (exchanges_from s (lines_of input)) }
+    ensures explained_in_trial { (input : List ℕ) → AreExplained (exchanges_from begun (lines_of input)) }
 
     // Where the words aren't plain nothing is opened or read and the usage line is printed, with status 2, or 7 where it
     // can't be. Status 2 comes nowhere else.
@@ -80,7 +82,10 @@ pub fn run<S: Source, K: Sink, D: Disk>(
     ensures untouched { (stop : ℕ) (outcome : Outcome) → AskFor (map string_bytes words.now) (Command.Trial stop outcome)
         → result.disk ≡ disk }
 
-    // Status 3 comes only by a fault of the disk, and all others but 7 only without. A trial's stop is none.
+    // Status 3 comes only by a fault of the disk, and all others but 7 only without. A trial never comes to it: its stop is not
+    // reported.
+    ensures no_fault_in_trial { (stop : ℕ) (outcome : Outcome) → AskFor (map string_bytes words.now) (Command.Trial stop outcome)
+        → result.status ≢ 3 }
     ensures disk_fault { result.status ≡ 3 → Rose (D.faults disk) (D.faults result.disk) }
     ensures no_disk_fault { result.status ≢ 3 → result.status ≢ 7
         → D.faults result.disk ≡ D.faults disk }

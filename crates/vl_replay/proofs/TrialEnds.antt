@@ -21,7 +21,7 @@ use Rattle.vl_replay.specs.Sequential.{State}
 use Rattle.vl_replay.specs.Opening.{IsFault, ending_unopened}
 use Rattle.vl_replay.specs.Runs.{IsFront}
 use Rattle.vl_replay.specs.Steps.{EndsUnopened, Finishes}
-use Rattle.vl_replay.specs.Trial.{EndsTrial, IsLastFront, ReachesEnd, TakesFirst, Trial, all_exchanges, answered_lines, answered_state, at_stop, before_stop, begun, reopened_state, state_behind_stop, trial_text}
+use Rattle.vl_replay.specs.Trial.{EndsTrial, IsLastFront, ReachesEnd, TakesFirst, Trial, exchanges_unstopped, answered_lines, answered_state, at_stop, before_stop, begun, reopened_state, state_behind_stop, trial_text}
 use Rattle.vl_replay.specs.Trying.{ComesTo, HasTried, LeavesToOpen, ReopensAs, StopsOpening, trial_of}
 use Rattle.vl_replay.specs.declared.ending.Ending.{Ending}
 use Rattle.vl_replay.specs.declared.ending.Ending.TheVariants.{Complete, BadLine, BadWords, DiskFault, Refused, NoMemory, ReadFault, WriteFault, AnswerCut, Stopped}
@@ -90,7 +90,7 @@ module _ (t : Trial) (held mid : Option (List ℕ)) (taken : Takes held mid (ans
                   (subst (λ (m : Option (List ℕ)). Takes m (k.held new) (trial_text t)) from (subst (Takes (k.held old) (k.held new)) whole.1 f.taken)),
             ))
             (λ (cut : (result ≡ WriteFault) × IsFront f.printed (trial_text t) × Rose (k.faults old) (k.faults new)).
-            cut_at (trial_text t) Complete result f.printed (inl cut.1) f.taken cut.0)
+            cut_at (trial_text t) Complete result f.printed (inl (reaches, refl, cut.1)) f.taken cut.0)
             f.how
 
 -- ---- a store that wasn't opened
@@ -134,12 +134,12 @@ stopped_opening stop input disk held left below leaves rest told = (
     fails = is_past begun.calls stop below
 
     none_answered : (o : Outcome) → answered_lines (trial_of stop input o) ≡ []
-    none_answered o = chosen_false (nat_le begun.calls stop) (before_stop stop (all_exchanges (trial_of stop input o))) [] fails
+    none_answered o = chosen_false (nat_le begun.calls stop) (before_stop stop (exchanges_unstopped (trial_of stop input o))) [] fails
 
     nothing_left : (o : Outcome) → reopened_state (trial_of stop input o) ≡ begun
     nothing_left o =
         ap (state_behind_stop o stop (answered_state (trial_of stop input o)))
-        (chosen_false (nat_le begun.calls stop) (at_stop stop (all_exchanges (trial_of stop input o))) None fails)
+        (chosen_false (nat_le begun.calls stop) (at_stop stop (exchanges_unstopped (trial_of stop input o))) None fails)
         ∙ ap (last_state begun) (none_answered o)
 
 module _ (stop : ℕ) (disk : MemDisk) where

@@ -84,12 +84,15 @@ AnswersInput g old new ending = (start : State) (input : List ℕ)
 
 -- ---- what is read in such a run is explained
 
-pub all_explained : {D : Type 0} (g : Ghosts D) (disk : D) (s : State) (texts : List (List ℕ))
-    → StartsIn g disk s → AreExplained (exchanges_from s texts)
-all_explained g disk s texts starts = exchanges_from-explained texts s sound
+pub explained_from : (s : State) (texts : List (List ℕ)) → s.handles ≡ empty → AreExplained (exchanges_from s texts)
+explained_from s texts none = exchanges_from-explained texts s sound
   where
     sound : IsSound s
     sound = record {
-      one = rw (ap len starts.handles ∙ len-empty key_cmp Handle) zero-le;
-      current = λ name handle is. absurd (nothing_there handle (sym is ∙ ap (λ handles. get handles name) starts.handles ∙ none_in_empty name));
+      one = rw (ap len none ∙ len-empty key_cmp Handle) zero-le;
+      current = λ name handle is. absurd (nothing_there handle (sym is ∙ ap (λ handles. get handles name) none ∙ none_in_empty name));
     }
+
+pub all_explained : {D : Type 0} (g : Ghosts D) (disk : D) (s : State) (texts : List (List ℕ))
+    → StartsIn g disk s → AreExplained (exchanges_from s texts)
+all_explained g disk s texts starts = explained_from s texts starts.handles

@@ -29,8 +29,8 @@ abbrev pub begun : State
 begun = empty_store 6
 
 -- what the sequential store answers to the lines, if there were no stop
-abbrev pub all_exchanges : Trial → List Exchange
-all_exchanges t = exchanges_from begun (lines_of t.input)
+abbrev pub exchanges_unstopped : Trial → List Exchange
+exchanges_unstopped t = exchanges_from begun (lines_of t.input)
 
 -- ---- up to the stop
 
@@ -46,11 +46,11 @@ at_stop stop (e ∷ later) = if nat_le e.after.calls stop then at_stop stop late
 
 -- the lines that are answered: those before the one that meets the stop, and none where the opening meets it
 abbrev pub answered_lines : Trial → List Exchange
-answered_lines t = if nat_le begun.calls t.stop then before_stop t.stop (all_exchanges t) else []
+answered_lines t = if nat_le begun.calls t.stop then before_stop t.stop (exchanges_unstopped t) else []
 
 -- the line that meets the stop; none where the opening does
 abbrev pub stopped_line : Trial → Option Exchange
-stopped_line t = if nat_le begun.calls t.stop then at_stop t.stop (all_exchanges t) else None
+stopped_line t = if nat_le begun.calls t.stop then at_stop t.stop (exchanges_unstopped t) else None
 
 -- the opening meets the stop, or a line does
 abbrev pub MeetsStop : Trial → Type 0
@@ -72,32 +72,33 @@ abbrev pub reopened_state : Trial → State
 reopened_state t = state_behind_stop t.outcome t.stop (answered_state t) (stopped_line t)
 
 -- the text that is printed of it: the number of its last commit, which is their count, and what it has there
-abbrev pub contents_text : State → List ℕ
-contents_text s = reopened_text (last_number s.history) (contents_at s.history (last_number s.history))
+abbrev pub state_text : State → List ℕ
+state_text s = reopened_text (last_number s.history) (contents_at s.history (last_number s.history))
 
 abbrev pub trial_text : Trial → List ℕ
-trial_text t = contents_text (reopened_state t)
+trial_text t = state_text (reopened_state t)
 
 -- ---- how a trial ends
 
--- all lines before the stop were answered, or all of the input where it isn't met
+-- the stop is met, or each line of the input has an answer: so nothing ends the lines before the stop
 abbrev pub ReachesEnd : Trial → Type 0
-ReachesEnd t = MeetsStop t ⊎ (length (all_exchanges t) ≡ length (lines_of t.input))
+ReachesEnd t = MeetsStop t ⊎ (length (exchanges_unstopped t) ≡ length (lines_of t.input))
 
--- no line meets the stop, and the one behind those that are answered is none of the language
+-- neither the opening nor a line meets the stop, and some line is none of the language
 pub record ReachesBadLine (t : Trial) : Type 0 where
   pub no_stop : MeetsStop t → ⊥
-  pub bad : length (all_exchanges t) < length (lines_of t.input)
+  pub bad : length (exchanges_unstopped t) < length (lines_of t.input)
 
 -- the sink took the answers to some first of these lines, and then this piece
 abbrev pub TakesFirst : Trial → (held held' : Option (List ℕ)) → (count : ℕ) → (piece : List ℕ) → Type 0
 TakesFirst t held held' count piece =
     (count ≤ length (answered_lines t)) × Takes held held' (answers_text (take count (answered_lines t)) ++ piece)
 
--- some first bytes of a last line, behind so many answers
+-- Some first bytes of what ends a trial's output: of what the opened store has, which comes behind all answers; or of a last
+-- line, behind so many.
 abbrev pub IsLastFront : Trial → (count : ℕ) → (piece : List ℕ) → Type 0
 IsLastFront t count piece =
-    IsFront piece (trial_text t)
+    (ReachesEnd t × (count ≡ length (answered_lines t)) × IsFront piece (trial_text t))
     ⊎ ((other : Ending) × (line : List ℕ) × (last_line (count + 1) other ≡ Some line) × IsFront piece line)
 
 -- some first bytes of the answer to the next line
@@ -111,7 +112,7 @@ abbrev pub EndsTrial : Trial → (held held' left : Option (List ℕ)) → Endin
 EndsTrial t held held' left Complete =
     ReachesEnd t × (left ≡ Some []) × Takes held held' (answers_text (answered_lines t) ++ trial_text t)
 EndsTrial t held held' left BadLine =
-    ReachesBadLine t × Takes held held' (answers_text (all_exchanges t) ++ bad_line (length (all_exchanges t) + 1))
+    ReachesBadLine t × Takes held held' (answers_text (exchanges_unstopped t) ++ bad_line (length (exchanges_unstopped t) + 1))
 EndsTrial t held held' left BadWords = ⊥
 EndsTrial t held held' left DiskFault = ⊥
 EndsTrial t held held' left (Refused refusal) = ⊥

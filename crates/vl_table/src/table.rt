@@ -103,8 +103,8 @@ impl<H: HeldFile> Table<H> {
 
     /// Of the entries of a key with a version of at most a number the one of the greatest version.
     ///
-    /// It reads no block but the one that may hold the key, and those behind it that begin with older versions of the same
-    /// key. A block that the buffer has isn't read again.
+    /// It reads the first block whose last key isn't below the key, and goes on to the next while all entries of a block come
+    /// before the place. A block that the buffer has isn't read again.
     pub fn find<R: Reader<Held = H>>(
         &self,
         alloc: Global,

@@ -82,12 +82,12 @@ fn each_damage_is_found(rt: HostRuntime) -> Result<(), Fail> {
     assert_eq!(rt; damage(alloc, &TABLE)?, None);
     assert_eq!(rt; damage(alloc, &TABLE[..23])?, Some(0));
     let mut places = Vec::new(alloc);
-    for at in [0, 16, 143, 175, 240] {
+    for at in [0, 16, 143, 175, 233, 240] {
         let mut bytes = TABLE;
         bytes[at] ^= 1;
         places.push(damage(alloc, &bytes)?)?;
     }
-    let expected = [Some(0), Some(16), Some(138), Some(170), Some(171)];
+    let expected = [Some(0), Some(16), Some(138), Some(170), Some(233), Some(171)];
     assert_eq!(rt; places.as_slice(), expected.as_slice());
     Ok(())
 }

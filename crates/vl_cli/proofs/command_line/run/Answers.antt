@@ -1,12 +1,12 @@
 use Rattle.std.proofs.Common.{◌≡◌, ◌≢◌, ◌<◌, ◌≤◌, ℕ, Option, None, Some, refl, sym, ap, subst, ◌∙◌, arith}
 use Rattle.vl_mem.specs.declared.outcome.Outcome.{Outcome}
-use Rattle.vl_replay.specs.Trial.{EndsTrial}
+use Rattle.vl_replay.specs.Trial.{EndsTrial, begun}
 use Rattle.vl_replay.specs.Trying.{trial_of}
 use Rattle.vl_cli.specs.declared.command_line.words.Command.{Command}
 use Rattle.vl_cli.specs.declared.command_line.words.Command.TheVariants.{Replay, Trial}
 use Rattle.vl_script.specs.Script.{lines_of}
 use Rattle.vl_replay.specs.Endings.{TheDisk, TheSource, TheSink, status_of, usage_line}
-use Rattle.vl_replay.specs.Start.{all_explained}
+use Rattle.vl_replay.specs.Start.{all_explained, explained_from}
 use Rattle.vl_cli.proofs.Words.{disk_status, source_status, sink_status, is_refused, is_bad_words, rose_by, steady_by, refused_status, refused_rose, refused_steady}
 use Rattle.vl_cli.proofs.command_line.run.Goals as goal
 
@@ -52,6 +52,9 @@ returns-in-Some-Replay-clause-answers g c plain = (c.replay-ending.result.ending
 
 pub returns-in-Some-Replay-clause-explained : goal.returns-in-Some-Replay-clause-explained
 returns-in-Some-Replay-clause-explained g c s input starts = all_explained g.D.Watched c.args.disk s (lines_of input) starts
+
+pub returns-in-Some-Replay-clause-explained_in_trial : goal.returns-in-Some-Replay-clause-explained_in_trial
+returns-in-Some-Replay-clause-explained_in_trial g c input = explained_from begun (lines_of input) refl
 
 pub returns-in-Some-Replay-clause-no_usage_line : goal.returns-in-Some-Replay-clause-no_usage_line
 returns-in-Some-Replay-clause-no_usage_line g c command plain two = c.replay-ending.ensures.not_the_words (is_bad_words c.replay-ending.result.ending (sym c.status-status.ensures ∙ two))
@@ -107,6 +110,9 @@ returns-in-Some-Replay-clause-tries g c stop outcome input asked = absurd (no_tr
 pub returns-in-Some-Replay-clause-untouched : goal.returns-in-Some-Replay-clause-untouched
 returns-in-Some-Replay-clause-untouched g c stop outcome asked = absurd (no_trial stop outcome c.command_in.ensures (c.in-Some-Replay.is ∙ ap Some c.in-Some-Replay.field-0-is) asked)
 
+pub returns-in-Some-Replay-clause-no_fault_in_trial : goal.returns-in-Some-Replay-clause-no_fault_in_trial
+returns-in-Some-Replay-clause-no_fault_in_trial g c stop outcome asked = absurd (no_trial stop outcome c.command_in.ensures (c.in-Some-Replay.is ∙ ap Some c.in-Some-Replay.field-0-is) asked)
+
 pub returns-in-Some-Replay-clause-again : goal.returns-in-Some-Replay-clause-again
 returns-in-Some-Replay-clause-again g c s input starts told = c.replay-ending.ensures.again s input starts told
 
@@ -117,6 +123,9 @@ returns-in-None-clause-answers g c plain = absurd (none_asked Replay c.command_i
 
 pub returns-in-None-clause-explained : goal.returns-in-None-clause-explained
 returns-in-None-clause-explained g c s input starts = all_explained g.D.Watched c.args.disk s (lines_of input) starts
+
+pub returns-in-None-clause-explained_in_trial : goal.returns-in-None-clause-explained_in_trial
+returns-in-None-clause-explained_in_trial g c input = explained_from begun (lines_of input) refl
 
 pub returns-in-None-clause-no_usage_line : goal.returns-in-None-clause-no_usage_line
 returns-in-None-clause-no_usage_line g c command plain = absurd (none_asked command c.command_in.ensures c.in-None.is plain)
@@ -154,6 +163,9 @@ returns-in-None-clause-tries g c stop outcome input asked = absurd (none_asked (
 pub returns-in-None-clause-untouched : goal.returns-in-None-clause-untouched
 returns-in-None-clause-untouched g c stop outcome asked = refl
 
+pub returns-in-None-clause-no_fault_in_trial : goal.returns-in-None-clause-no_fault_in_trial
+returns-in-None-clause-no_fault_in_trial g c stop outcome asked = absurd (none_asked (Trial stop outcome) c.command_in.ensures c.in-None.is asked)
+
 -- ---- a trial
 
 pub returns-in-Some-Trial-clause-answers : goal.returns-in-Some-Trial-clause-answers
@@ -172,6 +184,9 @@ returns-in-Some-Trial-clause-tries g c stop outcome input asked told =
 pub returns-in-Some-Trial-clause-explained : goal.returns-in-Some-Trial-clause-explained
 returns-in-Some-Trial-clause-explained g c s input starts = all_explained g.D.Watched c.args.disk s (lines_of input) starts
 
+pub returns-in-Some-Trial-clause-explained_in_trial : goal.returns-in-Some-Trial-clause-explained_in_trial
+returns-in-Some-Trial-clause-explained_in_trial g c input = explained_from begun (lines_of input) refl
+
 pub returns-in-Some-Trial-clause-no_usage_line : goal.returns-in-Some-Trial-clause-no_usage_line
 returns-in-Some-Trial-clause-no_usage_line g c command plain two = c.trial.ensures.not_the_words (is_bad_words c.trial.result (sym c.status-status-in-Some-Trial.ensures ∙ two))
 
@@ -180,6 +195,9 @@ returns-in-Some-Trial-clause-not_plain g c other = absurd (is_asked (Trial c.in-
 
 pub returns-in-Some-Trial-clause-untouched : goal.returns-in-Some-Trial-clause-untouched
 returns-in-Some-Trial-clause-untouched g c stop outcome asked = refl
+
+pub returns-in-Some-Trial-clause-no_fault_in_trial : goal.returns-in-Some-Trial-clause-no_fault_in_trial
+returns-in-Some-Trial-clause-no_fault_in_trial g c stop outcome asked is = c.trial.ensures.no_disk_fault ((disk_status c.trial.result).0 (sym c.status-status-in-Some-Trial.ensures ∙ is))
 
 pub returns-in-Some-Trial-clause-disk_fault : goal.returns-in-Some-Trial-clause-disk_fault
 returns-in-Some-Trial-clause-disk_fault g c is = absurd (c.trial.ensures.no_disk_fault ((disk_status c.trial.result).0 (sym c.status-status-in-Some-Trial.ensures ∙ is)))
