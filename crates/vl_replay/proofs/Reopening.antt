@@ -1,7 +1,7 @@
 -- The two openings of a trial: that of the empty disk that stops, and that of what a crash leaves.
-use Rattle.std.proofs.Common.{◌≡◌, ◌≢◌, ◌⊎◌, ⊎_elim, inl, inr, ℕ, ◌+◌, ◌-◌, ◌^◌, ◌<◌, ◌≤◌, List, [], length, take, Some, None, Result, Ok, Err, refl, sym, ◌∙◌, ap, subst, arith}
-use Rattle.std.specs.Prelude.{Option, IfOk, IfErr}
-use Rattle.std.specs.FinMap.{empty, get, get-empty}
+use Rattle.std.proofs.Common.{◌≡◌, ⊎_elim, ℕ, ◌-◌, ◌^◌, ◌≤◌, List, [], length, Some, None, Result, Ok, Err, refl, sym, ◌∙◌, ap, subst, arith}
+use Rattle.std.specs.Prelude.{IfOk, IfErr}
+use Rattle.std.specs.FinMap.{empty, get-empty}
 use Rattle.std.proofs.lemmas.List.{take_all}
 use Rattle.vl_contents.specs.Text.{reopened_text}
 use Rattle.vl_disk.specs.Crash.{Image}
@@ -10,9 +10,7 @@ use Rattle.vl_disk.specs.Faults.{HasCause, after_calls}
 use Rattle.vl_disk.specs.Moments.{HoldsThroughout}
 use Rattle.vl_disk.specs.Name.{name_cmp}
 use Rattle.vl_disk.specs.Started.{IsRead, Started, started_empty, started_read}
-use Rattle.vl_disk.specs.declared.name.Name.{Name}
 use Rattle.vl_io.specs.declared.sink.Sink as sink
-use Rattle.vl_mem.specs.CrashImage.{crash_image}
 use Rattle.vl_mem.specs.Event.{counts_present, told_lawful}
 use Rattle.vl_mem.specs.FailsPast.{FailsPast, counted_past, never_fails, stops_after}
 use Rattle.vl_mem.specs.ChangePlan.{ChangePlan, new_changes, stopping_after}
@@ -20,9 +18,7 @@ use Rattle.vl_disk.specs.FaultPlan.{new_plan}
 use Rattle.vl_mem.specs.MemDisk.{changes_of, faults_of, reads_of, state_of, told_by}
 use Rattle.vl_mem.specs.contracts.mem_disk.MemDiskWatched.TheImpl as memory
 use Rattle.vl_mem.specs.declared.mem_disk.MemDisk.{MemDisk}
-use Rattle.vl_mem.specs.declared.outcome.Outcome.{Outcome}
-use Rattle.vl_model.specs.History.{History, contents_at, last_number, no_history, pairs_after}
-use Rattle.vl_model.specs.Keys.{Writes}
+use Rattle.vl_model.specs.History.{History, contents_at, pairs_after}
 use Rattle.vl_recover.specs.Answers.{AnswersBy, Finds, calls_to_open}
 use Rattle.vl_recover.specs.Meanwhile.{IsMeanwhile}
 use Rattle.vl_recover.specs.Results.{HasFailed, came_by, opened_of}
@@ -32,7 +28,7 @@ use Rattle.vl_recover.specs.declared.fails.Why.{Why}
 use Rattle.vl_recover.specs.declared.fails.Why.TheVariants as why
 use Rattle.vl_recover.specs.declared.parts.Parts.{Parts}
 use Rattle.vl_replay.specs.Durable.{HoldsState, Tells}
-use Rattle.vl_replay.specs.Endings.{TheDisk, culprit_of, last_line, no_memory_line}
+use Rattle.vl_replay.specs.Endings.{no_memory_line}
 use Rattle.vl_replay.specs.Opened.{IsOpenedStore}
 use Rattle.vl_replay.specs.Opening.{AnswersOpening, IsFault, IsRefused, disk_behind, ending_unopened, why_of}
 use Rattle.vl_replay.specs.Reopens.{Reopens}
@@ -40,19 +36,18 @@ use Rattle.vl_replay.specs.Represents.{Represents}
 use Rattle.vl_replay.specs.Sequential.{State}
 use Rattle.vl_replay.specs.Start.{IsDurable, OpensUpTo, StartsIn}
 use Rattle.vl_replay.specs.StartLaws.{finds_nothing, gone_on_from, opens_up_to, reopened, started_durable, starts_empty}
-use Rattle.vl_replay.specs.Steps.{EndsFor, EndsUnopened, Finishes, FinishesBy}
+use Rattle.vl_replay.specs.Steps.{EndsUnopened, Finishes, FinishesBy}
 use Rattle.vl_replay.specs.Stored.{IsStored}
 use Rattle.vl_replay.specs.Trial.{begun}
-use Rattle.vl_replay.specs.Trying.{IsOnTrial, ReopensAs, StopsOpening}
+use Rattle.vl_replay.specs.Trying.{IsOnTrial, StopsOpening}
 use Rattle.vl_replay.specs.declared.ending.Ending.{Ending}
-use Rattle.vl_replay.specs.declared.ending.Ending.TheVariants.{Complete, NoMemory, WriteFault}
+use Rattle.vl_replay.specs.declared.ending.Ending.TheVariants.{NoMemory}
 use Rattle.vl_replay.specs.declared.fails.Refusal.{Refusal}
 use Rattle.vl_replay.specs.declared.fails.Refusal.TheVariants as refusals
 use Rattle.vl_replay.specs.declared.replayer.Replayer.{Replayer}
-use Rattle.vl_replay.proofs.Ends.{or_cut}
 use Rattle.vl_replay.proofs.NumbersLeft.{reopens_not_refused, reopens_starts}
 use Rattle.vl_replay.proofs.OpeningStopped.{opening_reopens}
-use Rattle.vl_replay.proofs.Recovering.{opened_store, parts_number}
+use Rattle.vl_replay.proofs.Recovering.{opened_store}
 use Rattle.vl_replay.proofs.Refusals.{opened_not_refused}
 
 some_list : (a b : List ℕ) → Some a ≡ Some b → a ≡ b

@@ -1,20 +1,19 @@
 -- How a trial ends, by the stages that it went through.
-use Rattle.std.proofs.Common.{◌≡◌, ◌≢◌, ◌⊎◌, ⊎_elim, inl, inr, ℕ, ◌+◌, ◌<◌, ◌≤◌, false, List, [], ◌++◌, length, take, Option, Some, None, refl, sym, ◌∙◌, ap, subst, arith, zero-le}
+use Rattle.std.proofs.Common.{◌≡◌, ◌≢◌, ⊎_elim, inl, inr, ℕ, ◌<◌, false, List, [], ◌++◌, length, take, Option, Some, None, refl, sym, ◌∙◌, ap, subst, arith, zero-le}
 use Rattle.std.specs.Prelude.{nat_le}
 use Rattle.std.proofs.lemmas.List.{take_all}
-use Rattle.vl_contents.specs.Text.{reopened_text}
-use Rattle.vl_disk.specs.Faults.{HasCause, Rose}
+use Rattle.vl_disk.specs.Faults.{Rose}
 use Rattle.vl_io.specs.Sink.{Takes}
 use Rattle.vl_io.specs.declared.sink.Sink as sink
 use Rattle.vl_mem.specs.CrashImage.{crash_image}
 use Rattle.vl_mem.specs.MemDisk.{state_of}
 use Rattle.vl_mem.specs.declared.mem_disk.MemDisk.{MemDisk}
 use Rattle.vl_mem.specs.declared.outcome.Outcome.{Outcome}
-use Rattle.vl_model.specs.History.{contents_at, last_number}
+use Rattle.vl_model.specs.History.{last_number}
 use Rattle.vl_recover.specs.Results.{HasFailed, came_by}
 use Rattle.vl_recover.specs.declared.fails.Why.{Why}
 use Rattle.vl_recover.specs.declared.fails.Why.TheVariants as why
-use Rattle.vl_replay.specs.Endings.{Culprit, CountsFaultsOf, TheDisk, TheSink, TheSource, culprit_of, last_line, no_memory_line, read_fault_line}
+use Rattle.vl_replay.specs.Endings.{Culprit, CountsFaultsOf, TheDisk, culprit_of, no_memory_line, read_fault_line}
 use Rattle.vl_replay.specs.Exchanges.{Exchange, answers_text, last_state}
 use Rattle.vl_replay.specs.Reopens.{Reopens}
 use Rattle.vl_replay.specs.Sequential.{State}
@@ -22,7 +21,7 @@ use Rattle.vl_replay.specs.Opening.{IsFault, ending_unopened}
 use Rattle.vl_replay.specs.Runs.{IsFront}
 use Rattle.vl_replay.specs.Steps.{EndsUnopened, Finishes}
 use Rattle.vl_replay.specs.Trial.{EndsTrial, IsLastFront, ReachesEnd, TakesFirst, Trial, exchanges_unstopped, answered_lines, answered_state, at_stop, before_stop, begun, reopened_state, state_behind_stop, trial_text}
-use Rattle.vl_replay.specs.Trying.{ComesTo, HasTried, LeavesToOpen, ReopensAs, StopsOpening, trial_of}
+use Rattle.vl_replay.specs.Trying.{ComesTo, LeavesToOpen, ReopensAs, StopsOpening, trial_of}
 use Rattle.vl_replay.specs.declared.ending.Ending.{Ending}
 use Rattle.vl_replay.specs.declared.ending.Ending.TheVariants.{Complete, BadLine, BadWords, DiskFault, Refused, NoMemory, ReadFault, WriteFault, AnswerCut, Stopped}
 use Rattle.vl_replay.proofs.Ends.{or_cut, takes_both, takes_nothing}

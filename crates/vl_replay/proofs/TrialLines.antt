@@ -1,9 +1,8 @@
 -- Which lines are answered up to a stop, by the calls that are counted behind them.
-use Rattle.std.proofs.Common.{◌≡◌, ◌⊎◌, ℕ, zero, suc, ◌+◌, ◌<◌, ◌≤◌, Bool, true, false, cond, List, [], ◌∷◌, length, take, Some, None, refl, sym, ◌∙◌, ap, subst, arith, zero-le}
+use Rattle.std.proofs.Common.{◌≡◌, ℕ, zero, suc, ◌+◌, ◌<◌, ◌≤◌, Bool, true, false, cond, List, [], ◌∷◌, length, take, Some, None, refl, sym, ◌∙◌, ap, subst, arith, zero-le}
 use Rattle.std.specs.Prelude.{Option, nat_le, ◌==◌}
 use Rattle.std.specs.FinMap.{get, len}
 use Rattle.std.specs.List.{AllByRecursion, slice_get}
-use Rattle.std.specs.Option.{option_map}
 use Rattle.std.proofs.lemmas.Bool.Decides.{nat_tests}
 use Rattle.vl_model.specs.History.{last_number}
 use Rattle.vl_model.specs.Limits.{max_commit_number, max_room}

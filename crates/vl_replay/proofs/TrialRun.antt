@@ -1,6 +1,6 @@
 -- What the run of a trial came to, by what it did to its disk.
-use Rattle.std.proofs.Common.{◌≡◌, ◌⊎◌, ⊎_elim, inl, inr, ℕ, suc, ◌+◌, ◌-◌, ◌^◌, ◌<◌, ◌≤◌, Bool, true, false, List, [], ◌∷◌, ◌++◌, length, take, Some, None, IsTrue, refl, sym, ◌∙◌, ap, subst, arith, append-nil}
-use Rattle.std.specs.Prelude.{Option, nat_le, cond}
+use Rattle.std.proofs.Common.{◌≡◌, ⊎_elim, inr, ℕ, suc, ◌+◌, ◌-◌, ◌^◌, ◌<◌, ◌≤◌, Bool, List, [], ◌∷◌, ◌++◌, length, take, Some, None, IsTrue, refl, sym, ◌∙◌, ap, subst, arith, append-nil}
+use Rattle.std.specs.Prelude.{Option, nat_le}
 use Rattle.std.specs.List.{AllByRecursion, slice_get}
 use Rattle.std.proofs.lemmas.List.{take_all}
 use Rattle.vl_disk.specs.DiskState.{DiskState}
@@ -16,15 +16,15 @@ use Rattle.vl_model.specs.History.{History, last_number}
 use Rattle.vl_model.specs.Limits.{max_file_number}
 use Rattle.vl_script.specs.Script.{lines_of}
 use Rattle.vl_replay.specs.Durable.{DiskEnds, DiskEndsFrom, GoesAlong, HoldsCommits, StopsWithin}
-use Rattle.vl_replay.specs.Endings.{Culprit, CountsFaultsOf, EndsAs, TheDisk, bad_line, last_line, no_memory_line, read_fault_line}
-use Rattle.vl_replay.specs.Exchanges.{Exchange, answers_text, exchanges_from, last_state}
+use Rattle.vl_replay.specs.Endings.{CountsFaultsOf, EndsAs, TheDisk, bad_line, last_line, no_memory_line, read_fault_line}
+use Rattle.vl_replay.specs.Exchanges.{Exchange, answers_text, last_state}
 use Rattle.vl_replay.specs.Reopens.{Reopens, commits_of, state_left}
-use Rattle.vl_replay.specs.Runs.{EndsRun, EvidenceOf, Outside, Script, course, exchanges, script_of}
+use Rattle.vl_replay.specs.Runs.{EndsRun, Outside, Script, course, exchanges, script_of}
 use Rattle.vl_replay.specs.Sequential.{State}
 use Rattle.vl_replay.specs.Stopped.{IsStoppedIn, append_failed, append_passed, calls_until, sync_failed}
 use Rattle.vl_replay.specs.Stored.{IsStored, Shown}
-use Rattle.vl_replay.specs.Trial.{EndsTrial, MeetsStop, TakesFirst, Trial, answered_lines, at_stop, before_stop, begun, reopened_state, state_behind_stop, stopped_line}
-use Rattle.vl_replay.specs.Trying.{ComesTo, HasTried, IsOnTrial, trial_of}
+use Rattle.vl_replay.specs.Trial.{MeetsStop, TakesFirst, Trial, answered_lines, at_stop, before_stop, begun, reopened_state, state_behind_stop, stopped_line}
+use Rattle.vl_replay.specs.Trying.{ComesTo, IsOnTrial, trial_of}
 use Rattle.vl_replay.specs.Writing.{PassedOne}
 use Rattle.vl_replay.specs.declared.ending.Ending.{Ending}
 use Rattle.vl_replay.specs.declared.ending.Ending.TheVariants.{Complete, BadLine, BadWords, DiskFault, Refused, NoMemory, ReadFault, WriteFault, AnswerCut, Stopped}

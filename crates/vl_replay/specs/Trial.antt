@@ -1,5 +1,5 @@
 -- A trial: a script over a disk that stops, and what the store has that is opened on what a crash then leaves.
-use Rattle.std.specs.Prelude.{◌≡◌, ◌≢◌, ◌⊎◌, ◌+◌, ◌<◌, ◌≤◌, ℕ, nat_le, if◌then◌else◌, List, [], ◌∷◌, ◌++◌, length, take, Option, Some, None}
+use Rattle.std.specs.Prelude.{◌≡◌, ◌⊎◌, ◌+◌, ◌<◌, ◌≤◌, ℕ, nat_le, if◌then◌else◌, List, [], ◌∷◌, ◌++◌, length, take, Option, Some, None}
 use Rattle.std.specs.List.{slice_get}
 use Rattle.vl_contents.specs.Text.{reopened_text}
 use Rattle.vl_io.specs.Sink.{Takes}
@@ -8,14 +8,12 @@ use Rattle.vl_model.specs.History.{contents_at, last_number}
 use Rattle.vl_script.specs.Script.{lines_of, text_of}
 use Rattle.vl_replay.specs.Endings.{bad_line, last_line, no_memory_line, read_fault_line}
 use Rattle.vl_replay.specs.Exchanges.{Exchange, answers_text, exchanges_from, last_state}
-use Rattle.vl_replay.specs.Reading.{Streams}
 use Rattle.vl_replay.specs.Reopens.{state_left}
 use Rattle.vl_replay.specs.Runs.{IsFront}
 use Rattle.vl_replay.specs.Sequential.{State}
 use Rattle.vl_replay.specs.StartLaws.{empty_store}
 use Rattle.vl_replay.specs.declared.ending.Ending.{Ending}
 use Rattle.vl_replay.specs.declared.ending.Ending.TheVariants.{Complete, BadLine, BadWords, DiskFault, Refused, NoMemory, ReadFault, WriteFault, AnswerCut, Stopped}
-use Rattle.vl_replay.specs.declared.fails.Refusal.{Refusal}
 
 -- what is tried: the lines of some bytes, over an empty disk of which each changing call behind so many fails; and what a
 -- crash then does to what isn't durable

@@ -9,7 +9,7 @@ use Rattle.vl_mem.specs.MemDisk.{faults_of, state_of}
 use Rattle.vl_mem.specs.contracts.mem_disk.MemDiskWatched.TheImpl as memory
 use Rattle.vl_mem.specs.declared.mem_disk.MemDisk.{MemDisk}
 use Rattle.vl_mem.specs.declared.outcome.Outcome.{Outcome}
-use Rattle.vl_model.specs.History.{History, contents_at, last_number, no_history}
+use Rattle.vl_model.specs.History.{History, contents_at, last_number}
 use Rattle.vl_recover.specs.declared.fails.Why.{Why}
 use Rattle.vl_recover.specs.declared.fails.Why.TheVariants as why
 use Rattle.vl_replay.specs.Durable.{HoldsState}

@@ -87,7 +87,14 @@ fn each_damage_is_found(rt: HostRuntime) -> Result<(), Fail> {
         bytes[at] ^= 1;
         places.push(damage(alloc, &bytes)?)?;
     }
-    let expected = [Some(0), Some(16), Some(138), Some(170), Some(233), Some(171)];
+    let expected = [
+        Some(0),
+        Some(16),
+        Some(138),
+        Some(170),
+        Some(233),
+        Some(171),
+    ];
     assert_eq!(rt; places.as_slice(), expected.as_slice());
     Ok(())
 }

@@ -1,4 +1,4 @@
-use Rattle.std.proofs.Common.{◌≡◌, ◌≢◌, inl, ◌∙◌, ap, Err, ℕ, List, refl, subst, sym}
+use Rattle.std.proofs.Common.{◌≢◌, inl, ◌∙◌, ap, Err, ℕ, List, refl, subst, sym}
 use Rattle.std.specs.Prelude.{Some}
 use Rattle.std.specs.Prelude.{is_ok}
 use Rattle.vl_io.specs.Sink.{Takes, TakesPrefix}

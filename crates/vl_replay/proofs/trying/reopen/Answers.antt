@@ -1,11 +1,10 @@
-use Rattle.std.proofs.Common.{inl, inr, subst, sym, ◌∙◌, ap, List, ℕ, refl}
+use Rattle.std.proofs.Common.{inl, inr, subst, sym, ◌∙◌, List, ℕ, refl}
 use Rattle.vl_recover.specs.declared.parts.FrozenLog.{FrozenLog}
 use Rattle.vl_replay.specs.Opened.{IsOpenedStore}
 use Rattle.vl_mem.specs.MemDisk.{state_of}
 use Rattle.vl_mem.specs.CrashImage.{crash_image}
 use Rattle.vl_replay.specs.declared.ending.Ending.TheVariants.{Complete}
 use Rattle.vl_replay.specs.Steps.{Finishes}
-use Rattle.vl_disk.specs.Started.{started_read}
 use Rattle.vl_recover.specs.ReadImage.{read_image}
 use Rattle.vl_replay.proofs.Reopening.{again_starts, memory_line, never_failed, only_memory, text_is}
 use Rattle.vl_replay.proofs.TrialEnds.{not_by_disk}

@@ -1,6 +1,6 @@
 use Rattle.std.proofs.Common.{◌∙◌, ◌++◌, ℕ, List, refl, subst, sym, ap, Err}
 use Rattle.vl_disk.specs.Faults.{Rose}
-use Rattle.vl_replay.specs.Endings.{Evidence, culprit_of, no_memory_line, read_fault_line}
+use Rattle.vl_replay.specs.Endings.{Evidence, no_memory_line, read_fault_line}
 use Rattle.vl_replay.specs.Reading.{ReadsOn, streams}
 use Rattle.vl_replay.specs.Runs.{outside}
 use Rattle.vl_replay.specs.Steps.{kept, Steps}
