@@ -1,5 +1,6 @@
 pub mod Buffers
 pub mod Lookups
+pub mod Meets
 pub mod Opened
 pub mod Opening
 pub mod OpeningSteps

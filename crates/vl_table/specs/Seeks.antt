@@ -1,7 +1,8 @@
 -- A look-up, block by block.
 use Rattle.std.specs.Prelude.{◌≡◌, ◌+◌, ◌≤◌, ◌<◌, ◌^◌, ℕ, List, [], ◌∷◌, ◌++◌, length, drop, get_or, Option, Some, None, Result, Ok, Err}
 use Rattle.std.specs.List.{AllByRecursion, prefix_len}
-use Rattle.std.proofs.Common.{refl, ap, sym, subst, ◌∙◌, arith}
+use Rattle.std.specs.Option.{ForSome}
+use Rattle.std.proofs.Common.{drop_of_length-le, refl, ap, sym, subst, ◌∙◌, arith}
 use Rattle.std.proofs.lemmas.List.{take-append-drop}
 use Rattle.vl_frame.specs.Laws.{length-frame_bytes, one_frame}
 use Rattle.vl_frame.specs.declared.kinds.FileKind.TheVariants as files
@@ -25,6 +26,7 @@ use Rattle.vl_block.specs.Lengths.{length-block}
 use Rattle.vl_table.specs.Lookups.{first-skipped, index-parted}
 use Rattle.vl_run.specs.LookupLaws.{is_below}
 use Rattle.vl_run.specs.PartLaws.{first_over, goes_behind, none_over, stops_in}
+use Rattle.vl_table.specs.Meets.{LooksIn, MetSoFar, met_at_first, met_behind, met_here, met_none}
 use Rattle.vl_table.specs.Opened.{IsOf}
 use Rattle.vl_table.specs.Places.{BlockAt, block_at, block_bytes}
 use Rattle.vl_block.specs.Places.{length-block_places}
@@ -92,6 +94,8 @@ pub record Seeking {H : Type 0} (bytes_of : H → Option (List ℕ)) (t : Table 
   pub steady : now ≡ before
   pub kept : IsKept files buffer
   pub so_far : (es : List Entry) → IsOf bytes_of t es → first_over key version (drop at (blocks es)) ≡ first_over key version (blocks es)
+  -- and each stands, also where the table isn't true
+  pub met : ForSome (bytes_of t.held) (λ bytes. MetSoFar t key version bytes at)
 
 pub seeks : {H : Type 0} (bytes_of : H → Option (List ℕ)) (t : Table H) (key : List ℕ) (version : ℕ) (files : ℕ → Option (List ℕ)) (before : ℕ) (buffer : BlockBuffer) (at : ℕ)
     → IsKept files buffer
@@ -107,6 +111,7 @@ seeks bytes_of t key version files before buffer at kept first = record {
       let parted = subst (IsParted test) (sym is.blocks) (index-parted key version 16 bs (blocks-some es) ordered) in
       ap (λ (n : ℕ). first_over key version (drop n bs)) (first parted ∙ ap (prefix_len test) is.blocks)
       ∙ first-skipped key version 16 bs ordered;
+  met = λ bytes told. met_at_first t key version bytes at first;
 }
 
 module _ {H : Type 0} (bytes_of : H → Option (List ℕ)) (t : Table H) (key : List ℕ) (version : ℕ) (i : ℕ) (p : BlockPlace)
@@ -178,7 +183,22 @@ module _ {H : Type 0} (bytes_of : H → Option (List ℕ)) (t : Table H) (key : 
         let one = loaded buffer bytes es has.0 is.told is has.1 in
         goes_behind key version i (blocks es) one.0.front one.0.block one.0.back one.0.split one.0.counted (first_over key version (blocks es))
         (ap (first_failing (is_ahead key version)) (sym one.1) ∙ said has.0 (spells bytes has.0 has.1)) (so.so_far es is);
+    met = λ bytes told.
+        let has = load.answer bytes told in
+        met_behind t key version bytes i p within found has.0 has.1.stands (so.met bytes told) (said has.0 (spells bytes has.0 has.1));
   }
+
+  -- what was found was met
+  pub looks_here : (b c : ℕ) (buffer : BlockBuffer) (body : List ℕ) (x : Option Entry)
+      → Answers {T = Unit {0}} b c t.number (bytes_of t.held) (λ bytes done. (es : List Entry) × HasBlock buffer t.number bytes p.place p.length es) (NoBlock t.number p) (Ok (tt {0}))
+      → ((bytes : List ℕ) (es : List Entry) → HasBlock buffer t.number bytes p.place p.length es → SpellsBlock body es)
+      → ((es : List Entry) → SpellsBlock body es → (e : Entry) × (first_failing (is_ahead key version) es ≡ Some e) × (if_of_key key (first_failing (is_ahead key version) es) ≡ x))
+      → ForSome (bytes_of t.held) (λ bytes. MetSoFar t key version bytes i)
+      → LooksIn bytes_of (if_of_key key) t key version (Ok x)
+  looks_here b c buffer body x load spells said met = λ bytes told.
+      let has = load.answer bytes told in
+      let said_of = said has.0 (spells bytes has.0 has.1) in
+      met_here t key version bytes i p within found has.0 has.1.stands (if_of_key key) said_of.0 x (met bytes told) said_of.1 (sym said_of.2 ∙ ap (if_of_key key) said_of.1)
 
 -- no block is left
 pub finds_none : {H : Type 0} (bytes_of : H → Option (List ℕ)) (t : Table H) (key : List ℕ) (version : ℕ) (files : ℕ → Option (List ℕ)) (a b : ℕ) (buffer : BlockBuffer) (at : ℕ)
@@ -188,3 +208,9 @@ finds_none bytes_of t key version files a b buffer at so past =
     subst (λ (n : ℕ). Answers {T = Option Entry} n b t.number (bytes_of t.held) (Finds bytes_of t key version) (IsBadBlock t) (Ok None)) so.steady
     (gives b t.number (bytes_of t.held) (Finds bytes_of t key version) (IsBadBlock t) None
     (λ bytes told es is. sym (ap (if_of_key key) (sym (so.so_far es is) ∙ none_over key version at (blocks es) (omega (arith, past, ap length is.blocks, length-block_places 16 (blocks es)))))))
+
+pub looks_none : {H : Type 0} (bytes_of : H → Option (List ℕ)) (t : Table H) (key : List ℕ) (version : ℕ) (files : ℕ → Option (List ℕ)) (a b : ℕ) (buffer : BlockBuffer) (at : ℕ)
+    → Seeking bytes_of t key version files a b buffer at → length t.blocks.items ≤ at
+    → LooksIn bytes_of (if_of_key key) t key version (Ok None)
+looks_none bytes_of t key version files a b buffer at so past = λ bytes told.
+    met_none t key version bytes (if_of_key key) at (so.met bytes told) (drop_of_length-le t.blocks.items past) refl

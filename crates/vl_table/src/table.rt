@@ -12,6 +12,7 @@ ghost use Rattle.vl_table.specs.Buffers.{IsKept};
 ghost use Rattle.vl_block.specs.Bytes.{table_bytes, IsTable};
 ghost use Rattle.vl_run.specs.PartLaws.{first_over};
 ghost use Rattle.vl_run.specs.LookupLaws.{is_below};
+ghost use Rattle.vl_table.specs.Meets.{LooksIn};
 ghost use Rattle.vl_table.specs.Seeks.{IsBadBlock};
 ghost use Rattle.vl_table.specs.Opened.{IsOf, OpensAs};
 ghost use Rattle.vl_table.specs.Opening.{IsDamaged, IsRead};
@@ -119,6 +120,10 @@ impl<H: HeldFile> Table<H> {
             → Answers (R.faults reader.old) (R.faults reader.new) self.now.number (H.bytes self.now.held)
             (λ bytes found. (es : List Entry) → IsOf H.bytes self.now es → found ≡ winner es key.now number)
             (λ bytes damage. IsBadBlock self.now bytes damage) result }
+
+        // No answer hides a block that doesn't stand, also in a table that isn't true.
+        ensures looks { (files : ℕ → Option (List ℕ)) → IsKept files buffer.old → files self.now.number ≡ H.bytes self.now.held
+            → LooksIn H.bytes (if_of_key key.now) self.now key.now number result }
     {
         self.seek(alloc, reader, buffer, key, number)
     }
@@ -138,6 +143,8 @@ impl<H: HeldFile> Table<H> {
             → Answers (R.faults reader.old) (R.faults reader.new) self.now.number (H.bytes self.now.held)
             (λ bytes found. (es : List Entry) → IsOf H.bytes self.now es → found ≡ exact es key.now version)
             (λ bytes damage. IsBadBlock self.now bytes damage) result }
+        ensures looks { (files : ℕ → Option (List ℕ)) → IsKept files buffer.old → files self.now.number ≡ H.bytes self.now.held
+            → LooksIn H.bytes (if_exact key.now version) self.now key.now version result }
     {
         let found = self.seek(alloc, reader, buffer, key, version)?;
         Ok(of_version(found, version))
@@ -159,6 +166,8 @@ impl<H: HeldFile> Table<H> {
             (λ bytes found. (es : List Entry) → IsOf H.bytes self.now es
             → found ≡ if_of_key key.now (first_over key.now version (blocks es)))
             (λ bytes damage. IsBadBlock self.now bytes damage) result }
+        ensures looks { (files : ℕ → Option (List ℕ)) → IsKept files buffer.old → files self.now.number ≡ H.bytes self.now.held
+            → LooksIn H.bytes (if_of_key key.now) self.now key.now version result }
     {
         for at in first_block(&self.blocks, key)..self.blocks.len() {
             buffer.load(reader, &self.held, self.number, &self.blocks[at])?;

@@ -8,6 +8,8 @@ use Rattle.vl_part.specs.Answers.{Answers, and_then, fails, gives}
 use Rattle.vl_run.specs.PartLaws.{first_over}
 use Rattle.vl_table.specs.Lookups.{exact-blocks}
 use Rattle.vl_table.specs.Opened.{IsOf}
+use Rattle.vl_run.specs.Lookup.{if_exact}
+use Rattle.vl_table.specs.Meets.{LooksIn}
 use Rattle.vl_table.specs.Seeks.{IsBadBlock}
 use Rattle.vl_part.specs.declared.fault.TableFault.{TableFault}
 use Rattle.vl_table.proofs.table.Table.exact.Goals as goal
@@ -26,3 +28,13 @@ returns-in_err-found-clause-answers g c = λ files kept file.
     subst (λ (r : Result (Option Entry) TableFault). Answers (g.R.Reader.faults c.args.reader.now) (g.R.Reader.faults c.seek.new.reader) c.args.self.now.number (g.H.HeldFile.bytes c.args.self.now.held)
     (λ bytes found. (es : List Entry) → IsOf g.H.HeldFile.bytes c.args.self.now es → found ≡ exact es c.args.key.now c.args.version) (IsBadBlock c.args.self.now) r) (sym (p.1 ∙ ap Err p.2))
     (fails _ _ c.args.self.now.number _ _ _ _ _ c.in_err-found.field-0.0 (λ bytes told damage bad. bad) (c.in_err-found.ensures.answers files kept file))
+
+pub returns-clause-looks : goal.returns-clause-looks
+returns-clause-looks g c = λ files kept file bytes told.
+    let looks = c.in_ok-found.ensures.looks files kept file bytes told in
+    record { met = λ rises. let meets = looks.met rises in (meets.0, meets.1, c.of_version.ensures c.args.key.now meets.0 meets.2) }
+
+pub returns-in_err-found-clause-looks : goal.returns-in_err-found-clause-looks
+returns-in_err-found-clause-looks g c = λ files kept file.
+    let p = err_from_is_err_and c.from_residual.result c.from_residual.ensures.1 in
+    subst (λ (r : Result (Option Entry) TableFault). LooksIn g.H.HeldFile.bytes (if_exact c.args.key.now c.args.version) c.args.self.now c.args.key.now c.args.version r) (sym p.1) tt

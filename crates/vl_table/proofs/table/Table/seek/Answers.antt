@@ -4,10 +4,12 @@ use Rattle.std.proofs.lemmas.Result.{err_from_is_err_and}
 use Rattle.vl_model.specs.declared.entry.Entry.{Entry}
 use Rattle.vl_block.specs.declared.index.BlockPlace.{BlockPlace}
 use Rattle.std.specs.List.{prefix_len}
+use Rattle.vl_run.specs.Lookup.{if_of_key}
 use Rattle.vl_run.specs.Places.{IsParted}
 use Rattle.vl_part.specs.Answers.{Answers}
 use Rattle.vl_run.specs.LookupLaws.{is_below}
-use Rattle.vl_table.specs.Seeks.{Finds, IsBadBlock, finds_none, found_here, load_fails, moves_on, no_memory, seeks}
+use Rattle.vl_table.specs.Meets.{LooksIn}
+use Rattle.vl_table.specs.Seeks.{Finds, IsBadBlock, finds_none, found_here, load_fails, looks_here, looks_none, moves_on, no_memory, seeks}
 use Rattle.vl_part.specs.declared.fault.TableFault.{TableFault}
 use Rattle.vl_table.proofs.table.Table.seek.Goals as goal
 
@@ -79,3 +81,36 @@ returns-clause-answers g c = λ files kept file.
 
 pub returns-clause-kept : goal.returns-clause-kept
 returns-clause-kept g c = λ files kept file. (c.loop-at.invariant files kept file).kept
+
+pub returns-in_err-load-clause-looks : goal.returns-in_err-load-clause-looks
+returns-in_err-load-clause-looks g c = λ files kept file.
+    let p = err_from_is_err_and c.from_residual.result c.from_residual.ensures.1 in
+    subst (λ (r : Result (Option Entry) TableFault). LooksIn g.H.HeldFile.bytes (if_of_key c.args.key.now) c.args.self.now c.args.key.now c.args.version r) (sym p.1) tt
+
+pub returns-in_err-look_in-clause-looks : goal.returns-in_err-look_in-clause-looks
+returns-in_err-look_in-clause-looks g c = λ files kept file.
+    let p = err_from_is_err_and c.from_residual-in_err-look_in.result c.from_residual-in_err-look_in.ensures.1 in
+    subst (λ (r : Result (Option Entry) TableFault). LooksIn g.H.HeldFile.bytes (if_of_key c.args.key.now) c.args.self.now c.args.key.now c.args.version r) (sym p.1) tt
+
+pub returns-in-Found-clause-looks : goal.returns-in-Found-clause-looks
+returns-in-Found-clause-looks g c = λ files kept file.
+    let so = c.loop-at.invariant files kept file in
+    looks_here g.H.HeldFile.bytes c.args.self.now c.args.key.now c.args.version c.loop-at.at c.index.result.now (let less = c.loop-at-test.true in omega arith) c.index.ensures _ _ c.load.new.self c.body.result.now (Some c.in-Found.entry)
+    (c.in_ok-load.ensures.answers files so.kept file)
+    (λ bytes es has. c.body.ensures c.args.self.now.number c.index.result.now.place c.index.result.now.length bytes es has)
+    (λ es spells. let said = rw c.in-Found.is at c.in_ok-look_in.ensures es spells in (c.in-Found.entry, said.0, said.1))
+    so.met
+
+pub returns-in-Other-clause-looks : goal.returns-in-Other-clause-looks
+returns-in-Other-clause-looks g c = λ files kept file.
+    let so = c.loop-at.invariant files kept file in
+    looks_here g.H.HeldFile.bytes c.args.self.now c.args.key.now c.args.version c.loop-at.at c.index.result.now (let less = c.loop-at-test.true in omega arith) c.index.ensures _ _ c.load.new.self c.body.result.now None
+    (c.in_ok-load.ensures.answers files so.kept file)
+    (λ bytes es has. c.body.ensures c.args.self.now.number c.index.result.now.place c.index.result.now.length bytes es has)
+    (λ es spells. let said = rw c.in-Other.is at c.in_ok-look_in.ensures es spells in said)
+    so.met
+
+pub returns-clause-looks : goal.returns-clause-looks
+returns-clause-looks g c = λ files kept file.
+    looks_none g.H.HeldFile.bytes c.args.self.now c.args.key.now c.args.version files _ _ c.loop-at.buffer c.loop-at.at (c.loop-at.invariant files kept file)
+    (let past = c.loop-at-test.false in omega (arith, c.len-at-end.ensures))
