@@ -1,7 +1,5 @@
 //! The top call: words and a script in, answers and a status out.
 
-#[cfg(test)]
-mod tests;
 mod words;
 
 ghost use Rattle.std.specs.Prelude.{◌≡◌, ◌≢◌, ◌<◌, ℕ, List, map, string_bytes, Some};
