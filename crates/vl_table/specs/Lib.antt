@@ -1,10 +1,8 @@
 pub mod Buffers
-pub mod Lookups
 pub mod Meets
 pub mod Opened
 pub mod Opening
 pub mod OpeningSteps
-pub mod Places
 pub mod Scans
 pub mod Seeks
 pub mod Worked

@@ -21,7 +21,7 @@ use Rattle.vl_block.specs.Bytes.{IsTable, block_places, blocks_bytes, foot, foot
 use Rattle.vl_block.specs.Lengths.{length-footer, length-index, length-table_bytes}
 use Rattle.vl_table.specs.Opening.{IsDamaged, IsRead, StandsFooter, StandsIndex, no_footer, no_header, no_index, no_place}
 use Rattle.vl_part.specs.Begun.{IsInside, said_place}
-use Rattle.vl_table.specs.Places.{drop-end, drop-footer, drop-index}
+use Rattle.vl_block_laws.specs.TablePlaces.{drop-end, drop-footer, drop-index}
 
 -- ---- one reading
 

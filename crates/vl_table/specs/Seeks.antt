@@ -23,12 +23,12 @@ use Rattle.vl_part.specs.declared.fault.TableFault.TheVariants.{NoMemory}
 use Rattle.vl_table.specs.Buffers.{IsKept, HasBlock, NoBlock, StandsBlock}
 use Rattle.vl_block.specs.Bytes.{table_bytes, IsTable}
 use Rattle.vl_block.specs.Lengths.{length-block}
-use Rattle.vl_table.specs.Lookups.{first-skipped, index-parted}
+use Rattle.vl_block_laws.specs.Lookups.{first-skipped, index-parted}
 use Rattle.vl_run.specs.LookupLaws.{is_below}
 use Rattle.vl_run.specs.PartLaws.{first_over, goes_behind, none_over, stops_in}
 use Rattle.vl_table.specs.Meets.{LooksIn, MetSoFar, met_at_first, met_behind, met_here, met_none}
 use Rattle.vl_table.specs.Opened.{IsOf}
-use Rattle.vl_table.specs.Places.{BlockAt, block_at, block_bytes}
+use Rattle.vl_block_laws.specs.TablePlaces.{BlockAt, block_at, block_bytes}
 use Rattle.vl_block.specs.Places.{length-block_places}
 use Rattle.vl_table.specs.declared.block_buffer.BlockBuffer.{BlockBuffer}
 use Rattle.vl_table.specs.declared.table.Table.{Table}

@@ -6,7 +6,7 @@ use Rattle.vl_model.specs.declared.entry.Entry.{Entry}
 use Rattle.vl_block.specs.Cutting.{blocks}
 use Rattle.vl_part.specs.Answers.{Answers, and_then, fails, gives}
 use Rattle.vl_run.specs.PartLaws.{first_over}
-use Rattle.vl_table.specs.Lookups.{exact-blocks}
+use Rattle.vl_block_laws.specs.Lookups.{exact-blocks}
 use Rattle.vl_table.specs.Opened.{IsOf}
 use Rattle.vl_run.specs.Lookup.{if_exact}
 use Rattle.vl_table.specs.Meets.{LooksIn}
