@@ -2,8 +2,8 @@
 use Rattle.std.specs.Prelude.{◌-◌, ◌<◌, ◌≤◌, ℕ, IsTrue, nat_lt, Option, None, Some, List, length, get_or}
 use Rattle.std.proofs.Common.{sym, subst, arith}
 use Rattle.std.proofs.lemmas.Bool.Decides.{nat_tests}
-use Rattle.vl_list.specs.Lists.{IsNext}
-use Rattle.vl_list.specs.ListLaws.{last_item, last-of}
+use Rattle.vl_block.specs.Lists.{IsNext}
+use Rattle.vl_block.specs.laws.ListLaws.{last_item, last-of}
 use Rattle.vl_block.specs.Footer.{point_bytes, points}
 use Rattle.vl_block.specs.Index.{place_bytes, places}
 use Rattle.vl_block.specs.declared.index.BlockPlace.{BlockPlace}

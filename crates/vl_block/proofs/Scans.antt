@@ -4,11 +4,11 @@ use Rattle.std.specs.Option.{option_map}
 use Rattle.std.proofs.Common.{sym, subst}
 use Rattle.vl_model.specs.declared.entry.Entry.{Entry}
 use Rattle.vl_block.specs.declared.entry_ref.EntryRef.{EntryRef}
-use Rattle.vl_block.specs.BlockLaws.{entry_is_some}
+use Rattle.vl_block.specs.laws.BlockLaws.{entry_is_some}
 use Rattle.vl_block.specs.Blocks.{entries}
 use Rattle.vl_block.specs.Entries.{entry_bytes, entry_of, IsEntry}
-use Rattle.vl_list.specs.Lists.{IsNext, IsRun}
-use Rattle.vl_list.specs.ListLaws.{SoFar, Behind, begins, cut, goes_on, last_item, last-push, next, not_next, one_more}
+use Rattle.vl_block.specs.Lists.{IsNext, IsRun}
+use Rattle.vl_block.specs.laws.ListLaws.{SoFar, Behind, begins, cut, goes_on, last_item, last-push, next, not_next, one_more}
 
 -- so many entries were read, and the last of them is this
 pub record UnderWay (bytes : List ℕ) (total count : ℕ) (last : Option EntryRef) (rest : List ℕ) : Type 0 where

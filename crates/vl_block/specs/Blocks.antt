@@ -4,8 +4,8 @@ use Rattle.std.specs.declared.cmp.Ordering.TheVariants.{Less}
 use Rattle.vl_model.specs.Entries.{entry_cmp}
 use Rattle.vl_model.specs.declared.entry.Entry.{Entry}
 use Rattle.vl_block.specs.Entries.{entry_bytes, IsEntry}
-use Rattle.vl_block.specs.EntryLaws.{one_entry}
-use Rattle.vl_list.specs.Lists.{Spelling, counted_bytes, AreLawful}
+use Rattle.vl_block.specs.laws.EntryLaws.{one_entry}
+use Rattle.vl_block.specs.Lists.{Spelling, counted_bytes, AreLawful}
 
 -- entries: keys rise, and of one key the versions fall
 abbrev pub entries : Spelling Entry

@@ -14,7 +14,7 @@ use Rattle.vl_block.specs.Blocks.{IsBlock, block_body}
 use Rattle.vl_block.specs.Entries.{IsEntry}
 use Rattle.vl_block.specs.Footer.{Foot, IsHead, footer_body, points}
 use Rattle.vl_block.specs.Index.{index_body, places}
-use Rattle.vl_list.specs.Lists.{AreLawful}
+use Rattle.vl_block.specs.Lists.{AreLawful}
 use Rattle.vl_block.specs.declared.index.BlockPlace.{BlockPlace}
 use Rattle.vl_block.specs.declared.points.Point.{Point}
 

@@ -7,7 +7,7 @@ use Rattle.vl_block.specs.declared.points.Point.{Point}
 use Rattle.vl_block.specs.declared.footer.Footer.{Footer}
 use Rattle.vl_block.specs.declared.footer_head.FooterHead.{FooterHead}
 use Rattle.vl_block.specs.Entries.{key_bytes}
-use Rattle.vl_list.specs.Lists.{Spelling, counted_bytes, AreLawful}
+use Rattle.vl_block.specs.Lists.{Spelling, counted_bytes, AreLawful}
 
 -- ---- points
 

@@ -6,8 +6,8 @@ use Rattle.vl_model.specs.Keys.{is_key_length}
 use Rattle.vl_block.specs.declared.index.BlockPlace.{BlockPlace}
 use Rattle.vl_block.specs.declared.index.PlaceParts.{PlaceParts}
 use Rattle.vl_block.specs.Entries.{key_bytes}
-use Rattle.vl_block.specs.EntryLaws.{one_key}
-use Rattle.vl_list.specs.Lists.{Spelling, counted_bytes, AreLawful}
+use Rattle.vl_block.specs.laws.EntryLaws.{one_key}
+use Rattle.vl_block.specs.Lists.{Spelling, counted_bytes, AreLawful}
 
 -- the place of a block's frame, the frame's length, and the block's last key
 abbrev pub place_bytes : BlockPlace → List ℕ

@@ -1,12 +1,8 @@
-pub mod BlockLaws
 pub mod Blocks
 pub mod Bytes
 pub mod Cutting
-pub mod CuttingLaws
 pub mod Entries
-pub mod EntryLaws
 pub mod Footer
-pub mod FooterLaws
 pub mod Index
-pub mod Lengths
-pub mod Places
+pub mod laws
+pub mod Lists

@@ -6,7 +6,7 @@ ghost use Rattle.vl_model.specs.Entries.{entry_cmp};
 ghost use Rattle.vl_model.specs.declared.entry.Entry.{Entry};
 ghost use Rattle.vl_block.specs.Blocks.{SpellsBlock, entries};
 ghost use Rattle.vl_block.specs.Entries.{entry_of};
-ghost use Rattle.vl_list.specs.Lists.{IsNext, IsRun};
+ghost use Rattle.vl_block.specs.Lists.{IsNext, IsRun};
 
 use crate::entry_ref::EntryRef;
 use crate::taking::take_entry;

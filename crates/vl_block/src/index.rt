@@ -2,7 +2,7 @@
 
 ghost use Rattle.std.specs.Prelude.{◌≡◌, ◌++◌, ◌<◌, ℕ, List, length, IfOk, IfNone, IfSome};
 ghost use Rattle.vl_block.specs.Index.{IsPlace, SpellsIndex, place_bytes, place_of, places};
-ghost use Rattle.vl_list.specs.Lists.{IsRun};
+ghost use Rattle.vl_block.specs.Lists.{IsRun};
 ghost use Rattle.vl_block.specs.declared.index.BlockPlace.{BlockPlace};
 
 use crate::keys::take_key;

@@ -1,5 +1,6 @@
 //! What the frames of tables say: blocks of entries, the index that finds blocks, and the footer, each as the body of a
-//! frame. docs/FORMATS.md lists them.
+//! frame. docs/FORMATS.md lists them. Each body spells a list of items behind their count: a kind of item says how one is
+//! spelled (`Spelling`), and its reader takes them one after the other (`SoFar`).
 //!
 //! A body of the grammar is read as exactly what it spells, and any other as nothing. The bytes may be scanned as they lie
 //! there; only what is handed out on its own is copied.
@@ -9,9 +10,11 @@ mod block;
 mod entry_ref;
 mod footer;
 mod footer_head;
+mod format;
 mod index;
 mod keys;
 mod laid_point;
+mod laws;
 mod pointers;
 mod points;
 mod taking;
@@ -20,7 +23,9 @@ pub use block::{block_entries, is_block, read_block};
 pub use entry_ref::{BodyRef, EntryRef};
 pub use footer::{Footer, read_footer};
 pub use footer_head::FooterHead;
+pub use format::TABLE_FORMAT;
 pub use index::{BlockPlace, read_index};
 pub use laid_point::LaidPoint;
+pub use laws::numbers_are_read_in_one_way;
 pub use points::Point;
 pub use taking::{FAR, GONE, INLINE, take_entry};

@@ -2,8 +2,8 @@
 
 ghost use Rattle.std.specs.Prelude.{◌≡◌, ◌↔◌, ◌++◌, ◌<◌, ℕ, List, IfOk, IfNone, IfSome, IsTrue};
 ghost use Rattle.vl_block.specs.Footer.{IsPoint, point_bytes, points};
-ghost use Rattle.vl_list.specs.ListLaws.{last_item};
-ghost use Rattle.vl_list.specs.Lists.{AreLawful, IsNext, IsRun, counted_bytes};
+ghost use Rattle.vl_block.specs.laws.ListLaws.{last_item};
+ghost use Rattle.vl_block.specs.Lists.{AreLawful, IsNext, IsRun, counted_bytes};
 ghost use Rattle.vl_block.specs.declared.points.Point.{Point};
 
 use std::alloc::{AllocError, Global};

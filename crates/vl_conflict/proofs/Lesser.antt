@@ -10,12 +10,12 @@ use Rattle.std.specs.Cmp.Lexicographic.{nat_list_cmp_total}
 use Rattle.std.specs.FinMap.{is_sorted}
 use Rattle.std.specs.FinMap.Entries.{below_all}
 use Rattle.vl_model.specs.Keys.{key_cmp}
-use Rattle.vl_model.specs.WinnerLaws.{key_tied}
+use Rattle.vl_model.specs.laws.WinnerLaws.{key_tied}
 use Rattle.vl_model.specs.Conflicts.{Named, first_of}
 use Rattle.vl_model.specs.Reads.{is_in_span}
 use Rattle.vl_model.specs.declared.span.Span.{Span}
-use Rattle.vl_tree.specs.Notes.{is_late_within, span_of}
-use Rattle.vl_tree.specs.OrderLaws.{as_T, two_parts, above-all}
+use Rattle.vl_conflict.specs.Notes.{is_late_within, span_of}
+use Rattle.vl_conflict.proofs.OrderLaws.{as_T, two_parts, above-all}
 use Rattle.vl_conflict.specs.Recent.{first_late, is_late, is_late_at, is_late_at_any, is_late_within_any, lesser_of}
 
 -- ---- two tests

@@ -1,1 +1,4 @@
 pub mod Lesser
+mod OrderLaws
+mod RecentLaws
+pub mod TreeLaws

@@ -1,2 +1,3 @@
+pub mod Notes
 pub mod Recent
-pub mod RecentLaws
+pub mod Trees

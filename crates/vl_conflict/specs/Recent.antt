@@ -10,7 +10,7 @@ use Rattle.vl_model.specs.Reads.{Read}
 use Rattle.vl_model.specs.Conflicts.{Named, first_of, first_conflict}
 use Rattle.vl_model.specs.declared.change.Change.{Change}
 use Rattle.vl_model.specs.declared.span.Span.{Span}
-use Rattle.vl_tree.specs.Notes.{is_late_within}
+use Rattle.vl_conflict.specs.Notes.{is_late_within}
 
 -- ---- reads
 

@@ -1,7 +1,8 @@
 //! Which keys the commits above a floor named, each with the last that did, so that a transaction's reads
 //! can be checked against them.
 //!
-//! They stand in a `NumberMap` of `vl_tree`. With n keys noted: `check` costs a search for each key that was
+//! They stand in a `NumberMap`, a height-balanced search tree, each part of which knows the greatest number in it. With n
+//! keys noted: `check` costs a search for each key that was
 //! read and for each interval, of a logarithm of n comparisons of whole keys, however many keys are noted
 //! inside an interval. `note` costs such a search, moves no other note and wants no memory: `reserve` makes
 //! the nodes. `prune` goes through all n without a comparison. How many commits there were counts nowhere.
@@ -9,8 +10,10 @@
 #![tactic(auto)]
 
 mod laws;
+mod number_map;
 mod recent;
 mod search;
+mod tree;
 
 pub use laws::{commits_are_remembered, floor_may_rise, nothing_is_remembered_at_first};
 pub use recent::Recent;

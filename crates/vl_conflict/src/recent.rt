@@ -2,14 +2,14 @@ ghost use Rattle.std.specs.Prelude.{◌≡◌, ◌≤◌, ◌+◌, [], OnOk, OnE
 ghost use Rattle.std.specs.List.{filter};
 ghost use Rattle.std.specs.FinMap.{put};
 ghost use Rattle.vl_model.specs.Keys.{key_cmp};
-ghost use Rattle.vl_tree.specs.Notes.{is_above_floor};
+ghost use Rattle.vl_conflict.specs.Notes.{is_above_floor};
 ghost use Rattle.vl_conflict.specs.Recent.{first_late, IsFirstConflict, StillRemembers};
 
+use crate::number_map::NumberMap;
 use crate::search::{first_of_keys, first_of_spans, lesser};
 use std::alloc::{AllocError, Global};
 use std::marker::Model;
 use vl_model::{Key, Span};
-use vl_tree::NumberMap;
 
 /// The keys that commits above a floor named, each with the number of the last that did.
 #[derive(Drop)]
@@ -21,7 +21,7 @@ impl Model for Recent {
     ghost use Rattle.std.specs.Prelude.{◌≡◌, true};
     ghost use Rattle.std.specs.FinMap.{is_sorted};
     ghost use Rattle.vl_model.specs.Keys.{key_cmp};
-    ghost use Rattle.vl_tree.specs.Notes.{Kept};
+    ghost use Rattle.vl_conflict.specs.Notes.{Kept};
 
     ghost Value = { Kept };
 

@@ -3,11 +3,11 @@ ghost use Rattle.std.specs.Prelude.{◌≡◌, true};
 ghost use Rattle.std.specs.Option.{option_copied};
 ghost use Rattle.std.specs.FinMap.{is_sorted};
 ghost use Rattle.vl_model.specs.Keys.{key_cmp};
-ghost use Rattle.vl_tree.specs.Notes.{lent, first_in, is_late_within};
+ghost use Rattle.vl_conflict.specs.Notes.{lent, first_in, is_late_within};
 ghost use Rattle.vl_conflict.specs.Recent.{is_late_at_any, is_late_within_any, lesser_of};
 
+use crate::number_map::NumberMap;
 use vl_model::{Key, Span};
-use vl_tree::NumberMap;
 
 /// The first of one of the keys with a number above this one.
 pub fn first_of_keys<'a>(notes: &'a NumberMap, number: u64, keys: &[Key]) -> Option<(&'a Key, u64)>

@@ -4,7 +4,7 @@ use Rattle.std.proofs.lemmas.List.{take_all}
 use Rattle.std.proofs.lemmas.Result.{on_ok_weaker, on_err_weaker}
 use Rattle.std.specs.FinMap.{get, insert}
 use Rattle.vl_disk.specs.declared.name.Name.{Name}
-use Rattle.vl_disk.specs.NameMap.{get_inserted, inserted_twice}
+use Rattle.vl_disk.specs.laws.NameMap.{get_inserted, inserted_twice}
 use Rattle.vl_disk.specs.DiskState.{File, Files, DiskState, new_file, settled, synced_file, lengthened, created, appended, synced}
 use Rattle.vl_disk.specs.Changes.{created_there, changed_files}
 use Rattle.vl_disk.specs.declared.watched.Watched.{Ghosts}

@@ -4,7 +4,7 @@ use Rattle.std.specs.Option.{option_map}
 use Rattle.std.specs.FinMap.{get, insert}
 use Rattle.std.proofs.Common.{refl, sym, ◌∙◌, ap}
 use Rattle.vl_disk.specs.declared.name.Name.{Name}
-use Rattle.vl_disk.specs.NameMap.{get_inserted, get_inserted_other, get_removed_other, inserted_again}
+use Rattle.vl_disk.specs.laws.NameMap.{get_inserted, get_inserted_other, get_removed_other, inserted_again}
 use Rattle.vl_disk.specs.DiskState.{File, Files, DiskState, new_file, placed, with_file, created, without}
 use Rattle.vl_disk.specs.Crash.{last_file}
 

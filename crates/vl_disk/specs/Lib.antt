@@ -6,11 +6,9 @@ pub mod Disk
 pub mod DiskState
 pub mod FaultPlan
 pub mod Faults
-pub mod Lawful
+pub mod laws
 pub mod MadeFile
 pub mod Moments
 pub mod Name
-pub mod NameMap
 pub mod Spare
-pub mod Standing
 pub mod Started

@@ -5,11 +5,11 @@ use Rattle.std.specs.FinMap.{get, empty, insert, remove, get-empty, same_map}
 use Rattle.std.proofs.Common.{⊎_elim, refl, sym, ◌∙◌, ap, subst}
 use Rattle.vl_disk.specs.declared.name.Name.{Name}
 use Rattle.vl_disk.specs.Name.{IsNumbered, name_cmp, name_cmp_total, name_cmp_exact}
-use Rattle.vl_disk.specs.NameMap.{same_or_other, get_inserted, get_inserted_other, get_removed, get_removed_other}
+use Rattle.vl_disk.specs.laws.NameMap.{same_or_other, get_inserted, get_inserted_other, get_removed, get_removed_other}
 use Rattle.vl_disk.specs.DiskState.{File, DiskState, IsLawfulFile, IsLawful, empty_disk, settled}
 use Rattle.vl_disk.specs.MadeFile.{made}
 use Rattle.vl_disk.specs.Crash.{Image, MayLeaveOne, MayLeave}
-use Rattle.vl_disk.specs.Lawful.{settled_lawful}
+use Rattle.vl_disk.specs.laws.Lawful.{settled_lawful}
 
 -- the image of what reads give
 pub record IsRead (image : Image) (disk : DiskState) : Type 0 where

@@ -3,7 +3,7 @@ use Rattle.std.proofs.Common.{◌≡◌, ℕ, ◌<◌, ◌^◌, List, ◌++◌, 
 use Rattle.byteorder.specs.Endian.{big_bytes}
 use Rattle.vl_frame.specs.declared.kinds.FileKind.{FileKind}
 use Rattle.vl_frame.specs.Header.{IsHeader, IsHeaderApart, letters}
-use Rattle.vl_frame.specs.HeaderLaws.{header_apart, one_header_apart, regrouped}
+use Rattle.vl_frame.specs.laws.HeaderLaws.{header_apart, one_header_apart, regrouped}
 
 -- four bytes and three numbers one behind the other
 pub is_header_apart : (bytes front : List ℕ) (format number last : ℕ) (r1 r2 r3 r4 : List ℕ) → length front ≡ 4 → format < 2 ^ 32 → number < 2 ^ 32 → last < 2 ^ 32 → bytes ≡ front ++ r1 → r1 ≡ big_bytes 4 format ++ r2

@@ -1,4 +1,4 @@
-mod InPlace
 pub mod Fronts
 pub mod Headers
+mod InPlace
 pub mod Spellings

@@ -5,7 +5,7 @@ use Rattle.byteorder.specs.Endian.{big_bytes}
 use Rattle.vl_frame.specs.declared.kinds.FileKind.{FileKind}
 use Rattle.vl_frame.specs.declared.kinds.FrameKind.{FrameKind}
 use Rattle.vl_frame.specs.Frame.{frame_code, spelling, check_of, frame_bytes, frame_length, IsSpelled, file_of}
-use Rattle.vl_frame.specs.Laws.{length-frame_bytes, one_apart, spelled_apart}
+use Rattle.vl_frame.specs.laws.Laws.{length-frame_bytes, one_apart, spelled_apart}
 use Rattle.vl_frame.specs.Parts.{IsApart}
 
 -- what comes apart and has its check is spelled

@@ -2,7 +2,7 @@
 use Rattle.std.specs.Prelude.{◌≡◌, ◌⊎◌, ℕ, ◌+◌, List, [], ◌∷◌, ◌++◌, length, drop, refl}
 use Rattle.std.proofs.Common.{sym, ap, subst, ◌∙◌, inl, inr, ⊎_elim}
 use Rattle.vl_frame.specs.Runs.{Grammar, ReadsAs, StandsAt, item_frame}
-use Rattle.vl_frame.specs.RunLaws.{one_item}
+use Rattle.vl_frame.specs.laws.RunLaws.{one_item}
 
 -- what a frame says, and the place where it stands
 pub record Placed (Item : Type 0) : Type 0 where

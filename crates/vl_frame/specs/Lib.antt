@@ -1,9 +1,7 @@
 pub mod Begins
 pub mod Frame
 pub mod Header
-pub mod HeaderLaws
-pub mod Laws
+pub mod laws
 pub mod Numbers
 pub mod Parts
-pub mod RunLaws
 pub mod Runs

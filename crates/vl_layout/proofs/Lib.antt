@@ -1,0 +1,4 @@
+mod GarbageLaws
+mod LockHistoryLaws
+mod Rows
+mod TableLaws

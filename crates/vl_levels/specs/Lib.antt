@@ -1,8 +1,5 @@
-pub mod KeyRanges
-pub mod LevelLaws
-pub mod LevelTables
+pub mod laws
 pub mod LevelsLooked
+pub mod LevelTables
 pub mod LookedUp
 pub mod Looks
-pub mod LooksOn
-pub mod Parts

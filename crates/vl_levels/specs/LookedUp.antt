@@ -4,22 +4,22 @@ use Rattle.std.specs.List.{prefix_len}
 use Rattle.std.specs.Option.{ForSome}
 use Rattle.std.proofs.Common.{refl, ap, sym, subst, ◌∙◌, append_assoc, append-nil, arith}
 use Rattle.vl_model.specs.declared.entry.Entry.{Entry}
-use Rattle.vl_block.specs.CuttingLaws.{joined}
+use Rattle.vl_block.specs.laws.CuttingLaws.{joined}
 use Rattle.vl_run.specs.Places.{IsParted}
 use Rattle.vl_disk.specs.Faults.{HasCause}
 use Rattle.vl_disk.specs.declared.name.Name.{Name}
 use Rattle.vl_disk.specs.declared.name.Name.TheVariants.{Table as table_name}
-use Rattle.vl_part.specs.Answers.{Answers, Failed, IsAnswer}
+use Rattle.vl_table.specs.Answers.{Answers, Failed, IsAnswer}
 use Rattle.vl_block.specs.Bytes.{table_bytes}
 use Rattle.vl_table.specs.Opened.{IsOf}
 use Rattle.vl_table.specs.Seeks.{IsBadBlock, no_bad_block}
-use Rattle.vl_part.specs.declared.fault.TableFault.{TableFault}
-use Rattle.vl_part.specs.declared.fault.TableFault.TheVariants.{NoMemory, Disk, Damaged}
+use Rattle.vl_table.specs.declared.fault.TableFault.{TableFault}
+use Rattle.vl_table.specs.declared.fault.TableFault.TheVariants.{NoMemory, Disk, Damaged}
 use Rattle.vl_table.specs.declared.table.Table.{Table}
-use Rattle.vl_levels.specs.LevelLaws.{holds_none, level_cut, level-parted}
+use Rattle.vl_levels.specs.laws.LevelLaws.{holds_none, level_cut, level-parted}
 use Rattle.vl_levels.specs.LevelTables.{AreApart, AreOf, ends_before, may_hold}
 use Rattle.vl_levels.specs.Looks.{better, is_settled, settled, sought, sought-append, sought-middle, sought-none}
-use Rattle.vl_levels.specs.Parts.{split_at}
+use Rattle.vl_levels.specs.laws.Parts.{split_at}
 use Rattle.vl_levels.specs.declared.look.Look.{Look}
 
 module _ {H : Type 0} (bytes_of : H → Option (List ℕ)) where

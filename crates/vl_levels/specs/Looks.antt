@@ -2,10 +2,10 @@
 use Rattle.std.specs.Prelude.{◌≡◌, ℕ, Bool, true, false, is_some, List, ◌++◌, Option, Some, None}
 use Rattle.std.proofs.Common.{refl, ap, ◌∙◌}
 use Rattle.vl_model.specs.Winners.{exact, newest_of, winner}
-use Rattle.vl_model.specs.WinnerLaws.{winner-append}
+use Rattle.vl_model.specs.laws.WinnerLaws.{winner-append}
 use Rattle.vl_model.specs.declared.entry.Entry.{Entry}
-use Rattle.vl_run.specs.Exact.{exact-append, first_of}
-use Rattle.vl_levels.specs.KeyRanges.{HasNone, exact-none, winner-none}
+use Rattle.vl_run.specs.laws.Exact.{exact-append, first_of}
+use Rattle.vl_levels.specs.laws.KeyRanges.{HasNone, exact-none, winner-none}
 use Rattle.vl_levels.specs.declared.look.Look.{Look}
 use Rattle.vl_levels.specs.declared.look.Look.TheVariants.{UpTo, Exactly}
 

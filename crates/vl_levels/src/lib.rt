@@ -14,6 +14,3 @@ mod shared_table;
 pub use level::Level;
 pub use levels::Levels;
 pub use shared_table::SharedTable;
-
-#[cfg(test)]
-mod tests;

@@ -2,13 +2,13 @@
 use Rattle.std.proofs.Common.{◌≡◌, ℕ, ◌+◌, ◌-◌, ◌≤◌, ◌<◌, List, [], ◌∷◌, length, drop, refl, ap, subst, ◌∙◌, arith}
 use Rattle.std.specs.Prelude.{None, Some, Result, Ok, Err}
 use Rattle.vl_frame.specs.Begins.{placed}
-use Rattle.vl_frame.specs.RunLaws.{shorter}
+use Rattle.vl_frame.specs.laws.RunLaws.{shorter}
 use Rattle.vl_frame.specs.Runs.{StandsAt, StandsNone, item_frame}
 use Rattle.vl_manifest.specs.declared.edit.Edit.{Edit}
 use Rattle.vl_manifest.specs.declared.fails.StateFail.{StateFail}
 use Rattle.vl_manifest.specs.declared.fails.StateFail.TheVariants.{Damaged, NoMemory}
 use Rattle.vl_manifest.specs.declared.state.ManifestState.{ManifestState}
-use Rattle.vl_manifest.specs.EditLaws.{edits_grammar}
+use Rattle.vl_manifest.specs.laws.EditLaws.{edits_grammar}
 use Rattle.vl_manifest.specs.Manifest.{HasHeader, IsDamaged, not_applied}
 use Rattle.vl_manifest.specs.Reading.{AnswersSo, GoesOn, GoesOnSo}
 use Rattle.vl_manifest.specs.States.{first_state, next_state, state_behind, state_then}

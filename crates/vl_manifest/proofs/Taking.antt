@@ -3,7 +3,7 @@ use Rattle.std.proofs.Common.{◌≡◌, ℕ, ◌+◌, ◌<◌, ◌≤◌, List,
 use Rattle.std.specs.List.{AllByRecursion}
 use Rattle.std.proofs.lemmas.List.{append-nil}
 use Rattle.vl_manifest.specs.declared.edit.Edit.{Edit}
-use Rattle.vl_manifest.specs.EditLaws.{one_edit}
+use Rattle.vl_manifest.specs.laws.EditLaws.{one_edit}
 use Rattle.vl_manifest.specs.Edits.{IsEdit, edit_bytes, edits_bytes}
 use Rattle.vl_manifest.specs.Reading.{IsRun}
 

@@ -1,12 +1,8 @@
 pub mod Current
-pub mod CurrentLaws
-pub mod EditLaws
 pub mod Edits
+pub mod laws
 pub mod Levels
 pub mod Making
 pub mod Manifest
-pub mod ManifestLaws
 pub mod Reading
-pub mod StateLaws
 pub mod States
-pub mod Worked

@@ -10,10 +10,10 @@ use Rattle.vl_disk.specs.Calls.{ChangingCall, Creates, Appends, Syncs, Cuts, Rem
 use Rattle.vl_disk.specs.Crash.{WhileCreating, WhileAppending, WhileSyncing, WhileCutting, WhileRemoving}
 use Rattle.vl_disk.specs.Disk.{Stands, IsInside, IsChangedBy}
 use Rattle.vl_disk.specs.Faults.{HasCause}
-use Rattle.vl_disk.specs.Lawful.{synced_again}
+use Rattle.vl_disk.specs.laws.Lawful.{synced_again}
 use Rattle.vl_disk.specs.Moments.{Passes, While, past_of}
 use Rattle.vl_disk.specs.Spare.{SameSpare, UsesChange, UsesAppend}
-use Rattle.vl_disk.specs.Standing.{changed_stands, created_stands, removed_free}
+use Rattle.vl_disk.specs.laws.Standing.{changed_stands, created_stands, removed_free}
 use Rattle.vl_mem.specs.contracts.mem_disk.MemDiskWatched.TheImpl as memory
 use Rattle.vl_mem.specs.declared.entry.Entry.{Entry}
 use Rattle.vl_mem.specs.declared.event.Event.{Event}

@@ -9,14 +9,14 @@ use Rattle.std.specs.Map.{keys_of}
 use Rattle.std.specs.declared.cmp.Ordering.TheVariants.{Less}
 use Rattle.vl_disk.specs.declared.name.Name.{Name}
 use Rattle.vl_disk.specs.Name.{IsNumbered, name_cmp, name_cmp_total, name_cmp_exact}
-use Rattle.vl_disk.specs.NameMap.{same_or_other, get_inserted, get_inserted_other}
+use Rattle.vl_disk.specs.laws.NameMap.{same_or_other, get_inserted, get_inserted_other}
 use Rattle.vl_disk.specs.Crash.{Image}
 use Rattle.vl_disk.specs.DiskState.{File, DiskState, IsLawful}
 use Rattle.vl_mem.specs.declared.entry.Entry.{Entry}
 use Rattle.vl_mem.specs.declared.outcome.Outcome.{Outcome}
 use Rattle.vl_mem.specs.declared.outcome.Outcome.TheVariants.{Lost, Kept, Halved}
 use Rattle.vl_mem.specs.CrashImage.{crash_image, left_of, with_bytes}
-use Rattle.vl_mem.specs.CrashLaws.{image_left, left_none, with_there, with_other}
+use Rattle.vl_mem.specs.laws.CrashLaws.{image_left, left_none, with_there, with_other}
 use Rattle.vl_mem.specs.Entry.{Entries, HasFiles, entry_of, plain, removed_in, standing_in}
 use Rattle.vl_mem.specs.Kept.{image_of, with_files}
 use Rattle.vl_mem.proofs.Listed.{at, at_head, at_rest, less_apart}

@@ -12,7 +12,7 @@ use Rattle.std.specs.declared.cmp.Ordering.TheVariants.{Less}
 use Rattle.std.specs.Ordering.{is_eq}
 use Rattle.vl_disk.specs.declared.name.Name.{Name}
 use Rattle.vl_disk.specs.Name.{IsNumbered, name_cmp}
-use Rattle.vl_disk.specs.NameMap.{same_or_other, tied_same, tied_other}
+use Rattle.vl_disk.specs.laws.NameMap.{same_or_other, tied_same, tied_other}
 use Rattle.vl_disk.specs.DiskState.{File, DiskState, IsLawful}
 use Rattle.vl_disk.specs.Disk.{Lists}
 use Rattle.vl_mem.specs.declared.entry.Entry.{Entry}

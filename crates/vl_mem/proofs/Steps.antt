@@ -11,7 +11,7 @@ use Rattle.std.proofs.lemmas.List.Elements.{All-nil, All-push}
 use Rattle.std.proofs.lemmas.Map.Entries.{sum_by-set_value, sum_by-insert_entry}
 use Rattle.vl_disk.specs.declared.name.Name.{Name}
 use Rattle.vl_disk.specs.Name.{name_cmp, name_cmp_total, IsNumbered}
-use Rattle.vl_disk.specs.NameMap.{same_or_other, tied_other, get_inserted, get_inserted_other, get_removed, get_removed_other}
+use Rattle.vl_disk.specs.laws.NameMap.{same_or_other, tied_other, get_inserted, get_inserted_other, get_removed, get_removed_other}
 use Rattle.vl_disk.specs.DiskState.{File, DiskState, empty_disk, new_file, settled, with_file, created, without}
 use Rattle.vl_disk.specs.MadeFile.{made}
 use Rattle.vl_disk.specs.Changes.{SameElsewhere, created_there, created_elsewhere, changed_there, changed_elsewhere, without_removed, without_elsewhere}

@@ -7,7 +7,7 @@ use Rattle.std.proofs.lemmas.List.Elements.{All-tail}
 use Rattle.vl_disk.specs.Name.{IsNumbered}
 use Rattle.vl_disk.specs.DiskState.{DiskState, IsLawful, empty_disk, created, appended, synced, cut_to, without}
 use Rattle.vl_disk.specs.MadeFile.{made}
-use Rattle.vl_disk.specs.Lawful.{empty_lawful, made_lawful, created_lawful, appended_lawful, synced_lawful, cut_lawful, without_lawful}
+use Rattle.vl_disk.specs.laws.Lawful.{empty_lawful, made_lawful, created_lawful, appended_lawful, synced_lawful, cut_lawful, without_lawful}
 use Rattle.vl_mem.specs.declared.event.Event.{Event}
 use Rattle.vl_mem.specs.declared.event.Event.TheVariants.{Found, Create, Append, Sync, Cut, Remove}
 

@@ -1,10 +1,9 @@
 pub mod ChangePlan
-pub mod CrashChance
 pub mod CrashImage
-pub mod CrashLaws
 pub mod Entry
 pub mod Event
+pub mod FailsPast
 pub mod Held
 pub mod Kept
+pub mod laws
 pub mod MemDisk
-pub mod FailsPast

@@ -1,1 +1,2 @@
 mod AsOne
+mod FactLaws

@@ -1,6 +1,5 @@
 pub mod Contents
-pub mod FactLaws
 pub mod Facts
-pub mod Laws
+pub mod laws
 pub mod Lengths
 pub mod Rows

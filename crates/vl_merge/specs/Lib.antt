@@ -1,10 +1,8 @@
-pub mod GroupLaws
 pub mod Grouped
 pub mod Heads
-pub mod MergeLaws
+pub mod Held
 pub mod Merging
-pub mod PlantLaws
 pub mod Planted
 pub mod Told
-pub mod TreeLaws
 pub mod Trees
+pub mod Visible

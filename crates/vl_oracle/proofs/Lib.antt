@@ -1,1 +1,2 @@
+mod LiveLaws
 pub mod Tickets

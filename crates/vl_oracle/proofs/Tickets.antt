@@ -13,7 +13,7 @@ use Rattle.std.specs.Ordering.{nat_cmp, eq_by_cmp, is_eq}
 use Rattle.vl_model.specs.Limits.{max_live}
 use Rattle.vl_oracle.specs.Live.{Live, Ticket, AreLive, free_from, free_ticket, least_number, floor_of, begun, ended, advanced}
 use Rattle.vl_oracle.specs.Counts.{uses, counted, with_count, IsLeastKey, IsKept}
-use Rattle.vl_oracle.specs.LiveLaws.{as_T, from_T, two_parts, low_of, AreUpTo, floor_of-low_of, find-free_ticket, find_less, AreFrom, above_first, free_from-le}
+use Rattle.vl_oracle.proofs.LiveLaws.{as_T, from_T, two_parts, low_of, AreUpTo, floor_of-low_of, find-free_ticket, find_less, AreFrom, above_first, free_from-le}
 
 -- ---- the map's edits
 

@@ -5,7 +5,7 @@ use Rattle.std.specs.FinMap.{get}
 use Rattle.vl_disk.specs.Crash.{Image}
 use Rattle.vl_disk.specs.Disk.{Stands}
 use Rattle.vl_disk.specs.DiskState.{DiskState, settled, without}
-use Rattle.vl_disk.specs.NameMap.{get_inserted, get_removed_other}
+use Rattle.vl_disk.specs.laws.NameMap.{get_inserted, get_removed_other}
 use Rattle.vl_disk.specs.Started.{IsRead}
 use Rattle.vl_disk.specs.declared.name.Name.{Name}
 use Rattle.vl_disk.specs.declared.name.Name.TheVariants.{Log, Manifest}

@@ -23,8 +23,8 @@ use Rattle.vl_recover.specs.ReadLogs.{frames_of, write_length}
 use Rattle.vl_seglog.specs.Reading.{frame_of}
 use Rattle.vl_seglog.specs.declared.frame.Frame.{Frame}
 use Rattle.vl_run.specs.Order.{IsInOrder}
-use Rattle.vl_run.specs.OrderLaws.{IsBefore, IsRising, in_order-again, in_order-back, in_order-rising}
-use Rattle.vl_seglog.specs.FrameLaws.{length-frame_body}
+use Rattle.vl_run.specs.laws.OrderLaws.{IsBefore, IsRising, in_order-again, in_order-back, in_order-rising}
+use Rattle.vl_seglog.specs.laws.FrameLaws.{length-frame_body}
 use Rattle.vl_seglog.specs.Frames.{frames_grammar}
 
 -- ---- frame by frame

@@ -8,7 +8,7 @@ use Rattle.vl_disk.specs.Crash.{Image}
 use Rattle.vl_disk.specs.Disk.{IsFree, IsInside, Stands}
 use Rattle.vl_disk.specs.DiskState.{DiskState, File, cut_to, file_at, lengthened, new_file, settled, shortened, synced_file, with_file, without}
 use Rattle.vl_disk.specs.MadeFile.{made}
-use Rattle.vl_disk.specs.NameMap.{get_inserted, get_inserted_other, get_removed_other, same_or_other}
+use Rattle.vl_disk.specs.laws.NameMap.{get_inserted, get_inserted_other, get_removed_other, same_or_other}
 use Rattle.vl_disk.specs.Started.{IsRead}
 use Rattle.vl_disk.specs.declared.name.Name.{Name}
 use Rattle.vl_disk.specs.declared.name.Name.TheVariants.{Log, Manifest}
@@ -18,12 +18,12 @@ use Rattle.vl_model.specs.declared.log_frame.LogFrame.{LogFrame}
 use Rattle.vl_recover.specs.Answers.{Finds}
 use Rattle.vl_recover.specs.Fitting.{CanMake, CanMend, CanRemove, Fits}
 use Rattle.vl_recover.specs.Mending.{Cut, Headed, IsPlan, Kept, LastLog, NoLast, Plan, Rewritten, behind_last, behind_log, headed, last_of, mending_of, plan_of, with_last, with_log, with_manifest}
-use Rattle.vl_recover.specs.MendingStart.{unread_free}
+use Rattle.vl_recover.specs.laws.MendingStart.{unread_free}
 use Rattle.vl_recover.specs.Opening.{IsNextLog, StandingLogs}
 use Rattle.vl_recover.specs.Plans.{log_behind, log_made, new_state}
 use Rattle.vl_recover.specs.Walk.{StandingLog, content_end}
 use Rattle.vl_seglog.specs.Frames.{log_header}
-use Rattle.vl_seglog.specs.LogReadingLaws.{frames_within}
+use Rattle.vl_seglog.specs.laws.LogReadingLaws.{frames_within}
 
 some_none : {X : Type 0} (x : X) → Some x ≡ None → ⊥
 some_none x e = cc

@@ -4,12 +4,18 @@ pub mod Decided
 mod Entering
 mod Filling
 pub mod Fitted
+mod LastFiles
 mod Looking
 pub mod Mended
+mod MendingAgain
+mod MendingLaws
+mod MendingMayOpen
 mod Naming
 pub mod Numbers
 mod ReadingLogs
 pub mod Recovered
 pub mod Removals
+mod Rows
 pub mod Stepping
+mod TornManifest
 mod Unmoved

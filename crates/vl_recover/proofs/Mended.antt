@@ -5,7 +5,7 @@ use Rattle.std.specs.Option.{ForSome}
 use Rattle.vl_disk.specs.DiskState.{DiskState}
 use Rattle.vl_disk.specs.MadeFile.{WhileMaking}
 use Rattle.vl_disk.specs.Moments.{While, passes_weaker, past_of}
-use Rattle.vl_disk.specs.Standing.{holds_after}
+use Rattle.vl_disk.specs.laws.Standing.{holds_after}
 use Rattle.vl_disk.specs.declared.name.Name.{Name}
 use Rattle.vl_disk.specs.declared.name.Name.TheVariants.{Manifest}
 use Rattle.vl_disk.specs.declared.watched.Watched.{Ghosts}

@@ -34,7 +34,7 @@ use Rattle.vl_seglog.specs.declared.frame.Frame.{Frame}
 use Rattle.vl_seglog.specs.declared.reading.LogRead.{LogRead}
 use Rattle.vl_seglog.specs.Frames.{frames_grammar}
 use Rattle.vl_seglog.specs.LogReading.{AreBehind, ReadsLog}
-use Rattle.vl_seglog.specs.LogReadingLaws.{frames_within, log_apart}
+use Rattle.vl_seglog.specs.laws.LogReadingLaws.{frames_within, log_apart}
 
 -- what was read of bytes
 pub log_read : (number : ℕ) (bytes : List ℕ) (log : LogRead) → ReadsLog number bytes (reading_of log) → log.end ≡ content_end (reading_of log) → length bytes < 2 ^ 63 → IsLogRead log

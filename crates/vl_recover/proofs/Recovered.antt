@@ -26,14 +26,14 @@ use Rattle.vl_recover.specs.Finding.{IsFaultAt}
 use Rattle.vl_recover.specs.Held.{HoldsStore}
 use Rattle.vl_recover.specs.Meanwhile.{FaultsAt, IsAsLong, IsFaultName, IsMeanwhile, IsMended, Mending, as_before, at_list, at_mended, at_mending, at_read}
 use Rattle.vl_recover.specs.Mending.{Plan, WhileMending, calls_of_plan, mended}
-use Rattle.vl_recover.specs.MendingLaws.{plan_calls}
-use Rattle.vl_recover.specs.MendingMayOpen.{mending_may_open}
-use Rattle.vl_recover.specs.MendingOpens.{mended_holds, mending_opens}
-use Rattle.vl_recover.specs.OneName as one
+use Rattle.vl_recover.proofs.MendingLaws.{plan_calls}
+use Rattle.vl_recover.proofs.MendingMayOpen.{mending_may_open}
+use Rattle.vl_recover.specs.laws.MendingOpens.{mended_holds, mending_opens}
+use Rattle.vl_recover.specs.laws.OneName as one
 use Rattle.vl_recover.specs.Opening.{Opening}
 use Rattle.vl_recover.specs.PlanViews.{plan_view}
 use Rattle.vl_recover.specs.Plans.{new_state}
-use Rattle.vl_recover.specs.ReadImage.{read_image}
+use Rattle.vl_recover.specs.laws.ReadImage.{read_image}
 use Rattle.vl_recover.specs.Results.{HasFailed, FailsWithoutFault, came_by, frozen_log}
 use Rattle.vl_recover.specs.Starts.{MayOpen}
 use Rattle.vl_recover.specs.Steps.{IsFailAt, MakesSome, Mends}
@@ -41,7 +41,7 @@ use Rattle.vl_recover.specs.declared.fails.Why.{Why}
 use Rattle.vl_recover.specs.declared.fails.Why.TheVariants as why
 use Rattle.vl_recover.specs.declared.prepared.Prepared.{Prepared}
 use Rattle.vl_recover.proofs.ActiveStands.{active_stands}
-use Rattle.vl_recover.specs.OneFinding.{as_many, same_calls, same_logs_then, same_opening}
+use Rattle.vl_recover.specs.laws.OneFinding.{as_many, same_calls, same_logs_then, same_opening}
 
 some_same : (a b : DiskState) → Some a ≡ Some b → a ≡ b
 some_same a b e = cc

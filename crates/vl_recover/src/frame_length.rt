@@ -6,8 +6,7 @@ ghost use Rattle.vl_recover.specs.ReadLogs.{write_length};
 ghost use Rattle.vl_seglog.specs.Reading.{frame_of};
 
 use vl_model::{Change, Key, Moved};
-use vl_record::RECORD_HEAD_BYTES;
-use vl_seglog::Frame;
+use vl_seglog::{Frame, RECORD_HEAD_BYTES};
 
 // Of a commit's frame beside its records, and of a relocation's.
 const COMMIT_BYTES: u64 = 25;

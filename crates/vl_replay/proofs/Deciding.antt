@@ -11,7 +11,7 @@ use Rattle.vl_model.specs.History.{last_number}
 use Rattle.vl_model.specs.Keys.{Writes}
 use Rattle.vl_model.specs.Limits.{max_commit_number, max_room}
 use Rattle.vl_seglog.specs.declared.active.ActiveLog.{ActiveLog}
-use Rattle.vl_seglog.specs.FrameLaws.{length-item_frame}
+use Rattle.vl_seglog.specs.laws.FrameLaws.{length-item_frame}
 use Rattle.vl_seglog.specs.Staging.{IsStaged}
 use Rattle.vl_seglog.specs.declared.staged.Staged.{Staged}
 use Rattle.vl_model.specs.Frames.{frame_length}

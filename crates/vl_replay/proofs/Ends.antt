@@ -24,7 +24,7 @@ use Rattle.vl_replay.specs.declared.ending.Ending.{Ending}
 use Rattle.vl_replay.specs.declared.ending.Ending.TheVariants.{Complete, DiskFault, WriteFault, AnswerCut, Stopped}
 use Rattle.vl_replay.specs.declared.ending.OnFault.{OnFault}
 use Rattle.vl_replay.specs.declared.ending.OnFault.TheVariants.{Report, Stop}
-use Rattle.vl_replay.specs.Laws.{ended_lines-cons}
+use Rattle.vl_replay.specs.laws.Laws.{ended_lines-cons}
 use Rattle.vl_replay.proofs.Lines.{lines_of-ended}
 
 -- ---- exchanges

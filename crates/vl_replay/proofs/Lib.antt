@@ -5,6 +5,7 @@ pub mod Deciding
 pub mod DiskSteps
 pub mod Ends
 pub mod Halting
+mod Limits
 pub mod Lines
 pub mod Logged
 pub mod LogsShown
@@ -23,10 +24,12 @@ pub mod ReadingOn
 pub mod Recovering
 pub mod Refusals
 pub mod Reopening
+pub mod Rising
 pub mod Starting
 pub mod States
 pub mod Stepping
 pub mod StoppedLaws
+mod TextRows
 pub mod Texts
 pub mod TrialEnds
 pub mod TrialLines

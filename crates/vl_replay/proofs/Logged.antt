@@ -3,7 +3,7 @@ use Rattle.std.proofs.Common.{◌≡◌, ◌+◌, ℕ, List, [], ◌∷◌, ◌+
 use Rattle.std.specs.Prelude.{Ok}
 use Rattle.std.specs.FinMap.{entries, len-entries}
 use Rattle.vl_disk.specs.DiskState.{DiskState, appended}
-use Rattle.vl_disk.specs.Lawful.{appended_lawful, synced_lawful}
+use Rattle.vl_disk.specs.laws.Lawful.{appended_lawful, synced_lawful}
 use Rattle.vl_disk.specs.Crash.{Image}
 use Rattle.vl_disk.specs.declared.name.Name.TheVariants as names
 use Rattle.vl_frame.specs.Runs.{HasFrame}
@@ -14,13 +14,13 @@ use Rattle.vl_model.specs.Frames.{frame_length}
 use Rattle.vl_model.specs.History.{History, last_number}
 use Rattle.vl_model.specs.Keys.{Writes}
 use Rattle.vl_model.specs.declared.log_frame.LogFrame.TheVariants.{Committed}
-use Rattle.vl_recover.specs.AppendLaws.{append_holds, commit_counts, goes_on, with_frame}
+use Rattle.vl_recover.specs.laws.AppendLaws.{append_holds, commit_counts, goes_on, with_frame}
 use Rattle.vl_recover.specs.Held.{HoldsStore}
-use Rattle.vl_recover.specs.HeldLaws.{GoOn, held_may_open, held_opens, opening_held}
+use Rattle.vl_recover.specs.laws.HeldLaws.{GoOn, held_may_open, held_opens, opening_held}
 use Rattle.vl_recover.specs.Opening.{Opens}
-use Rattle.vl_recover.specs.TornFrames.{frame_behind}
-use Rattle.vl_seglog.specs.CommitLaws.{frame_length-committed}
-use Rattle.vl_seglog.specs.FrameLaws.{frames_end-more}
+use Rattle.vl_recover.specs.laws.TornFrames.{frame_behind}
+use Rattle.vl_seglog.specs.laws.CommitLaws.{frame_length-committed}
+use Rattle.vl_seglog.specs.laws.FrameLaws.{frames_end-more}
 use Rattle.vl_seglog.specs.Frames.{frames_end, frames_grammar}
 use Rattle.vl_replay.specs.Sequential.{State, bytes_in_log, after_commit}
 use Rattle.vl_replay.specs.Durable.{LeavesItsHistory, StaysShown}

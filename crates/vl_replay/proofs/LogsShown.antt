@@ -2,24 +2,24 @@
 use Rattle.std.specs.Prelude.{◌≡◌, ℕ, ◌+◌, ◌≤◌, List, [], ◌∷◌, ◌++◌, map, refl, Some}
 use Rattle.std.proofs.Common.{sym, ap, subst, ◌∙◌, append_assoc, arith}
 use Rattle.std.specs.FinMap.{entries}
-use Rattle.vl_layout.specs.CommitShows.{committed_entries, shows_committed}
-use Rattle.vl_layout.specs.LayoutShows.{logged_entries-more, place_behind}
+use Rattle.vl_layout.specs.laws.CommitShows.{committed_entries, shows_committed}
+use Rattle.vl_layout.specs.laws.LayoutShows.{logged_entries-more, place_behind}
 use Rattle.vl_layout.specs.Logs.{logged_entries, memtable, new_segment}
-use Rattle.vl_layout.specs.OrderShows.{all-taken_in, shows_taken_in}
+use Rattle.vl_layout.specs.laws.OrderShows.{all-taken_in, shows_taken_in}
 use Rattle.vl_layout.specs.Shows.{AreUpTo, Shows}
-use Rattle.vl_layout.specs.ShowsLaws.{all_both, all_parts}
+use Rattle.vl_layout.specs.laws.ShowsLaws.{all_both, all_parts}
 use Rattle.vl_layout.specs.declared.segment.Segment.{Segment}
 use Rattle.vl_model.specs.Entries.{in_order}
 use Rattle.vl_model.specs.Frames.{record_length}
 use Rattle.vl_model.specs.History.{Extends, History, last_number, with_commit}
-use Rattle.vl_model.specs.HistoryLaws.{value_at-extends}
+use Rattle.vl_model.specs.laws.HistoryLaws.{value_at-extends}
 use Rattle.vl_model.specs.Keys.{Writes}
 use Rattle.vl_model.specs.declared.change.Change.{Change}
 use Rattle.vl_model.specs.declared.entry.Entry.{Entry}
 use Rattle.vl_model.specs.declared.log_frame.LogFrame.{LogFrame}
 use Rattle.vl_model.specs.declared.log_frame.LogFrame.TheVariants.{Committed}
-use Rattle.vl_recover.specs.AppendLaws.{with_frame}
-use Rattle.vl_recover.specs.HeldLaws.{log_as_held}
+use Rattle.vl_recover.specs.laws.AppendLaws.{with_frame}
+use Rattle.vl_recover.specs.laws.HeldLaws.{log_as_held}
 use Rattle.vl_recover.specs.Walk.{filled, with_frames}
 use Rattle.vl_replay.specs.Stored.{LogsShow, logs_entries, no_logs}
 

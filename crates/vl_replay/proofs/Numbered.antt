@@ -7,7 +7,7 @@ use Rattle.vl_disk.specs.Crash.{last_file}
 use Rattle.vl_disk.specs.DiskState.{DiskState, File, cut_to, settled, with_file, without}
 use Rattle.vl_disk.specs.MadeFile.{made}
 use Rattle.vl_disk.specs.Name.{file_number}
-use Rattle.vl_disk.specs.NameMap.{get_inserted_other, get_removed, get_removed_other, same_or_other}
+use Rattle.vl_disk.specs.laws.NameMap.{get_inserted_other, get_removed, get_removed_other, same_or_other}
 use Rattle.vl_disk.specs.declared.name.Name.{Name}
 use Rattle.vl_disk.specs.declared.name.Name.TheVariants.{Log, Manifest}
 use Rattle.vl_recover.specs.Mending.{Cut, Headed, Kept, LastLog, NoLast, Plan, Rewritten, behind_last, behind_log, behind_strays, headed, mended, with_last, with_log, with_manifest}

@@ -12,7 +12,7 @@ use Rattle.vl_disk.specs.Crash.{Image, MayLeave, MayLeaveOne}
 use Rattle.vl_disk.specs.DiskState.{DiskState, File, with_file}
 use Rattle.vl_disk.specs.Faults.{after_calls}
 use Rattle.vl_disk.specs.Name.{file_number, name_number, same_name}
-use Rattle.vl_disk.specs.NameMap.{same_or_other}
+use Rattle.vl_disk.specs.laws.NameMap.{same_or_other}
 use Rattle.vl_disk.specs.Started.{IsRead, Started, read_left, started_left, started_read}
 use Rattle.vl_disk.specs.declared.name.Name.{Name}
 use Rattle.vl_disk.specs.declared.name.Name.TheVariants.{Log, Manifest, Table}
@@ -23,15 +23,15 @@ use Rattle.vl_model.specs.Limits.{max_file_number}
 use Rattle.vl_model.specs.declared.counter.Counter.TheVariants as counters
 use Rattle.vl_model.specs.declared.log_frame.LogFrame.{LogFrame}
 use Rattle.vl_recover.specs.Answers.{AreStrayNames, Finds, IsStrayName, calls_to_open, used_up}
-use Rattle.vl_recover.specs.OneFinding.{opened_not}
+use Rattle.vl_recover.specs.laws.OneFinding.{opened_not}
 use Rattle.vl_recover.specs.Opening.{Opening, Opens}
-use Rattle.vl_recover.specs.OpeningLaws.{opened, some_none}
+use Rattle.vl_recover.specs.laws.OpeningLaws.{opened, some_none}
 use Rattle.vl_recover.specs.Plans.{IsGreatest, log_behind, log_made, new_state, passes}
 use Rattle.vl_recover.specs.Walk.{StandingLog}
 use Rattle.vl_replay.specs.Opening.{IsRefused}
 use Rattle.vl_replay.specs.Reopens.{NamesUpTo, Reopens}
 use Rattle.vl_replay.specs.Start.{OpensUpTo, StartsIn}
-use Rattle.vl_replay.specs.StartLaws.{past, reopened, starts_shown}
+use Rattle.vl_replay.specs.laws.StartLaws.{past, reopened, starts_shown}
 use Rattle.vl_replay.specs.Stopped.{AreNumberedUpTo}
 use Rattle.vl_replay.specs.Stored.{Shown}
 use Rattle.vl_replay.specs.declared.fails.Refusal.{Refusal}

@@ -4,12 +4,12 @@ use Rattle.std.specs.Prelude.{Some}
 use Rattle.std.specs.List.{AllByRecursion, flat_map}
 use Rattle.std.proofs.lemmas.Grind.{flat_map-append}
 use Rattle.std.proofs.lemmas.List.{drop_more}
-use Rattle.vl_contents.specs.Contents.{WinnersHave}
+use Rattle.vl_replay.specs.ShownRows.{WinnersHave}
 use Rattle.vl_memtable.specs.Contents.{Contents, GiveAll, all_of}
 use Rattle.vl_merge.specs.Merging.{IsAlong}
 use Rattle.vl_model.specs.History.{contents_at}
-use Rattle.vl_model.specs.HistoryLaws.{get-contents_at}
-use Rattle.vl_model.specs.WinnerLaws.{winner-append, winner-in_order}
+use Rattle.vl_model.specs.laws.HistoryLaws.{get-contents_at}
+use Rattle.vl_model.specs.laws.WinnerLaws.{winner-append, winner-in_order}
 use Rattle.vl_model.specs.Winners.{newest_of, resolved_at, winner}
 use Rattle.vl_model.specs.declared.entry.Entry.{Entry}
 use Rattle.vl_model.specs.declared.way.Way.TheVariants.{Up}

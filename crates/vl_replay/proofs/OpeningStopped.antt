@@ -7,47 +7,47 @@ use Rattle.std.proofs.lemmas.List.{take_at}
 use Rattle.vl_disk.specs.Changes.{SameElsewhere}
 use Rattle.vl_disk.specs.Crash.{Image, MayLeaveOne}
 use Rattle.vl_disk.specs.DiskState.{DiskState, File, IsLawful, created, empty_disk, new_file, settled}
-use Rattle.vl_disk.specs.Lawful.{appended_lawful, created_lawful, empty_lawful, made_lawful}
+use Rattle.vl_disk.specs.laws.Lawful.{appended_lawful, created_lawful, empty_lawful, made_lawful}
 use Rattle.vl_disk.specs.MadeFile as making
 use Rattle.vl_disk.specs.MadeFile.{WhileMaking, made}
 use Rattle.vl_disk.specs.Name.{IsNumbered, file_number, name_cmp}
-use Rattle.vl_disk.specs.NameMap.{same_or_other}
+use Rattle.vl_disk.specs.laws.NameMap.{same_or_other}
 use Rattle.vl_disk.specs.Started.{IsRead, Started, read_left, started_empty, started_left, started_made, started_read}
 use Rattle.vl_disk.specs.declared.name.Name.{Name}
 use Rattle.vl_disk.specs.declared.name.Name.TheVariants.{Log, Manifest, Table}
-use Rattle.vl_frame.specs.RunLaws.{frame_is_some}
+use Rattle.vl_frame.specs.laws.RunLaws.{frame_is_some}
 use Rattle.vl_frame.specs.Runs.{item_frame}
-use Rattle.vl_manifest.specs.EditLaws.{edits_grammar}
+use Rattle.vl_manifest.specs.laws.EditLaws.{edits_grammar}
 use Rattle.vl_manifest.specs.Manifest.{IsReadable, ManifestSays, SaysState, manifest_bytes}
-use Rattle.vl_manifest.specs.ManifestLaws.{one_saying, whole_manifest}
-use Rattle.vl_manifest.specs.StateLaws.{IsInRange}
+use Rattle.vl_manifest.specs.laws.ManifestLaws.{one_saying, whole_manifest}
+use Rattle.vl_manifest.specs.laws.StateLaws.{IsInRange}
 use Rattle.vl_manifest.specs.States.{fresh_state, whole_edits}
 use Rattle.vl_manifest.specs.declared.state.ManifestState.{ManifestState}
-use Rattle.vl_mem.specs.CrashChance.{IsTornByPieces, IsTornInOnePiece, SpellsWhatStands, crash_without_chance, lengthened_torn, untorn_file}
+use Rattle.vl_mem.specs.laws.CrashChance.{IsTornByPieces, IsTornInOnePiece, SpellsWhatStands, crash_without_chance, lengthened_torn, untorn_file}
 use Rattle.vl_mem.specs.CrashImage.{crash_image}
-use Rattle.vl_mem.specs.CrashLaws.{crash_left}
+use Rattle.vl_mem.specs.laws.CrashLaws.{crash_left}
 use Rattle.vl_mem.specs.declared.outcome.Outcome.{Outcome}
 use Rattle.vl_model.specs.History.{no_history}
 use Rattle.vl_recover.specs.Alike.{IsLeft, OpensAsOf, Spells}
 use Rattle.vl_recover.specs.Answers.{AreStrayNames}
 use Rattle.vl_recover.specs.Held.{IsNowhere}
-use Rattle.vl_recover.specs.HeldLaws.{left_nowhere, left_settled, started_may_open, started_settled}
+use Rattle.vl_recover.specs.laws.HeldLaws.{left_nowhere, left_settled, started_may_open, started_settled}
 use Rattle.vl_recover.specs.Meanwhile.{IsMeanwhile, Mending, as_before, at_mending}
 use Rattle.vl_recover.specs.Mending.{NoLast, Plan, WhileMending, at_last, at_log, at_manifest, at_strays, plan_from}
-use Rattle.vl_recover.specs.MendingOpens.{mending_opens}
-use Rattle.vl_recover.specs.MendingSteps.{manifest_log}
-use Rattle.vl_recover.specs.OneFinding.{same_greatest, same_logs, same_opening}
-use Rattle.vl_recover.specs.OneName as one
-use Rattle.vl_recover.specs.OneName.{IsLeftOne, IsPart, Making, left_one, part_empty, part_some}
+use Rattle.vl_recover.specs.laws.MendingOpens.{mending_opens}
+use Rattle.vl_recover.specs.laws.MendingSteps.{manifest_log}
+use Rattle.vl_recover.specs.laws.OneFinding.{same_greatest, same_logs, same_opening}
+use Rattle.vl_recover.specs.laws.OneName as one
+use Rattle.vl_recover.specs.laws.OneName.{IsLeftOne, IsPart, Making, left_one, part_empty, part_some}
 use Rattle.vl_recover.specs.Opening.{Bare, Heading, Headless, IsHeaded, Led, Newest, Opening, Opens, Refusal, Says, of_manifest}
-use Rattle.vl_recover.specs.OpeningLaws.{opened, some_none, some_same}
+use Rattle.vl_recover.specs.laws.OpeningLaws.{opened, some_none, some_same}
 use Rattle.vl_recover.specs.Plans.{Greatest}
-use Rattle.vl_recover.specs.StageLaws.{ok_err, ok_same}
-use Rattle.vl_recover.specs.Torn.{torn_manifest}
+use Rattle.vl_recover.specs.laws.StageLaws.{ok_err, ok_same}
+use Rattle.vl_recover.specs.laws.Torn.{torn_manifest}
 use Rattle.vl_recover.specs.Walk.{StandingLog}
 use Rattle.vl_seglog.specs.Frames.{frames_grammar, log_header}
 use Rattle.vl_replay.specs.Reopens.{NamesUpTo, Reopens}
-use Rattle.vl_replay.specs.StartLaws.{finds_nothing, not_there, shows_nothing, started_durable}
+use Rattle.vl_replay.specs.laws.StartLaws.{finds_nothing, not_there, shows_nothing, started_durable}
 use Rattle.vl_replay.specs.Stopped.{AreNumberedUpTo}
 use Rattle.vl_replay.proofs.NumbersLeft.{names_left, numbers_left, reopens_by}
 use Rattle.vl_replay.proofs.Starting.{opening_shows}

@@ -14,13 +14,13 @@ use Rattle.vl_model.specs.declared.entry.Entry.{Entry}
 use Rattle.vl_model.specs.declared.log_frame.LogFrame.{LogFrame}
 use Rattle.vl_recover.specs.Answers.{Finds, HeldLog, IsNotOpened, Opened, and_made, as_segment, held_log, logs_then, opened_from}
 use Rattle.vl_recover.specs.Held.{HoldsStore}
-use Rattle.vl_recover.specs.HeldLaws.{GoOn}
+use Rattle.vl_recover.specs.laws.HeldLaws.{GoOn}
 use Rattle.vl_recover.specs.Meanwhile.{IsMended}
 use Rattle.vl_recover.specs.Mending.{Plan, mended, plan_from, plan_of}
-use Rattle.vl_recover.specs.OneFinding.{same_greatest, same_logs, same_opening}
+use Rattle.vl_recover.specs.laws.OneFinding.{same_greatest, same_logs, same_opening}
 use Rattle.vl_recover.specs.Opening.{Opening}
 use Rattle.vl_recover.specs.Plans.{Greatest, active_log, active_of, last_number as last_log, log_behind, log_made, new_state}
-use Rattle.vl_recover.specs.RecoveredLaws.{found_goes_on, found_shows}
+use Rattle.vl_recover.specs.laws.RecoveredLaws.{found_goes_on, found_shows}
 use Rattle.vl_recover.specs.Results.{frozen_log, opened_of}
 use Rattle.vl_recover.specs.Walk.{StandingLog}
 use Rattle.vl_recover.specs.declared.parts.FrozenLog.{FrozenLog}

@@ -3,7 +3,7 @@ use Rattle.std.proofs.Common.{◌≡◌, ⊎_elim, ℕ, ◌-◌, ◌^◌, ◌≤
 use Rattle.std.specs.Prelude.{IfOk, IfErr}
 use Rattle.std.specs.FinMap.{empty, get-empty}
 use Rattle.std.proofs.lemmas.List.{take_all}
-use Rattle.vl_contents.specs.Text.{reopened_text}
+use Rattle.vl_replay.specs.Text.{reopened_text}
 use Rattle.vl_disk.specs.Crash.{Image}
 use Rattle.vl_disk.specs.DiskState.{DiskState, empty_disk}
 use Rattle.vl_disk.specs.Faults.{HasCause, after_calls}
@@ -35,7 +35,7 @@ use Rattle.vl_replay.specs.Reopens.{Reopens}
 use Rattle.vl_replay.specs.Represents.{Represents}
 use Rattle.vl_replay.specs.Sequential.{State}
 use Rattle.vl_replay.specs.Start.{IsDurable, OpensUpTo, StartsIn}
-use Rattle.vl_replay.specs.StartLaws.{finds_nothing, gone_on_from, opens_up_to, reopened, started_durable, starts_empty}
+use Rattle.vl_replay.specs.laws.StartLaws.{finds_nothing, gone_on_from, opens_up_to, reopened, started_durable, starts_empty}
 use Rattle.vl_replay.specs.Steps.{EndsUnopened, Finishes, FinishesBy}
 use Rattle.vl_replay.specs.Stored.{IsStored}
 use Rattle.vl_replay.specs.Trial.{begun}

@@ -5,7 +5,7 @@ use Rattle.vl_disk.specs.Crash.{Image}
 use Rattle.vl_disk.specs.DiskState.{DiskState}
 use Rattle.vl_disk.specs.Faults.{after_calls}
 use Rattle.vl_disk.specs.Started.{IsRead}
-use Rattle.vl_layout.specs.CommitShows.{same_from}
+use Rattle.vl_layout.specs.laws.CommitShows.{same_from}
 use Rattle.vl_layout.specs.declared.segment.Segment.{Segment}
 use Rattle.vl_model.specs.History.{History, last_number, value_at}
 use Rattle.vl_model.specs.Keys.{Stored}

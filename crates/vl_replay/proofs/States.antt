@@ -18,7 +18,7 @@ use Rattle.vl_model.specs.History.{History, last_number, with_commit, value_at, 
 use Rattle.vl_model.specs.Reads.{KeyRead}
 use Rattle.vl_model.specs.declared.change.Change.{Change}
 use Rattle.vl_model.specs.declared.change.Change.TheVariants.{Set as Put, Delete}
-use Rattle.vl_model.specs.HistoryLaws.{value_at-with_commit}
+use Rattle.vl_model.specs.laws.HistoryLaws.{value_at-with_commit}
 use Rattle.vl_replay.specs.Memtable.{newest}
 use Rattle.vl_replay.specs.Opened.{opened_value}
 use Rattle.vl_replay.specs.Sequential as sequential

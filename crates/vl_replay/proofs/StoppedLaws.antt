@@ -9,34 +9,34 @@ use Rattle.std.proofs.lemmas.List.{length-take, map-append, take-take, take_all,
 use Rattle.vl_disk.specs.Changes.{changed_elsewhere, changed_there}
 use Rattle.vl_disk.specs.Crash.{Image, MayLeave}
 use Rattle.vl_disk.specs.DiskState.{DiskState, File, IsLawful, appended, lengthened, synced, synced_file}
-use Rattle.vl_disk.specs.Lawful.{appended_lawful}
-use Rattle.vl_disk.specs.NameMap.{same_or_other}
+use Rattle.vl_disk.specs.laws.Lawful.{appended_lawful}
+use Rattle.vl_disk.specs.laws.NameMap.{same_or_other}
 use Rattle.vl_disk.specs.Started.{read_left}
 use Rattle.vl_disk.specs.declared.name.Name.{Name}
 use Rattle.vl_disk.specs.declared.name.Name.TheVariants.{Log}
-use Rattle.vl_frame.specs.RunLaws.{frame_is_some, one_front}
+use Rattle.vl_frame.specs.laws.RunLaws.{frame_is_some, one_front}
 use Rattle.vl_frame.specs.Runs.{HasFrame, StandsNone, item_frame}
 use Rattle.vl_layout.specs.Logs.{new_segment}
 use Rattle.vl_layout.specs.declared.segment.Segment.{Segment}
 use Rattle.vl_manifest.specs.declared.state.ManifestState.{ManifestState}
 use Rattle.vl_mem.specs.CrashImage.{crash_image, left_of}
-use Rattle.vl_mem.specs.CrashLaws.{crash_left, image_left}
+use Rattle.vl_mem.specs.laws.CrashLaws.{crash_left, image_left}
 use Rattle.vl_mem.specs.declared.outcome.Outcome.{Outcome}
 use Rattle.vl_mem.specs.declared.outcome.Outcome.TheVariants.{Lost, Kept, Halved}
 use Rattle.vl_model.specs.History.{last_number}
 use Rattle.vl_model.specs.Limits.{max_file_number}
 use Rattle.vl_model.specs.declared.log_frame.LogFrame.{LogFrame}
-use Rattle.vl_recover.specs.AlikeLaws.{standing_log}
-use Rattle.vl_recover.specs.AppendLaws.{last_held, manifest_kept, standing_with, walked_with}
+use Rattle.vl_recover.specs.laws.AlikeLaws.{standing_log}
+use Rattle.vl_recover.specs.laws.AppendLaws.{last_held, manifest_kept, standing_with, walked_with}
 use Rattle.vl_recover.specs.Held.{HoldsStore}
-use Rattle.vl_recover.specs.HeldLaws.{GoOn, held_current, held_opens, held_says, log_as_held, opening_held}
+use Rattle.vl_recover.specs.laws.HeldLaws.{GoOn, held_current, held_opens, held_says, log_as_held, opening_held}
 use Rattle.vl_recover.specs.Opening.{Led, Opening, Opens, Refusal, StandingLogs}
-use Rattle.vl_recover.specs.OpeningLaws.{opens_by, single_opening, some_none}
-use Rattle.vl_recover.specs.StageLaws.{ok_same}
-use Rattle.vl_recover.specs.TornFrames.{frame_behind, torn_log}
+use Rattle.vl_recover.specs.laws.OpeningLaws.{opens_by, single_opening, some_none}
+use Rattle.vl_recover.specs.laws.StageLaws.{ok_same}
+use Rattle.vl_recover.specs.laws.TornFrames.{frame_behind, torn_log}
 use Rattle.vl_recover.specs.Walk.{StandingLog, filled, walked, with_frames}
 use Rattle.vl_seglog.specs.Frames.{frame_at, frames_end, frames_grammar, log_bytes}
-use Rattle.vl_seglog.specs.LogReadingLaws.{SaysFrames, reads_with_tail}
+use Rattle.vl_seglog.specs.laws.LogReadingLaws.{SaysFrames, reads_with_tail}
 use Rattle.vl_replay.specs.Reopens.{NamesUpTo, Reopens, commits_of, state_left}
 use Rattle.vl_replay.specs.Sequential.{State}
 use Rattle.vl_replay.specs.Stopped.{AreNumberedUpTo, Commits, GivesUpTo, IsStoppedIn, append_failed, append_passed, sync_failed, with_taken}

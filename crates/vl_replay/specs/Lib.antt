@@ -5,8 +5,7 @@ pub mod Endings
 pub mod Exchanges
 pub mod Halts
 pub mod Input
-pub mod Laws
-pub mod Limits
+pub mod laws
 pub mod Memtable
 pub mod Opened
 pub mod Opening
@@ -15,11 +14,12 @@ pub mod Reopens
 pub mod Represents
 pub mod Runs
 pub mod Sequential
+pub mod ShownRows
 pub mod Start
-pub mod StartLaws
 pub mod Steps
 pub mod Stopped
 pub mod Stored
+pub mod Text
 pub mod Trial
 pub mod Trying
 pub mod Writing

@@ -15,7 +15,7 @@ use Rattle.vl_recover.specs.Plans.{active_log, new_state}
 use Rattle.vl_recover.specs.Starts.{MayOpen}
 use Rattle.vl_replay.specs.Durable.{DiskEnds, IsAsBefore, Tells}
 use Rattle.vl_replay.specs.Exchanges.{AreExplained, exchanges_from}
-use Rattle.vl_replay.specs.Laws.{IsSound, exchanges_from-explained, none_in_empty, nothing_there}
+use Rattle.vl_replay.specs.laws.Laws.{IsSound, exchanges_from-explained, none_in_empty, nothing_there}
 use Rattle.vl_replay.specs.Runs.{Course, EndsRun, Outside, script_of}
 use Rattle.vl_replay.specs.Sequential.{Handle, State}
 use Rattle.vl_replay.specs.Stopped.{AreNumberedUpTo, GivesUpTo}

@@ -1,7 +1,7 @@
 -- A trial: a script over a disk that stops, and what the store has that is opened on what a crash then leaves.
 use Rattle.std.specs.Prelude.{◌≡◌, ◌⊎◌, ◌+◌, ◌<◌, ◌≤◌, ℕ, nat_le, if◌then◌else◌, List, [], ◌∷◌, ◌++◌, length, take, Option, Some, None}
 use Rattle.std.specs.List.{slice_get}
-use Rattle.vl_contents.specs.Text.{reopened_text}
+use Rattle.vl_replay.specs.Text.{reopened_text}
 use Rattle.vl_io.specs.Sink.{Takes}
 use Rattle.vl_mem.specs.declared.outcome.Outcome.{Outcome}
 use Rattle.vl_model.specs.History.{contents_at, last_number}
@@ -11,7 +11,7 @@ use Rattle.vl_replay.specs.Exchanges.{Exchange, answers_text, exchanges_from, la
 use Rattle.vl_replay.specs.Reopens.{state_left}
 use Rattle.vl_replay.specs.Runs.{IsFront}
 use Rattle.vl_replay.specs.Sequential.{State}
-use Rattle.vl_replay.specs.StartLaws.{empty_store}
+use Rattle.vl_replay.specs.laws.StartLaws.{empty_store}
 use Rattle.vl_replay.specs.declared.ending.Ending.{Ending}
 use Rattle.vl_replay.specs.declared.ending.Ending.TheVariants.{Complete, BadLine, BadWords, DiskFault, Refused, NoMemory, ReadFault, WriteFault, AnswerCut, Stopped}
 

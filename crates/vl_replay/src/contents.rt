@@ -1,14 +1,15 @@
 //! What is printed of a store that was opened.
 ghost use Rattle.std.specs.Prelude.{◌≡◌, IfOk};
-ghost use Rattle.vl_contents.specs.Text.{reopened_text};
+ghost use Rattle.vl_replay.specs.Text.{reopened_text};
 ghost use Rattle.vl_model.specs.History.{contents_at};
 ghost use Rattle.vl_seglog.specs.declared.active.ActiveLog.{ActiveLog};
 ghost use Rattle.vl_replay.specs.Contents.{GiveEntries};
 ghost use Rattle.vl_replay.specs.Opened.{IsOpenedStore, entries_in};
 ghost use Rattle.vl_replay.specs.Sequential.{State};
 
+use crate::rows::rows_of;
+use crate::text::contents_text;
 use std::alloc::{AllocError, Global};
-use vl_contents::{contents_text, rows_of};
 use vl_model::Way;
 use vl_recover::FrozenLog;
 use vl_run::RunCursor;

@@ -8,7 +8,9 @@ mod fails;
 mod input;
 mod refusing;
 mod replayer;
+mod rows;
 mod running;
+mod text;
 mod trying;
 
 pub use ending::{Ended, Ending, NO_MEMORY, USAGE, finish};

@@ -1,9 +1,3 @@
-pub mod Along
-pub mod Exact
-pub mod Lookup
-pub mod LookupLaws
-pub mod Merged
+pub mod laws
 pub mod Order
-pub mod OrderLaws
-pub mod PartLaws
 pub mod Places

@@ -2,13 +2,13 @@
 use Rattle.std.proofs.Common.{◌≡◌, ℕ, ◌+◌, ◌-◌, List, [], ◌∷◌, ◌++◌, length, take, drop, sym, ap, ◌∙◌, arith}
 use Rattle.std.proofs.lemmas.List.{take_all, length-drop}
 use Rattle.vl_frame.specs.Frame.{IsSpelled, frame_bytes}
-use Rattle.vl_frame.specs.Laws.{one_frame}
-use Rattle.vl_frame.specs.RunLaws as runs
+use Rattle.vl_frame.specs.laws.Laws.{one_frame}
+use Rattle.vl_frame.specs.laws.RunLaws as runs
 use Rattle.vl_frame.specs.Runs.{StandsAt}
 use Rattle.vl_frame.specs.declared.kinds.FileKind.TheVariants as files
 use Rattle.vl_frame.specs.declared.kinds.FrameKind.{FrameKind}
 use Rattle.vl_model.specs.declared.log_frame.LogFrame.{LogFrame}
-use Rattle.vl_seglog.specs.FrameLaws.{frames_end-more, length-item_frame}
+use Rattle.vl_seglog.specs.laws.FrameLaws.{frames_end-more, length-item_frame}
 use Rattle.vl_seglog.specs.Frames.{frame_body, frame_kind, frames_end, frames_grammar}
 use Rattle.vl_seglog.specs.Reading.{Says}
 

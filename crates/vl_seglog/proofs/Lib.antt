@@ -5,6 +5,9 @@ pub mod Moving
 pub mod Options
 pub mod Order
 pub mod Placing
+pub mod Pointers
+pub mod RecordParts
 pub mod Records
 pub mod Runs
 pub mod Staging
+mod StoredLaws

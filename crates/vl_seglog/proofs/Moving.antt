@@ -5,10 +5,10 @@ use Rattle.vl_frame.specs.Numbers.{one_number}
 use Rattle.vl_model.specs.declared.change.Change.{Change}
 use Rattle.vl_model.specs.declared.change.Change.TheVariants.{Set, Delete}
 use Rattle.vl_model.specs.declared.log_frame.Moved.{Moved}
-use Rattle.vl_record.specs.Laws.{one_record}
-use Rattle.vl_record.specs.Record.{IsRecord, IsSpelled, record_bytes}
+use Rattle.vl_seglog.specs.laws.RecordLaws.{one_record}
+use Rattle.vl_seglog.specs.Record.{IsRecord, IsSpelled, record_bytes}
 use Rattle.vl_seglog.specs.Relocation.{AreOnce, IsMoved, IsRelocation, moved_bytes, moves_bytes, moves_spelling, relocation_body}
-use Rattle.vl_seglog.specs.RelocationLaws.{few_moves}
+use Rattle.vl_seglog.specs.laws.RelocationLaws.{few_moves}
 use Rattle.vl_seglog.specs.Series.{IsSeries, one_series}
 
 -- behind the version of a moved record stands the record

@@ -7,10 +7,10 @@ use Rattle.vl_model.specs.declared.change.Change.{Change}
 use Rattle.vl_model.specs.declared.change.Change.TheVariants.{Set}
 use Rattle.vl_model.specs.declared.log_frame.Moved.{Moved}
 use Rattle.vl_model.specs.declared.pointer.Pointer.{Pointer}
-use Rattle.vl_record.specs.Laws.{length-record_bytes}
+use Rattle.vl_seglog.specs.laws.RecordLaws.{length-record_bytes}
 use Rattle.vl_seglog.specs.Commit.{records_spelling}
 use Rattle.vl_seglog.specs.Relocation.{moves_spelling}
-use Rattle.vl_seglog.specs.RelocationLaws.{length-moved_bytes}
+use Rattle.vl_seglog.specs.laws.RelocationLaws.{length-moved_bytes}
 use Rattle.vl_seglog.specs.Series.{Spelling, series_bytes}
 use Rattle.vl_seglog.specs.Stored.{moved_pointers, pointer_at, pointers_from}
 

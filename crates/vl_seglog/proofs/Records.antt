@@ -3,8 +3,8 @@ use Rattle.std.proofs.Common.{◌≡◌, ℕ, ◌+◌, ◌-◌, ◌≤◌, List,
 use Rattle.std.proofs.lemmas.List.{drop_at, take_all, length-drop}
 use Rattle.vl_model.specs.declared.change.Change.{Change}
 use Rattle.vl_model.specs.Frames.{record_length}
-use Rattle.vl_record.specs.Record.{IsRecord, IsSpelled, record_bytes}
-use Rattle.vl_record.specs.Laws.{length-record_bytes}
+use Rattle.vl_seglog.specs.Record.{IsRecord, IsSpelled, record_bytes}
+use Rattle.vl_seglog.specs.laws.RecordLaws.{length-record_bytes}
 use Rattle.vl_seglog.specs.Commit.{records_spelling}
 use Rattle.vl_seglog.proofs.Runs.{NoItem}
 

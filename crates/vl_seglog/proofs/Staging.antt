@@ -5,9 +5,9 @@ use Rattle.vl_model.specs.declared.change.Change.{Change}
 use Rattle.vl_model.specs.declared.log_frame.LogFrame.{LogFrame}
 use Rattle.vl_model.specs.declared.log_frame.LogFrame.TheVariants.{Committed, Relocated}
 use Rattle.vl_model.specs.declared.log_frame.Moved.{Moved}
-use Rattle.vl_frame.specs.Laws.{length-frame_bytes}
+use Rattle.vl_frame.specs.laws.Laws.{length-frame_bytes}
 use Rattle.vl_seglog.specs.Commit.{records_bytes}
-use Rattle.vl_seglog.specs.CommitLaws.{body_length}
+use Rattle.vl_seglog.specs.laws.CommitLaws.{body_length}
 use Rattle.vl_seglog.specs.Frames.{IsFrame, frame_at, frame_body, frame_kind, frames_grammar}
 use Rattle.vl_seglog.specs.Relocation.{moves_bytes, relocation_body}
 

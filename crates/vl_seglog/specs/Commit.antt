@@ -8,8 +8,8 @@ use Rattle.vl_model.specs.declared.change.Change.{Change}
 use Rattle.vl_model.specs.Limits.{max_commit_number}
 use Rattle.vl_frame.specs.Frame.{frame_bytes}
 use Rattle.vl_frame.specs.declared.kinds.FrameKind.TheVariants as kinds
-use Rattle.vl_record.specs.Laws.{one_record}
-use Rattle.vl_record.specs.Record.{IsRecord, IsSpelled, record_bytes}
+use Rattle.vl_seglog.specs.laws.RecordLaws.{one_record}
+use Rattle.vl_seglog.specs.Record.{IsRecord, IsSpelled, record_bytes}
 use Rattle.vl_seglog.specs.Series.{Spelling, series_bytes}
 
 -- a commit, and what it does to each key that it names

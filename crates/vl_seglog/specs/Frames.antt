@@ -12,9 +12,9 @@ use Rattle.vl_model.specs.Frames.{frame_length}
 use Rattle.vl_model.specs.declared.log_frame.LogFrame.{LogFrame}
 use Rattle.vl_model.specs.declared.log_frame.LogFrame.TheVariants.{Committed, Relocated}
 use Rattle.vl_seglog.specs.Commit.{Commit, IsCommit, commit_body}
-use Rattle.vl_seglog.specs.CommitLaws.{one_body}
+use Rattle.vl_seglog.specs.laws.CommitLaws.{one_body}
 use Rattle.vl_seglog.specs.Relocation.{IsRelocation, relocation_body}
-use Rattle.vl_seglog.specs.RelocationLaws.{one_relocation}
+use Rattle.vl_seglog.specs.laws.RelocationLaws.{one_relocation}
 
 abbrev pub frame_kind : LogFrame → FrameKind
 frame_kind (Committed number writes) = kinds.Commit

@@ -1,13 +1,11 @@
 pub mod Commit
-pub mod CommitLaws
-pub mod FrameLaws
 pub mod Frames
+pub mod laws
 pub mod LogReading
-pub mod LogReadingLaws
+pub mod Pointer
 pub mod Reading
+pub mod Record
 pub mod Relocation
-pub mod RelocationLaws
 pub mod Series
 pub mod Staging
 pub mod Stored
-pub mod StoredLaws

@@ -10,7 +10,7 @@ use Rattle.vl_model.specs.Keys.{value_bytes}
 use Rattle.vl_model.specs.declared.change.Change.{Change}
 use Rattle.vl_model.specs.declared.change.Change.TheVariants.{Set}
 use Rattle.vl_model.specs.declared.log_frame.Moved.{Moved}
-use Rattle.vl_record.specs.Record.{IsRecord, record_bytes}
+use Rattle.vl_seglog.specs.Record.{IsRecord, record_bytes}
 use Rattle.vl_seglog.specs.Commit.{one_write}
 use Rattle.vl_seglog.specs.Series.{Spelling, series_bytes}
 

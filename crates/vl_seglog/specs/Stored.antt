@@ -8,7 +8,7 @@ use Rattle.vl_model.specs.declared.log_frame.LogFrame.{LogFrame}
 use Rattle.vl_model.specs.declared.log_frame.LogFrame.TheVariants.{Committed, Relocated}
 use Rattle.vl_model.specs.declared.log_frame.Moved.{Moved}
 use Rattle.vl_model.specs.declared.pointer.Pointer.{Pointer}
-use Rattle.vl_record.specs.Record.{IsSpelled, record_bytes}
+use Rattle.vl_seglog.specs.Record.{IsSpelled, record_bytes}
 
 -- ---- where records lie
 

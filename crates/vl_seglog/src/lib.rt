@@ -11,13 +11,17 @@
 
 mod active;
 mod frame;
+mod pointer;
 mod reading;
+mod record;
 mod staged;
 mod write;
 
 pub use active::ActiveLog;
 pub use frame::{Commit, Frame};
+pub use pointer::{POINTER_BYTES, pointer_bytes, read_pointer};
 pub use reading::{LogRead, read_log};
+pub use record::{RECORD_HEAD_BYTES, RecordRef, read_record, write_record};
 pub use staged::Staged;
 pub use write::{
     LOG_FORMAT, LOG_HEADER_BYTES, commit_length, log_header, write_commit, write_move,

@@ -8,10 +8,10 @@ ghost use Rattle.vl_seglog.specs.Relocation.{moves_bytes};
 ghost use Rattle.vl_seglog.specs.Staging.{IsStaged};
 ghost use Rattle.vl_seglog.specs.Stored.{moved_pointers, pointer_at, pointers_from};
 
+use crate::RECORD_HEAD_BYTES;
 use crate::write::{write_commit, write_move};
 use std::alloc::{AllocError, Global};
 use vl_model::{Change, Key, Moved, Pointer, Value};
-use vl_record::RECORD_HEAD_BYTES;
 
 // How many bytes of a frame stand before its first record: five of the frame's, and of a commit its number and count.
 const BEFORE_RECORDS: u64 = 17;

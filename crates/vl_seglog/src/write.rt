@@ -2,16 +2,16 @@ ghost use Rattle.std.specs.Prelude.{◌≡◌, ◌++◌, ◌<◌, ◌^◌, lengt
 ghost use Rattle.byteorder.specs.Endian.{big_bytes};
 ghost use Rattle.vl_frame.specs.Frame.{frame_length};
 ghost use Rattle.vl_model.specs.declared.change.Change.{Change};
-ghost use Rattle.vl_record.specs.Record.{record_bytes};
+ghost use Rattle.vl_seglog.specs.Record.{record_bytes};
 ghost use Rattle.vl_seglog.specs.Commit as commits;
 ghost use Rattle.vl_seglog.specs.Frames as log;
 ghost use Rattle.vl_seglog.specs.Relocation.{moved_bytes, relocation_body, relocation_frame};
 
+use crate::write_record;
 use byteorder::{BigEndian, ByteOrder};
 use std::alloc::{AllocError, Global};
 use vl_frame::{FileKind, FrameKind, HEADER_BYTES, file_header, write_frame};
 use vl_model::{Change, Key, Moved};
-use vl_record::write_record;
 
 /// The format in which logs are written, and the greatest that is read.
 pub const LOG_FORMAT: u32 = 1;

@@ -1,1 +1,8 @@
+mod BlockSteps
+mod CursorSteps
+mod Headers
+mod OpeningSteps
+mod Parts
 pub mod Results
+mod Stages
+mod Worked

@@ -1,14 +1,14 @@
 -- The block that a buffer has.
 use Rattle.std.specs.Prelude.{◌≡◌, ◌≢◌, ℕ, List, Option, Some, length, drop}
 use Rattle.std.proofs.Common.{ap, sym, subst, ◌∙◌}
-use Rattle.vl_frame.specs.Laws.{length-frame_bytes, one_frame}
+use Rattle.vl_frame.specs.laws.Laws.{length-frame_bytes, one_frame}
 use Rattle.vl_frame.specs.declared.kinds.FileKind.TheVariants as files
 use Rattle.vl_frame.specs.Frame.{frame_bytes}
 use Rattle.vl_frame.specs.declared.kinds.FrameKind.TheVariants as kinds
 use Rattle.vl_model.specs.declared.entry.Entry.{Entry}
 use Rattle.vl_block.specs.Blocks.{SpellsBlock}
 use Rattle.vl_block.specs.declared.index.BlockPlace.{BlockPlace}
-use Rattle.vl_part.specs.Begun.{FrameAt}
+use Rattle.vl_table.specs.Begun.{FrameAt}
 use Rattle.vl_table.specs.declared.block_buffer.BlockBuffer.{BlockBuffer}
 
 -- a block of so many bytes stands at the place, with these entries

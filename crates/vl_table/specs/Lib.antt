@@ -1,8 +1,11 @@
+pub mod Answers
+pub mod Begun
+pub mod BlocksRead
 pub mod Buffers
+pub mod CursorLeft
+pub mod laws
 pub mod Meets
 pub mod Opened
 pub mod Opening
-pub mod OpeningSteps
 pub mod Scans
 pub mod Seeks
-pub mod Worked

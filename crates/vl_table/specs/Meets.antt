@@ -6,9 +6,9 @@ use Rattle.std.proofs.Common.{refl, sym, subst, ◌∙◌, ap}
 use Rattle.std.proofs.lemmas.List.{drop_more}
 use Rattle.vl_block.specs.declared.index.BlockPlace.{BlockPlace}
 use Rattle.vl_model.specs.declared.entry.Entry.{Entry}
-use Rattle.vl_part.specs.declared.fault.TableFault.{TableFault}
-use Rattle.vl_run.specs.Lookup.{is_ahead}
-use Rattle.vl_run.specs.LookupLaws.{is_below}
+use Rattle.vl_table.specs.declared.fault.TableFault.{TableFault}
+use Rattle.vl_run.specs.laws.Lookup.{is_ahead}
+use Rattle.vl_run.specs.laws.LookupLaws.{is_below}
 use Rattle.vl_run.specs.Places.{IsParted, first_failing}
 use Rattle.vl_table.specs.Buffers.{StandsBlock}
 use Rattle.vl_table.specs.declared.table.Table.{Table}

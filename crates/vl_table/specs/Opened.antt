@@ -3,25 +3,25 @@ use Rattle.std.specs.Prelude.{◌≡◌, ◌+◌, ◌-◌, ℕ, List, [], ◌++�
 use Rattle.std.proofs.Common.{refl, ap, sym, subst, ◌∙◌, append-nil, arith}
 use Rattle.byteorder.specs.Endian.{big_bytes, big_number}
 use Rattle.byteorder.specs.Numbers.{big_number-reads_back}
-use Rattle.vl_frame.specs.Laws.{length-frame_bytes, one_frame}
+use Rattle.vl_frame.specs.laws.Laws.{length-frame_bytes, one_frame}
 use Rattle.vl_frame.specs.declared.kinds.FileKind.TheVariants as files
 use Rattle.vl_frame.specs.declared.kinds.FrameKind.TheVariants as kinds
 use Rattle.vl_model.specs.declared.entry.Entry.{Entry}
 use Rattle.vl_block.specs.Cutting.{blocks}
 use Rattle.vl_block.specs.Footer.{Foot, SpellsFooter, footer_body, foot_of}
-use Rattle.vl_block.specs.FooterLaws.{one_footer}
+use Rattle.vl_block.specs.laws.FooterLaws.{one_footer}
 use Rattle.vl_block.specs.Index.{index_body, places}
-use Rattle.vl_list.specs.ListLaws.{one_list}
+use Rattle.vl_block.specs.laws.ListLaws.{one_list}
 use Rattle.vl_block.specs.declared.index.BlockPlace.{BlockPlace}
-use Rattle.vl_part.specs.declared.fault.TableFault.{TableFault}
-use Rattle.vl_part.specs.declared.fault.TableFault.TheVariants.{NoMemory, Disk, Damaged}
+use Rattle.vl_table.specs.declared.fault.TableFault.{TableFault}
+use Rattle.vl_table.specs.declared.fault.TableFault.TheVariants.{NoMemory, Disk, Damaged}
 use Rattle.vl_table.specs.declared.table.Table.{Table}
-use Rattle.vl_part.specs.Answers.{Answers}
+use Rattle.vl_table.specs.Answers.{Answers}
 use Rattle.vl_block.specs.Bytes.{IsTable, block_places, blocks_bytes, foot, footer_bytes, footer_place, index_bytes, index_place, table_bytes}
-use Rattle.vl_block.specs.Lengths.{length-footer, length-index, length-table_bytes}
+use Rattle.vl_block.specs.laws.Lengths.{length-footer, length-index, length-table_bytes}
 use Rattle.vl_table.specs.Opening.{IsDamaged, IsRead, StandsFooter, StandsIndex, no_footer, no_header, no_index, no_place}
-use Rattle.vl_part.specs.Begun.{IsInside, said_place}
-use Rattle.vl_block_laws.specs.TablePlaces.{drop-end, drop-footer, drop-index}
+use Rattle.vl_table.specs.Begun.{IsInside, said_place}
+use Rattle.vl_table.specs.laws.TablePlaces.{drop-end, drop-footer, drop-index}
 
 -- ---- one reading
 

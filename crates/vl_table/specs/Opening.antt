@@ -6,7 +6,7 @@ use Rattle.vl_frame.specs.declared.kinds.FrameKind.TheVariants as kinds
 use Rattle.vl_block.specs.Footer.{Foot, SpellsFooter}
 use Rattle.vl_block.specs.Index.{SpellsIndex}
 use Rattle.vl_block.specs.declared.index.BlockPlace.{BlockPlace}
-use Rattle.vl_part.specs.Begun.{FrameAt, IsBegun, IsInside, said_place}
+use Rattle.vl_table.specs.Begun.{FrameAt, IsBegun, IsInside, said_place}
 
 -- a footer stands at the front of the bytes, which are those of the table from a place on, and says this
 pub record FooterIn (number place : ℕ) (bytes : List ℕ) (f : Foot) : Type 0 where

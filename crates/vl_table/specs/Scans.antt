@@ -2,9 +2,9 @@
 use Rattle.std.specs.Prelude.{◌≡◌, ℕ, true, List, Option, Some, None}
 use Rattle.std.specs.List.{AllByRecursion}
 use Rattle.vl_model.specs.declared.entry.Entry.{Entry}
-use Rattle.vl_run.specs.Lookup.{if_of_key, is_ahead}
+use Rattle.vl_run.specs.laws.Lookup.{if_of_key, is_ahead}
 use Rattle.vl_block.specs.Blocks.{entries}
-use Rattle.vl_list.specs.ListLaws.{Behind}
+use Rattle.vl_block.specs.laws.ListLaws.{Behind}
 use Rattle.vl_table.specs.declared.scanning.Scan.{Scan}
 use Rattle.vl_table.specs.declared.scanning.Scan.TheVariants as scans
 

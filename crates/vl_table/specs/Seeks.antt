@@ -4,32 +4,32 @@ use Rattle.std.specs.List.{AllByRecursion, prefix_len}
 use Rattle.std.specs.Option.{ForSome}
 use Rattle.std.proofs.Common.{drop_of_length-le, refl, ap, sym, subst, ◌∙◌, arith}
 use Rattle.std.proofs.lemmas.List.{take-append-drop}
-use Rattle.vl_frame.specs.Laws.{length-frame_bytes, one_frame}
+use Rattle.vl_frame.specs.laws.Laws.{length-frame_bytes, one_frame}
 use Rattle.vl_frame.specs.declared.kinds.FileKind.TheVariants as files
 use Rattle.vl_frame.specs.declared.kinds.FrameKind.TheVariants as kinds
 use Rattle.vl_model.specs.declared.entry.Entry.{Entry}
 use Rattle.vl_block.specs.Cutting.{blocks}
-use Rattle.vl_run.specs.Lookup.{if_of_key, is_ahead}
+use Rattle.vl_run.specs.laws.Lookup.{if_of_key, is_ahead}
 use Rattle.vl_run.specs.Places.{IsParted, first_failing}
 use Rattle.vl_block.specs.Blocks.{IsBlock, SpellsBlock, block_body}
-use Rattle.vl_block.specs.BlockLaws.{one_block}
+use Rattle.vl_block.specs.laws.BlockLaws.{one_block}
 use Rattle.vl_block.specs.declared.index.BlockPlace.{BlockPlace}
-use Rattle.vl_block.specs.CuttingLaws.{blocks-whole, joined, blocks-some}
+use Rattle.vl_block.specs.laws.CuttingLaws.{blocks-whole, joined, blocks-some}
 use Rattle.vl_run.specs.Order.{IsInOrder}
-use Rattle.vl_run.specs.OrderLaws.{rising}
-use Rattle.vl_part.specs.Answers.{Answers, and_then, fails, gives, no_room}
-use Rattle.vl_part.specs.declared.fault.TableFault.{TableFault}
-use Rattle.vl_part.specs.declared.fault.TableFault.TheVariants.{NoMemory}
+use Rattle.vl_run.specs.laws.OrderLaws.{rising}
+use Rattle.vl_table.specs.Answers.{Answers, and_then, fails, gives, no_room}
+use Rattle.vl_table.specs.declared.fault.TableFault.{TableFault}
+use Rattle.vl_table.specs.declared.fault.TableFault.TheVariants.{NoMemory}
 use Rattle.vl_table.specs.Buffers.{IsKept, HasBlock, NoBlock, StandsBlock}
 use Rattle.vl_block.specs.Bytes.{table_bytes, IsTable}
-use Rattle.vl_block.specs.Lengths.{length-block}
-use Rattle.vl_block_laws.specs.Lookups.{first-skipped, index-parted}
-use Rattle.vl_run.specs.LookupLaws.{is_below}
-use Rattle.vl_run.specs.PartLaws.{first_over, goes_behind, none_over, stops_in}
+use Rattle.vl_block.specs.laws.Lengths.{length-block}
+use Rattle.vl_table.specs.laws.Lookups.{first-skipped, index-parted}
+use Rattle.vl_run.specs.laws.LookupLaws.{is_below}
+use Rattle.vl_run.specs.laws.PartLaws.{first_over, goes_behind, none_over, stops_in}
 use Rattle.vl_table.specs.Meets.{LooksIn, MetSoFar, met_at_first, met_behind, met_here, met_none}
 use Rattle.vl_table.specs.Opened.{IsOf}
-use Rattle.vl_block_laws.specs.TablePlaces.{BlockAt, block_at, block_bytes}
-use Rattle.vl_block.specs.Places.{length-block_places}
+use Rattle.vl_table.specs.laws.TablePlaces.{BlockAt, block_at, block_bytes}
+use Rattle.vl_block.specs.laws.Places.{length-block_places}
 use Rattle.vl_table.specs.declared.block_buffer.BlockBuffer.{BlockBuffer}
 use Rattle.vl_table.specs.declared.table.Table.{Table}
 

@@ -1,14 +1,15 @@
 ghost use Rattle.std.specs.Prelude.{◌≡◌, ◌≢◌, ℕ, List, Option, length, IsTrue};
 ghost use Rattle.vl_block.specs.Blocks.{SpellsBlock};
 ghost use Rattle.vl_model.specs.declared.entry.Entry.{Entry};
-ghost use Rattle.vl_part.specs.Answers.{Answers};
+ghost use Rattle.vl_table.specs.Answers.{Answers};
 ghost use Rattle.vl_table.specs.Buffers.{HasBlock, IsKept, NoBlock};
 
+use crate::fault::{TableFault, damaged};
+use crate::part::{body_of, read_part};
 use std::alloc::Global;
 use vl_block::{BlockPlace, is_block};
 use vl_disk::{HeldFile, Reader};
 use vl_frame::FrameKind;
-use vl_part::{TableFault, body_of, damaged, read_part};
 
 /// Room for one block. A block that was read stays in it with the number of its table and its place, so that it isn't read
 /// and checked again until another one is asked for.

@@ -4,14 +4,16 @@
 ghost use Rattle.std.specs.Prelude.{◌≡◌, ◌+◌, ◌≤◌, List, length, IfOk, IfNone, IfSome};
 ghost use Rattle.vl_block.specs.Footer.{Foot, foot_of};
 ghost use Rattle.vl_block.specs.declared.index.BlockPlace.{BlockPlace};
-ghost use Rattle.vl_part.specs.Answers.{Answers};
+ghost use Rattle.vl_table.specs.Answers.{Answers};
 ghost use Rattle.vl_table.specs.Opening.{FooterIn, StandsFooter, StandsIndex};
 
+use crate::fault::{TableFault, damaged};
+use crate::part::{body_of, is_same, read_part};
+use crate::reading::read_bytes;
 use std::alloc::{AllocError, Global};
 use vl_block::{BlockPlace, Footer, read_footer, read_index};
 use vl_disk::{HeldFile, Reader};
 use vl_frame::{FileKind, FrameKind, read_frame};
-use vl_part::{TableFault, body_of, damaged, is_same, read_bytes, read_part};
 
 // The footer at a place.
 pub fn read_foot<H: HeldFile, R: Reader<Held = H>>(

@@ -2,21 +2,23 @@ ghost use Rattle.std.specs.Prelude.{◌≡◌, ◌≤◌, ℕ, List, Option, Som
 ghost use Rattle.std.specs.List.{prefix_len};
 ghost use Rattle.vl_model.specs.declared.entry.Entry.{Entry};
 ghost use Rattle.vl_block.specs.Footer.{foot_of};
-ghost use Rattle.vl_part.specs.Answers.{Answers};
+ghost use Rattle.vl_table.specs.Answers.{Answers};
 ghost use Rattle.vl_model.specs.Winners.{exact, winner};
 ghost use Rattle.vl_block.specs.Cutting.{blocks};
-ghost use Rattle.vl_run.specs.Lookup.{if_exact, if_of_key};
+ghost use Rattle.vl_run.specs.laws.Lookup.{if_exact, if_of_key};
 ghost use Rattle.vl_run.specs.Places.{IsParted};
 ghost use Rattle.vl_block.specs.declared.index.BlockPlace.{BlockPlace};
 ghost use Rattle.vl_table.specs.Buffers.{IsKept};
 ghost use Rattle.vl_block.specs.Bytes.{table_bytes, IsTable};
-ghost use Rattle.vl_run.specs.PartLaws.{first_over};
-ghost use Rattle.vl_run.specs.LookupLaws.{is_below};
+ghost use Rattle.vl_run.specs.laws.PartLaws.{first_over};
+ghost use Rattle.vl_run.specs.laws.LookupLaws.{is_below};
 ghost use Rattle.vl_table.specs.Meets.{LooksIn};
 ghost use Rattle.vl_table.specs.Seeks.{IsBadBlock};
 ghost use Rattle.vl_table.specs.Opened.{IsOf, OpensAs};
 ghost use Rattle.vl_table.specs.Opening.{IsDamaged, IsRead};
 
+use crate::TableFault;
+use crate::beginning::{read_begin, read_place};
 use crate::block_buffer::BlockBuffer;
 use crate::opening::{read_blocks, read_foot};
 use crate::scanning::{Scan, look_in};
@@ -24,7 +26,6 @@ use std::alloc::Global;
 use vl_block::{BlockPlace, Footer};
 use vl_disk::{HeldFile, Reader};
 use vl_model::Entry;
-use vl_part::{TableFault, read_begin, read_place};
 
 /// A table in a held file: what its footer says, and where its blocks stand.
 #[derive(Drop)]

@@ -5,8 +5,8 @@ use Rattle.byteorder.specs.Endian.{big_bytes}
 use Rattle.vl_model.specs.declared.entry.Entry.{Entry}
 use Rattle.vl_block.specs.Blocks.{block_body, entries}
 use Rattle.vl_block.specs.Entries.{entry_bytes}
-use Rattle.vl_list.specs.ListLaws.{items_bytes-push}
-use Rattle.vl_list.specs.Lists.{items_bytes}
+use Rattle.vl_block.specs.laws.ListLaws.{items_bytes-push}
+use Rattle.vl_block.specs.Lists.{items_bytes}
 
 pub body_added : (n : ℕ) (es : List Entry) (e : Entry) (old with_entry new : List ℕ) → n ≡ length es → old ≡ 0 ∷ 0 ∷ 0 ∷ 0 ∷ 0 ∷ block_body es
     → with_entry ≡ old ++ entry_bytes e → new ≡ take 5 with_entry ++ (big_bytes 4 (n + 1) ++ drop 9 with_entry)

@@ -1,2 +1,4 @@
 pub mod Bodies
+mod Finished
 pub mod Results
+mod Written

@@ -1,5 +1,3 @@
 pub mod Bodies
-pub mod Finished
-pub mod Points
+pub mod laws
 pub mod Writing
-pub mod Written

@@ -20,5 +20,5 @@ pub use block_writer::BlockWriter;
 pub use entry::write_entry;
 pub use footer::write_footer;
 pub use index::write_index;
-pub use laws::points_grow_behind;
+pub use laws::{points_grow_behind, tables_have_room};
 pub use writer::TableWriter;

@@ -2,7 +2,7 @@ ghost use Rattle.std.specs.Prelude.{◌≡◌, ◌≤◌, length, map, List, OnO
 ghost use Rattle.vl_block.specs.Cutting.{pointed};
 ghost use Rattle.vl_block.specs.declared.laid_point.LaidPoint.{LaidPoint};
 ghost use Rattle.vl_block.specs.Bytes.{said};
-ghost use Rattle.vl_table_writer.specs.Points.{Stops};
+ghost use Rattle.vl_table_writer.specs.laws.Points.{Stops};
 
 use std::alloc::AllocError;
 use vl_block::Point;

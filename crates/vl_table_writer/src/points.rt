@@ -2,7 +2,7 @@
 
 ghost use Rattle.std.specs.Prelude.{◌≡◌, ◌++◌, OnOk};
 ghost use Rattle.vl_block.specs.Footer.{point_bytes, points};
-ghost use Rattle.vl_list.specs.Lists.{counted_bytes};
+ghost use Rattle.vl_block.specs.Lists.{counted_bytes};
 
 use crate::numbers::{u32_bytes, u64_bytes};
 use std::alloc::AllocError;

@@ -14,10 +14,9 @@ use crate::index::write_index;
 use crate::summary::Summary;
 use byteorder::{BigEndian, ByteOrder};
 use std::alloc::{AllocError, Global};
-use vl_block::Footer;
+use vl_block::{Footer, TABLE_FORMAT};
 use vl_frame::{FRAME_BYTES, FileKind, FrameKind, file_header, write_frame};
 use vl_model::Entry;
-use vl_part::TABLE_FORMAT;
 
 /// A table that is written: its entries come in order, and its bytes are given out piece by piece. It holds one block at a
 /// time, the places of the others, and what the footer will say. Where nothing stands in `out`, a block goes there as it was

@@ -1,13 +1,13 @@
 ghost use Rattle.std.specs.Prelude.{◌≡◌, ◌++◌, List, ℕ, IfNone, IfOk, IfSome};
 ghost use Rattle.std.specs.Option.{option_copied};
 ghost use Rattle.vl_model.specs.declared.change.Change.{Change};
-ghost use Rattle.vl_record.specs.Record.{IsRecord, IsSpelled, change_of, record_bytes};
+ghost use Rattle.vl_seglog.specs.Record.{IsRecord, IsSpelled, change_of, record_bytes};
 ghost use Rattle.vl_seglog.specs.Commit.{records_spelling};
 ghost use Rattle.vl_seglog.specs.Series.{IsSeries};
 
+use crate::read_record;
 use std::alloc::{AllocError, Global};
 use vl_model::{Change, Key, Value};
-use vl_record::read_record;
 
 /// The changes of the records that these bytes are, so many, one behind the other.
 pub fn read_records(

@@ -2,7 +2,7 @@ use Rattle.std.proofs.Common.{sym, ap, ◌∙◌, ◌++◌, ◌∷◌, [], subst
 use Rattle.vl_model.specs.declared.entry.Entry.{Entry}
 use Rattle.vl_block.specs.Blocks.{entries}
 use Rattle.vl_block.specs.Entries.{entry_of}
-use Rattle.vl_list.specs.ListLaws.{Behind, all_taken}
+use Rattle.vl_block.specs.laws.ListLaws.{Behind, all_taken}
 use Rattle.vl_block.proofs.Scans.{copies_one}
 use Rattle.vl_block.proofs.block.block_entries.Goals as goal
 

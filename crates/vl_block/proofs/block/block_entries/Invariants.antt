@@ -1,7 +1,7 @@
 use Rattle.std.proofs.Common.{List, length}
 use Rattle.vl_model.specs.declared.entry.Entry.{Entry}
 use Rattle.vl_block.specs.Blocks.{SpellsBlock, entries}
-use Rattle.vl_list.specs.ListLaws.{Behind}
+use Rattle.vl_block.specs.laws.ListLaws.{Behind}
 use Rattle.vl_block.proofs.block.block_entries.Given as goal
 
 abbrev pub invariant-entries : goal.invariant-entries

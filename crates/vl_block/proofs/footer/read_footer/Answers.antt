@@ -1,7 +1,7 @@
 use Rattle.std.proofs.Common.{sym, ◌∙◌}
 use Rattle.vl_block.specs.Footer.{points, head_of}
-use Rattle.vl_block.specs.FooterLaws.{one_head}
-use Rattle.vl_list.specs.Lists.{counted_bytes}
+use Rattle.vl_block.specs.laws.FooterLaws.{one_head}
+use Rattle.vl_block.specs.Lists.{counted_bytes}
 use Rattle.vl_block.proofs.footer.read_footer.Goals as goal
 
 pub returns-in_default-clause-none : goal.returns-in_default-clause-none

@@ -1,7 +1,7 @@
 use Rattle.std.proofs.Common.{sym, ◌∙◌}
 use Rattle.vl_frame.specs.Numbers.{one_number}
-use Rattle.vl_block.specs.FooterLaws.{head-parts}
-use Rattle.vl_block.specs.EntryLaws.{one_key}
+use Rattle.vl_block.specs.laws.FooterLaws.{head-parts}
+use Rattle.vl_block.specs.laws.EntryLaws.{one_key}
 use Rattle.vl_block.proofs.footer_head.take_head.Goals as goal
 
 pub returns-in_err-last-clause-none : goal.returns-in_err-last-clause-none

@@ -1,5 +1,5 @@
 use Rattle.vl_block.specs.Index.{places}
-use Rattle.vl_list.specs.ListLaws.{SoFar}
+use Rattle.vl_block.specs.laws.ListLaws.{SoFar}
 use Rattle.vl_block.proofs.index.take_places.Given as goal
 
 abbrev pub invariant-loop : goal.invariant-loop

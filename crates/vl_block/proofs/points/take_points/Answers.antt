@@ -1,7 +1,7 @@
 use Rattle.std.proofs.Common.{◌+◌, sym, subst, List}
 use Rattle.vl_block.specs.Footer.{points}
-use Rattle.vl_list.specs.ListLaws.{SoFar, cut, goes_on, last_item, not_next}
-use Rattle.vl_list.specs.Lists.{IsNext}
+use Rattle.vl_block.specs.laws.ListLaws.{SoFar, cut, goes_on, last_item, not_next}
+use Rattle.vl_block.specs.Lists.{IsNext}
 use Rattle.vl_block.specs.declared.points.Point.{Point}
 use Rattle.vl_block.proofs.Bodies.{point_is_some}
 use Rattle.vl_block.proofs.points.take_points.Goals as goal

@@ -2,7 +2,7 @@ use Rattle.std.proofs.Common.{◌++◌, sym, ◌∙◌}
 use Rattle.byteorder.specs.Endian.{big_bytes}
 use Rattle.vl_frame.specs.Numbers.{one_number}
 use Rattle.vl_block.specs.Entries.{body_bytes}
-use Rattle.vl_block.specs.EntryLaws.{entry-parts, one_key}
+use Rattle.vl_block.specs.laws.EntryLaws.{entry-parts, one_key}
 use Rattle.vl_block.proofs.taking.take_entry.Goals as goal
 
 pub returns-in_err-body-clause-none : goal.returns-in_err-body-clause-none

@@ -1,7 +1,7 @@
 use Rattle.std.proofs.Common.{true, Some, sym, ap, ◌∙◌, arith}
 use Rattle.std.specs.List.{filter}
 use Rattle.vl_model.specs.Conflicts.{first_of}
-use Rattle.vl_tree.specs.Notes.{is_late_within, span_of, lent}
+use Rattle.vl_conflict.specs.Notes.{is_late_within, span_of, lent}
 use Rattle.vl_conflict.proofs.Lesser.{nothing-found, one_key_more}
 use Rattle.vl_conflict.proofs.search.first_of_keys.Goals as goal
 

@@ -1,5 +1,5 @@
 use Rattle.std.proofs.Common.{sym, arith}
-use Rattle.vl_tree.specs.Notes.{lent}
+use Rattle.vl_conflict.specs.Notes.{lent}
 use Rattle.vl_conflict.proofs.Lesser.{nothing-found, one_span_more}
 use Rattle.vl_conflict.proofs.search.first_of_spans.Goals as goal
 

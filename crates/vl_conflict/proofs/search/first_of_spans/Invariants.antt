@@ -1,7 +1,7 @@
 use Rattle.std.proofs.Common.{◌≡◌, take}
 use Rattle.std.specs.List.{filter}
 use Rattle.vl_model.specs.Conflicts.{first_of}
-use Rattle.vl_tree.specs.Notes.{lent}
+use Rattle.vl_conflict.specs.Notes.{lent}
 use Rattle.vl_conflict.specs.Recent.{is_late_within_any}
 use Rattle.vl_conflict.proofs.search.first_of_spans.Given as goal
 

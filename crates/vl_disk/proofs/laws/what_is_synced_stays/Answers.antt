@@ -1,4 +1,4 @@
-use Rattle.vl_disk.specs.Lawful.{synced_again}
+use Rattle.vl_disk.specs.laws.Lawful.{synced_again}
 use Rattle.vl_disk.proofs.Torn.{synced_stays}
 use Rattle.vl_disk.proofs.laws.what_is_synced_stays.Goals as goal
 

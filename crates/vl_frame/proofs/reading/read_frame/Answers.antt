@@ -1,6 +1,6 @@
 use Rattle.std.proofs.Common.{refl}
 use Rattle.vl_frame.specs.Frame.{check_of, IsSpelled}
-use Rattle.vl_frame.specs.Laws.{spelled_apart}
+use Rattle.vl_frame.specs.laws.Laws.{spelled_apart}
 use Rattle.vl_frame.proofs.Spellings.{apart_spelled, comes_apart, rest_behind}
 use Rattle.vl_frame.proofs.reading.read_frame.Goals as goal
 use Rattle.vl_frame.proofs.reading.read_frame.Goals.{then-not-is_in-via-then-not-is_in, then-not-is_in-via-else-not-is_in+then-not-is_checked}

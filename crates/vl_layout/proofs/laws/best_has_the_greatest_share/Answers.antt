@@ -1,4 +1,4 @@
-use Rattle.vl_layout.specs.GarbageLaws.{best_is_greatest}
+use Rattle.vl_layout.proofs.GarbageLaws.{best_is_greatest}
 use Rattle.vl_layout.proofs.laws.best_has_the_greatest_share.Goals as goal
 
 pub returns : goal.returns

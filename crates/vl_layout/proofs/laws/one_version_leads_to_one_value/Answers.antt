@@ -1,4 +1,4 @@
-use Rattle.vl_layout.specs.ShowsLaws.{alike_at_one_version}
+use Rattle.vl_layout.specs.laws.ShowsLaws.{alike_at_one_version}
 use Rattle.vl_layout.proofs.laws.one_version_leads_to_one_value.Goals as goal
 
 pub returns : goal.returns

@@ -1,4 +1,4 @@
-use Rattle.vl_layout.specs.GarbageLaws.{points_are_sums}
+use Rattle.vl_layout.proofs.GarbageLaws.{points_are_sums}
 use Rattle.vl_layout.proofs.laws.points_are_sums.Goals as goal
 
 pub returns : goal.returns

@@ -1,4 +1,4 @@
-use Rattle.vl_layout.specs.RulingShows.{flush_ruling-shows}
+use Rattle.vl_layout.specs.laws.RulingShows.{flush_ruling-shows}
 use Rattle.vl_layout.proofs.laws.shown_after_a_flush.Goals as goal
 
 pub returns : goal.returns

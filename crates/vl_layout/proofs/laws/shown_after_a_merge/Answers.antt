@@ -1,4 +1,4 @@
-use Rattle.vl_layout.specs.MergeShows.{shows_merged, shows_installed}
+use Rattle.vl_layout.specs.laws.MergeShows.{shows_merged, shows_installed}
 use Rattle.vl_layout.proofs.laws.shown_after_a_merge.Goals as goal
 
 pub returns-clause-at_once : goal.returns-clause-at_once

@@ -1,4 +1,4 @@
-use Rattle.vl_layout.specs.RulingShows.{rotate_ruling-shows}
+use Rattle.vl_layout.specs.laws.RulingShows.{rotate_ruling-shows}
 use Rattle.vl_layout.proofs.laws.shown_after_a_rotation.Goals as goal
 
 pub returns : goal.returns

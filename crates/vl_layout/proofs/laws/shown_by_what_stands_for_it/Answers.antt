@@ -1,4 +1,4 @@
-use Rattle.vl_layout.specs.ShowsLaws.{shows_replaced}
+use Rattle.vl_layout.specs.laws.ShowsLaws.{shows_replaced}
 use Rattle.vl_layout.proofs.laws.shown_by_what_stands_for_it.Goals as goal
 
 pub returns : goal.returns

@@ -1,4 +1,4 @@
-use Rattle.vl_layout.specs.OrderShows.{shows_by_key, shows_in_order, shows_gathered}
+use Rattle.vl_layout.specs.laws.OrderShows.{shows_by_key, shows_in_order, shows_gathered}
 use Rattle.vl_layout.proofs.laws.shown_key_by_key.Goals as goal
 
 pub returns-clause-own : goal.returns-clause-own

@@ -4,8 +4,8 @@ use Rattle.std.proofs.lemmas.List.{take-append-drop, take_all}
 use Rattle.std.proofs.lemmas.Result.{err_from_is_err_and}
 use Rattle.vl_table.specs.declared.table.Table.{Table}
 use Rattle.vl_levels.specs.LookedUp.{LookedUp}
-use Rattle.vl_levels.specs.LooksOn.{fails_on, looks_on, stops_on}
-use Rattle.vl_levels.specs.Parts.{all_get, split_at, take_next}
+use Rattle.vl_levels.proofs.LooksOn.{fails_on, looks_on, stops_on}
+use Rattle.vl_levels.specs.laws.Parts.{all_get, split_at, take_next}
 use Rattle.vl_levels.specs.Looks.{sought}
 use Rattle.vl_levels.proofs.levels.look_in_each.Goals as goal
 

@@ -1,7 +1,7 @@
 use Rattle.std.proofs.Common.{ℕ, List, Option, take}
 use Rattle.vl_table.specs.Buffers.{IsKept}
 use Rattle.vl_levels.specs.LevelTables.{AreFiles}
-use Rattle.vl_levels.specs.LooksOn.{Looked}
+use Rattle.vl_levels.proofs.LooksOn.{Looked}
 use Rattle.vl_levels.proofs.levels.look_in_each.Given as goal
 
 abbrev pub invariant-loop-table : goal.invariant-loop-table

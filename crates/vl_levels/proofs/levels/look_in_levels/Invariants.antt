@@ -1,7 +1,7 @@
 use Rattle.std.proofs.Common.{ℕ, List, Option, take}
 use Rattle.vl_table.specs.Buffers.{IsKept}
 use Rattle.vl_levels.specs.LevelTables.{AreAllApart, AreFiles, all_tables}
-use Rattle.vl_levels.specs.LooksOn.{Looked}
+use Rattle.vl_levels.proofs.LooksOn.{Looked}
 use Rattle.vl_levels.proofs.levels.look_in_levels.Given as goal
 
 abbrev pub invariant-loop-level : goal.invariant-loop-level

@@ -1,4 +1,4 @@
-use Rattle.vl_memtable.specs.FactLaws.{few}
+use Rattle.vl_memtable.proofs.FactLaws.{few}
 use Rattle.vl_memtable.proofs.laws.runs_are_few.Goals as goal
 
 pub returns : goal.returns

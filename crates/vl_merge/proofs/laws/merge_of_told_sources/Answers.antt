@@ -1,4 +1,4 @@
-use Rattle.vl_merge.specs.TreeLaws.{merge_of_all}
+use Rattle.vl_merge.proofs.TreeLaws.{merge_of_all}
 use Rattle.vl_merge.proofs.laws.merge_of_told_sources.Goals as goal
 
 pub returns : goal.returns

@@ -1,4 +1,4 @@
-use Rattle.vl_merge.specs.MergeLaws.{along-merged, length-merged}
+use Rattle.vl_merge.proofs.MergeLaws.{along-merged, length-merged}
 use Rattle.vl_merge.proofs.laws.merged_goes_along.Goals as goal
 
 pub returns-clause-along : goal.returns-clause-along

@@ -1,4 +1,4 @@
-use Rattle.vl_merge.specs.MergeLaws.{winner-merged, exact-merged}
+use Rattle.vl_merge.proofs.MergeLaws.{winner-merged, exact-merged}
 use Rattle.vl_merge.proofs.laws.merged_has_the_same_winners.Goals as goal
 
 pub returns-clause-winners : goal.returns-clause-winners

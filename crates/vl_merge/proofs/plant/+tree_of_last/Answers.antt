@@ -1,5 +1,5 @@
 use Rattle.std.proofs.Common.{arith}
-use Rattle.vl_merge.specs.PlantLaws.{halves_taken}
+use Rattle.vl_merge.proofs.PlantLaws.{halves_taken}
 use Rattle.vl_merge.proofs.plant.+tree_of_last.Goals as goal
 
 pub returns : goal.returns

@@ -3,7 +3,7 @@ use Rattle.std.proofs.lemmas.Result.{IfOk-weaker}
 use Rattle.vl_model.specs.Cursors.{Spends, HasRisen}
 use Rattle.vl_merge.specs.Told.{pair_of}
 use Rattle.vl_merge.specs.Trees.{tree_left, tree_budget, tree_faults, half_left, half_budget}
-use Rattle.vl_merge.specs.TreeLaws.{source_given, gives_same, gives_older, gives_newer, halves}
+use Rattle.vl_merge.proofs.TreeLaws.{source_given, gives_same, gives_older, gives_newer, halves}
 use Rattle.vl_merge.proofs.tree.+next.Goals as goal
 
 pub Tree::next-returns-in-Source-clause-given : goal.Tree::next-returns-in-Source-clause-given

@@ -1,4 +1,4 @@
-use Rattle.vl_model.specs.ConflictLaws.{find-overwritten, overwritten-rises}
+use Rattle.vl_model.specs.laws.ConflictLaws.{find-overwritten, overwritten-rises}
 use Rattle.vl_model.proofs.laws.overwritten_keys_are_read_and_named_later.Goals as goal
 
 pub returns-clause-found : goal.returns-clause-found

@@ -1,4 +1,4 @@
-use Rattle.vl_model.specs.ReadLaws.{explained_without_conflict}
+use Rattle.vl_model.proofs.ReadLaws.{explained_without_conflict}
 use Rattle.vl_model.proofs.laws.reads_without_conflict_stay_explained.Goals as goal
 
 pub returns : goal.returns

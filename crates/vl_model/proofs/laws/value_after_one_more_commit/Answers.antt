@@ -1,4 +1,4 @@
-use Rattle.vl_model.specs.HistoryLaws.{value_at-with_commit}
+use Rattle.vl_model.specs.laws.HistoryLaws.{value_at-with_commit}
 use Rattle.vl_model.proofs.laws.value_after_one_more_commit.Goals as goal
 
 pub returns-clause-at : goal.returns-clause-at

@@ -1,4 +1,4 @@
-use Rattle.vl_model.specs.HistoryLaws.{value_at-first}
+use Rattle.vl_model.specs.laws.HistoryLaws.{value_at-first}
 use Rattle.vl_model.proofs.laws.value_without_commits.Goals as goal
 
 pub returns : goal.returns

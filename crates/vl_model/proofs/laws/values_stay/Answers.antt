@@ -1,4 +1,4 @@
-use Rattle.vl_model.specs.HistoryLaws.{value_at-extends, last_number-extends}
+use Rattle.vl_model.specs.laws.HistoryLaws.{value_at-extends, last_number-extends}
 use Rattle.vl_model.proofs.laws.values_stay.Goals as goal
 
 pub returns-clause-values : goal.returns-clause-values

@@ -1,4 +1,4 @@
-use Rattle.vl_model.specs.WinnerLaws.{winner-of_key, winner-in_order}
+use Rattle.vl_model.specs.laws.WinnerLaws.{winner-of_key, winner-in_order}
 use Rattle.vl_model.proofs.laws.winners_of_a_key.Goals as goal
 
 pub returns-clause-own : goal.returns-clause-own

@@ -1,4 +1,4 @@
-use Rattle.vl_model.specs.WinnerLaws.{winner-append, winner-middle}
+use Rattle.vl_model.specs.laws.WinnerLaws.{winner-append, winner-middle}
 use Rattle.vl_model.proofs.laws.winners_of_parts.Goals as goal
 
 pub returns-clause-parts : goal.returns-clause-parts

@@ -1,4 +1,4 @@
-use Rattle.vl_oracle.specs.LiveLaws.{floor_of-le, floor_of-le_last, floor_of-attained}
+use Rattle.vl_oracle.proofs.LiveLaws.{floor_of-le, floor_of-le_last, floor_of-attained}
 use Rattle.vl_oracle.proofs.laws.floor_is_the_least.Goals as goal
 
 pub returns-clause-live : goal.returns-clause-live

@@ -1,4 +1,4 @@
-use Rattle.vl_oracle.specs.LiveLaws.{find-free_ticket, taken-below_free}
+use Rattle.vl_oracle.proofs.LiveLaws.{find-free_ticket, taken-below_free}
 use Rattle.vl_oracle.proofs.laws.free_ticket_is_the_least.Goals as goal
 
 pub returns-clause-free : goal.returns-clause-free

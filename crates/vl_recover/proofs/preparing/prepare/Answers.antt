@@ -1,5 +1,5 @@
 use Rattle.std.proofs.Common.{◌∙◌, sym}
-use Rattle.vl_recover.specs.ReadImage.{read_image}
+use Rattle.vl_recover.specs.laws.ReadImage.{read_image}
 use Rattle.vl_recover.proofs.Decided.{answer_by, decided_answer, decided_at, decided_prepared}
 use Rattle.vl_recover.proofs.Fitted.{found_fits}
 use Rattle.vl_recover.proofs.Numbers.{decided_numbers}

@@ -1,7 +1,7 @@
 use Rattle.std.proofs.Common.{List, [], ◌∷◌, ap, ◌∙◌}
 use Rattle.vl_manifest.specs.declared.edit.Edit.{Edit}
 use Rattle.vl_manifest.specs.Manifest.{manifest_bytes}
-use Rattle.vl_recover.specs.OneFinding.{opened_not}
+use Rattle.vl_recover.specs.laws.OneFinding.{opened_not}
 use Rattle.vl_recover.specs.PlanViews.{plan_view}
 use Rattle.vl_recover.specs.Results.{HasFailed, came_by}
 use Rattle.vl_recover.proofs.Recovered.{active_stays, as_long, calls_counted, calls_stopped, none_made, disk_mended, mended_again, mended_faults, mended_meanwhile, mended_tells, mended_through, opened_same, read_faults, refused_fine, still_tells, store_held, unchanged_again, unchanged_meanwhile, unchanged_through}

@@ -1,6 +1,6 @@
 use Rattle.std.proofs.Common.{◌≡◌, List, ◌∙◌, subst}
 use Rattle.std.specs.Prelude.{IfOk}
-use Rattle.vl_contents.specs.Text.{contents_text}
+use Rattle.vl_replay.specs.Text.{contents_text}
 use Rattle.vl_model.specs.History.{contents_at}
 use Rattle.vl_model.specs.Keys.{Row}
 use Rattle.vl_replay.proofs.OpenedText.{winners_have}

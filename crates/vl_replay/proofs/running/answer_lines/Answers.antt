@@ -2,7 +2,7 @@ use Rattle.std.proofs.Common.{◌∙◌, ℕ, List, refl, arith, subst, sym}
 use Rattle.std.specs.Prelude.{Some}
 use Rattle.vl_replay.specs.Endings.{EndsAs, Evidence, no_memory_line}
 use Rattle.vl_replay.specs.declared.ending.OnFault.{OnFault}
-use Rattle.vl_replay.specs.Laws.{keeps_up_at_first}
+use Rattle.vl_replay.specs.laws.Laws.{keeps_up_at_first}
 use Rattle.vl_replay.specs.Reading.{HasRead, streams}
 use Rattle.vl_replay.specs.Runs.{script_of, outside}
 use Rattle.vl_replay.specs.Steps.{kept}

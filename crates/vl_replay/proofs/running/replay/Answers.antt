@@ -7,7 +7,7 @@ use Rattle.vl_replay.specs.Durable.{Tells}
 use Rattle.vl_replay.specs.Endings.{culprit_of}
 use Rattle.vl_replay.specs.declared.ending.Ending.{Ending}
 use Rattle.vl_replay.specs.declared.ending.Ending.TheVariants.{DiskFault, Stopped}
-use Rattle.vl_replay.specs.Laws.{keeps_up_at_first}
+use Rattle.vl_replay.specs.laws.Laws.{keeps_up_at_first}
 use Rattle.vl_replay.specs.Opening.{IsFault}
 use Rattle.vl_replay.specs.Reading.{streams}
 use Rattle.vl_replay.specs.Runs.{script_of, outside}

@@ -1,6 +1,6 @@
 use Rattle.std.proofs.Common.{◌≡◌, ◌++◌, ◌∷◌, [], map, refl}
 use Rattle.std.proofs.lemmas.List.{map_push}
-use Rattle.vl_frame.specs.RunLaws.{ends, shorter}
+use Rattle.vl_frame.specs.laws.RunLaws.{ends, shorter}
 use Rattle.vl_seglog.specs.Frames.{frames_grammar}
 use Rattle.vl_seglog.specs.Reading.{frame_of}
 use Rattle.vl_seglog.proofs.Framing.{goes_on}

@@ -1,4 +1,4 @@
-use Rattle.vl_seglog.specs.LogReadingLaws.{reads_no_header}
+use Rattle.vl_seglog.specs.laws.LogReadingLaws.{reads_no_header}
 use Rattle.vl_seglog.proofs.Headless.{no_header}
 use Rattle.vl_seglog.proofs.reading.read_log.Goals as goal
 

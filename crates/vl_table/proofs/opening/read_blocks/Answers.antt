@@ -1,9 +1,9 @@
 use Rattle.std.proofs.Common.{◌≡◌, ◌∙◌, sym, refl, subst, List, ℕ}
 use Rattle.vl_block.specs.Index.{SpellsIndex}
-use Rattle.vl_frame.specs.Laws.{one_frame}
+use Rattle.vl_frame.specs.laws.Laws.{one_frame}
 use Rattle.vl_frame.specs.declared.kinds.FileKind.TheVariants as files
 use Rattle.vl_frame.specs.declared.kinds.FrameKind.TheVariants as kinds
-use Rattle.vl_part.specs.Answers.{and_then, refuses}
+use Rattle.vl_table.specs.Answers.{and_then, refuses}
 use Rattle.vl_table.proofs.opening.read_blocks.Goals as goal
 
 pub returns : goal.returns

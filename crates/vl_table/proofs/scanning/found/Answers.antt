@@ -1,6 +1,6 @@
 use Rattle.std.proofs.Common.{true, false, refl, sym, ap, ◌∙◌, Some}
 use Rattle.vl_block.specs.Entries.{entry_of}
-use Rattle.vl_run.specs.Lookup.{of_key}
+use Rattle.vl_run.specs.laws.Lookup.{of_key}
 use Rattle.vl_table.proofs.scanning.found.Goals as goal
 
 pub returns-in_ok-to_entry : goal.returns-in_ok-to_entry

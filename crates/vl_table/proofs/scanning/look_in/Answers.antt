@@ -1,13 +1,13 @@
 use Rattle.std.proofs.Common.{◌≡◌, ◌++◌, ◌∷◌, [], sym, ◌∙◌, subst, true, Option}
 use Rattle.std.specs.Prelude.{IfOk}
 use Rattle.vl_model.specs.declared.entry.Entry.{Entry}
-use Rattle.vl_run.specs.Lookup.{is_ahead}
-use Rattle.vl_run.specs.OrderLaws.{all-append}
-use Rattle.vl_block.specs.BlockLaws.{entry_is_some}
+use Rattle.vl_run.specs.laws.Lookup.{is_ahead}
+use Rattle.vl_run.specs.laws.OrderLaws.{all-append}
+use Rattle.vl_block.specs.laws.BlockLaws.{entry_is_some}
 use Rattle.vl_block.specs.Blocks.{entries}
 use Rattle.vl_block.specs.Entries.{entry_of}
-use Rattle.vl_list.specs.ListLaws.{all_taken, next, one_more}
-use Rattle.vl_run.specs.PartLaws.{all_passed, stops_at}
+use Rattle.vl_block.specs.laws.ListLaws.{all_taken, next, one_more}
+use Rattle.vl_run.specs.laws.PartLaws.{all_passed, stops_at}
 use Rattle.vl_table.specs.Scans.{IsScan}
 use Rattle.vl_table.proofs.scanning.look_in.Goals as goal
 

@@ -1,5 +1,5 @@
 use Rattle.vl_block.specs.Index.{places}
-use Rattle.vl_list.specs.WritingLaws.{writes_one}
+use Rattle.vl_block.specs.laws.WritingLaws.{writes_one}
 use Rattle.vl_table_writer.proofs.index.write_index.Goals as goal
 
 pub loop-block-preserved : goal.loop-block-preserved

@@ -1,6 +1,6 @@
 use Rattle.std.proofs.Common.{◌≡◌, ◌++◌, drop}
 use Rattle.vl_block.specs.Index.{places}
-use Rattle.vl_list.specs.Lists.{items_bytes}
+use Rattle.vl_block.specs.Lists.{items_bytes}
 use Rattle.vl_table_writer.proofs.index.write_index.Given as goal
 
 abbrev pub invariant-loop-block : goal.invariant-loop-block

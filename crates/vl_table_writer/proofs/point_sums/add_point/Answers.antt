@@ -1,5 +1,5 @@
 use Rattle.std.proofs.Common.{◌∙◌, arith}
-use Rattle.vl_table_writer.specs.Points.{adds_to}
+use Rattle.vl_table_writer.specs.laws.Points.{adds_to}
 use Rattle.vl_table_writer.proofs.point_sums.add_point.Goals as goal
 
 pub returns-then-index-segment : goal.returns-then-index-segment

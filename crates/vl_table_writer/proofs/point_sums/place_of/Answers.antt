@@ -1,6 +1,6 @@
 use Rattle.std.proofs.Common.{arith}
 use Rattle.std.proofs.lemmas.Bool.Decides.{nat_tests}
-use Rattle.vl_table_writer.specs.Points.{pass_one, stops_end, stops_here}
+use Rattle.vl_table_writer.specs.laws.Points.{pass_one, stops_end, stops_here}
 use Rattle.vl_table_writer.proofs.point_sums.place_of.Goals as goal
 
 pub points-preserved : goal.points-preserved

@@ -1,7 +1,7 @@
 use Rattle.std.proofs.Common.{◌≡◌, ◌≤◌, ◌-◌, map, List, length}
 use Rattle.vl_block.specs.declared.laid_point.LaidPoint.{LaidPoint}
 use Rattle.vl_block.specs.Bytes.{said}
-use Rattle.vl_table_writer.specs.Points.{Passes}
+use Rattle.vl_table_writer.specs.laws.Points.{Passes}
 use Rattle.vl_table_writer.proofs.point_sums.place_of.Given as goal
 
 abbrev pub invariant-points : goal.invariant-points

@@ -1,6 +1,6 @@
 use Rattle.std.proofs.Common.{refl}
 use Rattle.vl_block.specs.Footer.{points}
-use Rattle.vl_list.specs.WritingLaws.{writes_one}
+use Rattle.vl_block.specs.laws.WritingLaws.{writes_one}
 use Rattle.vl_table_writer.proofs.points.write_points.Goals as goal
 
 pub loop-point-preserved : goal.loop-point-preserved

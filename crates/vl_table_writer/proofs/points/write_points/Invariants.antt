@@ -1,6 +1,6 @@
 use Rattle.std.proofs.Common.{◌≡◌, ◌++◌, drop}
 use Rattle.vl_block.specs.Footer.{points}
-use Rattle.vl_list.specs.Lists.{items_bytes}
+use Rattle.vl_block.specs.Lists.{items_bytes}
 use Rattle.vl_table_writer.proofs.points.write_points.Given as goal
 
 abbrev pub invariant-loop-point : goal.invariant-loop-point

@@ -1,9 +1,9 @@
 use Rattle.std.proofs.Common.{ℕ, List, Some, sym, ap, ◌∙◌}
 use Rattle.std.specs.List.{filter}
 use Rattle.vl_model.specs.Conflicts.{first_of}
-use Rattle.vl_tree.specs.Notes.{Kept, lent}
+use Rattle.vl_conflict.specs.Notes.{Kept, lent}
 use Rattle.vl_conflict.specs.Recent.{first_late, is_late_at_any, lesser_of}
-use Rattle.vl_conflict.specs.RecentLaws.{first_late-conflict}
+use Rattle.vl_conflict.proofs.RecentLaws.{first_late-conflict}
 use Rattle.vl_conflict.proofs.Lesser.{all_late}
 use Rattle.vl_conflict.proofs.recent.Recent.check.Goals as goal
 

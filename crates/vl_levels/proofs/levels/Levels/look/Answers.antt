@@ -6,8 +6,8 @@ use Rattle.vl_levels.specs.LevelTables.{AreAllApart, AreFiles, all_tables}
 use Rattle.vl_levels.specs.LevelsLooked.{AreInOrder, tables_of}
 use Rattle.vl_levels.specs.LookedUp.{asks_none}
 use Rattle.vl_levels.specs.Looks.{better-none}
-use Rattle.vl_levels.specs.LooksOn.{Looked, fails_on, looks_on, stops_on}
-use Rattle.vl_levels.specs.Parts.{all-back, all-middle}
+use Rattle.vl_levels.proofs.LooksOn.{Looked, fails_on, looks_on, stops_on}
+use Rattle.vl_levels.specs.laws.Parts.{all-back, all-middle}
 use Rattle.vl_levels.proofs.levels.Levels.look.Goals as goal
 
 pub returns-in_err-newer-clause-kept : goal.returns-in_err-newer-clause-kept

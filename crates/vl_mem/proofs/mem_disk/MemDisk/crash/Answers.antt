@@ -1,5 +1,5 @@
 use Rattle.std.proofs.Common.{refl}
-use Rattle.vl_mem.specs.CrashLaws.{crash_left}
+use Rattle.vl_mem.specs.laws.CrashLaws.{crash_left}
 use Rattle.vl_mem.specs.Event.{told_lawful}
 use Rattle.vl_mem.specs.MemDisk.{state_of}
 use Rattle.vl_mem.proofs.Leaving.{files_numbered}

@@ -1,6 +1,6 @@
 use Rattle.std.proofs.Common.{sym, ap, ◌∙◌}
 use Rattle.vl_model.specs.Winners.{winner}
-use Rattle.vl_model.specs.WinnerLaws.{winner-in_order}
+use Rattle.vl_model.specs.laws.WinnerLaws.{winner-in_order}
 use Rattle.vl_memtable.specs.Contents.{Contents, all_of}
 use Rattle.vl_memtable.proofs.memtable.Memtable.find.Goals as goal
 

@@ -1,5 +1,5 @@
 use Rattle.std.proofs.Common.{sym}
-use Rattle.vl_memtable.specs.FactLaws.{few-runs}
+use Rattle.vl_memtable.proofs.FactLaws.{few-runs}
 use Rattle.vl_memtable.proofs.memtable.Memtable.has_few_runs.Goals as goal
 
 pub returns : goal.returns

@@ -1,4 +1,4 @@
-use Rattle.vl_merge.specs.GroupLaws.{left-grouped}
+use Rattle.vl_merge.proofs.GroupLaws.{left-grouped}
 use Rattle.vl_merge.proofs.merge.Merge.keys_stand_together.Goals as goal
 
 pub returns : goal.returns

@@ -1,7 +1,7 @@
 use Rattle.std.proofs.Common.{map, ap, ◌∙◌}
 use Rattle.std.specs.List.{sum_by}
 use Rattle.vl_merge.specs.Told.{merge_of}
-use Rattle.vl_merge.specs.PlantLaws.{left-planted, budget-planted, faults-planted}
+use Rattle.vl_merge.proofs.PlantLaws.{left-planted, budget-planted, faults-planted}
 use Rattle.vl_merge.proofs.merge.Merge.new.Goals as goal
 
 pub returns-clause-left : goal.returns-clause-left

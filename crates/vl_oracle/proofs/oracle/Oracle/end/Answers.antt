@@ -4,7 +4,7 @@ use Rattle.std.specs.Ordering.{nat_cmp}
 use Rattle.std.specs.BTreeMap.{get}
 use Rattle.vl_oracle.specs.Live.{Live, Ticket, ended, floor_of}
 use Rattle.vl_oracle.specs.Counts.{IsKept}
-use Rattle.vl_oracle.specs.LiveLaws.{as_T}
+use Rattle.vl_oracle.proofs.LiveLaws.{as_T}
 use Rattle.vl_oracle.proofs.Tickets.{kept-ended, floor-ended, remove_entry-without, lookup-find}
 use Rattle.vl_oracle.proofs.oracle.Oracle.end.Goals as goal
 

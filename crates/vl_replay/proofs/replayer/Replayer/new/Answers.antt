@@ -1,6 +1,6 @@
 use Rattle.std.proofs.Common.{◌≡◌, sym, subst, ◌∙◌, refl, arith}
 use Rattle.vl_recover.specs.Meanwhile.{IsMended}
-use Rattle.vl_recover.specs.OneFinding.{opened_not}
+use Rattle.vl_recover.specs.laws.OneFinding.{opened_not}
 use Rattle.vl_recover.specs.Starts.{MayOpen}
 use Rattle.vl_replay.proofs.Recovering.{opened_store, opened_stored, refused_not}
 use Rattle.vl_replay.proofs.Starting.{at_most, opening_goes}

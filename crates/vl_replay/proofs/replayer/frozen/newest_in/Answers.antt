@@ -1,6 +1,6 @@
 use Rattle.std.proofs.Common.{take, sym, ap, ◌∙◌}
 use Rattle.std.specs.Option.{option_copied}
-use Rattle.vl_model.specs.WinnerLaws.{winner-append}
+use Rattle.vl_model.specs.laws.WinnerLaws.{winner-append}
 use Rattle.vl_model.specs.Winners.{winner, newest_of}
 use Rattle.vl_memtable.specs.Contents.{Contents}
 use Rattle.vl_replay.specs.Opened.{any_number, entries_in}

@@ -1,6 +1,6 @@
 use Rattle.std.proofs.Common.{◌≡◌, ◌<◌, length, get_or, Some, ap, ◌∙◌, arith}
 use Rattle.vl_run.specs.Order.{along}
-use Rattle.vl_run.specs.Along.{along-up, along-down, given_next}
+use Rattle.vl_run.proofs.Along.{along-up, along-down, given_next}
 use Rattle.vl_run.proofs.cursor.RunCursorCursor.next.Goals as goal
 use Rattle.vl_run.proofs.cursor.RunCursorCursor.next.Goals.{in-Up, in-Down}
 

@@ -1,5 +1,5 @@
 use Rattle.std.proofs.Common.{ap, ◌∙◌, slice_get}
-use Rattle.vl_run.specs.Lookup.{is_ahead}
+use Rattle.vl_run.specs.laws.Lookup.{is_ahead}
 use Rattle.vl_run.specs.Places.{first_failing, slice_get-lent, slice_get-prefix}
 use Rattle.vl_run.proofs.run.Run.first_at.Goals as goal
 

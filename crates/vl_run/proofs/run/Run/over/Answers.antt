@@ -1,6 +1,6 @@
 use Rattle.std.proofs.Common.{◌++◌, sym, subst}
 use Rattle.vl_run.specs.Order.{IsInOrder}
-use Rattle.vl_run.specs.OrderLaws.{in_order-again}
+use Rattle.vl_run.specs.laws.OrderLaws.{in_order-again}
 use Rattle.vl_run.proofs.run.Run.over.Goals as goal
 
 pub from_writes-requires : goal.from_writes-requires

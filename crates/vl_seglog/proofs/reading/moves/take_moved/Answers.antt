@@ -1,7 +1,7 @@
 use Rattle.std.proofs.Common.{List, ℕ}
 use Rattle.vl_model.specs.declared.change.Change.{Change}
 use Rattle.vl_model.specs.declared.change.Change.TheVariants.{Set}
-use Rattle.vl_record.specs.Record.{IsSpelled}
+use Rattle.vl_seglog.specs.Record.{IsSpelled}
 use Rattle.vl_seglog.proofs.Moving.{behind_version, no_deletion}
 use Rattle.vl_seglog.proofs.Options.{at_none}
 use Rattle.vl_seglog.proofs.reading.moves.take_moved.Goals as goal

@@ -1,4 +1,4 @@
-use Rattle.vl_frame.specs.RunLaws.{frame_of as found_frame}
+use Rattle.vl_frame.specs.laws.RunLaws.{frame_of as found_frame}
 use Rattle.vl_seglog.specs.Frames.{frame_body, frame_kind, frames_grammar}
 use Rattle.vl_seglog.proofs.Framing.{says}
 use Rattle.vl_seglog.proofs.reading.next.read_next.Goals as goal

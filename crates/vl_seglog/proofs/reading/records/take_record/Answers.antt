@@ -1,5 +1,5 @@
 use Rattle.std.specs.Option.{option_copied}
-use Rattle.vl_record.specs.Record.{change_of}
+use Rattle.vl_seglog.specs.Record.{change_of}
 use Rattle.vl_seglog.proofs.Records.{TookOne, took_one}
 use Rattle.vl_seglog.proofs.reading.records.take_record.Goals as goal
 

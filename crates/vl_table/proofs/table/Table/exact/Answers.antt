@@ -4,14 +4,14 @@ use Rattle.std.proofs.lemmas.Result.{err_from_is_err_and}
 use Rattle.vl_model.specs.Winners.{exact}
 use Rattle.vl_model.specs.declared.entry.Entry.{Entry}
 use Rattle.vl_block.specs.Cutting.{blocks}
-use Rattle.vl_part.specs.Answers.{Answers, and_then, fails, gives}
-use Rattle.vl_run.specs.PartLaws.{first_over}
-use Rattle.vl_block_laws.specs.Lookups.{exact-blocks}
+use Rattle.vl_table.specs.Answers.{Answers, and_then, fails, gives}
+use Rattle.vl_run.specs.laws.PartLaws.{first_over}
+use Rattle.vl_table.specs.laws.Lookups.{exact-blocks}
 use Rattle.vl_table.specs.Opened.{IsOf}
-use Rattle.vl_run.specs.Lookup.{if_exact}
+use Rattle.vl_run.specs.laws.Lookup.{if_exact}
 use Rattle.vl_table.specs.Meets.{LooksIn}
 use Rattle.vl_table.specs.Seeks.{IsBadBlock}
-use Rattle.vl_part.specs.declared.fault.TableFault.{TableFault}
+use Rattle.vl_table.specs.declared.fault.TableFault.{TableFault}
 use Rattle.vl_table.proofs.table.Table.exact.Goals as goal
 
 pub returns-clause-answers : goal.returns-clause-answers

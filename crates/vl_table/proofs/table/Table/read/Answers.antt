@@ -2,10 +2,10 @@ use Rattle.std.proofs.Common.{◌≡◌, ◌∙◌, refl, ap, sym, subst}
 use Rattle.std.specs.Prelude.{Result, Err}
 use Rattle.std.proofs.lemmas.Result.{err_from_is_err_and}
 use Rattle.vl_block.specs.Footer.{foot_of}
-use Rattle.vl_part.specs.Answers.{Answers, fails, gives, and_then}
+use Rattle.vl_table.specs.Answers.{Answers, fails, gives, and_then}
 use Rattle.vl_table.specs.Opening.{IsDamaged, IsRead}
-use Rattle.vl_table.specs.OpeningSteps.{behind_footer, footer_fails, is_read}
-use Rattle.vl_part.specs.declared.fault.TableFault.{TableFault}
+use Rattle.vl_table.proofs.OpeningSteps.{behind_footer, footer_fails, is_read}
+use Rattle.vl_table.specs.declared.fault.TableFault.{TableFault}
 use Rattle.vl_table.specs.declared.table.Table.{Table}
 use Rattle.vl_table.proofs.table.Table.read.Goals as goal
 

@@ -1,5 +1,5 @@
 use Rattle.std.proofs.Common.{◌∙◌, [], ◌∷◌, ◌++◌, ap, refl, length}
-use Rattle.vl_frame.specs.Laws.{length-frame_bytes}
+use Rattle.vl_frame.specs.laws.Laws.{length-frame_bytes}
 use Rattle.vl_frame.specs.declared.kinds.FrameKind.TheVariants as kinds
 use Rattle.vl_block.specs.Blocks.{block_body}
 use Rattle.vl_table_writer.proofs.block_writer.BlockWriter.append_frame.Goals as goal

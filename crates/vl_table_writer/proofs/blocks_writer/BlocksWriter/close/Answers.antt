@@ -2,8 +2,8 @@ use Rattle.std.proofs.Common.{◌+◌, ◌∷◌, ◌++◌, [], ap, sym, ◌∙�
 use Rattle.std.specs.List.{sum_by}
 use Rattle.vl_block.specs.Cutting.{block_frame_length, last_key}
 use Rattle.vl_block.specs.Bytes.{block_places}
-use Rattle.vl_block.specs.Lengths.{length-block_body}
-use Rattle.vl_table_writer.specs.Written.{places-push, places_alike, sum-push}
+use Rattle.vl_block.specs.laws.Lengths.{length-block_body}
+use Rattle.vl_table_writer.proofs.Written.{places-push, places_alike, sum-push}
 use Rattle.vl_table_writer.proofs.blocks_writer.BlocksWriter.close.Goals as goal
 
 pub returns-clause-blocks : goal.returns-clause-blocks

@@ -1,8 +1,8 @@
 use Rattle.std.proofs.Common.{◌∷◌, [], ap, sym, ◌∙◌, arith, length-append, map}
 use Rattle.vl_block.specs.Cutting.{points_of}
 use Rattle.vl_block.specs.Bytes.{said}
-use Rattle.vl_table_writer.specs.Points.{points_of-push}
-use Rattle.vl_table_writer.specs.Written.{first_key-push, greatest-push, last_key-push}
+use Rattle.vl_table_writer.specs.laws.Points.{points_of-push}
+use Rattle.vl_table_writer.proofs.Written.{first_key-push, greatest-push, last_key-push}
 use Rattle.vl_table_writer.proofs.summary.Summary.add.Goals as goal
 
 pub returns : goal.returns

@@ -1,6 +1,6 @@
 use Rattle.std.proofs.Common.{◌++◌}
 use Rattle.std.proofs.lemmas.Result.{on_ok_weaker}
-use Rattle.vl_table_writer.specs.Written.{adds}
+use Rattle.vl_table_writer.proofs.Written.{adds}
 use Rattle.vl_table_writer.proofs.writer.TableWriter.add.Goals as goal
 
 pub returns : goal.returns

@@ -1,5 +1,5 @@
 use Rattle.std.proofs.Common.{◌∙◌, []}
-use Rattle.vl_table_writer.specs.Written.{begins}
+use Rattle.vl_table_writer.proofs.Written.{begins}
 use Rattle.vl_table_writer.proofs.writer.TableWriter.begin.Goals as goal
 
 pub returns-clause-begun : goal.returns-clause-begun

@@ -1,6 +1,6 @@
 use Rattle.std.proofs.Common.{◌∙◌, sym}
 use Rattle.std.proofs.lemmas.Result.{on_ok_weaker}
-use Rattle.vl_table_writer.specs.Finished.{finishes}
+use Rattle.vl_table_writer.proofs.Finished.{finishes}
 use Rattle.vl_table_writer.proofs.writer.TableWriter.finish.Goals as goal
 
 pub returns : goal.returns

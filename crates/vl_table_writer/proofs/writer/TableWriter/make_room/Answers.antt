@@ -4,7 +4,7 @@ use Rattle.vl_frame.specs.Frame.{frame_bytes}
 use Rattle.vl_frame.specs.declared.kinds.FrameKind.TheVariants as kinds
 use Rattle.vl_block.specs.Blocks.{block_body}
 use Rattle.vl_table_writer.specs.Writing.{HasBlocks, HasRoom}
-use Rattle.vl_table_writer.specs.Written.{closes, stays_open}
+use Rattle.vl_table_writer.proofs.Written.{closes, stays_open}
 use Rattle.vl_table_writer.proofs.Results.{on_ok_both}
 use Rattle.vl_table_writer.proofs.writer.TableWriter.make_room.Goals as goal
 

@@ -1,0 +1,9 @@
+-- Laws of the definitions beside this folder, which proofs in other crates cite. Nothing here is needed to read a contract.
+pub mod BlockLaws
+pub mod CuttingLaws
+pub mod EntryLaws
+pub mod FooterLaws
+pub mod Lengths
+pub mod ListLaws
+pub mod Places
+pub mod WritingLaws

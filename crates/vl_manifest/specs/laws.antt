@@ -1,0 +1,5 @@
+-- Laws of the definitions beside this folder, which proofs in other crates cite. Nothing here is needed to read a contract.
+pub mod CurrentLaws
+pub mod EditLaws
+pub mod ManifestLaws
+pub mod StateLaws

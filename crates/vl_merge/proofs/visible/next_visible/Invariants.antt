@@ -1,0 +1,14 @@
+use Rattle.std.proofs.Common.{◌≤◌}
+use Rattle.vl_model.specs.Cursors.{Keeps}
+use Rattle.vl_merge.specs.Held.{visible_left, held_budget}
+use Rattle.vl_merge.proofs.visible.next_visible.Given as goal
+
+abbrev pub invariant-loop-entry : goal.invariant-loop-entry
+invariant-loop-entry g l = record {
+  kept : Keeps (visible_left l.number l.initial.held (g.M.Cursor.left l.initial.merge)) (visible_left l.number l.held (g.M.Cursor.left l.merge));
+  spends : held_budget l.held (g.M.Cursor.budget l.merge) ≤ held_budget l.initial.held (g.M.Cursor.budget l.initial.merge);
+  counts : g.M.Cursor.faults l.initial.merge ≤ g.M.Cursor.faults l.merge;
+}
+
+abbrev pub decreases-loop-entry : goal.decreases-loop-entry
+decreases-loop-entry g l = g.M.Cursor.budget l.merge

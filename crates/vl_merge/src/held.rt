@@ -1,0 +1,68 @@
+ghost use Rattle.std.specs.Prelude.{◌≡◌, Some};
+ghost use Rattle.std.specs.Ordering.{eq_by_cmp};
+ghost use Rattle.vl_model.specs.Entries.{is_gone};
+ghost use Rattle.vl_model.specs.Keys.{key_cmp};
+ghost use Rattle.vl_model.specs.Winners.{newest_of};
+ghost use Rattle.vl_merge.specs.Held.{held_with, held_after, only_shown, passed_by, passed};
+
+use vl_model::{Body, Entry};
+
+// Takes one entry more, which counts where its version is at most the number. Where it is of another
+// key, that of the entry held is done, and its winner is given.
+pub fn pass(held: &mut Option<Entry>, entry: Entry, number: u64) -> Option<Entry>
+    ensures held { held.new ≡ held_after number held.old entry }
+    ensures gives { result ≡ passed number held.old entry }
+{
+    if entry.version <= number {
+        pass_counted(held, entry)
+    } else {
+        None
+    }
+}
+
+fn pass_counted(held: &mut Option<Entry>, entry: Entry) -> Option<Entry>
+    ensures held { held.new ≡ held_with held.old entry }
+    ensures gives { result ≡ passed_by held.old entry }
+{
+    let Some(best) = held.take() else {
+        *held = Some(entry);
+        return None;
+    };
+    if is_of_one_key(&best, &entry) {
+        *held = Some(newest_of(best, entry));
+        None
+    } else {
+        *held = Some(entry);
+        only_shown(Some(best))
+    }
+}
+
+// The entry, where it isn't a deletion.
+pub fn only_shown(entry: Option<Entry>) -> Option<Entry>
+    ensures { result ≡ only_shown entry }
+{
+    entry.filter(|entry| !is_gone(&entry.body))
+}
+
+fn is_gone(body: &Body) -> bool
+    ensures { result ≡ is_gone body.now }
+{
+    matches!(body, Body::Gone)
+}
+
+fn is_of_one_key(a: &Entry, b: &Entry) -> bool
+    ensures { result ≡ eq_by_cmp key_cmp a.now.key b.now.key }
+{
+    a.key.as_slice().cmp(&b.key.as_slice()).is_eq()
+}
+
+// The one of the greater version; of two of one version the first.
+fn newest_of(first: Entry, second: Entry) -> Entry
+    ensures { Some result ≡ newest_of (Some first) (Some second) }
+{
+    if second.version > first.version {
+        second
+    } else {
+        first
+    }
+}

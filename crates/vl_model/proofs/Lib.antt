@@ -1,0 +1,4 @@
+mod PlacementLaws
+mod ReadLaws
+mod Rows
+mod SortedRows

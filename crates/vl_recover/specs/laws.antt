@@ -1,0 +1,20 @@
+-- Laws of the definitions beside this folder, which proofs in other crates cite. Nothing here is needed to read a contract.
+pub mod AlikeLaws
+pub mod AppendLaws
+pub mod HeldLaws
+pub mod LastLaws
+pub mod LeadsLaws
+pub mod LogsLaws
+pub mod MendingOpens
+pub mod MendingStages
+pub mod MendingStart
+pub mod MendingSteps
+pub mod OneFinding
+pub mod OneName
+pub mod OpeningLaws
+pub mod ReadImage
+pub mod RecoveredLaws
+pub mod StageLaws
+pub mod StraysLaws
+pub mod Torn
+pub mod TornFrames

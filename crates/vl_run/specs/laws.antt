@@ -1,0 +1,7 @@
+-- Laws of the definitions beside this folder, which proofs in other crates cite. Nothing here is needed to read a contract.
+pub mod Exact
+pub mod Lookup
+pub mod LookupLaws
+pub mod Merged
+pub mod OrderLaws
+pub mod PartLaws

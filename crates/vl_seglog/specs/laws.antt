@@ -1,0 +1,6 @@
+-- Laws of the definitions beside this folder, which proofs in other crates cite. Nothing here is needed to read a contract.
+pub mod CommitLaws
+pub mod FrameLaws
+pub mod LogReadingLaws
+pub mod RecordLaws
+pub mod RelocationLaws

@@ -1,0 +1,60 @@
+-- What the definition of a commit says: how long its frame is, and that it is spelled in one way.
+use Rattle.std.specs.Prelude.{◌≡◌, ℕ, ◌+◌, ◌*◌, ◌<◌, ◌^◌, List, [], ◌∷◌, ◌++◌, length, refl}
+use Rattle.std.specs.List.{sum_by}
+use Rattle.std.proofs.Common.{sym, ap, subst, ◌∙◌, length-append, arith}
+use Rattle.std.proofs.lemmas.List.Sums.{sum_by-cons}
+use Rattle.byteorder.specs.Endian.{big_bytes}
+use Rattle.vl_frame.specs.laws.Laws.{length-frame_bytes}
+use Rattle.vl_frame.specs.Numbers.{one_number}
+use Rattle.vl_frame.specs.declared.kinds.FrameKind.TheVariants as kinds
+use Rattle.vl_model.specs.Frames.{frame_length, record_length}
+use Rattle.vl_model.specs.Keys.{value_bytes}
+use Rattle.vl_model.specs.declared.change.Change.{Change}
+use Rattle.vl_model.specs.declared.log_frame.LogFrame.TheVariants.{Committed}
+use Rattle.vl_seglog.specs.laws.RecordLaws.{length-record_bytes}
+use Rattle.vl_seglog.specs.Record.{record_bytes}
+use Rattle.vl_seglog.specs.Commit.{Commit, IsCommit, commit_body, commit_frame, commit_length, records_bytes, records_spelling}
+use Rattle.vl_seglog.specs.Series.{one_series}
+
+-- ---- lengths
+
+-- Records one behind the other have the sum of their lengths.
+pub records_length : (writes : List (List ℕ × Change)) → length (records_bytes writes) ≡ sum_by (λ write. record_length write.0 write.1) writes
+records_length [] = refl
+records_length (w ∷ writes) =
+    length-append (record_bytes w.0 w.1) (records_bytes writes) ∙ ap (λ (n : ℕ). n + length (records_bytes writes)) (length-record_bytes w.0 w.1)
+    ∙ ap (λ (n : ℕ). record_length w.0 w.1 + n) (records_length writes) ∙ sym (sum_by-cons (λ write. record_length write.0 write.1) w writes)
+
+pub body_length : (c : Commit) → length (commit_body c) ≡ 12 + length (records_bytes c.writes)
+unfolding commit_body
+body_length c = omega arith
+
+-- 7 bytes for each record, and those of the keys and values
+parts_length : (writes : List (List ℕ × Change)) → length (records_bytes writes) ≡ 7 * length writes + sum_by (λ write. length write.0 + length (value_bytes write.1)) writes
+parts_length [] = refl
+parts_length (w ∷ writes) =
+    omega (arith, length-append (record_bytes w.0 w.1) (records_bytes writes), length-record_bytes w.0 w.1, parts_length writes, sum_by-cons (λ (write : List ℕ × Change). length write.0 + length (value_bytes write.1)) w writes)
+
+-- A commit's frame has the length that its records' count, and its keys and values give.
+pub length-commit_frame : (file at : ℕ) (c : Commit) → length (commit_frame file at c) ≡ commit_length (length c.writes) (sum_by (λ write. length write.0 + length (value_bytes write.1)) c.writes)
+length-commit_frame file at c = omega (arith, length-frame_bytes file at kinds.Commit (commit_body c), body_length c, parts_length c.writes)
+
+-- That is its length as the layout has it.
+pub frame_length-committed : (number : ℕ) (writes : List (List ℕ × Change)) → frame_length (Committed number writes) ≡ commit_length (length writes) (sum_by (λ write. length write.0 + length (value_bytes write.1)) writes)
+frame_length-committed number writes = omega (arith, records_length writes, parts_length writes)
+
+-- Where a body is short enough for a frame, its records can be counted.
+pub few_records : (c : Commit) → length (commit_body c) < 2 ^ 32 → length c.writes < 2 ^ 32
+few_records c short = omega (arith, short, body_length c, parts_length c.writes)
+
+-- ---- one spelling
+
+pub one_body : (c d : Commit) → IsCommit c → IsCommit d → length (commit_body c) < 2 ^ 32 → commit_body c ≡ commit_body d → c ≡ d
+unfolding commit_body
+one_body c d p q short e =
+    let bytes : big_bytes 8 c.number ++ (big_bytes 4 (length c.writes) ++ records_bytes c.writes) ≡ big_bytes 8 d.number ++ (big_bytes 4 (length d.writes) ++ records_bytes d.writes) = e in
+    let a = one_number 8 c.number d.number _ _ (omega (arith, p.last)) (omega (arith, q.last)) bytes in
+    let other_short : length (commit_body d) < 2 ^ 32 = subst (λ (body : List ℕ). length body < 2 ^ 32) e short in
+    let b = one_number 4 (length c.writes) (length d.writes) _ _ (few_records c short) (few_records d other_short) a.1 in
+    let writes = one_series records_spelling c.writes d.writes p.lawful q.lawful b.0 b.1 in
+    λ i. record { number = a.0 i; writes = writes i }

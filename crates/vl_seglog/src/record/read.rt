@@ -1,0 +1,41 @@
+ghost use Rattle.std.specs.Prelude.{◌≡◌, ℕ, List, IfNone, IfSome};
+ghost use Rattle.std.specs.Option.{option_copied};
+ghost use Rattle.vl_model.specs.Frames.{record_length};
+ghost use Rattle.vl_seglog.specs.Record.{change_of, IsSpelled};
+ghost use Rattle.vl_model.specs.declared.change.Change.{Change};
+
+use crate::record::head::RECORD_HEAD_BYTES;
+use crate::record::parts::take_apart;
+use vl_model::{is_key_len, is_value_len};
+
+/// A record where it lies in memory.
+#[derive(Clone, Copy, Debug)]
+pub struct RecordRef<'a> {
+    pub key: &'a [u8],
+    /// None: the key is deleted.
+    pub value: Option<&'a [u8]>,
+    /// The length of the whole record, in bytes.
+    pub length: u32,
+}
+
+/// The record that stands at the front of these bytes. Bytes may follow it.
+pub fn read_record(bytes: &[u8]) -> Option<RecordRef<'_>>
+    ensures found { IfSome result (λ r.
+        IsSpelled bytes.now r.key.now (change_of (option_copied r.value))) }
+    ensures length { IfSome result (λ r.
+        r.length ≡ record_length r.key.now (change_of (option_copied r.value))) }
+    ensures none { IfNone result
+        ((key : List ℕ) (change : Change) → IsSpelled bytes.now key change → ⊥) }
+{
+    let parts = take_apart(bytes)?;
+    if !is_key_len(parts.key.len()) || !is_value_len(parts.value.len()) {
+        return None;
+    }
+    let value = parts.change()?;
+    let length = RECORD_HEAD_BYTES + parts.key.len() + parts.value.len();
+    Some(RecordRef {
+        key: parts.key,
+        value,
+        length: length as u32,
+    })
+}

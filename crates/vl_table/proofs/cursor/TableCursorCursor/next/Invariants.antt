@@ -1,0 +1,15 @@
+use Rattle.std.proofs.Common.{◌≡◌, ◌≤◌, ◌-◌, length}
+use Rattle.vl_model.specs.Cursors.{Keeps}
+use Rattle.vl_table.specs.CursorLeft.{cursor_budget, cursor_left}
+use Rattle.vl_table.proofs.cursor.TableCursorCursor.next.Given as goal
+
+abbrev pub invariant-steps : goal.invariant-steps
+invariant-steps g l = record {
+  left : Keeps (cursor_left g.H.HeldFile.bytes l.fn.self) (cursor_left g.H.HeldFile.bytes l.self);
+  budget : cursor_budget l.self ≤ cursor_budget l.fn.self;
+  steady : g.R.Reader.faults l.self.reader ≡ g.R.Reader.faults l.fn.self.reader;
+  table : l.self.table.now ≡ l.fn.self.table.now;
+}
+
+abbrev pub decreases-steps : goal.decreases-steps
+decreases-steps g l = length l.self.table.now.blocks.items - l.self.read

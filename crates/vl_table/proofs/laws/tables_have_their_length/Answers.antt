@@ -1,0 +1,5 @@
+use Rattle.vl_block.specs.laws.Lengths.{length-table_bytes}
+use Rattle.vl_table.proofs.laws.tables_have_their_length.Goals as goal
+
+pub returns : goal.returns
+returns c = length-table_bytes

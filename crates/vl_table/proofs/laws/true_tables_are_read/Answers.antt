@@ -1,0 +1,5 @@
+use Rattle.vl_table.specs.Opened.{reads_table}
+use Rattle.vl_table.proofs.laws.true_tables_are_read.Goals as goal
+
+pub returns : goal.returns
+returns c = reads_table

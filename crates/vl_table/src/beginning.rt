@@ -1,0 +1,65 @@
+//! A table's header, and the place of its footer.
+
+ghost use Rattle.std.specs.Prelude.{◌≡◌, ◌+◌, ◌-◌, ◌≤◌, ◌↔◌, length, IfOk, IsTrue, OnOk};
+ghost use Rattle.vl_table.specs.Answers.{Answers};
+ghost use Rattle.vl_table.specs.Begun.{HasHeader, IsBegun, IsInside, said_place};
+
+use crate::fault::{TableFault, damaged};
+use crate::reading::fill;
+use byteorder::{BigEndian, ByteOrder};
+use vl_block::TABLE_FORMAT;
+use vl_disk::{HeldFile, Reader};
+use vl_frame::{FileKind, HEADER_BYTES, read_header};
+
+// A table has a header, a frame without a body and a place at least to be looked at.
+const MIN_TABLE_BYTES: u64 = 24;
+
+/// Tests the header.
+pub fn read_begin<H: HeldFile, R: Reader<Held = H>>(
+    reader: &mut R,
+    held: &H,
+    number: u32,
+) -> Result<(), TableFault>
+    ensures answers { Answers (R.faults reader.old) (R.faults reader.new) number (H.bytes held.now)
+        (λ bytes done. IsBegun number bytes)
+        (λ bytes damage. (IsBegun number bytes → ⊥) × (damage ≡ 0)) result }
+    ensures long { OnOk result (24 ≤ H.size held.now) }
+{
+    if held.len() < MIN_TABLE_BYTES {
+        return Err(damaged(number, 0));
+    }
+    let mut header = [0; HEADER_BYTES];
+    fill(reader, held, number, 0, &mut header)?;
+    if !has_header(&header, number) {
+        return Err(damaged(number, 0));
+    }
+    Ok(())
+}
+
+fn has_header(bytes: &[u8], number: u32) -> bool
+    ensures { IsTrue result ↔ HasHeader number bytes.now }
+{
+    read_header(bytes, FileKind::Table, number, TABLE_FORMAT).is_some()
+}
+
+/// The footer's place, as the last eight bytes say it.
+pub fn read_place<H: HeldFile, R: Reader<Held = H>>(
+    reader: &mut R,
+    held: &H,
+    number: u32,
+) -> Result<u64, TableFault>
+    requires { 24 ≤ H.size held.now }
+    ensures answers { Answers (R.faults reader.old) (R.faults reader.new) number (H.bytes held.now)
+        (λ bytes place. (place ≡ said_place bytes) × IsInside bytes place)
+        (λ bytes damage. (IsInside bytes (said_place bytes) → ⊥) × (damage ≡ length bytes - 8)) result }
+    ensures inside { IfOk result (λ place. place + 21 ≤ H.size held.now) }
+{
+    let end = held.len() - 8;
+    let mut last = [0; 8];
+    fill(reader, held, number, end, &mut last)?;
+    let place = BigEndian::read_u64(&last);
+    if place < HEADER_BYTES as u64 || place > end - 13 {
+        return Err(damaged(number, end));
+    }
+    Ok(place)
+}

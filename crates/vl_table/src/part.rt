@@ -1,0 +1,71 @@
+//! One frame of a table, of which it is known where it stands and how long it is.
+
+ghost use Rattle.std.specs.Prelude.{◌≡◌, ◌<◌, ◌↔◌, ℕ, List, length, IsTrue};
+ghost use Rattle.vl_frame.specs.Frame.{IsSpelled, frame_bytes, frame_length};
+ghost use Rattle.vl_frame.specs.declared.kinds.FileKind.TheVariants as files;
+ghost use Rattle.vl_frame.specs.declared.kinds.FrameKind.{FrameKind};
+ghost use Rattle.vl_table.specs.Answers.{Answers};
+ghost use Rattle.vl_table.specs.Begun.{FrameAt};
+
+use crate::fault::{TableFault, damaged};
+use crate::reading::fill;
+use vl_disk::{HeldFile, Reader};
+use vl_frame::{FRAME_BYTES, FileKind, FrameKind, read_frame};
+
+/// Reads the frame of this kind and of so many bytes that stands at a place of the table with this number.
+pub fn read_part<H: HeldFile, R: Reader<Held = H>>(
+    reader: &mut R,
+    held: &H,
+    number: u32,
+    place: u64,
+    size: u32,
+    kind: FrameKind,
+    frame: &mut Vec<u8>,
+) -> Result<(), TableFault>
+    ensures answers { Answers (R.faults reader.old) (R.faults reader.new) number (H.bytes held.now)
+        (λ bytes done. (body : List ℕ) × FrameAt number bytes place size kind body
+        × (frame.new.items ≡ frame_bytes number place kind body))
+        (λ bytes damage. ((body : List ℕ) → FrameAt number bytes place size kind body → ⊥) × (damage ≡ place))
+        result }
+{
+    if place > held.len() || size as u64 > held.len() - place {
+        return Err(damaged(number, place));
+    }
+    frame.resize(size as usize, 0)?;
+    fill(reader, held, number, place, frame)?;
+    if !is_frame(frame, number, place, kind) {
+        return Err(damaged(number, place));
+    }
+    Ok(())
+}
+
+// Whether the bytes are a frame of this kind and nothing else.
+fn is_frame(bytes: &[u8], number: u32, place: u64, kind: FrameKind) -> bool
+    ensures found { IsTrue result → (body : List ℕ) × IsSpelled files.Table number place bytes.now kind body
+        × (length bytes.now ≡ frame_length (length body)) }
+    ensures whole { (body : List ℕ) → IsSpelled files.Table number place bytes.now kind body
+        → length bytes.now ≡ frame_length (length body) → IsTrue result }
+{
+    match read_frame(bytes, FileKind::Table, number, place) {
+        Some(frame) => is_same(frame.kind, kind) && frame.length as usize == bytes.len(),
+        None => false,
+    }
+}
+
+/// Whether two kinds of frames are the same.
+pub fn is_same(kind: FrameKind, other: FrameKind) -> bool
+    ensures { IsTrue result ↔ (kind ≡ other) }
+{
+    kind == other
+}
+
+/// The body of a frame.
+pub fn body_of(frame: &[u8]) -> &[u8]
+    ensures { (number place : ℕ) (kind : FrameKind) (body : List ℕ)
+        → frame.now ≡ frame_bytes number place kind body → result.now ≡ body }
+{
+    if frame.len() < FRAME_BYTES {
+        return &[];
+    }
+    &frame[5..frame.len() - 8]
+}

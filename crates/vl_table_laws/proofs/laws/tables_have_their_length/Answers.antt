@@ -1,5 +1,0 @@
-use Rattle.vl_block.specs.Lengths.{length-table_bytes}
-use Rattle.vl_table_laws.proofs.laws.tables_have_their_length.Goals as goal
-
-pub returns : goal.returns
-returns c = length-table_bytes

@@ -1,5 +1,0 @@
-use Rattle.vl_table.specs.Opened.{reads_table}
-use Rattle.vl_table_laws.proofs.laws.true_tables_are_read.Goals as goal
-
-pub returns : goal.returns
-returns c = reads_table

@@ -1,0 +1,9 @@
+//! Tests of tables that are written, opened, searched and gone through, over a disk in memory.
+#![tactic(auto)]
+
+#[cfg(test)]
+mod cursors;
+#[cfg(test)]
+mod levels;
+#[cfg(test)]
+mod tables;

@@ -1,0 +1,166 @@
+-- How what is written grows.
+use Rattle.std.specs.Prelude.{◌≡◌, ℕ, ◌≤◌, ◌+◌, max, Bool, true, false, nat_le, if◌then◌else◌, List, [], ◌∷◌, ◌++◌, length}
+use Rattle.std.specs.List.{sum_by}
+use Rattle.std.proofs.Common.{refl, ap, sym, subst, ◌∙◌, length-append, append-nil, append_assoc, arith}
+use Rattle.std.proofs.lemmas.List.Sums.{sum_by-cons}
+use Rattle.vl_frame.specs.Frame.{frame_bytes}
+use Rattle.vl_frame.specs.declared.kinds.FrameKind.TheVariants as kinds
+use Rattle.vl_model.specs.declared.entry.Entry.{Entry}
+use Rattle.vl_block.specs.Cutting.{begun_length, block_frame_length, blocks, blocks_from, entry_length, first_key, last_key, max_block_bytes}
+use Rattle.vl_run.specs.laws.OrderLaws.{all-append}
+use Rattle.vl_block.specs.Blocks.{block_body}
+use Rattle.vl_block.specs.Entries.{IsEntry}
+use Rattle.vl_block.specs.declared.index.BlockPlace.{BlockPlace}
+use Rattle.vl_block.specs.Bytes.{block_places, blocks_bytes, greatest_version, table_header}
+use Rattle.vl_block.specs.laws.Lengths.{length-block_body}
+use Rattle.vl_block.specs.laws.Places.{blocks-split}
+use Rattle.vl_table_writer.specs.Writing.{HasBlocks, HasRoom, IsWriting, Sums}
+use Rattle.vl_table_writer.specs.declared.summary.Summary.{Summary}
+use Rattle.vl_table_writer.specs.declared.writer.TableWriter.{TableWriter}
+
+pub last_key-push : (es : List Entry) (e : Entry) → last_key (es ++ e ∷ []) ≡ e.key
+last_key-push [] e = refl
+last_key-push (d ∷ []) e = refl
+last_key-push (d ∷ f ∷ es) e = last_key-push (f ∷ es) e
+
+pub greatest-push : (es : List Entry) (e : Entry) → greatest_version (es ++ e ∷ []) ≡ max (greatest_version es) e.version
+greatest-push [] e = omega arith
+greatest-push (d ∷ es) e = omega (arith, greatest-push es e)
+
+pub sum-push : (closed : List (List Entry)) (b : List Entry)
+    → sum_by block_frame_length (closed ++ b ∷ []) ≡ sum_by block_frame_length closed + block_frame_length b
+sum-push [] b = omega (arith, sum_by-cons block_frame_length b [])
+sum-push (a ∷ closed) b =
+    omega (arith, sum_by-cons block_frame_length a (closed ++ b ∷ []), sum_by-cons block_frame_length a closed, sum-push closed b)
+
+pub places-push : (at : ℕ) (closed : List (List Entry)) (b : List Entry)
+    → block_places at (closed ++ b ∷ []) ≡ block_places at closed ++ record { place = at + sum_by block_frame_length closed; length = block_frame_length b; last = last_key b } ∷ []
+places-push at [] b = let same : at ≡ at + 0 = omega arith in ap (λ (n : ℕ). record { place = n; length = block_frame_length b; last = last_key b } ∷ []) same
+places-push at (a ∷ closed) b =
+    let first : BlockPlace = record { place = at; length = block_frame_length a; last = last_key a } in
+    let place : at + block_frame_length a + sum_by block_frame_length closed ≡ at + sum_by block_frame_length (a ∷ closed) = omega (arith, sum_by-cons block_frame_length a closed) in
+    ap (λ l. first ∷ l) (places-push (at + block_frame_length a) closed b)
+    ∙ ap (λ (n : ℕ). first ∷ (block_places (at + block_frame_length a) closed ++ record { place = n; length = block_frame_length b; last = last_key b } ∷ [])) place
+
+pub first_key-push : (es : List Entry) (e : Entry) → 1 ≤ length es → first_key (es ++ e ∷ []) ≡ first_key es
+first_key-push [] e some = absurd (omega arith)
+first_key-push (d ∷ es) e some = refl
+
+pub places_alike : (ps : List BlockPlace) (place other_place size other_size : ℕ) (last other_last : List ℕ)
+    → place ≡ other_place → size ≡ other_size → last ≡ other_last
+    → ps ++ record { place = place; length = size; last = last } ∷ [] ≡ ps ++ record { place = other_place; length = other_size; last = other_last } ∷ []
+places_alike ps place other_place size other_size last other_last a b c = λ k. ps ++ record { place = a k; length = b k; last = c k } ∷ []
+
+-- ---- a table that grows
+
+-- the frame of the block that is closed stands behind the others
+pub closed_frame : (number : ℕ) (closed : List (List Entry)) (b : List Entry) (said place : ℕ) (frame : List ℕ)
+    → said ≡ number → place ≡ 16 + sum_by block_frame_length closed
+    → frame ≡ frame_bytes said place kinds.Block (block_body b)
+    → blocks_bytes number 16 closed ++ frame ≡ blocks_bytes number 16 (closed ++ b ∷ [])
+closed_frame number closed b said place frame numbered at written =
+    ap (λ (l : List ℕ). blocks_bytes number 16 closed ++ l)
+    (written ∙ ap (λ (n : ℕ). frame_bytes n place kinds.Block (block_body b)) numbered ∙ ap (λ (n : ℕ). frame_bytes number n kinds.Block (block_body b)) at
+    ∙ sym (append-nil (frame_bytes number (16 + sum_by block_frame_length closed) kinds.Block (block_body b))))
+    ∙ sym (blocks-split number 16 closed b [])
+
+pub begins : (w : TableWriter) (number : ℕ) (e : Entry) → w.blocks.number ≡ number → HasBlocks w.blocks [] (e ∷ [])
+    → Sums w.summary (e ∷ []) → IsEntry e
+    → IsWriting w number (e ∷ []) (table_header number)
+begins w number e numbered has sums lawful = record {
+  some = omega arith;
+  closed = [];
+  open_block = e ∷ [];
+  numbered = numbered;
+  has = has;
+  sums = sums;
+  each = (lawful, tt);
+  given_out = sym (append-nil (table_header number));
+  last = refl;
+  cut = λ later. ap (λ (n : ℕ). blocks_from (e ∷ []) n later) (begun e);
+}
+  where
+    begun : (e : Entry) → begun_length e ≡ length (block_body (e ∷ []))
+    begun e = omega (arith, length-block_body (e ∷ []), sum_by-cons entry_length e [])
+
+chosen : (b : Bool) (x y : List (List Entry)) → b ≡ true → (if b then x else y) ≡ x
+chosen true x y is = refl
+chosen false x y is = absurd cc
+
+not_chosen : (b : Bool) (x y : List (List Entry)) → b ≡ false → (if b then x else y) ≡ y
+not_chosen true x y is = absurd cc
+not_chosen false x y is = refl
+
+body-push : (open_block : List Entry) (e : Entry)
+    → length (block_body open_block) + entry_length e ≡ length (block_body (open_block ++ e ∷ []))
+body-push open_block e = omega (arith, length-block_body open_block, length-block_body (open_block ++ e ∷ []), entries-push open_block e)
+  where
+    entries-push : (es : List Entry) (e : Entry) → sum_by entry_length (es ++ e ∷ []) ≡ sum_by entry_length es + entry_length e
+    entries-push [] e = omega (arith, sum_by-cons entry_length e [])
+    entries-push (d ∷ es) e = omega (arith, sum_by-cons entry_length d (es ++ e ∷ []), sum_by-cons entry_length d es, entries-push es e)
+
+-- the entry goes into the open block
+pub stays_open : (w : TableWriter) (number : ℕ) (es : List Entry) (given : List ℕ) (e : Entry) → (is : IsWriting w number es given)
+    → nat_le (length (block_body is.open_block) + entry_length e) max_block_bytes ≡ true → HasRoom w number es given e
+stays_open w number es given e is fits = record {
+  some = is.some;
+  closed = is.closed;
+  open_block = is.open_block;
+  numbered = is.numbered;
+  has = is.has;
+  sums = is.sums;
+  each = is.each;
+  given_out = is.given_out;
+  cut = λ later.
+      let grown = blocks_from (is.open_block ++ e ∷ []) (length (block_body is.open_block) + entry_length e) later in
+      is.cut (e ∷ later) ∙ ap (λ l. is.closed ++ l)
+      (chosen (nat_le (length (block_body is.open_block) + entry_length e) max_block_bytes) grown (is.open_block ∷ blocks_from (e ∷ []) (begun_length e) later) fits
+      ∙ ap (λ (n : ℕ). blocks_from (is.open_block ++ e ∷ []) n later) (body-push is.open_block e));
+}
+
+-- the open block is closed, and its frame given out
+pub closes : (w v : TableWriter) (number : ℕ) (es : List Entry) (given frame : List ℕ) (e : Entry) → (is : IsWriting w number es given)
+    → nat_le (length (block_body is.open_block) + entry_length e) max_block_bytes ≡ false
+    → HasBlocks v.blocks (is.closed ++ is.open_block ∷ []) [] → v.blocks.number ≡ w.blocks.number → v.summary ≡ w.summary
+    → frame ≡ frame_bytes w.blocks.number w.blocks.place kinds.Block (block_body is.open_block)
+    → HasRoom v number es (given ++ frame) e
+closes w v number es given frame e is full has numbered summary written = record {
+  some = is.some;
+  closed = is.closed ++ is.open_block ∷ [];
+  open_block = [];
+  numbered = numbered ∙ is.numbered;
+  has = has;
+  sums = subst (λ (s : Summary). Sums s es) (sym summary) is.sums;
+  each = is.each;
+  given_out =
+      ap (λ (l : List ℕ). l ++ frame) is.given_out ∙ append_assoc (table_header number) (blocks_bytes number 16 is.closed) frame
+      ∙ ap (λ (l : List ℕ). table_header number ++ l) (closed_frame number is.closed is.open_block w.blocks.number w.blocks.place frame is.numbered is.has.place written);
+  cut = λ later.
+      let next = blocks_from (e ∷ []) (begun_length e) later in
+      is.cut (e ∷ later)
+      ∙ ap (λ l. is.closed ++ l) (not_chosen (nat_le (length (block_body is.open_block) + entry_length e) max_block_bytes)
+      (blocks_from (is.open_block ++ e ∷ []) (length (block_body is.open_block) + entry_length e) later) (is.open_block ∷ next) full)
+      ∙ sym (append_assoc is.closed (is.open_block ∷ []) next)
+      ∙ ap (λ (n : ℕ). (is.closed ++ is.open_block ∷ []) ++ blocks_from (e ∷ []) n later) (begun e);
+}
+  where
+    begun : (e : Entry) → begun_length e ≡ length (block_body (e ∷ []))
+    begun e = omega (arith, length-block_body (e ∷ []), sum_by-cons entry_length e [])
+
+-- one entry more
+pub adds : (w v : TableWriter) (number : ℕ) (es : List Entry) (given : List ℕ) (e : Entry) → (room : HasRoom w number es given e)
+    → HasBlocks v.blocks room.closed (room.open_block ++ e ∷ []) → v.blocks.number ≡ w.blocks.number
+    → Sums v.summary (es ++ e ∷ []) → IsEntry e
+    → IsWriting v number (es ++ e ∷ []) given
+adds w v number es given e room has numbered sums lawful = record {
+  some = omega (arith, length-append es (e ∷ []));
+  closed = room.closed;
+  open_block = room.open_block ++ e ∷ [];
+  numbered = numbered ∙ room.numbered;
+  has = has;
+  sums = sums;
+  each = all-append IsEntry es (e ∷ []) room.each (lawful, tt);
+  given_out = room.given_out;
+  last = last_key-push room.open_block e ∙ sym (last_key-push es e);
+  cut = λ later. ap blocks (append_assoc es (e ∷ []) later) ∙ room.cut later;
+}

@@ -1,9 +1,0 @@
-use Rattle.std.proofs.Common.{◌+◌, ◌*◌, max}
-use Rattle.vl_tree.proofs.tree.Tree.TheLaws.{the_size}
-use Rattle.vl_tree.proofs.tree.+put.Given as goal
-
-abbrev pub decreases-put : goal.decreases-put
-decreases-put l = 2 * the_size l.tree.now
-
-abbrev pub decreases-put_below : goal.decreases-put_below
-decreases-put_below l = 2 * max (the_size l.top.now.left) (the_size l.top.now.right) + 1

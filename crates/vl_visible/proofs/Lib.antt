@@ -1,3 +1,0 @@
-pub mod Orders
-pub mod Passing
-pub mod Steps
