@@ -16,7 +16,7 @@ use Rattle.vl_model.specs.Reads.{is_in_span}
 use Rattle.vl_model.specs.declared.span.Span.{Span}
 use Rattle.vl_conflict.specs.Notes.{is_late_within, span_of}
 use Rattle.vl_conflict.proofs.OrderLaws.{as_T, two_parts, above-all}
-use Rattle.vl_conflict.specs.Recent.{first_late, is_late, is_late_at, is_late_at_any, is_late_within_any, lesser_of}
+use Rattle.vl_conflict.specs.Recent.{first_newer_than, is_late, is_late_at, is_late_at_any, is_late_within_any, lesser_of}
 
 -- ---- two tests
 
@@ -126,7 +126,7 @@ or_of_and true k s = refl
 or_of_and false k s = refl
 
 pub all_late : (number : ℕ) (keys : List (List ℕ)) (spans : List Span) (es : List Named) → is_sorted key_cmp es ≡ true
-    → lesser_of (first_of (filter (is_late_at_any number keys) es)) (first_of (filter (is_late_within_any number spans) es)) ≡ first_late number keys spans es
+    → lesser_of (first_of (filter (is_late_at_any number keys) es)) (first_of (filter (is_late_within_any number spans) es)) ≡ first_newer_than number keys spans es
 all_late number keys spans es sorted =
     either (is_late_at_any number keys) (is_late_within_any number spans) es (as_T (is_sorted key_cmp es) sorted)
     ∙ ap first_of (filter-same (λ e. is_late_at_any number keys e || is_late_within_any number spans e) (is_late number keys spans) es (λ e.

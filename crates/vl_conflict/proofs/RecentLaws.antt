@@ -18,7 +18,7 @@ use Rattle.vl_model.specs.declared.span.Span.{Span}
 use Rattle.vl_model.specs.Notes.{is_noted, AreNotesOf}
 use Rattle.vl_conflict.specs.Notes.{is_above_floor}
 use Rattle.vl_conflict.proofs.OrderLaws.{as_T, from_T, filter_rises}
-use Rattle.vl_conflict.specs.Recent.{is_late, first_late, since, Remembers, noted_all}
+use Rattle.vl_conflict.specs.Recent.{is_late, first_newer_than, since, Remembers, noted_all}
 
 -- lists in order that find the same are the same
 pub same_named : (es fs : List Named) → is_sorted key_cmp es ≡ true → is_sorted key_cmp fs ≡ true → ((q : List ℕ) → find key_cmp q es ≡ find key_cmp q fs) → es ≡ fs
@@ -52,9 +52,9 @@ passing-since : (number : ℕ) (test : Named → Bool) (q : List ℕ) (o : Optio
 passing-since number test q None = refl
 passing-since number test q (Some n) = elim (nat_lt number n) as (λ b. cond (b && test (q, n)) (Some n) None ≡ passing test q (cond b (Some n) None)) [ true ↦ refl | false ↦ refl ]
 
-pub first_late-conflict : (h : History) (floor number : ℕ) (reads : List Read) (keys : List (List ℕ)) (spans : List Span) (named : List Named) → Remembers floor h named → floor ≤ number → AreNotesOf reads keys spans
-    → first_late number keys spans named ≡ first_conflict h number reads
-first_late-conflict h floor number reads keys spans named remembers le notes =
+pub first_newer_than-conflict : (h : History) (floor number : ℕ) (reads : List Read) (keys : List (List ℕ)) (spans : List Span) (named : List Named) → Remembers floor h named → floor ≤ number → AreNotesOf reads keys spans
+    → first_newer_than number keys spans named ≡ first_conflict h number reads
+first_newer_than-conflict h floor number reads keys spans named remembers le notes =
     ap first_of (same_named (filter (is_late number keys spans) named) (overwritten h number reads) rises (overwritten-rises h number reads) same)
   where
     rising : T (is_sorted key_cmp named)

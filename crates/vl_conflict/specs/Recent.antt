@@ -19,8 +19,8 @@ abbrev pub is_late : ℕ → List (List ℕ) → List Span → Named → Bool
 is_late number keys spans named = nat_lt number named.1 && is_noted keys spans named.0
 
 -- the first of these
-abbrev pub first_late : ℕ → List (List ℕ) → List Span → List Named → Option Named
-first_late number keys spans named = first_of (filter (is_late number keys spans) named)
+abbrev pub first_newer_than : ℕ → List (List ℕ) → List Span → List Named → Option Named
+first_newer_than number keys spans named = first_of (filter (is_late number keys spans) named)
 
 -- ---- the history
 

@@ -1,7 +1,7 @@
 //! Which keys the commits above a floor named, each with the last that did, so that a transaction's reads
 //! can be checked against them.
 //!
-//! They stand in a `NumberMap`, a height-balanced search tree, each part of which knows the greatest number in it. With n
+//! They stand in a `LastCommitMap`, a height-balanced search tree, each part of which knows the greatest number in it. With n
 //! keys noted: `check` costs a search for each key that was
 //! read and for each interval, of a logarithm of n comparisons of whole keys, however many keys are noted
 //! inside an interval. `note` costs such a search, moves no other note and wants no memory: `reserve` makes
@@ -9,8 +9,8 @@
 //! Keys are shared, never copied.
 #![tactic(auto)]
 
+mod last_commit_map;
 mod laws;
-mod number_map;
 mod recent;
 mod search;
 mod tree;

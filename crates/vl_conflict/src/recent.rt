@@ -3,9 +3,9 @@ ghost use Rattle.std.specs.List.{filter};
 ghost use Rattle.std.specs.FinMap.{put};
 ghost use Rattle.vl_model.specs.Keys.{key_cmp};
 ghost use Rattle.vl_conflict.specs.Notes.{is_above_floor};
-ghost use Rattle.vl_conflict.specs.Recent.{first_late, IsFirstConflict, StillRemembers};
+ghost use Rattle.vl_conflict.specs.Recent.{first_newer_than, IsFirstConflict, StillRemembers};
 
-use crate::number_map::NumberMap;
+use crate::last_commit_map::LastCommitMap;
 use crate::search::{first_of_keys, first_of_spans, lesser};
 use std::alloc::{AllocError, Global};
 use std::marker::Model;
@@ -14,7 +14,7 @@ use vl_model::{Key, Span};
 /// The keys that commits above a floor named, each with the number of the last that did.
 #[derive(Drop)]
 pub struct Recent {
-    notes: NumberMap,
+    notes: LastCommitMap,
 }
 
 impl Model for Recent {
@@ -35,7 +35,7 @@ impl Recent {
         ensures { result.named ≡ [] }
     {
         Recent {
-            notes: NumberMap::new(alloc),
+            notes: LastCommitMap::new(alloc),
         }
     }
 
@@ -47,7 +47,7 @@ impl Recent {
         keys: &[Key],
         spans: &[Span],
     ) -> Result<Option<(Key, u64)>, AllocError>
-        ensures first { IfOk result (λ found. found ≡ first_late number keys.now spans.now self.now.named) }
+        ensures first { IfOk result (λ found. found ≡ first_newer_than number keys.now spans.now self.now.named) }
         ensures conflict { IfOk result (IsFirstConflict self.now.named number keys.now spans.now) }
     {
         let of_keys = first_of_keys(&self.notes, number, keys);

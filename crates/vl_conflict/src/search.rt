@@ -6,25 +6,32 @@ ghost use Rattle.vl_model.specs.Keys.{key_cmp};
 ghost use Rattle.vl_conflict.specs.Notes.{lent, first_in, is_late_within};
 ghost use Rattle.vl_conflict.specs.Recent.{is_late_at_any, is_late_within_any, lesser_of};
 
-use crate::number_map::NumberMap;
+use crate::last_commit_map::LastCommitMap;
 use vl_model::{Key, Span};
 
 /// The first of one of the keys with a number above this one.
-pub fn first_of_keys<'a>(notes: &'a NumberMap, number: u64, keys: &[Key]) -> Option<(&'a Key, u64)>
+pub fn first_of_keys<'a>(
+    notes: &'a LastCommitMap,
+    number: u64,
+    keys: &[Key],
+) -> Option<(&'a Key, u64)>
     requires { is_sorted key_cmp notes.now.named ≡ true }
     ensures { lent result ≡ first_in (is_late_at_any number keys.now) notes.now.named }
 {
     let mut first = None;
     for key in keys {
         let key = key.as_slice();
-        first = lesser(first, notes.first_late(number, Some(key), Some(key), true));
+        first = lesser(
+            first,
+            notes.first_newer_than(number, Some(key), Some(key), true),
+        );
     }
     first
 }
 
 /// The first in one of the intervals with a number above this one.
 pub fn first_of_spans<'a>(
-    notes: &'a NumberMap,
+    notes: &'a LastCommitMap,
     number: u64,
     spans: &[Span],
 ) -> Option<(&'a Key, u64)>
@@ -38,12 +45,12 @@ pub fn first_of_spans<'a>(
     first
 }
 
-fn first_within<'a>(notes: &'a NumberMap, number: u64, span: &Span) -> Option<(&'a Key, u64)>
+fn first_within<'a>(notes: &'a LastCommitMap, number: u64, span: &Span) -> Option<(&'a Key, u64)>
     ensures { lent result ≡ first_in (is_late_within number span.now) notes.now.named }
 {
     let lo = bound(&span.lo);
     let hi = bound(&span.hi);
-    notes.first_late(number, lo, hi, span.closed)
+    notes.first_newer_than(number, lo, hi, span.closed)
 }
 
 fn bound(key: &Option<Key>) -> Option<&[u8]>

@@ -70,7 +70,7 @@ fn height(tree: &Tree) -> u8 {
 }
 
 // What a node knows of its halves, after one of them changed.
-fn mend(node: &mut Node)
+fn repair(node: &mut Node)
     requires { HalvesKnow node.old }
     ensures named { node_named node.new ≡ node_named node.old }
     ensures knows { NodeKnows node.new }
@@ -91,14 +91,14 @@ fn turned_right(mut node: Box<Node>) -> Box<Node>
 {
     match mem::replace(&mut node.left, Tree::Leaf) {
         Tree::Leaf => {
-            mend(&mut node);
+            repair(&mut node);
             node
         }
         Tree::Fork(mut left) => {
             node.left = mem::replace(&mut left.right, Tree::Leaf);
-            mend(&mut node);
+            repair(&mut node);
             left.right = Tree::Fork(node);
-            mend(&mut left);
+            repair(&mut left);
             left
         }
     }
@@ -112,14 +112,14 @@ fn turned_left(mut node: Box<Node>) -> Box<Node>
 {
     match mem::replace(&mut node.right, Tree::Leaf) {
         Tree::Leaf => {
-            mend(&mut node);
+            repair(&mut node);
             node
         }
         Tree::Fork(mut right) => {
             node.right = mem::replace(&mut right.left, Tree::Leaf);
-            mend(&mut node);
+            repair(&mut node);
             right.left = Tree::Fork(node);
-            mend(&mut right);
+            repair(&mut right);
             right
         }
     }
@@ -182,7 +182,7 @@ fn balanced(mut node: Box<Node>) -> Box<Node>
         }
         return turned_left(node);
     }
-    mend(&mut node);
+    repair(&mut node);
     node
 }
 
@@ -229,8 +229,8 @@ fn order(a: &Node, b: &Node) -> Ordering
 }
 
 // The first late one within bounds, of which those that aren't there are no end.
-#[cycle(first_late)]
-pub fn first_late<'a>(
+#[cycle(first_newer_than)]
+pub fn first_newer_than<'a>(
     tree: &'a Tree,
     number: u64,
     lo: Option<&[u8]>,
@@ -245,12 +245,12 @@ pub fn first_late<'a>(
 {
     match tree {
         Tree::Leaf => None,
-        Tree::Fork(node) => first_late_below(node, number, lo, hi, closed),
+        Tree::Fork(node) => first_newer_than_below(node, number, lo, hi, closed),
     }
 }
 
-#[cycle(first_late)]
-fn first_late_below<'a>(
+#[cycle(first_newer_than)]
+fn first_newer_than_below<'a>(
     node: &'a Node,
     number: u64,
     lo: Option<&[u8]>,
@@ -267,19 +267,19 @@ fn first_late_below<'a>(
         return None;
     }
     if !is_from(lo, node.key.as_slice()) {
-        return first_late(&node.right, number, lo, hi, closed);
+        return first_newer_than(&node.right, number, lo, hi, closed);
     }
     if !is_up_to(hi, closed, node.key.as_slice()) {
-        return first_late(&node.left, number, lo, hi, closed);
+        return first_newer_than(&node.left, number, lo, hi, closed);
     }
-    let lesser = first_late(&node.left, number, lo, hi, closed);
+    let lesser = first_newer_than(&node.left, number, lo, hi, closed);
     if lesser.is_some() {
         return lesser;
     }
     if node.number > number {
         return Some(node);
     }
-    first_late(&node.right, number, lo, hi, closed)
+    first_newer_than(&node.right, number, lo, hi, closed)
 }
 
 fn is_from(lo: Option<&[u8]>, key: &[u8]) -> bool
@@ -391,7 +391,7 @@ fn joined(left: Tree, mut node: Box<Node>, right: Tree) -> Box<Node>
         (left, right) => {
             node.left = left;
             node.right = right;
-            mend(&mut node);
+            repair(&mut node);
             node
         }
     }

@@ -43,7 +43,7 @@ pub record Appends {D T E : Type 0} (g : Ghosts D) (name : Name) (piece : List �
   -- where it failed the file has taken some first bytes of the piece,
   pub failed : OnErr result ((taken : ℕ) × (taken ≤ length piece)
       × IsChangedBy (state.appended name piece taken) (g.told old) (g.told new))
-  -- and none on a disk that fails cleanly; the piece is due all the same
+  -- and none on a disk that fails cleanly; the piece is unsynced all the same
   pub clean : IsTrue g.fails_cleanly → OnErr result (IsChangedBy (state.appended name piece 0) (g.told old) (g.told new))
   pub stands : ForSome (g.told new) (Stands name)
   pub as_call : ChangingCall g old new (WhileAppending name piece) (IsErr result)

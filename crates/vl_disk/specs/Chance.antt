@@ -22,9 +22,9 @@ GrowsByFrames (Manifest number) = Unit {0}
 abbrev pub torn_from : File → ℕ
 torn_from file = max 16 file.synced
 
--- this frame was handed to `append` for this place, in a piece that is due
+-- this frame was handed to `append` for this place, in a piece that is unsynced
 abbrev pub WasHandedOver : File → ℕ → List ℕ → Type 0
-WasHandedOver file place frame = Any (StandsIn place frame) file.due
+WasHandedOver file place frame = Any (StandsIn place frame) file.unsynced
 
 -- Of the frames that a crash left of this file where it may be torn, the first, and one right behind it, were handed over for
 -- their places.

@@ -20,7 +20,7 @@ pub record File : Type 0 where
   -- it was synced once, or stood when the disk was started
   pub lasting : Bool
   -- the pieces handed to `append` since the last sync that answered Ok
-  pub due : List Piece
+  pub unsynced : List Piece
 
 abbrev pub Files : Type 0
 Files = FinMap name_cmp File
@@ -36,11 +36,11 @@ empty_disk = record { standing = empty; removed = empty }
 
 -- a file as `create` makes it
 abbrev pub new_file : File
-new_file = record { bytes = []; synced = 0; wholly_synced = false; lasting = false; due = [] }
+new_file = record { bytes = []; synced = 0; wholly_synced = false; lasting = false; unsynced = [] }
 
 -- a file of these bytes as a sync leaves it, or as it stands when the disk is started
 abbrev pub settled : List ℕ → File
-settled bytes = record { bytes = bytes; synced = length bytes; wholly_synced = true; lasting = true; due = [] }
+settled bytes = record { bytes = bytes; synced = length bytes; wholly_synced = true; lasting = true; unsynced = [] }
 
 -- a file as a sync leaves it
 abbrev pub synced_file : File → File
@@ -68,8 +68,8 @@ pub record IsLawfulFile (file : File) : Type 0 where
   pub within : file.synced ≤ length file.bytes
   -- a wholly synced file is as a sync leaves it
   pub as_synced : IsTrue file.wholly_synced → file ≡ synced_file file
-  -- a piece that is due begins at the synced length or past it
-  pub due : All (λ piece. file.synced ≤ piece.place) file.due
+  -- a piece that is unsynced begins at the synced length or past it
+  pub unsynced : All (λ piece. file.synced ≤ piece.place) file.unsynced
 
 -- what is so of each disk
 pub record IsLawful (disk : DiskState) : Type 0 where
@@ -85,7 +85,7 @@ abbrev pub lengthened : List ℕ → ℕ → File → File
 lengthened piece taken file = record file {
   bytes = file.bytes ++ take taken piece;
   wholly_synced = false;
-  due = file.due ++ record { place = length file.bytes; bytes = piece } ∷ [];
+  unsynced = file.unsynced ++ record { place = length file.bytes; bytes = piece } ∷ [];
 }
 
 -- a file that was to be cut to a length, and of which so many bytes are left; no more is durable than was to stay

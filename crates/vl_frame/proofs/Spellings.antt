@@ -6,7 +6,7 @@ use Rattle.vl_frame.specs.declared.kinds.FileKind.{FileKind}
 use Rattle.vl_frame.specs.declared.kinds.FrameKind.{FrameKind}
 use Rattle.vl_frame.specs.Frame.{frame_code, spelling, check_of, frame_bytes, frame_length, IsSpelled, file_of}
 use Rattle.vl_frame.specs.laws.Laws.{length-frame_bytes, one_apart, spelled_apart}
-use Rattle.vl_frame.specs.Parts.{IsApart}
+use Rattle.vl_frame.specs.FrameFields.{IsApart}
 
 -- what comes apart and has its check is spelled
 pub apart_spelled : (file : FileKind) (number at : ℕ) (bytes : List ℕ) (kind : FrameKind) (body check : List ℕ) → IsApart bytes kind body check → file_of kind ≡ file → check ≡ check_of number at kind body

@@ -3,5 +3,5 @@ pub mod Frame
 pub mod Header
 pub mod laws
 pub mod Numbers
-pub mod Parts
+pub mod FrameFields
 pub mod Runs

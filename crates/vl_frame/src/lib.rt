@@ -17,13 +17,13 @@
 #![tactic(auto)]
 
 mod checks;
+mod fields;
 mod frame;
 mod header;
 mod in_place;
 mod kinds;
 mod limits;
 mod numbers;
-mod parts;
 mod reading;
 mod writing;
 

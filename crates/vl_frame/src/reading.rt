@@ -2,10 +2,10 @@ ghost use Rattle.std.specs.Prelude.{◌≡◌, ◌++◌, ◌≤◌, IfNone, IfSo
 ghost use Rattle.vl_frame.specs.Frame.{IsSpelled, frame_bytes, frame_length};
 ghost use Rattle.vl_frame.specs.declared.kinds.FrameKind.{FrameKind};
 
+use crate::fields::take_apart;
 use crate::frame::Frame;
 use crate::kinds::FileKind;
 use crate::limits::FRAME_BYTES;
-use crate::parts::take_apart;
 
 /// The frame that stands at the front of the bytes, which are those of a file from the place `at` on.
 pub fn read_frame(bytes: &[u8], file: FileKind, number: u32, at: u64) -> Option<Frame<'_>>

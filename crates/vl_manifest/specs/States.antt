@@ -2,7 +2,7 @@
 use Rattle.std.specs.Prelude.{ℕ, ◌+◌, max, Bool, ◌&&◌, nat_le, if◌then◌else◌, List, [], ◌∷◌, ◌++◌, Option, None, Some, Result, Ok, Err}
 use Rattle.vl_model.specs.Limits.{max_commit_number, max_file_number}
 use Rattle.vl_frame.specs.Begins.{Placed}
-use Rattle.vl_manifest.specs.declared.draft.Draft.{Draft}
+use Rattle.vl_manifest.specs.declared.version_builder.VersionBuilder.{VersionBuilder}
 use Rattle.vl_manifest.specs.declared.edit.Edit.{Edit}
 use Rattle.vl_manifest.specs.declared.edit.Edit.TheVariants.{Add, Drop, Head, Next}
 use Rattle.vl_manifest.specs.declared.state.ManifestState.{ManifestState}
@@ -11,11 +11,11 @@ use Rattle.vl_manifest.specs.Levels.{no_tables}
 -- ---- one edit
 
 -- before the first frame
-abbrev pub first_draft : Draft
+abbrev pub first_draft : VersionBuilder
 first_draft = record { levels = no_tables; head = None; next = None }
 
 -- before a later one
-abbrev pub as_draft : ManifestState → Draft
+abbrev pub as_draft : ManifestState → VersionBuilder
 as_draft s = record { levels = s.levels; head = Some (s.head, s.covered); next = Some (s.next_log, s.next_table) }
 
 -- a number that a log may have
@@ -33,23 +33,23 @@ is_head segment number = is_log_number segment && nat_le number max_commit_numbe
 abbrev pub are_next : ℕ → ℕ → Bool
 are_next log table = is_next_number log && is_next_number table
 
-abbrev pub given_if : Bool → Draft → Option Draft
+abbrev pub given_if : Bool → VersionBuilder → Option VersionBuilder
 given_if fits d = if fits then Some d else None
 
--- What an edit makes of a draft; none where it can't be applied. No store has tables yet, so that an
+-- What an edit makes of a version_builder; none where it can't be applied. No store has tables yet, so that an
 -- Add or a Drop can't be.
-abbrev pub applied : Edit → Draft → Option Draft
+abbrev pub applied : Edit → VersionBuilder → Option VersionBuilder
 applied (Add level position table) d = None
 applied (Drop table) d = None
 applied (Head segment number) d = given_if (is_head segment number) (record d { head = Some (segment, number) })
 applied (Next log table) d = given_if (are_next log table) (record d { next = Some (log, table) })
 
-abbrev pub then_applied : (Draft → Option Draft) → Option Draft → Option Draft
+abbrev pub then_applied : (VersionBuilder → Option VersionBuilder) → Option VersionBuilder → Option VersionBuilder
 then_applied f None = None
 then_applied f (Some d) = f d
 
 -- edits, one after the other, in the order in which they stand
-abbrev pub all_applied : List Edit → Draft → Option Draft
+abbrev pub all_applied : List Edit → VersionBuilder → Option VersionBuilder
 all_applied [] d = Some d
 all_applied (e ∷ es) d = then_applied (all_applied es) (applied e d)
 
@@ -62,10 +62,10 @@ with_both levels (Some head) (Some next) =
     Some (record { levels = levels; head = head.0; covered = head.1; next_log = next.0; next_table = next.1 })
 
 -- a draft to which a head and next numbers were given; others are no state
-abbrev pub finished : Draft → Option ManifestState
+abbrev pub finished : VersionBuilder → Option ManifestState
 finished d = with_both d.levels d.head d.next
 
-abbrev pub finish : Option Draft → Option ManifestState
+abbrev pub finish : Option VersionBuilder → Option ManifestState
 finish None = None
 finish (Some d) = finished d
 

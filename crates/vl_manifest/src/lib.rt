@@ -2,7 +2,6 @@
 //! their bytes.
 #![tactic(auto)]
 
-mod draft;
 mod edit;
 mod fails;
 mod format;
@@ -14,6 +13,7 @@ mod newer;
 mod reading;
 mod saying;
 mod state;
+mod version_builder;
 mod writing;
 
 pub use edit::Edit;

@@ -1,6 +1,6 @@
-use crate::draft::Draft;
 use crate::edit::Edit;
 use crate::levels::Levels;
+use crate::version_builder::VersionBuilder;
 use std::alloc::{AllocError, Global};
 use vl_model::MAX_FILE_NUMBER;
 
@@ -73,13 +73,13 @@ impl ManifestState {
     pub(crate) fn first(edits: &[Edit]) -> Option<Self>
         ensures { result ≡ states.first_state edits.now }
     {
-        Draft::first().all_applied(edits)?.finished()
+        VersionBuilder::first().all_applied(edits)?.finished()
     }
 
     /// The state that the edits of a later frame make of this one.
     pub(crate) fn next(self, edits: &[Edit]) -> Option<Self>
         ensures { result ≡ states.next_state edits.now self }
     {
-        Draft::of(self).all_applied(edits)?.finished()
+        VersionBuilder::of(self).all_applied(edits)?.finished()
     }
 }

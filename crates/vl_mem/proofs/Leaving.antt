@@ -74,7 +74,7 @@ module _ (outcome : Outcome) (q : Name) where
   by_entry None = sym (left_none outcome)
   by_entry (Some entry) = refl
 
--- what is due plays no part
+-- what is unsynced plays no part
 left_plain : (outcome : Outcome) (standing removed : Option File) → left_of outcome (option_map plain standing) (option_map plain removed) ≡ left_of outcome standing removed
 left_plain Lost (Some file) removed = refl
 left_plain Lost None (Some gone) = refl

@@ -13,9 +13,9 @@ use Rattle.vl_mem.specs.declared.entry.Entry.{Entry}
 use Rattle.vl_mem.specs.declared.entry.Presence.{Presence}
 use Rattle.vl_mem.specs.declared.entry.Presence.TheVariants.{Absent, Standing, Removed}
 
--- a file, but for the pieces that are due
+-- a file, but for the pieces that are unsynced
 abbrev pub plain : File → File
-plain file = record file { due = [] }
+plain file = record file { unsynced = [] }
 
 -- so the file of an entry
 abbrev pub file_of : Entry → File
@@ -24,7 +24,7 @@ file_of entry = record {
   synced = entry.synced;
   wholly_synced = entry.wholly_synced;
   lasting = entry.lasting;
-  due = [];
+  unsynced = [];
 }
 
 abbrev pub is_standing : Presence → Bool

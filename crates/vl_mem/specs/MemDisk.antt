@@ -41,7 +41,7 @@ reads_of disk = disk.reads
 abbrev pub reads_by : MemReader → Plan
 reads_by reader = reader.plan
 
--- a changing call was asked for, and failed exactly if it was due
+-- a changing call was asked for, and failed exactly if it was unsynced
 pub record CountsChange (old new : MemDisk) (failed : Type 0) : Type 0 where
   pub changes : FollowsPlan (changes_of old) (changes_of new) failed
   pub reads : reads_of new ≡ reads_of old

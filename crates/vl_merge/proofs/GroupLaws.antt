@@ -14,7 +14,7 @@ use Rattle.vl_merge.specs.Merging.{way_cmp, merged, IsFirst, IsAlong}
 use Rattle.vl_merge.proofs.MergeLaws.{along-merged}
 use Rattle.vl_merge.specs.Told.{told}
 use Rattle.vl_merge.specs.Grouped.{is_without, is_joined, is_grouped}
-use Rattle.vl_merge.specs.Heads.{left_of}
+use Rattle.vl_merge.specs.Lookaheads.{left_of}
 use Rattle.vl_merge.specs.Trees.{tree_left}
 use Rattle.vl_merge.specs.declared.tree.Tree.{Tree, Nothing, Source, Two'}
 

@@ -11,10 +11,10 @@ use Rattle.vl_merge.specs.Merging.{way_cmp, place, merged, IsAlong}
 use Rattle.vl_merge.proofs.MergeLaws.{way_total, not_after, along-merged, place-later, place-here, merged-first}
 use Rattle.vl_merge.specs.Told.{is_along, told, merge_of, pair_of}
 use Rattle.vl_merge.proofs.TreeLaws.{along-is, pair-join, behind_more}
-use Rattle.vl_merge.specs.Heads.{left_of, budget_of}
+use Rattle.vl_merge.specs.Lookaheads.{left_of, budget_of}
 use Rattle.vl_merge.specs.Trees.{tree_left, tree_budget, tree_faults}
 use Rattle.vl_merge.specs.Planted.{leaves, height, IsUnread, TakesOff}
-use Rattle.vl_merge.specs.declared.head.Head.TheVariants.{Unread}
+use Rattle.vl_merge.specs.declared.lookahead.Lookahead.TheVariants.{Unread}
 use Rattle.vl_merge.specs.declared.tree.Tree.{Tree, Nothing, Source, Two'}
 
 -- ---- merged part by part

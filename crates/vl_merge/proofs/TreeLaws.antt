@@ -10,9 +10,9 @@ use Rattle.vl_model.specs.declared.way.Way.{Way}
 use Rattle.vl_merge.specs.Merging.{way_cmp, merged, IsFirst, IsAlong}
 use Rattle.vl_merge.proofs.MergeLaws.{way_total, first-all, merged-first}
 use Rattle.vl_merge.specs.Told.{is_first, is_along, told, merge_of, pair_of}
-use Rattle.vl_merge.specs.Heads.{left_of, IsRead, entry_of, taken, is_older_first}
-use Rattle.vl_merge.specs.declared.head.Head.{Head}
-use Rattle.vl_merge.specs.declared.head.Head.TheVariants.{Unread, Next, End}
+use Rattle.vl_merge.specs.Lookaheads.{left_of, IsRead, entry_of, taken, is_older_first}
+use Rattle.vl_merge.specs.declared.lookahead.Lookahead.{Lookahead}
+use Rattle.vl_merge.specs.declared.lookahead.Lookahead.TheVariants.{Unread, Next, End}
 
 -- ---- tests of order
 
@@ -177,7 +177,7 @@ newer_alone way e es out gave =
 none_alone : (way : Way) → Gives (pair_of way (Some []) (Some [])) (pair_of way (Some []) (Some [])) None
 none_alone way out gave = let parts = pair-parts way [] [] out gave in (parts.2, pair-join way [] [] refl refl)
 
-left-none : (head : Head) → IsRead head → left_of head None ≡ None
+left-none : (head : Lookahead) → IsRead head → left_of head None ≡ None
 left-none Unread read = absurd read
 left-none (Next e) read = refl
 left-none End read = refl
@@ -192,7 +192,7 @@ module _ (way : Way) where
   no_older newer now older (Some e) is = λ out gave. absurd (pair-untold way newer out (ap (pair_of way newer) (sym is) ∙ gave))
 
   -- the older half's entry comes first
-  pub older_given : (newer older : Option (List Entry)) (first second : Head) → IsRead first → IsRead second → is_older_first way first second ≡ true
+  pub older_given : (newer older : Option (List Entry)) (first second : Lookahead) → IsRead first → IsRead second → is_older_first way first second ≡ true
       → Gives (pair_of way (left_of first newer) (left_of second older)) (pair_of way (left_of first newer) (left_of (taken second) older)) (entry_of second)
   older_given None older first second read known is = no_newer (left_of first None) _ (left_of second older) (entry_of second) (left-none first read)
   older_given (Some es) None first second read known is = no_older (left_of first (Some es)) _ (left_of second None) (entry_of second) (left-none second known)
@@ -205,7 +205,7 @@ module _ (way : Way) where
   older_given (Some es) (Some fs) End End read known is = none_alone way
 
   -- the newer half's does
-  pub newer_given : (newer older : Option (List Entry)) (first second : Head) → IsRead first → IsRead second → is_older_first way first second ≡ false
+  pub newer_given : (newer older : Option (List Entry)) (first second : Lookahead) → IsRead first → IsRead second → is_older_first way first second ≡ false
       → Gives (pair_of way (left_of first newer) (left_of second older)) (pair_of way (left_of (taken first) newer) (left_of second older)) (entry_of first)
   newer_given None older first second read known is = no_newer (left_of first None) _ (left_of second older) (entry_of first) (left-none first read)
   newer_given (Some es) None first second read known is = no_older (left_of first (Some es)) _ (left_of second None) (entry_of first) (left-none second known)
@@ -231,10 +231,10 @@ keeps_pair way (Some es) (Some fs) c d first second out gave =
     ap (pair_of way c) (second fs refl) ∙ ap (λ l. pair_of way l (Some fs)) (first es refl) ∙ gave
 
 -- both heads are read, and one of them is given
-module _ (way : Way) (newer_old older_old newer older : Option (List Entry)) (first second : Head)
+module _ (way : Way) (newer_old older_old newer older : Option (List Entry)) (first second : Lookahead)
     (newer_kept : Keeps newer_old (left_of first newer)) (older_kept : Keeps older_old (left_of second older))
     (read : IsRead first) (known : IsRead second) (out : Option Entry) where
-  pub gives_older : (now : Head) → is_older_first way first second ≡ true → now ≡ taken second → out ≡ entry_of second
+  pub gives_older : (now : Lookahead) → is_older_first way first second ≡ true → now ≡ taken second → out ≡ entry_of second
       → Gives (pair_of way newer_old older_old) (pair_of way (left_of first newer) (left_of now older)) out
   gives_older now is gone gave =
       gives_kept (pair_of way newer_old older_old) (pair_of way (left_of first newer) (left_of second older)) _ out
@@ -243,7 +243,7 @@ module _ (way : Way) (newer_old older_old newer older : Option (List Entry)) (fi
       (subst (Gives (pair_of way (left_of first newer) (left_of second older)) (pair_of way (left_of first newer) (left_of (taken second) older))) (sym gave)
       (older_given way newer older first second read known is)))
 
-  pub gives_newer : (now : Head) → is_older_first way first second ≡ false → now ≡ taken first → out ≡ entry_of first
+  pub gives_newer : (now : Lookahead) → is_older_first way first second ≡ false → now ≡ taken first → out ≡ entry_of first
       → Gives (pair_of way newer_old older_old) (pair_of way (left_of now newer) (left_of second older)) out
   gives_newer now is gone gave =
       gives_kept (pair_of way newer_old older_old) (pair_of way (left_of first newer) (left_of second older)) _ out

@@ -1,5 +1,5 @@
 pub mod Grouped
-pub mod Heads
+pub mod Lookaheads
 pub mod Held
 pub mod Merging
 pub mod Planted

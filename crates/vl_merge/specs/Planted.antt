@@ -1,6 +1,6 @@
 -- A tree of sources as it is made: all of them in their order, nothing read, and no higher than it must be.
 use Rattle.std.specs.Prelude.{◌≡◌, ℕ, ◌+◌, ◌^◌, ◌≤◌, max, List, [], ◌∷◌, ◌++◌, length}
-use Rattle.vl_merge.specs.declared.head.Head.TheVariants.{Unread}
+use Rattle.vl_merge.specs.declared.lookahead.Lookahead.TheVariants.{Unread}
 use Rattle.vl_merge.specs.declared.tree.Tree.{Tree, Nothing, Source, Two'}
 
 module _ {C : Type 0} where

@@ -3,8 +3,8 @@ use Rattle.std.specs.Prelude.{ℕ, ◌+◌, List, [], ◌∷◌, Option, Some}
 use Rattle.vl_model.specs.declared.entry.Entry.{Entry}
 use Rattle.vl_model.specs.declared.way.Way.{Way}
 use Rattle.vl_merge.specs.Told.{merge_of, pair_of}
-use Rattle.vl_merge.specs.Heads.{left_of, budget_of}
-use Rattle.vl_merge.specs.declared.head.Head.{Head}
+use Rattle.vl_merge.specs.Lookaheads.{left_of, budget_of}
+use Rattle.vl_merge.specs.declared.lookahead.Lookahead.{Lookahead}
 use Rattle.vl_merge.specs.declared.tree.Tree.{Tree, Nothing, Source, Two'}
 
 module _ {C : Type 0} where
@@ -28,16 +28,16 @@ module _ {C : Type 0} where
       tree_faults faults newer + tree_faults faults older
 
   -- what is left of a half of a tree, with its head
-  abbrev pub half_left : (C → Option (List Entry)) → Way → Head → Tree C → Option (List Entry)
+  abbrev pub half_left : (C → Option (List Entry)) → Way → Lookahead → Tree C → Option (List Entry)
   half_left left way head half = left_of head (tree_left left way half)
 
-  abbrev pub half_budget : (C → ℕ) → Head → Tree C → ℕ
+  abbrev pub half_budget : (C → ℕ) → Lookahead → Tree C → ℕ
   half_budget budget head half = budget_of head (tree_budget budget half)
 
   -- and of both halves
-  abbrev pub two_left : (C → Option (List Entry)) → Way → Tree C → Head → Tree C → Head → Option (List Entry)
+  abbrev pub two_left : (C → Option (List Entry)) → Way → Tree C → Lookahead → Tree C → Lookahead → Option (List Entry)
   two_left left way newer first older second =
       pair_of way (half_left left way first newer) (half_left left way second older)
 
-  abbrev pub two_budget : (C → ℕ) → Tree C → Head → Tree C → Head → ℕ
+  abbrev pub two_budget : (C → ℕ) → Tree C → Lookahead → Tree C → Lookahead → ℕ
   two_budget budget newer first older second = half_budget budget first newer + half_budget budget second older

@@ -9,9 +9,9 @@
 //! comparison of keys more, and nothing is copied. One entry is held; no memory is taken.
 #![tactic(auto)]
 
-mod head;
 mod held;
 mod laws;
+mod lookahead;
 mod merge;
 mod plant;
 mod sources;

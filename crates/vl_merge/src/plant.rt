@@ -1,7 +1,7 @@
 ghost use Rattle.std.specs.Prelude.{◌≡◌, ◌≤◌, ◌++◌, vec_len, IfOk};
 ghost use Rattle.vl_merge.specs.Planted.{IsOf, TakesOff};
 
-use crate::head::Head;
+use crate::lookahead::Lookahead;
 use crate::tree::Tree;
 use std::alloc::AllocError;
 
@@ -34,8 +34,8 @@ fn tree_of_last<C: Drop>(sources: &mut Vec<C>, count: usize) -> Result<Tree<C>, 
     let alloc = *sources.allocator();
     Ok(Tree::Two(
         Box::new(alloc, newer)?,
-        Head::Unread,
+        Lookahead::Unread,
         Box::new(alloc, older)?,
-        Head::Unread,
+        Lookahead::Unread,
     ))
 }

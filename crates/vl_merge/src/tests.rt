@@ -1,7 +1,6 @@
-use crate::Visible;
+use crate::{Merge, Visible};
 use std::alloc::Global;
 use std::test::Fail;
-use crate::Merge;
 use vl_model::{Body, Bytes, Cursor, Entry, Way};
 use vl_run::{Run, RunCursor};
 

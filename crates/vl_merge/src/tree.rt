@@ -1,9 +1,9 @@
 ghost use Rattle.std.specs.Prelude.{◌≡◌, ◌≤◌, ◌+◌, OnOk, OnErr, IfOk, IfErr, MatchResult};
 ghost use Rattle.vl_model.specs.Cursors.{Gives, Keeps, Spends, HasRisen};
-ghost use Rattle.vl_merge.specs.Heads.{IsRead};
+ghost use Rattle.vl_merge.specs.Lookaheads.{IsRead};
 ghost use Rattle.vl_merge.specs.Trees.{tree_left, tree_budget, tree_faults, half_left, half_budget, two_left, two_budget};
 
-use crate::head::{Head, is_older_first};
+use crate::lookahead::{Lookahead, is_older_first};
 use vl_model::{Cursor, Entry, Way};
 
 // Sources to be merged: one, or newer ones and older ones, each half with its next entry where that is
@@ -12,7 +12,7 @@ use vl_model::{Cursor, Entry, Way};
 pub enum Tree<C> {
     Nothing,
     Source(C),
-    Two(Box<Tree<C>>, Head, Box<Tree<C>>, Head),
+    Two(Box<Tree<C>>, Lookahead, Box<Tree<C>>, Lookahead),
 }
 
 impl<C: Cursor + Drop> Tree<C> {
@@ -44,9 +44,9 @@ impl<C: Cursor + Drop> Tree<C> {
 #[cycle(next)]
 fn next_of_two<C: Cursor + Drop>(
     newer: &mut Tree<C>,
-    first: &mut Head,
+    first: &mut Lookahead,
     older: &mut Tree<C>,
-    second: &mut Head,
+    second: &mut Lookahead,
     way: Way,
 ) -> Result<Option<Entry>, C::Fault>
     ensures given { IfOk result (λ next. Gives
@@ -77,7 +77,11 @@ fn next_of_two<C: Cursor + Drop>(
 
 // Reads a half's next entry where it isn't known.
 #[cycle(next)]
-fn look<C: Cursor + Drop>(half: &mut Tree<C>, head: &mut Head, way: Way) -> Result<(), C::Fault>
+fn look<C: Cursor + Drop>(
+    half: &mut Tree<C>,
+    head: &mut Lookahead,
+    way: Way,
+) -> Result<(), C::Fault>
     ensures kept { Keeps (half_left (λ c. C.left c) way head.old half.old)
         (half_left (λ c. C.left c) way head.new half.new) }
     ensures read { OnOk result (IsRead head.new) }
@@ -87,10 +91,10 @@ fn look<C: Cursor + Drop>(half: &mut Tree<C>, head: &mut Head, way: Way) -> Resu
     ensures failed { IfErr result (λ fault. HasRisen (C.is_read_fault fault)
         (tree_faults (λ c. C.faults c) half.old) (tree_faults (λ c. C.faults c) half.new)) }
 {
-    if let Head::Unread = head {
+    if let Lookahead::Unread = head {
         *head = match half.next(way)? {
-            Some(entry) => Head::Next(entry),
-            None => Head::End,
+            Some(entry) => Lookahead::Next(entry),
+            None => Lookahead::End,
         };
     }
     Ok(())

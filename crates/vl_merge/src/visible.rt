@@ -4,8 +4,8 @@ ghost use Rattle.vl_model.specs.Cursors.{Gives, Keeps, Spends, HasRisen};
 ghost use Rattle.vl_merge.specs.Held.{visible_left, held_budget};
 ghost use Rattle.vl_merge.specs.Visible.{visible};
 
-use crate::held::{only_shown, pass};
 use crate::Merge;
+use crate::held::{only_shown, pass};
 use vl_model::{Cursor, Entry};
 
 /// Of the entries of a merge each key's winner at a number, deletions passed over, as the merge goes.

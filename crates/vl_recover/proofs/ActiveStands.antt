@@ -1,4 +1,4 @@
--- The log that takes commits stands behind the mending.
+-- The log that takes commits stands behind the repairing.
 use Rattle.std.proofs.Common.{◌≡◌, ℕ, ◌+◌, ◌≤◌, List, [], ◌∷◌, refl, sym, subst, arith}
 use Rattle.std.specs.Prelude.{◌≢◌, suc, Option, None, Some, IsSome, Contains}
 use Rattle.std.specs.FinMap.{get}
@@ -11,7 +11,7 @@ use Rattle.vl_disk.specs.declared.name.Name.{Name}
 use Rattle.vl_disk.specs.declared.name.Name.TheVariants.{Log, Manifest}
 use Rattle.vl_manifest.specs.declared.state.ManifestState.{ManifestState}
 use Rattle.vl_recover.specs.Answers.{Finds, IsStrayName}
-use Rattle.vl_recover.specs.Mending.{IsPlan, Plan, behind_log, behind_strays, mended, plan_of, with_last, with_log, with_manifest}
+use Rattle.vl_recover.specs.Repairing.{IsPlan, Plan, behind_log, behind_strays, repaired, plan_of, with_last, with_log, with_manifest}
 use Rattle.vl_recover.specs.Opening.{StandingLogs}
 use Rattle.vl_recover.specs.Plans.{active_log, active_of, last_number, log_made, new_state}
 use Rattle.vl_recover.specs.Walk.{StandingLog}
@@ -76,8 +76,8 @@ module _ {read : Image} (found : Finds read) (start : DiskState) (is_read : IsRe
         no_stray (last_number 0 found.logs) above,
       )
 
-  pub active_stands : Stands (Log (active_log found.greatest found.opening.state found.logs)) (mended plan start)
+  pub active_stands : Stands (Log (active_log found.greatest found.opening.state found.logs)) (repaired plan start)
   active_stands =
       let (stands, apart) = by_log (log_made new found.logs) refl refl in
-      subst (λ (p : Plan). Stands (Log (active_log found.greatest found.opening.state found.logs)) (mended p start)) (sym is.is)
+      subst (λ (p : Plan). Stands (Log (active_log found.greatest found.opening.state found.logs)) (repaired p start)) (sym is.is)
       (strays_leave plan.strays _ (with_log planned start) apart stands)

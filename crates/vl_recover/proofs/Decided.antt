@@ -13,15 +13,15 @@ use Rattle.vl_model.specs.declared.log_frame.LogFrame.{LogFrame}
 use Rattle.vl_recover.specs.Answers.{AnswersBy, AreStrayNames, used_up}
 use Rattle.vl_recover.specs.Deciding.{DecidesSo, IsDecided, IsPrepared, PreparesSo, active_by, log_for, log_of, plan_for, state_for, step_for, used_up_for, used_up_of}
 use Rattle.vl_recover.specs.Finding.{IsFaultAt, IsFound, last_log, last_of}
-use Rattle.vl_recover.specs.Mending.{Cut, Headed, IsPlan, Kept, Plan, Rewritten, plan_of}
-use Rattle.vl_recover.specs.Mending as mending
+use Rattle.vl_recover.specs.Repairing.{Cut, Headed, IsPlan, Kept, Plan, Rewritten, plan_of}
+use Rattle.vl_recover.specs.Repairing as repairing
 use Rattle.vl_recover.specs.Opening.{IsNextLog, StandingLogs}
 use Rattle.vl_recover.specs.Plans.{Greatest, active_of, last_number, log_behind, log_made, new_state}
 use Rattle.vl_recover.specs.Results.{HasFailed, came_by, frozen_log}
 use Rattle.vl_recover.specs.Walk.{StandingLog, content_end}
 use Rattle.vl_seglog.specs.Frames.{frames_end}
-use Rattle.vl_recover.specs.declared.fails.Why.{Why}
-use Rattle.vl_recover.specs.declared.fails.Why.TheVariants as why
+use Rattle.vl_recover.specs.declared.fails.OpenError.{OpenError}
+use Rattle.vl_recover.specs.declared.fails.OpenError.TheVariants as why
 use Rattle.vl_recover.specs.declared.found.Found.{Found}
 use Rattle.vl_recover.specs.declared.found.LastLog.{LastLog}
 use Rattle.vl_recover.specs.declared.parts.FrozenLog.{FrozenLog}
@@ -51,7 +51,7 @@ whole_is image least q next header =
     ∙ ap (λ (n : ℕ). n == frames_end q.reading.frames) (sym next.length_is)
     ∙ ap (λ (b : Bool). q.length == (if b then log_length q.reading.frames else 0)) (sym header)
 
-step_is : (image : Image) (least : ℕ) (logs : List StandingLog) → StandingLogs image least logs → step_for (end_of logs) ≡ mending.last_of logs
+step_is : (image : Image) (least : ℕ) (logs : List StandingLog) → StandingLogs image least logs → step_for (end_of logs) ≡ repairing.last_of logs
 step_is image least [] standing = refl
 step_is image least (q ∷ []) (next, rest) = by q.reading.header refl
   where
@@ -110,10 +110,10 @@ module _ (image : Image) (found : Found) (is : IsFound image found) where
   plan_same =
       ap (λ (g : Greatest). of g.manifest (state_for found) (step_for found.last) (log_for found)) is.greatest
       ∙ ap (λ (s : ManifestState). of is.finds.greatest.manifest s (step_for found.last) (log_for found)) state_same
-      ∙ ap (λ (l : mending.LastLog). of is.finds.greatest.manifest new l (log_for found)) (ap step_for is.last ∙ step_is image is.finds.opening.state.head is.finds.logs is.finds.standing)
-      ∙ ap (of is.finds.greatest.manifest new (mending.last_of is.finds.logs)) log_same
+      ∙ ap (λ (l : repairing.LastLog). of is.finds.greatest.manifest new l (log_for found)) (ap step_for is.last ∙ step_is image is.finds.opening.state.head is.finds.logs is.finds.standing)
+      ∙ ap (of is.finds.greatest.manifest new (repairing.last_of is.finds.logs)) log_same
     where
-      of : ℕ → ManifestState → mending.LastLog → Option ℕ → Plan
+      of : ℕ → ManifestState → repairing.LastLog → Option ℕ → Plan
       of greatest state last log = record {
         manifest = greatest + 1;
         piece = manifest_bytes (greatest + 1) (whole_edits state ∷ []);
@@ -139,7 +139,7 @@ module _ (image : Image) (found : Found) (is : IsFound image found) where
   }
 
   -- or that is the answer
-  pub decided_answer : (reason : Why) → DecidesSo found (Err reason) → AnswersBy image (came_by reason)
+  pub decided_answer : (reason : OpenError) → DecidesSo found (Err reason) → AnswersBy image (came_by reason)
   decided_answer (why.Exhausted counter) used = (is.finds, sym used_up_same ∙ used)
   decided_answer why.NoMemory used = tt
   decided_answer why.NotAStore used = absurd used
@@ -148,7 +148,7 @@ module _ (image : Image) (found : Found) (is : IsFound image found) where
   decided_answer (why.Disk name) used = absurd used
 
 -- the disk didn't fail
-pub decided_fine : (found : Found) (reason : Why) → DecidesSo found (Err reason) → HasFailed (came_by reason) → ⊥
+pub decided_fine : (found : Found) (reason : OpenError) → DecidesSo found (Err reason) → HasFailed (came_by reason) → ⊥
 decided_fine found (why.Exhausted counter) used failed = failed
 decided_fine found why.NoMemory used failed = failed
 decided_fine found why.NotAStore used failed = failed
@@ -156,18 +156,18 @@ decided_fine found (why.NewerFormat format) used failed = failed
 decided_fine found (why.Damaged name place) used failed = failed
 decided_fine found (why.Disk name) used failed = used
 
-pub answer_by : (image : Image) (result : Result Prepared Why) (reason : Why) → IsErr result → IsErrAnd result (λ e. e ≡ reason)
+pub answer_by : (image : Image) (result : Result Prepared OpenError) (reason : OpenError) → IsErr result → IsErrAnd result (λ e. e ≡ reason)
     → AnswersBy image (came_by reason) → PreparesSo image result
 answer_by image (Ok prepared) reason failed is answer = absurd (false_true failed)
-answer_by image (Err e) reason failed is answer = subst (λ (w : Why). AnswersBy image (came_by w)) (sym is) answer
+answer_by image (Err e) reason failed is answer = subst (λ (w : OpenError). AnswersBy image (came_by w)) (sym is) answer
 
 -- the disk didn't fail
-pub decided_at : (found : Found) (told : Option DiskState) (result : Result Prepared Why) (reason : Why) → IsErr result → IsErrAnd result (λ e. e ≡ reason)
+pub decided_at : (found : Found) (told : Option DiskState) (result : Result Prepared OpenError) (reason : OpenError) → IsErr result → IsErrAnd result (λ e. e ≡ reason)
     → DecidesSo found (Err reason) → IfErr result (IsFaultAt told)
 decided_at found told (Ok prepared) reason failed is used = absurd (false_true failed)
 decided_at found told (Err e) reason failed is used = subst (IsFaultAt told) (sym is) (by reason used)
   where
-    by : (w : Why) → DecidesSo found (Err w) → IsFaultAt told w
+    by : (w : OpenError) → DecidesSo found (Err w) → IsFaultAt told w
     by (why.Exhausted counter) used = tt
     by why.NoMemory used = tt
     by why.NotAStore used = tt

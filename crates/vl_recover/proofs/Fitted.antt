@@ -16,9 +16,9 @@ use Rattle.vl_layout.specs.Logs.{log_length}
 use Rattle.vl_manifest.specs.declared.state.ManifestState.{ManifestState}
 use Rattle.vl_model.specs.declared.log_frame.LogFrame.{LogFrame}
 use Rattle.vl_recover.specs.Answers.{Finds}
-use Rattle.vl_recover.specs.Fitting.{CanMake, CanMend, CanRemove, Fits}
-use Rattle.vl_recover.specs.Mending.{Cut, Headed, IsPlan, Kept, LastLog, NoLast, Plan, Rewritten, behind_last, behind_log, headed, last_of, mending_of, plan_of, with_last, with_log, with_manifest}
-use Rattle.vl_recover.specs.laws.MendingStart.{unread_free}
+use Rattle.vl_recover.specs.Fitting.{CanMake, CanRepair, CanRemove, Fits}
+use Rattle.vl_recover.specs.Repairing.{Cut, Headed, IsPlan, Kept, LastLog, NoLast, Plan, Rewritten, behind_last, behind_log, headed, last_of, repairing_of, plan_of, with_last, with_log, with_manifest}
+use Rattle.vl_recover.specs.laws.RepairingStart.{unread_free}
 use Rattle.vl_recover.specs.Opening.{IsNextLog, StandingLogs}
 use Rattle.vl_recover.specs.Plans.{log_behind, log_made, new_state}
 use Rattle.vl_recover.specs.Walk.{StandingLog, content_end}
@@ -107,7 +107,7 @@ module _ (read : Image) (start : DiskState) (is_read : IsRead read start) (manif
   read_file bytes None e = absurd (some_none bytes e)
   read_file bytes (Some file) e = (file, refl, some_same bytes file.bytes e)
 
-  one_can : (least : ℕ) (q : StandingLog) → IsNextLog read least q → CanMend (mending_of q) first
+  one_can : (least : ℕ) (q : StandingLog) → IsNextLog read least q → CanRepair (repairing_of q) first
   one_can least q next = by q.reading.header q.reading.whole (q.length == 0) refl
     where
       file_is : (file : File) × (get start.standing (Log q.number) ≡ Some file) × (next.bytes ≡ file.bytes)
@@ -131,13 +131,13 @@ module _ (read : Image) (start : DiskState) (is_read : IsRead read start) (manif
           ends false e = absurd (false_true e)
 
       by : (header whole empty : Bool) → q.reading.header ≡ header
-          → CanMend (if header then (if whole then Kept q.number else Cut q.number (content_end q.reading)) else (if empty then Headed q.number else Rewritten q.number)) first
+          → CanRepair (if header then (if whole then Kept q.number else Cut q.number (content_end q.reading)) else (if empty then Headed q.number else Rewritten q.number)) first
       by true true empty is = stands
       by true false empty is = (stands, inside is)
       by false whole true is = stands
       by false whole false is = stands
 
-  last_can : (least : ℕ) (logs : List StandingLog) → StandingLogs read least logs → CanMend (last_of logs) first
+  last_can : (least : ℕ) (logs : List StandingLog) → StandingLogs read least logs → CanRepair (last_of logs) first
   last_can least [] none = tt
   last_can least (q ∷ []) (next, rest) = one_can least q next
   last_can least (q ∷ p ∷ ps) (next, rest) = last_can (q.number + 1) (p ∷ ps) rest

@@ -1,4 +1,4 @@
--- While the last log is mended it stands at each moment as a file may stand on a disk that is opened.
+-- While the last log is repaired it stands at each moment as a file may stand on a disk that is opened.
 use Rattle.std.specs.Prelude.{◌≡◌, ℕ, ◌+◌, ◌≤◌, ◌<◌, ◌==◌, min, max, Bool, List, [], ◌∷◌, ◌++◌, length, take, drop, Some, if◌then◌else◌, false, true, refl}
 use Rattle.std.specs.FinMap.{get}
 use Rattle.std.specs.Option.{option_map}
@@ -16,7 +16,7 @@ use Rattle.vl_frame.specs.Runs.{StandsAt}
 use Rattle.vl_recover.specs.Alike.{Spells}
 use Rattle.vl_recover.specs.laws.HeldLaws.{settled_may_stand}
 use Rattle.vl_recover.specs.laws.LastLaws.{IsWithinHeader, LastStands, goes_past, loose_below, number_same, wrong_header}
-use Rattle.vl_recover.specs.Mending.{Cut, Headed, Kept, Rewritten, WhileHeading, WhileLast, headed, mending_of}
+use Rattle.vl_recover.specs.Repairing.{Cut, Headed, Kept, Rewritten, WhileHeading, WhileLast, headed, repairing_of}
 use Rattle.vl_recover.specs.laws.OneName.{elsewhere_then}
 use Rattle.vl_recover.specs.Starts.{MayStand}
 use Rattle.vl_recover.specs.laws.Torn.{ended_no_chance, same_handed, spelled_longer}
@@ -97,7 +97,7 @@ module _ (k : ℕ) (disk : DiskState) (file : File) (stands : get disk.standing 
           length-take taken (log_header k),
           length-log_header k,
         ));
-    headless = λ wrong. All-push (λ (piece : Piece). piece.place + length piece.bytes ≤ 16) file.due
+    headless = λ wrong. All-push (λ (piece : Piece). piece.place + length piece.bytes ≤ 16) file.unsynced
         (record { place = length file.bytes; bytes = log_header k }) within
         (omega (arith, ap length empty, length-log_header k));
   }
@@ -259,9 +259,9 @@ module _ (q : StandingLog) (disk : DiskState) (is : LastStands q disk) where
       (is.headless header) now w))
       during
 
-  -- At each moment of its mending it stands as it may.
-  pub as_mending : (now : DiskState) → WhileLast (mending_of q) disk now → StandsAs q.number disk now
-  as_mending now = by q.reading.header q.reading.whole (q.length == 0) refl refl refl
+  -- At each moment of its repairing it stands as it may.
+  pub as_repairing : (now : DiskState) → WhileLast (repairing_of q) disk now → StandsAs q.number disk now
+  as_repairing now = by q.reading.header q.reading.whole (q.length == 0) refl refl refl
     where
       nothing : (bytes : List ℕ) → length bytes ≡ 0 → bytes ≡ []
       nothing [] e = refl

@@ -6,10 +6,10 @@ mod Filling
 pub mod Fitted
 mod LastFiles
 mod Looking
-pub mod Mended
-mod MendingAgain
-mod MendingLaws
-mod MendingMayOpen
+pub mod Repaired
+mod RepairingAgain
+mod RepairingLaws
+mod RepairingMayOpen
 mod Naming
 pub mod Numbers
 mod ReadingLogs

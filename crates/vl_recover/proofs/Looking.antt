@@ -15,8 +15,8 @@ use Rattle.vl_disk.specs.declared.name.Name.TheVariants.{Log, Table, Manifest}
 use Rattle.vl_manifest.specs.Current.{IsCurrent, StandsReadable}
 use Rattle.vl_manifest.specs.Manifest.{IsNewer, IsReadable}
 use Rattle.vl_manifest.specs.declared.state.ManifestState.{ManifestState}
-use Rattle.vl_recover.specs.declared.fails.Why.{Why}
-use Rattle.vl_recover.specs.declared.fails.Why.TheVariants as why
+use Rattle.vl_recover.specs.declared.fails.OpenError.{OpenError}
+use Rattle.vl_recover.specs.declared.fails.OpenError.TheVariants as why
 use Rattle.vl_recover.specs.Leading.{AnswersStage, ArePassed, IsNewestDownTo, IsNewestWith, headed_by, heading_without}
 use Rattle.vl_recover.specs.Finding.{IsExcused}
 use Rattle.vl_recover.specs.Named.{AreGreatestIn, IsGreatestOf, IsManifestBelow}
@@ -45,7 +45,7 @@ given image disk names read lists name c =
 
 -- ---- which stage answers
 
-pub excused_stage : {A : Type 0} (stage : Result A Refusal → Type 0) (e : Why) → IsExcused e → AnswersStage stage (Err e)
+pub excused_stage : {A : Type 0} (stage : Result A Refusal → Type 0) (e : OpenError) → IsExcused e → AnswersStage stage (Err e)
 excused_stage stage why.NotAStore x = absurd x
 excused_stage stage (why.NewerFormat format) x = absurd x
 excused_stage stage (why.Damaged name place) x = absurd x
@@ -53,7 +53,7 @@ excused_stage stage (why.Exhausted counter) x = absurd x
 excused_stage stage why.NoMemory x = tt
 excused_stage stage (why.Disk name) x = tt
 
-pub says_current : (image : Image) (heading : Heading) → IsHeaded image heading → (result : Result ManifestState Why) → AnswersStage (Says heading) result → AnswersStage (Current image) result
+pub says_current : (image : Image) (heading : Heading) → IsHeaded image heading → (result : Result ManifestState OpenError) → AnswersStage (Says heading) result → AnswersStage (Current image) result
 says_current image heading is (Ok state) says = (heading, is, says)
 says_current image heading is (Err why.NotAStore) says = (heading, is, says)
 says_current image heading is (Err (why.NewerFormat format)) says = (heading, is, says)

@@ -9,7 +9,7 @@ use Rattle.vl_model.specs.declared.counter.Counter.TheVariants as counters
 use Rattle.vl_recover.specs.Deciding.{log_for, log_of, plan_for, state_for, step_for, used_up_for}
 use Rattle.vl_recover.specs.Finding.{AreFileNumbers, IsUpTo}
 use Rattle.vl_recover.specs.Fitting.{HasNumbers, IsBeside, IsLogBeside, IsNumberedLog}
-use Rattle.vl_recover.specs.Mending.{Cut, Headed, Kept, Plan, Rewritten}
+use Rattle.vl_recover.specs.Repairing.{Cut, Headed, Kept, Plan, Rewritten}
 use Rattle.vl_recover.specs.Plans.{passes}
 use Rattle.vl_recover.specs.declared.found.Found.{Found}
 use Rattle.vl_recover.specs.declared.found.LastLog.{LastLog}

@@ -1,4 +1,4 @@
--- What an opening gives, by what was prepared and how the mending went.
+-- What an opening gives, by what was prepared and how the repairing went.
 use Rattle.std.proofs.Common.{◌≡◌, ℕ, ◌+◌, ◌≤◌, List, [], ◌∷◌, length, map, ⊎_elim, refl, sym, ap, subst, ◌∙◌, arith}
 use Rattle.std.specs.Prelude.{Option, None, Some, Result, Ok, Err, IfErr}
 use Rattle.std.specs.Option.{ForSome, option_map}
@@ -24,11 +24,11 @@ use Rattle.vl_recover.specs.Answers.{Came, Faulted, NoRoom, Recovered, Refused, 
 use Rattle.vl_recover.specs.Deciding.{IsPrepared, opened_by}
 use Rattle.vl_recover.specs.Finding.{IsFaultAt}
 use Rattle.vl_recover.specs.Held.{HoldsStore}
-use Rattle.vl_recover.specs.Meanwhile.{FaultsAt, IsAsLong, IsFaultName, IsMeanwhile, IsMended, Mending, as_before, at_list, at_mended, at_mending, at_read}
-use Rattle.vl_recover.specs.Mending.{Plan, WhileMending, calls_of_plan, mended}
-use Rattle.vl_recover.proofs.MendingLaws.{plan_calls}
-use Rattle.vl_recover.proofs.MendingMayOpen.{mending_may_open}
-use Rattle.vl_recover.specs.laws.MendingOpens.{mended_holds, mending_opens}
+use Rattle.vl_recover.specs.Meanwhile.{FaultsAt, IsAsLong, IsFaultName, IsMeanwhile, IsRepaired, Repairing, as_before, at_list, at_repaired, at_repairing, at_read}
+use Rattle.vl_recover.specs.Repairing.{Plan, WhileRepairing, calls_of_plan, repaired}
+use Rattle.vl_recover.proofs.RepairingLaws.{plan_calls}
+use Rattle.vl_recover.proofs.RepairingMayOpen.{repairing_may_open}
+use Rattle.vl_recover.specs.laws.RepairingOpens.{repaired_holds, repairing_opens}
 use Rattle.vl_recover.specs.laws.OneName as one
 use Rattle.vl_recover.specs.Opening.{Opening}
 use Rattle.vl_recover.specs.PlanViews.{plan_view}
@@ -36,9 +36,9 @@ use Rattle.vl_recover.specs.Plans.{new_state}
 use Rattle.vl_recover.specs.laws.ReadImage.{read_image}
 use Rattle.vl_recover.specs.Results.{HasFailed, FailsWithoutFault, came_by, frozen_log}
 use Rattle.vl_recover.specs.Starts.{MayOpen}
-use Rattle.vl_recover.specs.Steps.{IsFailAt, MakesSome, Mends}
-use Rattle.vl_recover.specs.declared.fails.Why.{Why}
-use Rattle.vl_recover.specs.declared.fails.Why.TheVariants as why
+use Rattle.vl_recover.specs.Steps.{IsFailAt, MakesSome, Repairs}
+use Rattle.vl_recover.specs.declared.fails.OpenError.{OpenError}
+use Rattle.vl_recover.specs.declared.fails.OpenError.TheVariants as why
 use Rattle.vl_recover.specs.declared.prepared.Prepared.{Prepared}
 use Rattle.vl_recover.proofs.ActiveStands.{active_stands}
 use Rattle.vl_recover.specs.laws.OneFinding.{as_many, same_calls, same_logs_then, same_opening}
@@ -61,9 +61,9 @@ opened_same read prepared is =
     of : ℕ → ManifestState → ℕ → List HeldLog → ℕ → Opened
     of number state manifest frozen active = record { number = number; state = state; manifest = manifest; frozen = frozen; active = active }
 
--- the mending that was prepared
-abbrev pub mending_of : (read : Image) (prepared : Prepared) → IsPrepared read prepared → Mending read
-mending_of read prepared is = record { found = is.finds; unused = is.unused; plan = plan_view prepared.plan; is = is.plan }
+-- the repairing that was prepared
+abbrev pub repairing_of : (read : Image) (prepared : Prepared) → IsPrepared read prepared → Repairing read
+repairing_of read prepared is = record { found = is.finds; unused = is.unused; plan = plan_view prepared.plan; is = is.plan }
 
 -- a refusal is no failure
 pub refused_fine : (came : Came) → FailsWithoutFault came → HasFailed came → ⊥
@@ -74,7 +74,7 @@ refused_fine NoRoom refused failed = failed
 refused_fine (Faulted name) refused failed = refused
 
 -- where the disk failed while it was read
-pub read_faults : (read : Image) (told : Option DiskState) (state : DiskState) → told ≡ Some state → (why : Why) → IsFaultAt told why → FaultsAt read state (came_by why)
+pub read_faults : (read : Image) (told : Option DiskState) (state : DiskState) → told ≡ Some state → (why : OpenError) → IsFaultAt told why → FaultsAt read state (came_by why)
 read_faults read told state is why.NotAStore at = tt
 read_faults read told state is (why.NewerFormat format) at = tt
 read_faults read told state is (why.Damaged name place) at = tt
@@ -85,11 +85,11 @@ read_faults read told state is (why.Disk name) at = ⊎_elim
     (λ (listing : name ≡ Manifest 0). at_list listing)
     at
 
--- and while it was mended
-pub mended_faults : (read : Image) (state : DiskState) (prepared : Prepared) → IsPrepared read prepared → (result : Result ManifestLog IoFail) (name : Name)
+-- and while it was repaired
+pub repaired_faults : (read : Image) (state : DiskState) (prepared : Prepared) → IsPrepared read prepared → (result : Result ManifestLog IoFail) (name : Name)
     → result ≡ Err (Disk name) → IfErr result (IsFailAt (plan_view prepared.plan)) → IsFaultName read state name
-mended_faults read state prepared is result name failed at =
-    at_mended (mending_of read prepared is) (subst (λ (r : Result ManifestLog IoFail). IfErr r (IsFailAt (plan_view prepared.plan))) failed at)
+repaired_faults read state prepared is result name failed at =
+    at_repaired (repairing_of read prepared is) (subst (λ (r : Result ManifestLog IoFail). IfErr r (IsFailAt (plan_view prepared.plan))) failed at)
 
 -- nothing was changed
 module _ {D : Type 0} (g : Ghosts D) (only_now : (disk : D) (state other : DiskState) → g.told disk ≡ Some state → g.states_since disk (g.moment disk) other → other ≡ state)
@@ -112,75 +112,75 @@ module _ {D : Type 0} (g : Ghosts D) (only_now : (disk : D) (state other : DiskS
   pub unchanged_again : MayOpen state → (now : DiskState) → g.told mid ≡ Some now → MayOpen now
   unchanged_again may now ends = subst MayOpen (some_same state now (sym (no_change.told ∙ told) ∙ ends)) may
 
-  -- and then the store was mended
-  module _ (new : D) (prepared : Prepared) (result : Result ManifestLog IoFail) (mends : Mends g (plan_view prepared.plan) mid new result) where
+  -- and then the store was repaired
+  module _ (new : D) (prepared : Prepared) (result : Result ManifestLog IoFail) (repairs : Repairs g (plan_view prepared.plan) mid new result) where
     abbrev plan : Plan
     plan = plan_view prepared.plan
 
-    pub mended_tells : (now : DiskState) × (g.told new ≡ Some now)
-    mended_tells = mends.tells state (no_change.told ∙ told)
+    pub repaired_tells : (now : DiskState) × (g.told new ≡ Some now)
+    repaired_tells = repairs.tells state (no_change.told ∙ told)
 
-    so_throughout : (P : DiskState → Type 0) → P state → ((now : DiskState) → WhileMending plan state now → P now) → HoldsThroughout g old new P
-    so_throughout P here meanwhile = goes_by g P old mid new state (WhileMending plan) (no_change.told ∙ told) (still_so P here) mends.time meanwhile
+    so_throughout : (P : DiskState → Type 0) → P state → ((now : DiskState) → WhileRepairing plan state now → P now) → HoldsThroughout g old new P
+    so_throughout P here meanwhile = goes_by g P old mid new state (WhileRepairing plan) (no_change.told ∙ told) (still_so P here) repairs.time meanwhile
 
-    pub mended_meanwhile : (read : Image) → IsPrepared read prepared → HoldsThroughout g old new (IsMeanwhile read state)
-    mended_meanwhile read is = so_throughout (IsMeanwhile read state) (as_before refl)
-        (λ now during. at_mending (mending_of read prepared is) during)
+    pub repaired_meanwhile : (read : Image) → IsPrepared read prepared → HoldsThroughout g old new (IsMeanwhile read state)
+    repaired_meanwhile read is = so_throughout (IsMeanwhile read state) (as_before refl)
+        (λ now during. at_repairing (repairing_of read prepared is) during)
 
     module _ (lawful : (disk : D) (s : DiskState) → g.told disk ≡ Some s → IsLawful s) (may : MayOpen state)
         (ready : (read : Image) → IsRead read state → IsPrepared read prepared) where
-      pub mended_through : HoldsThroughout g old new (OpensAsOf state)
-      mended_through =
+      pub repaired_through : HoldsThroughout g old new (OpensAsOf state)
+      repaired_through =
           let (read, is_read) = read_image state in
           let is = ready read is_read in
           so_throughout (OpensAsOf state) (one.as_before state)
-          (λ now during. mending_opens state now is.finds plan (lawful old state told) may is_read is.unused is.plan during)
+          (λ now during. repairing_opens state now is.finds plan (lawful old state told) may is_read is.unused is.plan during)
 
       -- a store may be opened on it again
-      pub mended_again : ((disk : D) (s : DiskState) (t : ℕ) → g.told disk ≡ Some s → t ≤ g.moment disk → g.states_since disk t s)
+      pub repaired_again : ((disk : D) (s : DiskState) (t : ℕ) → g.told disk ≡ Some s → t ≤ g.moment disk → g.states_since disk t s)
           → (now : DiskState) → g.told new ≡ Some now → MayOpen now
-      mended_again counts_now now ends =
+      repaired_again counts_now now ends =
           let (read, is_read) = read_image state in
           let is = ready read is_read in
-          let all = mended_meanwhile read is in
+          let all = repaired_meanwhile read is in
           by (all.each now (counts_now new now (g.moment old) ends all.time.later)) read is_read
         where
           by : {read : Image} → IsMeanwhile read state now → (r : Image) → IsRead read state → MayOpen now
           by (as_before same) r is_read = subst MayOpen (sym same) may
-          by (at_mending m during) r is_read =
-              mending_may_open state now m.found m.plan (lawful old state told) may is_read m.unused m.is (lawful new now ends) during
+          by (at_repairing m during) r is_read =
+              repairing_may_open state now m.found m.plan (lawful old state told) may is_read m.unused m.is (lawful new now ends) during
 
   -- to the end
-  module _ (new : D) (prepared : Prepared) (x : ManifestLog) (mends : Mends g (plan_view prepared.plan) mid new (Ok x))
+  module _ (new : D) (prepared : Prepared) (x : ManifestLog) (repairs : Repairs g (plan_view prepared.plan) mid new (Ok x))
       (read : Image) (is_read : IsRead read state) (is : IsPrepared read prepared) (found : Finds read) where
     abbrev done : Plan
     done = plan_view prepared.plan
 
     pub store_held : IsLawful state → MayOpen state → (now : DiskState) → g.told new ≡ Some now → (given : ManifestState) → given ≡ prepared.state → HoldsStore given (logs_then found) now
     store_held lawful may now ends given same =
-        let now_is : mended done state ≡ now = some_same (mended done state) now (sym (mends.done ∙ ap (option_map (mended done)) (no_change.told ∙ told)) ∙ ends) in
+        let now_is : repaired done state ≡ now = some_same (repaired done state) now (sym (repairs.done ∙ ap (option_map (repaired done)) (no_change.told ∙ told)) ∙ ends) in
         subst (λ (s : ManifestState). HoldsStore s (logs_then found) now) (sym (same ∙ is.state))
         (subst (λ (logs : List Segment). HoldsStore (new_state is.finds.greatest is.finds.opening.state) logs now) (same_logs_then read is.finds found)
         (subst (λ (d : DiskState). HoldsStore (new_state is.finds.greatest is.finds.opening.state) (logs_then is.finds) d) now_is
-        (mended_holds state is.finds done lawful may is_read is.unused is.plan)))
+        (repaired_holds state is.finds done lawful may is_read is.unused is.plan)))
 
-    pub disk_mended : IsMended read state (g.told new)
-    disk_mended = record {
-      mending = mending_of read prepared is;
-      told = mends.done ∙ ap (option_map (mended done)) (no_change.told ∙ told);
+    pub disk_repaired : IsRepaired read state (g.told new)
+    disk_repaired = record {
+      repairing = repairing_of read prepared is;
+      told = repairs.done ∙ ap (option_map (repaired done)) (no_change.told ∙ told);
     }
 
     pub calls_counted : (strays : List Name) → AreStrayNames read found.opening.state.head strays → g.calls new ≡ after_calls (calls_to_open found (length strays)) (g.calls old)
     calls_counted strays are =
         let many : length done.strays ≡ length strays = as_many read found.opening.state.head done.strays strays
         (subst (λ (o : Opening). AreStrayNames read o.state.head done.strays) (same_opening read is.finds found) is.plan.strays) are in
-        mends.calls
+        repairs.calls
         ∙ ap (λ (n : ℕ). after_calls n (g.calls mid)) (plan_calls is.finds done is.plan ∙ ap (calls_to_open is.finds) many ∙ same_calls read is.finds found (length strays))
         ∙ ap (after_calls (calls_to_open found (length strays))) no_change.calls
 
   -- and where the disk failed or memory ran out
   module _ (new : D) (prepared : Prepared) (result : Result ManifestLog IoFail) (e : IoFail) (is_err : result ≡ Err e)
-      (mends : Mends g (plan_view prepared.plan) mid new result) (read : Image) (is_read : IsRead read state) (is : IsPrepared read prepared) (found : Finds read) where
+      (repairs : Repairs g (plan_view prepared.plan) mid new result) (read : Image) (is_read : IsRead read state) (is : IsPrepared read prepared) (found : Finds read) where
     pub calls_stopped : (strays : List Name) → AreStrayNames read found.opening.state.head strays
         → MakesSome (calls_to_open found (length strays)) (g.calls old) (g.calls new)
     calls_stopped strays are =
@@ -190,7 +190,7 @@ module _ {D : Type 0} (g : Ghosts D) (only_now : (disk : D) (state other : DiskS
         let counted : calls_of_plan plan ≡ calls_to_open found (length strays) =
         plan_calls is.finds plan is.plan ∙ ap (calls_to_open is.finds) many ∙ same_calls read is.finds found (length strays) in
         let stops : MakesSome (calls_of_plan plan) (g.calls mid) (g.calls new) =
-        (subst (λ (r : Result ManifestLog IoFail). Mends g plan mid new r) is_err mends).stops in (
+        (subst (λ (r : Result ManifestLog IoFail). Repairs g plan mid new r) is_err repairs).stops in (
           stops.0,
           subst (λ (n : ℕ). stops.0 ≤ n) counted stops.1,
           stops.2 ∙ ap (after_calls stops.0) no_change.calls,
@@ -210,21 +210,21 @@ as_long plan state given log end piece is same says =
 
 -- the log that takes commits stands
 pub active_stays : {D : Type 0} (g : Ghosts D) (old mid new : D) {failed : Type 0} → ChangesNothing g old mid failed → (prepared : Prepared) (x : ManifestLog)
-    → Mends g (plan_view prepared.plan) mid new (Ok x)
+    → Repairs g (plan_view prepared.plan) mid new (Ok x)
     → ((state : DiskState) (read : Image) → g.told old ≡ Some state → IsRead read state → IsPrepared read prepared)
     → (active : ℕ) → active ≡ prepared.active → ForSome (g.told new) (Stands (Log active))
-active_stays g old mid new no_change prepared x mends ready active same now ends = by (g.told old) refl
+active_stays g old mid new no_change prepared x repairs ready active same now ends = by (g.told old) refl
   where
     none_some : (d : DiskState) → None ≡ Some d → ⊥
     none_some d e = cc
 
     by : (told : Option DiskState) → g.told old ≡ told → Stands (Log active) now
-    by None told = absurd (none_some now (sym (mends.done ∙ ap (option_map (mended (plan_view prepared.plan))) (no_change.told ∙ told)) ∙ ends))
+    by None told = absurd (none_some now (sym (repairs.done ∙ ap (option_map (repaired (plan_view prepared.plan))) (no_change.told ∙ told)) ∙ ends))
     by (Some state) told =
         let (read, is_read) = read_image state in
         let is = ready state read told is_read in
-        let now_is : mended (plan_view prepared.plan) state ≡ now = some_same (mended (plan_view prepared.plan) state) now
-        (sym (mends.done ∙ ap (option_map (mended (plan_view prepared.plan))) (no_change.told ∙ told)) ∙ ends) in
+        let now_is : repaired (plan_view prepared.plan) state ≡ now = some_same (repaired (plan_view prepared.plan) state) now
+        (sym (repairs.done ∙ ap (option_map (repaired (plan_view prepared.plan))) (no_change.told ∙ told)) ∙ ends) in
         subst (Stands (Log active)) now_is
-        (subst (λ (k : ℕ). Stands (Log k) (mended (plan_view prepared.plan) state)) (sym (same ∙ is.active))
+        (subst (λ (k : ℕ). Stands (Log k) (repaired (plan_view prepared.plan) state)) (sym (same ∙ is.active))
         (active_stands is.finds state is_read (plan_view prepared.plan) is.plan))

@@ -13,7 +13,7 @@ use Rattle.vl_disk.specs.declared.name.Name.{Name}
 use Rattle.vl_disk.specs.declared.name.Name.TheVariants.{Log}
 use Rattle.vl_disk.specs.declared.watched.Watched.{Ghosts}
 use Rattle.vl_recover.specs.Fitting.{CanRemove}
-use Rattle.vl_recover.specs.Mending.{WhileStrays, behind_strays}
+use Rattle.vl_recover.specs.Repairing.{WhileStrays, behind_strays}
 use Rattle.vl_recover.specs.PlanViews.{at_file}
 use Rattle.vl_recover.specs.Steps.{RemovesAll}
 use Rattle.vl_recover.proofs.Stepping.{nothing_performed, performs_as, performs_stop, performs_then, remove_performs}

@@ -1,4 +1,4 @@
--- Steps of a mending: each call is one, and one behind another is one.
+-- Steps of a repairing: each call is one, and one behind another is one.
 use Rattle.std.proofs.Common.{◌≡◌, ◌⊎◌, ⊎_elim, inl, inr, ℕ, ◌+◌, List, length, refl, sym, ap, subst, ◌∙◌, arith}
 use Rattle.std.specs.Prelude.{zero, suc, true, false, Option, None, Some, Result, Ok, Err, IfErr, IsErr, IsErrAnd, OnErr, OnOk, ◌≤◌}
 use Rattle.std.specs.Option.{option_map}
@@ -13,10 +13,10 @@ use Rattle.vl_disk.specs.declared.failed.Failed.{Failed}
 use Rattle.vl_disk.specs.declared.name.Name.{Name}
 use Rattle.vl_disk.specs.declared.name.Name.TheVariants.{Log}
 use Rattle.vl_disk.specs.declared.watched.Watched.{Ghosts}
-use Rattle.vl_recover.specs.Mending.{LastLog, NoLast, WhileLast, WhileLog, behind_last, calls_to_mend}
+use Rattle.vl_recover.specs.Repairing.{LastLog, NoLast, WhileLast, WhileLog, behind_last, calls_to_repair}
 use Rattle.vl_recover.specs.PlanViews.{at_file}
 use Rattle.vl_seglog.specs.Frames.{log_header}
-use Rattle.vl_recover.specs.Steps.{GoesOnTelling, MakesLog, MakesSome, MendsLast, Performs}
+use Rattle.vl_recover.specs.Steps.{GoesOnTelling, MakesLog, MakesSome, RepairsLast, Performs}
 
 false_true : false ≡ true → ⊥
 false_true e = cc
@@ -237,16 +237,16 @@ module _ {D T U E F : Type 0} (g : Ghosts D) (after later : DiskState → DiskSt
 
 -- the last log's step, said of the step that it is
 pub last_at : {D A : Type 0} (g : Ghosts D) (old new : D) (last other : LastLog) (name : Name) (outcome : Result A Failed) (result : Result A Name)
-    → last ≡ other → result ≡ at_file name outcome → MendsLast g other old new outcome → MendsLast g last old new result
+    → last ≡ other → result ≡ at_file name outcome → RepairsLast g other old new outcome → RepairsLast g last old new result
 last_at {A = A} g old new last other name outcome result same is step =
-    subst (λ (l : LastLog). MendsLast g l old new result) (sym same)
-    (subst (λ (r : Result A Name). MendsLast g other old new r) (sym is)
-    (performs_at g (behind_last other) (WhileLast other) (calls_to_mend other) old new name outcome step))
+    subst (λ (l : LastLog). RepairsLast g l old new result) (sym same)
+    (subst (λ (r : Result A Name). RepairsLast g other old new r) (sym is)
+    (performs_at g (behind_last other) (WhileLast other) (calls_to_repair other) old new name outcome step))
 
 -- where there is no last log nothing is done
-pub last_none : {D T E : Type 0} (g : Ghosts D) (disk : D) (last : LastLog) (x : T) → last ≡ NoLast → MendsLast {E = E} g last disk disk (Ok x)
+pub last_none : {D T E : Type 0} (g : Ghosts D) (disk : D) (last : LastLog) (x : T) → last ≡ NoLast → RepairsLast {E = E} g last disk disk (Ok x)
 last_none {T = T} {E = E} g disk last x is =
-    subst (λ (l : LastLog). MendsLast {T = T} {E = E} g l disk disk (Ok x)) (sym is) (nothing_performed g disk disk x (WhileLast NoLast) refl)
+    subst (λ (l : LastLog). RepairsLast {T = T} {E = E} g l disk disk (Ok x)) (sym is) (nothing_performed g disk disk x (WhileLast NoLast) refl)
 
 -- and where no log is to be made
 pub log_none : {D T E : Type 0} (g : Ghosts D) (disk : D) (log : Option ℕ) (x : T) → log ≡ None → MakesLog {E = E} g log disk disk (Ok x)

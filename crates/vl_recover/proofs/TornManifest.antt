@@ -19,7 +19,7 @@ use Rattle.vl_manifest.specs.laws.ManifestLaws.{says_readable}
 use Rattle.vl_manifest.specs.declared.state.ManifestState.{ManifestState}
 use Rattle.vl_recover.specs.Alike.{OpensLike, SameState, Spells}
 use Rattle.vl_recover.specs.laws.AlikeLaws.{SameBut, lead_over, led_anew, like_lead, log_manifest, same_state, state_then}
-use Rattle.vl_recover.specs.laws.MendingSteps.{table_manifest}
+use Rattle.vl_recover.specs.laws.RepairingSteps.{table_manifest}
 use Rattle.vl_recover.specs.Opening.{Heading, Led, Opening, Opens, Refusal, Says}
 use Rattle.vl_recover.specs.laws.OpeningLaws.{one_heading, opened, single_says, some_none, some_same}
 use Rattle.vl_recover.specs.laws.StageLaws.{ok_same}

@@ -9,13 +9,13 @@ use Rattle.vl_manifest.specs.Manifest.{manifest_bytes}
 use Rattle.vl_manifest.specs.States.{opened_state, whole_edits}
 use Rattle.vl_manifest.specs.declared.state.ManifestState.{ManifestState}
 use Rattle.vl_recover.specs.Answers.{AnswersBy, Finds, Opened, held_log, used_up}
-use Rattle.vl_recover.specs.Mending.{Cut, Headed, IsPlan, Kept, NoLast, Plan, Rewritten}
-use Rattle.vl_recover.specs.Mending as mending
+use Rattle.vl_recover.specs.Repairing.{Cut, Headed, IsPlan, Kept, NoLast, Plan, Rewritten}
+use Rattle.vl_recover.specs.Repairing as repairing
 use Rattle.vl_recover.specs.PlanViews.{plan_view}
 use Rattle.vl_recover.specs.Plans.{active_log, new_state, passes}
 use Rattle.vl_recover.specs.Results.{came_by, frozen_log}
-use Rattle.vl_recover.specs.declared.fails.Why.{Why}
-use Rattle.vl_recover.specs.declared.fails.Why.TheVariants as why
+use Rattle.vl_recover.specs.declared.fails.OpenError.{OpenError}
+use Rattle.vl_recover.specs.declared.fails.OpenError.TheVariants as why
 use Rattle.vl_recover.specs.declared.found.Found.{Found}
 use Rattle.vl_recover.specs.declared.found.LastLog.{LastLog}
 use Rattle.vl_recover.specs.declared.prepared.Prepared.{Prepared}
@@ -26,7 +26,7 @@ log_of state None = Some (max state.head state.next_log)
 log_of state (Some last) = if last.has_frames then Some state.next_log else None
 
 -- what becomes of the last log
-abbrev pub step_for : Option LastLog → mending.LastLog
+abbrev pub step_for : Option LastLog → repairing.LastLog
 step_for None = NoLast
 step_for (Some last) =
     if last.header
@@ -76,7 +76,7 @@ pub record IsDecided (found : Found) (prepared : Prepared) : Type 0 where
   pub active : prepared.active ≡ active_by (log_for found) found.last
 
 -- it was decided, or a number is used up, or memory ran out
-abbrev pub DecidesSo : Found → Result Prepared Why → Type 0
+abbrev pub DecidesSo : Found → Result Prepared OpenError → Type 0
 DecidesSo found (Ok prepared) = IsDecided found prepared
 DecidesSo found (Err (why.Exhausted counter)) = used_up_for found ≡ Some counter
 DecidesSo found (Err why.NoMemory) = Unit {0}
@@ -87,7 +87,7 @@ DecidesSo found (Err (why.Disk name)) = ⊥
 
 -- ---- and by what reads give
 
--- all is ready for the mending of what an image has
+-- all is ready for the repairing of what an image has
 pub record IsPrepared (image : Image) (prepared : Prepared) : Type 0 where
   pub finds : Finds image
   pub unused : used_up finds ≡ None
@@ -108,6 +108,6 @@ opened_by prepared = record {
 }
 
 -- It is ready, or that is the answer.
-abbrev pub PreparesSo : Image → Result Prepared Why → Type 0
+abbrev pub PreparesSo : Image → Result Prepared OpenError → Type 0
 PreparesSo image (Ok prepared) = IsPrepared image prepared
 PreparesSo image (Err why) = AnswersBy image (came_by why)

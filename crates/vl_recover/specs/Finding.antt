@@ -1,4 +1,4 @@
--- What the reading half of an opening gives to the half that mends.
+-- What the reading half of an opening gives to the half that repairs.
 use Rattle.std.specs.Prelude.{◌≡◌, ◌⊎◌, ◌≤◌, ℕ, Bool, true, false, List, [], ◌∷◌, map, Option, None, Some, Result, Ok, Err}
 use Rattle.std.specs.Option.{ForSome, option_map}
 use Rattle.vl_disk.specs.Crash.{Image}
@@ -7,8 +7,8 @@ use Rattle.vl_disk.specs.DiskState.{DiskState}
 use Rattle.vl_disk.specs.declared.name.Name.TheVariants.{Manifest}
 use Rattle.vl_model.specs.Limits.{max_file_number}
 use Rattle.vl_model.specs.declared.log_frame.LogFrame.{LogFrame}
-use Rattle.vl_recover.specs.declared.fails.Why.{Why}
-use Rattle.vl_recover.specs.declared.fails.Why.TheVariants as why
+use Rattle.vl_recover.specs.declared.fails.OpenError.{OpenError}
+use Rattle.vl_recover.specs.declared.fails.OpenError.TheVariants as why
 use Rattle.vl_recover.specs.declared.found.Found.{Found}
 use Rattle.vl_recover.specs.declared.found.GreatestNumbers.{GreatestNumbers}
 use Rattle.vl_recover.specs.declared.found.LastLog.{LastLog}
@@ -64,17 +64,17 @@ pub record IsFound (image : Image) (found : Found) : Type 0 where
   pub strays : AreStrayNames image finds.opening.state.head found.strays.items
 
 -- It was found, or that is the answer.
-abbrev pub FindsSo : Image → Result Found Why → Type 0
+abbrev pub FindsSo : Image → Result Found OpenError → Type 0
 FindsSo image (Ok found) = IsFound image found
 FindsSo image (Err why) = AnswersBy image (came_by why)
 
 -- the disk failed
-abbrev pub IsFault : {A : Type 0} → Result A Why → Type 0
+abbrev pub IsFault : {A : Type 0} → Result A OpenError → Type 0
 IsFault (Ok a) = ⊥
 IsFault (Err why) = HasFailed (came_by why)
 
 -- memory ran out, or the disk failed
-abbrev pub IsExcused : Why → Type 0
+abbrev pub IsExcused : OpenError → Type 0
 IsExcused why.NotAStore = ⊥
 IsExcused (why.NewerFormat format) = ⊥
 IsExcused (why.Damaged name place) = ⊥
@@ -83,7 +83,7 @@ IsExcused why.NoMemory = Unit {0}
 IsExcused (why.Disk name) = Unit {0}
 
 -- where the disk failed while it was only read: at a file that stands, or at listing the files
-abbrev pub IsFaultAt : Option DiskState → Why → Type 0
+abbrev pub IsFaultAt : Option DiskState → OpenError → Type 0
 IsFaultAt told why.NotAStore = Unit {0}
 IsFaultAt told (why.NewerFormat format) = Unit {0}
 IsFaultAt told (why.Damaged name place) = Unit {0}

@@ -1,4 +1,4 @@
--- When a plan of mending fits a disk: what must stand and be free, and the room that its calls want.
+-- When a plan of repairing fits a disk: what must stand and be free, and the room that its calls want.
 use Rattle.std.specs.Prelude.{◌≡◌, ◌≢◌, ℕ, List, [], ◌∷◌, Option, None, Some, IsTrue, Contains}
 use Rattle.vl_disk.specs.Disk.{IsFree, IsInside, Stands}
 use Rattle.vl_disk.specs.DiskState.{DiskState, without}
@@ -6,17 +6,17 @@ use Rattle.vl_disk.specs.Name.{IsNumbered}
 use Rattle.vl_disk.specs.Spare.{CanAppend, IsReady, Spare}
 use Rattle.vl_disk.specs.declared.name.Name.{Name}
 use Rattle.vl_disk.specs.declared.name.Name.TheVariants.{Log, Manifest}
-use Rattle.vl_recover.specs.Mending.{Cut, Headed, Kept, LastLog, NoLast, Plan, Rewritten, behind_last, behind_log, with_manifest}
+use Rattle.vl_recover.specs.Repairing.{Cut, Headed, Kept, LastLog, NoLast, Plan, Rewritten, behind_last, behind_log, with_manifest}
 
 -- ---- what stands
 
 -- the last log stands, and is as long as it is to be at least
-abbrev pub CanMend : LastLog → DiskState → Type 0
-CanMend NoLast disk = Unit {0}
-CanMend (Kept log) disk = Stands (Log log) disk
-CanMend (Cut log len) disk = Stands (Log log) disk × IsInside (Log log) len disk
-CanMend (Rewritten log) disk = Stands (Log log) disk
-CanMend (Headed log) disk = Stands (Log log) disk
+abbrev pub CanRepair : LastLog → DiskState → Type 0
+CanRepair NoLast disk = Unit {0}
+CanRepair (Kept log) disk = Stands (Log log) disk
+CanRepair (Cut log len) disk = Stands (Log log) disk × IsInside (Log log) len disk
+CanRepair (Rewritten log) disk = Stands (Log log) disk
+CanRepair (Headed log) disk = Stands (Log log) disk
 
 -- the new log's name is free
 abbrev pub CanMake : Option ℕ → DiskState → Type 0
@@ -30,7 +30,7 @@ CanRemove (name ∷ names) disk = Stands name disk × CanRemove names (without n
 
 -- each stage of the plan behind the new manifest fits the disk that the ones before it leave
 pub record FitsBehind (plan : Plan) (disk : DiskState) : Type 0 where
-  pub last : CanMend plan.last disk
+  pub last : CanRepair plan.last disk
   pub log : CanMake plan.log (behind_last plan.last disk)
   pub strays : CanRemove plan.strays (behind_log plan.log (behind_last plan.last disk))
 
@@ -65,19 +65,19 @@ pub record HasNumbers (plan : Plan) : Type 0 where
 
 -- ---- room, so that no call behind the new manifest's wants memory
 
-abbrev pub HasRoomToMend : LastLog → (Name → Spare) → Type 0
-HasRoomToMend NoLast spare = Unit {0}
-HasRoomToMend (Kept log) spare = Unit {0}
-HasRoomToMend (Cut log len) spare = IsTrue (spare (Log log)).change
-HasRoomToMend (Rewritten log) spare = IsReady 16 (spare (Log log))
-HasRoomToMend (Headed log) spare = CanAppend 16 (spare (Log log))
+abbrev pub HasRoomToRepair : LastLog → (Name → Spare) → Type 0
+HasRoomToRepair NoLast spare = Unit {0}
+HasRoomToRepair (Kept log) spare = Unit {0}
+HasRoomToRepair (Cut log len) spare = IsTrue (spare (Log log)).change
+HasRoomToRepair (Rewritten log) spare = IsReady 16 (spare (Log log))
+HasRoomToRepair (Headed log) spare = CanAppend 16 (spare (Log log))
 
 abbrev pub HasRoomToMake : Option ℕ → (Name → Spare) → Type 0
 HasRoomToMake None spare = Unit {0}
 HasRoomToMake (Some log) spare = IsReady 16 (spare (Log log))
 
 pub record HasRoomFor (plan : Plan) (spare : Name → Spare) : Type 0 where
-  pub last : HasRoomToMend plan.last spare
+  pub last : HasRoomToRepair plan.last spare
   pub log : HasRoomToMake plan.log spare
 
 -- the room of all files but the last log is as it was

@@ -3,13 +3,13 @@ use Rattle.std.specs.Prelude.{◌≡◌, ℕ, ◌<◌, ◌≤◌, ◌==◌, ◌&
 use Rattle.vl_disk.specs.Crash.{Image}
 use Rattle.vl_manifest.specs.Current.{StandsNewer, StandsReadable}
 use Rattle.vl_manifest.specs.Manifest.{IsNewer}
-use Rattle.vl_recover.specs.declared.fails.Why.{Why}
-use Rattle.vl_recover.specs.declared.fails.Why.TheVariants as why
+use Rattle.vl_recover.specs.declared.fails.OpenError.{OpenError}
+use Rattle.vl_recover.specs.declared.fails.OpenError.TheVariants as why
 use Rattle.vl_recover.specs.Opening.{Bare, Damaged, Heading, Headless, NewerFormat, Newest, NotAStore, Refusal}
 use Rattle.vl_recover.specs.Plans.{Greatest}
 
 -- It is what a stage gives; for want of memory, and where the disk fails, it may give up.
-abbrev pub AnswersStage : {A : Type 0} → (Result A Refusal → Type 0) → Result A Why → Type 0
+abbrev pub AnswersStage : {A : Type 0} → (Result A Refusal → Type 0) → Result A OpenError → Type 0
 AnswersStage stage (Ok a) = stage (Ok a)
 AnswersStage stage (Err why.NotAStore) = stage (Err NotAStore)
 AnswersStage stage (Err (why.NewerFormat format)) = stage (Err (NewerFormat format))

@@ -9,7 +9,7 @@ pub mod laws
 pub mod Leading
 pub mod LogsSoFar
 pub mod Meanwhile
-pub mod Mending
+pub mod Repairing
 pub mod Named
 pub mod Opening
 pub mod Plans

@@ -1,12 +1,12 @@
--- The plan of a mending as its definitions see it.
+-- The plan of a repairing as its definitions see it.
 use Rattle.std.specs.Prelude.{[], ◌∷◌, Result, Ok, Err}
 use Rattle.vl_disk.specs.declared.failed.Failed.{Failed}
 use Rattle.vl_disk.specs.declared.name.Name.{Name}
 use Rattle.vl_manifest.specs.Manifest.{manifest_bytes}
-use Rattle.vl_recover.specs.Mending.{Cut, Headed, Kept, LastLog, NoLast, Plan, Rewritten}
+use Rattle.vl_recover.specs.Repairing.{Cut, Headed, Kept, LastLog, NoLast, Plan, Rewritten}
 use Rattle.vl_recover.specs.declared.plan.LastStep.{LastStep}
 use Rattle.vl_recover.specs.declared.plan.LastStep.TheVariants as steps
-use Rattle.vl_recover.specs.declared.plan.MendingPlan.{MendingPlan}
+use Rattle.vl_recover.specs.declared.plan.RepairingPlan.{RepairingPlan}
 
 abbrev pub step_of : LastStep → LastLog
 step_of steps.Nothing = NoLast
@@ -15,7 +15,7 @@ step_of (steps.Cut number length) = Cut number length
 step_of (steps.Rewrite number) = Rewritten number
 step_of (steps.Head number) = Headed number
 
-abbrev pub plan_view : MendingPlan → Plan
+abbrev pub plan_view : RepairingPlan → Plan
 plan_view plan = record {
   manifest = plan.manifest;
   piece = manifest_bytes plan.manifest (plan.edits.items ∷ []);

@@ -1,8 +1,8 @@
 -- An opening's result as its contract sees it.
 use Rattle.std.specs.Prelude.{map, Result, Ok, Err}
 use Rattle.vl_recover.specs.declared.fails.OpenFail.{OpenFail}
-use Rattle.vl_recover.specs.declared.fails.Why.{Why}
-use Rattle.vl_recover.specs.declared.fails.Why.TheVariants as why
+use Rattle.vl_recover.specs.declared.fails.OpenError.{OpenError}
+use Rattle.vl_recover.specs.declared.fails.OpenError.TheVariants as why
 use Rattle.vl_recover.specs.declared.parts.FrozenLog.{FrozenLog}
 use Rattle.vl_recover.specs.declared.parts.Parts.{Parts}
 use Rattle.vl_recover.specs.Answers.{Came, Faulted, HeldLog, NoRoom, Opened, Recovered, Refused, UsedUp}
@@ -20,7 +20,7 @@ opened_of parts = record {
   active = parts.active.number;
 }
 
-abbrev pub came_by : Why → Came
+abbrev pub came_by : OpenError → Came
 came_by why.NotAStore = Refused NotAStore
 came_by (why.NewerFormat format) = Refused (NewerFormat format)
 came_by (why.Damaged name place) = Refused (Damaged name place)

@@ -22,8 +22,8 @@ pub record MayStand (name : Name) (file : File) : Type 0 where
   -- Where the header isn't wrong and the file isn't wholly synced: a frame that a read gives at the first place that may be torn
   -- was handed over there, and so was one right behind it, if any.
   pub no_chance : (HasWrongHeader name file → ⊥) → NoChanceOne Spells name (Some file) (Some file.bytes)
-  -- behind a wrong header no piece is due that goes past the header
-  pub headless : HasWrongHeader name file → All (λ piece. piece.place + length piece.bytes ≤ 16) file.due
+  -- behind a wrong header no piece is unsynced that goes past the header
+  pub headless : HasWrongHeader name file → All (λ piece. piece.place + length piece.bytes ≤ 16) file.unsynced
 
 -- so do all that stand
 abbrev pub AllMayStand : DiskState → Type 0

@@ -1,4 +1,4 @@
--- What a step of a mending does: some changing calls, one behind the other, of which one that fails is the last.
+-- What a step of a repairing does: some changing calls, one behind the other, of which one that fails is the last.
 use Rattle.std.specs.Prelude.{◌≡◌, ◌⊎◌, ℕ, ◌+◌, length, ◌≤◌, List, Option, Some, Result, Err, IfErr, IfOk, OnOk, OnErr, IsErr}
 use Rattle.vl_disk.specs.Calls.{ChangesNothing}
 use Rattle.vl_disk.specs.Disk.{IsChangedBy}
@@ -12,7 +12,7 @@ use Rattle.vl_manifest.specs.declared.fails.IoFail.{IoFail}
 use Rattle.vl_manifest.specs.declared.fails.IoFail.TheVariants.{Disk, NoMemory}
 use Rattle.vl_manifest.specs.declared.manifest_log.ManifestLog.{ManifestLog}
 use Rattle.vl_recover.specs.Fitting.{IsFileOf}
-use Rattle.vl_recover.specs.Mending.{LastLog, Plan, WhileLast, WhileLog, WhileMending, WhileStrays, behind_last, behind_log, behind_strays, calls_of_plan, calls_to_mend, mended}
+use Rattle.vl_recover.specs.Repairing.{LastLog, Plan, WhileLast, WhileLog, WhileRepairing, WhileStrays, behind_last, behind_log, behind_strays, calls_of_plan, calls_to_repair, repaired}
 use Rattle.vl_recover.specs.Plans.{calls_to_make}
 
 -- what tells goes on telling
@@ -37,10 +37,10 @@ pub record Performs {D T E : Type 0} (g : Ghosts D) (after : DiskState → DiskS
   pub time : Elapses g old new during
   pub cause : HasCause (g.faults old) (g.faults new) (IsErr result)
 
--- the last log is mended and made durable
-abbrev pub MendsLast : {D T E : Type 0} → Ghosts D → LastLog → D → D → Result T E → Type 0
-MendsLast g last old new result =
-    Performs g (behind_last last) (WhileLast last) (calls_to_mend last) old new result
+-- the last log is repaired and made durable
+abbrev pub RepairsLast : {D T E : Type 0} → Ghosts D → LastLog → D → D → Result T E → Type 0
+RepairsLast g last old new result =
+    Performs g (behind_last last) (WhileLast last) (calls_to_repair last) old new result
 
 -- the new log is made, where there is one
 abbrev pub MakesLog : {D T E : Type 0} → Ghosts D → Option ℕ → D → D → Result T E → Type 0
@@ -65,26 +65,26 @@ WhileBehind plan disk now =
     ⊎ WhileStrays plan.strays (behind_log plan.log (behind_last plan.last disk)) now)
 
 abbrev pub calls_behind : Plan → ℕ
-calls_behind plan = calls_to_mend plan.last + calls_to_make plan.log + length plan.strays
+calls_behind plan = calls_to_repair plan.last + calls_to_make plan.log + length plan.strays
 
-abbrev pub MendsBehind : {D T E : Type 0} → Ghosts D → Plan → D → D → Result T E → Type 0
-MendsBehind g plan old new result =
+abbrev pub RepairsBehind : {D T E : Type 0} → Ghosts D → Plan → D → D → Result T E → Type 0
+RepairsBehind g plan old new result =
     Performs g (behind_manifest plan) (WhileBehind plan) (calls_behind plan) old new result
 
 abbrev pub IsFailAt : Plan → IoFail → Type 0
 IsFailAt plan NoMemory = Unit {0}
 IsFailAt plan (Disk name) = IsFileOf plan name
 
--- A store is mended by a plan.
-pub record Mends {D : Type 0} (g : Ghosts D) (plan : Plan) (old new : D)
+-- A store is repaired by a plan.
+pub record Repairs {D : Type 0} (g : Ghosts D) (plan : Plan) (old new : D)
     (result : Result ManifestLog IoFail) : Type 0 where
   pub manifest : IfOk result (λ log. log ≡ record { number = plan.manifest; length = length plan.piece })
-  pub done : OnOk result (IsChangedBy (mended plan) (g.told old) (g.told new))
+  pub done : OnOk result (IsChangedBy (repaired plan) (g.told old) (g.told new))
   pub calls : OnOk result (g.calls new ≡ after_calls (calls_of_plan plan) (g.calls old))
   pub stops : OnErr result (MakesSome (calls_of_plan plan) (g.calls old) (g.calls new))
   -- where the disk failed, it was at a file of the plan; for want of memory it does nothing
   pub at : IfErr result (IsFailAt plan)
   pub no_room : result ≡ Err NoMemory → ChangesNothing g old new ⊥
   pub tells : GoesOnTelling (g.told old) (g.told new)
-  pub time : Elapses g old new (WhileMending plan)
+  pub time : Elapses g old new (WhileRepairing plan)
   pub cause : HasCause (g.faults old) (g.faults new) (HasFailed result)

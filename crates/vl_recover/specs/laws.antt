@@ -5,10 +5,10 @@ pub mod HeldLaws
 pub mod LastLaws
 pub mod LeadsLaws
 pub mod LogsLaws
-pub mod MendingOpens
-pub mod MendingStages
-pub mod MendingStart
-pub mod MendingSteps
+pub mod RepairingOpens
+pub mod RepairingStages
+pub mod RepairingStart
+pub mod RepairingSteps
 pub mod OneFinding
 pub mod OneName
 pub mod OpeningLaws

@@ -12,7 +12,7 @@ ghost use Rattle.vl_recover.specs.Leading.{AnswersStage, IsNewestWith, heading_w
 ghost use Rattle.vl_recover.specs.Named.{AreGreatestIn};
 ghost use Rattle.vl_recover.specs.Opening.{Current, Led, Says};
 
-use crate::Why;
+use crate::OpenError;
 use crate::found::GreatestNumbers;
 use crate::names::next_manifest;
 use crate::reading::read_whole;
@@ -27,7 +27,7 @@ pub fn current_state<D: Disk>(
     disk: &mut D,
     names: &[Name],
     greatest: GreatestNumbers,
-) -> Result<ManifestState, Why>
+) -> Result<ManifestState, OpenError>
     requires lists { ForSome (D.told disk.old) (Lists names.now) }
     requires numbered { All IsNumbered names.now }
     requires greatest { AreGreatestIn names.now (greatest_of greatest) }
@@ -50,14 +50,14 @@ pub fn current_state<D: Disk>(
 }
 
 // What the manifest with this number and these bytes says, which is the current one.
-fn read_state(alloc: Global, bytes: &[u8], number: u32) -> Result<ManifestState, Why>
+fn read_state(alloc: Global, bytes: &[u8], number: u32) -> Result<ManifestState, OpenError>
     ensures says { AnswersStage (Says (Led number bytes.now)) result }
     ensures no_fault { IsFault result → ⊥ }
 {
     match ManifestLog::read(alloc, bytes, number) {
         Ok(state) => Ok(state),
-        Err(StateFail::NoMemory) => Err(Why::NoMemory),
-        Err(StateFail::Damaged { place }) => Err(Why::Damaged {
+        Err(StateFail::NoMemory) => Err(OpenError::NoMemory),
+        Err(StateFail::Damaged { place }) => Err(OpenError::Damaged {
             name: Name::Manifest(number),
             place,
         }),
@@ -75,7 +75,10 @@ fn newest_with(newest: Option<u32>, bytes: &[u8], number: u32) -> Option<u32>
 }
 
 // Where no manifest is current, a disk without logs and tables is a store that has nothing yet.
-fn without_current(greatest: GreatestNumbers, newest: Option<u32>) -> Result<ManifestState, Why>
+fn without_current(
+    greatest: GreatestNumbers,
+    newest: Option<u32>,
+) -> Result<ManifestState, OpenError>
     ensures says { AnswersStage (Says (heading_without (greatest_of greatest) newest)) result }
     ensures no_fault { IsFault result → ⊥ }
 {
@@ -83,7 +86,7 @@ fn without_current(greatest: GreatestNumbers, newest: Option<u32>) -> Result<Man
         return Ok(ManifestState::fresh());
     }
     match newest {
-        Some(format) => Err(Why::NewerFormat(format)),
-        None => Err(Why::NotAStore),
+        Some(format) => Err(OpenError::NewerFormat(format)),
+        None => Err(OpenError::NotAStore),
     }
 }

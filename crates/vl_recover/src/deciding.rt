@@ -6,16 +6,16 @@ ghost use Rattle.vl_recover.specs.Finding.{AreFileNumbers};
 ghost use Rattle.vl_recover.specs.PlanViews.{step_of};
 ghost use Rattle.vl_recover.specs.Plans as plans;
 
-use crate::Why;
+use crate::OpenError;
 use crate::found::{Found, LastLog};
-use crate::plan::{LastStep, MendingPlan};
+use crate::plan::{LastStep, RepairingPlan};
 use crate::prepared::Prepared;
 use std::alloc::Global;
 use vl_manifest::ManifestState;
 use vl_model::{Counter, MAX_FILE_NUMBER};
 
-/// Decides how a store is mended and gone on with. A number that is used up is found before memory is asked for.
-pub(crate) fn decide(alloc: Global, found: Found) -> Result<Prepared, Why>
+/// Decides how a store is repaired and gone on with. A number that is used up is found before memory is asked for.
+pub(crate) fn decide(alloc: Global, found: Found) -> Result<Prepared, OpenError>
     requires { AreFileNumbers found.greatest }
     ensures { DecidesSo found result }
 {
@@ -30,17 +30,17 @@ pub(crate) fn decide(alloc: Global, found: Found) -> Result<Prepared, Why>
     let state = state.opened(greatest.log, greatest.table);
     let log = new_log(&state, last);
     if let Some(counter) = used_up(log, greatest.manifest) {
-        return Err(Why::Exhausted(counter));
+        return Err(OpenError::Exhausted(counter));
     }
     let manifest = greatest.manifest + 1;
     let Ok(edits) = state.whole_edits(alloc) else {
-        return Err(Why::NoMemory);
+        return Err(OpenError::NoMemory);
     };
     Ok(Prepared {
         number,
         state,
         frozen,
-        plan: MendingPlan {
+        plan: RepairingPlan {
             manifest,
             edits,
             last: last_step(last),

@@ -2,9 +2,9 @@ use std::alloc::AllocError;
 use vl_disk::Name;
 use vl_model::Counter;
 
-/// Why a store wasn't opened.
+/// OpenError a store wasn't opened.
 #[derive(Clone, Copy, Debug, PartialEq, Eq)]
-pub enum Why {
+pub enum OpenError {
     /// A log or a table stands, and no manifest that can be read, in a known format or a newer one.
     NotAStore,
     /// No manifest can be read, and the greatest one in a format that isn't known yet has this one.
@@ -19,20 +19,20 @@ pub enum Why {
     Disk { name: Name },
 }
 
-impl From<AllocError> for Why {
+impl From<AllocError> for OpenError {
     ghost use Rattle.std.specs.Prelude.{◌≡◌};
-    ghost use Rattle.vl_recover.specs.declared.fails.Why.TheVariants as why;
+    ghost use Rattle.vl_recover.specs.declared.fails.OpenError.TheVariants as why;
 
     ghost from_gives = { λ _ e. e ≡ why.NoMemory };
 
     fn from(_: AllocError) -> Self {
-        Why::NoMemory
+        OpenError::NoMemory
     }
 }
 
 /// A store that wasn't opened, and its disk.
 #[derive(Drop)]
 pub struct OpenFail<D> {
-    pub why: Why,
+    pub why: OpenError,
     pub disk: D,
 }

@@ -11,7 +11,7 @@ ghost use Rattle.vl_recover.specs.LogsSoFar.{AreLogsFound};
 ghost use Rattle.vl_recover.specs.Named.{AreGreatestIn};
 ghost use Rattle.vl_recover.specs.Opening.{Current};
 
-use crate::Why;
+use crate::OpenError;
 use crate::current::current_state;
 use crate::found::{Found, GreatestNumbers, LogsFound};
 use crate::logs::read_logs;
@@ -22,7 +22,7 @@ use vl_disk::{Disk, Name};
 use vl_manifest::ManifestState;
 
 /// Finds out what stands on a disk: reads its current manifest, and then its logs. It changes nothing.
-pub(crate) fn find<D: Disk>(alloc: Global, disk: &mut D) -> Result<Found, Why>
+pub(crate) fn find<D: Disk>(alloc: Global, disk: &mut D) -> Result<Found, OpenError>
     ensures answer { (state : DiskState) (read : Image) → D.told disk.old ≡ Some state → IsRead read state
         → FindsSo read result }
     ensures numbers { IfOk result (λ found. AreFileNumbers found.greatest) }
@@ -43,7 +43,7 @@ fn found(
     greatest: GreatestNumbers,
     state: ManifestState,
     logs: LogsFound,
-) -> Result<Found, Why>
+) -> Result<Found, OpenError>
     requires greatest { AreGreatestIn names.items (greatest_of greatest) }
     requires numbered { All IsNumbered names.items }
     requires last { IfSome logs.last (λ q. Contains names.items (kinds.Log q.number)) }
@@ -62,7 +62,7 @@ fn found(
             strays: strays(names, state.head),
             state,
         }),
-        Err(damage) => Err(Why::Damaged {
+        Err(damage) => Err(OpenError::Damaged {
             name: Name::Log(damage.log),
             place: damage.place,
         }),

@@ -1,24 +1,24 @@
-//! Mending the last log.
+//! Repairing the last log.
 
 ghost use Rattle.std.specs.Prelude.{◌≡◌, IfErr, IsTrue};
 ghost use Rattle.std.specs.Option.{ForSome};
 ghost use Rattle.vl_disk.specs.Disk.{IsInside, Stands};
 ghost use Rattle.vl_disk.specs.Spare.{CanAppend, IsReady, SameSpareElsewhere};
 ghost use Rattle.vl_disk.specs.declared.name.Name.TheVariants.{Log};
-ghost use Rattle.vl_recover.specs.Fitting.{CanMend, HasRoomToMend, IsLastFile, SameSpareBeside};
-ghost use Rattle.vl_recover.specs.Mending as mending;
+ghost use Rattle.vl_recover.specs.Fitting.{CanRepair, HasRoomToRepair, IsLastFile, SameSpareBeside};
+ghost use Rattle.vl_recover.specs.Repairing as repairing;
 ghost use Rattle.vl_recover.specs.PlanViews.{at_file, step_of};
-ghost use Rattle.vl_recover.specs.Steps.{MendsLast};
+ghost use Rattle.vl_recover.specs.Steps.{RepairsLast};
 
 use crate::plan::LastStep;
 use vl_disk::{Disk, Failed, Name};
 use vl_seglog::log_header;
 
-/// Mends the last log, and makes it durable. Where it fails the answer is the log's name.
-pub(crate) fn mend_last<D: Disk>(disk: &mut D, last: LastStep) -> Result<(), Name>
-    requires stands { ForSome (D.told disk.old) (CanMend (step_of last)) }
-    requires room { HasRoomToMend (step_of last) (D.spare disk.old) }
-    ensures mended { MendsLast D.Watched (step_of last) disk.old disk.new result }
+/// Repairs the last log, and makes it durable. Where it fails the answer is the log's name.
+pub(crate) fn repair_last<D: Disk>(disk: &mut D, last: LastStep) -> Result<(), Name>
+    requires stands { ForSome (D.told disk.old) (CanRepair (step_of last)) }
+    requires room { HasRoomToRepair (step_of last) (D.spare disk.old) }
+    ensures repaired { RepairsLast D.Watched (step_of last) disk.old disk.new result }
     ensures at { IfErr result (IsLastFile (step_of last)) }
     ensures spare { SameSpareBeside (step_of last) (D.spare disk.old) (D.spare disk.new) }
 {
@@ -36,7 +36,7 @@ fn cut<D: Disk>(disk: &mut D, number: u32, length: u64) -> Result<(), Failed>
     requires stands { ForSome (D.told disk.old) (Stands (Log number)) }
     requires inside { ForSome (D.told disk.old) (IsInside (Log number) length) }
     requires room { IsTrue (D.spare disk.old (Log number)).change }
-    ensures mended { MendsLast D.Watched (mending.Cut number length) disk.old disk.new result }
+    ensures repaired { RepairsLast D.Watched (repairing.Cut number length) disk.old disk.new result }
     ensures spare { SameSpareElsewhere (Log number) (D.spare disk.old) (D.spare disk.new) }
 {
     disk.cut(Name::Log(number), length)?;
@@ -47,7 +47,7 @@ fn cut<D: Disk>(disk: &mut D, number: u32, length: u64) -> Result<(), Failed>
 fn rewrite<D: Disk>(disk: &mut D, number: u32) -> Result<(), Failed>
     requires stands { ForSome (D.told disk.old) (Stands (Log number)) }
     requires room { IsReady 16 (D.spare disk.old (Log number)) }
-    ensures mended { MendsLast D.Watched (mending.Rewritten number) disk.old disk.new result }
+    ensures repaired { RepairsLast D.Watched (repairing.Rewritten number) disk.old disk.new result }
     ensures spare { SameSpareElsewhere (Log number) (D.spare disk.old) (D.spare disk.new) }
 {
     disk.cut(Name::Log(number), 0)?;
@@ -58,7 +58,7 @@ fn rewrite<D: Disk>(disk: &mut D, number: u32) -> Result<(), Failed>
 fn head<D: Disk>(disk: &mut D, number: u32) -> Result<(), Failed>
     requires stands { ForSome (D.told disk.old) (Stands (Log number)) }
     requires room { CanAppend 16 (D.spare disk.old (Log number)) }
-    ensures mended { MendsLast D.Watched (mending.Headed number) disk.old disk.new result }
+    ensures repaired { RepairsLast D.Watched (repairing.Headed number) disk.old disk.new result }
     ensures spare { SameSpareElsewhere (Log number) (D.spare disk.old) (D.spare disk.new) }
 {
     disk.append(Name::Log(number), &log_header(number))?;

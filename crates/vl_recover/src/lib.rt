@@ -1,5 +1,5 @@
-//! Opens a store: reads what stands on a disk, refuses what is no store or is damaged, and else mends it, so that it
-//! can be gone on with. docs/FORMATS.md tells what is opened, refused and mended.
+//! Opens a store: reads what stands on a disk, refuses what is no store or is damaged, and else repairs it, so that it
+//! can be gone on with. docs/FORMATS.md tells what is opened, refused and repaired.
 //!
 //! Each file is read once. Beside the entries the bytes of one file at a time are in memory.
 #![tactic(auto)]
@@ -15,7 +15,6 @@ mod frame_length;
 mod last;
 mod logs;
 mod memtables;
-mod mending;
 mod names;
 mod parts;
 mod plan;
@@ -23,7 +22,8 @@ mod prepared;
 mod preparing;
 mod reading;
 mod recovering;
+mod repairing;
 
-pub use fails::{OpenFail, Why};
+pub use fails::{OpenError, OpenFail};
 pub use parts::{FrozenLog, Parts};
 pub use recovering::recover;

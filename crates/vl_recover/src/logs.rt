@@ -21,7 +21,7 @@ use crate::found::{DamagePlace, LastLog, LogsFound};
 use crate::memtables::memtable_of;
 use crate::names::next_log;
 use crate::reading::read_whole;
-use crate::{FrozenLog, Why};
+use crate::{FrozenLog, OpenError};
 use std::alloc::{AllocError, Global};
 use vl_disk::{Disk, Name};
 use vl_seglog::{LogRead, read_log};
@@ -34,7 +34,7 @@ pub fn read_logs<D: Disk>(
     names: &[Name],
     head: u32,
     covered: u64,
-) -> Result<LogsFound, Why>
+) -> Result<LogsFound, OpenError>
     requires lists { ForSome (D.told disk.old) (Lists names.now) }
     requires numbered { All IsNumbered names.now }
     ensures reads { (state : DiskState) (read : Image) → D.told disk.old ≡ Some state → IsRead read state
@@ -65,7 +65,7 @@ fn with_next<D: Disk>(
     so_far: LogsFound,
     number: u32,
     followed: bool,
-) -> Result<LogsFound, Why>
+) -> Result<LogsFound, OpenError>
     requires { ForSome (D.told disk.old) (Stands (kinds.Log number)) }
     ensures reads { (state : DiskState) (read : Image) → D.told disk.old ≡ Some state → IsRead read state
         → IfOk result (FindsOneMore read number followed so_far) }

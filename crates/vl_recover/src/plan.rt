@@ -16,9 +16,9 @@ pub(crate) enum LastStep {
     Head(u32),
 }
 
-/// How an opening mends a store.
+/// How an opening repairs a store.
 #[derive(Drop)]
-pub(crate) struct MendingPlan {
+pub(crate) struct RepairingPlan {
     /// The number of the new manifest.
     pub manifest: u32,
     /// What its first frame says.

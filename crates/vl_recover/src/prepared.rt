@@ -1,5 +1,5 @@
 use crate::FrozenLog;
-use crate::plan::MendingPlan;
+use crate::plan::RepairingPlan;
 use vl_manifest::ManifestState;
 
 /// What an opening is about to do, and what it gives then.
@@ -11,7 +11,7 @@ pub(crate) struct Prepared {
     pub state: ManifestState,
     /// The logs with frames, their numbers rising.
     pub frozen: Vec<FrozenLog>,
-    pub plan: MendingPlan,
+    pub plan: RepairingPlan,
     /// The log that takes commits then.
     pub active: u32,
 }

@@ -9,21 +9,21 @@ ghost use Rattle.vl_disk.specs.Started.{IsRead};
 ghost use Rattle.vl_manifest.specs.States.{whole_edits};
 ghost use Rattle.vl_recover.specs.Deciding.{PreparesSo};
 ghost use Rattle.vl_recover.specs.Finding.{IsFault, IsFaultAt};
-ghost use Rattle.vl_recover.specs.Fitting.{Fits, HasNumbers, HasRoomFor, HasRoomToMake, HasRoomToMend, SameSpareBeside, SameSpareBesideLog};
+ghost use Rattle.vl_recover.specs.Fitting.{Fits, HasNumbers, HasRoomFor, HasRoomToMake, HasRoomToRepair, SameSpareBeside, SameSpareBesideLog};
 ghost use Rattle.vl_recover.specs.PlanViews.{plan_view, step_of};
 
-use crate::Why;
+use crate::OpenError;
 use crate::deciding::decide;
 use crate::finding::find;
-use crate::plan::{LastStep, MendingPlan};
+use crate::plan::{LastStep, RepairingPlan};
 use crate::prepared::Prepared;
 use std::alloc::Global;
 use vl_disk::{Disk, Name, NoMemory};
 use vl_seglog::LOG_HEADER_BYTES;
 
-/// Finds out what stands on a disk, decides how it is mended, and takes all memory that mending wants behind the new
+/// Finds out what stands on a disk, decides how it is repaired, and takes all memory that repairing wants behind the new
 /// manifest. It changes nothing.
-pub(crate) fn prepare<D: Disk>(alloc: Global, disk: &mut D) -> Result<Prepared, Why>
+pub(crate) fn prepare<D: Disk>(alloc: Global, disk: &mut D) -> Result<Prepared, OpenError>
     ensures answer { (state : DiskState) (read : Image) → D.told disk.old ≡ Some state → IsRead read state
         → PreparesSo read result }
     ensures fits { IfOk result (λ prepared. ForSome (D.told disk.new) (Fits (plan_view prepared.plan))) }
@@ -36,13 +36,13 @@ pub(crate) fn prepare<D: Disk>(alloc: Global, disk: &mut D) -> Result<Prepared, 
     let found = find(alloc, disk)?;
     let prepared = decide(alloc, found)?;
     if take_room(disk, &prepared.plan).is_err() {
-        return Err(Why::NoMemory);
+        return Err(OpenError::NoMemory);
     }
     Ok(prepared)
 }
 
 // Makes room on the disk for all calls of a plan behind the new manifest's.
-fn take_room<D: Disk>(disk: &mut D, plan: &MendingPlan) -> Result<(), NoMemory>
+fn take_room<D: Disk>(disk: &mut D, plan: &RepairingPlan) -> Result<(), NoMemory>
     requires { HasNumbers (plan_view plan.now) }
     ensures room { OnOk result (HasRoomFor (plan_view plan.now) (D.spare disk.new)) }
     ensures no_change { ChangesNothing D.Watched disk.old disk.new ⊥ }
@@ -52,7 +52,7 @@ fn take_room<D: Disk>(disk: &mut D, plan: &MendingPlan) -> Result<(), NoMemory>
 }
 
 fn ready_last<D: Disk>(disk: &mut D, last: LastStep) -> Result<(), NoMemory>
-    ensures room { OnOk result (HasRoomToMend (step_of last) (D.spare disk.new)) }
+    ensures room { OnOk result (HasRoomToRepair (step_of last) (D.spare disk.new)) }
     ensures elsewhere { SameSpareBeside (step_of last) (D.spare disk.old) (D.spare disk.new) }
     ensures no_change { ChangesNothing D.Watched disk.old disk.new ⊥ }
 {

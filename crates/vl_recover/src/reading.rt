@@ -7,7 +7,7 @@ ghost use Rattle.vl_disk.specs.DiskState.{file_at};
 ghost use Rattle.vl_disk.specs.Name.{IsNumbered};
 ghost use Rattle.vl_recover.specs.Finding.{IsExcused, IsFault, IsFaultAt};
 
-use crate::Why;
+use crate::OpenError;
 use std::alloc::Global;
 use vl_disk::{Disk, ListFail, Name, ReadFail, read_file};
 
@@ -15,7 +15,7 @@ use vl_disk::{Disk, ListFail, Name, ReadFail, read_file};
 const NO_FILE: Name = Name::Manifest(0);
 
 /// The names of the files that stand.
-pub fn list_names<D: Disk>(alloc: Global, disk: &mut D) -> Result<Vec<Name>, Why>
+pub fn list_names<D: Disk>(alloc: Global, disk: &mut D) -> Result<Vec<Name>, OpenError>
     ensures names { IfOk result (λ names. ForSome (D.told disk.old) (Lists names.items)) }
     ensures numbered { IfOk result (λ names. All IsNumbered names.items) }
     ensures excused { IfErr result IsExcused }
@@ -24,13 +24,13 @@ pub fn list_names<D: Disk>(alloc: Global, disk: &mut D) -> Result<Vec<Name>, Why
 {
     match disk.list(alloc) {
         Ok(names) => Ok(names),
-        Err(ListFail::NoMemory) => Err(Why::NoMemory),
-        Err(ListFail::Failed) => Err(Why::Disk { name: NO_FILE }),
+        Err(ListFail::NoMemory) => Err(OpenError::NoMemory),
+        Err(ListFail::Failed) => Err(OpenError::Disk { name: NO_FILE }),
     }
 }
 
 /// A whole file.
-pub fn read_whole<D: Disk>(alloc: Global, disk: &mut D, name: Name) -> Result<Vec<u8>, Why>
+pub fn read_whole<D: Disk>(alloc: Global, disk: &mut D, name: Name) -> Result<Vec<u8>, OpenError>
     requires { ForSome (D.told disk.old) (Stands name) }
     ensures bytes { IfOk result (λ bytes. ForSome (D.told disk.old)
         (λ state. bytes.items ≡ (file_at state name).bytes)) }
@@ -40,7 +40,7 @@ pub fn read_whole<D: Disk>(alloc: Global, disk: &mut D, name: Name) -> Result<Ve
 {
     match read_file(alloc, disk, name) {
         Ok(bytes) => Ok(bytes),
-        Err(ReadFail::NoMemory) => Err(Why::NoMemory),
-        Err(ReadFail::Failed) => Err(Why::Disk { name }),
+        Err(ReadFail::NoMemory) => Err(OpenError::NoMemory),
+        Err(ReadFail::Failed) => Err(OpenError::Disk { name }),
     }
 }

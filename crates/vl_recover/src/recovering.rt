@@ -13,15 +13,15 @@ ghost use Rattle.vl_recover.specs.Alike.{OpensAsOf};
 ghost use Rattle.vl_recover.specs.Answers.{AnswersBy, AreStrayNames, Finds, IsNotOpened, calls_to_open, logs_then};
 ghost use Rattle.vl_recover.specs.Deciding.{opened_by};
 ghost use Rattle.vl_recover.specs.Held.{HoldsStore};
-ghost use Rattle.vl_recover.specs.Meanwhile.{FaultsAt, IsAsLong, IsMeanwhile, IsMended};
+ghost use Rattle.vl_recover.specs.Meanwhile.{FaultsAt, IsAsLong, IsMeanwhile, IsRepaired};
 ghost use Rattle.vl_recover.specs.Results.{HasFailed, FailsWithoutFault, came, disk_of, opened_of};
 ghost use Rattle.vl_recover.specs.Starts.{MayOpen};
 ghost use Rattle.vl_recover.specs.Steps.{MakesSome};
 
-use crate::mending::mend;
 use crate::prepared::Prepared;
 use crate::preparing::prepare;
-use crate::{OpenFail, Parts, Why};
+use crate::repairing::repair;
+use crate::{OpenError, OpenFail, Parts};
 use std::alloc::Global;
 use vl_disk::Disk;
 use vl_manifest::{IoFail, ManifestLog};
@@ -42,9 +42,9 @@ pub fn recover<D: Disk>(alloc: Global, disk: D, room: u64) -> Result<Parts<D>, O
     ensures not_opened { (state : DiskState) (read : Image) → D.told disk ≡ Some state → IsRead read state → IsNotOpened read
         → (D.told (disk_of result) ≡ D.told disk) × (D.calls (disk_of result) ≡ D.calls disk) }
 
-    // Then the store was mended by a plan of what reads gave, and nothing else was done.
-    ensures mended { (state : DiskState) (read : Image) → D.told disk ≡ Some state → IsRead read state
-        → IfOk result (λ parts. IsMended read state (D.told parts.disk)) }
+    // Then the store was repaired by a plan of what reads gave, and nothing else was done.
+    ensures repaired { (state : DiskState) (read : Image) → D.told disk ≡ Some state → IsRead read state
+        → IfOk result (λ parts. IsRepaired read state (D.told parts.disk)) }
     ensures manifest { IfOk result (λ parts. IsAsLong parts.state parts.manifest) }
 
     // So the disk holds the store, all of it durable, after just so many changing calls.
@@ -56,7 +56,7 @@ pub fn recover<D: Disk>(alloc: Global, disk: D, room: u64) -> Result<Parts<D>, O
         → AreStrayNames read found.opening.state.head strays
         → IfOk result (λ parts. D.calls parts.disk ≡ after_calls (calls_to_open found (length strays)) (D.calls disk)) }
 
-    // Meanwhile the disk is as it was, or is being mended by such a plan, whatever is answered.
+    // Meanwhile the disk is as it was, or is being repaired by such a plan, whatever is answered.
     ensures meanwhile { (state : DiskState) (read : Image) → D.told disk ≡ Some state → IsRead read state
         → HoldsThroughout D.Watched disk (disk_of result) (IsMeanwhile read state) }
 
@@ -91,20 +91,20 @@ pub fn recover<D: Disk>(alloc: Global, disk: D, room: u64) -> Result<Parts<D>, O
         Ok(prepared) => prepared,
         Err(why) => return Err(OpenFail { why, disk }),
     };
-    match mend(alloc, &mut disk, &prepared.plan) {
+    match repair(alloc, &mut disk, &prepared.plan) {
         Ok(manifest) => Ok(opened(disk, room, manifest, prepared)),
         Err(IoFail::NoMemory) => Err(OpenFail {
-            why: Why::NoMemory,
+            why: OpenError::NoMemory,
             disk,
         }),
         Err(IoFail::Disk { name }) => Err(OpenFail {
-            why: Why::Disk { name },
+            why: OpenError::Disk { name },
             disk,
         }),
     }
 }
 
-// The store as it is opened, behind its mending.
+// The store as it is opened, behind its repairing.
 fn opened<D: Disk>(disk: D, room: u64, manifest: ManifestLog, prepared: Prepared) -> Parts<D>
     requires { manifest.number ≡ prepared.plan.manifest }
     ensures disk { result.disk ≡ disk }

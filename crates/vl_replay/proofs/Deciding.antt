@@ -42,15 +42,15 @@ open_named (Some held) name kept is =
       | false ↦ λ _ e. cc
     ] refl is
 
-pub open_in_use : (r : Store) (s : State) (name : List ℕ) (kept : Handle) → Represents r s → r.in_use ≡ Some (record { name = name; handle = kept }) → IsInUse s.history s.handles name kept
+pub open_in_use : (r : Store) (s : State) (name : List ℕ) (kept : Handle) → Represents r s → r.open_txn ≡ Some (record { name = name; handle = kept }) → IsInUse s.history s.handles name kept
 open_in_use r s name kept rep is =
-    held_in_use s.history s.handles (record { name = name; handle = kept }) name (subst (λ (o : Option Open). IsOpen s.history o s.handles) is rep.in_use) ((bytes_eq-Decides name name).1 refl)
+    held_in_use s.history s.handles (record { name = name; handle = kept }) name (subst (λ (o : Option Open). IsOpen s.history o s.handles) is rep.open_txn) ((bytes_eq-Decides name name).1 refl)
 
 -- ---- what is decided
 
-module _ (r : Store) (s : State) (name : List ℕ) (number : ℕ) (writes : Writes) (rep : Represents r s) (is : handle_named r.in_use name ≡ Some (Transaction number writes)) where
+module _ (r : Store) (s : State) (name : List ℕ) (number : ℕ) (writes : Writes) (rep : Represents r s) (is : handle_named r.open_txn name ≡ Some (Transaction number writes)) where
   holds : IsInUse s.history s.handles name (Transaction number writes)
-  holds = named s.history s.handles r.in_use name (Transaction number writes) rep.in_use is
+  holds = named s.history s.handles r.open_txn name (Transaction number writes) rep.open_txn is
 
   asked : committed s name (get s.handles name) ≡ committed s name (Some (OpenTransaction number holds.stands.1.0 writes))
   asked = ap (committed s name) (holds.found_is ∙ ap Some holds.stands.1.1)
@@ -79,10 +79,10 @@ module _ (r : Store) (s : State) (name : List ℕ) (number : ℕ) (writes : Writ
           → (written : Writes) × HasOpen r name written × (committed s name (get s.handles name) ≡ (Number (last_number s.history + 1), after_commit s name written))
       decides_write fits =
           let within : s.log.length + bytes_in_log writes ≤ max_room = omega (arith, room_is, fits) in
-          (writes, (number, open_named r.in_use name (Transaction number writes) is), numbered ∙ cond-true _ _ _ (le-leb _ _ within))
+          (writes, (number, open_named r.open_txn name (Transaction number writes) is), numbered ∙ cond-true _ _ _ (le-leb _ _ within))
 
-pub can_commit : (r : Store) (name : List ℕ) (number : ℕ) (writes : Writes) → handle_named r.in_use name ≡ Some (Transaction number writes) → (len writes == 0) ≡ false → r.last < max_commit_number → HasWritesToCommit r
-can_commit r name number writes is some left = (name, writes, (number, open_named r.in_use name (Transaction number writes) is), some, left)
+pub can_commit : (r : Store) (name : List ℕ) (number : ℕ) (writes : Writes) → handle_named r.open_txn name ≡ Some (Transaction number writes) → (len writes == 0) ≡ false → r.last < max_commit_number → HasWritesToCommit r
+can_commit r name number writes is some left = (name, writes, (number, open_named r.open_txn name (Transaction number writes) is), some, left)
 
 -- ---- the open transaction
 
@@ -93,10 +93,10 @@ no_open : (o : Open) → None ≡ Some o → ⊥
 no_open o e = cc
 
 -- it is what a transaction that can commit is
-pub open_is_some : (r : Store) → HasWritesToCommit r → r.in_use ≡ None → ⊥
+pub open_is_some : (r : Store) → HasWritesToCommit r → r.open_txn ≡ None → ⊥
 open_is_some r can none = no_open (record { name = can.0; handle = Transaction can.2.0 can.1 }) (sym none ∙ can.2.1)
 
-pub open_is : (r : Store) (name : List ℕ) (writes : Writes) (held : Open) → HasOpen r name writes → r.in_use ≡ Some held → (number : ℕ) × (held.handle ≡ Transaction number writes)
+pub open_is : (r : Store) (name : List ℕ) (writes : Writes) (held : Open) → HasOpen r name writes → r.open_txn ≡ Some held → (number : ℕ) × (held.handle ≡ Transaction number writes)
 open_is r name writes held (number, is) there = (number, sym (ap (λ (o : Open). o.handle) (same_held (record { name = name; handle = Transaction number writes }) held (sym is ∙ there))))
 
 pub same_writes : (m n : ℕ) (writes others : Writes) (kept : Handle) → kept ≡ Transaction m writes → kept ≡ Transaction n others → writes ≡ others
@@ -134,7 +134,7 @@ log_after r s name writes list staged log rep listed is number_is length_is =
 
 pub gives_commit : (r : Store) (s : State) (name : List ℕ) (writes : Writes) (log : ActiveLog) (memtable : Memtable) → Represents r s → HasOpen r name writes
     → log ≡ (after_commit s name writes).log → Takes r.memtable.entries.items memtable.entries.items writes (r.last + 1)
-    → IsOutcome (Number (r.last + 1)) (record { alloc = r.alloc; last = r.last + 1; log = log; frozen = r.frozen; memtable = memtable; in_use = None }) (Number (last_number s.history + 1), after_commit s name writes)
+    → IsOutcome (Number (r.last + 1)) (record { alloc = r.alloc; last = r.last + 1; log = log; frozen = r.frozen; memtable = memtable; open_txn = None }) (Number (last_number s.history + 1), after_commit s name writes)
 gives_commit r s name writes log memtable rep (number, is) log_is takes =
     let next : r.last + 1 ≡ last_number s.history + 1 = ap (λ n. n + 1) rep.last in
     record {
@@ -143,6 +143,6 @@ gives_commit r s name writes log memtable rep (number, is) log_is takes =
         last = next ∙ omega (arith, length-append s.history.commits (writes ∷ []));
         log = log_is;
         shows = shows_commit (opened_value r.frozen.items) r.memtable.entries.items memtable.entries.items s.history writes (r.last + 1) next rep.shows takes;
-        in_use = remove_in_use s.history s.handles name (Transaction number writes) (open_in_use r s name (Transaction number writes) rep is);
+        open_txn = remove_in_use s.history s.handles name (Transaction number writes) (open_in_use r s name (Transaction number writes) rep is);
       };
     }

@@ -10,7 +10,7 @@ use Rattle.vl_disk.specs.Name.{file_number}
 use Rattle.vl_disk.specs.laws.NameMap.{get_inserted_other, get_removed, get_removed_other, same_or_other}
 use Rattle.vl_disk.specs.declared.name.Name.{Name}
 use Rattle.vl_disk.specs.declared.name.Name.TheVariants.{Log, Manifest}
-use Rattle.vl_recover.specs.Mending.{Cut, Headed, Kept, LastLog, NoLast, Plan, Rewritten, behind_last, behind_log, behind_strays, headed, mended, with_last, with_log, with_manifest}
+use Rattle.vl_recover.specs.Repairing.{Cut, Headed, Kept, LastLog, NoLast, Plan, Rewritten, behind_last, behind_log, behind_strays, headed, repaired, with_last, with_log, with_manifest}
 use Rattle.vl_replay.specs.Stopped.{AreNumberedUpTo}
 
 module _ (n : ℕ) where
@@ -58,7 +58,7 @@ module _ (n : ℕ) where
       of None is some = numbered.removed name some
       of (Some file) is some = numbered.standing name (λ none. some_none file (sym is ∙ none))
 
-  -- ---- a store is mended
+  -- ---- a store is repaired
 
   abbrev pub IsLogUpTo : Option ℕ → Type 0
   IsLogUpTo None = Unit {0}
@@ -80,8 +80,8 @@ module _ (n : ℕ) where
   strays_numbered [] disk numbered = numbered
   strays_numbered (name ∷ names) disk numbered = strays_numbered names (without name disk) (without_numbered name disk numbered)
 
-  pub mended_numbered : (plan : Plan) (disk : DiskState) → plan.manifest ≤ n → IsLogUpTo plan.log → AreNumberedUpTo n disk → AreNumberedUpTo n (mended plan disk)
-  mended_numbered plan disk manifest log numbered =
+  pub repaired_numbered : (plan : Plan) (disk : DiskState) → plan.manifest ≤ n → IsLogUpTo plan.log → AreNumberedUpTo n disk → AreNumberedUpTo n (repaired plan disk)
+  repaired_numbered plan disk manifest log numbered =
       strays_numbered plan.strays (with_log plan disk)
       (log_numbered plan.log (with_last plan disk) log
       (last_numbered plan.last (with_manifest plan disk)

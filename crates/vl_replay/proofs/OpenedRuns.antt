@@ -4,8 +4,8 @@ use Rattle.vl_disk.specs.declared.watched.Watched.{Ghosts}
 use Rattle.vl_disk.specs.Faults.{Rose, HasCause}
 use Rattle.vl_io.specs.declared.sink.Sink as sink
 use Rattle.vl_io.specs.Sink.{Takes}
-use Rattle.vl_recover.specs.declared.fails.Why.{Why}
-use Rattle.vl_recover.specs.declared.fails.Why.TheVariants as why
+use Rattle.vl_recover.specs.declared.fails.OpenError.{OpenError}
+use Rattle.vl_recover.specs.declared.fails.OpenError.TheVariants as why
 use Rattle.vl_recover.specs.Starts.{MayOpen}
 use Rattle.vl_script.specs.Script.{lines_of}
 use Rattle.vl_replay.specs.Sequential.{State}
@@ -28,7 +28,7 @@ use Rattle.vl_replay.proofs.DiskSteps.{IsWatched, exchanges_extend, goes_wider, 
 -- ---- the store wasn't opened
 
 -- how such a run ends: by a refusal, by want of memory, or by the disk
-pub of_unopened : (P : Ending → Type 0) → ((refusal : Refusal) → P (Refused refusal)) → P NoMemory → P DiskFault → (how : Why) → P (ending_unopened how)
+pub of_unopened : (P : Ending → Type 0) → ((refusal : Refusal) → P (Refused refusal)) → P NoMemory → P DiskFault → (how : OpenError) → P (ending_unopened how)
 of_unopened P refused out fault why.NotAStore = refused refusals.NotAStore
 of_unopened P refused out fault (why.NewerFormat format) = refused (refusals.NewerFormat format)
 of_unopened P refused out fault (why.Damaged name place) = refused (refusals.Damaged name place)
@@ -37,7 +37,7 @@ of_unopened P refused out fault why.NoMemory = out
 of_unopened P refused out fault (why.Disk name) = fault
 
 -- what stops it: not a refusal, where the disk opens as a store
-unopened_stops : (by_source by_disk : Type 0) (script : Script) (left : Option (List ℕ)) (how : Why) → ((refusal : Refusal) → how ≡ why_refused refusal → ⊥) → (IsFault (Some how) → by_disk)
+unopened_stops : (by_source by_disk : Type 0) (script : Script) (left : Option (List ℕ)) (how : OpenError) → ((refusal : Refusal) → how ≡ why_refused refusal → ⊥) → (IsFault (Some how) → by_disk)
     → Stops (Evidence by_source by_disk) script left 0 (culprit_of (ending_unopened how))
 unopened_stops by_source by_disk script left why.NotAStore never fault = absurd (never refusals.NotAStore refl)
 unopened_stops by_source by_disk script left (why.NewerFormat format) never fault = absurd (never (refusals.NewerFormat format) refl)
@@ -47,10 +47,10 @@ unopened_stops by_source by_disk script left why.NoMemory never fault = tt
 unopened_stops by_source by_disk script left (why.Disk name) never fault = fault tt
 
 -- and its line is the same whatever line comes next
-same_line : (n : ℕ) (how : Why) → last_line n (ending_unopened how) ≡ last_line 0 (ending_unopened how)
+same_line : (n : ℕ) (how : OpenError) → last_line n (ending_unopened how) ≡ last_line 0 (ending_unopened how)
 same_line n how = of_unopened (λ (e : Ending). last_line n e ≡ last_line 0 e) (λ refusal. refl) refl refl how
 
-pub refused : {K : Type 0} (k : sink.Ghosts K) (old new : K) (by_source by_disk : Type 0) (script : Script) (left : Option (List ℕ)) (how : Why) (result : Ending) → ((refusal : Refusal) → how ≡ why_refused refusal → ⊥) → (IsFault (Some how) → by_disk)
+pub refused : {K : Type 0} (k : sink.Ghosts K) (old new : K) (by_source by_disk : Type 0) (script : Script) (left : Option (List ℕ)) (how : OpenError) (result : Ending) → ((refusal : Refusal) → how ≡ why_refused refusal → ⊥) → (IsFault (Some how) → by_disk)
     → FinishesBy k old new (ending_unopened how) result → EndsBefore (Evidence by_source by_disk) script left result (k.held old) (k.held new)
 refused k old new by_source by_disk script left how result never fault (line, own, finishes) =
     finished k old new (Evidence by_source by_disk) script left (ending_unopened how) result line (same_line (next_number script 0) how ∙ own)
@@ -60,20 +60,20 @@ refused k old new by_source by_disk script left how result never fault (line, ow
 abbrev pub AnswersNothing : Ending → Type 0
 AnswersNothing ending = (IsBetweenLines (culprit_of ending) → ⊥) × (CutsAnswer ending → ⊥)
 
-nothing_refused : (how : Why) → AnswersNothing (ending_unopened how)
+nothing_refused : (how : OpenError) → AnswersNothing (ending_unopened how)
 nothing_refused how = of_unopened AnswersNothing (λ refusal. (λ never. never, λ e. cc)) (λ never. never, λ e. cc) (λ never. never, λ e. cc) how
 
 nothing_cut : AnswersNothing WriteFault
 nothing_cut = (λ never. never, λ e. cc)
 
-pub refused_nothing : {K : Type 0} (k : sink.Ghosts K) (old new : K) (how : Why) (result : Ending) → FinishesBy k old new (ending_unopened how) result → AnswersNothing result
+pub refused_nothing : {K : Type 0} (k : sink.Ghosts K) (old new : K) (how : OpenError) (result : Ending) → FinishesBy k old new (ending_unopened how) result → AnswersNothing result
 refused_nothing k old new how result (line, own, finishes) = or_cut k old new line (ending_unopened how) result AnswersNothing finishes (nothing_refused how) nothing_cut
 
 -- where the run ended by want of memory, the disk didn't fail
-pub out_of_memory : {K : Type 0} (k : sink.Ghosts K) (old new : K) (how : Why) (result : Ending) → FinishesBy k old new (ending_unopened how) result → result ≡ NoMemory → IsFault (Some how) → ⊥
+pub out_of_memory : {K : Type 0} (k : sink.Ghosts K) (old new : K) (how : OpenError) (result : Ending) → FinishesBy k old new (ending_unopened how) result → result ≡ NoMemory → IsFault (Some how) → ⊥
 out_of_memory k old new how result (line, own, finishes) = or_cut k old new line (ending_unopened how) result (λ (e : Ending). e ≡ NoMemory → IsFault (Some how) → ⊥) finishes (of how) (λ e _. cc)
   where
-    of : (how : Why) → ending_unopened how ≡ NoMemory → IsFault (Some how) → ⊥
+    of : (how : OpenError) → ending_unopened how ≡ NoMemory → IsFault (Some how) → ⊥
     of why.NotAStore e is = is
     of (why.NewerFormat format) e is = is
     of (why.Damaged name place) e is = is
@@ -163,7 +163,7 @@ module _ {D : Type 0} (g : Ghosts D) (watched : IsWatched g) (holds : Holding) (
 some_culprit : (a b : Culprit) → Some a ≡ Some b → a ≡ b
 some_culprit a b e = cc
 
-module _ {K : Type 0} (k : sink.Ghosts K) (old new : K) (how : Why) (result : Ending) (finishes : FinishesBy k old new (ending_unopened how) result) where
+module _ {K : Type 0} (k : sink.Ghosts K) (old new : K) (how : OpenError) (result : Ending) (finishes : FinishesBy k old new (ending_unopened how) result) where
   of_result : (P : Ending → Type 0) → P (ending_unopened how) → P WriteFault → P result
   of_result P whole cut = or_cut k old new finishes.0 (ending_unopened how) result P finishes.2 whole cut
 
@@ -174,7 +174,7 @@ module _ {K : Type 0} (k : sink.Ghosts K) (old new : K) (how : Why) (result : En
       same : (a b : Refusal) → Refused a ≡ Refused b → a ≡ b
       same a b e = cc
 
-      of : (how : Why) → ending_unopened how ≡ Refused refusal → how ≡ why_refused refusal
+      of : (how : OpenError) → ending_unopened how ≡ Refused refusal → how ≡ why_refused refusal
       of why.NotAStore e = ap why_refused (same refusals.NotAStore refusal e)
       of (why.NewerFormat format) e = ap why_refused (same (refusals.NewerFormat format) refusal e)
       of (why.Damaged name place) e = ap why_refused (same (refusals.Damaged name place) refusal e)
@@ -217,7 +217,7 @@ module _ {K : Type 0} (k : sink.Ghosts K) (old new : K) (how : Why) (result : En
     steady = λ other whole. cause.steady (λ f. of_result (λ (e : Ending). IsFault (Some how) → Some (culprit_of e) ≢ Some TheDisk → Some e ≢ Some WriteFault → ⊥) (not_other how) (λ d o w. w refl) (was f) other whole);
   }
     where
-      by_disk : (how : Why) → culprit_of (ending_unopened how) ≡ TheDisk → IsFault (Some how)
+      by_disk : (how : OpenError) → culprit_of (ending_unopened how) ≡ TheDisk → IsFault (Some how)
       by_disk why.NotAStore e = cc
       by_disk (why.NewerFormat format) e = cc
       by_disk (why.Damaged name place) e = cc
@@ -225,7 +225,7 @@ module _ {K : Type 0} (k : sink.Ghosts K) (old new : K) (how : Why) (result : En
       by_disk why.NoMemory e = cc
       by_disk (why.Disk name) e = tt
 
-      not_other : (how : Why) → IsFault (Some how) → Some (culprit_of (ending_unopened how)) ≢ Some TheDisk → Some (ending_unopened how) ≢ Some WriteFault → ⊥
+      not_other : (how : OpenError) → IsFault (Some how) → Some (culprit_of (ending_unopened how)) ≢ Some TheDisk → Some (ending_unopened how) ≢ Some WriteFault → ⊥
       not_other why.NotAStore d o w = d
       not_other (why.NewerFormat format) d o w = d
       not_other (why.Damaged name place) d o w = d

@@ -32,10 +32,10 @@ use Rattle.vl_recover.specs.Alike.{IsLeft, OpensAsOf, Spells}
 use Rattle.vl_recover.specs.Answers.{AreStrayNames}
 use Rattle.vl_recover.specs.Held.{IsNowhere}
 use Rattle.vl_recover.specs.laws.HeldLaws.{left_nowhere, left_settled, started_may_open, started_settled}
-use Rattle.vl_recover.specs.Meanwhile.{IsMeanwhile, Mending, as_before, at_mending}
-use Rattle.vl_recover.specs.Mending.{NoLast, Plan, WhileMending, at_last, at_log, at_manifest, at_strays, plan_from}
-use Rattle.vl_recover.specs.laws.MendingOpens.{mending_opens}
-use Rattle.vl_recover.specs.laws.MendingSteps.{manifest_log}
+use Rattle.vl_recover.specs.Meanwhile.{IsMeanwhile, Repairing, as_before, at_repairing}
+use Rattle.vl_recover.specs.Repairing.{NoLast, Plan, WhileRepairing, at_last, at_log, at_manifest, at_strays, plan_from}
+use Rattle.vl_recover.specs.laws.RepairingOpens.{repairing_opens}
+use Rattle.vl_recover.specs.laws.RepairingSteps.{manifest_log}
 use Rattle.vl_recover.specs.laws.OneFinding.{same_greatest, same_logs, same_opening}
 use Rattle.vl_recover.specs.laws.OneName as one
 use Rattle.vl_recover.specs.laws.OneName.{IsLeftOne, IsPart, Making, left_one, part_empty, part_some}
@@ -92,16 +92,16 @@ none_stray head [] are = refl
 none_stray head (name ∷ strays) are = absurd (not_there name ((are.all name).0 (0, omega arith, refl)).0)
 
 -- and the plan is this one
-is_first_plan : (mending : Mending empty) → mending.plan ≡ first_plan
-is_first_plan mending =
-    let a = mending.found in
-    mending.is.is
-    ∙ ap (λ (g : Greatest). plan_from g a.opening.state a.logs mending.plan.strays) (same_greatest empty a finds_nothing)
-    ∙ ap (λ (o : Opening). plan_from finds_nothing.greatest o.state a.logs mending.plan.strays) (same_opening empty a finds_nothing)
-    ∙ ap (λ (logs : List StandingLog). plan_from finds_nothing.greatest finds_nothing.opening.state logs mending.plan.strays)
+is_first_plan : (repairing : Repairing empty) → repairing.plan ≡ first_plan
+is_first_plan repairing =
+    let a = repairing.found in
+    repairing.is.is
+    ∙ ap (λ (g : Greatest). plan_from g a.opening.state a.logs repairing.plan.strays) (same_greatest empty a finds_nothing)
+    ∙ ap (λ (o : Opening). plan_from finds_nothing.greatest o.state a.logs repairing.plan.strays) (same_opening empty a finds_nothing)
+    ∙ ap (λ (logs : List StandingLog). plan_from finds_nothing.greatest finds_nothing.opening.state logs repairing.plan.strays)
     (same_logs empty a finds_nothing)
     ∙ ap (λ (strays : List Name). plan_from finds_nothing.greatest finds_nothing.opening.state [] strays)
-    (none_stray a.opening.state.head mending.plan.strays mending.is.strays)
+    (none_stray a.opening.state.head repairing.plan.strays repairing.is.strays)
 
 -- ---- while a file is made on a disk that was just started
 
@@ -285,8 +285,8 @@ module _ (now : DiskState) (small : IsSmall now) (manifest : IsFirstManifest now
 -- whatever a crash leaves meanwhile opens as an empty image does
 first_opening : (now : DiskState) → IsMeanwhile empty empty_disk now → OpensAsOf empty_disk now
 first_opening now (as_before is) = subst (OpensAsOf empty_disk) (sym is) (one.as_before empty_disk)
-first_opening now (at_mending mending during) = mending_opens empty_disk now mending.found mending.plan empty_lawful
-    (started_may_open empty empty_disk started_empty) (started_read empty empty_disk started_empty) mending.unused mending.is during
+first_opening now (at_repairing repairing during) = repairing_opens empty_disk now repairing.found repairing.plan empty_lawful
+    (started_may_open empty empty_disk started_empty) (started_read empty empty_disk started_empty) repairing.unused repairing.is during
 
 -- what the disk is then
 record IsFirst (now : DiskState) : Type 0 where
@@ -299,7 +299,7 @@ empty_first = record {
   manifest = nowhere (record { free = get-empty name_cmp (Manifest 1); never = get-empty name_cmp (Manifest 1) });
 }
 
-while_first : (now : DiskState) → WhileMending first_plan empty_disk now → IsFirst now
+while_first : (now : DiskState) → WhileRepairing first_plan empty_disk now → IsFirst now
 while_first now (at_manifest during) = record {
   small = making_small empty empty_disk started_empty empty_small (Manifest 1) numbered (omega arith) piece now during;
   manifest = by (one.making (Manifest 1) piece empty_disk now during);
@@ -333,8 +333,8 @@ while_first now (at_strays during) = absurd during
 
 is_first : (now : DiskState) → IsMeanwhile empty empty_disk now → IsFirst now
 is_first now (as_before is) = subst IsFirst (sym is) empty_first
-is_first now (at_mending mending during) =
-    while_first now (subst (λ (p : Plan). WhileMending p empty_disk now) (is_first_plan mending) during)
+is_first now (at_repairing repairing during) =
+    while_first now (subst (λ (p : Plan). WhileRepairing p empty_disk now) (is_first_plan repairing) during)
 
 -- The image of a crash inside the first opening of an empty disk opens without commits.
 pub opening_reopens : (read : Image) → IsRead read empty_disk → (now : DiskState) → IsMeanwhile read empty_disk now

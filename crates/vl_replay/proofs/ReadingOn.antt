@@ -8,7 +8,7 @@ use Rattle.std.specs.List.{flat_map, AllByRecursion}
 use Rattle.std.specs.Prelude.{Option, Some, None, unwrap_or, nat_le}
 use Rattle.vl_io.specs.declared.sink.Sink as sink
 use Rattle.vl_io.specs.Sink.{Takes}
-use Rattle.vl_recover.specs.declared.fails.Why.{Why}
+use Rattle.vl_recover.specs.declared.fails.OpenError.{OpenError}
 use Rattle.vl_script.specs.Script.{lines_of, text_of, longest_line}
 use Rattle.vl_script.specs.declared.answer.Answer.{Answer}
 use Rattle.vl_replay.specs.Exchanges.{KeepsUp, ended_lines}
@@ -115,7 +115,7 @@ reads_nothing input old new ending (piece, taken) some good kept_up = record {
   kept_up = kept_up;
 }
 
-pub unopened_reads_nothing : {K : Type 0} (g : sink.Ghosts K) (old new : K) (how : Why) (result : Ending) → FinishesBy g old new (ending_unopened how) result → (input : List ℕ) (begin end : Streams) → (TakesSome (g.held old) (g.held new) → TakesSome begin.held end.held)
+pub unopened_reads_nothing : {K : Type 0} (g : sink.Ghosts K) (old new : K) (how : OpenError) (result : Ending) → FinishesBy g old new (ending_unopened how) result → (input : List ℕ) (begin end : Streams) → (TakesSome (g.held old) (g.held new) → TakesSome begin.held end.held)
     → KeepsUp input end.asked 0 → ReadsInput input begin end result
 unopened_reads_nothing g old new how result (line, own, finishes) input begin end seen kept_up =
     let incomplete = finished_incomplete g old new line (ending_unopened how) result

@@ -15,8 +15,8 @@ use Rattle.vl_model.specs.declared.log_frame.LogFrame.{LogFrame}
 use Rattle.vl_recover.specs.Answers.{Finds, HeldLog, IsNotOpened, Opened, and_made, as_segment, held_log, logs_then, opened_from}
 use Rattle.vl_recover.specs.Held.{HoldsStore}
 use Rattle.vl_recover.specs.laws.HeldLaws.{GoOn}
-use Rattle.vl_recover.specs.Meanwhile.{IsMended}
-use Rattle.vl_recover.specs.Mending.{Plan, mended, plan_from, plan_of}
+use Rattle.vl_recover.specs.Meanwhile.{IsRepaired}
+use Rattle.vl_recover.specs.Repairing.{Plan, repaired, plan_from, plan_of}
 use Rattle.vl_recover.specs.laws.OneFinding.{same_greatest, same_logs, same_opening}
 use Rattle.vl_recover.specs.Opening.{Opening}
 use Rattle.vl_recover.specs.Plans.{Greatest, active_log, active_of, last_number as last_log, log_behind, log_made, new_state}
@@ -34,7 +34,7 @@ use Rattle.vl_replay.specs.Stored.{IsStored, LogsShow, logs_entries, logs_of, no
 use Rattle.vl_replay.specs.declared.fails.Refusal.{Refusal}
 use Rattle.vl_replay.specs.declared.fails.Refusal.TheVariants.{NotAStore, NewerFormat, Damaged, Exhausted}
 use Rattle.vl_replay.proofs.LogsShown.{held-entries}
-use Rattle.vl_replay.proofs.Numbered.{IsLogUpTo, mended_numbered}
+use Rattle.vl_replay.proofs.Numbered.{IsLogUpTo, repaired_numbered}
 
 -- ---- what is kept
 
@@ -69,7 +69,7 @@ same_opened image a b =
       active = active_log g o.state logs;
     }
 
--- and so is the plan of its mending
+-- and so is the plan of its repairing
 same_plan : (image : Image) (a b : Finds image) (strays : List Name) → plan_of a strays ≡ plan_of b strays
 same_plan image a b strays =
     ap (λ (g : Greatest). plan_from g a.opening.state a.logs strays) (same_greatest image a b)
@@ -151,13 +151,13 @@ module _ {D : Type 0} (g : Ghosts D) (disk : D) (s : State) (starts : StartsIn g
   log_up_to None within = tt
   log_up_to (Some log) within = within
 
-  opened_numbered : (now : DiskState) → IsMended starts.read starts.state (Some now) → AreNumberedUpTo s.files now
-  opened_numbered now is_mended =
-      let mending = is_mended.mending in
-      let plan_is : mending.plan ≡ plan_of found mending.plan.strays = mending.is.is ∙ same_plan starts.read mending.found found mending.plan.strays in
-      let now_is : now ≡ mended mending.plan starts.state = same_state now (mended mending.plan starts.state) is_mended.told in
+  opened_numbered : (now : DiskState) → IsRepaired starts.read starts.state (Some now) → AreNumberedUpTo s.files now
+  opened_numbered now is_repaired =
+      let repairing = is_repaired.repairing in
+      let plan_is : repairing.plan ≡ plan_of found repairing.plan.strays = repairing.is.is ∙ same_plan starts.read repairing.found found repairing.plan.strays in
+      let now_is : now ≡ repaired repairing.plan starts.state = same_state now (repaired repairing.plan starts.state) is_repaired.told in
       subst (AreNumberedUpTo s.files) (sym now_is)
-      (mended_numbered s.files mending.plan starts.state
+      (repaired_numbered s.files repairing.plan starts.state
       (subst (λ (p : Plan). p.manifest ≤ s.files) (sym plan_is) starts.files.manifest)
       (subst (λ (p : Plan). IsLogUpTo s.files p.log) (sym plan_is) (log_up_to (log_made (new_state found.greatest found.opening.state) found.logs) starts.files.log))
       starts.files.numbered)
@@ -165,8 +165,8 @@ module _ {D : Type 0} (g : Ghosts D) (disk : D) (s : State) (starts : StartsIn g
       same_state : (a b : DiskState) → Some a ≡ Some b → a ≡ b
       same_state a b e = cc
 
-  pub opened_stored : (now : DiskState) → IsLawful now → IsMended starts.read starts.state (Some now) → HoldsStore parts.state (logs_then found) now → IsStored s now
-  opened_stored now lawful is_mended holds =
+  pub opened_stored : (now : DiskState) → IsLawful now → IsRepaired starts.read starts.state (Some now) → HoldsStore parts.state (logs_then found) now → IsStored s now
+  opened_stored now lawful is_repaired holds =
       let (frozen, last) = last_stands in
       record {
         manifest = parts.state;
@@ -180,7 +180,7 @@ module _ {D : Type 0} (g : Ghosts D) (disk : D) (s : State) (starts : StartsIn g
             (subst (LogsShow (logs_then found) s.history) last_is shows_then);
         length_is = ap (λ l. l.length) starts.log;
         lawful = lawful;
-        numbered = opened_numbered now is_mended;
+        numbered = opened_numbered now is_repaired;
         next = subst (GivesUpTo s.files) (sym parts_state) starts.files.next;
       }
 

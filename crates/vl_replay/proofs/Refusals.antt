@@ -10,8 +10,8 @@ use Rattle.vl_recover.specs.Opening.{Opens}
 use Rattle.vl_recover.specs.Opening as openings
 use Rattle.vl_recover.specs.laws.OpeningLaws.{single_opening}
 use Rattle.vl_replay.specs.Endings.{refusal_line}
-use Rattle.vl_recover.specs.declared.fails.Why.{Why}
-use Rattle.vl_recover.specs.declared.fails.Why.TheVariants as why
+use Rattle.vl_recover.specs.declared.fails.OpenError.{OpenError}
+use Rattle.vl_recover.specs.declared.fails.OpenError.TheVariants as why
 use Rattle.vl_replay.specs.Opening.{IsFault, IsRefused, AnswersOpening, why_refused}
 use Rattle.vl_replay.specs.Steps.{CameFirst, EndsFor, EndsUnopened, Finishes}
 use Rattle.vl_replay.specs.declared.ending.Ending.{Ending}
@@ -70,7 +70,7 @@ module _ (read : Image) where
   one_refusal (Exhausted c) (Exhausted d) (found, used) (other, used_too) = ap Exhausted (one_used c d found other used used_too)
 
   -- where reads give a refusal, an opening answers it, unless memory ran out or the disk failed before
-  pub refused_or_first : (refusal : Refusal) → IsRefused read refusal → (reason : Why) → AnswersOpening read (Some reason) → (reason ≡ why_refused refusal) ⊎ CameFirst reason
+  pub refused_or_first : (refusal : Refusal) → IsRefused read refusal → (reason : OpenError) → AnswersOpening read (Some reason) → (reason ≡ why_refused refusal) ⊎ CameFirst reason
   refused_or_first refusal is why.NotAStore by = inl (ap why_refused (one_refusal NotAStore refusal by is))
   refused_or_first refusal is (why.NewerFormat format) by = inl (ap why_refused (one_refusal (NewerFormat format) refusal by is))
   refused_or_first refusal is (why.Damaged name place) by = inl (ap why_refused (one_refusal (Damaged name place) refusal by is))
@@ -81,7 +81,7 @@ module _ (read : Image) where
 -- ---- what ends a run whose store wasn't opened
 
 -- a refusal is that of the opening
-pub refused_for : (reason how : Why) (refusal : Refusal) → EndsFor reason how → how ≡ why_refused refusal → reason ≡ why_refused refusal
+pub refused_for : (reason how : OpenError) (refusal : Refusal) → EndsFor reason how → how ≡ why_refused refusal → reason ≡ why_refused refusal
 refused_for reason how refusal for is = ⊎_elim
     (λ (same : how ≡ reason). sym same ∙ is)
     (λ (out : (how ≡ why.NoMemory) × ((other : Refusal) × (reason ≡ why_refused other))). absurd (not_memory refusal (sym out.0 ∙ is)))
@@ -101,22 +101,22 @@ no_fault (Damaged name place) fault = fault
 no_fault (Exhausted counter) fault = fault
 
 -- and a fault is that of the opening
-pub fault_for : (reason how : Why) → EndsFor reason how → IsFault (Some how) → IsFault (Some reason)
+pub fault_for : (reason how : OpenError) → EndsFor reason how → IsFault (Some how) → IsFault (Some reason)
 fault_for reason how for fault = ⊎_elim
-    (λ (same : how ≡ reason). subst (λ (w : Why). IsFault (Some w)) same fault)
-    (λ (out : (how ≡ why.NoMemory) × ((other : Refusal) × (reason ≡ why_refused other))). absurd (subst (λ (w : Why). IsFault (Some w)) out.0 fault))
+    (λ (same : how ≡ reason). subst (λ (w : OpenError). IsFault (Some w)) same fault)
+    (λ (out : (how ≡ why.NoMemory) × ((other : Refusal) × (reason ≡ why_refused other))). absurd (subst (λ (w : OpenError). IsFault (Some w)) out.0 fault))
     for
 
-pub fault_of : (reason how : Why) → EndsFor reason how → IsFault (Some reason) → IsFault (Some how)
+pub fault_of : (reason how : OpenError) → EndsFor reason how → IsFault (Some reason) → IsFault (Some how)
 fault_of reason how for fault = ⊎_elim
-    (λ (same : how ≡ reason). subst (λ (w : Why). IsFault (Some w)) (sym same) fault)
-    (λ (out : (how ≡ why.NoMemory) × ((other : Refusal) × (reason ≡ why_refused other))). absurd (no_fault out.1.0 (subst (λ (w : Why). IsFault (Some w)) out.1.1 fault)))
+    (λ (same : how ≡ reason). subst (λ (w : OpenError). IsFault (Some w)) (sym same) fault)
+    (λ (out : (how ≡ why.NoMemory) × ((other : Refusal) × (reason ≡ why_refused other))). absurd (no_fault out.1.0 (subst (λ (w : OpenError). IsFault (Some w)) out.1.1 fault)))
     for
 
 -- where the opening was refused, that or want of memory ends the run
-pub first_for : (reason how : Why) (refusal : Refusal) → EndsFor reason how → (reason ≡ why_refused refusal) ⊎ CameFirst reason → (how ≡ why_refused refusal) ⊎ CameFirst how
+pub first_for : (reason how : OpenError) (refusal : Refusal) → EndsFor reason how → (reason ≡ why_refused refusal) ⊎ CameFirst reason → (how ≡ why_refused refusal) ⊎ CameFirst how
 first_for reason how refusal for is = ⊎_elim
-    (λ (same : how ≡ reason). subst (λ (w : Why). (w ≡ why_refused refusal) ⊎ CameFirst w) (sym same) is)
+    (λ (same : how ≡ reason). subst (λ (w : OpenError). (w ≡ why_refused refusal) ⊎ CameFirst w) (sym same) is)
     (λ (out : (how ≡ why.NoMemory) × ((other : Refusal) × (reason ≡ why_refused other))). inr (subst CameFirst (sym out.0) tt))
     for
 

@@ -24,8 +24,8 @@ use Rattle.vl_recover.specs.Meanwhile.{IsMeanwhile}
 use Rattle.vl_recover.specs.Results.{HasFailed, came_by, opened_of}
 use Rattle.vl_recover.specs.Answers.{opened_from}
 use Rattle.vl_recover.specs.declared.fails.OpenFail.{OpenFail}
-use Rattle.vl_recover.specs.declared.fails.Why.{Why}
-use Rattle.vl_recover.specs.declared.fails.Why.TheVariants as why
+use Rattle.vl_recover.specs.declared.fails.OpenError.{OpenError}
+use Rattle.vl_recover.specs.declared.fails.OpenError.TheVariants as why
 use Rattle.vl_recover.specs.declared.parts.Parts.{Parts}
 use Rattle.vl_replay.specs.Durable.{HoldsState, Tells}
 use Rattle.vl_replay.specs.Endings.{no_memory_line}
@@ -104,7 +104,7 @@ module _ (stop : ℕ) (disk : MemDisk) (told : told_by disk ≡ Some empty_disk)
       not_refused : (refusal : Refusal) → IsRefused empty refusal → ⊥
       not_refused = opened_not_refused empty finds_nothing refl
 
-      of : (reason : Why) → HasCause (faults_of disk) (faults_of fail.disk) (IsFault (Some reason)) → AnswersBy empty (came_by reason)
+      of : (reason : OpenError) → HasCause (faults_of disk) (faults_of fail.disk) (IsFault (Some reason)) → AnswersBy empty (came_by reason)
           → StopsOpening stop reason fail.disk
       of why.NotAStore by answer = not_refused refusals.NotAStore answer
       of (why.NewerFormat format) by answer = not_refused (refusals.NewerFormat format) answer
@@ -130,7 +130,7 @@ never_failed old new P failed changes reads meanwhile cause fails =
     omega (arith, none, rose)
 
 -- what reads give of the disk before
-pub is_fault_too : (reason : Why) → IsFault (Some reason) → HasFailed (came_by reason)
+pub is_fault_too : (reason : OpenError) → IsFault (Some reason) → HasFailed (came_by reason)
 is_fault_too why.NotAStore by = absurd by
 is_fault_too (why.NewerFormat format) by = absurd by
 is_fault_too (why.Damaged name place) by = absurd by
@@ -164,14 +164,14 @@ module _ (image : Image) (h : History) (m : ℕ) (disk : MemDisk) (started : Sta
       ∙ ap (reopened_text m) (contents_again h m)
 
   -- where it isn't opened, memory ran out
-  pub only_memory : (reason : Why) → ((state : DiskState) (read : Image) → told_by disk ≡ Some state → IsRead read state → AnswersBy read (came_by reason))
+  pub only_memory : (reason : OpenError) → ((state : DiskState) (read : Image) → told_by disk ≡ Some state → IsRead read state → AnswersBy read (came_by reason))
       → (HasFailed (came_by reason) → ⊥) → reason ≡ why.NoMemory
   only_memory reason answers sound = of reason (answers (state_of disk) image refl (started_read image (state_of disk) started)) sound
     where
       not_refused : (refusal : Refusal) → IsRefused image refusal → ⊥
       not_refused = reopens_not_refused memory.ghosts disk image (state_of disk) h m refl started again image (started_read image (state_of disk) started)
 
-      of : (reason : Why) → AnswersBy image (came_by reason) → (HasFailed (came_by reason) → ⊥) → reason ≡ why.NoMemory
+      of : (reason : OpenError) → AnswersBy image (came_by reason) → (HasFailed (came_by reason) → ⊥) → reason ≡ why.NoMemory
       of why.NotAStore answer fine = absurd (not_refused refusals.NotAStore answer)
       of (why.NewerFormat format) answer fine = absurd (not_refused (refusals.NewerFormat format) answer)
       of (why.Damaged name place) answer fine = absurd (not_refused (refusals.Damaged name place) answer)
@@ -180,7 +180,7 @@ module _ (image : Image) (h : History) (m : ℕ) (disk : MemDisk) (started : Sta
       of (why.Disk name) answer fine = absurd (fine tt)
 
 -- the line of want of memory is put then
-module _ {K : Type 0} (k : sink.Ghosts K) (old new : K) (reason : Why) (result : Ending) (ends : EndsUnopened k old new reason result) where
+module _ {K : Type 0} (k : sink.Ghosts K) (old new : K) (reason : OpenError) (result : Ending) (ends : EndsUnopened k old new reason result) where
   pub memory_line : reason ≡ why.NoMemory → Finishes k old new no_memory_line NoMemory result
   memory_line is =
       let (how, for, by) = ends in
@@ -188,7 +188,7 @@ module _ {K : Type 0} (k : sink.Ghosts K) (old new : K) (reason : Why) (result :
       (λ (as_it : how ≡ reason). as_it ∙ is)
       (λ (out : (how ≡ why.NoMemory) × _). out.0)
       for in
-      let (line, line_is, finishes) = subst (λ (w : Why). FinishesBy k old new (ending_unopened w) result) same by in
+      let (line, line_is, finishes) = subst (λ (w : OpenError). FinishesBy k old new (ending_unopened w) result) same by in
       subst (λ (l : List ℕ). Finishes k old new l NoMemory result) (sym (some_list no_memory_line line line_is)) finishes
 
 -- ---- an empty disk that is made to stop

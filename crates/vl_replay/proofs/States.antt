@@ -73,14 +73,14 @@ pub record IsInUse (h : History) (handles : FinMap key_cmp sequential.Handle) (n
   pub found_is : get handles name ≡ Some handle
 
 pub held_in_use : (h : History) (handles : FinMap key_cmp sequential.Handle) (held : Open) (name : List ℕ) → IsOpen h (Some held) handles → bytes_eq name held.name ≡ true → IsInUse h handles name held.handle
-held_in_use h handles held name in_use same =
+held_in_use h handles held name open_txn same =
     let same_name : held.name ≡ name = sym ((bytes_eq-Decides name held.name).0 same) in
-    let alone : handles ≡ one name in_use.0 = in_use.2 ∙ ap (λ n. one n in_use.0) same_name in
-    record { handle = in_use.0; stands = in_use.1; alone = alone; found_is = ap (λ t. get t name) alone ∙ get-one_own name in_use.0 }
+    let alone : handles ≡ one name open_txn.0 = open_txn.2 ∙ ap (λ n. one n open_txn.0) same_name in
+    record { handle = open_txn.0; stands = open_txn.1; alone = alone; found_is = ap (λ t. get t name) alone ∙ get-one_own name open_txn.0 }
 
 pub other_in_use : (h : History) (handles : FinMap key_cmp sequential.Handle) (held : Open) (name : List ℕ) → IsOpen h (Some held) handles → bytes_eq name held.name ≡ false → get handles name ≡ None
-other_in_use h handles held name in_use other =
-    ap (λ t. get t name) in_use.2 ∙ get-one held.name in_use.0 name ∙ cond-false _ _ _ (is_eq-slice_cmp name held.name ∙ other)
+other_in_use h handles held name open_txn other =
+    ap (λ t. get t name) open_txn.2 ∙ get-one held.name open_txn.0 name ∙ cond-false _ _ _ (is_eq-slice_cmp name held.name ∙ other)
 
 pub none_in_use : (h : History) (handles : FinMap key_cmp sequential.Handle) (name : List ℕ) → IsOpen h None handles → get handles name ≡ None
 none_in_use h handles name none = ap (λ t. get t name) none ∙ get-empty key_cmp name
@@ -129,34 +129,34 @@ is_some-copied : {X : Type 0} (o : Option (Bor X)) → is_some (option_copied o)
 is_some-copied None = refl
 is_some-copied (Some x) = refl
 
-pub gives_taken : (r : Store) (s : State) (name : List ℕ) (opens : sequential.Handle) (o : Option (Bor Handle)) → Represents r s → option_copied o ≡ handle_named r.in_use name → is_some o ≡ true → IsOutcome (Taken name) r (opened s name opens)
+pub gives_taken : (r : Store) (s : State) (name : List ℕ) (opens : sequential.Handle) (o : Option (Bor Handle)) → Represents r s → option_copied o ≡ handle_named r.open_txn name → is_some o ≡ true → IsOutcome (Taken name) r (opened s name opens)
 gives_taken r s name opens o rep is some =
-    let kept = some_of (handle_named r.in_use name) (ap is_some (sym is) ∙ is_some-copied o ∙ some) in
-    let holds = named s.history s.handles r.in_use name kept.0 rep.in_use kept.1 in
+    let kept = some_of (handle_named r.open_txn name) (ap is_some (sym is) ∙ is_some-copied o ∙ some) in
+    let holds = named s.history s.handles r.open_txn name kept.0 rep.open_txn kept.1 in
     gives_as _ (opened_taken s name opens holds.handle holds.found_is) (record { answer_is = refl; stands = rep })
 
-pub gives_full : (r : Store) (s : State) (name : List ℕ) (opens : sequential.Handle) (o : Option (Bor Handle)) → Represents r s → option_copied o ≡ handle_named r.in_use name → is_some o ≡ false → is_some r.in_use ≡ true → IsOutcome TooMany r (opened s name opens)
+pub gives_full : (r : Store) (s : State) (name : List ℕ) (opens : sequential.Handle) (o : Option (Bor Handle)) → Represents r s → option_copied o ≡ handle_named r.open_txn name → is_some o ≡ false → is_some r.open_txn ≡ true → IsOutcome TooMany r (opened s name opens)
 gives_full r s name opens o rep is none some =
-    let missing = unnamed s.history s.handles r.in_use name rep.in_use (sym is ∙ none_of (option_copied o) (is_some-copied o ∙ none)) in
-    let held = some_of r.in_use some in
-    let in_use = subst (λ o. IsOpen s.history o s.handles) held.1 rep.in_use in
-    gives_as _ (opened_full s name opens missing (ap len in_use.2 ∙ len-one held.0.name in_use.0)) (record { answer_is = refl; stands = rep })
+    let missing = unnamed s.history s.handles r.open_txn name rep.open_txn (sym is ∙ none_of (option_copied o) (is_some-copied o ∙ none)) in
+    let held = some_of r.open_txn some in
+    let open_txn = subst (λ o. IsOpen s.history o s.handles) held.1 rep.open_txn in
+    gives_as _ (opened_full s name opens missing (ap len open_txn.2 ∙ len-one held.0.name open_txn.0)) (record { answer_is = refl; stands = rep })
 
-pub gives_open : (r : Store) (s : State) (name : List ℕ) (opens : sequential.Handle) (handle : Handle) → Represents r s → StandsFor s.history handle opens → is_some r.in_use ≡ false →
-    IsOutcome (Number r.last) (record { alloc = r.alloc; last = r.last; log = r.log; frozen = r.frozen; memtable = r.memtable; in_use = Some (record { name = name; handle = handle }) }) (opened s name opens)
+pub gives_open : (r : Store) (s : State) (name : List ℕ) (opens : sequential.Handle) (handle : Handle) → Represents r s → StandsFor s.history handle opens → is_some r.open_txn ≡ false →
+    IsOutcome (Number r.last) (record { alloc = r.alloc; last = r.last; log = r.log; frozen = r.frozen; memtable = r.memtable; open_txn = Some (record { name = name; handle = handle }) }) (opened s name opens)
 gives_open r s name opens handle rep stands none =
-    let nothing : s.handles ≡ empty = subst (λ o. IsOpen s.history o s.handles) (none_of r.in_use none) rep.in_use in
+    let nothing : s.handles ≡ empty = subst (λ o. IsOpen s.history o s.handles) (none_of r.open_txn none) rep.open_txn in
     gives_as _ (opened_new s name opens nothing) (record {
       answer_is = ap Number rep.last;
-      stands = record { last = rep.last; log = rep.log; shows = rep.shows; in_use = (opens, stands, ap (λ t. insert t name opens) nothing) };
+      stands = record { last = rep.last; log = rep.log; shows = rep.shows; open_txn = (opens, stands, ap (λ t. insert t name opens) nothing) };
     })
 
 -- a handle under a name that is in use takes the place of the one before
 pub IsOpen-insert : (h : History) (handles : FinMap key_cmp sequential.Handle) (held : Open) (name : List ℕ) (kept : Handle) (handle : sequential.Handle) → IsOpen h (Some held) handles → bytes_eq name held.name ≡ true → StandsFor h kept handle →
     IsOpen h (Some (record { name = held.name; handle = kept })) (insert handles name handle)
-IsOpen-insert h handles held name kept handle in_use same stands =
+IsOpen-insert h handles held name kept handle open_txn same stands =
     let same_name : name ≡ held.name = (bytes_eq-Decides name held.name).0 same in
-    (handle, stands, ap (λ t. insert t name handle) in_use.2 ∙ ap (λ n. insert (one held.name in_use.0) n handle) same_name ∙ insert-one held.name in_use.0 handle)
+    (handle, stands, ap (λ t. insert t name handle) open_txn.2 ∙ ap (λ n. insert (one held.name open_txn.0) n handle) same_name ∙ insert-one held.name open_txn.0 handle)
 
 IsOpen-note : (h : History) (handles : FinMap key_cmp sequential.Handle) (held : Option Open) (name : List ℕ) (kept : Handle) (handle : sequential.Handle) → IsOpen h held handles → handle_named held name ≡ Some kept → StandsFor h kept handle → IsOpen h held (insert handles name handle)
 IsOpen-note h handles None name kept handle is named_is stands = cc
@@ -194,10 +194,10 @@ read_own r s name key number writes change rep holds lawful own =
     ap (read s name key) (holds.found_is ∙ ap Some holds.stands.1.1) ∙ cond-true _ _ _ lawful ∙ ap (read_in_transaction s name key number holds.stands.1.0 writes) own)
     (record { answer_is = refl; stands = rep })
 
-pub read_noted : (r : Store) (s : State) (name key : List ℕ) (number : ℕ) (writes : Writes) → Represents r s → handle_named r.in_use name ≡ Some (Transaction number writes) → is_key_length (length key) ≡ true → get writes key ≡ None →
+pub read_noted : (r : Store) (s : State) (name key : List ℕ) (number : ℕ) (writes : Writes) → Represents r s → handle_named r.open_txn name ≡ Some (Transaction number writes) → is_key_length (length key) ≡ true → get writes key ≡ None →
     IsOutcome (found (value_left (opened_value r.frozen.items key) (newest r.memtable.entries.items key number))) r (read s name key (get s.handles name))
 read_noted r s name key number writes rep named_is lawful missing =
-    let holds = named s.history s.handles r.in_use name (Transaction number writes) rep.in_use named_is in
+    let holds = named s.history s.handles r.open_txn name (Transaction number writes) rep.open_txn named_is in
     let reads = holds.stands.1.0 in
     let noted : sequential.Handle = OpenTransaction number (reads ++ (KeyRead key (value_at s.history number key) ∷ [])) writes in
     gives_as _ (
@@ -208,7 +208,7 @@ read_noted r s name key number writes rep named_is lawful missing =
         last = rep.last;
         log = rep.log;
         shows = rep.shows;
-        in_use = IsOpen-note s.history s.handles r.in_use name (Transaction number writes) noted rep.in_use named_is (holds.stands.0, (reads ++ (KeyRead key (value_at s.history number key) ∷ []), refl));
+        open_txn = IsOpen-note s.history s.handles r.open_txn name (Transaction number writes) noted rep.open_txn named_is (holds.stands.0, (reads ++ (KeyRead key (value_at s.history number key) ∷ []), refl));
       };
     })
 
@@ -219,17 +219,17 @@ kept_open h handles held kept is e = (is.0, subst (λ k. StandsFor h k is.0) e i
 
 -- the replayer with another handle under the name that is in use
 abbrev pub with_kept : Store → Open → Handle → Store
-with_kept r held kept = record { alloc = r.alloc; last = r.last; log = r.log; frozen = r.frozen; memtable = r.memtable; in_use = Some (record { name = held.name; handle = kept }) }
+with_kept r held kept = record { alloc = r.alloc; last = r.last; log = r.log; frozen = r.frozen; memtable = r.memtable; open_txn = Some (record { name = held.name; handle = kept }) }
 
-pub stands_kept : (r : Store) (s : State) (held : Open) (kept : Handle) → Represents r s → r.in_use ≡ Some held → held.handle ≡ kept → Represents (with_kept r held kept) s
+pub stands_kept : (r : Store) (s : State) (held : Open) (kept : Handle) → Represents r s → r.open_txn ≡ Some held → held.handle ≡ kept → Represents (with_kept r held kept) s
 stands_kept r s held kept rep is e =
-    record { last = rep.last; log = rep.log; shows = rep.shows; in_use = kept_open s.history s.handles held kept (subst (λ o. IsOpen s.history o s.handles) is rep.in_use) e }
+    record { last = rep.last; log = rep.log; shows = rep.shows; open_txn = kept_open s.history s.handles held kept (subst (λ o. IsOpen s.history o s.handles) is rep.open_txn) e }
 
-gives_write_answer : (r : Store) (s : State) (held : Open) (name key : List ℕ) (change : Change) (number : ℕ) (writes : Writes) → Represents r s → r.in_use ≡ Some held → bytes_eq name held.name ≡ true → held.handle ≡ Transaction number writes →
+gives_write_answer : (r : Store) (s : State) (held : Open) (name key : List ℕ) (change : Change) (number : ℕ) (writes : Writes) → Represents r s → r.open_txn ≡ Some held → bytes_eq name held.name ≡ true → held.handle ≡ Transaction number writes →
     IsOutcome (write_answer writes key change) (with_kept r held (Transaction number (writes_after writes key change))) (written s name key change (get s.handles name))
 gives_write_answer r s held name key change number writes rep is same kept_is =
-    let in_use = subst (λ o. IsOpen s.history o s.handles) is rep.in_use in
-    let holds = subst (IsInUse s.history s.handles name) kept_is (held_in_use s.history s.handles held name in_use same) in
+    let open_txn = subst (λ o. IsOpen s.history o s.handles) is rep.open_txn in
+    let holds = subst (IsInUse s.history s.handles name) kept_is (held_in_use s.history s.handles held name open_txn same) in
     let reads = holds.stands.1.0 in
     let more = insert writes key change in
     let after : sequential.Handle = OpenTransaction number reads more in
@@ -243,13 +243,13 @@ gives_write_answer r s held name key change number writes rep is same kept_is =
           IsOutcome (cond b Done TooBig) (with_kept r held (Transaction number (cond b more writes))) (cond b (Done, with_handle s name after) (TooBig, s))) [
             | true ↦ record {
               answer_is = refl;
-              stands = record { last = rep.last; log = rep.log; shows = rep.shows; in_use = IsOpen-insert s.history s.handles held name (Transaction number more) after in_use same (holds.stands.0, (reads, refl)) };
+              stands = record { last = rep.last; log = rep.log; shows = rep.shows; open_txn = IsOpen-insert s.history s.handles held name (Transaction number more) after open_txn same (holds.stands.0, (reads, refl)) };
             }
             | false ↦ record { answer_is = refl; stands = unchanged }
           ]
     ])
 
-pub gives_write : (result : Result Answer Halt) (r : Store) (s : State) (held : Open) (name key : List ℕ) (change : Change) (number : ℕ) (writes new : Writes) → Represents r s → r.in_use ≡ Some held → bytes_eq name held.name ≡ true → held.handle ≡ Transaction number writes →
+pub gives_write : (result : Result Answer Halt) (r : Store) (s : State) (held : Open) (name key : List ℕ) (change : Change) (number : ℕ) (writes new : Writes) → Represents r s → r.open_txn ≡ Some held → bytes_eq name held.name ≡ true → held.handle ≡ Transaction number writes →
     IfOk result (λ a. a ≡ write_answer writes key change) → OnOk result (new ≡ writes_after writes key change) → IfOk result (λ a. IsOutcome a (with_kept r held (Transaction number new)) (written s name key change (get s.handles name)))
 gives_write (Ok a) r s held name key change number writes new rep is same kept_is answer_is new_is =
     subst (λ x. IsOutcome x (with_kept r held (Transaction number new)) (written s name key change (get s.handles name))) (sym answer_is)
@@ -261,20 +261,20 @@ gives_write (Err e) r s held name key change number writes new rep is same kept_
 
 -- the replayer with nothing in use
 abbrev pub with_none : Store → Store
-with_none r = record { alloc = r.alloc; last = r.last; log = r.log; frozen = r.frozen; memtable = r.memtable; in_use = None }
+with_none r = record { alloc = r.alloc; last = r.last; log = r.log; frozen = r.frozen; memtable = r.memtable; open_txn = None }
 
 pub stands_without : (r : Store) (s : State) (name : List ℕ) (kept : Handle) → Represents r s → IsInUse s.history s.handles name kept → Represents (with_none r) (without_handle s name)
-stands_without r s name kept rep holds = record { last = rep.last; log = rep.log; shows = rep.shows; in_use = remove_in_use s.history s.handles name kept holds }
+stands_without r s name kept rep holds = record { last = rep.last; log = rep.log; shows = rep.shows; open_txn = remove_in_use s.history s.handles name kept holds }
 
-pub gives_dropped : (r : Store) (s : State) (name : List ℕ) (o : Option (Bor Handle)) → Represents r s → option_copied o ≡ handle_named r.in_use name → is_some o ≡ true → IsOutcome Done (with_none r) (dropped s name (get s.handles name))
+pub gives_dropped : (r : Store) (s : State) (name : List ℕ) (o : Option (Bor Handle)) → Represents r s → option_copied o ≡ handle_named r.open_txn name → is_some o ≡ true → IsOutcome Done (with_none r) (dropped s name (get s.handles name))
 gives_dropped r s name o rep is some =
-    let kept = some_of (handle_named r.in_use name) (ap is_some (sym is) ∙ is_some-copied o ∙ some) in
-    let holds = named s.history s.handles r.in_use name kept.0 rep.in_use kept.1 in
+    let kept = some_of (handle_named r.open_txn name) (ap is_some (sym is) ∙ is_some-copied o ∙ some) in
+    let holds = named s.history s.handles r.open_txn name kept.0 rep.open_txn kept.1 in
     gives_as _ (ap (dropped s name) holds.found_is) (record { answer_is = refl; stands = stands_without r s name kept.0 rep holds })
 
-pub gives_unknown_dropped : (r : Store) (s : State) (name : List ℕ) (o : Option (Bor Handle)) → Represents r s → option_copied o ≡ handle_named r.in_use name → is_some o ≡ false → IsOutcome (Unknown name) r (dropped s name (get s.handles name))
+pub gives_unknown_dropped : (r : Store) (s : State) (name : List ℕ) (o : Option (Bor Handle)) → Represents r s → option_copied o ≡ handle_named r.open_txn name → is_some o ≡ false → IsOutcome (Unknown name) r (dropped s name (get s.handles name))
 gives_unknown_dropped r s name o rep is none =
-    let missing = unnamed s.history s.handles r.in_use name rep.in_use (sym is ∙ none_of (option_copied o) (is_some-copied o ∙ none)) in
+    let missing = unnamed s.history s.handles r.open_txn name rep.open_txn (sym is ∙ none_of (option_copied o) (is_some-copied o ∙ none)) in
     gives_as _ (ap (dropped s name) missing) (record { answer_is = refl; stands = rep })
 
 -- ---- commits

@@ -11,8 +11,8 @@ use Rattle.vl_mem.specs.declared.mem_disk.MemDisk.{MemDisk}
 use Rattle.vl_mem.specs.declared.outcome.Outcome.{Outcome}
 use Rattle.vl_model.specs.History.{last_number}
 use Rattle.vl_recover.specs.Results.{HasFailed, came_by}
-use Rattle.vl_recover.specs.declared.fails.Why.{Why}
-use Rattle.vl_recover.specs.declared.fails.Why.TheVariants as why
+use Rattle.vl_recover.specs.declared.fails.OpenError.{OpenError}
+use Rattle.vl_recover.specs.declared.fails.OpenError.TheVariants as why
 use Rattle.vl_replay.specs.Endings.{Culprit, CountsFaultsOf, TheDisk, culprit_of, no_memory_line, read_fault_line}
 use Rattle.vl_replay.specs.Exchanges.{Exchange, answers_text, last_state}
 use Rattle.vl_replay.specs.Reopens.{Reopens}
@@ -95,13 +95,13 @@ module _ (t : Trial) (held mid : Option (List ℕ)) (taken : Takes held mid (ans
 -- ---- a store that wasn't opened
 
 -- the disk is to blame only where it failed
-pub not_by_disk : {K : Type 0} (k : sink.Ghosts K) (old new : K) (reason : Why) (result : Ending) → EndsUnopened k old new reason result
+pub not_by_disk : {K : Type 0} (k : sink.Ghosts K) (old new : K) (reason : OpenError) (result : Ending) → EndsUnopened k old new reason result
     → (HasFailed (came_by reason) → ⊥) → culprit_of result ≢ TheDisk
 not_by_disk k old new reason result (how, for, (line, line_is, finishes)) sound =
     or_cut k old new line (ending_unopened how) result (λ (e : Ending). culprit_of e ≢ TheDisk) finishes
     (λ by. sound (is_fault_too reason (fault_for reason how for (of how by)))) (λ e. cc)
   where
-    of : (how : Why) → culprit_of (ending_unopened how) ≡ TheDisk → IsFault (Some how)
+    of : (how : OpenError) → culprit_of (ending_unopened how) ≡ TheDisk → IsFault (Some how)
     of why.NotAStore e = cc
     of (why.NewerFormat format) e = cc
     of (why.Damaged name place) e = cc
@@ -110,8 +110,8 @@ not_by_disk k old new reason result (how, for, (line, line_is, finishes)) sound 
     of (why.Disk name) e = tt
 
 -- what holds of all endings of an opening, and of a line that couldn't be put, holds of the result
-pub of_ended : {K : Type 0} (k : sink.Ghosts K) (old new : K) (reason : Why) (result : Ending) (P : Ending → Type 0) → EndsUnopened k old new reason result
-    → ((how : Why) → P (ending_unopened how)) → P WriteFault → P result
+pub of_ended : {K : Type 0} (k : sink.Ghosts K) (old new : K) (reason : OpenError) (result : Ending) (P : Ending → Type 0) → EndsUnopened k old new reason result
+    → ((how : OpenError) → P (ending_unopened how)) → P WriteFault → P result
 of_ended k old new reason result P (how, for, (line, line_is, finishes)) each cut =
     or_cut k old new line (ending_unopened how) result P finishes (each how) cut
 
@@ -142,7 +142,7 @@ stopped_opening stop input disk held left below leaves rest told = (
         ∙ ap (last_state begun) (none_answered o)
 
 module _ (stop : ℕ) (disk : MemDisk) where
-  pub stops_by_fault : (reason : Why) → IsFault (Some reason) → StopsOpening stop reason disk → (stop < begun.calls) × LeavesToOpen disk (λ _. begun)
+  pub stops_by_fault : (reason : OpenError) → IsFault (Some reason) → StopsOpening stop reason disk → (stop < begun.calls) × LeavesToOpen disk (λ _. begun)
   stops_by_fault why.NotAStore by stops = absurd by
   stops_by_fault (why.NewerFormat format) by stops = absurd by
   stops_by_fault (why.Damaged name place) by stops = absurd by
@@ -150,7 +150,7 @@ module _ (stop : ℕ) (disk : MemDisk) where
   stops_by_fault why.NoMemory by stops = absurd by
   stops_by_fault (why.Disk name) by stops = stops
 
-  pub stops_by_memory : (reason : Why) → (IsFault (Some reason) → ⊥) → StopsOpening stop reason disk → reason ≡ why.NoMemory
+  pub stops_by_memory : (reason : OpenError) → (IsFault (Some reason) → ⊥) → StopsOpening stop reason disk → reason ≡ why.NoMemory
   stops_by_memory why.NotAStore fine stops = absurd stops
   stops_by_memory (why.NewerFormat format) fine stops = absurd stops
   stops_by_memory (why.Damaged name place) fine stops = absurd stops

@@ -4,8 +4,8 @@ use Rattle.vl_disk.specs.Crash.{Image}
 use Rattle.vl_recover.specs.Answers.{AnswersBy, Finds, used_up}
 use Rattle.vl_recover.specs.Results.{came_by}
 use Rattle.vl_recover.specs.declared.fails.OpenFail.{OpenFail}
-use Rattle.vl_recover.specs.declared.fails.Why.{Why}
-use Rattle.vl_recover.specs.declared.fails.Why.TheVariants as why
+use Rattle.vl_recover.specs.declared.fails.OpenError.{OpenError}
+use Rattle.vl_recover.specs.declared.fails.OpenError.TheVariants as why
 use Rattle.vl_replay.specs.declared.ending.Ending.{Ending}
 use Rattle.vl_replay.specs.declared.ending.Ending.TheVariants.{Refused, NoMemory, DiskFault}
 use Rattle.vl_replay.specs.declared.fails.Refusal.{Refusal}
@@ -19,19 +19,19 @@ disk_behind (Ok replayer) = replayer.disk
 disk_behind (Err fail) = fail.disk
 
 -- why none was opened
-abbrev pub why_of : {R D : Type 0} → Result R (OpenFail D) → Option Why
+abbrev pub why_of : {R D : Type 0} → Result R (OpenFail D) → Option OpenError
 why_of (Ok replayer) = None
 why_of (Err fail) = Some fail.why
 
 -- an opening refused what stands on the disk
-abbrev pub why_refused : Refusal → Why
+abbrev pub why_refused : Refusal → OpenError
 why_refused refusals.NotAStore = why.NotAStore
 why_refused (refusals.NewerFormat format) = why.NewerFormat format
 why_refused (refusals.Damaged name place) = why.Damaged name place
 why_refused (refusals.Exhausted counter) = why.Exhausted counter
 
 -- how a run ends whose store wasn't opened
-abbrev pub ending_unopened : Why → Ending
+abbrev pub ending_unopened : OpenError → Ending
 ending_unopened why.NotAStore = Refused refusals.NotAStore
 ending_unopened (why.NewerFormat format) = Refused (refusals.NewerFormat format)
 ending_unopened (why.Damaged name place) = Refused (refusals.Damaged name place)
@@ -45,12 +45,12 @@ IsRefused read refusal = AnswersBy read (came_by (why_refused refusal))
 
 -- an opening answers so by what reads give: a store that is there, with a number left for each file that is made, is
 -- opened; a refusal has its cause; want of memory and faults may come instead
-abbrev pub AnswersOpening : Image → Option Why → Type 0
+abbrev pub AnswersOpening : Image → Option OpenError → Type 0
 AnswersOpening read None = (found : Finds read) × (used_up found ≡ None)
 AnswersOpening read (Some reason) = AnswersBy read (came_by reason)
 
 -- the disk failed
-abbrev pub IsFault : Option Why → Type 0
+abbrev pub IsFault : Option OpenError → Type 0
 IsFault None = ⊥
 IsFault (Some why.NotAStore) = ⊥
 IsFault (Some (why.NewerFormat format)) = ⊥

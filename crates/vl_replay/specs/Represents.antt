@@ -53,7 +53,7 @@ pub record Represents (r : Store) (s : State) : Type 0 where
   pub last : r.last ≡ last_number s.history
   pub log : r.log ≡ s.log
   pub shows : ShowsHistory (opened_value r.frozen.items) r.memtable.entries.items s.history
-  pub in_use : IsOpen s.history r.in_use s.handles
+  pub open_txn : IsOpen s.history r.open_txn s.handles
 
 -- this answer, and the state that the store stands for after it, are the outcome
 pub record IsOutcome (answer : Answer) (after : Store) (outcome : Outcome) : Type 0 where
@@ -68,7 +68,7 @@ handle_named (Some held) name = if bytes_eq name held.name then Some held.handle
 -- a transaction with these writes is open under this name
 abbrev pub HasOpen : Store → List ℕ → Writes → Type 0
 HasOpen r name writes =
-    (number : ℕ) × (r.in_use ≡ Some (record { name = name; handle = Transaction number writes }))
+    (number : ℕ) × (r.open_txn ≡ Some (record { name = name; handle = Transaction number writes }))
 
 -- a transaction is open that has written something, and there is a number for its commit
 abbrev pub HasWritesToCommit : Store → Type 0

@@ -14,8 +14,8 @@ use Rattle.vl_replay.specs.Input.{HasNoLineEnd}
 use Rattle.vl_replay.specs.Exchanges.{Exchange, exchange_at, KeepsUp}
 use Rattle.vl_replay.specs.Endings.{Culprit, Evidence, OnlyByDisk, last_line, line_number}
 use Rattle.vl_replay.specs.Opening.{IsRefused, ending_unopened, why_refused}
-use Rattle.vl_recover.specs.declared.fails.Why.{Why}
-use Rattle.vl_recover.specs.declared.fails.Why.TheVariants as why
+use Rattle.vl_recover.specs.declared.fails.OpenError.{OpenError}
+use Rattle.vl_recover.specs.declared.fails.OpenError.TheVariants as why
 use Rattle.vl_replay.specs.Runs.{Script, script_of, IsFront, EndsSo, Outside, EndsRun}
 use Rattle.vl_replay.specs.Represents.{Represents}
 use Rattle.vl_replay.specs.Durable.{Holding, HoldsState, CrashesShow, DiskEnds, DiskEndsFrom, IsAsBefore}
@@ -42,7 +42,7 @@ FinishesBy g old new ending result =
 -- ---- runs whose store wasn't opened
 
 -- no refusal: memory ran out, or the disk failed
-abbrev pub CameFirst : Why → Type 0
+abbrev pub CameFirst : OpenError → Type 0
 CameFirst why.NotAStore = ⊥
 CameFirst (why.NewerFormat format) = ⊥
 CameFirst (why.Damaged name place) = ⊥
@@ -51,14 +51,14 @@ CameFirst why.NoMemory = Unit {0}
 CameFirst (why.Disk name) = Unit {0}
 
 -- what ends a run whose store wasn't opened for this reason: it does, or want of memory for a refusal's line
-abbrev pub EndsFor : (reason how : Why) → Type 0
+abbrev pub EndsFor : (reason how : OpenError) → Type 0
 EndsFor reason how =
     (how ≡ reason) ⊎ ((how ≡ why.NoMemory) × ((refusal : Refusal) × (reason ≡ why_refused refusal)))
 
 -- the run's last line says that
-abbrev pub EndsUnopened : {K : Type 0} → sink.Ghosts K → (old new : K) → Why → Ending → Type 0
+abbrev pub EndsUnopened : {K : Type 0} → sink.Ghosts K → (old new : K) → OpenError → Ending → Type 0
 EndsUnopened g old new reason result =
-    (how : Why) × EndsFor reason how × FinishesBy g old new (ending_unopened how) result
+    (how : OpenError) × EndsFor reason how × FinishesBy g old new (ending_unopened how) result
 
 -- A run ended by this refusal.
 pub record IsRefusedRun {D K : Type 0} (g : Ghosts D) (k : sink.Ghosts K) (disk disk' : D)
@@ -75,7 +75,7 @@ pub record IsRefusedRun {D K : Type 0} (g : Ghosts D) (k : sink.Ghosts K) (disk 
 pub record EndsWithoutOpening {D K : Type 0} (g : Ghosts D) (k : sink.Ghosts K) (disk disk' : D)
     (sink sink' : K) (refusal : Refusal) (ending : Ending) : Type 0 where
   -- it ended by the refusal, unless memory ran out or the disk failed before;
-  pub how : Why
+  pub how : OpenError
   pub how_is : (how ≡ why_refused refusal) ⊎ CameFirst how
   -- the line of that was put, or the sink failed there;
   pub printed : FinishesBy k sink sink' (ending_unopened how) ending

@@ -10,8 +10,8 @@ use Rattle.vl_mem.specs.contracts.mem_disk.MemDiskWatched.TheImpl as memory
 use Rattle.vl_mem.specs.declared.mem_disk.MemDisk.{MemDisk}
 use Rattle.vl_mem.specs.declared.outcome.Outcome.{Outcome}
 use Rattle.vl_model.specs.History.{History, contents_at, last_number}
-use Rattle.vl_recover.specs.declared.fails.Why.{Why}
-use Rattle.vl_recover.specs.declared.fails.Why.TheVariants as why
+use Rattle.vl_recover.specs.declared.fails.OpenError.{OpenError}
+use Rattle.vl_recover.specs.declared.fails.OpenError.TheVariants as why
 use Rattle.vl_replay.specs.Durable.{HoldsState}
 use Rattle.vl_replay.specs.Endings.{no_memory_line, read_fault_line}
 use Rattle.vl_replay.specs.Exchanges.{answers_text}
@@ -40,7 +40,7 @@ LeavesToOpen disk shown = (outcome : Outcome)
     → Reopens (crash_image outcome (state_of disk)) (shown outcome).history (last_number (shown outcome).history)
 
 -- none was opened: memory ran out, or the stop was met, and no commit is left
-abbrev pub StopsOpening : ℕ → Why → MemDisk → Type 0
+abbrev pub StopsOpening : ℕ → OpenError → MemDisk → Type 0
 StopsOpening stop why.NotAStore disk = ⊥
 StopsOpening stop (why.NewerFormat format) disk = ⊥
 StopsOpening stop (why.Damaged name place) disk = ⊥

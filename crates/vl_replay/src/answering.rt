@@ -24,7 +24,7 @@ use vl_script::{NUMBER_ROOM, parse_line, print_answer, print_bad_line};
 
 /// Carries out a text as a line, and gives the text of its answer; None where it is a bad line. The room for the answer to
 /// a commit is there before the commit, so that no commit stands whose answer found no memory.
-fn carry_out<D: Disk>(
+fn execute_line<D: Disk>(
     alloc: Global,
     replayer: &mut Replayer<D>,
     text: &[u8],
@@ -88,7 +88,7 @@ pub fn answer<K: Sink, D: Disk>(
     ensures reads { AnswersText text.now answered result (K.held sink.old) (K.held sink.new) }
     ensures as_meant { EndsAs on_fault result }
 {
-    match carry_out(alloc, replayer, text) {
+    match execute_line(alloc, replayer, text) {
         Ok(Some(answer)) => match sink.put(&answer) {
             Ok(()) => None,
             Err(_) => Some(Ending::AnswerCut),

@@ -6,7 +6,7 @@ use thiserror::Error;
 use vl_disk::{Failed, Name, NoMemory as NoRoom};
 use vl_model::Counter;
 
-/// Why what stands on a disk isn't opened.
+/// OpenError what stands on a disk isn't opened.
 #[derive(Clone, Copy, Debug, PartialEq, Eq)]
 pub enum Refusal {
     /// A log or a table stands, and no manifest that can be read, in a known format or a newer one.
@@ -19,7 +19,7 @@ pub enum Refusal {
     Exhausted(Counter),
 }
 
-/// Why a line was given no answer.
+/// OpenError a line was given no answer.
 #[derive(Clone, Copy, Debug, PartialEq, Eq, Error)]
 pub enum Halt {
     /// Memory ran out.
@@ -60,7 +60,7 @@ impl From<NoRoom> for Halt {
     }
 }
 
-/// Why no line could be read.
+/// OpenError no line could be read.
 #[derive(Clone, Copy, Debug, PartialEq, Eq)]
 pub enum InputFail {
     /// Memory ran out.

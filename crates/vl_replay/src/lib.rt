@@ -18,4 +18,4 @@ pub use fails::{Halt, Refusal};
 pub use replayer::{MAX_OPEN, Replayer, drops_free_names, reads_are_noted, writes_are_read_back};
 pub use running::replay;
 pub use trying::trial;
-pub use vl_recover::{OpenFail, Why};
+pub use vl_recover::{OpenError, OpenFail};

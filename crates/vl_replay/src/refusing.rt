@@ -10,20 +10,20 @@ use std::alloc::{AllocError, Global};
 use vl_disk::Name;
 use vl_io::Sink;
 use vl_model::Counter;
-use vl_recover::Why;
+use vl_recover::OpenError;
 use vl_script::{Answer, print_answer};
 
 /// Ends a run whose store wasn't opened.
-pub fn end_unopened<K: Sink>(alloc: Global, sink: &mut K, why: Why) -> Ending
+pub fn end_unopened<K: Sink>(alloc: Global, sink: &mut K, why: OpenError) -> Ending
     ensures { EndsUnopened K.Sink sink.old sink.new why result }
 {
     match why {
-        Why::NotAStore => refuse(alloc, sink, Refusal::NotAStore),
-        Why::NewerFormat(format) => refuse(alloc, sink, Refusal::NewerFormat(format)),
-        Why::Damaged { name, place } => refuse(alloc, sink, Refusal::Damaged { name, place }),
-        Why::Exhausted(counter) => refuse(alloc, sink, Refusal::Exhausted(counter)),
-        Why::NoMemory => finish(sink, NO_MEMORY, Ending::NoMemory),
-        Why::Disk { .. } => finish(sink, DISK_FAULT, Ending::DiskFault),
+        OpenError::NotAStore => refuse(alloc, sink, Refusal::NotAStore),
+        OpenError::NewerFormat(format) => refuse(alloc, sink, Refusal::NewerFormat(format)),
+        OpenError::Damaged { name, place } => refuse(alloc, sink, Refusal::Damaged { name, place }),
+        OpenError::Exhausted(counter) => refuse(alloc, sink, Refusal::Exhausted(counter)),
+        OpenError::NoMemory => finish(sink, NO_MEMORY, Ending::NoMemory),
+        OpenError::Disk { .. } => finish(sink, DISK_FAULT, Ending::DiskFault),
     }
 }
 

@@ -88,7 +88,7 @@ impl<D: Disk> Replayer<D> {
         ensures again { (state now : DiskState) → D.told disk ≡ Some state → MayOpen state
             → D.told (disk_behind result) ≡ Some now → MayOpen now }
 
-        // Meanwhile the disk is as it was, or is being mended by a plan of what reads gave.
+        // Meanwhile the disk is as it was, or is being repaired by a plan of what reads gave.
         ensures meanwhile { (state : DiskState) (read : Image) → D.told disk ≡ Some state → IsRead read state
             → HoldsThroughout D.Watched disk (disk_behind result) (IsMeanwhile read state) }
 

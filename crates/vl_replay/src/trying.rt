@@ -20,7 +20,7 @@ use vl_disk::Failed;
 use vl_io::{Sink, Source};
 use vl_mem::{MemDisk, Outcome};
 use vl_model::MAX_ROOM;
-use vl_recover::{OpenFail, Why, recover};
+use vl_recover::{OpenError, OpenFail, recover};
 
 /// Tries a script: answers the lines of a source over an empty disk in memory, of which each changing call behind so many
 /// fails. The line that meets the stop prints nothing, and the rest of the source is passed over. Then the store is opened
@@ -92,10 +92,10 @@ fn run_to_stop<S: Source, K: Sink>(
 }
 
 // Whether the disk failed.
-fn is_fault(why: &Why) -> bool
+fn is_fault(why: &OpenError) -> bool
     ensures { IsTrue result ↔ IsFault (Some why.now) }
 {
-    matches!(why, Why::Disk { .. })
+    matches!(why, OpenError::Disk { .. })
 }
 
 // Opens a store on an empty disk that stops behind so many changing calls.

@@ -1,7 +1,7 @@
 //! A record: what one change leaves in a log, 7 bytes at its front, its key and its value.
 
+mod fields;
 mod head;
-mod parts;
 mod read;
 mod write;
 

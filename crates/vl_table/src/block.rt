@@ -5,11 +5,11 @@ ghost use Rattle.vl_table.specs.Answers.{Answers};
 ghost use Rattle.vl_table.specs.Buffers.{NoBlock};
 ghost use Rattle.vl_table.specs.laws.BlockRead.{block_entries};
 
+use crate::{BlockBuffer, TableFault};
 use std::alloc::Global;
 use vl_block::{BlockPlace, block_entries};
 use vl_disk::{HeldFile, Name, Reader};
 use vl_model::Entry;
-use crate::{BlockBuffer, TableFault};
 
 // The entries of one block of the table with this number, each with a key and a value of its own.
 pub fn read_entries<H: HeldFile, R: Reader<Held = H>>(

@@ -9,10 +9,10 @@ ghost use Rattle.vl_table.specs.CursorLeft.{blocks_budget, cursor_budget, cursor
 
 use crate::block::read_entries;
 use crate::ways::{place_on, to_be_given};
+use crate::{Table, TableFault};
 use std::alloc::Global;
 use vl_disk::{HeldFile, Reader};
 use vl_model::{Cursor, Entry, Way};
-use crate::{Table, TableFault};
 
 /// The entries of a table, one after the other. It lends the table and has a reader of its own.
 #[derive(Drop)]

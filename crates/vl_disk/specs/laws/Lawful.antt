@@ -25,23 +25,23 @@ some_same x y e = cc
 -- ---- files
 
 pub new_file_lawful : IsLawfulFile new_file
-new_file_lawful = record { within = omega arith; as_synced = λ whole. absurd (false_true whole); due = All-nil (λ (piece : Piece). 0 ≤ piece.place) }
+new_file_lawful = record { within = omega arith; as_synced = λ whole. absurd (false_true whole); unsynced = All-nil (λ (piece : Piece). 0 ≤ piece.place) }
 
 pub settled_lawful : (bytes : List ℕ) → IsLawfulFile (settled bytes)
-settled_lawful bytes = record { within = omega arith; as_synced = λ whole. refl; due = All-nil (λ (piece : Piece). length bytes ≤ piece.place) }
+settled_lawful bytes = record { within = omega arith; as_synced = λ whole. refl; unsynced = All-nil (λ (piece : Piece). length bytes ≤ piece.place) }
 
 pub lengthened_lawful : (piece : List ℕ) (taken : ℕ) (file : File) → IsLawfulFile file → IsLawfulFile (lengthened piece taken file)
 lengthened_lawful piece taken file lawful = record {
   within = omega (arith, lawful.within, length-append file.bytes (take taken piece));
   as_synced = λ whole. absurd (false_true whole);
-  due = All-push (λ (p : Piece). file.synced ≤ p.place) file.due (record { place = length file.bytes; bytes = piece }) lawful.due lawful.within;
+  unsynced = All-push (λ (p : Piece). file.synced ≤ p.place) file.unsynced (record { place = length file.bytes; bytes = piece }) lawful.unsynced lawful.within;
 }
 
 pub shortened_lawful : (len left : ℕ) → len ≤ left → (file : File) → IsLawfulFile file → IsLawfulFile (shortened len left file)
 shortened_lawful len left short file lawful = record {
   within = omega (arith, short, lawful.within, length-take left file.bytes);
   as_synced = λ whole. absurd (false_true whole);
-  due = λ k d within. omega (arith, lawful.due k d within);
+  unsynced = λ k d within. omega (arith, lawful.unsynced k d within);
 }
 
 -- ---- disks

@@ -9,7 +9,7 @@ use Rattle.vl_frame.specs.declared.kinds.FrameKind.{FrameKind}
 use Rattle.vl_frame.specs.declared.kinds.FrameKind.TheVariants.{Commit, Move, Block, Index, Footer, Edits}
 use Rattle.vl_frame.specs.Frame.{frame_code, head_bytes, spelling, check_of, frame_bytes, IsSpelled, file_of, frame_length, place_bytes}
 use Rattle.vl_frame.specs.Numbers.{one_number, same_front}
-use Rattle.vl_frame.specs.Parts.{IsApart}
+use Rattle.vl_frame.specs.FrameFields.{IsApart}
 
 kind_at : ℕ → FrameKind
 kind_at n = cond (nat_eq n 1) Commit (cond (nat_eq n 2) Move (cond (nat_eq n 3) Block (cond (nat_eq n 4) Index (cond (nat_eq n 5) Footer Edits))))

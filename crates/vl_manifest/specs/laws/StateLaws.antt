@@ -4,7 +4,7 @@ use Rattle.std.proofs.Common.{sym, ap, subst, ◌∙◌, arith}
 use Rattle.std.proofs.lemmas.Bool.{leb-true, le-leb, and_from, and_parts}
 use Rattle.vl_model.specs.Limits.{max_commit_number, max_file_number}
 use Rattle.vl_frame.specs.Begins.{Placed}
-use Rattle.vl_manifest.specs.declared.draft.Draft.{Draft}
+use Rattle.vl_manifest.specs.declared.version_builder.VersionBuilder.{VersionBuilder}
 use Rattle.vl_manifest.specs.declared.edit.Edit.{Edit}
 use Rattle.vl_manifest.specs.declared.edit.Edit.TheVariants.{Add, Drop, Head, Next}
 use Rattle.vl_manifest.specs.declared.state.ManifestState.{ManifestState}
@@ -103,7 +103,7 @@ whole_says s r = no_adds ∙ head ∙ next ∙ levels
     no_adds : first_state (whole_edits s) ≡ first_state (Head s.head s.covered ∷ last)
     no_adds = ap (λ (l : List (List ℕ)). first_state (adds_from 0 l ++ (Head s.head s.covered ∷ last))) r.levels
 
-    with_head : Draft
+    with_head : VersionBuilder
     with_head = record { levels = no_tables; head = Some (s.head, s.covered); next = None }
 
     head : first_state (Head s.head s.covered ∷ last) ≡ finish (all_applied last with_head)
@@ -123,7 +123,7 @@ whole_says s r = no_adds ∙ head ∙ next ∙ levels
 
 -- ---- what edits make is in range
 
-record DraftInRange (d : Draft) : Type 0 where
+record DraftInRange (d : VersionBuilder) : Type 0 where
   levels : d.levels ≡ no_tables
   head : IfSome d.head (λ h. is_head h.0 h.1 ≡ true)
   next : IfSome d.next (λ n. are_next n.0 n.1 ≡ true)
@@ -151,11 +151,11 @@ ok_same a b e = cc
 err_ok : (p : ℕ) (b : ManifestState) → ◌≡◌ {A = Result ManifestState ℕ} (Err p) (Ok b) → ⊥
 err_ok p b e = cc
 
-given : (b : Bool) (x d : Draft) → given_if b x ≡ Some d → (b ≡ true) × (x ≡ d)
+given : (b : Bool) (x d : VersionBuilder) → given_if b x ≡ Some d → (b ≡ true) × (x ≡ d)
 given true x d e = (refl, some_same x d e)
 given false x d e = absurd (none_some d e)
 
-applied_in : (e : Edit) (d x : Draft) → DraftInRange d → applied e d ≡ Some x → DraftInRange x
+applied_in : (e : Edit) (d x : VersionBuilder) → DraftInRange d → applied e d ≡ Some x → DraftInRange x
 applied_in (Add level position table) d x inside is = absurd (none_some x is)
 applied_in (Drop table) d x inside is = absurd (none_some x is)
 applied_in (Head segment number) d x inside is =
@@ -165,12 +165,12 @@ applied_in (Next log table) d x inside is =
     let r = given (are_next log table) (record d { next = Some (log, table) }) x is in
     subst DraftInRange r.1 (record { levels = inside.levels; head = inside.head; next = r.0 })
 
-all_in : (es : List Edit) (d x : Draft) → DraftInRange d → all_applied es d ≡ Some x → DraftInRange x
+all_in : (es : List Edit) (d x : VersionBuilder) → DraftInRange d → all_applied es d ≡ Some x → DraftInRange x
 all_in [] d x inside is = subst DraftInRange (some_same d x is) inside
 all_in (e ∷ es) d x inside is = by (λ y in_y goes. all_in es y x in_y goes) (applied e d) refl is
   where
-    by : ((y : Draft) → DraftInRange y → all_applied es y ≡ Some x → DraftInRange x)
-        → (o : Option Draft) → applied e d ≡ o → then_applied (all_applied es) o ≡ Some x → DraftInRange x
+    by : ((y : VersionBuilder) → DraftInRange y → all_applied es y ≡ Some x → DraftInRange x)
+        → (o : Option VersionBuilder) → applied e d ≡ o → then_applied (all_applied es) o ≡ Some x → DraftInRange x
     by rest None at is = absurd (none_some x is)
     by rest (Some y) at is = rest y (applied_in e d y inside at) is
 
@@ -197,7 +197,7 @@ both_in levels (Some p) (Some q) s l h n is =
       table_last = table.1;
     })
 
-finish_in : (o : Option Draft) (s : ManifestState) → ((d : Draft) → o ≡ Some d → DraftInRange d)
+finish_in : (o : Option VersionBuilder) (s : ManifestState) → ((d : VersionBuilder) → o ≡ Some d → DraftInRange d)
     → finish o ≡ Some s → IsInRange s
 finish_in None s inside is = absurd (none_some s is)
 finish_in (Some d) s inside is =

@@ -29,7 +29,7 @@ pub record SpellsWhatStands (spells : Name → List ℕ → ℕ → List ℕ →
 abbrev pub torn_bytes : File → List ℕ
 torn_bytes file = drop (torn_from file) file.bytes
 
--- they are none, or one piece that is due has them at their place
+-- they are none, or one piece that is unsynced has them at their place
 abbrev pub IsTornInOnePiece : File → Type 0
 IsTornInOnePiece file = (torn_bytes file ≡ []) ⊎ WasHandedOver file (torn_from file) (torn_bytes file)
 
@@ -88,10 +88,10 @@ module _ (file : File) where
   abbrev from : ℕ
   from = torn_from file
 
-  -- what stands in the file where it may be torn, stands in the piece that is due there
+  -- what stands in the file where it may be torn, stands in the piece that is unsynced there
   torn_in_piece : (piece : Piece) (frame : List ℕ) (offset : ℕ) → StandsIn from (torn_bytes file) piece
       → HasAt (from + offset) frame file.bytes → StandsIn (from + offset) frame piece
-  torn_in_piece piece frame offset due has = record { from = omega (arith, due.from); bytes_are = sym (ap (take (length frame)) there) ∙ in_rest }
+  torn_in_piece piece frame offset unsynced has = record { from = omega (arith, unsynced.from); bytes_are = sym (ap (take (length frame)) there) ∙ in_rest }
     where
       rest : List ℕ
       rest = drop (from - piece.place) piece.bytes
@@ -100,11 +100,11 @@ module _ (file : File) where
       torn = ap (take (length frame)) (drop-drop offset from file.bytes) ∙ has
 
       in_rest : HasAt offset frame rest
-      in_rest = has_whole rest frame offset (length (torn_bytes file)) (subst (HasAt offset frame) (sym due.bytes_are) torn)
+      in_rest = has_whole rest frame offset (length (torn_bytes file)) (subst (HasAt offset frame) (sym unsynced.bytes_are) torn)
 
       there : drop offset rest ≡ drop ((from + offset) - piece.place) piece.bytes
       there = drop-drop offset (from - piece.place) piece.bytes
-          ∙ ap (λ (k : ℕ). drop k piece.bytes) (omega (arith, due.from))
+          ∙ ap (λ (k : ℕ). drop k piece.bytes) (omega (arith, unsynced.from))
 
   first_handed : (n : ℕ) → IsTornInOnePiece file → HandedOverIn file (take n file.bytes)
   first_handed n torn frame offset some has = ⊎_elim none one torn
@@ -114,9 +114,9 @@ module _ (file : File) where
           (omega (arith, sym (ap length is), length-drop from file.bytes, length-take n file.bytes)) some has)
 
       one : WasHandedOver file from (torn_bytes file) → WasHandedOver file (from + offset) frame
-      one due =
+      one unsynced =
           let whole = has_whole file.bytes frame (from + offset) n has in
-          (due.0, due.1, due.2, due.3, torn_in_piece due.1 frame offset due.4 whole)
+          (unsynced.0, unsynced.1, unsynced.2, unsynced.3, torn_in_piece unsynced.1 frame offset unsynced.4 whole)
 
   durable_handed : HandedOverIn file (durable_bytes file)
   durable_handed frame offset some has = absurd (none_behind (durable_bytes file) frame (from + offset)
@@ -183,7 +183,7 @@ untorn_file file within = inl (drop_all (torn_from file) file.bytes within)
 pub lengthened_torn : (piece : List ℕ) (taken : ℕ) (file : File) → length file.bytes ≤ torn_from file
     → IsTornInOnePiece (lengthened piece taken file)
 lengthened_torn piece taken file within =
-    inr (Any-push (StandsIn (torn_from file) torn) file.due added (record { from = within; bytes_are = has }))
+    inr (Any-push (StandsIn (torn_from file) torn) file.unsynced added (record { from = within; bytes_are = has }))
   where
     added : Piece
     added = record { place = length file.bytes; bytes = piece }

@@ -21,8 +21,8 @@ use Rattle.vl_recover.specs.Alike.{OpensAsOf, Spells}
 use Rattle.vl_recover.specs.laws.AlikeLaws.{log_same}
 use Rattle.vl_recover.specs.Held.{IsSettled}
 use Rattle.vl_recover.specs.laws.LeadsLaws.{leads_kept, nowhere_kept}
-use Rattle.vl_recover.specs.Mending.{Cut, Headed, Kept, LastLog, Rewritten, WhileHeading, WhileLast, behind_last, headed, mending_of}
-use Rattle.vl_recover.specs.laws.MendingSteps.{IsLast, change_step, manifest_log, sync_step}
+use Rattle.vl_recover.specs.Repairing.{Cut, Headed, Kept, LastLog, Rewritten, WhileHeading, WhileLast, behind_last, headed, repairing_of}
+use Rattle.vl_recover.specs.laws.RepairingSteps.{IsLast, change_step, manifest_log, sync_step}
 use Rattle.vl_recover.specs.laws.OneName.{as_before, as_of_then}
 use Rattle.vl_recover.specs.laws.Torn.{LeavesNone, cut_no_chance, leaves_none, leaves_read, ended_no_chance, torn_cut, torn_header, uncut, uncut_chance}
 use Rattle.vl_recover.specs.Walk.{StandingLog}
@@ -31,9 +31,9 @@ use Rattle.vl_seglog.specs.Frames.{frames_end, frames_grammar, log_bytes, log_he
 use Rattle.vl_seglog.specs.LogReading.{AreBehind, HasHeader, LogReading, ReadsLog}
 use Rattle.vl_seglog.specs.laws.LogReadingLaws.{frames_within, log_apart, reads_cut, reads_no_header}
 
--- no piece that is due goes past the header
+-- no piece that is unsynced goes past the header
 abbrev pub IsWithinHeader : File → Type 0
-IsWithinHeader file = All (λ piece. piece.place + length piece.bytes ≤ 16) file.due
+IsWithinHeader file = All (λ piece. piece.place + length piece.bytes ≤ 16) file.unsynced
 
 -- How the last log stands on a disk that may be opened.
 pub record LastStands (q : StandingLog) (disk : DiskState) : Type 0 where
@@ -51,7 +51,7 @@ pub record IsWritten (q : StandingLog) (disk : DiskState) : Type 0 where
   pub stands : IsSettled disk (Log q.number) (log_bytes q.number q.reading.frames)
 
 -- So it becomes of the last log.
-pub record MendsLast (q : StandingLog) (disk : DiskState) (l : LastLog) : Type 0 where
+pub record RepairsLast (q : StandingLog) (disk : DiskState) (l : LastLog) : Type 0 where
   pub meanwhile : (now : DiskState) → WhileLast l disk now → OpensAsOf disk now
   pub after : OpensAsOf disk (behind_last l disk)
   pub written : IsWritten q (behind_last l disk)
@@ -153,7 +153,7 @@ module _ (number : ℕ) (s : ManifestState) (k : ℕ) where
         (lengthened (log_header k) taken) refl
         (λ bytes agrees chance. inl (torn_header k (lengthened (log_header k) taken file) bytes refl
         (omega (arith, none))
-        (All-push (λ (piece : Piece). piece.place + length piece.bytes ≤ 16) file.due
+        (All-push (λ (piece : Piece). piece.place + length piece.bytes ≤ 16) file.unsynced
         (record { place = length file.bytes; bytes = log_header k }) within
         (omega (arith, ap length empty, length-log_header k)))
         chance))
@@ -215,7 +215,7 @@ module _ (number : ℕ) (s : ManifestState) (q : StandingLog) (disk : DiskState)
     stands = subst (λ (fs : List _). IsSettled d (Log q.number) (log_bytes q.number fs)) (sym none) stands;
   }
 
-  kept_law : q.reading.header ≡ true → q.reading.whole ≡ true → MendsLast q disk (Kept q.number)
+  kept_law : q.reading.header ≡ true → q.reading.whole ≡ true → RepairsLast q disk (Kept q.number)
   kept_law header whole = record {
     meanwhile = sync_law number s k disk is.file last is.stands (is.no_chance header);
     after = sync_law number s k disk is.file last is.stands (is.no_chance header) (synced (Log k) disk)
@@ -258,7 +258,7 @@ module _ (number : ℕ) (s : ManifestState) (q : StandingLog) (disk : DiskState)
         (still_last number s k disk (shortened end end) last) cut_stands
         (cut_no_chance k end is.file loose (is.no_chance header)) now during)
 
-    cut_law : MendsLast q disk (Cut q.number (frames_end q.reading.frames))
+    cut_law : RepairsLast q disk (Cut q.number (frames_end q.reading.frames))
     cut_law = record {
       meanwhile = λ now during. ⊎_elim
           (λ (w : WhileCutting (Log k) end disk now). ⊎_elim
@@ -281,7 +281,7 @@ module _ (number : ℕ) (s : ManifestState) (q : StandingLog) (disk : DiskState)
     none : q.reading.frames ≡ []
     none = none_without k is.file.bytes q.reading is.reads header
 
-    headed_law : q.length ≡ 0 → MendsLast q disk (Headed q.number)
+    headed_law : q.length ≡ 0 → RepairsLast q disk (Headed q.number)
     headed_law zero =
         let short : length is.file.bytes ≡ 0 = sym is.length_is ∙ zero in
         let empty : is.file.bytes ≡ [] = nothing is.file.bytes short in
@@ -317,7 +317,7 @@ module _ (number : ℕ) (s : ManifestState) (q : StandingLog) (disk : DiskState)
     emptied_last : IsLast number s q.number (cut_to (Log q.number) 0 0 disk)
     emptied_last = still_last number s k disk (shortened 0 0) last
 
-    rewritten_law : MendsLast q disk (Rewritten q.number)
+    rewritten_law : RepairsLast q disk (Rewritten q.number)
     rewritten_law = record {
       meanwhile = λ now during. ⊎_elim
           (λ (w : WhileCutting (Log k) 0 disk now). ⊎_elim
@@ -341,12 +341,12 @@ module _ (number : ℕ) (s : ManifestState) (q : StandingLog) (disk : DiskState)
     }
 
   -- What an opening makes of the last log.
-  pub last_law : MendsLast q disk (mending_of q)
+  pub last_law : RepairsLast q disk (repairing_of q)
   last_law = by q.reading.header q.reading.whole (q.length == 0) refl refl refl
     where
       by : (header whole empty : Bool) → q.reading.header ≡ header → q.reading.whole ≡ whole
           → (q.length == 0) ≡ empty
-          → MendsLast q disk (if header then (if whole then Kept q.number else Cut q.number
+          → RepairsLast q disk (if header then (if whole then Kept q.number else Cut q.number
           (if header then frames_end q.reading.frames else 0)) else
           (if empty then Headed q.number else Rewritten q.number))
       by true true empty h w e = kept_law h w

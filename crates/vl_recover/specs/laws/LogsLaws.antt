@@ -1,4 +1,4 @@
--- The logs from head on as they stand on a disk, before and after the last one is mended.
+-- The logs from head on as they stand on a disk, before and after the last one is repaired.
 use Rattle.std.specs.Prelude.{◌≡◌, ◌≢◌, ◌⊎◌, ℕ, ◌+◌, ◌≤◌, ◌<◌, ◌==◌, Bool, List, [], ◌∷◌, length, map, Option, None, Some, Result, Ok, Err, if◌then◌else◌, false, true, refl}
 use Rattle.std.specs.FinMap.{get}
 use Rattle.std.specs.Option.{option_map}
@@ -17,8 +17,8 @@ use Rattle.vl_recover.specs.Answers.{as_segment}
 use Rattle.vl_recover.specs.Held.{HoldsLogs, IsNowhere}
 use Rattle.vl_recover.specs.laws.HeldLaws.{left_nowhere, left_settled}
 use Rattle.vl_recover.specs.laws.LeadsLaws.{nowhere_kept, settled_kept}
-use Rattle.vl_recover.specs.laws.LastLaws.{IsWritten, LastStands, MendsLast, whole_bytes, wrong_header}
-use Rattle.vl_recover.specs.Mending.{Cut, Headed, Kept, LastLog, Rewritten, behind_last, headed, last_of, mending_of}
+use Rattle.vl_recover.specs.laws.LastLaws.{IsWritten, LastStands, RepairsLast, whole_bytes, wrong_header}
+use Rattle.vl_recover.specs.Repairing.{Cut, Headed, Kept, LastLog, Rewritten, behind_last, headed, last_of, repairing_of}
 use Rattle.vl_recover.specs.laws.OneName.{elsewhere_then}
 use Rattle.vl_recover.specs.Opening.{IsNextLog, StandingLogs}
 use Rattle.vl_recover.specs.laws.OpeningLaws.{some_none, some_same}
@@ -105,7 +105,7 @@ abbrev pub the_last : StandingLog → List StandingLog → StandingLog
 the_last q [] = q
 the_last q (p ∷ ps) = the_last p ps
 
-pub last_is : (q : StandingLog) (qs : List StandingLog) → last_of (q ∷ qs) ≡ mending_of (the_last q qs)
+pub last_is : (q : StandingLog) (qs : List StandingLog) → last_of (q ∷ qs) ≡ repairing_of (the_last q qs)
 last_is q [] = refl
 last_is q (p ∷ ps) = last_is p ps
 
@@ -128,7 +128,7 @@ last_stands P least q (p ∷ ps) disk (next, written, rest) =
     let last = last_stands P (q.number + 1) p ps disk rest in
     record { from = omega (arith, next.from, last.from); holds = last.holds; above = last.above }
 
--- ---- it is mended
+-- ---- it is repaired
 
 headed_elsewhere : (k : ℕ) (disk : DiskState) → SameElsewhere (Log k) disk
     (with_file (Log k) synced_file (headed k disk))
@@ -138,9 +138,9 @@ headed_elsewhere k disk = elsewhere_then (Log k) disk (headed k disk)
     (changed_elsewhere (Log k) (headed k disk) synced_file)
 
 -- What is done to a log changes it alone.
-pub mending_elsewhere : (q : StandingLog) (disk : DiskState)
-    → SameElsewhere (Log q.number) disk (behind_last (mending_of q) disk)
-mending_elsewhere q disk = by q.reading.header q.reading.whole (q.length == 0)
+pub repairing_elsewhere : (q : StandingLog) (disk : DiskState)
+    → SameElsewhere (Log q.number) disk (behind_last (repairing_of q) disk)
+repairing_elsewhere q disk = by q.reading.header q.reading.whole (q.length == 0)
   where
     cut : (len : ℕ) → SameElsewhere (Log q.number) disk (with_file (Log q.number) (shortened len len) disk)
     cut len = changed_elsewhere (Log q.number) disk (shortened len len)
@@ -162,24 +162,24 @@ mending_elsewhere q disk = by q.reading.header q.reading.whole (q.length == 0)
 
 -- Then all are durable with their frames and nothing else.
 pub all_written : (least : ℕ) (logs : List StandingLog) (disk : DiskState)
-    → ((q : StandingLog) → IsTheLast LastStands least q disk → MendsLast q disk (mending_of q))
+    → ((q : StandingLog) → IsTheLast LastStands least q disk → RepairsLast q disk (repairing_of q))
     → StandUpTo LastStands least logs disk → StandUpTo IsWritten least logs (behind_last (last_of logs) disk)
-all_written least [] disk mends none = none
-all_written least (q ∷ []) disk mends (next, is, none) =
-    let now = behind_last (mending_of q) disk in
-    let same = mending_elsewhere q disk in (
+all_written least [] disk repairs none = none
+all_written least (q ∷ []) disk repairs (next, is, none) =
+    let now = behind_last (repairing_of q) disk in
+    let same = repairing_elsewhere q disk in (
       next_kept (Log q.number) disk now same least q (λ m above less e. omega
           (arith, less, log_same m q.number e)) next,
-      (mends q (record { from = next.from; holds = is; above = none })).written,
+      (repairs q (record { from = next.from; holds = is; above = none })).written,
       λ m above. nowhere_kept (Log q.number) disk now same (Log m)
           (λ e. omega (arith, above, log_same m q.number e)) (none m above),
     )
-all_written least (q ∷ p ∷ ps) disk mends (next, written, rest) = (
+all_written least (q ∷ p ∷ ps) disk repairs (next, written, rest) = (
   next_kept (Log last) disk now same least q (λ m above less e. omega
       (arith, less, up, log_same m last e)) next,
   written_kept (Log last) disk now same q (λ e. omega (arith, up, log_same q.number last e)) written,
   all_written (q.number + 1) (p ∷ ps) disk
-      (λ x is. mends x (record {
+      (λ x is. repairs x (record {
         from = (let a = is.from in let b = next.from in omega (arith, a, b));
         holds =
             is.holds;
@@ -198,7 +198,7 @@ all_written least (q ∷ p ∷ ps) disk mends (next, written, rest) = (
 
     same : SameElsewhere (Log (the_last p ps).number) disk (behind_last (last_of (p ∷ ps)) disk)
     same = subst (λ (l : LastLog). SameElsewhere (Log (the_last p ps).number) disk (behind_last l disk))
-        (sym (last_is p ps)) (mending_elsewhere (the_last p ps) disk)
+        (sym (last_is p ps)) (repairing_elsewhere (the_last p ps) disk)
 
 -- ---- what then holds of them
 
@@ -295,7 +295,7 @@ bytes_some bytes None e = absurd (some_none bytes e)
 bytes_some bytes (Some file) e = (file, refl, sym (some_same bytes file.bytes e))
 
 -- what is asked of the logs from a number on, beside that the disk is lawful and reads as this image
-pub record MayMend (head : ℕ) (read : Image) (disk : DiskState) : Type 0 where
+pub record MayRepair (head : ℕ) (read : Image) (disk : DiskState) : Type 0 where
   pub lawful : IsLawful disk
   pub is_read : IsRead read disk
   pub files : AllMayStand disk
@@ -304,7 +304,7 @@ pub record MayMend (head : ℕ) (read : Image) (disk : DiskState) : Type 0 where
       → get disk.standing (Log m) ≡ Some file
       → (file.wholly_synced ≡ true) × (file.lasting ≡ true)
 
-module _ (head : ℕ) (read : Image) (disk : DiskState) (may : MayMend head read disk) where
+module _ (head : ℕ) (read : Image) (disk : DiskState) (may : MayRepair head read disk) where
   pub read_nowhere : (m : ℕ) → head ≤ m → get read (Log m) ≡ None → IsNowhere disk (Log m)
   read_nowhere m from none = record {
     free = bytes_none (get disk.standing (Log m)) (sym none ∙ may.is_read.each (Log m));

@@ -21,12 +21,12 @@ use Rattle.vl_seglog.specs.LogReading.{LogReading}
 
 -- ---- logs that are made whole
 
--- the log as it is held once it is mended
-abbrev mended : StandingLog → StandingLog
-mended q = log_as_held (as_segment q)
+-- the log as it is held once it is repaired
+abbrev repaired : StandingLog → StandingLog
+repaired q = log_as_held (as_segment q)
 
-abbrev all_mended : List StandingLog → List StandingLog
-all_mended logs = map log_as_held (map as_segment logs)
+abbrev all_repaired : List StandingLog → List StandingLog
+all_repaired logs = map log_as_held (map as_segment logs)
 
 -- what counts whole counts when it is made so
 count_kept : (n m : ℕ) (r : LogReading) → counted_whole n r ≡ Ok m → counted n 16 r.frames ≡ Ok m
@@ -58,18 +58,18 @@ log_kept log n m r e =
     inside (Ok k) is = ap (λ (x : ℕ). Ok x) (ok_same {E = LogDamage} k m is)
     inside (Err place) is = absurd (err_ok (record { log = log; place = place }) m is)
 
--- mended logs go on as they did
+-- repaired logs go on as they did
 walk_kept : (n number : ℕ) (logs : List StandingLog) → walked n logs ≡ Ok number
-    → walked n (all_mended logs) ≡ Ok number
+    → walked n (all_repaired logs) ≡ Ok number
 walk_kept n number [] e = e
 walk_kept n number (q ∷ []) e = e
 walk_kept n number (q ∷ p ∷ logs) e =
     let first = in_log q.number (counted_whole n q.reading) in
     let (m, is, rest) = ok_apart (λ m. walked_on m p logs) first number e in
-    ap (on_ok (λ m. walked_on m (mended p) (all_mended logs))) (log_kept q.number n m q.reading is)
+    ap (on_ok (λ m. walked_on m (repaired p) (all_repaired logs))) (log_kept q.number n m q.reading is)
     ∙ walk_kept m number (p ∷ logs) rest
 
-filled_kept : (logs : List StandingLog) → filled (all_mended logs) ≡ filled logs
+filled_kept : (logs : List StandingLog) → filled (all_repaired logs) ≡ filled logs
 filled_kept [] = refl
 filled_kept (q ∷ logs) = ap (with_frames q.number q.reading.frames) (filled_kept logs)
 

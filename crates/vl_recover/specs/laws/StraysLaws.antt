@@ -12,8 +12,8 @@ use Rattle.vl_manifest.specs.declared.state.ManifestState.{ManifestState}
 use Rattle.vl_recover.specs.Alike.{OpensAsOf}
 use Rattle.vl_recover.specs.Held.{HoldsLogs}
 use Rattle.vl_recover.specs.laws.LeadsLaws.{Leads, leads_kept, logs_kept}
-use Rattle.vl_recover.specs.Mending.{WhileStrays, behind_strays}
-use Rattle.vl_recover.specs.laws.MendingSteps.{remove_step}
+use Rattle.vl_recover.specs.Repairing.{WhileStrays, behind_strays}
+use Rattle.vl_recover.specs.laws.RepairingSteps.{remove_step}
 use Rattle.vl_recover.specs.laws.OneName.{as_before, as_of_then}
 use Rattle.vl_recover.specs.laws.Torn.{Leaves}
 
@@ -41,7 +41,7 @@ abbrev pub AreSpare : ℕ → ℕ → DiskState → List Name → Type 0
 AreSpare number head disk names = (name : Name) → Contains names name → IsSpare number head disk name
 
 -- So it becomes of them.
-pub record MendsStrays (number : ℕ) (s : ManifestState) (disk : DiskState) (names : List Name) : Type 0 where
+pub record RepairsStrays (number : ℕ) (s : ManifestState) (disk : DiskState) (names : List Name) : Type 0 where
   pub meanwhile : (now : DiskState) → WhileStrays names disk now → OpensAsOf disk now
   pub leads : Leads number s (behind_strays names disk)
   pub logs : (logs : List Segment) → HoldsLogs s.head logs disk
@@ -60,8 +60,8 @@ rest_once name names once i j d below within = once (suc i) (suc j) d (omega (ar
 -- one goes, and then the others
 first_and : (number : ℕ) (s : ManifestState) (name : Name) (names : List Name) (disk : DiskState)
     → Leads number s disk
-    → IsSpare number s.head disk name → MendsStrays number s (without name disk) names
-    → MendsStrays number s disk (name ∷ names)
+    → IsSpare number s.head disk name → RepairsStrays number s (without name disk) names
+    → RepairsStrays number s disk (name ∷ names)
 first_and number s name names disk leads first rest = record {
   meanwhile = λ now during. ⊎_elim
       (λ (w : WhileRemoving name disk now). ⊎_elim
@@ -80,7 +80,7 @@ first_and number s name names disk leads first rest = record {
     gone = remove_step number s name disk first.file leads first.stands first.leaves first.lower first.below
 
 pub strays_law : (number : ℕ) (s : ManifestState) (names : List Name) (disk : DiskState) → Leads number s disk
-    → AreSpare number s.head disk names → AllPairs (λ a b. a ≢ b) names → MendsStrays number s disk names
+    → AreSpare number s.head disk names → AllPairs (λ a b. a ≢ b) names → RepairsStrays number s disk names
 strays_law number s [] disk leads spare once =
     record { meanwhile = λ now during. absurd during; leads = leads; logs = λ logs held. held }
 strays_law number s (name ∷ names) disk leads spare once =

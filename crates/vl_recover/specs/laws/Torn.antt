@@ -49,13 +49,13 @@ past_piece piece at frame some past stands =
     (drop_all (at - piece.place) piece.bytes short) ∙ take_all (length frame) [] zero-le in
     omega (arith, some, ap length none)
 
--- No frame was handed over past the pieces that are due,
+-- No frame was handed over past the pieces that are unsynced,
 pub none_past : (file : File) (end at : ℕ) (frame : List ℕ)
-    → All (λ piece. piece.place + length piece.bytes ≤ end) file.due
+    → All (λ piece. piece.place + length piece.bytes ≤ end) file.unsynced
     → end ≤ at → 1 ≤ length frame → WasHandedOver file at frame → ⊥
 none_past file end at frame within past some handed =
     let (piece, stands, short) = any_all (StandsIn at frame)
-    (λ (piece : Piece). piece.place + length piece.bytes ≤ end) file.due handed within in
+    (λ (piece : Piece). piece.place + length piece.bytes ≤ end) file.unsynced handed within in
     past_piece piece at frame some (omega (arith, short, past)) stands
 
 -- nor below the synced length.
@@ -63,7 +63,7 @@ pub none_below : (file : File) (at : ℕ) (frame : List ℕ) → IsLawfulFile fi
     → WasHandedOver file at frame → ⊥
 none_below file at frame lawful below handed =
     let (piece, stands, from) = any_all (StandsIn at frame)
-    (λ (piece : Piece). file.synced ≤ piece.place) file.due handed lawful.due in
+    (λ (piece : Piece). file.synced ≤ piece.place) file.unsynced handed lawful.unsynced in
     omega (arith, stands.from, from, below)
 
 -- ---- frames that are spelled
@@ -239,9 +239,9 @@ reads_none number bytes none = ⊎_elim
     })
     (header_or_not number bytes)
 
--- Where no piece that is due goes past the header, what is left of a log has no frames.
+-- Where no piece that is unsynced goes past the header, what is left of a log has no frames.
 pub torn_header : (number : ℕ) (file : File) (bytes : List ℕ) → file.wholly_synced ≡ false → file.synced ≤ 16
-    → All (λ piece. piece.place + length piece.bytes ≤ 16) file.due
+    → All (λ piece. piece.place + length piece.bytes ≤ 16) file.unsynced
     → NoChanceOne Spells (Log number) (Some file) (Some bytes) → ReadsFrames number bytes []
 torn_header number file bytes loose short within chance = reads_none number bytes none
   where
@@ -325,11 +325,11 @@ stand_leaves (Manifest number) file stand = leaves_read (Manifest number) file
 
 -- ---- a log that is cut
 
--- what is asked of a file is asked of one that is torn from the same place and has the same pieces due
+-- what is asked of a file is asked of one that is torn from the same place and has the same pieces unsynced
 pub same_handed : (file other : File) (spells : ℕ → List ℕ → Type 0) → torn_from file ≡ torn_from other
-    → file.due ≡ other.due
+    → file.unsynced ≡ other.unsynced
     → HasOnlyHandedOver file spells → HasOnlyHandedOver other spells
-same_handed file other spells from due only = record {
+same_handed file other spells from unsynced only = record {
   first = λ frame here. subst (λ (n : ℕ). WasHandedOver other n frame) from (moved (torn_from file) frame
       (only.first frame (subst (λ (n : ℕ). spells n frame) (sym from) here)));
   next = λ frame next here behind. subst (λ (n : ℕ). WasHandedOver other (n + length frame) next) from
@@ -339,7 +339,7 @@ same_handed file other spells from due only = record {
 }
   where
     moved : (at : ℕ) (frame : List ℕ) → WasHandedOver file at frame → WasHandedOver other at frame
-    moved at frame handed = subst (λ (ps : List Piece). Any (StandsIn at frame) ps) due handed
+    moved at frame handed = subst (λ (ps : List Piece). Any (StandsIn at frame) ps) unsynced handed
 
 module _ (number len : ℕ) (file : File) where
   -- Cut above the synced length, a log leaves what it could leave before.
@@ -459,4 +459,4 @@ module _ (number : ℕ) (file : File) (reading : LogReading) (lawful : IsLawfulF
           let handed = (chance tt refl).first frame (subst (λ (n : ℕ). Spells (Log number) bytes n frame)
           (sym from) spelled) in
           none_below file content frame lawful deep (subst
-          (λ (n : ℕ). Any (StandsIn n frame) file.due) from handed)
+          (λ (n : ℕ). Any (StandsIn n frame) file.unsynced) from handed)

@@ -39,7 +39,7 @@ pub struct Store {
     pub log: ActiveLog,
     frozen: Vec<FrozenLog>,
     memtable: Memtable,
-    in_use: Option<Open>,
+    open_txn: Option<Open>,
 }
 
 impl Store {
@@ -55,7 +55,7 @@ impl Store {
             log,
             frozen,
             memtable: Memtable::new(alloc),
-            in_use: None,
+            open_txn: None,
         }
     }
 
@@ -116,10 +116,10 @@ impl Store {
         if self.find(name.as_slice()).is_some() {
             return Answer::Taken { name };
         }
-        if self.in_use.is_some() {
+        if self.open_txn.is_some() {
             return Answer::TooMany;
         }
-        self.in_use = Some(Open { name, handle });
+        self.open_txn = Some(Open { name, handle });
         Answer::Number { number: self.last }
     }
 
@@ -163,7 +163,7 @@ impl Store {
         ensures halt { IfErr result (λ halt. halt ≡ Halt.NoMemory) }
         ensures log { self.new.log ≡ self.old.log }
     {
-        match &mut self.in_use {
+        match &mut self.open_txn {
             Some(held) if held.is_named(name.as_slice()) => match &mut held.handle {
                 Handle::View { .. } => Ok(Answer::ReadOnly),
                 Handle::Transaction { writes, .. } => write(writes, key, change),
@@ -188,7 +188,7 @@ impl Store {
         match self.decide(name) {
             Decision::Refuse(answer) => Ok(answer),
             Decision::Empty => {
-                self.in_use = None;
+                self.open_txn = None;
                 Ok(Answer::Nothing)
             }
             Decision::Write => self.log_commit(disk),
@@ -237,7 +237,7 @@ impl Store {
         ensures cause { HasCause (D.faults disk.old) (D.faults disk.new) (HaltsByDisk result) }
         ensures named { (name : Name) → result ≡ Err (Halt.Disk name) → name ≡ names.Log self.old.log.number }
     {
-        let Some(held) = &self.in_use else {
+        let Some(held) = &self.open_txn else {
             unreachable!();
         };
         let Handle::Transaction { writes, .. } = &held.handle else {
@@ -260,7 +260,7 @@ impl Store {
             });
         };
         self.log = log;
-        let Some(Open { name: _, handle }) = self.in_use.take() else {
+        let Some(Open { name: _, handle }) = self.open_txn.take() else {
             unreachable!();
         };
         let Handle::Transaction { writes, .. } = handle else {
@@ -278,7 +278,7 @@ impl Store {
         ensures log { self.new.log ≡ self.old.log }
     {
         if self.find(name.as_slice()).is_some() {
-            self.in_use = None;
+            self.open_txn = None;
             Answer::Done
         } else {
             Answer::Unknown { name }
@@ -287,9 +287,9 @@ impl Store {
 
     // What a name in use stands for.
     fn find(&self, name: &[u8]) -> Option<&Handle>
-        ensures { option_copied result ≡ handle_named self.now.in_use name.now }
+        ensures { option_copied result ≡ handle_named self.now.open_txn name.now }
     {
-        match &self.in_use {
+        match &self.open_txn {
             Some(held) if held.is_named(name) => Some(&held.handle),
             _ => None,
         }

@@ -4,8 +4,8 @@ ghost use Rattle.vl_model.specs.Frames.{record_length};
 ghost use Rattle.vl_seglog.specs.Record.{change_of, IsSpelled};
 ghost use Rattle.vl_model.specs.declared.change.Change.{Change};
 
+use crate::record::fields::take_apart;
 use crate::record::head::RECORD_HEAD_BYTES;
-use crate::record::parts::take_apart;
 use vl_model::{is_key_len, is_value_len};
 
 /// A record where it lies in memory.

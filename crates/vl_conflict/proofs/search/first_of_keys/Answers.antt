@@ -10,7 +10,7 @@ loop-key-init c = sym (nothing-found c.args.notes.now.named)
 
 pub loop-key-preserved : goal.loop-key-preserved
 loop-key-preserved c =
-    one_key_more c.args.number c.args.notes.now.named c.requires (lent c.loop-key.first) (lent c.first_late.result)
+    one_key_more c.args.number c.args.notes.now.named c.requires (lent c.loop-key.first) (lent c.first_newer_than.result)
     (lent c.lesser-first.result) c.lesser-first.ensures c.args.keys.now c.loop-key.key-index c.key-item.result
     (let test = c.loop-key-test.true in omega arith) c.key-item.is c.loop-key.invariant
-    (c.first_late.ensures ∙ ap (λ k. first_of (filter (is_late_within c.args.number (span_of (Some k) (Some k) true)) c.args.notes.now.named)) c.as_slice-key.ensures)
+    (c.first_newer_than.ensures ∙ ap (λ k. first_of (filter (is_late_within c.args.number (span_of (Some k) (Some k) true)) c.args.notes.now.named)) c.as_slice-key.ensures)

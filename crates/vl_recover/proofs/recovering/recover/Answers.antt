@@ -4,7 +4,7 @@ use Rattle.vl_manifest.specs.Manifest.{manifest_bytes}
 use Rattle.vl_recover.specs.laws.OneFinding.{opened_not}
 use Rattle.vl_recover.specs.PlanViews.{plan_view}
 use Rattle.vl_recover.specs.Results.{HasFailed, came_by}
-use Rattle.vl_recover.proofs.Recovered.{active_stays, as_long, calls_counted, calls_stopped, none_made, disk_mended, mended_again, mended_faults, mended_meanwhile, mended_tells, mended_through, opened_same, read_faults, refused_fine, still_tells, store_held, unchanged_again, unchanged_meanwhile, unchanged_through}
+use Rattle.vl_recover.proofs.Recovered.{active_stays, as_long, calls_counted, calls_stopped, none_made, disk_repaired, repaired_again, repaired_faults, repaired_meanwhile, repaired_tells, repaired_through, opened_same, read_faults, refused_fine, still_tells, store_held, unchanged_again, unchanged_meanwhile, unchanged_through}
 use Rattle.vl_recover.proofs.Unmoved.{call_as, then_call}
 use Rattle.vl_seglog.specs.declared.active.ActiveLog.{ActiveLog}
 use Rattle.vl_recover.proofs.recovering.recover.Goals as goal
@@ -30,26 +30,26 @@ returns-in-Err-clause-tells g c state told = still_tells g.D.Watched g.met.D.Dis
 pub returns-in-Err-NoMemory-clause-refused : goal.returns-in-Err-NoMemory-clause-refused
 returns-in-Err-NoMemory-clause-refused g c refused =
     let failed = rw c.in-Err-NoMemory.field-0-is at c.in-Err-NoMemory.is in
-    then_call g.D.Watched _ _ _ ⊥ c.in-Ok.ensures.no_change (c.mend.ensures.no_room failed)
+    then_call g.D.Watched _ _ _ ⊥ c.in-Ok.ensures.no_change (c.repair.ensures.no_room failed)
 
 pub returns-in-Err-NoMemory-clause-meanwhile : goal.returns-in-Err-NoMemory-clause-meanwhile
 returns-in-Err-NoMemory-clause-meanwhile g c state read told is_read =
-    mended_meanwhile g.D.Watched g.met.D.Disk.only_now _ _ c.in-Ok.ensures.no_change state told _ c.in-Ok.prepared c.mend.result c.mend.ensures
+    repaired_meanwhile g.D.Watched g.met.D.Disk.only_now _ _ c.in-Ok.ensures.no_change state told _ c.in-Ok.prepared c.repair.result c.repair.ensures
     read (c.in-Ok.ensures.answer state read told is_read)
 
 pub returns-in-Err-NoMemory-clause-through : goal.returns-in-Err-NoMemory-clause-through
 returns-in-Err-NoMemory-clause-through g c state told may =
-    mended_through g.D.Watched g.met.D.Disk.only_now _ _ c.in-Ok.ensures.no_change state told _ c.in-Ok.prepared c.mend.result c.mend.ensures
+    repaired_through g.D.Watched g.met.D.Disk.only_now _ _ c.in-Ok.ensures.no_change state told _ c.in-Ok.prepared c.repair.result c.repair.ensures
     g.met.D.Disk.lawful may (λ read is_read. c.in-Ok.ensures.answer state read told is_read)
 
 pub returns-in-Err-NoMemory-clause-again : goal.returns-in-Err-NoMemory-clause-again
 returns-in-Err-NoMemory-clause-again g c state now told may ends =
-    mended_again g.D.Watched g.met.D.Disk.only_now _ _ c.in-Ok.ensures.no_change state told _ c.in-Ok.prepared c.mend.result c.mend.ensures
+    repaired_again g.D.Watched g.met.D.Disk.only_now _ _ c.in-Ok.ensures.no_change state told _ c.in-Ok.prepared c.repair.result c.repair.ensures
     g.met.D.Disk.lawful may (λ read is_read. c.in-Ok.ensures.answer state read told is_read) g.met.D.Disk.counts_now now ends
 
 pub returns-in-Err-NoMemory-clause-tells : goal.returns-in-Err-NoMemory-clause-tells
 returns-in-Err-NoMemory-clause-tells g c state told =
-    mended_tells g.D.Watched g.met.D.Disk.only_now _ _ c.in-Ok.ensures.no_change state told _ c.in-Ok.prepared c.mend.result c.mend.ensures
+    repaired_tells g.D.Watched g.met.D.Disk.only_now _ _ c.in-Ok.ensures.no_change state told _ c.in-Ok.prepared c.repair.result c.repair.ensures
 
 -- the disk failed
 pub returns-clause-not_opened : goal.returns-clause-not_opened
@@ -59,87 +59,87 @@ returns-clause-not_opened g c state read told is_read not =
 
 pub returns-clause-meanwhile : goal.returns-clause-meanwhile
 returns-clause-meanwhile g c state read told is_read =
-    mended_meanwhile g.D.Watched g.met.D.Disk.only_now _ _ c.in-Ok.ensures.no_change state told _ c.in-Ok.prepared c.mend.result c.mend.ensures
+    repaired_meanwhile g.D.Watched g.met.D.Disk.only_now _ _ c.in-Ok.ensures.no_change state told _ c.in-Ok.prepared c.repair.result c.repair.ensures
     read (c.in-Ok.ensures.answer state read told is_read)
 
 pub returns-clause-through : goal.returns-clause-through
 returns-clause-through g c state told may =
-    mended_through g.D.Watched g.met.D.Disk.only_now _ _ c.in-Ok.ensures.no_change state told _ c.in-Ok.prepared c.mend.result c.mend.ensures
+    repaired_through g.D.Watched g.met.D.Disk.only_now _ _ c.in-Ok.ensures.no_change state told _ c.in-Ok.prepared c.repair.result c.repair.ensures
     g.met.D.Disk.lawful may (λ read is_read. c.in-Ok.ensures.answer state read told is_read)
 
 pub returns-clause-again : goal.returns-clause-again
 returns-clause-again g c state now told may ends =
-    mended_again g.D.Watched g.met.D.Disk.only_now _ _ c.in-Ok.ensures.no_change state told _ c.in-Ok.prepared c.mend.result c.mend.ensures
+    repaired_again g.D.Watched g.met.D.Disk.only_now _ _ c.in-Ok.ensures.no_change state told _ c.in-Ok.prepared c.repair.result c.repair.ensures
     g.met.D.Disk.lawful may (λ read is_read. c.in-Ok.ensures.answer state read told is_read) g.met.D.Disk.counts_now now ends
 
 pub returns-clause-tells : goal.returns-clause-tells
 returns-clause-tells g c state told =
-    mended_tells g.D.Watched g.met.D.Disk.only_now _ _ c.in-Ok.ensures.no_change state told _ c.in-Ok.prepared c.mend.result c.mend.ensures
+    repaired_tells g.D.Watched g.met.D.Disk.only_now _ _ c.in-Ok.ensures.no_change state told _ c.in-Ok.prepared c.repair.result c.repair.ensures
 
 -- it was opened
-pub returns-in-Ok-mend-clause-answer : goal.returns-in-Ok-mend-clause-answer
-returns-in-Ok-mend-clause-answer g c state read told is_read =
+pub returns-in-Ok-repair-clause-answer : goal.returns-in-Ok-repair-clause-answer
+returns-in-Ok-repair-clause-answer g c state read told is_read =
     let is = c.in-Ok.ensures.answer state read told is_read in
     (is.finds, is.unused, c.opened.ensures.opened ∙ opened_same read c.in-Ok.prepared is)
 
-pub returns-in-Ok-mend-clause-not_opened : goal.returns-in-Ok-mend-clause-not_opened
-returns-in-Ok-mend-clause-not_opened g c state read told is_read not =
+pub returns-in-Ok-repair-clause-not_opened : goal.returns-in-Ok-repair-clause-not_opened
+returns-in-Ok-repair-clause-not_opened g c state read told is_read not =
     let is = c.in-Ok.ensures.answer state read told is_read in
     absurd (opened_not read is.finds is.unused not)
 
-pub returns-in-Ok-mend-clause-mended : goal.returns-in-Ok-mend-clause-mended
-returns-in-Ok-mend-clause-mended g c state read told is_read =
+pub returns-in-Ok-repair-clause-repaired : goal.returns-in-Ok-repair-clause-repaired
+returns-in-Ok-repair-clause-repaired g c state read told is_read =
     let is = c.in-Ok.ensures.answer state read told is_read in
     rw c.opened.ensures.disk
-    (disk_mended g.D.Watched g.met.D.Disk.only_now _ _ c.in-Ok.ensures.no_change state told _ c.in-Ok.prepared _ c.in-Ok-mend.ensures
+    (disk_repaired g.D.Watched g.met.D.Disk.only_now _ _ c.in-Ok.ensures.no_change state told _ c.in-Ok.prepared _ c.in-Ok-repair.ensures
     read is_read is is.finds)
 
-pub returns-in-Ok-mend-clause-manifest : goal.returns-in-Ok-mend-clause-manifest
-returns-in-Ok-mend-clause-manifest g c =
+pub returns-in-Ok-repair-clause-manifest : goal.returns-in-Ok-repair-clause-manifest
+returns-in-Ok-repair-clause-manifest g c =
     as_long (plan_view c.in-Ok.prepared.plan) c.in-Ok.prepared.state c.opened.result.state _ c.opened.result.manifest
     (ap (λ (es : List Edit). manifest_bytes c.in-Ok.prepared.plan.manifest (es ∷ [])) c.in-Ok.ensures.edits)
-    c.in-Ok-mend.ensures.manifest c.opened.ensures.manifest c.opened.ensures.state
+    c.in-Ok-repair.ensures.manifest c.opened.ensures.manifest c.opened.ensures.state
 
-pub returns-in-Ok-mend-clause-held : goal.returns-in-Ok-mend-clause-held
-returns-in-Ok-mend-clause-held g c state now read found told may is_read ends =
+pub returns-in-Ok-repair-clause-held : goal.returns-in-Ok-repair-clause-held
+returns-in-Ok-repair-clause-held g c state now read found told may is_read ends =
     let ended = rw c.opened.ensures.disk at ends in
-    store_held g.D.Watched g.met.D.Disk.only_now _ _ c.in-Ok.ensures.no_change state told _ c.in-Ok.prepared _ c.in-Ok-mend.ensures
+    store_held g.D.Watched g.met.D.Disk.only_now _ _ c.in-Ok.ensures.no_change state told _ c.in-Ok.prepared _ c.in-Ok-repair.ensures
     read is_read (c.in-Ok.ensures.answer state read told is_read) found (g.met.D.Disk.lawful _ state told) may now ended
     c.opened.result.state c.opened.ensures.state
 
-pub returns-in-Ok-mend-clause-calls : goal.returns-in-Ok-mend-clause-calls
-returns-in-Ok-mend-clause-calls g c state read found strays told is_read are =
+pub returns-in-Ok-repair-clause-calls : goal.returns-in-Ok-repair-clause-calls
+returns-in-Ok-repair-clause-calls g c state read found strays told is_read are =
     rw c.opened.ensures.disk
-    (calls_counted g.D.Watched g.met.D.Disk.only_now _ _ c.in-Ok.ensures.no_change state told _ c.in-Ok.prepared _ c.in-Ok-mend.ensures
+    (calls_counted g.D.Watched g.met.D.Disk.only_now _ _ c.in-Ok.ensures.no_change state told _ c.in-Ok.prepared _ c.in-Ok-repair.ensures
     read is_read (c.in-Ok.ensures.answer state read told is_read) found strays are)
 
-pub returns-in-Ok-mend-clause-meanwhile : goal.returns-in-Ok-mend-clause-meanwhile
-returns-in-Ok-mend-clause-meanwhile g c state read told is_read =
+pub returns-in-Ok-repair-clause-meanwhile : goal.returns-in-Ok-repair-clause-meanwhile
+returns-in-Ok-repair-clause-meanwhile g c state read told is_read =
     rw c.opened.ensures.disk
-    (mended_meanwhile g.D.Watched g.met.D.Disk.only_now _ _ c.in-Ok.ensures.no_change state told _ c.in-Ok.prepared c.mend.result c.mend.ensures
+    (repaired_meanwhile g.D.Watched g.met.D.Disk.only_now _ _ c.in-Ok.ensures.no_change state told _ c.in-Ok.prepared c.repair.result c.repair.ensures
     read (c.in-Ok.ensures.answer state read told is_read))
 
-pub returns-in-Ok-mend-clause-through : goal.returns-in-Ok-mend-clause-through
-returns-in-Ok-mend-clause-through g c state told may =
+pub returns-in-Ok-repair-clause-through : goal.returns-in-Ok-repair-clause-through
+returns-in-Ok-repair-clause-through g c state told may =
     rw c.opened.ensures.disk
-    (mended_through g.D.Watched g.met.D.Disk.only_now _ _ c.in-Ok.ensures.no_change state told _ c.in-Ok.prepared c.mend.result c.mend.ensures
+    (repaired_through g.D.Watched g.met.D.Disk.only_now _ _ c.in-Ok.ensures.no_change state told _ c.in-Ok.prepared c.repair.result c.repair.ensures
     g.met.D.Disk.lawful may (λ read is_read. c.in-Ok.ensures.answer state read told is_read))
 
-pub returns-in-Ok-mend-clause-again : goal.returns-in-Ok-mend-clause-again
-returns-in-Ok-mend-clause-again g c state now told may ends =
+pub returns-in-Ok-repair-clause-again : goal.returns-in-Ok-repair-clause-again
+returns-in-Ok-repair-clause-again g c state now told may ends =
     let ended = rw c.opened.ensures.disk at ends in
-    mended_again g.D.Watched g.met.D.Disk.only_now _ _ c.in-Ok.ensures.no_change state told _ c.in-Ok.prepared c.mend.result c.mend.ensures
+    repaired_again g.D.Watched g.met.D.Disk.only_now _ _ c.in-Ok.ensures.no_change state told _ c.in-Ok.prepared c.repair.result c.repair.ensures
     g.met.D.Disk.lawful may (λ read is_read. c.in-Ok.ensures.answer state read told is_read) g.met.D.Disk.counts_now now ended
 
-pub returns-in-Ok-mend-clause-tells : goal.returns-in-Ok-mend-clause-tells
-returns-in-Ok-mend-clause-tells g c state told =
+pub returns-in-Ok-repair-clause-tells : goal.returns-in-Ok-repair-clause-tells
+returns-in-Ok-repair-clause-tells g c state told =
     rw c.opened.ensures.disk
-    (mended_tells g.D.Watched g.met.D.Disk.only_now _ _ c.in-Ok.ensures.no_change state told _ c.in-Ok.prepared c.mend.result c.mend.ensures)
+    (repaired_tells g.D.Watched g.met.D.Disk.only_now _ _ c.in-Ok.ensures.no_change state told _ c.in-Ok.prepared c.repair.result c.repair.ensures)
 
-pub returns-in-Ok-mend-clause-stands : goal.returns-in-Ok-mend-clause-stands
-returns-in-Ok-mend-clause-stands g c =
+pub returns-in-Ok-repair-clause-stands : goal.returns-in-Ok-repair-clause-stands
+returns-in-Ok-repair-clause-stands g c =
     rw c.opened.ensures.disk
-    (active_stays g.D.Watched _ _ _ c.in-Ok.ensures.no_change c.in-Ok.prepared _ c.in-Ok-mend.ensures c.in-Ok.ensures.answer
+    (active_stays g.D.Watched _ _ _ c.in-Ok.ensures.no_change c.in-Ok.prepared _ c.in-Ok-repair.ensures c.in-Ok.ensures.answer
     c.opened.result.active.number (ap (λ (a : ActiveLog). a.number) c.opened.ensures.active))
 
 -- where it failed
@@ -149,7 +149,7 @@ returns-in-Err-clause-at g c state read told is_read = read_faults read (g.D.Wat
 pub returns-clause-at : goal.returns-clause-at
 returns-clause-at g c state read told is_read =
     let failed = rw c.in-Err-Disk.field-0-is at c.in-Err-Disk.is in
-    mended_faults read state c.in-Ok.prepared (c.in-Ok.ensures.answer state read told is_read) c.mend.result c.in-Err-Disk.name failed c.mend.ensures.at
+    repaired_faults read state c.in-Ok.prepared (c.in-Ok.ensures.answer state read told is_read) c.repair.result c.in-Err-Disk.name failed c.repair.ensures.at
 
 -- and how many calls it had made
 pub returns-in-Err-clause-stopped : goal.returns-in-Err-clause-stopped
@@ -158,10 +158,10 @@ returns-in-Err-clause-stopped g c state read found strays told is_read are = non
 pub returns-in-Err-NoMemory-clause-stopped : goal.returns-in-Err-NoMemory-clause-stopped
 returns-in-Err-NoMemory-clause-stopped g c state read found strays told is_read are =
     let failed = rw c.in-Err-NoMemory.field-0-is at c.in-Err-NoMemory.is in
-    none_made g.D.Watched _ _ _ _ (then_call g.D.Watched _ _ _ ⊥ c.in-Ok.ensures.no_change (c.mend.ensures.no_room failed))
+    none_made g.D.Watched _ _ _ _ (then_call g.D.Watched _ _ _ ⊥ c.in-Ok.ensures.no_change (c.repair.ensures.no_room failed))
 
 pub returns-clause-stopped : goal.returns-clause-stopped
 returns-clause-stopped g c state read found strays told is_read are =
     let failed = rw c.in-Err-Disk.field-0-is at c.in-Err-Disk.is in
-    calls_stopped g.D.Watched g.met.D.Disk.only_now _ _ c.in-Ok.ensures.no_change state told _ c.in-Ok.prepared c.mend.result _ failed c.mend.ensures
+    calls_stopped g.D.Watched g.met.D.Disk.only_now _ _ c.in-Ok.ensures.no_change state told _ c.in-Ok.prepared c.repair.result _ failed c.repair.ensures
     read is_read (c.in-Ok.ensures.answer state read told is_read) found strays are

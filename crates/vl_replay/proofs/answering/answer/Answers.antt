@@ -20,8 +20,8 @@ returns-in-Ok-clause-printed g c script stands count next =
 
 pub returns-in-Ok-clause-moves : goal.returns-in-Ok-clause-moves
 returns-in-Ok-clause-moves g c s stands held =
-    let carried = c.carry_out.ensures.carries s stands held in
-    record { held = of_ok c.carry_out.result _ (ap is_ok c.in-Ok-Some.is) carried.answered; through = carried.through; steady = c.carry_out.ensures.cause.steady (subst (λ r. HaltsByDisk r → ⊥) (sym c.in-Ok-Some.is) (λ by. by)) }
+    let carried = c.execute_line.ensures.carries s stands held in
+    record { held = of_ok c.execute_line.result _ (ap is_ok c.in-Ok-Some.is) carried.answered; through = carried.through; steady = c.execute_line.ensures.cause.steady (subst (λ r. HaltsByDisk r → ⊥) (sym c.in-Ok-Some.is) (λ by. by)) }
 
 pub returns-in-Ok-Some-clause-printed : goal.returns-in-Ok-Some-clause-printed
 returns-in-Ok-Some-clause-printed g c script stands count next left =
@@ -31,7 +31,7 @@ returns-in-Ok-Some-clause-printed g c script stands count next left =
 
 pub returns-in-Ok-Some-clause-moves : goal.returns-in-Ok-Some-clause-moves
 returns-in-Ok-Some-clause-moves g c s stands held =
-    ends_cut g.D.Watched (record { only_now = g.met.D.Disk.only_now; counts_now = g.met.D.Disk.counts_now }) s c.args.text.now c.args.replayer.now.disk c.carry_out.new.replayer.disk c.carry_out.result (ap is_ok c.in-Ok-Some.is) (c.carry_out.ensures.carries s stands held)
+    ends_cut g.D.Watched (record { only_now = g.met.D.Disk.only_now; counts_now = g.met.D.Disk.counts_now }) s c.args.text.now c.args.replayer.now.disk c.execute_line.new.replayer.disk c.execute_line.result (ap is_ok c.in-Ok-Some.is) (c.execute_line.ensures.carries s stands held)
 
 pub returns-in-Ok-None-clause-printed : goal.returns-in-Ok-None-clause-printed
 returns-in-Ok-None-clause-printed g c script stands count next left =
@@ -41,7 +41,7 @@ returns-in-Ok-None-clause-printed g c script stands count next left =
 pub returns-in-Ok-None-clause-moves : goal.returns-in-Ok-None-clause-moves
 returns-in-Ok-None-clause-moves g c s stands held =
     let bad = rw c.in-Ok-None.field-0-is at (c.in-Ok-None.ensures.answers s stands) in
-    ends_bad g.D.Watched (record { only_now = g.met.D.Disk.only_now; counts_now = g.met.D.Disk.counts_now }) s c.args.text.now c.args.replayer.now.disk c.carry_out.new.replayer.disk c.carry_out.result c.end_at_bad_line.result (ap is_ok c.in-Ok-None.is) c.end_at_bad_line.ensures.not_the_disk bad (c.carry_out.ensures.carries s stands held)
+    ends_bad g.D.Watched (record { only_now = g.met.D.Disk.only_now; counts_now = g.met.D.Disk.counts_now }) s c.args.text.now c.args.replayer.now.disk c.execute_line.new.replayer.disk c.execute_line.result c.end_at_bad_line.result (ap is_ok c.in-Ok-None.is) c.end_at_bad_line.ensures.not_the_disk bad (c.execute_line.ensures.carries s stands held)
 
 pub returns-in-Err-NoMemory-clause-printed : goal.returns-in-Err-NoMemory-clause-printed
 returns-in-Err-NoMemory-clause-printed g c script stands count next left =
@@ -49,8 +49,8 @@ returns-in-Err-NoMemory-clause-printed g c script stands count next left =
 
 pub returns-in-Err-NoMemory-clause-moves : goal.returns-in-Err-NoMemory-clause-moves
 returns-in-Err-NoMemory-clause-moves g c s stands held =
-    ends_out g.D.Watched (record { only_now = g.met.D.Disk.only_now; counts_now = g.met.D.Disk.counts_now }) s c.args.text.now c.args.replayer.now.disk c.carry_out.new.replayer.disk g.K.Sink c.args.sink.now c.finish.new.sink no_memory_line c.carry_out.result c.finish.result
-    (c.in-Err-NoMemory.is ∙ ap Err c.in-Err-NoMemory.field-0-is) c.finish.ensures (c.carry_out.ensures.carries s stands held)
+    ends_out g.D.Watched (record { only_now = g.met.D.Disk.only_now; counts_now = g.met.D.Disk.counts_now }) s c.args.text.now c.args.replayer.now.disk c.execute_line.new.replayer.disk g.K.Sink c.args.sink.now c.finish.new.sink no_memory_line c.execute_line.result c.finish.result
+    (c.in-Err-NoMemory.is ∙ ap Err c.in-Err-NoMemory.field-0-is) c.finish.ensures (c.execute_line.ensures.carries s stands held)
 
 pub returns-in-Err-NoMemory-clause-sink_faults : goal.returns-in-Err-NoMemory-clause-sink_faults
 returns-in-Err-NoMemory-clause-sink_faults g c = finish_counts g.K.Sink _ _ _ NoMemory c.finish.result (λ e. cc) c.finish.ensures
@@ -58,13 +58,13 @@ returns-in-Err-NoMemory-clause-sink_faults g c = finish_counts g.K.Sink _ _ _ No
 pub returns-clause-printed : goal.returns-clause-printed
 returns-clause-printed g c script stands count next left =
     finished g.K.Sink c.args.sink.now c.end_at_fault.new.sink _ script left (ending_at c.args.on_fault) c.end_at_fault.result (line_at c.args.on_fault) (fault_line (next_number script 0) c.args.on_fault)
-    (fault_stops (OnlyByDisk (Rose (g.D.Watched.faults c.args.replayer.now.disk) (g.D.Watched.faults c.carry_out.new.replayer.disk))) script left 0 (c.carry_out.ensures.cause.rose (halts c.carry_out.result c.in-Err-Disk.field-0-0 (c.in-Err-Disk.is ∙ ap Err c.in-Err-Disk.field-0-is))) c.args.on_fault) c.end_at_fault.ensures
+    (fault_stops (OnlyByDisk (Rose (g.D.Watched.faults c.args.replayer.now.disk) (g.D.Watched.faults c.execute_line.new.replayer.disk))) script left 0 (c.execute_line.ensures.cause.rose (halts c.execute_line.result c.in-Err-Disk.field-0-0 (c.in-Err-Disk.is ∙ ap Err c.in-Err-Disk.field-0-is))) c.args.on_fault) c.end_at_fault.ensures
 
 pub returns-clause-moves : goal.returns-clause-moves
 returns-clause-moves g c s stands held =
-    let by = halts c.carry_out.result c.in-Err-Disk.field-0-0 (c.in-Err-Disk.is ∙ ap Err c.in-Err-Disk.field-0-is) in
-    ends_fault g.D.Watched (record { only_now = g.met.D.Disk.only_now; counts_now = g.met.D.Disk.counts_now }) s c.args.text.now c.args.replayer.now.disk c.carry_out.new.replayer.disk g.K.Sink c.args.sink.now c.end_at_fault.new.sink (line_at c.args.on_fault) c.carry_out.result c.args.on_fault c.end_at_fault.result
-    (c.carry_out.ensures.cause.rose by) by c.end_at_fault.ensures (c.carry_out.ensures.carries s stands held)
+    let by = halts c.execute_line.result c.in-Err-Disk.field-0-0 (c.in-Err-Disk.is ∙ ap Err c.in-Err-Disk.field-0-is) in
+    ends_fault g.D.Watched (record { only_now = g.met.D.Disk.only_now; counts_now = g.met.D.Disk.counts_now }) s c.args.text.now c.args.replayer.now.disk c.execute_line.new.replayer.disk g.K.Sink c.args.sink.now c.end_at_fault.new.sink (line_at c.args.on_fault) c.execute_line.result c.args.on_fault c.end_at_fault.result
+    (c.execute_line.ensures.cause.rose by) by c.end_at_fault.ensures (c.execute_line.ensures.carries s stands held)
 
 pub returns-clause-sink_faults : goal.returns-clause-sink_faults
 returns-clause-sink_faults g c = finish_counts g.K.Sink _ _ _ (ending_at c.args.on_fault) c.end_at_fault.result (at_fault (λ (e : Ending). culprit_of e ≢ TheSink) (λ e. cc) (λ e. cc) c.args.on_fault) c.end_at_fault.ensures
@@ -95,8 +95,8 @@ returns-clause-reads g c =
 
 pub returns-clause-disk_faults : goal.returns-clause-disk_faults
 returns-clause-disk_faults g c =
-    let by = halts c.carry_out.result c.in-Err-Disk.field-0-0 (c.in-Err-Disk.is ∙ ap Err c.in-Err-Disk.field-0-is) in
-    fault_counts g.K.Sink _ _ _ c.end_at_fault.result c.args.on_fault _ _ _ by c.carry_out.ensures.cause c.end_at_fault.ensures
+    let by = halts c.execute_line.result c.in-Err-Disk.field-0-0 (c.in-Err-Disk.is ∙ ap Err c.in-Err-Disk.field-0-is) in
+    fault_counts g.K.Sink _ _ _ c.end_at_fault.result c.args.on_fault _ _ _ by c.execute_line.ensures.cause c.end_at_fault.ensures
 
 pub returns-clause-not_the_source : goal.returns-clause-not_the_source
 returns-clause-not_the_source g c =

@@ -2,8 +2,8 @@ use Rattle.std.proofs.Common.{ℕ, List, Some, sym, ap, ◌∙◌}
 use Rattle.std.specs.List.{filter}
 use Rattle.vl_model.specs.Conflicts.{first_of}
 use Rattle.vl_conflict.specs.Notes.{Kept, lent}
-use Rattle.vl_conflict.specs.Recent.{first_late, is_late_at_any, lesser_of}
-use Rattle.vl_conflict.proofs.RecentLaws.{first_late-conflict}
+use Rattle.vl_conflict.specs.Recent.{first_newer_than, is_late_at_any, lesser_of}
+use Rattle.vl_conflict.proofs.RecentLaws.{first_newer_than-conflict}
 use Rattle.vl_conflict.proofs.Lesser.{all_late}
 use Rattle.vl_conflict.proofs.recent.Recent.check.Goals as goal
 
@@ -16,11 +16,11 @@ returns-in_ok-share-in-Some-clause-first c =
     ∙ ap (λ r. lent r) (sym c.in-Some.is) ∙ c.lesser.ensures
     ∙ ap (λ o. lesser_of o (lent c.first_of_spans-of_spans.result)) c.first_of_keys-of_keys.ensures
     ∙ ap (lesser_of (first_of (filter (is_late_at_any number keys) c.self.inside.notes.named))) c.first_of_spans-of_spans.ensures
-    ∙ all_late number keys spans c.self.inside.notes.named c.self.invariant ∙ ap (λ (k : Kept). first_late number keys spans k.named) c.self.view_is
+    ∙ all_late number keys spans c.self.inside.notes.named c.self.invariant ∙ ap (λ (k : Kept). first_newer_than number keys spans k.named) c.self.view_is
 
 pub returns-in_ok-share-in-Some-clause-conflict : goal.returns-in_ok-share-in-Some-clause-conflict
 returns-in_ok-share-in-Some-clause-conflict c h floor reads remembers le notes =
-    returns-in_ok-share-in-Some-clause-first c ∙ first_late-conflict h floor c.args.number reads c.args.keys.now c.args.spans.now c.args.self.now.named remembers le notes
+    returns-in_ok-share-in-Some-clause-first c ∙ first_newer_than-conflict h floor c.args.number reads c.args.keys.now c.args.spans.now c.args.self.now.named remembers le notes
 
 pub returns-in-None-clause-first : goal.returns-in-None-clause-first
 returns-in-None-clause-first c =
@@ -30,8 +30,8 @@ returns-in-None-clause-first c =
     ap (λ r. lent r) (sym c.in-None.is) ∙ c.lesser.ensures
     ∙ ap (λ o. lesser_of o (lent c.first_of_spans-of_spans.result)) c.first_of_keys-of_keys.ensures
     ∙ ap (lesser_of (first_of (filter (is_late_at_any number keys) c.self.inside.notes.named))) c.first_of_spans-of_spans.ensures
-    ∙ all_late number keys spans c.self.inside.notes.named c.self.invariant ∙ ap (λ (k : Kept). first_late number keys spans k.named) c.self.view_is
+    ∙ all_late number keys spans c.self.inside.notes.named c.self.invariant ∙ ap (λ (k : Kept). first_newer_than number keys spans k.named) c.self.view_is
 
 pub returns-in-None-clause-conflict : goal.returns-in-None-clause-conflict
 returns-in-None-clause-conflict c h floor reads remembers le notes =
-    returns-in-None-clause-first c ∙ first_late-conflict h floor c.args.number reads c.args.keys.now c.args.spans.now c.args.self.now.named remembers le notes
+    returns-in-None-clause-first c ∙ first_newer_than-conflict h floor c.args.number reads c.args.keys.now c.args.spans.now c.args.self.now.named remembers le notes

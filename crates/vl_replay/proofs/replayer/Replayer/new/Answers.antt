@@ -1,5 +1,5 @@
 use Rattle.std.proofs.Common.{◌≡◌, sym, subst, ◌∙◌, refl, arith}
-use Rattle.vl_recover.specs.Meanwhile.{IsMended}
+use Rattle.vl_recover.specs.Meanwhile.{IsRepaired}
 use Rattle.vl_recover.specs.laws.OneFinding.{opened_not}
 use Rattle.vl_recover.specs.Starts.{MayOpen}
 use Rattle.vl_replay.proofs.Recovering.{opened_store, opened_stored, refused_not}
@@ -33,7 +33,7 @@ returns-in-Ok-clause-holds g c s starts (state, is, may) =
         now,
         told,
         opened_stored g.D.Watched c.args.disk s starts c.in-Ok.parts other opened now (g.met.D.Disk.lawful c.in-Ok.parts.disk now told)
-            (subst (IsMended starts.read starts.state) told (c.in-Ok.ensures.mended starts.state starts.read starts.told starts.is_read))
+            (subst (IsRepaired starts.read starts.state) told (c.in-Ok.ensures.repaired starts.state starts.read starts.told starts.is_read))
             (c.in-Ok.ensures.held starts.state now starts.read starts.found starts.told (subst MayOpen same may) starts.is_read told),
       );
     }

@@ -14,25 +14,25 @@ use Rattle.vl_replay.proofs.replayer.store.Store.get.Goals as goal
 pub returns-in_default-clause-answer : goal.returns-in_default-clause-answer
 returns-in_default-clause-answer c s rep =
     let r = c.args.self.now in
-    let is : option_copied c.find.result ≡ handle_named r.in_use c.args.name = c.find.ensures ∙ ap (handle_named r.in_use) c.as_slice.ensures in
-    let missing = unnamed s.history s.handles r.in_use c.args.name rep.in_use (sym is ∙ ap option_copied c.in_default.is) in
+    let is : option_copied c.find.result ≡ handle_named r.open_txn c.args.name = c.find.ensures ∙ ap (handle_named r.open_txn) c.as_slice.ensures in
+    let missing = unnamed s.history s.handles r.open_txn c.args.name rep.open_txn (sym is ∙ ap option_copied c.in_default.is) in
     gives_as _ (ap (read s c.args.name c.args.key) missing) (record { answer_is = refl; stands = rep })
 
 pub returns-then-not-is_key_len-clause-answer : goal.returns-then-not-is_key_len-clause-answer
 returns-then-not-is_key_len-clause-answer c s rep =
     let r = c.args.self.now in
-    let is : option_copied c.find.result ≡ handle_named r.in_use c.args.name = c.find.ensures ∙ ap (handle_named r.in_use) c.as_slice.ensures in
+    let is : option_copied c.find.result ≡ handle_named r.open_txn c.args.name = c.find.ensures ∙ ap (handle_named r.open_txn) c.as_slice.ensures in
     let kept = c.in-Some.handle.now in
-    let holds = named s.history s.handles r.in_use c.args.name kept rep.in_use (sym is ∙ ap option_copied c.in-Some.is) in
+    let holds = named s.history s.handles r.open_txn c.args.name kept rep.open_txn (sym is ∙ ap option_copied c.in-Some.is) in
     let unlawful : is_key_length (length c.args.key) ≡ false = ap is_key_length (sym c.len.ensures) ∙ sym c.is_key_len.ensures ∙ c.if-not-is_key_len.true in
     gives_as _ (read_invalid s c.args.name c.args.key kept holds unlawful) (record { answer_is = refl; stands = rep })
 
 pub returns-in-View-clause-answer : goal.returns-in-View-clause-answer
 returns-in-View-clause-answer c s rep =
     let r = c.args.self.now in
-    let is : option_copied c.find.result ≡ handle_named r.in_use c.args.name = c.find.ensures ∙ ap (handle_named r.in_use) c.as_slice.ensures in
+    let is : option_copied c.find.result ≡ handle_named r.open_txn c.args.name = c.find.ensures ∙ ap (handle_named r.open_txn) c.as_slice.ensures in
     let number = c.in-View.number in
-    let holds = named s.history s.handles r.in_use c.args.name (View number) rep.in_use (sym is ∙ ap option_copied c.in-Some.is ∙ ap Some c.in-View.is) in
+    let holds = named s.history s.handles r.open_txn c.args.name (View number) rep.open_txn (sym is ∙ ap option_copied c.in-Some.is ∙ ap Some c.in-View.is) in
     let lawful : is_key_length (length c.args.key) ≡ true = ap is_key_length (sym c.len.ensures) ∙ sym c.is_key_len.ensures ∙ c.if-not-is_key_len.false in
     let answer = subst (λ key. IfOk c.read.result (λ a. a ≡ found (value_left (opened_value r.frozen.items key) (newest r.memtable.entries.items key number)))) c.as_slice-in-View.ensures c.read.ensures.answer in
     gives_if_ok c.read.result _ r _ answer (read_view r s c.args.name c.args.key number rep holds lawful)
@@ -40,11 +40,11 @@ returns-in-View-clause-answer c s rep =
 pub returns-in-Some-get-clause-answer : goal.returns-in-Some-get-clause-answer
 returns-in-Some-get-clause-answer c s rep =
     let r = c.args.self.now in
-    let is : option_copied c.find.result ≡ handle_named r.in_use c.args.name = c.find.ensures ∙ ap (handle_named r.in_use) c.as_slice.ensures in
+    let is : option_copied c.find.result ≡ handle_named r.open_txn c.args.name = c.find.ensures ∙ ap (handle_named r.open_txn) c.as_slice.ensures in
     let number = c.in-Transaction.number in
     let writes = c.in-Transaction.writes in
-    let kept : handle_named r.in_use c.args.name ≡ Some (Transaction number writes) = sym is ∙ ap option_copied c.in-Some.is ∙ ap Some c.in-Transaction.is in
-    let holds = named s.history s.handles r.in_use c.args.name (Transaction number writes) rep.in_use kept in
+    let kept : handle_named r.open_txn c.args.name ≡ Some (Transaction number writes) = sym is ∙ ap option_copied c.in-Some.is ∙ ap Some c.in-Transaction.is in
+    let holds = named s.history s.handles r.open_txn c.args.name (Transaction number writes) rep.open_txn kept in
     let lawful : is_key_length (length c.args.key) ≡ true = ap is_key_length (sym c.len.ensures) ∙ sym c.is_key_len.ensures ∙ c.if-not-is_key_len.false in
     let own : get writes c.args.key ≡ Some c.in-Some-get.change.now =
     ap (get writes) (sym c.as_slice-in-Transaction.ensures) ∙ sym c.get.ensures ∙ ap option_copied c.in-Some-get.is in
@@ -53,10 +53,10 @@ returns-in-Some-get-clause-answer c s rep =
 pub returns-clause-answer : goal.returns-clause-answer
 returns-clause-answer c s rep =
     let r = c.args.self.now in
-    let is : option_copied c.find.result ≡ handle_named r.in_use c.args.name = c.find.ensures ∙ ap (handle_named r.in_use) c.as_slice.ensures in
+    let is : option_copied c.find.result ≡ handle_named r.open_txn c.args.name = c.find.ensures ∙ ap (handle_named r.open_txn) c.as_slice.ensures in
     let number = c.in-Transaction.number in
     let writes = c.in-Transaction.writes in
-    let kept : handle_named r.in_use c.args.name ≡ Some (Transaction number writes) = sym is ∙ ap option_copied c.in-Some.is ∙ ap Some c.in-Transaction.is in
+    let kept : handle_named r.open_txn c.args.name ≡ Some (Transaction number writes) = sym is ∙ ap option_copied c.in-Some.is ∙ ap Some c.in-Transaction.is in
     let lawful : is_key_length (length c.args.key) ≡ true = ap is_key_length (sym c.len.ensures) ∙ sym c.is_key_len.ensures ∙ c.if-not-is_key_len.false in
     let missing : get writes c.args.key ≡ None =
     ap (get writes) (sym c.as_slice-in-Transaction.ensures) ∙ sym c.get.ensures ∙ ap option_copied c.in-None.is in

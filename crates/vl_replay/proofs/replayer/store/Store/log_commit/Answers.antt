@@ -50,7 +50,7 @@ returns-clause-answer g c s name writes rep there =
     subst (λ w. Takes r.memtable.entries.items new.entries.items w last) same_taken (subst (λ es. Takes es new.entries.items c.in-Transaction-handle.writes last) c.reserve.ensures.entries took) in
     let listed = c.as_slice.ensures.entries ∙ ap (λ (w : Writes). entries w) same in
     let log_is = log_after r s name writes c.as_slice.result.now c.in_ok-staged.staged c.append_durably.new.log rep listed c.in_ok-staged.ensures.staged c.append_durably.ensures.number (rw c.in-Ok.is at c.append_durably.ensures.longer) in
-    subst (λ o. IsOutcome (Number last) (record { alloc = r.alloc; last = last; log = c.append_durably.new.log; frozen = r.frozen; memtable = new; in_use = o }) (Number (last_number s.history + 1), after_commit s name writes)) (sym c.take.ensures.after)
+    subst (λ o. IsOutcome (Number last) (record { alloc = r.alloc; last = last; log = c.append_durably.new.log; frozen = r.frozen; memtable = new; open_txn = o }) (Number (last_number s.history + 1), after_commit s name writes)) (sym c.take.ensures.after)
     (gives_commit r s name writes c.append_durably.new.log new rep there log_is takes)
 
 pub returns-in_default-append_durably-clause-carries : goal.returns-in_default-append_durably-clause-carries

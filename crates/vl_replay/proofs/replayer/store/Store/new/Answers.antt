@@ -8,5 +8,5 @@ returns-clause-store c s opened = record {
   last = omega (arith, opened.first, ap length opened.commits);
   log = sym opened.log_is;
   shows = shows_opened c.args.last c.args.frozen.items c.args.log s _ (omega (arith, c.ranges.last.fits)) opened c.new.ensures;
-  in_use = opened.handles;
+  open_txn = opened.handles;
 }

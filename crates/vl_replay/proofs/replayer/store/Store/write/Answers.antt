@@ -13,7 +13,7 @@ returns-in-View-clause-answer c s rep =
     let r = c.args.self.now in
     let held = c.in-Some.held in
     let same : bytes_eq c.args.name held.name ≡ true = ap (λ name. bytes_eq name held.name) (sym c.as_slice.ensures) ∙ sym c.is_named.ensures ∙ c.if-is_named.true in
-    let open_thing = subst (λ o. IsOpen s.history o s.handles) c.in-Some.is rep.in_use in
+    let open_thing = subst (λ o. IsOpen s.history o s.handles) c.in-Some.is rep.open_txn in
     let holds = subst (IsInUse s.history s.handles c.args.name) c.in-View.is (held_in_use s.history s.handles held c.args.name open_thing same) in
     gives_as _ (ap (written s c.args.name c.args.key c.args.change) (holds.found_is ∙ ap Some holds.stands.1)) (record { answer_is = refl; stands = stands_kept r s held held.handle rep c.in-Some.is refl })
 
@@ -32,10 +32,10 @@ returns-clause-answer c s rep =
     elim c.in_default.branch [
       | in_default-via-in-Some+else-is_named w ↦
           let held = w.in-Some.held in
-          let open_thing = subst (λ o. IsOpen s.history o s.handles) w.in-Some.is rep.in_use in
+          let open_thing = subst (λ o. IsOpen s.history o s.handles) w.in-Some.is rep.open_txn in
           let other : bytes_eq c.args.name held.name ≡ false = ap (λ name. bytes_eq name held.name) (sym w.as_slice.ensures) ∙ sym w.is_named.ensures ∙ w.if-is_named.false in
           unknown (other_in_use s.history s.handles held c.args.name open_thing other)
           (subst (λ x. Represents x s) (sym w.self-is) (stands_kept r s held held.handle rep w.in-Some.is refl))
       | in_default-via-in_default w ↦
-          unknown (none_in_use s.history s.handles c.args.name (subst (λ o. IsOpen s.history o s.handles) w.in_default.is rep.in_use)) (subst (λ x. Represents x s) (sym w.self-is) rep)
+          unknown (none_in_use s.history s.handles c.args.name (subst (λ o. IsOpen s.history o s.handles) w.in_default.is rep.open_txn)) (subst (λ x. Represents x s) (sym w.self-is) rep)
     ]

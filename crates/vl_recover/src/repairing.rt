@@ -1,0 +1,76 @@
+//! Repairing a store by its plan.
+
+ghost use Rattle.std.specs.Prelude.{◌≡◌, Contains, IfErr};
+ghost use Rattle.std.specs.Option.{ForSome};
+ghost use Rattle.vl_recover.specs.Fitting.{CanMake, CanRemove, Fits, FitsBehind, HasNumbers, HasRoomFor, HasRoomToMake, IsFileOf, IsNewLog, IsNumberedLog};
+ghost use Rattle.vl_recover.specs.PlanViews.{plan_view};
+ghost use Rattle.vl_recover.specs.Steps.{MakesLog, Repairs, RepairsBehind, RemovesAll};
+
+use crate::last::{at, repair_last};
+use crate::plan::RepairingPlan;
+use std::alloc::Global;
+use vl_disk::{Disk, Name, make_file};
+use vl_manifest::{IoFail, ManifestLog};
+use vl_seglog::log_header;
+
+/// Repairs a store: makes the new manifest, repairs the last log, makes the new log and removes the files that aren't
+/// needed any more. Each is durable before the next is begun. For want of memory nothing was changed. Where the disk
+/// fails the answer has the name of the file at which it did.
+pub(crate) fn repair<D: Disk>(
+    alloc: Global,
+    disk: &mut D,
+    plan: &RepairingPlan,
+) -> Result<ManifestLog, IoFail>
+    requires fits { ForSome (D.told disk.old) (Fits (plan_view plan.now)) }
+    requires numbers { HasNumbers (plan_view plan.now) }
+    requires room { HasRoomFor (plan_view plan.now) (D.spare disk.old) }
+    ensures { Repairs D.Watched (plan_view plan.now) disk.old disk.new result }
+{
+    let manifest = ManifestLog::create(alloc, disk, plan.manifest, &plan.edits)?;
+    match repair_behind(disk, plan) {
+        Ok(()) => Ok(manifest),
+        Err(name) => Err(IoFail::Disk { name }),
+    }
+}
+
+// All that comes behind the new manifest.
+fn repair_behind<D: Disk>(disk: &mut D, plan: &RepairingPlan) -> Result<(), Name>
+    requires fits { ForSome (D.told disk.old) (FitsBehind (plan_view plan.now)) }
+    requires numbers { HasNumbers (plan_view plan.now) }
+    requires room { HasRoomFor (plan_view plan.now) (D.spare disk.old) }
+    ensures repaired { RepairsBehind D.Watched (plan_view plan.now) disk.old disk.new result }
+    ensures at { IfErr result (IsFileOf (plan_view plan.now)) }
+{
+    repair_last(disk, plan.last)?;
+    make_log(disk, plan.log)?;
+    remove_all(disk, &plan.strays)
+}
+
+// Makes the log of a header alone, where there is one to be made.
+fn make_log<D: Disk>(disk: &mut D, log: Option<u32>) -> Result<(), Name>
+    requires numbered { IsNumberedLog log }
+    requires free { ForSome (D.told disk.old) (CanMake log) }
+    requires room { HasRoomToMake log (D.spare disk.old) }
+    ensures made { MakesLog D.Watched log disk.old disk.new result }
+    ensures at { IfErr result (IsNewLog log) }
+{
+    match log {
+        None => Ok(()),
+        Some(number) => at(
+            Name::Log(number),
+            make_file(disk, Name::Log(number), &log_header(number)),
+        ),
+    }
+}
+
+// Removes files, one behind the other.
+fn remove_all<D: Disk>(disk: &mut D, names: &[Name]) -> Result<(), Name>
+    requires { ForSome (D.told disk.old) (CanRemove names.now) }
+    ensures removed { RemovesAll D.Watched names.now disk.old disk.new result }
+    ensures at { IfErr result (Contains names.now) }
+{
+    for name in names {
+        at(*name, disk.remove(*name))?;
+    }
+    Ok(())
+}

@@ -1,0 +1,72 @@
+use Rattle.std.proofs.Common.{◌++◌, ℕ, List, length, sym, ap, ◌∙◌, arith}
+use Rattle.std.specs.Prelude.{Err, is_ok, is_err}
+use Rattle.std.specs.Option.{option_map}
+use Rattle.vl_script.specs.Script.{text_of}
+use Rattle.vl_replay.specs.Exchanges.{exchanged}
+use Rattle.vl_replay.specs.Sequential.{state_after}
+use Rattle.vl_replay.specs.declared.fails.Halt.TheVariants.{NoMemory as NoRoom}
+use Rattle.vl_replay.proofs.Ends.{exchange_at-answered}
+use Rattle.vl_replay.proofs.Halting.{by_disk_still, out_not_by_disk}
+use Rattle.vl_replay.proofs.Texts.{carries_nothing, carries_bad, carries_line, kept_without_number, of_ok, ok_not_err, ok_not_out, same_halt}
+use Rattle.vl_replay.proofs.answering.execute_line.Goals as goal
+
+pub returns-clause-answers : goal.returns-clause-answers
+returns-clause-answers g c s stands =
+    let line = c.in-Some.line in
+    let answer = c.in_ok-answer.answer in (
+      record { before = s; line = line; answer = answer; after = state_after s line },
+      exchange_at-answered s c.args.text.now line answer (sym c.in_ok-line.ensures ∙ c.in-Some.is) (c.in_ok-answer.ensures.answer s stands),
+      c.in_ok-answer.ensures.after s stands,
+      c.in_ok-print_answer.ensures.text ∙ ap (λ (l : List ℕ). l ++ text_of answer) c.in_ok-out.ensures.items,
+    )
+
+pub returns-in_err-line-clause-carries : goal.returns-in_err-line-clause-carries
+returns-in_err-line-clause-carries g c s stands held =
+    carries_nothing g.D.Watched (record { only_now = g.met.D.Disk.only_now; counts_now = g.met.D.Disk.counts_now }) s c.args.text.now c.args.replayer.now.disk c.from_residual.result c.from_residual.ensures.0 (out_not_by_disk c.from_residual.result c.from_residual.ensures.1) held
+
+pub returns-in_default-clause-carries : goal.returns-in_default-clause-carries
+returns-in_default-clause-carries g c s stands held =
+    carries_bad g.D.Watched (record { only_now = g.met.D.Disk.only_now; counts_now = g.met.D.Disk.counts_now }) s c.args.text.now c.args.replayer.now.disk _ (ap (option_map (exchanged s)) (sym c.in_ok-line.ensures ∙ c.in_default.is)) held
+
+pub returns-in_err-out-clause-carries : goal.returns-in_err-out-clause-carries
+returns-in_err-out-clause-carries g c s stands held =
+    carries_nothing g.D.Watched (record { only_now = g.met.D.Disk.only_now; counts_now = g.met.D.Disk.counts_now }) s c.args.text.now c.args.replayer.now.disk c.from_residual-in_err-out.result c.from_residual-in_err-out.ensures.0
+    (out_not_by_disk c.from_residual-in_err-out.result c.from_residual-in_err-out.ensures.1) held
+
+pub returns-in_err-answer-clause-carries : goal.returns-in_err-answer-clause-carries
+returns-in_err-answer-clause-carries g c s stands held =
+    let residual = c.from_residual-in_err-answer in
+    let carried = c.line.ensures.carries s stands held in
+    carries_line g.D.Watched (record { only_now = g.met.D.Disk.only_now; counts_now = g.met.D.Disk.counts_now }) s c.args.text.now c.args.replayer.now.disk c.line.new.self.disk c.in-Some.line c.line.result residual.result
+    (sym c.in_ok-line.ensures ∙ c.in-Some.is) carried
+    (λ ok. absurd (ok_not_err residual.result ok residual.ensures.0))
+    (by_disk_still c.line.result residual.result _ c.in_err-answer.was residual.ensures.1)
+    (λ out. carried.no_commit (c.in_err-answer.was ∙ ap Err (same_halt residual.result _ NoRoom out residual.ensures.1)))
+
+pub returns-in_err-print_answer-clause-carries : goal.returns-in_err-print_answer-clause-carries
+returns-in_err-print_answer-clause-carries g c s stands held =
+    let residual = c.from_residual-in_err-print_answer in
+    let carried = c.line.ensures.carries s stands held in
+    let ok = ap is_ok c.in_ok-answer.was in
+    carries_line g.D.Watched (record { only_now = g.met.D.Disk.only_now; counts_now = g.met.D.Disk.counts_now }) s c.args.text.now c.args.replayer.now.disk c.line.new.self.disk c.in-Some.line c.line.result residual.result
+    (sym c.in_ok-line.ensures ∙ c.in-Some.is) carried
+    (λ is_it. absurd (ok_not_err residual.result is_it residual.ensures.0))
+    (λ by. absurd (out_not_by_disk residual.result residual.ensures.1 by))
+    (λ out. kept_without_number g.D.Watched (record { only_now = g.met.D.Disk.only_now; counts_now = g.met.D.Disk.counts_now }) s c.args.text.now c.args.replayer.now.disk c.line.new.self.disk c.in-Some.line c.in_ok-answer.answer (c.in_ok-answer.ensures.answer s stands)
+    (λ number is_number. ok_not_err c.print_answer.result (c.print_answer.ensures.room number is_number (omega (arith, ap length c.in_ok-out.ensures.items, c.in_ok-out.ensures.capacity))) (ap is_err c.in_err-print_answer.was))
+    (of_ok c.line.result _ ok carried.answered))
+
+pub returns-clause-carries : goal.returns-clause-carries
+returns-clause-carries g c s stands held =
+    carries_line g.D.Watched (record { only_now = g.met.D.Disk.only_now; counts_now = g.met.D.Disk.counts_now }) s c.args.text.now c.args.replayer.now.disk c.line.new.self.disk c.in-Some.line c.line.result _
+    (sym c.in_ok-line.ensures ∙ c.in-Some.is) (c.line.ensures.carries s stands held) (λ ok. ap is_ok c.in_ok-answer.was) (λ by. absurd by) (λ out. absurd (ok_not_out _ out))
+
+pub returns-in_default-clause-reads : goal.returns-in_default-clause-reads
+returns-in_default-clause-reads g c = sym c.in_ok-line.ensures ∙ c.in_default.is
+
+pub returns-clause-reads : goal.returns-clause-reads
+returns-clause-reads g c =
+    let answer = c.in_ok-answer.answer in (
+      (c.in-Some.line, sym c.in_ok-line.ensures ∙ c.in-Some.is),
+      (answer, c.in_ok-print_answer.ensures.text ∙ ap (λ (l : List ℕ). l ++ text_of answer) c.in_ok-out.ensures.items),
+    )
