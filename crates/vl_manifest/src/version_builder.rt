@@ -43,11 +43,11 @@ impl VersionBuilder {
     pub fn all_applied(self, edits: &[Edit]) -> Option<Self>
         ensures { result ≡ states.all_applied edits.now self }
     {
-        let mut draft = self;
+        let mut builder = self;
         for edit in edits {
-            draft = version_builder.applied(edit)?;
+            builder = builder.applied(edit)?;
         }
-        Some(draft)
+        Some(builder)
     }
 
     // No store has tables yet, so that an Add or a Drop can't be applied.
