@@ -6,7 +6,9 @@ pub mod Disk
 pub mod DiskState
 pub mod FaultPlan
 pub mod Faults
+pub mod Held
 pub mod laws
+pub mod Lending
 pub mod MadeFile
 pub mod Moments
 pub mod Name

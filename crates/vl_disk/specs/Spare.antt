@@ -10,6 +10,10 @@ pub record Spare : Type 0 where
   pub append : Option ℕ
   -- for one `hold`
   pub hold : Bool
+  -- for one `lend`, and the `adopt` after it
+  pub lend : Bool
+  -- for the `adopt` of a file that is lent
+  pub adopt : Bool
 
 -- there is room for an append of so many bytes
 abbrev pub CanAppend : ℕ → Spare → Type 0
@@ -32,16 +36,32 @@ SameSpareElsewhere name old new = (other : Name) → other ≢ name → new othe
 pub record UsesChange (name : Name) (old new : Name → Spare) : Type 0 where
   pub append : (new name).append ≡ (old name).append
   pub hold : (new name).hold ≡ (old name).hold
+  pub lend : (new name).lend ≡ (old name).lend
   pub elsewhere : SameSpareElsewhere name old new
 
 -- an append to this name uses no more than the room for it
 pub record UsesAppend (name : Name) (old new : Name → Spare) : Type 0 where
   pub change : (new name).change ≡ (old name).change
   pub hold : (new name).hold ≡ (old name).hold
+  pub lend : (new name).lend ≡ (old name).lend
   pub elsewhere : SameSpareElsewhere name old new
 
 -- a hold of this name uses no more than the room for it
 pub record UsesHold (name : Name) (old new : Name → Spare) : Type 0 where
   pub change : (new name).change ≡ (old name).change
   pub append : (new name).append ≡ (old name).append
+  pub lend : (new name).lend ≡ (old name).lend
+  pub elsewhere : SameSpareElsewhere name old new
+
+-- a lend of this name makes room for the adopt after it
+pub record UsesLend (name : Name) (old new : Name → Spare) : Type 0 where
+  pub adopt : IsTrue (new name).adopt
+  pub change : (new name).change ≡ (old name).change
+  pub append : (new name).append ≡ (old name).append
+  pub hold : (new name).hold ≡ (old name).hold
+  pub elsewhere : SameSpareElsewhere name old new
+
+-- an adopted file may be held
+pub record UsesAdopt (name : Name) (old new : Name → Spare) : Type 0 where
+  pub hold : IsTrue (new name).hold
   pub elsewhere : SameSpareElsewhere name old new

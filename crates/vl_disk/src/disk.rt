@@ -2,13 +2,14 @@ ghost use Rattle.std.specs.Prelude.{◌≡◌, ℕ, ◌+◌, ◌≤◌, length, 
 ghost use Rattle.std.specs.Option.{ForSome};
 ghost use Rattle.vl_disk.specs.declared.name.Name.{Name};
 ghost use Rattle.vl_disk.specs.Name.{IsNumbered};
-ghost use Rattle.vl_disk.specs.DiskState.{DiskState, IsLawful, bytes_at, file_at};
+ghost use Rattle.vl_disk.specs.DiskState.{DiskState, IsLawful, bytes_at, file_at, new_file};
 ghost use Rattle.vl_disk.specs.Faults.{CountsPast};
 ghost use Rattle.vl_disk.specs.Disk.{Stands, IsFree, IsInside, Lists};
 ghost use Rattle.vl_disk.specs.Spare.{IsReady, CanAppend, SameSpare, SameSpareElsewhere, UsesHold};
 ghost use Rattle.vl_disk.specs.Calls.{ChangesNothing, Creates, Appends, Syncs, Cuts, Removes};
+ghost use Rattle.vl_disk.specs.Lending.{IsJustMade, Lends, Adopts};
 
-use crate::{Failed, HeldFile, HoldFail, ListFail, Name, NoMemory, Reader, Watched};
+use crate::{DiskFail, Failed, HeldFile, Name, NoMemory, Reader, Watched, Writer};
 use std::alloc::Global;
 
 /// A disk of named files, which a sync makes durable.
@@ -17,11 +18,13 @@ pub trait Disk: Watched {
 
     type Reader: Reader<Held = Self::Held> + Drop;
 
+    type Writer: Writer + Drop;
+
     /// The names of the files that stand.
-    fn list(&mut self, alloc: Global) -> Result<Vec<Name>, ListFail>
+    fn list(&mut self, alloc: Global) -> Result<Vec<Name>, DiskFail>
         ensures names { IfOk result (λ names. ForSome (Self.told self.old) (Lists names.items)) }
         ensures numbered { IfOk result (λ names. All IsNumbered names.items) }
-        ensures no_change { ChangesNothing Self.Watched self.old self.new (IsErrOf result ListFail.Failed) }
+        ensures no_change { ChangesNothing Self.Watched self.old self.new (IsErrOf result DiskFail.Failed) }
         ensures spare { SameSpare (Self.spare self.old) (Self.spare self.new) };
 
     /// The length of a file in bytes.
@@ -42,10 +45,12 @@ pub trait Disk: Watched {
         ensures spare { SameSpare (Self.spare self.old) (Self.spare self.new) };
 
     /// Makes room. Afterwards `create` or one `cut` of this name, one append to it of at most so many bytes, the syncs
-    /// after them, and one `hold` of it want no memory. A `sync` and a `remove` never want any.
+    /// after them, one `hold` of it, and one `lend` with the `adopt` after it want no memory. A `sync` and a `remove`
+    /// never want any.
     fn ready(&mut self, name: Name, bytes: u64) -> Result<(), NoMemory>
         ensures ready { OnOk result (IsReady bytes (Self.spare self.new name)) }
         ensures hold { OnOk result (IsTrue (Self.spare self.new name).hold) }
+        ensures lend { OnOk result (IsTrue (Self.spare self.new name).lend) }
         ensures elsewhere { SameSpareElsewhere name (Self.spare self.old) (Self.spare self.new) }
         ensures refused { OnErr result (SameSpare (Self.spare self.old) (Self.spare self.new)) }
         ensures no_change { ChangesNothing Self.Watched self.old self.new ⊥ };
@@ -82,13 +87,31 @@ pub trait Disk: Watched {
         ensures { Removes Self.Watched name self.old self.new result };
 
     /// Shares a file as it is. What it gives keeps these bytes, whatever becomes of the file.
-    fn hold(&mut self, name: Name) -> Result<Self::Held, HoldFail>
+    fn hold(&mut self, name: Name) -> Result<Self::Held, DiskFail>
         requires { ForSome (Self.told self.old) (Stands name) }
         ensures held { IfOk result (λ held. ForSome (Self.told self.old)
             (λ disk. Self.Held.bytes held ≡ Some (file_at disk name).bytes)) }
-        ensures no_change { ChangesNothing Self.Watched self.old self.new (IsErrOf result HoldFail.Failed) }
-        ensures memory { IsTrue (Self.spare self.old name).hold → IsErrOf result HoldFail.NoMemory → ⊥ }
+        ensures named { IfOk result (λ held. Self.Held.named held ≡ name) }
+        ensures no_change { ChangesNothing Self.Watched self.old self.new (IsErrOf result DiskFail.Failed) }
+        ensures memory { IsTrue (Self.spare self.old name).hold → IsErrOf result DiskFail.NoMemory → ⊥ }
         ensures spare { UsesHold name (Self.spare self.old) (Self.spare self.new) };
+
+    /// Lends a file that was just made to a writer. Until it is adopted it counts as one that was removed before its first
+    /// sync: after a crash it may stand, with any bytes, or not. If it fails, the file stands as before.
+    fn lend(&mut self, name: Name) -> Result<Self::Writer, Failed>
+        requires just_made { ForSome (Self.told self.old) (IsJustMade name) }
+        requires room { IsTrue (Self.spare self.old name).lend }
+        ensures lends { Lends Self.Watched name self.old self.new (IsErr result) }
+        ensures named { IfOk result (λ writer. Self.Writer.named writer ≡ name) }
+        ensures file { IfOk result (λ writer. ForSome (Self.told self.old)
+            (λ _. Self.Writer.file writer ≡ Some new_file)) }
+        ensures faults { IfOk result (λ writer. Self.Writer.faults writer ≡ 0) };
+
+    /// Takes a file back that was lent, as its writer has it. It wants no memory and can't fail.
+    fn adopt(&mut self, writer: Self::Writer)
+        requires free { ForSome (Self.told self.old) (IsFree (Self.Writer.named writer)) }
+        requires room { IsTrue (Self.spare self.old (Self.Writer.named writer)).adopt }
+        ensures { Adopts Self.Watched (Self.Writer.named writer) (Self.Writer.file writer) self.old self.new };
 
     /// A reader of the files that are held.
     fn reader(&self, alloc: Global) -> Result<Self::Reader, NoMemory>

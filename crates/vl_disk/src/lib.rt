@@ -2,28 +2,22 @@
 #![tactic(auto)]
 
 mod disk;
-mod failed;
+mod errors;
 mod fault_plan;
-mod hold_fail;
 mod laws;
-mod list_fail;
 mod making;
 mod name;
-mod no_memory;
-mod read_fail;
 mod reader;
 mod reading;
 mod watched;
+mod writer;
 
 pub use disk::Disk;
-pub use failed::Failed;
+pub use errors::{DiskFail, Failed, NoMemory};
 pub use fault_plan::FaultPlan;
-pub use hold_fail::HoldFail;
-pub use list_fail::ListFail;
 pub use making::make_file;
 pub use name::Name;
-pub use no_memory::NoMemory;
-pub use read_fail::ReadFail;
 pub use reader::{HeldFile, Reader};
 pub use reading::read_file;
 pub use watched::Watched;
+pub use writer::Writer;

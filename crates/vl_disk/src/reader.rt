@@ -1,9 +1,11 @@
-ghost use Rattle.std.specs.Prelude.{◌≡◌, ℕ, ◌+◌, ◌≤◌, List, length, Option, Some, OnOk, IsErr};
+ghost use Rattle.std.specs.Prelude.{◌≡◌, ◌↔◌, ℕ, ◌+◌, ◌≤◌, List, length, Option, Some, OnOk, IsErr, IsTrue};
 ghost use Rattle.std.specs.Option.{ForSome};
+ghost use Rattle.vl_disk.specs.declared.name.Name.{Name};
+ghost use Rattle.vl_disk.specs.Held.{AgreeAt};
 ghost use Rattle.vl_disk.specs.DiskState.{bytes_at};
 ghost use Rattle.vl_disk.specs.Faults.{HasCause};
 
-use crate::Failed;
+use crate::{Failed, Name};
 
 /// A file that a disk shares: its bytes never change, also where the disk removes it. A clone is of the same file, and may
 /// find no memory.
@@ -14,15 +16,30 @@ pub trait HeldFile: Clone + Drop {
     /// Its length, which is always known.
     ghost size: { Self → ℕ };
 
+    /// The name that it was held by, which is always known.
+    ghost named: { Self → Name };
+
     /// The length in bytes.
     fn len(&self) -> u64
         ensures { result ≡ size self.now };
+
+    /// The name that it was held by. The disk may have removed the file since, and have another one of this name.
+    fn name(&self) -> Name
+        ensures { result ≡ named self.now };
+
+    /// Whether it is of the other's name and, if both tell their bytes, has the other's in this range of so many bytes.
+    fn same(&self, other: &Self, place: u64, len: u64) -> bool
+        ensures { IsTrue result ↔ ((named self.now ≡ named other.now)
+            × AgreeAt place len (bytes self.now) (bytes other.now)) };
 
     /// It has so many bytes.
     ghost sized: { (held : Self) (bytes_of : List ℕ) → bytes held ≡ Some bytes_of → length bytes_of ≡ size held };
 
     /// A clone is of the same file.
     ghost shared: { (held copy : Self) → Self.is_clone held copy → (bytes copy ≡ bytes held) × (size copy ≡ size held) };
+
+    /// A clone has the same name.
+    ghost named_alike: { (held copy : Self) → Self.is_clone held copy → named copy ≡ named held };
 }
 
 /// What reads held files, beside the disk.
