@@ -1,2 +1,3 @@
 pub mod MadeFiles
 pub mod Torn
+pub mod TwoFiles

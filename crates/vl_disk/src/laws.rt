@@ -1,9 +1,10 @@
 // Laws of what a crash may leave: each is the contract of a function that does nothing.
-ghost use Rattle.std.specs.Prelude.{◌≡◌, ℕ, ◌≤◌, ◌++◌, List, take, Some, IsTrue};
+ghost use Rattle.std.specs.Prelude.{◌≡◌, ℕ, ◌≤◌, ◌++◌, List, take, Option, Some, IsTrue};
 ghost use Rattle.std.specs.FinMap.{get, insert, remove};
 ghost use Rattle.vl_disk.specs.declared.name.Name.{Name};
-ghost use Rattle.vl_disk.specs.DiskState.{File, DiskState, IsLawful, created, appended, synced, cut_to, without};
-ghost use Rattle.vl_disk.specs.Crash.{Image, MayLeave};
+ghost use Rattle.vl_disk.specs.DiskState.{File, DiskState, IsLawful, created, appended, settled, synced, cut_to, without};
+ghost use Rattle.vl_disk.specs.Crash.{Image, MayLeave, MayLeaveOne};
+ghost use Rattle.vl_disk.specs.Lending.{IsJustMade, adopted};
 ghost use Rattle.vl_disk.specs.Started.{IsRead};
 
 /// A crash may leave what reads give.
@@ -42,4 +43,16 @@ pub fn what_is_synced_stays()
         → MayLeave (synced name disk) image → get image name ≡ Some file.bytes }
     ensures again { (name : Name) (disk : DiskState) (file : File) → IsLawful disk → get disk.standing name ≡ Some file
         → IsTrue file.wholly_synced → synced name disk ≡ disk }
+{}
+
+/// A file that is lent may be missing after a crash, or stand with any bytes.
+pub fn what_is_lent_may_be_anything()
+    ensures { (name : Name) (disk : DiskState) (left : Option (List ℕ)) → IsJustMade name disk
+        → MayLeaveOne (get (without name disk).standing name) (get (without name disk).removed name) left }
+{}
+
+/// A file that its writer synced stays once it is adopted, exactly as it was written.
+pub fn what_was_adopted_stays()
+    ensures { (name : Name) (disk : DiskState) (image : Image) (bytes : List ℕ)
+        → MayLeave (adopted name (settled bytes) disk) image → get image name ≡ Some bytes }
 {}

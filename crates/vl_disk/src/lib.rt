@@ -1,6 +1,7 @@
 //! The outside as the store sees it: a disk of named files, and the faults that outside objects count.
 #![tactic(auto)]
 
+mod beside;
 mod disk;
 mod errors;
 mod fault_plan;
@@ -12,6 +13,7 @@ mod reading;
 mod watched;
 mod writer;
 
+pub use beside::make_beside;
 pub use disk::Disk;
 pub use errors::{DiskFail, Failed, NoMemory};
 pub use fault_plan::FaultPlan;
