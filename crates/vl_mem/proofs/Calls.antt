@@ -9,10 +9,13 @@ use Rattle.vl_disk.specs.DiskState.{File, DiskState, IsLawful, empty_disk, new_f
 use Rattle.vl_disk.specs.Calls.{ChangingCall, Creates, Appends, Syncs, Cuts, Removes}
 use Rattle.vl_disk.specs.Crash.{WhileCreating, WhileAppending, WhileSyncing, WhileCutting, WhileRemoving}
 use Rattle.vl_disk.specs.Disk.{Stands, IsInside, IsChangedBy}
+use Rattle.vl_disk.specs.FaultPlan as listed
 use Rattle.vl_disk.specs.Faults.{HasCause}
 use Rattle.vl_disk.specs.laws.Lawful.{synced_again}
+use Rattle.vl_disk.specs.Lending.{Adopts, IsJustMade, Lends, WhileAdopting, adopted}
+use Rattle.vl_disk.specs.Name.{IsNumbered}
 use Rattle.vl_disk.specs.Moments.{Passes, While, past_of}
-use Rattle.vl_disk.specs.Spare.{SameSpare, UsesChange, UsesAppend}
+use Rattle.vl_disk.specs.Spare.{SameSpare, UsesAdopt, UsesAppend, UsesChange, UsesLend}
 use Rattle.vl_disk.specs.laws.Standing.{changed_stands, created_stands, removed_free}
 use Rattle.vl_mem.specs.contracts.mem_disk.MemDiskWatched.TheImpl as memory
 use Rattle.vl_mem.specs.declared.entry.Entry.{Entry}
@@ -22,7 +25,7 @@ use Rattle.vl_mem.specs.ChangePlan.{FollowsPlan}
 use Rattle.vl_mem.specs.Entry.{Entries, HasFiles, entry_of, file_of, plain, standing_in}
 use Rattle.vl_mem.specs.Event.{after_event, replayed-push, state_after, told_lawful, WasSince}
 use Rattle.vl_mem.specs.MemDisk.{state_of, told_by, room_of, Goes}
-use Rattle.vl_mem.specs.FailsPast.{FailsPast, changed_past, same_past}
+use Rattle.vl_mem.specs.FailsPast.{FailsPast, changed_past, read_past, same_past}
 use Rattle.vl_mem.proofs.Steps.{stood}
 
 abbrev watched : Ghosts MemDisk
@@ -244,3 +247,71 @@ syncs_again name old new entry x stands counts found whole spare = record {
     there : (file : Option File) → IsSome file → file ≡ Some (unwrap_or file new_file)
     there None is = absurd (false_true is)
     there (Some file) is = refl
+
+-- ---- files that are lent
+
+cause_beside : (a b rest : ℕ) (failed : Bool) → HasCause a b (IsTrue failed) → HasCause (rest + a) (rest + b) (IsTrue failed)
+cause_beside a b rest failed cause = record {
+  later = omega (arith, cause.later);
+  rose = λ fails. omega (arith, cause.rose fails, cause.later);
+  steady = λ passes. ap (λ n. rest + n) (cause.steady passes);
+}
+
+-- what one event made of what is told, and meanwhile
+module _ (old new : MemDisk) (event : Event) (change : DiskState → DiskState) (does : (disk : DiskState) → after_event event disk ≡ change disk) (pushed : new.events.items ≡ old.events.items ++ event ∷ []) where
+  told_after : IsChangedBy change (told_by old) (told_by new)
+  told_after = ap (λ es. Some (state_after es)) pushed ∙ ap Some (replayed-push old.events.items event empty_disk ∙ does (state_of old))
+
+  time_after : (during : DiskState → DiskState → Type 0) → ((disk next : DiskState) → next ≡ change disk → during disk next)
+      → ((stop : Option ℕ) → FailsPast old stop → FailsPast new stop) → Passes (past_of watched old) (past_of watched new) (While (told_by old) during)
+  time_after during meanwhile planned = passes_push old new event (While (told_by old) during) pushed
+      (λ next is disk told. subst (λ d. during d next) (some_state (state_of old) disk told) (meanwhile (state_of old) next (is ∙ does (state_of old)))) planned
+
+pub lends : (name : Name) (old mid new : MemDisk) (fails : Bool) → fails ≡ false → mid.events.items ≡ old.events.items → mid.changes ≡ old.changes
+    → listed.Follows old.reads mid.reads (IsTrue fails) → HasCause old.reads.faults mid.reads.faults (IsTrue fails)
+    → Goes mid new (without name) → UsesLend name (room_of old) (room_of new) → Lends watched name old new (IsTrue false)
+lends name old mid new fails is events changes follows cause goes spare =
+    let pushed : new.events.items ≡ old.events.items ++ goes.event ∷ [] = goes.events ∙ ap (λ es. es ++ goes.event ∷ []) events in
+    let passed : listed.Follows old.reads mid.reads (IsTrue false) = subst (λ b. listed.Follows old.reads mid.reads (IsTrue b)) is follows in
+    let caused : HasCause old.reads.faults mid.reads.faults (IsTrue false) = subst (λ b. HasCause old.reads.faults mid.reads.faults (IsTrue b)) is cause in
+    record {
+      lent = λ _. told_after old new goes.event (without name) goes.does pushed;
+      kept = λ failed. absurd (false_true failed);
+      calls = ap (λ p. p.listed.calls) (goes.changes ∙ changes);
+      time = time_after old new goes.event (without name) goes.does pushed (WhileRemoving name) (λ disk next is. inr is)
+          (λ stop past. same_past mid new stop (read_past old mid stop past (IsTrue false) changes passed caused) goes.changes goes.reads);
+      cause = subst (λ n. HasCause (old.changes.listed.faults + old.reads.faults) n (IsTrue false))
+          (sym (ap (λ p. p.listed.faults + new.reads.faults) (goes.changes ∙ changes) ∙ ap (λ p. old.changes.listed.faults + p.faults) goes.reads))
+          (cause_beside old.reads.faults mid.reads.faults old.changes.listed.faults false caused);
+      spare = λ _. spare;
+      spare_kept = λ failed. absurd (false_true failed);
+    }
+
+-- one that was lent comes back
+pub adopts : (name given : Name) (file : Option File) (left : File) (old new : MemDisk) → name ≡ given → file ≡ Some left → Goes old new (adopted name left) → UsesAdopt name (room_of old) (room_of new)
+    → Adopts watched given file old new
+adopts name given file left old new same is goes spare =
+    subst (λ (n : Name). Adopts watched n file old new) same (subst (λ (f : Option File). Adopts watched name f old new) (sym is) (record {
+      adopted = λ disk told f here. told_after old new goes.event (adopted name left) goes.does goes.events
+          ∙ ap (λ d. Some (adopted name left d)) (some_state (state_of old) disk told) ∙ ap (λ g. Some (adopted name g disk)) (some_file left f here);
+      untold = λ none. absurd (told_none none);
+      calls = ap (λ p. p.listed.calls) goes.changes;
+      time = time_after old new goes.event (adopted name left) goes.does goes.events (WhileAdopting name (Some left))
+          (λ disk next turned. inr (λ f here. turned ∙ ap (λ g. adopted name g disk) (some_file left f here)))
+          (λ stop past. same_past old new stop past goes.changes goes.reads);
+      faults = ap (λ p. p.listed.faults + new.reads.faults) goes.changes ∙ ap (λ p. old.changes.listed.faults + p.faults) goes.reads;
+      spare = spare;
+    }))
+  where
+    some_file : (a b : File) → Some a ≡ Some b → a ≡ b
+    some_file a b e = cc
+
+    told_none : told_by old ≡ None → ⊥
+    told_none e = cc
+
+-- what is just made stands, and its number is one that a name may have
+pub just_made_stands : (name : Name) (disk : DiskState) → IsJustMade name disk → IsSome (get disk.standing name)
+just_made_stands name disk made = subst IsSome (sym made) refl
+
+pub just_made_numbered : (name : Name) (old : MemDisk) → IsJustMade name (state_of old) → IsNumbered name
+just_made_numbered name old made = (told_lawful old.events.items old.kept.sound (state_of old) refl).numbered name new_file made

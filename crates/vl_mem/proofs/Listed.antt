@@ -17,7 +17,7 @@ use Rattle.vl_disk.specs.DiskState.{File, DiskState, IsLawful}
 use Rattle.vl_disk.specs.Disk.{Lists}
 use Rattle.vl_mem.specs.declared.entry.Entry.{Entry}
 use Rattle.vl_mem.specs.declared.entry.Presence.{Presence}
-use Rattle.vl_mem.specs.declared.entry.Presence.TheVariants.{Absent, Standing, Removed}
+use Rattle.vl_mem.specs.declared.entry.Presence.TheVariants.{Absent, Standing, Removed, Lent}
 use Rattle.vl_mem.specs.Entry.{Entries, HasFiles, if_standing, is_standing, file_of, plain, standing_in}
 use Rattle.vl_mem.specs.Kept.{standing_names}
 
@@ -38,11 +38,13 @@ some_standing : (presence : Presence) (file : File) → IsSome (if_standing pres
 some_standing Absent file is = absurd (false_true is)
 some_standing Standing file is = refl
 some_standing Removed file is = absurd (false_true is)
+some_standing Lent file is = absurd (false_true is)
 
 standing_some : (presence : Presence) (file : File) → is_standing presence ≡ true → IsSome (if_standing presence file)
 standing_some Absent file is = absurd (false_true is)
 standing_some Standing file is = refl
 standing_some Removed file is = absurd (false_true is)
+standing_some Lent file is = absurd (false_true is)
 
 later : (name other : Name) (names : List Name) → Contains names name → Contains (other ∷ names) name
 later name other names has = (suc has.0, omega (arith, has.1), has.2)

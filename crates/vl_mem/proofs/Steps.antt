@@ -12,19 +12,22 @@ use Rattle.std.proofs.lemmas.Map.Entries.{sum_by-set_value, sum_by-insert_entry}
 use Rattle.vl_disk.specs.declared.name.Name.{Name}
 use Rattle.vl_disk.specs.Name.{name_cmp, name_cmp_total, IsNumbered}
 use Rattle.vl_disk.specs.laws.NameMap.{same_or_other, tied_other, get_inserted, get_inserted_other, get_removed, get_removed_other}
-use Rattle.vl_disk.specs.DiskState.{File, DiskState, empty_disk, new_file, settled, with_file, created, without}
+use Rattle.vl_disk.specs.DiskState.{File, DiskState, IsLawfulFile, empty_disk, new_file, settled, with_file, created, without}
+use Rattle.vl_disk.specs.Lending.{adopted}
 use Rattle.vl_disk.specs.MadeFile.{made}
 use Rattle.vl_disk.specs.Changes.{SameElsewhere, created_there, created_elsewhere, changed_there, changed_elsewhere, without_removed, without_elsewhere}
 use Rattle.vl_disk.specs.Crash.{last_file}
-use Rattle.vl_disk.specs.Spare.{Spare, SameSpare, SameSpareElsewhere, UsesAppend, UsesHold}
+use Rattle.vl_disk.specs.Spare.{Spare, SameSpare, SameSpareElsewhere, UsesAdopt, UsesAppend, UsesHold, UsesLend}
 use Rattle.vl_mem.specs.declared.entry.Entry.{Entry}
 use Rattle.vl_mem.specs.declared.entry.Presence.{Presence}
-use Rattle.vl_mem.specs.declared.entry.Presence.TheVariants.{Absent, Standing, Removed}
+use Rattle.vl_mem.specs.declared.entry.Presence.TheVariants.{Absent, Standing, Removed, Lent}
 use Rattle.vl_mem.specs.declared.event.Event.{Event}
-use Rattle.vl_mem.specs.declared.event.Event.TheVariants.{Found, Create, Remove}
+use Rattle.vl_mem.specs.declared.event.Event.TheVariants.{Found, Create, Remove, Adopt}
 use Rattle.vl_mem.specs.Event.{IsSound, after_event, replayed-push, state_after}
-use Rattle.vl_mem.specs.Entry.{Entries, Fits, HasFiles, Matches, Becomes, KeepsFile, entry_of, file_of, if_standing, if_removed, plain, slots, spare_of, standing_in, removed_in, appends, removes, IsBlank}
+use Rattle.vl_mem.specs.Entry.{Entries, Fits, HasFiles, Matches, Becomes, KeepsFile, entry_of, file_of, if_standing, if_removed, is_lent, plain, slots, spare_of, standing_in, removed_in, appends, removes, IsBlank}
 use Rattle.vl_mem.specs.Kept.{IsKept, slots_of}
+use Rattle.vl_mem.specs.declared.written.Written.{Written}
+use Rattle.vl_mem.specs.Written.{file_written}
 
 none_some : {X : Type 0} (x : X) → None ≡ Some x → ⊥
 none_some x e = cc
@@ -41,6 +44,7 @@ pub stood : (presence : Presence) (file there : File) → if_standing presence f
 stood Absent file there is = absurd (none_some (plain there) is)
 stood Standing file there is = (refl, some_same file (plain there) is)
 stood Removed file there is = absurd (none_some (plain there) is)
+stood Lent file there is = absurd (none_some (plain there) is)
 
 module _ (old new : Entry) where
   -- a change of the file that stands
@@ -55,18 +59,20 @@ module _ (old new : Entry) where
         removed = ap (λ p. if_removed p (file_of new)) standing ∙ sym (ap (λ p. if_removed p (file_of old)) at.0) ∙ matches.removed;
       }
 
-  pub matches_created : Becomes old new Standing new_file → Matches (Some new) (Some new_file) None
-  matches_created becomes = record {
+  pub matches_placed : (file : File) → Becomes old new Standing (plain file) → Matches (Some new) (Some file) None
+  matches_placed file becomes = record {
     standing = ap (λ p. if_standing p (file_of new)) becomes.presence ∙ ap Some becomes.file;
     removed = ap (λ p. if_removed p (file_of new)) becomes.presence;
   }
 
-  pub matches_removed : (lost there : Option File) → Becomes old new Removed (file_of old) → IsSome there → Matches (Some old) there lost → Matches (Some new) None (last_file there lost)
-  matches_removed lost None becomes is matches = absurd (no_file is)
-  matches_removed lost (Some file) becomes is matches = record {
-    standing = ap (λ p. if_standing p (file_of new)) becomes.presence;
-    removed = ap (λ p. if_removed p (file_of new)) becomes.presence ∙ ap Some (becomes.file ∙ (stood old.presence (file_of old) file matches.standing).1);
-  }
+  -- a file that goes, to nobody or to a writer
+  module _ (gone : Presence) (away : (file : File) → (if_standing gone file ≡ None) × (if_removed gone file ≡ Some file)) where
+    pub matches_gone : (lost there : Option File) → Becomes old new gone (file_of old) → IsSome there → Matches (Some old) there lost → Matches (Some new) None (last_file there lost)
+    matches_gone lost None becomes is matches = absurd (no_file is)
+    matches_gone lost (Some file) becomes is matches = record {
+      standing = ap (λ p. if_standing p (file_of new)) becomes.presence ∙ (away (file_of new)).0;
+      removed = ap (λ p. if_removed p (file_of new)) becomes.presence ∙ (away (file_of new)).1 ∙ ap Some (becomes.file ∙ (stood old.presence (file_of old) file matches.standing).1);
+    }
 
   pub matches_same : (there lost : Option File) → KeepsFile old new → Matches (Some old) there lost → Matches (Some new) there lost
   matches_same there lost keeps matches = record {
@@ -131,7 +137,13 @@ module _ (name : Name) (entries next : Entries) (old new : Entry) (found : entry
 
     pub kept_created : later ≡ events ++ Create name ∷ [] → IsNumbered name → Becomes old new Standing new_file → IsKept next later wide
     kept_created pushed numbered becomes = kept_by (Create name) pushed numbered becomes.slots (created_elsewhere name disk)
-        (left_matches name entries next new updates (created name disk) (Some new_file) None (created_there name disk) (get_removed disk.removed name) (matches_created old new becomes))
+        (left_matches name entries next new updates (created name disk) (Some new_file) None (created_there name disk) (get_removed disk.removed name) (matches_placed old new new_file becomes))
+
+    pub kept_adopted : (written : Written) → later ≡ events ++ Adopt name written ∷ [] → IsNumbered name → IsLawfulFile (file_written written) → Becomes old new Standing (plain (file_written written)) → IsKept next later wide
+    kept_adopted written pushed numbered lawful becomes = let file = file_written written in let after = adopted name file disk in
+        kept_by (Adopt name written) pushed (numbered, lawful) becomes.slots
+        (record { standing = get_inserted_other disk.standing name file; removed = get_removed_other disk.removed name })
+        (left_matches name entries next new updates after (Some file) None (get_inserted disk.standing name file) (get_removed disk.removed name) (matches_placed old new file becomes))
 
     pub kept_changed : (event : Event) (change : File → File) → after_event event disk ≡ with_file name change disk → ((file : File) → plain (change (plain file)) ≡ plain (change file))
         → later ≡ events ++ event ∷ [] → IsSound event → Becomes old new old.presence (plain (change (file_of old))) → IsSome (get disk.standing name) → IsKept next later wide
@@ -142,10 +154,11 @@ module _ (name : Name) (entries next : Entries) (old new : Entry) (found : entry
         (left_matches name entries next new updates after (option_map change (get disk.standing name)) (get disk.removed name) (changed_there name disk change) refl
         (matches_changed old new change (get disk.removed name) (get disk.standing name) alike becomes stands kept_matches)))
 
-    pub kept_removed : later ≡ events ++ Remove name ∷ [] → Becomes old new Removed (file_of old) → IsSome (get disk.standing name) → IsKept next later wide
-    kept_removed pushed becomes stands = kept_by (Remove name) pushed tt becomes.slots (without_elsewhere name disk)
+    pub kept_gone : (gone : Presence) → ((file : File) → (if_standing gone file ≡ None) × (if_removed gone file ≡ Some file))
+        → later ≡ events ++ Remove name ∷ [] → Becomes old new gone (file_of old) → IsSome (get disk.standing name) → IsKept next later wide
+    kept_gone gone away pushed becomes stands = kept_by (Remove name) pushed tt becomes.slots (without_elsewhere name disk)
         (left_matches name entries next new updates (without name disk) None (last_file (get disk.standing name) (get disk.removed name)) (get_removed disk.standing name) (without_removed name disk)
-        (matches_removed old new (get disk.removed name) (get disk.standing name) becomes stands kept_matches))
+        (matches_gone old new gone away (get disk.removed name) (get disk.standing name) becomes stands kept_matches))
 
     -- and one that left none
     pub kept_still : later ≡ events → slots_of next + length events ≤ wide → KeepsFile old new → IsKept next later wide
@@ -160,6 +173,9 @@ module _ (name : Name) (entries next : Entries) (old new : Entry) (found : entry
   -- no event more may come than before
   pub no_more : (events : List Event) (capacity : ℕ) → IsKept entries events capacity → slots new ≤ slots old → slots_of next + length events ≤ capacity
   no_more events capacity kept fewer = omega (arith, kept.room, sum, fewer)
+
+  pub updated_there : entry_of next name ≡ Some new
+  updated_there = updates.1
 
   -- ---- rooms
 
@@ -179,11 +195,33 @@ module _ (name : Name) (entries next : Entries) (old new : Entry) (found : entry
   same_part : {X : Type 0} (part : Spare → X) → part (spare_of (Some new)) ≡ part (spare_of (Some old)) → part (after name) ≡ part (before name)
   same_part part same = ap part spare_there ∙ same ∙ sym (ap (λ e. part (spare_of e)) found)
 
-  pub uses_append : new.change ≡ old.change → new.hold ≡ old.hold → UsesAppend name before after
-  uses_append change hold = record { change = same_part (λ s. s.change) change; hold = same_part (λ s. s.hold) hold; elsewhere = spare_elsewhere }
+  pub uses_append : new.change ≡ old.change → new.hold ≡ old.hold → new.lend ≡ old.lend → UsesAppend name before after
+  uses_append change hold lend = record {
+    change = same_part (λ s. s.change) change;
+    hold = same_part (λ s. s.hold) hold;
+    lend = same_part (λ s. s.lend) lend;
+    elsewhere = spare_elsewhere;
+  }
 
-  pub uses_hold : new.change ≡ old.change → new.buffer ≡ old.buffer → UsesHold name before after
-  uses_hold change buffer = record { change = same_part (λ s. s.change) change; append = same_part (λ s. s.append) (ap (option_map vec_capacity) buffer); elsewhere = spare_elsewhere }
+  pub uses_hold : new.change ≡ old.change → new.buffer ≡ old.buffer → new.lend ≡ old.lend → UsesHold name before after
+  uses_hold change buffer lend = record {
+    change = same_part (λ s. s.change) change;
+    append = same_part (λ s. s.append) (ap (option_map vec_capacity) buffer);
+    lend = same_part (λ s. s.lend) lend;
+    elsewhere = spare_elsewhere;
+  }
+
+  pub uses_lend : new.presence ≡ Lent → new.change ≡ old.change → new.buffer ≡ old.buffer → new.hold ≡ old.hold → UsesLend name before after
+  uses_lend lent change buffer hold = record {
+    adopt = ap (λ s. s.adopt) spare_there ∙ ap is_lent lent;
+    change = same_part (λ s. s.change) change;
+    append = same_part (λ s. s.append) (ap (option_map vec_capacity) buffer);
+    hold = same_part (λ s. s.hold) hold;
+    elsewhere = spare_elsewhere;
+  }
+
+  pub uses_adopt : new.hold ≡ true → UsesAdopt name before after
+  uses_adopt hold = record { hold = ap (λ s. s.hold) spare_there ∙ hold; elsewhere = spare_elsewhere }
 
   pub same_spare : spare_of (Some new) ≡ spare_of (Some old) → SameSpare before after
   same_spare same q = ⊎_elim
@@ -205,17 +243,18 @@ appends_most : (buffer : Option (Vec ℕ Global)) → appends buffer ≤ 2
 appends_most None = omega arith
 appends_most (Some buffer) = omega arith
 
-removes_most : (presence : Presence) → removes presence ≤ 1
+removes_most : (presence : Presence) → removes presence ≤ 3
 removes_most Absent = omega arith
 removes_most Standing = omega arith
 removes_most Removed = omega arith
+removes_most Lent = omega arith
 
-slots_most : (entry : Entry) → slots entry ≤ 7
-slots_most entry = omega (arith, if_most entry.change 3, appends_most entry.buffer, unless_most entry.wholly_synced, removes_most entry.presence)
+slots_most : (entry : Entry) → slots entry ≤ 12
+slots_most entry = omega (arith, if_most entry.change 3, if_most entry.lend 3, appends_most entry.buffer, unless_most entry.wholly_synced, removes_most entry.presence)
 
-pub most : (entries : Entries) → slots_of entries ≤ 7 * length entries.entries
+pub most : (entries : Entries) → slots_of entries ≤ 12 * length entries.entries
 most entries =
-    let each : slots_of entries ≤ length (values_of entries.entries) * 7 = sum_by-le slots 7 (values_of entries.entries) (λ k d within. slots_most (get_or (values_of entries.entries) k d)) in
+    let each : slots_of entries ≤ length (values_of entries.entries) * 12 = sum_by-le slots 12 (values_of entries.entries) (λ k d within. slots_most (get_or (values_of entries.entries) k d)) in
     omega (arith, each, length-map entries.entries (λ (e : Name × Entry). e.1))
 
 -- a name gets its first entry, or another one
@@ -238,7 +277,7 @@ module _ (name : Name) (entry : Entry) (entries next : Entries) (updates : tree.
 
   -- one of a file that stood when the disk was started
   pub found_kept : (events later : List Event) (bytes : Vec ℕ Global) (capacity wide count : ℕ) → entry.presence ≡ Standing → file_of entry ≡ settled bytes.items → Fits entry → slots entry ≡ 1 → IsNumbered name
-      → later ≡ events ++ Found name bytes ∷ [] → count ≡ length entries.entries → length events + 7 * (count + 1) ≤ wide → IsKept entries events capacity → IsKept next later wide
+      → later ≡ events ++ Found name bytes ∷ [] → count ≡ length entries.entries → length events + 12 * (count + 1) ≤ wide → IsKept entries events capacity → IsKept next later wide
   found_kept events later bytes capacity wide count standing file fits few numbered pushed counts room kept =
       let disk = state_after events in
       let after = made name bytes.items disk in

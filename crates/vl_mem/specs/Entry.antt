@@ -1,5 +1,5 @@
 -- What a disk in memory keeps under each name.
-use Rattle.std.specs.Prelude.{◌≡◌, ℕ, ◌+◌, ◌≤◌, Bool, true, false, [], length, Option, None, Some, if◌then◌else◌, vec_capacity, Vec}
+use Rattle.std.specs.Prelude.{◌≡◌, ℕ, ◌+◌, ◌≤◌, Bool, true, false, List, [], length, Option, None, Some, if◌then◌else◌, vec_capacity, Vec}
 use Rattle.std.specs.Global.{Global}
 use Rattle.std.specs.Option.{ForSome, option_map}
 use Rattle.std.specs.BTreeMap as tree
@@ -11,7 +11,7 @@ use Rattle.vl_disk.specs.Spare.{Spare}
 use Rattle.vl_disk.specs.DiskState.{File, DiskState}
 use Rattle.vl_mem.specs.declared.entry.Entry.{Entry}
 use Rattle.vl_mem.specs.declared.entry.Presence.{Presence}
-use Rattle.vl_mem.specs.declared.entry.Presence.TheVariants.{Absent, Standing, Removed}
+use Rattle.vl_mem.specs.declared.entry.Presence.TheVariants.{Absent, Standing, Removed, Lent}
 
 -- a file, but for the pieces that are unsynced
 abbrev pub plain : File → File
@@ -31,17 +31,27 @@ abbrev pub is_standing : Presence → Bool
 is_standing Absent = false
 is_standing Standing = true
 is_standing Removed = false
+is_standing Lent = false
 
 -- the file that stands, and the one that was removed
 abbrev pub if_standing : Presence → File → Option File
 if_standing Absent file = None
 if_standing Standing file = Some file
 if_standing Removed file = None
+if_standing Lent file = None
 
 abbrev pub if_removed : Presence → File → Option File
 if_removed Absent file = None
 if_removed Standing file = None
 if_removed Removed file = Some file
+if_removed Lent file = Some file
+
+-- a writer has the file
+abbrev pub is_lent : Presence → Bool
+is_lent Absent = false
+is_lent Standing = false
+is_lent Removed = false
+is_lent Lent = true
 
 abbrev pub standing_in : Option Entry → Option File
 standing_in None = None
@@ -69,8 +79,19 @@ HasFiles entries disk = (name : Name) → Matches (entry_of entries name) (get d
 
 -- the room that is made there
 abbrev pub spare_of : Option Entry → Spare
-spare_of None = record { change = false; append = None; hold = false }
-spare_of (Some entry) = record { change = entry.change; append = option_map vec_capacity entry.buffer; hold = entry.hold }
+spare_of None = record { change = false; append = None; hold = false; lend = false; adopt = false }
+spare_of (Some entry) = record {
+  change = entry.change;
+  append = option_map vec_capacity entry.buffer;
+  hold = entry.hold;
+  lend = entry.lend;
+  adopt = is_lent entry.presence;
+}
+
+-- the calls at which a writer of the name is to fail
+abbrev pub failing_of : Option Entry → List ℕ
+failing_of None = []
+failing_of (Some entry) = entry.failing.items
 
 -- so many bytes may yet come into some room
 abbrev pub room_in : Option (Vec ℕ Global) → ℕ
@@ -86,21 +107,23 @@ pub record Fits (entry : Entry) : Type 0 where
   pub empty : entry.copy.items ≡ []
   pub copy : entry.hold ≡ true → length entry.bytes.items + room_in entry.buffer ≤ vec_capacity entry.copy
 
--- a file that stands may be removed
+-- a file that stands may be removed; one that is lent may be adopted, and then synced and removed
 abbrev pub removes : Presence → ℕ
 removes Absent = 0
 removes Standing = 1
 removes Removed = 0
+removes Lent = 3
 
 abbrev pub appends : Option (Vec ℕ Global) → ℕ
 appends None = 0
 appends (Some buffer) = 2
 
--- how many events may yet come of this name before the next `ready`: a create with a sync and a remove after it, an
--- append with a sync, and a sync and a remove of what is there
+-- how many events may yet come of this name before the next `ready`: a create with a sync and a remove after it, a lend
+-- with an adopt, a sync and a remove after it, an append with a sync, and a sync and a remove of what is there
 abbrev pub slots : Entry → ℕ
 slots entry =
-    (if entry.change then 3 else 0) + appends entry.buffer + (if entry.wholly_synced then 0 else 1) + removes entry.presence
+    (if entry.change then 3 else 0) + (if entry.lend then 3 else 0) + appends entry.buffer
+    + (if entry.wholly_synced then 0 else 1) + removes entry.presence
 
 -- a call that leaves an event has this of the file, in the room that was made
 pub record Becomes (old new : Entry) (now : Presence) (left : File) : Type 0 where

@@ -5,11 +5,13 @@ use Rattle.std.proofs.Props.{props}
 use Rattle.std.proofs.lemmas.List.{take_all}
 use Rattle.std.proofs.lemmas.List.Elements.{All-tail}
 use Rattle.vl_disk.specs.Name.{IsNumbered}
-use Rattle.vl_disk.specs.DiskState.{DiskState, IsLawful, empty_disk, created, appended, synced, cut_to, without}
+use Rattle.vl_disk.specs.DiskState.{DiskState, IsLawful, IsLawfulFile, empty_disk, created, appended, synced, cut_to, without}
+use Rattle.vl_disk.specs.Lending.{adopted}
 use Rattle.vl_disk.specs.MadeFile.{made}
-use Rattle.vl_disk.specs.laws.Lawful.{empty_lawful, made_lawful, created_lawful, appended_lawful, synced_lawful, cut_lawful, without_lawful}
+use Rattle.vl_disk.specs.laws.Lawful.{adopted_lawful, empty_lawful, made_lawful, created_lawful, appended_lawful, synced_lawful, cut_lawful, without_lawful}
 use Rattle.vl_mem.specs.declared.event.Event.{Event}
-use Rattle.vl_mem.specs.declared.event.Event.TheVariants.{Found, Create, Append, Sync, Cut, Remove}
+use Rattle.vl_mem.specs.declared.event.Event.TheVariants.{Found, Create, Append, Sync, Cut, Remove, Adopt}
+use Rattle.vl_mem.specs.Written.{file_written, written_prop}
 
 abbrev pub after_event : Event → DiskState → DiskState
 after_event (Found name bytes) disk = made name bytes.items disk
@@ -18,6 +20,7 @@ after_event (Append name piece taken) disk = appended name piece.items taken dis
 after_event (Sync name) disk = synced name disk
 after_event (Cut name len left) disk = cut_to name len left disk
 after_event (Remove name) disk = without name disk
+after_event (Adopt name written) disk = adopted name (file_written written) disk
 
 abbrev pub replayed : List Event → DiskState → DiskState
 replayed [] disk = disk
@@ -27,7 +30,7 @@ pub replayed-push : (events : List Event) (event : Event) (disk : DiskState) →
 replayed-push [] event disk = refl
 replayed-push (e ∷ events) event disk = replayed-push events event (after_event e disk)
 
--- a number that a file's name may have, and a cut that leaves no less than was to stay
+-- a number that a file's name may have, a cut that leaves no less than was to stay, and an adopted file that is lawful
 abbrev pub IsSound : Event → Type 0
 IsSound (Found name bytes) = IsNumbered name
 IsSound (Create name) = IsNumbered name
@@ -35,6 +38,7 @@ IsSound (Append name piece taken) = Unit {0}
 IsSound (Sync name) = Unit {0}
 IsSound (Cut name len left) = len ≤ left
 IsSound (Remove name) = Unit {0}
+IsSound (Adopt name written) = IsNumbered name × IsLawfulFile (file_written written)
 
 pub sound_prop : (event : Event) → IsProp (IsSound event)
 sound_prop (Found name bytes) = hlevel props
@@ -43,6 +47,7 @@ sound_prop (Append name piece taken) = hlevel props
 sound_prop (Sync name) = hlevel props
 sound_prop (Cut name len left) = hlevel props
 sound_prop (Remove name) = hlevel props
+sound_prop (Adopt name written) = hlevel (props, written_prop)
 
 event_lawful : (event : Event) (disk : DiskState) → IsSound event → IsLawful disk → IsLawful (after_event event disk)
 event_lawful (Found name bytes) disk sound lawful = made_lawful disk lawful name bytes.items sound
@@ -51,6 +56,7 @@ event_lawful (Append name piece taken) disk sound lawful = appended_lawful disk 
 event_lawful (Sync name) disk sound lawful = synced_lawful disk lawful name
 event_lawful (Cut name len left) disk sound lawful = cut_lawful disk lawful name len left sound
 event_lawful (Remove name) disk sound lawful = without_lawful disk lawful name
+event_lawful (Adopt name written) disk sound lawful = adopted_lawful disk lawful name (file_written written) sound.1 sound.0
 
 replayed_lawful : (events : List Event) (disk : DiskState) → All IsSound events → IsLawful disk → IsLawful (replayed events disk)
 replayed_lawful [] disk sound lawful = lawful

@@ -7,3 +7,4 @@ pub mod Held
 pub mod Kept
 pub mod laws
 pub mod MemDisk
+pub mod Written

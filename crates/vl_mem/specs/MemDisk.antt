@@ -1,15 +1,17 @@
 -- A disk in memory as its callers see it.
-use Rattle.std.specs.Prelude.{◌≡◌, ◌↔◌, ℕ, ◌+◌, [], ◌∷◌, ◌++◌, length, Option, Some}
+use Rattle.std.specs.Prelude.{◌≡◌, ◌↔◌, ℕ, ◌+◌, List, [], ◌∷◌, ◌++◌, length, Option, Some}
 use Rattle.vl_disk.specs.declared.name.Name.{Name}
-use Rattle.vl_disk.specs.DiskState.{DiskState}
+use Rattle.vl_disk.specs.DiskState.{DiskState, File}
 use Rattle.vl_disk.specs.FaultPlan.{Follows, Plan}
 use Rattle.vl_disk.specs.Spare.{SameSpare, Spare}
 use Rattle.vl_mem.specs.ChangePlan.{ChangePlan, FollowsPlan}
 use Rattle.vl_mem.specs.declared.event.Event.{Event}
 use Rattle.vl_mem.specs.declared.mem_disk.MemDisk.{MemDisk}
 use Rattle.vl_mem.specs.declared.mem_reader.MemReader.{MemReader}
-use Rattle.vl_mem.specs.Entry.{entry_of, spare_of}
+use Rattle.vl_mem.specs.declared.mem_writer.MemWriter.{MemWriter}
+use Rattle.vl_mem.specs.Entry.{entry_of, failing_of, spare_of}
 use Rattle.vl_mem.specs.Event.{WasSince, after_event, state_after}
+use Rattle.vl_mem.specs.Written.{file_written}
 
 abbrev pub state_of : MemDisk → DiskState
 state_of disk = state_after disk.events.items
@@ -40,6 +42,22 @@ reads_of disk = disk.reads
 -- the same of the reads of a reader
 abbrev pub reads_by : MemReader → Plan
 reads_by reader = reader.plan
+
+-- the calls at which each writer is to fail whose name is made ready
+abbrev pub writers_of : MemDisk → List ℕ
+writers_of disk = disk.writers.items
+
+-- the same, as it was when a name was made ready
+abbrev pub failing_at : MemDisk → Name → List ℕ
+failing_at disk name = failing_of (entry_of disk.entries name)
+
+-- the same of a writer, and how many calls came
+abbrev pub writes_of : MemWriter → Plan
+writes_of writer = writer.plan
+
+-- the file of a writer
+abbrev pub file_by : MemWriter → Option File
+file_by writer = Some (file_written writer.written)
 
 -- a changing call was asked for, and failed exactly if it was unsynced
 pub record CountsChange (old new : MemDisk) (failed : Type 0) : Type 0 where
@@ -72,3 +90,4 @@ pub record Stays (old new : MemDisk) : Type 0 where
   pub events : new.events.items ≡ old.events.items
   pub changes : new.changes ≡ old.changes
   pub reads : new.reads ≡ old.reads
+  pub writers : writers_of new ≡ writers_of old

@@ -2,6 +2,7 @@
 ghost use Rattle.std.specs.Prelude.{◌≡◌, ◌≤◌, length, Some, Ok, true, false, OnOk, OnErr};
 
 use crate::outcome::Outcome;
+use crate::written::Written;
 use std::alloc::Global;
 use std::mem;
 use vl_disk::NoMemory;
@@ -13,6 +14,8 @@ pub enum Presence {
     Absent,
     Standing,
     Removed,
+    /// A writer has it. It is empty to the disk, as it was when it was lent.
+    Lent,
 }
 
 #[derive(Drop)]
@@ -27,6 +30,10 @@ pub struct Entry {
     pub lasting: bool,
     /// There is room for a create or a cut.
     pub change: bool,
+    /// There is room for a lend and the adopt after it.
+    pub lend: bool,
+    /// The calls at which the writer is to fail.
+    pub failing: Vec<u64>,
     /// Room for the next piece. `bytes` has as much room behind its end.
     pub buffer: Option<Vec<u8>>,
     /// There is room in `copy` for a copy of the file, with the next piece.
@@ -37,7 +44,8 @@ pub struct Entry {
 impl Entry {
     ghost use Rattle.vl_disk.specs.Spare.{CanAppend, IsReady};
     ghost use Rattle.vl_disk.specs.DiskState.{new_file, settled, synced_file, lengthened, shortened};
-    ghost use Rattle.vl_mem.specs.declared.entry.Presence.TheVariants.{Standing, Removed};
+    ghost use Rattle.vl_mem.specs.declared.entry.Presence.TheVariants.{Standing, Removed, Lent};
+    ghost use Rattle.vl_mem.specs.Written.{IsDoubled, file_written};
     ghost use Rattle.std.specs.Option.{option_map};
     ghost use Rattle.vl_mem.specs.CrashImage.{left_of};
     ghost use Rattle.vl_mem.specs.Entry.{Fits, IsBlank, Becomes, KeepsFile, file_of, is_standing, plain, removed_in, slots, spare_of, standing_in};
@@ -53,6 +61,8 @@ impl Entry {
             wholly_synced: true,
             lasting: false,
             change: false,
+            lend: false,
+            failing: Vec::new(alloc),
             buffer: None,
             hold: false,
             copy: Vec::new(alloc),
@@ -73,6 +83,8 @@ impl Entry {
             wholly_synced: true,
             lasting: true,
             change: false,
+            lend: false,
+            failing: Vec::new(alloc),
             buffer: None,
             hold: false,
             copy: Vec::new(alloc),
@@ -89,10 +101,18 @@ impl Entry {
         }
     }
 
-    /// Makes room for a create or a cut, for an append of so many bytes, and for a hold.
-    pub fn make_room(&mut self, alloc: Global, bytes: usize) -> Result<(), NoMemory>
+    /// Makes room for a create or a cut, for an append of so many bytes, for a hold, and for a lend to a writer that is to
+    /// fail at the calls that are listed.
+    pub fn make_room(
+        &mut self,
+        alloc: Global,
+        bytes: usize,
+        failing: &[u64],
+    ) -> Result<(), NoMemory>
         ensures ready { OnOk result (IsReady bytes (spare_of (Some self.new))) }
         ensures hold { OnOk result (self.new.hold ≡ true) }
+        ensures lend { OnOk result (self.new.lend ≡ true) }
+        ensures failing { OnOk result (self.new.failing.items ≡ failing.now) }
         ensures refused { OnErr result (spare_of (Some self.new) ≡ spare_of (Some self.old)) }
         ensures keeps { KeepsFile self.old self.new }
     {
@@ -105,9 +125,14 @@ impl Entry {
         if self.copy.reserve(self.bytes.capacity()).is_err() {
             return Err(NoMemory);
         }
+        let Ok(failing) = Vec::from_slice(alloc, failing) else {
+            return Err(NoMemory);
+        };
+        self.failing = failing;
         self.buffer = Some(buffer);
         self.hold = true;
         self.change = true;
+        self.lend = true;
         Ok(())
     }
 
@@ -119,6 +144,7 @@ impl Entry {
         ensures slots { slots self.new ≤ slots self.old }
         ensures change { self.new.change ≡ self.old.change }
         ensures buffer { self.new.buffer ≡ self.old.buffer }
+        ensures lend { self.new.lend ≡ self.old.lend }
     {
         if !self.hold {
             if self.copy.reserve(self.bytes.capacity()).is_err() {
@@ -135,6 +161,7 @@ impl Entry {
         ensures becomes { Becomes self.old self.new Standing new_file }
         ensures buffer { self.new.buffer ≡ self.old.buffer }
         ensures hold { self.new.hold ≡ self.old.hold }
+        ensures lend { self.new.lend ≡ self.old.lend }
     {
         self.presence = Presence::Standing;
         self.bytes.clear();
@@ -154,6 +181,7 @@ impl Entry {
             (plain (lengthened result.items taken (file_of self.old))) }
         ensures change { self.new.change ≡ self.old.change }
         ensures hold { self.new.hold ≡ self.old.hold }
+        ensures lend { self.new.lend ≡ self.old.lend }
     {
         let mut buffer = self.buffer.take().unwrap();
         let _ = buffer.extend_from_slice(piece);
@@ -179,6 +207,7 @@ impl Entry {
         ensures becomes { Becomes self.old self.new self.old.presence (shortened len left (file_of self.old)) }
         ensures buffer { self.new.buffer ≡ self.old.buffer }
         ensures hold { self.new.hold ≡ self.old.hold }
+        ensures lend { self.new.lend ≡ self.old.lend }
     {
         self.bytes.truncate(left);
         self.synced = len.min(self.synced);
@@ -195,6 +224,38 @@ impl Entry {
         self.presence = Presence::Removed;
     }
 
+    /// The file goes to a writer, which is to fail at the calls that it gives.
+    pub fn lend(&mut self, alloc: Global) -> Vec<u64>
+        requires stands { self.old.presence ≡ Standing }
+        requires room { self.old.lend ≡ true }
+        ensures failing { result.items ≡ self.old.failing.items }
+        ensures becomes { Becomes self.old self.new Lent (file_of self.old) }
+        ensures change { self.new.change ≡ self.old.change }
+        ensures buffer { self.new.buffer ≡ self.old.buffer }
+        ensures hold { self.new.hold ≡ self.old.hold }
+    {
+        self.presence = Presence::Lent;
+        self.lend = false;
+        mem::replace(&mut self.failing, Vec::new(alloc))
+    }
+
+    /// The file comes back from its writer, with room for a copy of it.
+    pub fn adopt(&mut self, bytes: Vec<u8>, copy: Vec<u8>, written: &Written)
+        requires lent { self.old.presence ≡ Lent }
+        requires doubled { IsDoubled written.now bytes copy }
+        ensures becomes { Becomes self.old self.new Standing (plain (file_written written.now)) }
+        ensures hold { self.new.hold ≡ true }
+    {
+        self.presence = Presence::Standing;
+        self.bytes = bytes;
+        self.synced = written.synced;
+        self.wholly_synced = written.wholly_synced;
+        self.lasting = written.lasting;
+        self.buffer = None;
+        self.copy = copy;
+        self.hold = true;
+    }
+
     /// Copies the file into the room that was made for it.
     pub fn share(&mut self, alloc: Global) -> Vec<u8>
         requires room { self.old.hold ≡ true }
@@ -204,6 +265,7 @@ impl Entry {
         ensures slots { slots self.new ≤ slots self.old }
         ensures change { self.new.change ≡ self.old.change }
         ensures buffer { self.new.buffer ≡ self.old.buffer }
+        ensures lend { self.new.lend ≡ self.old.lend }
     {
         let mut copy = mem::replace(&mut self.copy, Vec::new(alloc));
         let _ = copy.extend_from_slice(&self.bytes);
@@ -221,7 +283,8 @@ impl Entry {
             (Presence::Standing, Outcome::Halved) => {
                 self.synced + self.bytes.len().saturating_sub(self.synced) / 2
             }
-            (Presence::Standing | Presence::Removed, Outcome::Lost) if self.lasting => self.synced,
+            (Presence::Absent, _) => return None,
+            (_, Outcome::Lost) if self.lasting => self.synced,
             _ => return None,
         };
         let mut bytes = self.bytes;

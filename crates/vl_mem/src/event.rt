@@ -1,5 +1,6 @@
 ghost use Rattle.std.specs.Prelude.{◌≡◌, ◌+◌, ◌*◌, ◌<◌, ◌≤◌, [], ◌∷◌, ◌++◌, length, vec_capacity, OnOk};
 
+use crate::written::Written;
 use std::alloc::AllocError;
 use vl_disk::Name;
 
@@ -14,7 +15,10 @@ pub enum Event {
     Sync(Name),
     /// A cut to a length, and so many bytes are left. No more is durable than was to stay.
     Cut(Name, usize, usize),
+    /// A remove, or a lend, which does the same.
     Remove(Name),
+    /// A file that was lent came back as it was written.
+    Adopt(Name, Written),
 }
 
 /// Writes down an event in the room that was made for it.
@@ -26,13 +30,14 @@ pub fn note(events: &mut Vec<Event>, event: Event)
     let _ = events.push(event);
 }
 
-/// The most events that may come of a name between two calls of `ready`: a create or a cut, an append, a sync after
-/// each and one of what was there before, and two removes, of what was there before and of what was created.
-const EVENTS_OF_A_NAME: usize = 7;
+/// The most events that may come of a name between two calls of `ready`: a create or a cut with a sync and a remove after
+/// it, an append with a sync, a lend with an adopt, a sync and a remove after it, and of what was there before a sync and
+/// either a remove or, where it is lent, an adopt, a sync and a remove.
+const EVENTS_OF_A_NAME: usize = 12;
 
 /// Makes room for the events of so many names.
 pub fn make_room(events: &mut Vec<Event>, names: usize) -> Result<(), AllocError>
-    ensures room { OnOk result (length events.new.items + 7 * names ≤ vec_capacity events.new) }
+    ensures room { OnOk result (length events.new.items + 12 * names ≤ vec_capacity events.new) }
     ensures items { events.new.items ≡ events.old.items }
     ensures capacity { vec_capacity events.old ≤ vec_capacity events.new }
 {

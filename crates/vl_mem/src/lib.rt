@@ -9,13 +9,16 @@ mod found;
 mod held;
 mod mem_disk;
 mod mem_reader;
+mod mem_writer;
 mod names;
 mod outcome;
 mod reading;
+mod written;
 
 pub use held::MemHeld;
 pub use mem_disk::MemDisk;
 pub use mem_reader::MemReader;
+pub use mem_writer::MemWriter;
 pub use outcome::Outcome;
 
 #[cfg(test)]

@@ -12,13 +12,14 @@ use crate::files_left::files_left;
 use crate::found::found;
 use crate::held::MemHeld;
 use crate::mem_reader::MemReader;
+use crate::mem_writer::MemWriter;
 use crate::names::names_of;
 use crate::outcome::Outcome;
 use crate::reading::read_bytes;
 use std::alloc::Global;
 use std::collections::BTreeMap;
 use vl_disk::{
-    Disk, Failed, FaultPlan, HeldFile, HoldFail, ListFail, Name, NoMemory, Reader, Watched,
+    Disk, DiskFail, Failed, FaultPlan, HeldFile, Name, NoMemory, Reader, Watched, Writer,
 };
 
 mod steps;
@@ -31,6 +32,8 @@ pub struct MemDisk {
     changes: ChangePlan,
     // of the other calls that can fail
     reads: FaultPlan,
+    // the calls at which a writer is to fail
+    writers: Vec<u64>,
     entries: BTreeMap<Name, Entry, Global>,
     events: Vec<Event>,
     ghost kept: { IsKept entries events.items (vec_capacity events) } by { Prim.hlevel (props, sound_prop) },
@@ -48,7 +51,7 @@ impl MemDisk {
     ghost use Rattle.vl_mem.specs.ChangePlan.{new_changes, stopping_after};
     ghost use Rattle.vl_mem.specs.CrashImage.{crash_image};
     ghost use Rattle.vl_mem.specs.Kept.{image_of};
-    ghost use Rattle.vl_mem.specs.MemDisk.{state_of, told_by, moment_of, changes_of, reads_of, KeepsFiles};
+    ghost use Rattle.vl_mem.specs.MemDisk.{state_of, told_by, moment_of, changes_of, reads_of, writers_of, KeepsFiles};
 
     /// An empty disk. Of its changing calls exactly those fail that `faults` lists, by their numbers from 1, and of its
     /// other calls that can fail those that `read_faults` lists.
@@ -62,6 +65,7 @@ impl MemDisk {
             alloc,
             changes: ChangePlan::new(faults),
             reads: FaultPlan::new(read_faults),
+            writers: Vec::new(alloc),
             entries: BTreeMap::new(alloc),
             events: Vec::new(alloc),
         }
@@ -88,6 +92,7 @@ impl MemDisk {
             alloc,
             changes: ChangePlan::new(faults),
             reads: FaultPlan::new(read_faults),
+            writers: Vec::new(alloc),
             entries,
             events,
         })
@@ -100,6 +105,16 @@ impl MemDisk {
         ensures keeps { KeepsFiles self.old self.new }
     {
         self.changes.stop_after(calls);
+    }
+
+    /// Each writer whose name is made ready from now on fails at these of its calls, appends and syncs, numbered from 1.
+    /// `stop_after` doesn't count them.
+    pub fn fail_writers(&mut self, calls: Vec<u64>)
+        ensures writers { writers_of self.new ≡ calls.items }
+        ensures changes { changes_of self.new ≡ changes_of self.old }
+        ensures keeps { KeepsFiles self.old self.new }
+    {
+        self.writers = calls;
     }
 
     /// A disk that was just started from what a crash of this one leaves. Its counts begin anew, and none of its calls is
@@ -158,16 +173,19 @@ impl Disk for MemDisk {
 
     type Reader = MemReader;
 
+    type Writer = MemWriter;
+
     ghost use Rattle.std.specs.Prelude.{◌≡◌, ◌+◌, length, Some, OnOk, OnErr, IfOk, IsTrue, IsErr, IsErrOf, All};
     ghost use Rattle.std.specs.Option.{ForSome};
     ghost use Rattle.vl_disk.specs.Name.{IsNumbered};
-    ghost use Rattle.vl_disk.specs.DiskState.{bytes_at, file_at};
+    ghost use Rattle.vl_disk.specs.DiskState.{bytes_at, file_at, new_file};
+    ghost use Rattle.vl_disk.specs.Lending.{IsJustMade, Lends, Adopts};
     ghost use Rattle.vl_disk.specs.Disk.{Stands, IsFree, IsInside, Lists};
     ghost use Rattle.vl_disk.specs.Calls.{ChangesNothing, Creates, Appends, Syncs, Cuts, Removes};
     ghost use Rattle.vl_disk.specs.FaultPlan.{new_plan};
     ghost use Rattle.vl_disk.specs.Spare.{IsReady, CanAppend, SameSpare, SameSpareElsewhere, UsesHold};
     ghost use Rattle.vl_mem.specs.Event.{told_lawful, counts_present, only_present};
-    ghost use Rattle.vl_mem.specs.MemDisk.{told_by, room_of, changes_of, reads_of, reads_by, CountsChange, CountsRead};
+    ghost use Rattle.vl_mem.specs.MemDisk.{told_by, room_of, changes_of, reads_of, reads_by, writers_of, failing_at, writes_of, file_by, CountsChange, CountsRead};
     ghost use Rattle.vl_mem.specs.FailsPast.{counted_past};
 
     ghost lawful = { λ m. told_lawful m.events.items m.kept.sound };
@@ -178,15 +196,15 @@ impl Disk for MemDisk {
 
     ghost counts_past = { counted_past };
 
-    fn list(&mut self, alloc: Global) -> Result<Vec<Name>, ListFail>
+    fn list(&mut self, alloc: Global) -> Result<Vec<Name>, DiskFail>
         ensures names { IfOk result (λ names. ForSome (told_by self.old) (Lists names.items)) }
         ensures numbered { IfOk result (λ names. All IsNumbered names.items) }
-        ensures no_change { ChangesNothing ⟦<MemDisk as Watched>⟧ self.old self.new (IsErrOf result ListFail.Failed) }
+        ensures no_change { ChangesNothing ⟦<MemDisk as Watched>⟧ self.old self.new (IsErrOf result DiskFail.Failed) }
         ensures spare { SameSpare (room_of self.old) (room_of self.new) }
-        ensures counts { CountsRead self.old self.new (IsErrOf result ListFail.Failed) }
+        ensures counts { CountsRead self.old self.new (IsErrOf result DiskFail.Failed) }
     {
         if self.reads.fails() {
-            return Err(ListFail::Failed);
+            return Err(DiskFail::Failed);
         }
         Ok(names_of(alloc, &self.entries)?)
     }
@@ -227,16 +245,20 @@ impl Disk for MemDisk {
     fn ready(&mut self, name: Name, bytes: u64) -> Result<(), NoMemory>
         ensures ready { OnOk result (IsReady bytes (room_of self.new name)) }
         ensures hold { OnOk result (IsTrue (room_of self.new name).hold) }
+        ensures lend { OnOk result (IsTrue (room_of self.new name).lend) }
         ensures elsewhere { SameSpareElsewhere name (room_of self.old) (room_of self.new) }
         ensures refused { OnErr result (SameSpare (room_of self.old) (room_of self.new)) }
         ensures no_change { ChangesNothing ⟦<MemDisk as Watched>⟧ self.old self.new ⊥ }
         ensures changes { changes_of self.new ≡ changes_of self.old }
         ensures reads { reads_of self.new ≡ reads_of self.old }
+
+        // A writer of this name fails at the calls that are listed now.
+        ensures writers { OnOk result (failing_at self.new name ≡ writers_of self.old) }
     {
         self.know(name)?;
         make_room(&mut self.events, self.entries.len())?;
         let entry = self.entries.get_mut(&name).unwrap();
-        entry.make_room(self.alloc, bytes as usize)
+        entry.make_room(self.alloc, bytes as usize, &self.writers)
     }
 
     fn create(&mut self, name: Name) -> Result<(), Failed>
@@ -310,20 +332,51 @@ impl Disk for MemDisk {
         Ok(())
     }
 
-    fn hold(&mut self, name: Name) -> Result<MemHeld, HoldFail>
+    fn hold(&mut self, name: Name) -> Result<MemHeld, DiskFail>
         requires { ForSome (told_by self.old) (Stands name) }
         ensures held { IfOk result (λ held. ForSome (told_by self.old)
             (λ disk. ⟦<MemHeld as HeldFile>⟧.bytes held ≡ Some (file_at disk name).bytes)) }
-        ensures no_change { ChangesNothing ⟦<MemDisk as Watched>⟧ self.old self.new (IsErrOf result HoldFail.Failed) }
-        ensures memory { IsTrue (room_of self.old name).hold → IsErrOf result HoldFail.NoMemory → ⊥ }
+        ensures named { IfOk result (λ held. ⟦<MemHeld as HeldFile>⟧.named held ≡ name) }
+        ensures no_change { ChangesNothing ⟦<MemDisk as Watched>⟧ self.old self.new (IsErrOf result DiskFail.Failed) }
+        ensures memory { IsTrue (room_of self.old name).hold → IsErrOf result DiskFail.NoMemory → ⊥ }
         ensures spare { UsesHold name (room_of self.old) (room_of self.new) }
-        ensures counts { CountsRead self.old self.new (IsErrOf result HoldFail.Failed) }
+        ensures counts { CountsRead self.old self.new (IsErrOf result DiskFail.Failed) }
     {
         if self.reads.fails() {
-            return Err(HoldFail::Failed);
+            return Err(DiskFail::Failed);
         }
         let copy = self.share(name)?;
-        Ok(MemHeld::new(self.alloc, copy))
+        Ok(MemHeld::new(self.alloc, name, copy))
+    }
+
+    fn lend(&mut self, name: Name) -> Result<MemWriter, Failed>
+        requires just_made { ForSome (told_by self.old) (IsJustMade name) }
+        requires room { IsTrue (room_of self.old name).lend }
+        ensures lends { Lends ⟦<MemDisk as Watched>⟧ name self.old self.new (IsErr result) }
+        ensures named { IfOk result (λ writer. ⟦<MemWriter as Writer>⟧.named writer ≡ name) }
+        ensures file { IfOk result (λ writer. ForSome (told_by self.old)
+            (λ _. ⟦<MemWriter as Writer>⟧.file writer ≡ Some new_file)) }
+        ensures faults { IfOk result (λ writer. ⟦<MemWriter as Writer>⟧.faults writer ≡ 0) }
+        ensures counts { CountsRead self.old self.new (IsErr result) }
+
+        // Of its calls those fail that were listed when the name was made ready.
+        ensures plan { IfOk result (λ writer. writes_of writer ≡ new_plan (failing_at self.old name)) }
+    {
+        if self.reads.fails() {
+            return Err(Failed);
+        }
+        let failing = self.give(name);
+        Ok(MemWriter::new(self.alloc, name, failing))
+    }
+
+    fn adopt(&mut self, writer: MemWriter)
+        requires free { ForSome (told_by self.old) (IsFree (⟦<MemWriter as Writer>⟧.named writer)) }
+        requires room { IsTrue (room_of self.old (⟦<MemWriter as Writer>⟧.named writer)).adopt }
+        ensures disk { Adopts ⟦<MemDisk as Watched>⟧ (⟦<MemWriter as Writer>⟧.named writer) (file_by writer) self.old self.new }
+        ensures changes { changes_of self.new ≡ changes_of self.old }
+        ensures reads { reads_of self.new ≡ reads_of self.old }
+    {
+        self.take_back(writer.into_returned());
     }
 
     fn reader(&self, alloc: Global) -> Result<MemReader, NoMemory>

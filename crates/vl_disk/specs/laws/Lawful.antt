@@ -10,6 +10,7 @@ use Rattle.vl_disk.specs.Name.{name_cmp, IsNumbered}
 use Rattle.vl_disk.specs.laws.NameMap.{same_or_other, get_inserted, get_inserted_other, get_removed, get_removed_other}
 use Rattle.vl_disk.specs.Crash.{last_file}
 use Rattle.vl_disk.specs.Changes.{SameElsewhere, created_there, created_elsewhere, changed_there, changed_elsewhere, unchanged, without_removed, without_elsewhere}
+use Rattle.vl_disk.specs.Lending.{adopted}
 use Rattle.vl_disk.specs.MadeFile.{made}
 use Rattle.vl_disk.specs.DiskState.{Piece, File, DiskState, IsLawfulFile, IsLawful, empty_disk, new_file, settled, synced_file, lengthened, shortened, with_file, created, appended, synced, cut_to, without}
 
@@ -114,6 +115,12 @@ module _ (disk : DiskState) (lawful : IsLawful disk) (name : Name) where
       (record { standing = get_inserted_other disk.standing name (settled bytes); removed = get_removed_other disk.removed name })
       (subst (IsLawfulAt name (get (made name bytes disk).standing name)) (sym (get_removed disk.removed name))
       (subst (λ (o : Option File). IsLawfulAt name o None) (sym (get_inserted disk.standing name (settled bytes))) (settled_lawful bytes, numbered))) lawful
+
+  pub adopted_lawful : (file : File) → IsLawfulFile file → IsNumbered name → IsLawful (adopted name file disk)
+  adopted_lawful file whole numbered = lawful_there name disk (adopted name file disk)
+      (record { standing = get_inserted_other disk.standing name file; removed = get_removed_other disk.removed name })
+      (subst (IsLawfulAt name (get (adopted name file disk).standing name)) (sym (get_removed disk.removed name))
+      (subst (λ (o : Option File). IsLawfulAt name o None) (sym (get_inserted disk.standing name file)) (whole, numbered))) lawful
 
   -- of a change that keeps a file lawful
   pub with_file_lawful : (change : File → File) → ((file : File) → IsLawfulFile file → IsLawfulFile (change file)) → IsLawful (with_file name change disk)

@@ -4,13 +4,16 @@ ghost use Rattle.std.specs.Option.{ForSome};
 ghost use Rattle.vl_disk.specs.DiskState.{created, appended, synced, cut_to, without, file_at};
 ghost use Rattle.vl_disk.specs.Disk.{Stands};
 ghost use Rattle.vl_disk.specs.Name.{IsNumbered};
-ghost use Rattle.vl_disk.specs.Spare.{CanAppend, SameSpare, UsesChange, UsesAppend, UsesHold};
+ghost use Rattle.vl_disk.specs.Spare.{CanAppend, SameSpare, UsesChange, UsesAppend, UsesHold, UsesLend, UsesAdopt};
+ghost use Rattle.vl_disk.specs.Lending.{adopted};
 ghost use Rattle.vl_mem.specs.Entry.{entry_of};
-ghost use Rattle.vl_mem.specs.MemDisk.{told_by, room_of, Goes, Stays};
+ghost use Rattle.vl_mem.specs.MemDisk.{told_by, room_of, failing_at, Goes, Stays};
+ghost use Rattle.vl_mem.specs.Written.{IsReady, file_written};
 
 use super::MemDisk;
 use crate::entry::Entry;
 use crate::event::{Event, note};
+use crate::mem_writer::Returned;
 use vl_disk::{Name, NoMemory};
 
 impl MemDisk {
@@ -81,6 +84,38 @@ impl MemDisk {
         let entry = self.entries.get_mut(&name).unwrap();
         entry.remove();
         note(&mut self.events, Event::Remove(name));
+    }
+
+    // A file that was just made goes to a writer, which is to fail at the calls that are given.
+    pub(super) fn give(&mut self, name: Name) -> Vec<u64>
+        requires stands { ForSome (told_by self.old) (Stands name) }
+        requires room { IsTrue (room_of self.old name).lend }
+        ensures failing { result.items ≡ failing_at self.old name }
+        ensures goes { Goes self.old self.new (without name) }
+        ensures spare { UsesLend name (room_of self.old) (room_of self.new) }
+    {
+        let entry = self.entries.get_mut(&name).unwrap();
+        let failing = entry.lend(self.alloc);
+        note(&mut self.events, Event::Remove(name));
+        failing
+    }
+
+    // A file comes back from its writer.
+    pub(super) fn take_back(&mut self, file: Returned)
+        requires room { IsTrue (room_of self.old file.name).adopt }
+        requires ready { IsReady file.name file.written file.bytes file.copy }
+        ensures goes { Goes self.old self.new (adopted file.name (file_written file.written)) }
+        ensures spare { UsesAdopt file.name (room_of self.old) (room_of self.new) }
+    {
+        let Returned {
+            name,
+            written,
+            bytes,
+            copy,
+        } = file;
+        let entry = self.entries.get_mut(&name).unwrap();
+        entry.adopt(bytes, copy, &written);
+        note(&mut self.events, Event::Adopt(name, written));
     }
 
     // A name that has no entry gets one.

@@ -37,4 +37,4 @@ invariant_of-self-2 c =
 pub returns-clause-spare : goal.returns-clause-spare
 returns-clause-spare c = uses_hold c.args.name c.args.self.now.entries (c.get_mut.follows.lender c.share.new.self) c.unwrap-entry.result.now c.share.new.self
     (sym c.get_mut.ensures.value ∙ ap option_copied_mut c.unwrap-entry.ensures) (c.get_mut.follows.holds c.share.new.self)
-    (c.share.ensures.change ∙ c.make_hold_room.ensures.change) (c.share.ensures.buffer ∙ c.make_hold_room.ensures.buffer)
+    (c.share.ensures.change ∙ c.make_hold_room.ensures.change) (c.share.ensures.buffer ∙ c.make_hold_room.ensures.buffer) (c.share.ensures.lend ∙ c.make_hold_room.ensures.lend)
