@@ -2,7 +2,7 @@
 use Rattle.std.proofs.Common.{◌≡◌, ℕ, List, [], ◌∷◌, length, refl, ap, subst, ◌∙◌}
 use Rattle.std.specs.Prelude.{true, false, Result, Ok, Err, is_err}
 use Rattle.std.specs.Option.{option_map}
-use Rattle.vl_disk.specs.declared.failed.Failed.{Failed}
+use Rattle.vl_disk.specs.declared.errors.Failed.{Failed}
 use Rattle.vl_disk.specs.declared.name.Name.TheVariants as names
 use Rattle.vl_disk.specs.declared.watched.Watched.{Ghosts}
 use Rattle.vl_disk.specs.Calls.{ChangesNothing}

@@ -8,7 +8,7 @@ use Rattle.vl_disk.specs.Crash.{WhileRemoving}
 use Rattle.vl_disk.specs.Disk.{IsChangedBy, Stands}
 use Rattle.vl_disk.specs.DiskState.{DiskState, without}
 use Rattle.vl_disk.specs.laws.Standing.{holds_after}
-use Rattle.vl_disk.specs.declared.failed.Failed.{Failed}
+use Rattle.vl_disk.specs.declared.errors.Failed.{Failed}
 use Rattle.vl_disk.specs.declared.name.Name.{Name}
 use Rattle.vl_disk.specs.declared.name.Name.TheVariants.{Log}
 use Rattle.vl_disk.specs.declared.watched.Watched.{Ghosts}

@@ -9,7 +9,7 @@ use Rattle.vl_disk.specs.DiskState.{DiskState, appended, cut_to, synced, without
 use Rattle.vl_disk.specs.Faults.{HasCause, after_calls, one_more}
 use Rattle.vl_disk.specs.MadeFile.{Makes, TellsPart, WhileMaking, made}
 use Rattle.vl_disk.specs.Moments.{While, passes_none, passes_then, passes_weaker, past_of}
-use Rattle.vl_disk.specs.declared.failed.Failed.{Failed}
+use Rattle.vl_disk.specs.declared.errors.Failed.{Failed}
 use Rattle.vl_disk.specs.declared.name.Name.{Name}
 use Rattle.vl_disk.specs.declared.name.Name.TheVariants.{Log}
 use Rattle.vl_disk.specs.declared.watched.Watched.{Ghosts}

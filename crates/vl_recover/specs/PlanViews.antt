@@ -1,6 +1,6 @@
 -- The plan of a repairing as its definitions see it.
 use Rattle.std.specs.Prelude.{[], ◌∷◌, Result, Ok, Err}
-use Rattle.vl_disk.specs.declared.failed.Failed.{Failed}
+use Rattle.vl_disk.specs.declared.errors.Failed.{Failed}
 use Rattle.vl_disk.specs.declared.name.Name.{Name}
 use Rattle.vl_manifest.specs.Manifest.{manifest_bytes}
 use Rattle.vl_recover.specs.Repairing.{Cut, Headed, Kept, LastLog, NoLast, Plan, Rewritten}

@@ -9,7 +9,7 @@ ghost use Rattle.vl_recover.specs.Finding.{IsExcused, IsFault, IsFaultAt};
 
 use crate::OpenError;
 use std::alloc::Global;
-use vl_disk::{Disk, ListFail, Name, ReadFail, read_file};
+use vl_disk::{Disk, DiskFail, Name, read_file};
 
 // What is named where the files couldn't be listed: no manifest has this number.
 const NO_FILE: Name = Name::Manifest(0);
@@ -24,8 +24,8 @@ pub fn list_names<D: Disk>(alloc: Global, disk: &mut D) -> Result<Vec<Name>, Ope
 {
     match disk.list(alloc) {
         Ok(names) => Ok(names),
-        Err(ListFail::NoMemory) => Err(OpenError::NoMemory),
-        Err(ListFail::Failed) => Err(OpenError::Disk { name: NO_FILE }),
+        Err(DiskFail::NoMemory) => Err(OpenError::NoMemory),
+        Err(DiskFail::Failed) => Err(OpenError::Disk { name: NO_FILE }),
     }
 }
 
@@ -40,7 +40,7 @@ pub fn read_whole<D: Disk>(alloc: Global, disk: &mut D, name: Name) -> Result<Ve
 {
     match read_file(alloc, disk, name) {
         Ok(bytes) => Ok(bytes),
-        Err(ReadFail::NoMemory) => Err(OpenError::NoMemory),
-        Err(ReadFail::Failed) => Err(OpenError::Disk { name }),
+        Err(DiskFail::NoMemory) => Err(OpenError::NoMemory),
+        Err(DiskFail::Failed) => Err(OpenError::Disk { name }),
     }
 }

@@ -4,7 +4,7 @@ use Rattle.vl_disk.specs.Calls.{Appends, Syncs}
 use Rattle.vl_disk.specs.Faults.{one_more}
 use Rattle.vl_disk.specs.declared.watched.Watched.{Ghosts}
 use Rattle.vl_replay.specs.Writing.{StopsWriting, at_sync}
-use Rattle.vl_disk.specs.declared.failed.Failed.{Failed}
+use Rattle.vl_disk.specs.declared.errors.Failed.{Failed}
 use Rattle.vl_disk.specs.declared.name.Name.{Name}
 use Rattle.vl_disk.specs.Disk.{IsChangedBy}
 use Rattle.vl_disk.specs.DiskState.{DiskState, appended, synced}
