@@ -1,9 +1,11 @@
-use crate::FolderDisk;
+use std::fs::File;
+use std::io::Read;
 use std::os::unix::fs::symlink;
 use std::rt::{Env, Files};
 use std::test::Fail;
 use std::{env, fs, io, process};
-use vl_disk::{Disk, Failed, HeldFile, ListFail, Name, Reader, make_file};
+use vl_disk::{Disk, DiskFail, Failed, HeldFile, Name, Reader, Writer, make_file};
+use vl_folder::FolderDisk;
 
 const LOG: Name = Name::Log(1);
 
@@ -86,7 +88,7 @@ fn another_disk_finds_what_one_left(rt: HostRuntime) -> Result<(), Fail> {
     let link = format!(in alloc; "{path}-link")?;
     symlink(&rt, &path, &link)?;
     let mut second = FolderDisk::new(&rt, alloc, link.clone()?);
-    assert_eq!(rt; second.list(alloc), Err(ListFail::Failed));
+    assert_eq!(rt; second.list(alloc), Err(DiskFail::Failed));
     drop(first);
     assert!(rt; has_only(&rt, &mut second, TABLE));
     assert_eq!(rt; second.size(TABLE)?, 3);
@@ -131,33 +133,201 @@ fn a_file_in_the_folders_place_is_a_fault(rt: HostRuntime) -> Result<(), Fail> {
     let path = missing_folder(&rt, process::id(rt.process()))?;
     fs::write(&rt, &path, "theirs")?;
     let mut disk = FolderDisk::new(&rt, alloc, path.clone()?);
-    assert_eq!(rt; disk.list(alloc), Err(ListFail::Failed));
+    assert_eq!(rt; disk.list(alloc), Err(DiskFail::Failed));
     let mut below = FolderDisk::new(&rt, alloc, format!(in alloc; "{path}/below")?);
-    assert_eq!(rt; below.list(alloc), Err(ListFail::Failed));
+    assert_eq!(rt; below.list(alloc), Err(DiskFail::Failed));
     assert!(rt; has_bytes(&rt, &path, b"theirs"));
     fs::remove_file(&rt, path)?;
     Ok(())
 }
 
-// A device can't be synced.
+// A name of the store's that isn't a plain file's.
+fn refuses_what_stands(rt: &HostRuntime, path: &str) -> Result<bool, Fail> {
+    let mut disk = FolderDisk::new(rt, rt.alloc(), String::from_str(rt.alloc(), path)?);
+    disk.ready(LOG, 1)?;
+    let listed = disk.list(rt.alloc()).is_err();
+    let opened = disk.size(LOG).is_err();
+    let created = disk.create(LOG).is_err();
+    let removed = disk.remove(LOG).is_err();
+    Ok(listed && opened && created && removed)
+}
+
 #[test]
-fn a_file_is_lost_by_a_failed_sync_until_it_is_removed(rt: HostRuntime) -> Result<(), Fail> {
+fn a_link_is_not_followed(rt: HostRuntime) -> Result<(), Fail> {
+    let alloc = rt.alloc();
+    let top = missing_folder(&rt, process::id(rt.process()))?;
+    let path = format!(in alloc; "{top}/store")?;
+    let outside = format!(in alloc; "{top}/outside")?;
+    let link = format!(in alloc; "{path}/0000000001.vlog")?;
+    fs::create_dir_all(&rt, &path)?;
+    fs::write(&rt, &outside, "theirs")?;
+    symlink(&rt, &outside, &link)?;
+    assert!(rt; refuses_what_stands(&rt, path.as_str())?);
+    assert!(rt; has_bytes(&rt, &outside, b"theirs"));
+    assert!(rt; has_bytes(&rt, &link, b"theirs"));
+    fs::remove_dir_all(&rt, top)?;
+    Ok(())
+}
+
+#[test]
+fn a_folder_under_a_files_name_is_left_alone(rt: HostRuntime) -> Result<(), Fail> {
     let alloc = rt.alloc();
     let path = missing_folder(&rt, process::id(rt.process()))?;
-    fs::create_dir(&rt, &path)?;
-    symlink(
-        &rt,
-        "/dev/null",
-        format!(in alloc; "{path}/0000000001.vlog")?,
-    )?;
+    let inside = format!(in alloc; "{path}/0000000001.vlog/theirs")?;
+    fs::create_dir_all(&rt, format!(in alloc; "{path}/0000000001.vlog")?)?;
+    fs::write(&rt, &inside, "theirs")?;
+    assert!(rt; refuses_what_stands(&rt, path.as_str())?);
+    assert!(rt; has_bytes(&rt, &inside, b"theirs"));
+    fs::remove_dir_all(&rt, path)?;
+    Ok(())
+}
+
+#[test]
+fn a_file_that_stands_is_not_made_again(rt: HostRuntime) -> Result<(), Fail> {
+    let alloc = rt.alloc();
+    let path = missing_folder(&rt, process::id(rt.process()))?;
     let mut disk = FolderDisk::new(&rt, alloc, path.clone()?);
-    assert!(rt; has_only(&rt, &mut disk, LOG));
-    assert_eq!(rt; disk.size(LOG), Err(Failed));
-    assert_eq!(rt; disk.append(LOG, b"a"), Err(Failed));
-    assert_eq!(rt; disk.sync(LOG), Err(Failed));
-    disk.remove(LOG)?;
+    assert_eq!(rt; disk.list(alloc)?.len(), 0);
+    let file = format!(in alloc; "{path}/0000000001.vlog")?;
+    fs::write(&rt, &file, "theirs")?;
+    disk.ready(LOG, 1)?;
+    assert_eq!(rt; disk.create(LOG), Err(Failed));
+    assert!(rt; has_bytes(&rt, &file, b"theirs"));
+    fs::remove_dir_all(&rt, path)?;
+    Ok(())
+}
+
+#[test]
+fn a_folder_that_was_moved_is_a_fault(rt: HostRuntime) -> Result<(), Fail> {
+    let alloc = rt.alloc();
+    let path = missing_folder(&rt, process::id(rt.process()))?;
+    let mut disk = FolderDisk::new(&rt, alloc, path.clone()?);
+    disk.list(alloc)?;
     disk.ready(LOG, 1)?;
     make_file(&mut disk, LOG, b"a")?;
+    let moved = format!(in alloc; "{path}-moved")?;
+    fs::rename(&rt, &path, &moved)?;
+    disk.ready(TABLE, 1)?;
+    assert_eq!(rt; disk.create(TABLE), Err(Failed));
+    assert_eq!(rt; disk.remove(LOG), Err(Failed));
+    // Nor is another folder in its place taken for it.
+    fs::create_dir(&rt, &path)?;
+    let theirs = format!(in alloc; "{path}/0000000001.vlog")?;
+    fs::write(&rt, &theirs, "theirs")?;
+    assert_eq!(rt; disk.create(TABLE), Err(Failed));
+    assert_eq!(rt; disk.remove(LOG), Err(Failed));
+    assert!(rt; has_bytes(&rt, &theirs, b"theirs"));
+    let ours = format!(in alloc; "{moved}/0000000001.vlog")?;
+    assert!(rt; has_bytes(&rt, &ours, b"a"));
+    fs::remove_dir_all(&rt, path)?;
+    fs::remove_dir_all(&rt, moved)?;
+    Ok(())
+}
+
+#[test]
+fn a_file_is_lent_and_adopted(rt: HostRuntime) -> Result<(), Fail> {
+    let alloc = rt.alloc();
+    let path = missing_folder(&rt, process::id(rt.process()))?;
+    let mut disk = FolderDisk::new(&rt, alloc, path.clone()?);
+    disk.list(alloc)?;
+    disk.ready(TABLE, 0)?;
+    disk.create(TABLE)?;
+    let mut writer = disk.lend(TABLE)?;
+    may_be_sent(&writer);
+    writer.append(b"abc")?;
+    // Meanwhile it is the writer's alone, and other files are the disk's.
+    assert_eq!(rt; disk.append(TABLE, b"x"), Err(Failed));
+    assert_eq!(rt; disk.size(TABLE), Err(Failed));
+    disk.ready(LOG, 1)?;
+    make_file(&mut disk, LOG, b"l")?;
+    writer.append(b"de")?;
+    writer.sync()?;
+    disk.adopt(writer);
+    let held = disk.hold(TABLE)?;
+    assert_eq!(rt; held.len(), 5);
+    assert_eq!(rt; held.name(), TABLE);
+    let mut two = [0; 2];
+    disk.reader(alloc)?.read(&held, 2, &mut two)?;
+    assert_eq!(rt; &two, b"cd");
+    let file = format!(in alloc; "{path}/4294967294.vtab")?;
+    assert!(rt; has_bytes(&rt, &file, b"abcde"));
+    fs::remove_dir_all(&rt, path)?;
+    Ok(())
+}
+
+/// How many files the process has open.
+fn open_files(rt: &impl Files) -> io::Result<usize> {
+    let mut names = [0u8; 4096];
+    let mut folder = rt.open_dir("/proc/self/fd/")?;
+    let mut count = 0;
+    for _ in 0..64 {
+        let read = folder.read(&mut names)?;
+        if read == 0 {
+            break;
+        }
+        count += names[..read].iter().filter(|byte| **byte == 0).count();
+    }
+    Ok(count)
+}
+
+/// More files than a disk keeps open.
+const MANY: u32 = 400;
+
+// What is held stays readable, also where it was read long ago or was removed.
+#[test]
+fn many_files_are_held_over_few_that_are_open(rt: HostRuntime) -> Result<(), Fail> {
+    let alloc = rt.alloc();
+    let path = missing_folder(&rt, process::id(rt.process()))?;
+    let mut disk = FolderDisk::new(&rt, alloc, path.clone()?);
+    disk.list(alloc)?;
+    let mut all = Vec::new(alloc);
+    for number in 1..=MANY {
+        let name = Name::Table(number);
+        disk.ready(name, 4)?;
+        make_file(&mut disk, name, &number.to_be_bytes())?;
+        all.push(disk.hold(name)?)?;
+    }
+    disk.remove(Name::Table(1))?;
+    disk.remove(Name::Table(MANY))?;
+    let mut reader = disk.reader(alloc)?;
+    for _ in 0..2 {
+        let mut bytes = [0; 4];
+        for (at, held) in all.iter().enumerate() {
+            reader.read(held, 0, &mut bytes)?;
+            assert_eq!(rt; u32::from_be_bytes(bytes) as usize, at + 1);
+        }
+        assert!(rt; open_files(&rt)? < 220);
+    }
+    fs::remove_dir_all(&rt, path)?;
+    Ok(())
+}
+
+// The file is as long as the system lets it be, but for one byte.
+#[test]
+fn a_piece_that_is_taken_in_part_is_a_fault(rt: HostRuntime) -> Result<(), Fail> {
+    let alloc = rt.alloc();
+    let path = missing_folder(&rt, process::id(rt.process()))?;
+    let mut disk = FolderDisk::new(&rt, alloc, path.clone()?);
+    disk.list(alloc)?;
+    let long = File::create(&rt, format!(in alloc; "{path}/0000000001.vlog")?)?;
+    let (mut fits, mut too_long) = (0u64, 1u64 << 63);
+    for _ in 0..64 {
+        let middle = fits + (too_long - fits) / 2;
+        if long.set_len(middle).is_ok() {
+            fits = middle;
+        } else {
+            too_long = middle;
+        }
+    }
+    let end = fits - 1;
+    long.set_len(end)?;
+    disk.ready(LOG, 3)?;
+    assert_eq!(rt; disk.size(LOG)?, end);
+    assert_eq!(rt; disk.append(LOG, b"abc"), Err(Failed));
+    // It has taken what the system took.
+    assert_eq!(rt; disk.size(LOG)?, long.metadata()?.len());
+    disk.cut(LOG, 0)?;
+    disk.append(LOG, b"d")?;
     assert_eq!(rt; disk.size(LOG)?, 1);
     fs::remove_dir_all(&rt, path)?;
     Ok(())

@@ -1,8 +1,8 @@
-use super::*;
 use std::io;
 use std::io::{ErrorKind, Read, Write};
 use std::test::Fail;
 use vl_disk::Failed;
+use vl_io::{Sink, SliceSource, Source, StdSink, StdSource, VecSink};
 
 // Any source and any sink, seen through their traits alone.
 fn copy_all<S: Source, K: Sink>(source: &mut S, sink: &mut K) -> Result<(), Failed> {

@@ -13,4 +13,4 @@ same_file held copy same = (refl, same)
 
 -- the room of each name: only the system can refuse a call, and no memory of the disk's own
 abbrev pub all_room : Spare
-all_room = record { change = true; append = Some (2 ^ 64 - 1); hold = true }
+all_room = record { change = true; append = Some (2 ^ 64 - 1); hold = true; lend = true; adopt = true }

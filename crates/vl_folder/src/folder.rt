@@ -3,18 +3,27 @@ ghost use Rattle.std.specs.Prelude.{◌≡◌, ◌<◌, IfOk, OnOk, All, vec_len
 ghost use Rattle.vl_disk.specs.Name.{IsNumbered};
 
 use crate::file_name::named;
-use crate::held::FolderHeld;
+use crate::folder_error::FolderError;
+use crate::held::Shared;
+use crate::identity::Identity;
 use crate::making::make_folder;
+use crate::named::Named;
+use crate::open_file::OpenFile;
+use crate::opening::plain_file;
+use crate::pool::Pool;
 use crate::slot::Slot;
 use std::alloc::Global;
-use std::fs::File;
-use std::io;
-use std::io::{ErrorKind, Read};
+use std::fs::{File, TryLockError};
+use std::io::Read;
 use std::rt::Files;
+use std::sync::Arc;
 use vl_disk::Name;
 
 /// The bytes of names that are read at a time.
 const NAMES: usize = 4096;
+
+/// So many files stay open that needn't.
+const MOST_OPEN: usize = 64;
 
 /// Whether the names that stand in the folder are durable.
 #[derive(Clone, Copy)]
@@ -32,9 +41,10 @@ pub struct Folder<R: Files<File = File>> {
     alloc: Global,
     path: String,
     // the folder itself, locked, once a call has opened it
-    handle: Option<File>,
+    handle: Option<Arc<File, Global>>,
     names: Names,
     slots: Vec<Slot>,
+    pool: Option<Arc<Pool, Global>>,
 }
 
 impl<R: Files<File = File>> Folder<R> {
@@ -46,21 +56,43 @@ impl<R: Files<File = File>> Folder<R> {
             handle: None,
             names: Names::New,
             slots: Vec::new(alloc),
+            pool: None,
         }
     }
 
+    pub fn path(&self) -> &str {
+        self.path.as_str()
+    }
+
     /// Opens the folder and locks it, so that another disk over it is refused. The names that stand are made durable.
-    fn enter(&mut self) -> io::Result<()> {
+    fn enter(&mut self) -> Result<(), FolderError> {
         if self.handle.is_some() {
             return Ok(());
         }
         let handle = File::open(&self.rt, self.path.as_str())?;
-        handle.try_lock()?;
-        self.handle = Some(handle);
+        match handle.try_lock() {
+            Ok(()) => {}
+            Err(TryLockError::WouldBlock) => return Err(FolderError::InUse),
+            Err(TryLockError::Error(error)) => return Err(FolderError::System(error)),
+        }
+        self.pool = Some(Arc::new(self.alloc, Pool::new(self.alloc))?);
+        self.handle = Some(Arc::new(self.alloc, handle)?);
         self.sync_names()
     }
 
-    fn sync_names(&mut self) -> io::Result<()>
+    /// Whether the path still leads to the folder that was opened.
+    fn look_again(&self) -> Result<(), FolderError> {
+        let Some(handle) = &self.handle else {
+            return Err(FolderError::Moved);
+        };
+        let opened = Identity::of(&handle.metadata()?);
+        match self.rt.metadata(self.path.as_str()) {
+            Ok(found) if Identity::of(&found) == opened => Ok(()),
+            _ => Err(FolderError::Moved),
+        }
+    }
+
+    fn sync_names(&mut self) -> Result<(), FolderError>
         ensures { self.new.slots ≡ self.old.slots }
     {
         match (self.names, &self.handle) {
@@ -71,12 +103,12 @@ impl<R: Files<File = File>> Folder<R> {
                 self.names = Names::Durable;
                 Ok(())
             }
-            _ => Err(io::Error::from(ErrorKind::Other)),
+            _ => Err(FolderError::Lost),
         }
     }
 
     /// Where the slot of this name is.
-    fn slot(&mut self, name: Name) -> io::Result<usize>
+    fn slot(&mut self, name: Name) -> Result<usize, FolderError>
         ensures { IfOk result (λ at. at < vec_len self.new.slots) }
     {
         if let Some(at) = self.slots.iter().position(|slot| slot.is_of(name)) {
@@ -89,44 +121,51 @@ impl<R: Files<File = File>> Folder<R> {
     }
 
     /// Where the slot of this name is, whose file is open.
-    fn open(&mut self, name: Name) -> io::Result<usize>
+    fn open(&mut self, name: Name) -> Result<usize, FolderError>
         ensures { IfOk result (λ at. at < vec_len self.new.slots) }
     {
         self.enter()?;
         let at = self.slot(name)?;
         if !self.slots[at].is_open() {
+            self.look_again()?;
             self.close_idle();
-            self.slots[at].open(&self.rt)?;
+            self.slots[at].open(&self.rt, self.alloc)?;
         }
         Ok(at)
     }
 
-    /// Closes the files that needn't stay open, so that a store may have more files than a process may have open.
+    /// Closes the files that needn't stay open, where many are open, so that a store may have more files than a process
+    /// may have open.
     fn close_idle(&mut self)
         ensures { vec_len self.new.slots ≡ vec_len self.old.slots }
     {
+        if self.slots.iter().filter(|slot| slot.is_open()).count() < MOST_OPEN {
+            return;
+        }
         for slot in self.slots.iter_mut() {
             slot.close_if_idle();
         }
     }
 
-    /// The names of the store's files in the folder, which is made where it is missing.
-    pub fn list(&mut self, alloc: Global) -> io::Result<Vec<Name>>
+    /// The names of the store's files in the folder, which is made where it is missing. Each must be of a plain file.
+    pub fn list(&mut self, alloc: Global) -> Result<Vec<Name>, FolderError>
         ensures { IfOk result (λ names. All IsNumbered names.items) }
     {
         if self.handle.is_none() {
-            make_folder(&self.rt, self.path.as_str())?;
+            make_folder(&self.rt, alloc, self.path.as_str())?;
         }
         self.enter()?;
+        self.look_again()?;
         let names = self.read_names(alloc)?;
         for name in &names {
-            self.slot(*name)?;
+            let at = self.slot(*name)?;
+            plain_file(&self.rt, self.slots[at].path())?;
         }
         Ok(names)
     }
 
     /// The names of the store's files in the folder. All other names are passed over.
-    fn read_names(&self, alloc: Global) -> io::Result<Vec<Name>>
+    fn read_names(&self, alloc: Global) -> Result<Vec<Name>, FolderError>
         ensures { IfOk result (λ names. All IsNumbered names.items) }
     {
         let mut names = Vec::new(alloc);
@@ -144,37 +183,38 @@ impl<R: Files<File = File>> Folder<R> {
         Ok(names)
     }
 
-    pub fn ready(&mut self, name: Name) -> io::Result<()> {
+    pub fn ready(&mut self, name: Name) -> Result<(), FolderError> {
         self.slot(name)?;
         Ok(())
     }
 
-    pub fn size(&mut self, name: Name) -> io::Result<u64> {
+    pub fn size(&mut self, name: Name) -> Result<u64, FolderError> {
         let at = self.open(name)?;
         self.slots[at].size()
     }
 
-    pub fn read(&mut self, name: Name, place: u64, out: &mut [u8]) -> io::Result<()> {
+    pub fn read(&mut self, name: Name, place: u64, out: &mut [u8]) -> Result<(), FolderError> {
         let at = self.open(name)?;
         self.slots[at].read(place, out)
     }
 
-    pub fn create(&mut self, name: Name) -> io::Result<()> {
+    pub fn create(&mut self, name: Name) -> Result<(), FolderError> {
         self.enter()?;
+        self.look_again()?;
         let at = self.slot(name)?;
         if let Names::Durable = self.names {
             self.names = Names::New;
         }
         self.close_idle();
-        self.slots[at].create(&self.rt)
+        self.slots[at].create(&self.rt, self.alloc)
     }
 
-    pub fn append(&mut self, name: Name, piece: &[u8]) -> io::Result<()> {
+    pub fn append(&mut self, name: Name, piece: &[u8]) -> Result<(), FolderError> {
         let at = self.open(name)?;
         self.slots[at].append(piece)
     }
 
-    pub fn sync(&mut self, name: Name) -> io::Result<()> {
+    pub fn sync(&mut self, name: Name) -> Result<(), FolderError> {
         let at = self.open(name)?;
         self.slots[at].sync()?;
         let named = self.sync_names();
@@ -184,27 +224,71 @@ impl<R: Files<File = File>> Folder<R> {
         named
     }
 
-    pub fn cut(&mut self, name: Name, len: u64) -> io::Result<()> {
+    pub fn cut(&mut self, name: Name, len: u64) -> Result<(), FolderError> {
         let at = self.open(name)?;
         self.slots[at].cut(len)
     }
 
-    pub fn remove(&mut self, name: Name) -> io::Result<()> {
+    /// Removes a file. One that is held is opened before, so that it can be read as long as it is.
+    pub fn remove(&mut self, name: Name) -> Result<(), FolderError> {
         self.enter()?;
-        let at = self.slot(name)?;
-        self.slots[at].remove(&self.rt)?;
+        self.look_again()?;
+        let mut at = self.slot(name)?;
+        if self.slots[at].is_held() {
+            at = self.open(name)?;
+        }
+        if let Some(pool) = &self.pool {
+            self.slots[at].remove(&self.rt, pool)?;
+        }
         self.slots.swap_remove(at);
         Ok(())
     }
 
-    pub fn hold(&mut self, name: Name) -> io::Result<FolderHeld> {
+    /// Shares a file, and says how long it is.
+    pub fn hold(&mut self, name: Name) -> Result<(u64, Shared), FolderError> {
         let at = self.open(name)?;
-        self.slots[at].hold()
+        match &self.pool {
+            Some(pool) => self.slots[at].hold(pool),
+            None => Err(FolderError::Moved),
+        }
+    }
+
+    /// The file, its name and the folder, for a writer.
+    pub fn lend(&mut self, name: Name) -> Result<Lent, FolderError> {
+        let at = self.open(name)?;
+        let Some(handle) = &self.handle else {
+            return Err(FolderError::Moved);
+        };
+        let folder = handle.clone()?;
+        let (named, file) = self.slots[at].lend()?;
+        Ok(Lent {
+            named,
+            file,
+            folder,
+        })
+    }
+
+    /// The file comes back from its writer. Where a sync of the folder failed there, it counts here too.
+    pub fn adopt(&mut self, name: Name, file: OpenFile, names_lost: bool) {
+        if names_lost {
+            self.names = Names::Lost;
+        }
+        if let Some(at) = self.slots.iter().position(|slot| slot.is_of(name)) {
+            self.slots[at].adopt(file);
+        }
     }
 }
 
+/// What a writer gets.
+#[derive(Drop)]
+pub struct Lent {
+    pub named: Arc<Named, Global>,
+    pub file: OpenFile,
+    pub folder: Arc<File, Global>,
+}
+
 /// Adds the names of a store's files, out of names that each end with a zero.
-fn add_names(texts: &[u8], names: &mut Vec<Name>) -> io::Result<()>
+fn add_names(texts: &[u8], names: &mut Vec<Name>) -> Result<(), FolderError>
     requires { All IsNumbered names.old.items }
     ensures { OnOk result (All IsNumbered names.new.items) }
 {

@@ -1,59 +1,82 @@
 ghost use Rattle.std.specs.Prelude.{◌≡◌, ◌↔◌, IsErr, IfOk, None, Some, true, false};
 ghost use Rattle.vl_disk.specs.Faults.{HasCause, one_more};
 
-use crate::folder::Folder;
+use crate::file_name::path_of;
+use crate::folder::{Folder, Lent};
+use crate::folder_error::{FolderError, tell};
 use crate::folder_reader::FolderReader;
 use crate::held::FolderHeld;
+use crate::writer::FolderWriter;
 use std::alloc::Global;
 use std::fs::File;
-use std::io;
-use std::io::ErrorKind;
+use std::io::Eprint;
 use std::rt::Files;
-use vl_disk::{Disk, Failed, HoldFail, ListFail, Name, NoMemory, Watched};
+use vl_disk::{Disk, DiskFail, Failed, Name, NoMemory, Watched};
 
-/// A folder of the file system as a disk. It tells no bytes, and opens nothing before its first call.
+/// A folder of the file system as a disk. It tells no bytes, and opens nothing before its first call. What fails is told in
+/// one line on the standard error.
 #[derive(Drop)]
 pub struct FolderDisk<R: Files<File = File>> {
+    rt: R,
+    alloc: Global,
     folder: Folder<R>,
     calls: u64,
     faults: u64,
 }
 
-impl<R: Files<File = File>> FolderDisk<R> {
+impl<R: Files<File = File> + Eprint + Copy> FolderDisk<R> {
     /// A disk over the folder of this path, which may be missing.
     pub fn new(rt: R, alloc: Global, path: String) -> Self
         ensures { ⟦<FolderDisk<R> as Watched>⟧.faults result ≡ 0 }
     {
         FolderDisk {
+            rt,
+            alloc,
             folder: Folder::new(rt, alloc, path),
             calls: 0,
             faults: 0,
         }
     }
 
+    /// Counts a fault of the file of this name or, where there is none, of the folder, and tells it.
+    fn count(&mut self, name: Option<Name>, error: &FolderError)
+        ensures cause { HasCause self.old.faults self.new.faults (Unit {0}) }
+        ensures calls { self.new.calls ≡ self.old.calls }
+    {
+        self.faults = self.faults.saturating_add(1);
+        let folder = self.folder.path();
+        match name {
+            Some(name) => match path_of(self.alloc, folder, name) {
+                Ok(path) => tell(&self.rt, path.as_str(), error),
+                Err(_) => tell(&self.rt, folder, error),
+            },
+            None => tell(&self.rt, folder, error),
+        }
+    }
+
     /// The answer of a call that changes nothing.
-    fn answer<T: Drop>(&mut self, answer: io::Result<T>) -> Result<T, Failed>
+    fn answer<T: Drop>(&mut self, name: Name, answer: Result<T, FolderError>) -> Result<T, Failed>
         ensures failed { IsErr result ↔ IsErr answer }
         ensures cause { HasCause self.old.faults self.new.faults (IsErr result) }
         ensures calls { self.new.calls ≡ self.old.calls }
     {
         match answer {
             Ok(found) => Ok(found),
-            Err(_) => {
-                self.faults = self.faults.saturating_add(1);
+            Err(error) => {
+                self.count(Some(name), &error);
                 Err(Failed)
             }
         }
     }
 
     /// The answer of a call that changes something.
-    fn answer_change(&mut self, answer: io::Result<()>) -> Result<(), Failed>
+    fn answer_change(&mut self, name: Name, answer: Result<(), FolderError>) -> Result<(), Failed>
         ensures failed { IsErr result ↔ IsErr answer }
         ensures cause { HasCause self.old.faults self.new.faults (IsErr result) }
         ensures calls { self.new.calls ≡ one_more self.old.calls }
     {
         self.calls = self.calls.saturating_add(1);
-        self.answer(answer)
+        self.answer(name, answer)
     }
 }
 
@@ -77,10 +100,12 @@ impl<R: Files<File = File>> Watched for FolderDisk<R> {
     ghost fails_past = { λ _ _. ⊥ };
 }
 
-impl<R: Files<File = File> + Drop> Disk for FolderDisk<R> {
+impl<R: Files<File = File> + Eprint + Copy> Disk for FolderDisk<R> {
     type Held = FolderHeld;
 
-    type Reader = FolderReader;
+    type Reader = FolderReader<R>;
+
+    type Writer = FolderWriter<R>;
 
     ghost use Rattle.vl_folder.specs.Untold.{untold};
 
@@ -92,25 +117,25 @@ impl<R: Files<File = File> + Drop> Disk for FolderDisk<R> {
 
     ghost counts_past = { λ _ _ past. absurd past };
 
-    fn list(&mut self, alloc: Global) -> Result<Vec<Name>, ListFail> {
+    fn list(&mut self, alloc: Global) -> Result<Vec<Name>, DiskFail> {
         match self.folder.list(alloc) {
             Ok(names) => Ok(names),
-            Err(error) if error.kind() == ErrorKind::OutOfMemory => Err(ListFail::NoMemory),
-            Err(_) => {
-                self.faults = self.faults.saturating_add(1);
-                Err(ListFail::Failed)
+            Err(FolderError::NoMemory) => Err(DiskFail::NoMemory),
+            Err(error) => {
+                self.count(None, &error);
+                Err(DiskFail::Failed)
             }
         }
     }
 
     fn size(&mut self, name: Name) -> Result<u64, Failed> {
         let size = self.folder.size(name);
-        self.answer(size)
+        self.answer(name, size)
     }
 
     fn read(&mut self, name: Name, place: u64, out: &mut [u8]) -> Result<(), Failed> {
         let read = self.folder.read(name, place, out);
-        self.answer(read)
+        self.answer(name, read)
     }
 
     fn ready(&mut self, name: Name, _bytes: u64) -> Result<(), NoMemory> {
@@ -122,38 +147,53 @@ impl<R: Files<File = File> + Drop> Disk for FolderDisk<R> {
 
     fn create(&mut self, name: Name) -> Result<(), Failed> {
         let created = self.folder.create(name);
-        self.answer_change(created)
+        self.answer_change(name, created)
     }
 
     fn append(&mut self, name: Name, piece: &[u8]) -> Result<(), Failed> {
         let appended = self.folder.append(name, piece);
-        self.answer_change(appended)
+        self.answer_change(name, appended)
     }
 
     fn sync(&mut self, name: Name) -> Result<(), Failed> {
         let synced = self.folder.sync(name);
-        self.answer_change(synced)
+        self.answer_change(name, synced)
     }
 
     fn cut(&mut self, name: Name, len: u64) -> Result<(), Failed> {
         let cut = self.folder.cut(name, len);
-        self.answer_change(cut)
+        self.answer_change(name, cut)
     }
 
     fn remove(&mut self, name: Name) -> Result<(), Failed> {
         let removed = self.folder.remove(name);
-        self.answer_change(removed)
+        self.answer_change(name, removed)
     }
 
-    fn hold(&mut self, name: Name) -> Result<FolderHeld, HoldFail> {
+    fn hold(&mut self, name: Name) -> Result<FolderHeld, DiskFail> {
         let held = self.folder.hold(name);
-        match self.answer(held) {
-            Ok(held) => Ok(held),
-            Err(Failed) => Err(HoldFail::Failed),
+        match self.answer(name, held) {
+            Ok((len, shared)) => Ok(FolderHeld::new(name, len, shared)),
+            Err(Failed) => Err(DiskFail::Failed),
         }
     }
 
-    fn reader(&self, _alloc: Global) -> Result<FolderReader, NoMemory> {
-        Ok(FolderReader::new())
+    fn lend(&mut self, name: Name) -> Result<FolderWriter<R>, Failed> {
+        let lent = self.folder.lend(name);
+        let Lent {
+            named,
+            file,
+            folder,
+        } = self.answer(name, lent)?;
+        Ok(FolderWriter::new(self.rt, name, named, file, folder))
+    }
+
+    fn adopt(&mut self, writer: FolderWriter<R>) {
+        let (name, file, names_lost) = writer.into_parts();
+        self.folder.adopt(name, file, names_lost);
+    }
+
+    fn reader(&self, alloc: Global) -> Result<FolderReader<R>, NoMemory> {
+        Ok(FolderReader::new(self.rt, alloc))
     }
 }

@@ -1,30 +1,42 @@
 ghost use Rattle.std.specs.Prelude.{◌≡◌, ◌+◌, ◌≤◌};
 
+use crate::folder_error::tell;
 use crate::held::FolderHeld;
+use std::alloc::Global;
+use std::fs::File;
+use std::io::Eprint;
+use std::rt::Files;
 use vl_disk::{Failed, Reader};
 
 /// What reads the files that a folder shares.
 #[derive(Drop)]
-pub struct FolderReader {
+pub struct FolderReader<R> {
+    rt: R,
+    alloc: Global,
     faults: u64,
 }
 
-impl FolderReader {
-    pub fn new() -> Self
-        ensures { ⟦<FolderReader as Reader>⟧.faults result ≡ 0 }
+impl<R: Files<File = File> + Eprint> FolderReader<R> {
+    pub fn new(rt: R, alloc: Global) -> Self
+        ensures { ⟦<FolderReader<R> as Reader>⟧.faults result ≡ 0 }
     {
-        FolderReader { faults: 0 }
+        FolderReader {
+            rt,
+            alloc,
+            faults: 0,
+        }
     }
 }
 
-impl Reader for FolderReader {
+impl<R: Files<File = File> + Eprint> Reader for FolderReader<R> {
     type Held = FolderHeld;
 
     ghost faults = { λ reader. reader.faults };
 
     fn read(&mut self, held: &FolderHeld, place: u64, out: &mut [u8]) -> Result<(), Failed> {
-        if held.read(place, out).is_err() {
+        if let Err(error) = held.read(&self.rt, self.alloc, place, out) {
             self.faults = self.faults.saturating_add(1);
+            tell(&self.rt, held.path(), &error);
             return Err(Failed);
         }
         Ok(())

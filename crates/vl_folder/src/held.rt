@@ -1,50 +1,81 @@
 // A file that a folder shares.
-ghost use Rattle.std.specs.Prelude.{◌≡◌, ℕ, None};
+ghost use Rattle.std.specs.Prelude.{◌≡◌, ◌↔◌, ℕ, None, IsTrue};
 
+use crate::folder_error::FolderError;
+use crate::identity::Identity;
+use crate::named::Named;
+use crate::opening::open_file;
+use crate::pool::Pool;
 use std::alloc::{AllocError, Global};
 use std::fs::File;
-use std::io;
-use std::io::ErrorKind;
 use std::os::unix::fs::FileExt;
+use std::rt::Files;
 use std::sync::Arc;
-use vl_disk::HeldFile;
+use vl_disk::{HeldFile, Name};
 
-/// A handle that is made before its file is opened, so that opening and sharing the file want no memory.
-pub type Handle = Arc<Option<File>, Global>;
-
-/// The file that was opened.
-pub fn opened(handle: &Handle) -> io::Result<&File> {
-    match handle.as_ref() {
-        Some(file) => Ok(file),
-        None => Err(io::Error::from(ErrorKind::NotFound)),
-    }
-}
-
-/// A file that a folder shares. It doesn't tell its bytes, and keeps its length.
+/// A file that a folder shares. It doesn't tell its bytes, and keeps its length. It is open only while it was read lately.
 #[derive(Drop)]
 pub struct FolderHeld {
-    handle: Handle,
+    name: Name,
     len: u64,
+    shared: Shared,
+}
+
+/// How the file is read.
+#[derive(Drop)]
+pub struct Shared {
+    pub named: Arc<Named, Global>,
+    pub identity: Identity,
+    pub pool: Arc<Pool, Global>,
 }
 
 impl FolderHeld {
-    pub fn new(handle: Handle, len: u64) -> Self {
-        FolderHeld { handle, len }
+    pub fn new(name: Name, len: u64, shared: Shared) -> Self
+        ensures { result.name ≡ name }
+    {
+        FolderHeld { name, len, shared }
+    }
+
+    pub fn path(&self) -> &str {
+        self.shared.named.path.as_str()
     }
 
     /// Reads from a place on, as many bytes as fill `out`. Several readers may do so at a time.
-    pub fn read(&self, place: u64, out: &mut [u8]) -> io::Result<()> {
-        opened(&self.handle)?.read_exact_at(out, place)
+    pub fn read<R: Files<File = File>>(
+        &self,
+        rt: &R,
+        alloc: Global,
+        place: u64,
+        out: &mut [u8],
+    ) -> Result<(), FolderError> {
+        let shared = &self.shared;
+        if let Some(file) = shared.pool.find(shared.identity) {
+            return Ok(file.read_exact_at(out, place)?);
+        }
+        let file = open_file(rt, self.path())?;
+        if Identity::of(&file.metadata()?) != shared.identity {
+            return Err(FolderError::Replaced);
+        }
+        file.read_exact_at(out, place)?;
+        if let Ok(file) = Arc::new(alloc, file) {
+            shared.pool.keep(shared.identity, file);
+        }
+        Ok(())
     }
 }
 
 impl Clone for FolderHeld {
-    ghost is_clone = { λ held copy. copy.len ≡ held.len };
+    ghost is_clone = { λ held copy. (copy.len ≡ held.len) × (copy.name ≡ held.name) };
 
     fn clone(&self) -> Result<FolderHeld, AllocError> {
         Ok(FolderHeld {
-            handle: self.handle.clone()?,
+            name: self.name,
             len: self.len,
+            shared: Shared {
+                named: self.shared.named.clone()?,
+                identity: self.shared.identity,
+                pool: self.shared.pool.clone()?,
+            },
         })
     }
 }
@@ -56,11 +87,26 @@ impl HeldFile for FolderHeld {
 
     ghost size = { λ held. held.len };
 
+    ghost named = { λ held. held.name };
+
     ghost sized = { λ _ bytes told. untold bytes told };
 
-    ghost shared = { λ held copy same. same_file held.len copy.len same };
+    ghost shared = { λ held copy same. same_file held.len copy.len same.0 };
+
+    ghost named_alike = { λ held copy same. same.1 };
 
     fn len(&self) -> u64 {
         self.len
+    }
+
+    fn name(&self) -> Name {
+        self.name
+    }
+
+    /// Files that tell no bytes are the same where their names are.
+    fn same(&self, other: &FolderHeld, _place: u64, _len: u64) -> bool
+        ensures { IsTrue result ↔ (self.now.name ≡ other.now.name) }
+    {
+        self.name == other.name
     }
 }

@@ -4,14 +4,19 @@
 mod file_name;
 mod folder;
 mod folder_disk;
+mod folder_error;
 mod folder_reader;
 mod held;
+mod identity;
 mod making;
+mod named;
+mod open_file;
+mod opening;
+mod pool;
 mod slot;
+mod writer;
 
 pub use folder_disk::FolderDisk;
 pub use folder_reader::FolderReader;
 pub use held::FolderHeld;
-
-#[cfg(test)]
-mod tests;
+pub use writer::FolderWriter;

@@ -1,12 +1,14 @@
 // A folder that is made where it is missing, durably.
+use std::alloc::Global;
 use std::fs::File;
 use std::io;
+use std::io::ErrorKind;
 use std::rt::Files;
 
-/// Makes a folder where it is missing, with its parents.
-pub fn make_folder<R: Files<File = File>>(rt: &R, path: &str) -> io::Result<()> {
+/// Makes a folder where it is missing, with its parents. Its name is durable afterwards, also where it stands already.
+pub fn make_folder<R: Files<File = File>>(rt: &R, alloc: Global, path: &str) -> io::Result<()> {
     if is_folder(rt, path) {
-        return Ok(());
+        return sync_name(rt, alloc, path);
     }
     for end in 1..path.len() {
         if let Some((parent, rest)) = path.split_at_checked(end)
@@ -29,6 +31,17 @@ fn make_one<R: Files<File = File>>(rt: &R, path: &str) -> io::Result<()> {
     }
     rt.create_dir(path)?;
     File::open(rt, parent_of(path))?.sync_all()
+}
+
+/// Makes the name of a folder that stands durable. Where the folder that it lies in may not be read, that is left to who
+/// made it.
+fn sync_name<R: Files<File = File>>(rt: &R, alloc: Global, path: &str) -> io::Result<()> {
+    let parent = format!(in alloc; "{path}/..")?;
+    match File::open(rt, parent.as_str()) {
+        Ok(parent) => parent.sync_all(),
+        Err(error) if error.kind() == ErrorKind::PermissionDenied => Ok(()),
+        Err(error) => Err(error),
+    }
 }
 
 /// The folder that this one lies in.

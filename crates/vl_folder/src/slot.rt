@@ -1,39 +1,32 @@
 // One file of a folder, as the disk knows it.
-use crate::file_name::path_of;
-use crate::held::{FolderHeld, Handle, opened};
+use crate::folder_error::FolderError;
+use crate::held::Shared;
+use crate::named::Named;
+use crate::open_file::OpenFile;
+use crate::opening::{make_file, open_file, plain_file};
+use crate::pool::Pool;
 use std::alloc::{AllocError, Global};
-use std::fs::{File, OpenOptions};
-use std::io;
-use std::io::ErrorKind;
-use std::os::fd::AsRawFd;
-use std::os::unix::fs::FileExt;
+use std::fs::File;
 use std::rt::Files;
 use std::sync::Arc;
 use vl_disk::Name;
 
-/// The room for a file of a folder, and the file once it is opened.
+/// The room for a file of a folder, and the file while it is open.
 #[derive(Drop)]
 pub struct Slot {
+    named: Arc<Named, Global>,
     name: Name,
-    path: String,
-    handle: Handle,
-    // where the file ends, if that is known
-    end: Option<u64>,
-    // what a failed sync leaves can't be relied on: the system may have dropped what it didn't write
-    lost: bool,
-    // nothing was changed since it was opened or shared, so that it needn't stay open
-    idle: bool,
+    file: Option<OpenFile>,
+    lent: bool,
 }
 
 impl Slot {
     pub fn new(alloc: Global, folder: &str, name: Name) -> Result<Self, AllocError> {
         Ok(Slot {
+            named: Arc::new(alloc, Named::new(alloc, folder, name)?)?,
             name,
-            path: path_of(alloc, folder, name)?,
-            handle: Arc::new(alloc, None)?,
-            end: None,
-            lost: false,
-            idle: false,
+            file: None,
+            lent: false,
         })
     }
 
@@ -42,135 +35,145 @@ impl Slot {
     }
 
     pub fn is_open(&self) -> bool {
-        self.handle.is_some()
+        self.file.is_some()
     }
 
-    /// The file, where it is opened and not lost.
-    fn file(&self) -> io::Result<&File> {
-        if self.lost {
-            return Err(io::Error::from(ErrorKind::Other));
-        }
-        opened(&self.handle)
-    }
-
-    /// Keeps the file open.
-    fn keep(&mut self, file: File) -> io::Result<()> {
-        let file = away_from_streams(file)?;
-        match Arc::get_mut(&mut self.handle) {
-            Some(place) => {
-                *place = Some(file);
-                Ok(())
-            }
-            None => Err(io::Error::from(ErrorKind::AlreadyExists)),
-        }
-    }
-
-    /// Notes where a file ends that was changed.
-    fn changed(&mut self, end: Option<u64>) {
-        self.end = end;
-        self.idle = false;
+    pub fn path(&self) -> &str {
+        self.named.path.as_str()
     }
 
     /// Makes the file, which must not stand.
-    pub fn create<R: Files<File = File>>(&mut self, rt: &R) -> io::Result<()> {
-        let file = OpenOptions::new()
-            .read(true)
-            .write(true)
-            .create_new(true)
-            .open(rt, self.path.as_str())?;
-        self.keep(file)?;
-        self.changed(Some(0));
+    pub fn create<R: Files<File = File>>(
+        &mut self,
+        rt: &R,
+        alloc: Global,
+    ) -> Result<(), FolderError> {
+        let file = make_file(rt, self.named.path.as_str())?;
+        self.file = Some(OpenFile::new(alloc, file)?);
         Ok(())
     }
 
     /// Opens the file. What an earlier process wrote is made durable, before anything rests on it.
-    pub fn open<R: Files<File = File>>(&mut self, rt: &R) -> io::Result<()> {
-        let file = OpenOptions::new()
-            .read(true)
-            .write(true)
-            .open(rt, self.path.as_str())?;
-        self.keep(file)?;
-        self.idle = true;
-        self.sync()
-    }
-
-    pub fn size(&mut self) -> io::Result<u64> {
-        if let Some(end) = self.end {
-            return Ok(end);
+    pub fn open<R: Files<File = File>>(
+        &mut self,
+        rt: &R,
+        alloc: Global,
+    ) -> Result<(), FolderError> {
+        if self.lent {
+            return Err(FolderError::Lent);
         }
-        let end = self.file()?.metadata()?.len();
-        self.end = Some(end);
-        Ok(end)
-    }
-
-    pub fn read(&self, place: u64, out: &mut [u8]) -> io::Result<()> {
-        self.file()?.read_exact_at(out, place)
-    }
-
-    pub fn append(&mut self, piece: &[u8]) -> io::Result<()> {
-        let end = self.size()?;
-        let written = self.file()?.write_all_at(piece, end);
-        self.changed(match written {
-            Ok(()) => end.checked_add(piece.len() as u64),
-            Err(_) => None,
-        });
-        written
-    }
-
-    pub fn cut(&mut self, len: u64) -> io::Result<()> {
-        if len > self.size()? {
-            return Err(io::Error::from(ErrorKind::InvalidInput));
-        }
-        let cut = self.file()?.set_len(len);
-        self.changed(match cut {
-            Ok(()) => Some(len),
-            Err(_) => None,
-        });
-        cut
-    }
-
-    /// Makes the file's bytes durable. Where that fails the file is lost.
-    pub fn sync(&mut self) -> io::Result<()> {
-        let synced = self.file()?.sync_data();
-        self.lost = synced.is_err();
+        let file = open_file(rt, self.named.path.as_str())?;
+        let mut file = OpenFile::new(alloc, file)?;
+        let synced = file.sync();
+        self.file = Some(file);
         synced
+    }
+
+    pub fn size(&mut self) -> Result<u64, FolderError> {
+        match &mut self.file {
+            Some(file) => file.size(),
+            None => Err(FolderError::Lent),
+        }
+    }
+
+    pub fn read(&self, place: u64, out: &mut [u8]) -> Result<(), FolderError> {
+        match &self.file {
+            Some(file) => file.read(place, out),
+            None => Err(FolderError::Lent),
+        }
+    }
+
+    pub fn append(&mut self, piece: &[u8]) -> Result<(), FolderError> {
+        match &mut self.file {
+            Some(file) => file.append(piece),
+            None => Err(FolderError::Lent),
+        }
+    }
+
+    pub fn cut(&mut self, len: u64) -> Result<(), FolderError> {
+        match &mut self.file {
+            Some(file) => file.cut(len),
+            None => Err(FolderError::Lent),
+        }
+    }
+
+    pub fn sync(&mut self) -> Result<(), FolderError> {
+        match &mut self.file {
+            Some(file) => file.sync(),
+            None => Err(FolderError::Lent),
+        }
     }
 
     /// From now on each call but `remove` fails.
     pub fn lose(&mut self) {
-        self.lost = true;
-    }
-
-    pub fn remove(&self, rt: &impl Files) -> io::Result<()> {
-        rt.remove_file(self.path.as_str())
-    }
-
-    /// Shares the file.
-    pub fn hold(&mut self) -> io::Result<FolderHeld> {
-        let len = self.size()?;
-        self.file()?;
-        self.idle = true;
-        Ok(FolderHeld::new(self.handle.clone()?, len))
-    }
-
-    /// Closes a file that is idle and that nothing holds.
-    pub fn close_if_idle(&mut self) {
-        if self.idle
-            && let Some(place) = Arc::get_mut(&mut self.handle)
-        {
-            *place = None;
+        if let Some(file) = &mut self.file {
+            file.lose();
         }
     }
-}
 
-/// The greatest descriptor of a standard stream.
-const LAST_STREAM: i32 = 2;
-
-/// The file under a descriptor of its own. Where a standard stream was closed, a file that is opened takes the stream's
-/// place, and what is printed would land in it.
-fn away_from_streams(file: File) -> io::Result<File> {
-    if file.as_raw_fd() > LAST_STREAM {
-        return Ok(file);
+    /// Removes the file. Where something holds it, it stays open until nothing does.
+    pub fn remove<R: Files<File = File>>(
+        &mut self,
+        rt: &R,
+        pool: &Pool,
+    ) -> Result<(), FolderError> {
+        plain_file(rt, self.named.path.as_str())?;
+        if let Some(file) = &self.file {
+            if Arc::strong_count(&self.named) > 1 {
+                pool.keep_removed(file.identity(), file.share()?, self.named.clone()?)?;
+            } else {
+                pool.close(file.identity());
+            }
+        }
+        Ok(rt.remove_file(self.named.path.as_str())?)
     }
-    file.try_clone()
+
+    /// Whether something holds the file, so that it must be open when it is removed.
+    pub fn is_held(&self) -> bool {
+        Arc::strong_count(&self.named) > 1
+    }
+
+    /// Shares the file, and says how long it is.
+    pub fn hold(&mut self, pool: &Arc<Pool, Global>) -> Result<(u64, Shared), FolderError> {
+        let len = self.size()?;
+        let Some(file) = &self.file else {
+            return Err(FolderError::Lent);
+        };
+        pool.keep(file.identity(), file.share()?);
+        let shared = Shared {
+            named: self.named.clone()?,
+            identity: file.identity(),
+            pool: pool.clone()?,
+        };
+        Ok((len, shared))
+    }
+
+    /// The file and its name, for a writer.
+    pub fn lend(&mut self) -> Result<(Arc<Named, Global>, OpenFile), FolderError> {
+        let named = self.named.clone()?;
+        match self.file.take() {
+            Some(file) => {
+                self.lent = true;
+                Ok((named, file))
+            }
+            None => Err(FolderError::Lent),
+        }
+    }
+
+    /// The file comes back from its writer.
+    pub fn adopt(&mut self, file: OpenFile) {
+        self.file = Some(file);
+        self.lent = false;
+    }
+
+    /// Closes a file that needn't stay open.
+    pub fn close_if_idle(&mut self) {
+        let idle = match &self.file {
+            Some(file) => file.is_idle(),
+            None => false,
+        };
+        if idle {
+            self.file = None;
+        }
+    }
 }

@@ -14,6 +14,3 @@ pub use source::Source;
 pub use std_sink::StdSink;
 pub use std_source::StdSource;
 pub use vec_sink::VecSink;
-
-#[cfg(test)]
-mod tests;

@@ -3,14 +3,18 @@ ghost use Rattle.std.specs.Prelude.{◌≡◌, ◌+◌, ◌-◌, ◌<◌, ◌^�
 ghost use Rattle.vl_disk.specs.Faults.{HasCause, one_more};
 
 use crate::source::Source;
-use std::io::Read;
+use std::io;
+use std::io::{ErrorKind, Read};
 use std::marker::Model;
 use vl_disk::Failed;
 
 /// The most bytes that a source over a reader gives in its life.
 const MAX_BYTES: u64 = (1 << 63) - 1;
 
-/// A source over a reader. It does not tell its bytes.
+/// How often a read that is interrupted is begun again.
+const TRIES: u64 = 1 << 32;
+
+/// A source over a reader. It does not tell its bytes. A read that was interrupted is begun again.
 #[derive(Drop)]
 pub struct StdSource<R> {
     reader: R,
@@ -80,7 +84,7 @@ impl<R: Read> Source for StdSource<R> {
         if most == 0 {
             return Ok(0);
         }
-        match self.reader.read(&mut out[..most]) {
+        match read_on(&mut self.reader, &mut out[..most]) {
             Ok(count) => {
                 self.budget -= count as u64;
                 Ok(count)
@@ -91,4 +95,22 @@ impl<R: Read> Source for StdSource<R> {
             }
         }
     }
+}
+
+/// Reads once, and again where that was interrupted.
+fn read_on<R: Read>(reader: &mut R, out: &mut [u8]) -> io::Result<usize>
+    requires { 0 < length out.old }
+    ensures within { IfOk result (λ n. n ≤ length out.old) }
+    ensures passes_on { IfOk result (λ n.
+        Consumes (R.remaining reader.old) (R.remaining reader.new) (take n out.new)) }
+    ensures at_end { IfOk result (λ n. n ≡ 0 → IsAtEnd (R.remaining reader.new)) }
+    ensures loses_none { OnErr result (Keeps (R.remaining reader.old) (R.remaining reader.new)) }
+{
+    for _ in 0..TRIES {
+        match reader.read(out) {
+            Err(error) if error.kind() == ErrorKind::Interrupted => {}
+            answer => return answer,
+        }
+    }
+    Err(io::Error::from(ErrorKind::Interrupted))
 }

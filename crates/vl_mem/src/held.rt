@@ -86,8 +86,7 @@ impl HeldFile for MemHeld {
         ensures { IsTrue result ↔ ((self.now.name ≡ other.now.name)
             × AgreeAt place len (Some (held_bytes self.now)) (Some (held_bytes other.now))) }
     {
-        self.name == other.name
-            && part(self.bytes(), place, len) == part(other.bytes(), place, len)
+        self.name == other.name && part(self.bytes(), place, len) == part(other.bytes(), place, len)
     }
 }
 

@@ -20,6 +20,3 @@ pub use mem_disk::MemDisk;
 pub use mem_reader::MemReader;
 pub use mem_writer::MemWriter;
 pub use outcome::Outcome;
-
-#[cfg(test)]
-mod tests;
