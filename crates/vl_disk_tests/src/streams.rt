@@ -41,6 +41,26 @@ impl Read for Flickering {
     }
 }
 
+// Is interrupted once, and then gives one byte.
+#[derive(Drop)]
+struct Interrupted {
+    calls: u8,
+}
+
+impl Read for Interrupted {
+    fn read(&mut self, buf: &mut [u8]) -> io::Result<usize> {
+        self.calls = self.calls.saturating_add(1);
+        if self.calls == 1 {
+            return Err(io::Error::from(ErrorKind::Interrupted));
+        }
+        if buf.is_empty() || self.calls > 2 {
+            return Ok(0);
+        }
+        buf[0] = b'a';
+        Ok(1)
+    }
+}
+
 // Drops what it is given, and counts how often it was flushed.
 #[derive(Drop)]
 struct Flushed {
@@ -121,6 +141,15 @@ fn a_failed_read_is_told_once(rt: HostRuntime) -> Result<(), Fail> {
     let mut out = [0u8; 2];
     assert_eq!(rt; source.next(&mut out), Ok(1));
     assert_eq!(rt; source.next(&mut out), Err(Failed));
+    assert_eq!(rt; source.next(&mut out), Ok(1));
+    assert_eq!(rt; source.next(&mut out), Ok(0));
+    Ok(())
+}
+
+#[test]
+fn a_read_that_was_interrupted_is_begun_again(rt: HostRuntime) -> Result<(), Fail> {
+    let mut source = StdSource::new(Interrupted { calls: 0 });
+    let mut out = [0u8; 2];
     assert_eq!(rt; source.next(&mut out), Ok(1));
     assert_eq!(rt; source.next(&mut out), Ok(0));
     Ok(())

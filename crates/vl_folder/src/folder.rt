@@ -159,7 +159,9 @@ impl<R: Files<File = File>> Folder<R> {
         let names = self.read_names(alloc)?;
         for name in &names {
             let at = self.slot(*name)?;
-            plain_file(&self.rt, self.slots[at].path())?;
+            if plain_file(&self.rt, self.slots[at].path()).is_err() {
+                return Err(FolderError::NoFileAt(*name));
+            }
         }
         Ok(names)
     }

@@ -121,6 +121,10 @@ impl<R: Files<File = File> + Eprint + Copy> Disk for FolderDisk<R> {
         match self.folder.list(alloc) {
             Ok(names) => Ok(names),
             Err(FolderError::NoMemory) => Err(DiskFail::NoMemory),
+            Err(FolderError::NoFileAt(name)) => {
+                self.count(Some(name), &FolderError::NoFile);
+                Err(DiskFail::Failed)
+            }
             Err(error) => {
                 self.count(None, &error);
                 Err(DiskFail::Failed)

@@ -3,6 +3,7 @@ use std::alloc::{AllocError, AllocFailed};
 use std::io;
 use std::io::Eprint;
 use thiserror::Error;
+use vl_disk::Name;
 
 #[derive(Debug, Drop, Error)]
 pub enum FolderError {
@@ -14,6 +15,8 @@ pub enum FolderError {
     Moved,
     #[error("it is no plain file")]
     NoFile,
+    #[error("a file of it is no plain file")]
+    NoFileAt(Name),
     #[error("it isn't the file that it was")]
     Replaced,
     #[error("an earlier sync of it failed")]
