@@ -7,7 +7,8 @@ use Rattle.std.specs.Option.{option_map}
 use Rattle.std.specs.Ordering.{is_gt}
 use Rattle.vl_model.specs.declared.entry.Entry.{Entry}
 use Rattle.vl_model.specs.declared.way.Way.{Way}
-use Rattle.vl_merge.specs.Merging.{way_cmp, place, merged, IsAlong}
+use Rattle.vl_merge.specs.Merging.{place, merged, IsAlong}
+use Rattle.vl_model.specs.Order.{way_cmp}
 use Rattle.vl_merge.proofs.MergeLaws.{way_total, not_after, along-merged, place-later, place-here, merged-first}
 use Rattle.vl_merge.specs.Told.{is_along, told, merge_of, pair_of}
 use Rattle.vl_merge.proofs.TreeLaws.{along-is, pair-join, behind_more}

@@ -7,7 +7,8 @@ use Rattle.std.specs.Cmp.{upto}
 use Rattle.vl_model.specs.Cursors.{Gives, Keeps}
 use Rattle.vl_model.specs.declared.entry.Entry.{Entry}
 use Rattle.vl_model.specs.declared.way.Way.{Way}
-use Rattle.vl_merge.specs.Merging.{way_cmp, merged, IsFirst, IsAlong}
+use Rattle.vl_merge.specs.Merging.{merged, IsFirst, IsAlong}
+use Rattle.vl_model.specs.Order.{way_cmp}
 use Rattle.vl_merge.proofs.MergeLaws.{way_total, first-all, merged-first}
 use Rattle.vl_merge.specs.Told.{is_first, is_along, told, merge_of, pair_of}
 use Rattle.vl_merge.specs.Lookaheads.{left_of, IsRead, entry_of, taken, is_older_first}

@@ -1,10 +1,10 @@
 ghost use Rattle.std.specs.Prelude.{◌≡◌, true, false};
 ghost use Rattle.std.specs.Ordering.{is_gt};
 ghost use Rattle.vl_merge.specs.Lookaheads.{IsRead, entry_of, taken, is_older_first};
-ghost use Rattle.vl_merge.specs.Merging.{way_cmp};
+ghost use Rattle.vl_model.specs.Order.{way_cmp};
 
 use std::mem;
-use vl_model::{Entry, Way};
+use vl_model::{Entry, Way, entry_order};
 
 // What is known of the next entry of a source.
 #[derive(Drop)]
@@ -52,10 +52,5 @@ fn is_after(way: Way, a: &Entry, b: &Entry) -> bool
         Way::Up => (a, b),
         Way::Down => (b, a),
     };
-    first
-        .key
-        .as_slice()
-        .cmp(&second.key.as_slice())
-        .then(second.version.cmp(&first.version))
-        .is_gt()
+    entry_order(first, second).is_gt()
 }
