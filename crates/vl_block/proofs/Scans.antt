@@ -8,7 +8,8 @@ use Rattle.vl_block.specs.laws.BlockLaws.{entry_is_some}
 use Rattle.vl_block.specs.Blocks.{entries}
 use Rattle.vl_block.specs.Entries.{entry_bytes, entry_of, IsEntry}
 use Rattle.vl_block.specs.Lists.{IsNext, IsRun}
-use Rattle.vl_block.specs.laws.ListLaws.{SoFar, Behind, begins, cut, goes_on, last_item, last-push, next, not_next, one_more}
+use Rattle.vl_block.specs.Lists.{last_item}
+use Rattle.vl_block.specs.laws.ListLaws.{SoFar, Behind, begins, cut, goes_on, last-push, next, not_next, one_more}
 
 -- so many entries were read, and the last of them is this
 pub record UnderWay (bytes : List ℕ) (total count : ℕ) (last : Option EntryRef) (rest : List ℕ) : Type 0 where

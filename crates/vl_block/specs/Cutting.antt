@@ -7,6 +7,7 @@ use Rattle.vl_model.specs.declared.entry.Entry.{Entry}
 use Rattle.vl_model.specs.declared.entry.Body.{Body}
 use Rattle.vl_model.specs.declared.entry.Body.TheVariants.{Inline, Gone, Far, Logged}
 use Rattle.vl_block.specs.declared.laid_point.LaidPoint.{LaidPoint}
+use Rattle.std.proofs.Common.{◌+◌, List, [], ◌∷◌, ◌++◌}
 
 -- ---- blocks
 
@@ -97,3 +98,8 @@ file_length es bs =
 
 abbrev pub table_length : List Entry → ℕ
 table_length es = file_length es (blocks es)
+
+-- lists of entries, end to end
+abbrev pub joined : List (List Entry) → List Entry
+joined [] = []
+joined (es ∷ others) = es ++ joined others

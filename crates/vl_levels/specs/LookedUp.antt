@@ -4,15 +4,16 @@ use Rattle.std.specs.List.{prefix_len}
 use Rattle.std.specs.Option.{ForSome}
 use Rattle.std.proofs.Common.{refl, ap, sym, subst, ◌∙◌, append_assoc, append-nil, arith}
 use Rattle.vl_model.specs.declared.entry.Entry.{Entry}
-use Rattle.vl_block.specs.laws.CuttingLaws.{joined}
-use Rattle.vl_run.specs.Places.{IsParted}
+use Rattle.vl_block.specs.Cutting.{joined}
+use Rattle.vl_run.specs.Lookups.{IsParted}
 use Rattle.vl_disk.specs.Faults.{HasCause}
 use Rattle.vl_disk.specs.declared.name.Name.{Name}
 use Rattle.vl_disk.specs.declared.name.Name.TheVariants.{Table as table_name}
 use Rattle.vl_table.specs.Answers.{Answers, Failed, IsAnswer}
 use Rattle.vl_block.specs.Bytes.{table_bytes}
 use Rattle.vl_table.specs.Opened.{IsOf}
-use Rattle.vl_table.specs.Seeks.{IsBadBlock, no_bad_block}
+use Rattle.vl_table.specs.Seeks.{IsBadBlock}
+use Rattle.vl_table.specs.laws.TrueBlocks.{no_bad_block}
 use Rattle.vl_table.specs.declared.fault.TableFault.{TableFault}
 use Rattle.vl_table.specs.declared.fault.TableFault.TheVariants.{NoMemory, Disk, Damaged}
 use Rattle.vl_table.specs.declared.table.Table.{Table}

@@ -4,7 +4,8 @@ use Rattle.std.proofs.Common.{refl, ap, ◌∙◌}
 use Rattle.vl_model.specs.Winners.{exact, newest_of, winner}
 use Rattle.vl_model.specs.laws.WinnerLaws.{winner-append}
 use Rattle.vl_model.specs.declared.entry.Entry.{Entry}
-use Rattle.vl_run.specs.laws.Exact.{exact-append, first_of}
+use Rattle.vl_run.specs.laws.Exact.{exact-append}
+use Rattle.vl_run.specs.Lookups.{or_else}
 use Rattle.vl_levels.specs.laws.KeyRanges.{HasNone, exact-none, winner-none}
 use Rattle.vl_levels.specs.declared.look.Look.{Look}
 use Rattle.vl_levels.specs.declared.look.Look.TheVariants.{UpTo, Exactly}
@@ -17,7 +18,7 @@ sought (Exactly version) key es = exact es key version
 -- of what newer sources have and what older ones have the one that counts
 abbrev pub better : Look → Option Entry → Option Entry → Option Entry
 better (UpTo number) newer older = newest_of newer older
-better (Exactly version) newer older = first_of newer older
+better (Exactly version) newer older = or_else newer older
 
 -- whether no older source can have what counts
 abbrev pub is_settled : Look → Option Entry → Bool

@@ -4,8 +4,7 @@ ghost use Rattle.std.specs.Option.{option_copied};
 ghost use Rattle.vl_model.specs.Entries.{in_order};
 ghost use Rattle.vl_model.specs.Winners.{winner, exact};
 ghost use Rattle.vl_run.specs.Order.{IsInOrder, along};
-ghost use Rattle.vl_run.specs.laws.Lookup.{is_ahead};
-ghost use Rattle.vl_run.specs.Places.{first_failing};
+ghost use Rattle.vl_run.specs.Lookups.{is_ahead, first_failing};
 
 use crate::RunCursor;
 use crate::merged::merged;

@@ -11,12 +11,13 @@ use Rattle.vl_model.specs.declared.way.Way.{Way}
 use Rattle.vl_model.specs.declared.way.Way.TheVariants.{Up, Down}
 use Rattle.vl_run.specs.Order.{along}
 use Rattle.vl_block.specs.declared.index.BlockPlace.{BlockPlace}
-use Rattle.vl_table.specs.Answers.{Answers, fails}
+use Rattle.vl_table.specs.Answers.{Answers}
+use Rattle.vl_table.proofs.AnswerSteps.{fails}
 use Rattle.vl_table.specs.Buffers.{NoBlock}
 use Rattle.vl_table.specs.Seeks.{IsBadBlock}
 use Rattle.vl_table.specs.declared.fault.TableFault.{TableFault}
 use Rattle.vl_table.specs.declared.table.Table.{Table}
-use Rattle.vl_table.specs.laws.BlockRead.{block_entries}
+use Rattle.vl_table.specs.BlockEntries.{block_entries}
 use Rattle.vl_table.specs.BlocksRead.{blocks_entries, on_way}
 use Rattle.vl_table.specs.CursorLeft.{blocks_budget}
 

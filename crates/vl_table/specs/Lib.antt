@@ -1,5 +1,6 @@
 pub mod Answers
 pub mod Begun
+pub mod BlockEntries
 pub mod BlocksRead
 pub mod Buffers
 pub mod CursorLeft

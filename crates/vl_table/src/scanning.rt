@@ -1,7 +1,6 @@
 ghost use Rattle.std.specs.Prelude.{◌≡◌, List, Some, IfOk};
 ghost use Rattle.vl_model.specs.declared.entry.Entry.{Entry};
-ghost use Rattle.vl_run.specs.laws.Lookup.{is_ahead};
-ghost use Rattle.vl_run.specs.Places.{first_failing};
+ghost use Rattle.vl_run.specs.Lookups.{is_ahead, first_failing};
 ghost use Rattle.vl_block.specs.Blocks.{SpellsBlock};
 ghost use Rattle.vl_block.specs.Entries.{entry_of};
 ghost use Rattle.vl_table.specs.Scans.{IsScan};

@@ -1,27 +1,12 @@
 -- Items are taken from the left, one after the other, and in one way.
-use Rattle.std.specs.Prelude.{◌≡◌, ◌<◌, ◌≤◌, ◌+◌, ◌^◌, ℕ, List, [], ◌∷◌, ◌++◌, length, get_or, suc, ◌-◌, Option, Some, None, refl}
+use Rattle.std.specs.Prelude.{◌≡◌, ◌<◌, ◌≤◌, ◌+◌, ◌^◌, ℕ, List, [], ◌∷◌, ◌++◌, length, get_or, suc, ◌-◌, Some, refl}
 use Rattle.std.specs.List.{AllByRecursion}
 use Rattle.std.proofs.Common.{sym, ap, subst, ◌∙◌, append_assoc, length-append, append-nil, arith}
-use Rattle.std.specs.Prelude.{drop}
-use Rattle.std.proofs.lemmas.List.{drop_at}
-use Rattle.byteorder.specs.Endian.{big_bytes, big_number}
-use Rattle.byteorder.specs.Numbers.{big_number-reads_back, length-bytes_high_first}
-use Rattle.vl_block.specs.Lists.{Spelling, items_bytes, counted_bytes, AreOrdered, AreLawful, IsRun, IsNext}
-
--- Two numbers in as many bytes at the front of the same bytes are one, and the same stands behind them.
-pub one_number : (n a b : ℕ) (x y : List ℕ) → a < 256 ^ n → b < 256 ^ n → big_bytes n a ++ x ≡ big_bytes n b ++ y → (a ≡ b) × (x ≡ y)
-one_number n a b x y a_fits b_fits e = (
-  sym (big_number-reads_back n a x a_fits) ∙ ap (big_number n) e ∙ big_number-reads_back n b y b_fits,
-  sym (drop_at (big_bytes n a) x n (length-bytes_high_first n a)) ∙ ap (drop n) e ∙ drop_at (big_bytes n b) y n (length-bytes_high_first n b),
-)
+use Rattle.byteorder.specs.Endian.{big_bytes}
+use Rattle.vl_frame.specs.Numbers.{one_number}
+use Rattle.vl_block.specs.Lists.{Spelling, items_bytes, counted_bytes, AreOrdered, AreLawful, IsRun, IsNext, last_item}
 
 module _ {Item : Type 0} where
-  -- the last of some items
-  abbrev pub last_item : List Item → Option Item
-  last_item [] = None
-  last_item (a ∷ []) = Some a
-  last_item (a ∷ b ∷ items) = last_item (b ∷ items)
-
   pub last-push : (items : List Item) (a : Item) → last_item (items ++ a ∷ []) ≡ Some a
   last-push [] a = refl
   last-push (b ∷ []) a = refl

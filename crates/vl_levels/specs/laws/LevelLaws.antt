@@ -8,10 +8,9 @@ use Rattle.std.specs.declared.cmp.Ordering.TheVariants.{Less, Equal, Greater}
 use Rattle.std.proofs.Common.{refl, ap, sym, subst, ◌∙◌, append_assoc, arith, cond}
 use Rattle.vl_model.specs.Keys.{key_cmp}
 use Rattle.vl_model.specs.declared.entry.Entry.{Entry}
-use Rattle.vl_block.specs.Cutting.{first_key, last_key}
-use Rattle.vl_block.specs.laws.CuttingLaws.{joined}
+use Rattle.vl_block.specs.Cutting.{first_key, last_key, joined}
 use Rattle.vl_run.specs.laws.OrderLaws.{IsRising, all-append, rising}
-use Rattle.vl_run.specs.Places.{IsParted}
+use Rattle.vl_run.specs.Lookups.{IsParted}
 use Rattle.vl_block.specs.Footer.{Foot}
 use Rattle.vl_table.specs.Opened.{IsOf}
 use Rattle.vl_table.specs.declared.table.Table.{Table}

@@ -14,7 +14,8 @@ use Rattle.vl_model.specs.declared.entry.Entry.{Entry}
 use Rattle.vl_run.specs.Order.{IsInOrder}
 use Rattle.vl_run.specs.laws.OrderLaws.{IsRising, rising, in_order-front, in_order-back, length-in_order, put-less, put-greater}
 use Rattle.vl_run.specs.laws.Lookup.{is_at-tied, exact-behind}
-use Rattle.vl_run.specs.laws.Exact.{exact-append, exact-in_order, first_of}
+use Rattle.vl_run.specs.laws.Exact.{exact-append, exact-in_order}
+use Rattle.vl_run.specs.Lookups.{or_else}
 use Rattle.vl_memtable.specs.Contents.{all_of, IsApart, AreRuns, IsNewTo}
 use Rattle.vl_memtable.specs.Lengths.{lengths_with, doubles}
 
@@ -72,8 +73,8 @@ length-put-new e (f ∷ fs) none = by (length-put-new e fs) (entry_cmp e f) refl
         let rest = later (there false (at Greater is)) in
         ap length (put-greater e f fs is) ∙ (omega (arith, rest))
 
-first_none : (a b : Option Entry) → a ≡ None → b ≡ None → first_of a b ≡ None
-first_none a b is_a is_b = ap (λ x. first_of x b) is_a ∙ is_b
+first_none : (a b : Option Entry) → a ≡ None → b ≡ None → or_else a b ≡ None
+first_none a b is_a is_b = ap (λ x. or_else x b) is_a ∙ is_b
 
 -- a run in order that is new to entries without one twice is apart together with them
 pub apart-new : (run all : List Entry) → IsRising run → IsNewTo (in_order all) run → IsApart all → IsApart (run ++ all)
@@ -160,10 +161,10 @@ module _ (key : List ℕ) (number : ℕ) where
   winner-push runs run = ap (λ l. winner l key number) (all_of-push runs run) ∙ winner-append key number (all_of runs) run
 
   pub exact-push : (runs : List (List Entry)) (run : List Entry)
-      → exact (all_of (runs ++ run ∷ [])) key number ≡ first_of (exact (all_of runs) key number) (exact run key number)
+      → exact (all_of (runs ++ run ∷ [])) key number ≡ or_else (exact (all_of runs) key number) (exact run key number)
   exact-push runs run = ap (λ l. exact l key number) (all_of-push runs run) ∙ exact-append key number (all_of runs) run
 
-  first_none-parts : (a b : Option Entry) → first_of a b ≡ None → (a ≡ None) × (b ≡ None)
+  first_none-parts : (a b : Option Entry) → or_else a b ≡ None → (a ≡ None) × (b ≡ None)
   first_none-parts None b is = (refl, is)
   first_none-parts (Some e) b is = absurd cc
 
@@ -172,12 +173,12 @@ module _ (key : List ℕ) (number : ℕ) where
       → Some e ≡ exact (all_of runs) key number
   exact-found [] i run e within is none found = absurd (omega arith)
   exact-found (first ∷ runs) zero run e within is none found =
-      ap (λ x. first_of x (exact (all_of runs) key number)) (found ∙ ap (λ l. exact l key number) is)
+      ap (λ x. or_else x (exact (all_of runs) key number)) (found ∙ ap (λ l. exact l key number) is)
       ∙ sym (exact-append key number first (all_of runs))
   exact-found (first ∷ runs) (suc i) run e within is none found =
       let parts = first_none-parts (exact first key number) (exact (all_of (take i runs)) key number) (sym (exact-append key number first (all_of (take i runs))) ∙ none) in
       exact-found runs i run e (omega arith) is parts.1 found
-      ∙ sym (exact-append key number first (all_of runs) ∙ ap (λ x. first_of x (exact (all_of runs) key number)) parts.0)
+      ∙ sym (exact-append key number first (all_of runs) ∙ ap (λ x. or_else x (exact (all_of runs) key number)) parts.0)
 
 module _ where
   suc_more : (i : ℕ) → suc i + 1 ≡ suc (i + 1)

@@ -10,9 +10,9 @@ use Rattle.vl_model.specs.Keys.{is_key_length}
 use Rattle.vl_model.specs.declared.entry.Entry.{Entry}
 use Rattle.vl_model.specs.declared.entry.Body.{Body}
 use Rattle.vl_model.specs.declared.entry.Body.TheVariants.{Inline, Gone, Far, Logged}
-use Rattle.vl_block.specs.laws.CuttingLaws.{blocks-whole, joined, blocks-some}
+use Rattle.vl_block.specs.laws.CuttingLaws.{blocks-whole, blocks-some}
+use Rattle.vl_block.specs.Cutting.{joined, block_frame_length, blocks, entry_length, first_key, last_key, pointed, points_of, table_length, with_point}
 use Rattle.vl_table_writer.specs.laws.Points.{pointed-above, pointed-below, pointed-same, three_ways}
-use Rattle.vl_block.specs.Cutting.{block_frame_length, blocks, entry_length, first_key, last_key, pointed, points_of, table_length, with_point}
 use Rattle.vl_block.specs.declared.laid_point.LaidPoint.{LaidPoint}
 use Rattle.vl_run.specs.Order.{IsInOrder}
 use Rattle.vl_run.specs.laws.OrderLaws.{IsRising, rising}

@@ -1,6 +1,6 @@
 use Rattle.std.proofs.Common.{◌≡◌, ◌+◌, ◌++◌, ◌∷◌, [], drop, sym, ap, ◌∙◌, subst, arith}
 use Rattle.std.proofs.lemmas.List.{take_rest}
-use Rattle.vl_run.specs.laws.Merged.{Merges, drop_at, takes_newer, takes_both, takes_older, ends_newer, ends_older}
+use Rattle.vl_run.proofs.MergeSteps.{Merges, drop_at, takes_newer, takes_both, takes_older, ends_newer, ends_older}
 use Rattle.vl_run.proofs.merged.merged.Goals as goal
 use Rattle.vl_run.proofs.merged.merged.Goals.{then-steps-test+else-j-older, else-steps-test}
 

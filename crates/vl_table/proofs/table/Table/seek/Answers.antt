@@ -4,12 +4,11 @@ use Rattle.std.proofs.lemmas.Result.{err_from_is_err_and}
 use Rattle.vl_model.specs.declared.entry.Entry.{Entry}
 use Rattle.vl_block.specs.declared.index.BlockPlace.{BlockPlace}
 use Rattle.std.specs.List.{prefix_len}
-use Rattle.vl_run.specs.laws.Lookup.{if_of_key}
-use Rattle.vl_run.specs.Places.{IsParted}
+use Rattle.vl_run.specs.Lookups.{if_of_key, is_below, IsParted}
 use Rattle.vl_table.specs.Answers.{Answers}
-use Rattle.vl_run.specs.laws.LookupLaws.{is_below}
 use Rattle.vl_table.specs.Meets.{LooksIn}
-use Rattle.vl_table.specs.Seeks.{Finds, IsBadBlock, finds_none, found_here, load_fails, looks_here, looks_none, moves_on, no_memory, seeks}
+use Rattle.vl_table.specs.Seeks.{IsBadBlock}
+use Rattle.vl_table.proofs.SeekSteps.{Finds, finds_none, found_here, load_fails, looks_here, looks_none, moves_on, no_memory, seeks}
 use Rattle.vl_table.specs.declared.fault.TableFault.{TableFault}
 use Rattle.vl_table.proofs.table.Table.seek.Goals as goal
 

@@ -1,6 +1,7 @@
 -- The place in a list before the first element that fails a test.
 use Rattle.std.proofs.Common.{◌≡◌, ℕ, zero, suc, ◌+◌, ◌<◌, ◌≤◌, Bool, true, false, cond, List, [], ◌∷◌, length, get_or, refl, ap, sym, ◌∙◌, arith, Option, Some, None, slice_get, Bor}
 use Rattle.std.specs.List.{AllByRecursion, prefix_len}
+use Rattle.vl_run.specs.Lookups.{IsParted, first_failing}
 use Rattle.std.specs.List.Sorted.{IsPartitionedBy, IsPartitionPoint}
 use Rattle.std.specs.Option.{option_copied}
 use Rattle.std.specs.Slice.{IsItemAt}
@@ -8,17 +9,12 @@ use Rattle.std.proofs.lemmas.Option.{slice_get_past}
 use Rattle.std.proofs.lemmas.List.Sums.{prefix_len_is}
 
 module _ {X : Type 0} (p : X → Bool) where
-  -- no element that passes comes after one that fails
-  abbrev pub IsParted : List X → Type 0
-  IsParted [] = Unit {0}
-  IsParted (x ∷ xs) = AllByRecursion (λ later. p later ≡ true → p x ≡ true) xs × IsParted xs
-
   passes_at : (P : X → Type 0) (xs : List X) (i : ℕ) (d : X) → AllByRecursion P xs → i < length xs → P (get_or xs i d)
   passes_at P [] i d all within = absurd (omega arith)
   passes_at P (x ∷ xs) zero d all within = all.0
   passes_at P (x ∷ xs) (suc i) d all within = passes_at P xs i d all.1 (omega arith)
 
-  pub parted_at : (xs : List X) → IsParted xs → IsPartitionedBy p xs
+  pub parted_at : (xs : List X) → IsParted p xs → IsPartitionedBy p xs
   parted_at [] parted i j d le within = absurd (omega arith)
   parted_at (x ∷ xs) parted zero zero d le within = λ passes. passes
   parted_at (x ∷ xs) parted zero (suc j) d le within = passes_at (λ later. p later ≡ true → p x ≡ true) xs j d parted.0 (omega arith)
@@ -29,18 +25,13 @@ module _ {X : Type 0} (p : X → Bool) where
   point-prefix [] i le point = omega arith
   point-prefix (x ∷ xs) i le point = sym (prefix_len_is p (x ∷ xs) i x le (λ k lt. point.0 k x (omega arith) lt) (λ lt. point.1 i x (omega arith) lt))
 
-  -- the first element that fails
-  abbrev pub first_failing : List X → Option X
-  first_failing [] = None
-  first_failing (x ∷ xs) = cond (p x) (first_failing xs) (Some x)
-
   one_more : (n : ℕ) → 1 + n ≡ suc n
   one_more n = omega arith
 
-  pub slice_get-prefix : (xs : List X) → slice_get xs (prefix_len p xs) ≡ first_failing xs
+  pub slice_get-prefix : (xs : List X) → slice_get xs (prefix_len p xs) ≡ first_failing p xs
   slice_get-prefix [] = refl
   slice_get-prefix (x ∷ xs) =
-      elim (p x) as (λ b. slice_get (x ∷ xs) (cond b (1 + prefix_len p xs) 0) ≡ cond b (first_failing xs) (Some x)) [
+      elim (p x) as (λ b. slice_get (x ∷ xs) (cond b (1 + prefix_len p xs) 0) ≡ cond b (first_failing p xs) (Some x)) [
         | true ↦ ap (slice_get (x ∷ xs)) (one_more (prefix_len p xs)) ∙ slice_get-prefix xs
         | false ↦ refl
       ]
