@@ -9,11 +9,11 @@
 //! comparison of keys more, and nothing is copied. One entry is held; no memory is taken.
 #![tactic(auto)]
 
+mod build;
 mod held;
 mod laws;
 mod lookahead;
 mod merge;
-mod plant;
 mod sources;
 #[cfg(test)]
 mod tests;

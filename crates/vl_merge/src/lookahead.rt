@@ -1,6 +1,6 @@
 ghost use Rattle.std.specs.Prelude.{◌≡◌, true, false};
 ghost use Rattle.std.specs.Ordering.{is_gt};
-ghost use Rattle.vl_merge.specs.Lookaheads.{IsRead, entry_of, taken, is_older_first};
+ghost use Rattle.vl_merge.specs.ReadAhead.{IsKnown, entry_of, taken, takes_older};
 ghost use Rattle.vl_model.specs.Order.{way_cmp};
 
 use std::mem;
@@ -17,8 +17,8 @@ pub enum Lookahead {
 }
 
 // Whether an older source's entry comes before a newer one's; of equal ones the newer one's does.
-pub fn is_older_first(way: Way, newer: &Lookahead, older: &Lookahead) -> bool
-    ensures { result ≡ is_older_first way newer.now older.now }
+pub fn takes_older(way: Way, newer: &Lookahead, older: &Lookahead) -> bool
+    ensures { result ≡ takes_older way newer.now older.now }
 {
     match (newer, older) {
         (Lookahead::Next(a), Lookahead::Next(b)) => is_after(way, a, b),

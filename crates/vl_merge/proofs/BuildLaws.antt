@@ -10,11 +10,11 @@ use Rattle.vl_model.specs.declared.way.Way.{Way}
 use Rattle.vl_merge.specs.Merging.{place, merged, IsAlong}
 use Rattle.vl_model.specs.Order.{way_cmp}
 use Rattle.vl_merge.proofs.MergeLaws.{way_total, not_after, along-merged, place-later, place-here, merged-first}
-use Rattle.vl_merge.specs.Told.{is_along, told, merge_of, pair_of}
+use Rattle.vl_merge.specs.MergeOf.{is_along, end_to_end, merge_of, pair_of}
 use Rattle.vl_merge.proofs.TreeLaws.{along-is, pair-join, behind_more}
-use Rattle.vl_merge.specs.Lookaheads.{left_of, budget_of}
+use Rattle.vl_merge.specs.ReadAhead.{left_of, budget_of}
 use Rattle.vl_merge.specs.Trees.{tree_left, tree_budget, tree_faults}
-use Rattle.vl_merge.specs.Planted.{leaves, height, IsUnread, TakesOff}
+use Rattle.vl_merge.specs.Built.{leaves, height, IsUnread, TakesOff}
 use Rattle.vl_merge.specs.declared.lookahead.Lookahead.TheVariants.{Unread}
 use Rattle.vl_merge.specs.declared.tree.Tree.{Tree, Nothing, Source, Two'}
 
@@ -78,22 +78,22 @@ join-more es None t = refl
 join-more es (Some fs) None = refl
 join-more es (Some fs) (Some gs) = ap Some (sym (append_assoc es fs gs))
 
-told-append : (way : Way) (ls ms : List (Option (List Entry))) → told way (ls ++ ms) ≡ join (told way ls) (told way ms)
-told-append way [] ms = nothing (told way ms)
+end_to_end-append : (way : Way) (ls ms : List (Option (List Entry))) → end_to_end way (ls ++ ms) ≡ join (end_to_end way ls) (end_to_end way ms)
+end_to_end-append way [] ms = nothing (end_to_end way ms)
   where
     nothing : (t : Option (List Entry)) → t ≡ join (Some []) t
     nothing None = refl
     nothing (Some es) = refl
-told-append way (None ∷ ls) ms = refl
-told-append way (Some es ∷ ls) ms = ap (λ t. cond (is_along way es) (option_map (λ fs. es ++ fs) t) None) (told-append way ls ms) ∙ by (is_along way es)
+end_to_end-append way (None ∷ ls) ms = refl
+end_to_end-append way (Some es ∷ ls) ms = ap (λ t. cond (is_along way es) (option_map (λ fs. es ++ fs) t) None) (end_to_end-append way ls ms) ∙ by (is_along way es)
   where
-    by : (b : Bool) → cond b (option_map (λ fs. es ++ fs) (join (told way ls) (told way ms))) None ≡ join (cond b (option_map (λ fs. es ++ fs) (told way ls)) None) (told way ms)
-    by true = join-more es (told way ls) (told way ms)
+    by : (b : Bool) → cond b (option_map (λ fs. es ++ fs) (join (end_to_end way ls) (end_to_end way ms))) None ≡ join (cond b (option_map (λ fs. es ++ fs) (end_to_end way ls)) None) (end_to_end way ms)
+    by true = join-more es (end_to_end way ls) (end_to_end way ms)
     by false = refl
 
 -- a merge of two merges is the merge of all their sources
 pub merge_of-append : (way : Way) (ls ms : List (Option (List Entry))) → pair_of way (merge_of way ls) (merge_of way ms) ≡ merge_of way (ls ++ ms)
-merge_of-append way ls ms = by (told way ls) (told way ms) ∙ sym (ap (option_map (merged way)) (told-append way ls ms))
+merge_of-append way ls ms = by (end_to_end way ls) (end_to_end way ms) ∙ sym (ap (option_map (merged way)) (end_to_end-append way ls ms))
   where
     untold : (b : Bool) → option_map (merged way) (cond b None None) ≡ None
     untold true = refl

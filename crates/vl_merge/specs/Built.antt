@@ -28,7 +28,7 @@ module _ {C : Type 0} where
   IsLow tree = (h : ℕ) → length (leaves tree) ≤ 2 ^ h → height tree ≤ h
 
   -- a tree of these sources
-  pub record IsOf (sources : List C) (tree : Tree C) : Type 0 where
+  pub record IsBuiltOf (sources : List C) (tree : Tree C) : Type 0 where
     pub leaves : leaves tree ≡ sources
     pub unread : IsUnread tree
     pub low : IsLow tree

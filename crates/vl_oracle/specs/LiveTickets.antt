@@ -10,7 +10,7 @@ abbrev pub Ticket : Type 0
 Ticket = ℕ × ℕ
 
 -- the number of the last commit, and what is live, in rising order of tickets
-pub record Live : Type 0 where
+pub record LiveTickets : Type 0 where
   pub last : ℕ
   pub tickets : List Ticket
 
@@ -20,19 +20,19 @@ free_from ticket [] = ticket
 free_from ticket (live ∷ others) = if live.0 == ticket then free_from (ticket + 1) others else ticket
 
 -- the least ticket that none has
-abbrev pub free_ticket : Live → ℕ
+abbrev pub free_ticket : LiveTickets → ℕ
 free_ticket live = free_from 0 live.tickets
 
 -- one more, with the free ticket and at the last number
-abbrev pub begun : Live → Live
+abbrev pub begun : LiveTickets → LiveTickets
 begun live = record live { tickets = put nat_cmp (free_ticket live) live.last live.tickets }
 
 -- without the one that has the ticket
-abbrev pub ended : ℕ → Live → Live
+abbrev pub ended : ℕ → LiveTickets → LiveTickets
 ended ticket live =
     record live { tickets = filter (λ other. not (eq_by_cmp nat_cmp ticket other.0)) live.tickets }
 
-abbrev pub advanced : ℕ → Live → Live
+abbrev pub advanced : ℕ → LiveTickets → LiveTickets
 advanced last live = record live { last = last }
 
 -- the least number at which one reads
@@ -41,11 +41,11 @@ least_number [] = None
 least_number (live ∷ others) = Some (unwrap_or (option_map (min live.1) (least_number others)) live.1)
 
 -- the least number at which one reads, and the last one where none does
-abbrev pub floor_of : Live → ℕ
+abbrev pub floor_of : LiveTickets → ℕ
 floor_of live = unwrap_or (least_number live.tickets) live.last
 
 -- tickets rise, and none reads at a number above the last
-pub record AreLive (live : Live) : Type 0 where
+pub record AreLive (live : LiveTickets) : Type 0 where
   pub rising : IsTrue (is_sorted nat_cmp live.tickets)
   pub read_below : AllByRecursion (λ other. other.1 ≤ live.last) live.tickets
 

@@ -20,10 +20,10 @@ budget_of (Next e) budget = budget + 1
 budget_of End budget = budget
 
 -- the next entry is known, or that there is none
-abbrev pub IsRead : Lookahead → Type 0
-IsRead Unread = ⊥
-IsRead (Next e) = Unit {0}
-IsRead End = Unit {0}
+abbrev pub IsKnown : Lookahead → Type 0
+IsKnown Unread = ⊥
+IsKnown (Next e) = Unit {0}
+IsKnown End = Unit {0}
 
 abbrev pub entry_of : Lookahead → Option Entry
 entry_of Unread = None
@@ -37,9 +37,9 @@ taken (Next e) = Unread
 taken End = End
 
 -- whether an older source's head comes before a newer one's; of equal entries the newer one's does
-abbrev pub is_older_first : Way → Lookahead → Lookahead → Bool
-is_older_first way Unread older = true
-is_older_first way (Next e) Unread = false
-is_older_first way (Next e) (Next f) = is_gt (way_cmp way e f)
-is_older_first way (Next e) End = false
-is_older_first way End older = true
+abbrev pub takes_older : Way → Lookahead → Lookahead → Bool
+takes_older way Unread older = true
+takes_older way (Next e) Unread = false
+takes_older way (Next e) (Next f) = is_gt (way_cmp way e f)
+takes_older way (Next e) End = false
+takes_older way End older = true

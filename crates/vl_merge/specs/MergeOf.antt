@@ -17,14 +17,14 @@ is_along way [] = true
 is_along way (e ∷ es) = is_first way e es && is_along way es
 
 -- the entries of sources end to end, where each source is told and goes along the way
-abbrev pub told : Way → List (Option (List Entry)) → Option (List Entry)
-told way [] = Some []
-told way (None ∷ rest) = None
-told way (Some es ∷ rest) = if is_along way es then option_map (λ fs. es ++ fs) (told way rest) else None
+abbrev pub end_to_end : Way → List (Option (List Entry)) → Option (List Entry)
+end_to_end way [] = Some []
+end_to_end way (None ∷ rest) = None
+end_to_end way (Some es ∷ rest) = if is_along way es then option_map (λ fs. es ++ fs) (end_to_end way rest) else None
 
 -- what a merge of sources gives, from what is left of each
 abbrev pub merge_of : Way → List (Option (List Entry)) → Option (List Entry)
-merge_of way lefts = option_map (merged way) (told way lefts)
+merge_of way lefts = option_map (merged way) (end_to_end way lefts)
 
 -- of two sources, the newer one first
 abbrev pub pair_of : Way → Option (List Entry) → Option (List Entry) → Option (List Entry)
