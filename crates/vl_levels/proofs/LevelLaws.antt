@@ -14,7 +14,7 @@ use Rattle.vl_run.specs.Lookups.{IsParted}
 use Rattle.vl_block.specs.Footer.{Foot}
 use Rattle.vl_table.specs.Opened.{IsOf}
 use Rattle.vl_table.specs.declared.table.Table.{Table}
-use Rattle.vl_levels.specs.laws.KeyRanges.{HasNone, above_turned, all_above, all_below, all_map, below_turned, none_above, none_below, of_last, up_to_below}
+use Rattle.vl_levels.proofs.KeyRanges.{HasNone, above_turned, all_above, all_below, all_map, below_turned, none_above, none_below, of_last, up_to_below}
 use Rattle.vl_levels.specs.LevelTables.{AreApart, AreOf, ends_before, may_hold}
 
 greater : (r : Ordering) → is_gt r ≡ true → r ≡ Greater

@@ -93,10 +93,10 @@ pub gives : {T : Type 0} (now number : ℕ) (told : Option (List ℕ)) (good : L
     → ((bytes : List ℕ) → told ≡ Some bytes → good bytes x) → Answers now now number told good bad (Ok x)
 gives now number told good bad x f = record { cause = no_failure now; named = tt; answer = f }
 
-pub no_room : {T : Type 0} (now number : ℕ) (told : Option (List ℕ)) (good : List ℕ → T → Type 0)
+pub no_memory : {T : Type 0} (now number : ℕ) (told : Option (List ℕ)) (good : List ℕ → T → Type 0)
     (bad : List ℕ → ℕ → Type 0) (e : TableFault)
     → e ≡ NoMemory
     → Answers {T = T} now now number told good bad (Err e)
-no_room {T = T} now number told good bad e is =
+no_memory {T = T} now number told good bad e is =
     subst (λ (why : TableFault). Answers {T = T} now now number told good bad (Err why)) (sym is)
     (record { cause = no_failure now; named = tt; answer = λ bytes told_is. tt })

@@ -12,7 +12,7 @@ use Rattle.vl_block.specs.laws.CuttingLaws.{blocks-whole, blocks-some}
 use Rattle.vl_run.specs.Order.{IsInOrder}
 use Rattle.vl_run.specs.laws.OrderLaws.{rising}
 use Rattle.vl_table.specs.Answers.{Answers}
-use Rattle.vl_table.proofs.AnswerSteps.{and_then, fails, gives, no_room}
+use Rattle.vl_table.proofs.AnswerSteps.{and_then, fails, gives, no_memory}
 use Rattle.vl_table.specs.declared.fault.TableFault.{TableFault}
 use Rattle.vl_table.specs.declared.fault.TableFault.TheVariants.{NoMemory}
 use Rattle.vl_table.specs.Buffers.{IsKept, HasBlock, NoBlock}
@@ -81,12 +81,12 @@ module _ {H : Type 0} (bytes_of : H → Option (List ℕ)) (t : Table H) (key : 
       (and_then b c c t.number (bytes_of t.held) (λ bytes (done : Unit {0}). (es : List Entry) × HasBlock buffer t.number bytes p.place p.length es) good (Finds bytes_of t key version)
       (NoBlock t.number p) (λ bytes damage. ⊥) (IsBadBlock t) (tt {0}) r f (λ bytes told has damage none. absurd none) load rest)
 
-  pub no_memory : (a b c : ℕ) (buffer : BlockBuffer) (e : TableFault) → b ≡ a → e ≡ NoMemory
+  pub look_no_memory : (a b c : ℕ) (buffer : BlockBuffer) (e : TableFault) → b ≡ a → e ≡ NoMemory
       → Answers {T = Unit {0}} b c t.number (bytes_of t.held) (λ bytes done. (es : List Entry) × HasBlock buffer t.number bytes p.place p.length es) (NoBlock t.number p) (Ok (tt {0}))
       → Answers {T = Option Entry} a c t.number (bytes_of t.held) (Finds bytes_of t key version) (IsBadBlock t) (Err e)
-  no_memory a b c buffer e same is load =
+  look_no_memory a b c buffer e same is load =
       behind_load a b c buffer (Err e) (Finds bytes_of t key version) same load (λ bytes told has x good. good)
-      (no_room c t.number (bytes_of t.held) (Finds bytes_of t key version) (λ bytes damage. ⊥) e is)
+      (no_memory c t.number (bytes_of t.held) (Finds bytes_of t key version) (λ bytes damage. ⊥) e is)
 
   -- the block of a true table that was loaded
   pub loaded : (buffer : BlockBuffer) (bytes : List ℕ) (es others : List Entry) → bytes_of t.held ≡ Some bytes → (is : IsOf bytes_of t es) → HasBlock buffer t.number bytes p.place p.length others

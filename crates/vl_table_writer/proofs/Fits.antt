@@ -1,8 +1,7 @@
 -- Of entries that are lawful and in order there is a table, where it isn't longer than four bytes can say.
-use Rattle.std.specs.Prelude.{◌≡◌, suc, ◌+◌, ◌*◌, ◌≤◌, ◌<◌, ◌^◌, ℕ, true, map, List, [], ◌∷◌, length}
+use Rattle.std.specs.Prelude.{◌≡◌, suc, ◌+◌, ◌*◌, ◌≤◌, ◌<◌, ◌^◌, ℕ, true, List, [], ◌∷◌, length}
 use Rattle.std.specs.List.{AllByRecursion, sum_by}
 use Rattle.std.proofs.Common.{ap, sym, subst, ⊎_elim, length-append, arith}
-use Rattle.std.proofs.lemmas.List.{length-map}
 use Rattle.std.proofs.lemmas.List.Sums.{sum_by-cons}
 use Rattle.vl_frame.specs.laws.Laws.{length-frame_bytes}
 use Rattle.vl_frame.specs.declared.kinds.FrameKind.TheVariants as kinds
@@ -12,8 +11,8 @@ use Rattle.vl_model.specs.declared.entry.Body.{Body}
 use Rattle.vl_model.specs.declared.entry.Body.TheVariants.{Inline, Gone, Far, Logged}
 use Rattle.vl_block.specs.laws.CuttingLaws.{blocks-whole, blocks-some}
 use Rattle.vl_block.specs.Cutting.{joined, block_frame_length, blocks, entry_length, first_key, last_key, pointed, points_of, table_length, with_point}
-use Rattle.vl_table_writer.specs.laws.Points.{pointed-above, pointed-below, pointed-same, three_ways}
-use Rattle.vl_block.specs.declared.laid_point.LaidPoint.{LaidPoint}
+use Rattle.vl_table_writer.proofs.PointLaws.{pointed-above, pointed-below, pointed-same, three_ways}
+use Rattle.vl_block.specs.declared.points.Point.{Point}
 use Rattle.vl_run.specs.Order.{IsInOrder}
 use Rattle.vl_run.specs.laws.OrderLaws.{IsRising, rising}
 use Rattle.vl_block.specs.Blocks.{IsBlock, block_body, entries}
@@ -22,7 +21,7 @@ use Rattle.vl_block.specs.Footer.{IsPoint, footer_body, points}
 use Rattle.vl_block.specs.Index.{IsPlace, index_body, places}
 use Rattle.vl_block.specs.Lists.{AreOrdered, IsInFront}
 use Rattle.vl_block.specs.declared.index.BlockPlace.{BlockPlace}
-use Rattle.vl_block.specs.Bytes.{AreTabled, block_places, foot, footer_place, greatest_version, index_place, said, IsTable}
+use Rattle.vl_block.specs.Bytes.{AreTabled, block_places, foot, footer_place, greatest_version, index_place, IsTable}
 use Rattle.vl_block.specs.laws.Lengths.{length-block_body, length-footer, length-index}
 use Rattle.vl_run.specs.laws.LookupLaws.{all-back, all-front, rising-back, rising-front}
 use Rattle.vl_block.specs.laws.Places.{length-block_places}
@@ -106,21 +105,21 @@ greatest-lawful (e ∷ es) each = omega (arith, each.0.version, greatest-lawful 
 -- ---- points
 
 -- rising segments that have room, and sums of at most so many lengths
-pub record AreSums (n : ℕ) (ps : List LaidPoint) : Type 0 where
-  pub each : AllByRecursion (λ (p : LaidPoint). (p.segment < 2 ^ 32) × (p.bytes ≤ n * 4294967296)) ps
-  pub ordered : AreOrdered points (map said ps)
+pub record AreSums (n : ℕ) (ps : List Point) : Type 0 where
+  pub each : AllByRecursion (λ (p : Point). (p.segment < 2 ^ 32) × (p.bytes ≤ n * 4294967296)) ps
+  pub ordered : AreOrdered points ps
 
-more-each : (n : ℕ) (ps : List LaidPoint) → AllByRecursion (λ (p : LaidPoint). (p.segment < 2 ^ 32) × (p.bytes ≤ n * 4294967296)) ps
-    → AllByRecursion (λ (p : LaidPoint). (p.segment < 2 ^ 32) × (p.bytes ≤ (n + 1) * 4294967296)) ps
+more-each : (n : ℕ) (ps : List Point) → AllByRecursion (λ (p : Point). (p.segment < 2 ^ 32) × (p.bytes ≤ n * 4294967296)) ps
+    → AllByRecursion (λ (p : Point). (p.segment < 2 ^ 32) × (p.bytes ≤ (n + 1) * 4294967296)) ps
 more-each n [] each = tt
 more-each n (p ∷ ps) each = ((each.0.0, omega (arith, each.0.1)), more-each n ps each.1)
 
 module _ (n segment bytes : ℕ) (fits : segment < 2 ^ 32) (few : bytes < 2 ^ 32) where
-  pointed-each : (ps : List LaidPoint) → AllByRecursion (λ (p : LaidPoint). (p.segment < 2 ^ 32) × (p.bytes ≤ n * 4294967296)) ps
-      → AllByRecursion (λ (p : LaidPoint). (p.segment < 2 ^ 32) × (p.bytes ≤ (n + 1) * 4294967296)) (pointed segment bytes ps)
+  pointed-each : (ps : List Point) → AllByRecursion (λ (p : Point). (p.segment < 2 ^ 32) × (p.bytes ≤ n * 4294967296)) ps
+      → AllByRecursion (λ (p : Point). (p.segment < 2 ^ 32) × (p.bytes ≤ (n + 1) * 4294967296)) (pointed segment bytes ps)
   pointed-each [] each = ((fits, omega arith), tt)
   pointed-each (p ∷ ps) each =
-      let P = λ (l : List LaidPoint). AllByRecursion (λ (q : LaidPoint). (q.segment < 2 ^ 32) × (q.bytes ≤ (n + 1) * 4294967296)) l in
+      let P = λ (l : List Point). AllByRecursion (λ (q : Point). (q.segment < 2 ^ 32) × (q.bytes ≤ (n + 1) * 4294967296)) l in
       let rest = more-each n ps each.1 in
       let later = pointed-each ps each.1 in
       ⊎_elim (λ (below : segment < p.segment). subst P (sym (pointed-below segment bytes p ps below)) ((fits, omega arith), ((each.0.0, omega (arith, each.0.1)), rest)))
@@ -129,32 +128,32 @@ module _ (n segment bytes : ℕ) (fits : segment < 2 ^ 32) (few : bytes < 2 ^ 32
       (three_ways segment p.segment)
 
   -- the first of them lies behind what lay in front of the others
-  front : (d : LaidPoint) (ps : List LaidPoint) → d.segment < segment → IsInFront points (said d) (map said ps)
-      → IsInFront points (said d) (map said (pointed segment bytes ps))
+  front : (d : Point) (ps : List Point) → d.segment < segment → IsInFront points d ps
+      → IsInFront points d (pointed segment bytes ps)
   front d [] less before = less
   front d (p ∷ ps) less before =
-      let P = λ (l : List LaidPoint). IsInFront points (said d) (map said l) in
+      let P = λ (l : List Point). IsInFront points d l in
       ⊎_elim (λ (below : segment < p.segment). subst P (sym (pointed-below segment bytes p ps below)) less)
       (⊎_elim (λ (same : segment ≡ p.segment). subst P (sym (pointed-same segment bytes p ps same)) before)
       (λ (above : p.segment < segment). subst P (sym (pointed-above segment bytes p ps above)) before))
       (three_ways segment p.segment)
 
-  merged-front : (p : LaidPoint) (sum : ℕ) (ps : List LaidPoint) → IsInFront points (said p) (map said ps)
-      → IsInFront points (said (record { segment = p.segment; bytes = sum })) (map said ps)
+  merged-front : (p : Point) (sum : ℕ) (ps : List Point) → IsInFront points p ps
+      → IsInFront points (record { segment = p.segment; bytes = sum }) ps
   merged-front p sum [] before = tt
   merged-front p sum (q ∷ ps) before = before
 
-  pointed-ordered : (ps : List LaidPoint) → AreOrdered points (map said ps) → AreOrdered points (map said (pointed segment bytes ps))
+  pointed-ordered : (ps : List Point) → AreOrdered points ps → AreOrdered points (pointed segment bytes ps)
   pointed-ordered [] ordered = (tt, tt)
   pointed-ordered (p ∷ ps) ordered =
-      let P = λ (l : List LaidPoint). AreOrdered points (map said l) in
+      let P = λ (l : List Point). AreOrdered points l in
       let later = pointed-ordered ps ordered.1 in
       ⊎_elim (λ (below : segment < p.segment). subst P (sym (pointed-below segment bytes p ps below)) (below, ordered))
       (⊎_elim (λ (same : segment ≡ p.segment). subst P (sym (pointed-same segment bytes p ps same)) (merged-front p (p.bytes + bytes) ps ordered.0, ordered.1))
       (λ (above : p.segment < segment). subst P (sym (pointed-above segment bytes p ps above)) (front p ps above ordered.0, later)))
       (three_ways segment p.segment)
 
-with-sums : (n : ℕ) (body : Body) (ps : List LaidPoint) → IsBody body → AreSums n ps → AreSums (n + 1) (with_point body ps)
+with-sums : (n : ℕ) (body : Body) (ps : List Point) → IsBody body → AreSums n ps → AreSums (n + 1) (with_point body ps)
 with-sums n (Inline v) ps lawful sums = record { each = more-each n ps sums.each; ordered = sums.ordered }
 with-sums n Gone ps lawful sums = record { each = more-each n ps sums.each; ordered = sums.ordered }
 with-sums n (Logged v p) ps lawful sums = absurd lawful
@@ -170,9 +169,9 @@ points-sums (e ∷ es) each = subst (λ (n : ℕ). AreSums n (points_of (e ∷ e
     one_more : (n : ℕ) → n + 1 ≡ suc n
     one_more n = omega arith
 
-fitting : (n : ℕ) (ps : List LaidPoint) → n < 2 ^ 32
-    → AllByRecursion (λ (p : LaidPoint). (p.segment < 2 ^ 32) × (p.bytes ≤ n * 4294967296)) ps
-    → AllByRecursion IsPoint (map said ps)
+fitting : (n : ℕ) (ps : List Point) → n < 2 ^ 32
+    → AllByRecursion (λ (p : Point). (p.segment < 2 ^ 32) × (p.bytes ≤ n * 4294967296)) ps
+    → AllByRecursion IsPoint ps
 fitting n [] small each = tt
 fitting n (p ∷ ps) small each = (record { segment = each.0.0; bytes = omega (arith, small, each.0.1) }, fitting n ps small each.1)
 
@@ -207,7 +206,7 @@ has_table number es numbered tabled small =
         last = last-lawful es tabled.some tabled.each;
       };
       points = record {
-        few = omega (arith, small, length-map (points_of es) said);
+        few = omega (arith, small);
         each = fitting (length es) (points_of es) (omega (arith, counted, framed)) sums.each;
         ordered = sums.ordered;
       };

@@ -2,7 +2,7 @@ use Rattle.std.proofs.Common.{take, sym, ap, ◌∙◌}
 use Rattle.std.specs.Option.{option_copied}
 use Rattle.vl_model.specs.Winners.{winner, newest_of}
 use Rattle.vl_memtable.specs.Contents.{all_of}
-use Rattle.vl_memtable.specs.laws.Laws.{take_next, winner-push}
+use Rattle.vl_memtable.proofs.RunLists.{take_next, winner-push}
 use Rattle.vl_memtable.proofs.runs.find.Goals as goal
 
 pub loop-run-preserved : goal.loop-run-preserved
