@@ -125,10 +125,6 @@ joins_first run runs up new are some = record { some = some; entries = refl; len
 abbrev pub IsFinished : List Entry → List (List Entry) → Type 0
 IsFinished front rest = lengths_with (length front) (map length rest) ≡ length front ∷ map length rest
 
-pub finished_none : (front : List Entry) (rest : List (List Entry)) → length rest ≤ 0 → IsFinished front rest
-finished_none front [] none = refl
-finished_none front (run ∷ rest) none = absurd (omega arith)
-
 pub joined-entries : (run front : List Entry) (runs rest : List (List Entry)) → Joins run front runs rest
     → in_order (all_of (front ∷ rest)) ≡ in_order (run ++ in_order (all_of runs))
 joined-entries run front runs rest so = so.entries ∙ sym (in_order-back run (all_of runs))
@@ -224,10 +220,6 @@ module _ where
   all-drop P runs zero all = all
   all-drop P [] (suc i) all = tt
   all-drop P (run ∷ runs) (suc i) all = all-drop P runs i all.1
-
-  pub no_runs : (runs : List (List Entry)) → length runs ≡ 0 → in_order (all_of runs) ≡ []
-  no_runs [] none = refl
-  no_runs (run ∷ runs) none = absurd (omega arith)
 
   -- entries there are where there is a run
   pub some_runs : (runs : List (List Entry)) → AreRuns runs → in_order (all_of runs) ≡ [] → length runs ≡ 0

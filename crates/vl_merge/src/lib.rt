@@ -15,8 +15,6 @@ mod laws;
 mod lookahead;
 mod merge;
 mod sources;
-#[cfg(test)]
-mod tests;
 mod tree;
 mod visible;
 mod visible_laws;

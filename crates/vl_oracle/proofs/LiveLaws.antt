@@ -104,9 +104,6 @@ all_from_zero (t ∷ ts) = (omega arith, all_from_zero ts)
 pub find-free_ticket : (live : LiveTickets) → IsTrue (is_sorted nat_cmp live.tickets) → find nat_cmp (free_ticket live) live.tickets ≡ None
 find-free_ticket live rising = find-free_from 0 live.tickets (as_T (is_sorted nat_cmp live.tickets) rising) (all_from_zero live.tickets)
 
-found_here : (ticket low : ℕ) → ticket ≡ low → eq_by_cmp nat_cmp ticket low ≡ true
-found_here ticket low same = grind (arith, nat_tests)
-
 taken_from : (low : ℕ) (live : List Ticket) (ticket : ℕ) → low ≤ ticket → ticket < free_from low live → IsSome (find nat_cmp ticket live)
 taken_from low [] ticket ge less = absurd (omega arith)
 taken_from low (t ∷ ts) ticket ge less = by_test (t.0 == low) refl (taken_from (low + 1) ts ticket) less

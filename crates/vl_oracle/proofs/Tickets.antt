@@ -11,7 +11,7 @@ use Rattle.std.specs.declared.cmp.Ordering.{Ordering}
 use Rattle.std.specs.declared.cmp.Ordering.TheVariants.{Less, Equal, Greater}
 use Rattle.std.specs.Ordering.{nat_cmp, eq_by_cmp, is_eq}
 use Rattle.vl_model.specs.Limits.{max_live}
-use Rattle.vl_oracle.specs.LiveTickets.{LiveTickets, Ticket, AreLive, free_from, free_ticket, least_number, floor_of, begun, ended, advanced}
+use Rattle.vl_oracle.specs.LiveTickets.{LiveTickets, Ticket, AreLive, free_from, free_ticket, least_number, floor_of, begun, ended}
 use Rattle.vl_oracle.specs.Counts.{uses, counted, with_count, IsLeastKey, IsKept}
 use Rattle.vl_oracle.proofs.LiveLaws.{as_T, from_T, two_parts, low_of, AreUpTo, floor_of-low_of, find-free_ticket, find_less, AreFrom, above_first, free_from-le}
 
@@ -181,10 +181,6 @@ up_to-without last ticket (t ∷ ts) are =
       | false ↦ later
     ]
 
-up_to-more : (last more : ℕ) (live : List Ticket) → last ≤ more → AreUpTo last live → AreUpTo more live
-up_to-more last more [] le are = tt
-up_to-more last more (t ∷ ts) le are = (omega (arith, are.0), up_to-more last more ts le are.1)
-
 length_without-le : (ticket : ℕ) (live : List Ticket) → length (without ticket live) ≤ length live
 length_without-le ticket [] = omega arith
 length_without-le ticket (t ∷ ts) =
@@ -266,9 +262,6 @@ module _ (live : LiveTickets) (standing : ℕ → Option ℕ) (kept : IsKept liv
 
 -- ---- the floor
 
-pub ended-none : (ticket : ℕ) (live : LiveTickets) → find nat_cmp ticket live.tickets ≡ None → ended ticket live ≡ live
-ended-none ticket live none = ap (λ (ts : List Ticket). record { last = live.last; tickets = ts }) (without-none ticket live.tickets none)
-
 low_of-without : (last ticket : ℕ) (live : List Ticket) → low_of last live ≤ low_of last (without ticket live)
 low_of-without last ticket [] = omega arith
 low_of-without last ticket (t ∷ ts) =
@@ -287,10 +280,6 @@ low_of-put last low ticket number (t ∷ ts) none le all = by_order_of (nat_cmp 
     by_order_of Equal further is = cc
     by_order_of Greater further is = let later = further is le (omega arith) in omega arith
 
-low_of-more : (last more : ℕ) (live : List Ticket) → last ≤ more → low_of last live ≤ low_of more live
-low_of-more last more [] le = le
-low_of-more last more (t ∷ ts) le = omega (arith, low_of-more last more ts le)
-
 low_le_last : (last : ℕ) (live : List Ticket) → low_of last live ≤ last
 low_le_last last [] = omega arith
 low_le_last last (t ∷ ts) = omega (arith, low_le_last last ts)
@@ -301,13 +290,6 @@ floor-begun live are after =
 
 pub floor-ended : (ticket : ℕ) (live : LiveTickets) → AreLive live → AreLive (ended ticket live) → floor_of live ≤ floor_of (ended ticket live)
 floor-ended ticket live are after = omega (arith, floor_of-low_of live are, floor_of-low_of (ended ticket live) after, low_of-without live.last ticket live.tickets)
-
-pub live-advanced : (last : ℕ) (live : LiveTickets) → live.last ≤ last → AreLive live → AreLive (advanced last live)
-live-advanced last live le are = record { rising = are.rising; read_below = up_to-more live.last last live.tickets le are.read_below }
-
-pub floor-advanced : (last : ℕ) (live : LiveTickets) → live.last ≤ last → AreLive live → floor_of live ≤ floor_of (advanced last live)
-floor-advanced last live le are =
-    omega (arith, floor_of-low_of live are, floor_of-low_of (advanced last live) (live-advanced last live le are), low_of-more live.last last live.tickets le)
 
 -- ---- the least number of the map
 

@@ -13,5 +13,4 @@ mod SeekSteps
 mod Stages
 mod TrueTables
 mod WayEntries
-mod Worked
 pub mod Results

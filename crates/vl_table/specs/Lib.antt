@@ -10,3 +10,4 @@ pub mod Opened
 pub mod Opening
 pub mod Scans
 pub mod Seeks
+pub mod Worked

@@ -1,10 +1,7 @@
 -- A whole table, byte by byte.
-use Rattle.std.specs.Prelude.{◌≡◌, ℕ, List, [], ◌∷◌, refl}
-use Rattle.sha2.specs.Sha256.{compress, digest_bytes, first_words, hash_after, rounds, schedule, sha256}
-use Rattle.vl_frame.specs.Frame.{check_of, frame_bytes}
+use Rattle.std.specs.Prelude.{ℕ, List, [], ◌∷◌}
 use Rattle.vl_model.specs.declared.entry.Entry.{Entry}
 use Rattle.vl_model.specs.declared.entry.Body.TheVariants.{Inline, Far}
-use Rattle.vl_block.specs.Bytes.{table_bytes}
 
 -- the byte aa 64 times
 abbrev pub short_value : List ℕ
@@ -23,8 +20,9 @@ two_entries =
 -- Table 1 with these entries: the header; a block, with the count of its entries, the two entries and its check; the
 -- index, with the count of blocks, the block's place, length and last key; the footer, with the index's place and
 -- length, the count of entries, the greatest version, the first and the last key, and one point; and its place.
-pub worked_table : table_bytes 1 two_entries
-    ≡ 86 ∷ 84 ∷ 65 ∷ 66 ∷ 0 ∷ 0 ∷ 0 ∷ 1 ∷ 0 ∷ 0 ∷ 0 ∷ 1 ∷ 0 ∷ 0 ∷ 0 ∷ 0
+abbrev pub worked_bytes : List ℕ
+worked_bytes =
+    86 ∷ 84 ∷ 65 ∷ 66 ∷ 0 ∷ 0 ∷ 0 ∷ 1 ∷ 0 ∷ 0 ∷ 0 ∷ 1 ∷ 0 ∷ 0 ∷ 0 ∷ 0
     ∷ 3 ∷ 0 ∷ 0 ∷ 0 ∷ 109
     ∷ 0 ∷ 0 ∷ 0 ∷ 2
     ∷ 0 ∷ 1 ∷ 97 ∷ 0 ∷ 0 ∷ 0 ∷ 0 ∷ 0 ∷ 0 ∷ 0 ∷ 1 ∷ 0 ∷ 64 ∷ 170 ∷ 170 ∷ 170
@@ -46,5 +44,3 @@ pub worked_table : table_bytes 1 two_entries
     ∷ 0 ∷ 0 ∷ 0 ∷ 1 ∷ 0 ∷ 0 ∷ 0 ∷ 1 ∷ 0 ∷ 0 ∷ 0 ∷ 0 ∷ 0 ∷ 0 ∷ 0 ∷ 73
     ∷ 104 ∷ 219 ∷ 193 ∷ 89 ∷ 91 ∷ 151 ∷ 101 ∷ 70
     ∷ 0 ∷ 0 ∷ 0 ∷ 0 ∷ 0 ∷ 0 ∷ 0 ∷ 170 ∷ []
-unfolding frame_bytes check_of sha256 digest_bytes hash_after compress rounds schedule first_words
-worked_table = refl
