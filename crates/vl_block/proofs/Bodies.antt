@@ -3,7 +3,8 @@ use Rattle.std.specs.Prelude.{◌-◌, ◌<◌, ◌≤◌, ℕ, IsTrue, nat_lt, 
 use Rattle.std.proofs.Common.{sym, subst, arith}
 use Rattle.std.proofs.lemmas.Bool.Decides.{nat_tests}
 use Rattle.vl_block.specs.Lists.{IsNext}
-use Rattle.vl_block.specs.laws.ListLaws.{last_item, last-of}
+use Rattle.vl_block.specs.Lists.{last_item}
+use Rattle.vl_block.specs.laws.ListLaws.{last-of}
 use Rattle.vl_block.specs.Footer.{point_bytes, points}
 use Rattle.vl_block.specs.Index.{place_bytes, places}
 use Rattle.vl_block.specs.declared.index.BlockPlace.{BlockPlace}

@@ -1,5 +1,5 @@
 -- A block's entries are read one after the other.
-use Rattle.std.specs.Prelude.{◌≡◌, ◌<◌, ◌+◌, ℕ, List, [], ◌∷◌, ◌++◌, Option, Some, None, refl}
+use Rattle.std.specs.Prelude.{◌≡◌, ◌<◌, ◌+◌, ℕ, List, [], ◌∷◌, ◌++◌, Option, Some}
 use Rattle.std.specs.Option.{option_map}
 use Rattle.std.proofs.Common.{sym, subst}
 use Rattle.vl_model.specs.declared.entry.Entry.{Entry}
@@ -8,16 +8,14 @@ use Rattle.vl_block.specs.laws.BlockLaws.{entry_is_some}
 use Rattle.vl_block.specs.Blocks.{entries}
 use Rattle.vl_block.specs.Entries.{entry_bytes, entry_of, IsEntry}
 use Rattle.vl_block.specs.Lists.{IsNext, IsRun}
-use Rattle.vl_block.specs.laws.ListLaws.{SoFar, Behind, begins, cut, goes_on, last_item, last-push, next, not_next, one_more}
+use Rattle.vl_block.specs.Lists.{last_item}
+use Rattle.vl_block.specs.laws.ListLaws.{SoFar, Behind, cut, goes_on, last-push, next, not_next, one_more}
 
 -- so many entries were read, and the last of them is this
 pub record UnderWay (bytes : List ℕ) (total count : ℕ) (last : Option EntryRef) (rest : List ℕ) : Type 0 where
   pub taken : List Entry
   pub so_far : SoFar entries bytes total count taken rest
   pub last_is : last_item taken ≡ option_map entry_of last
-
-pub starts : (bytes : List ℕ) (total : ℕ) → UnderWay bytes total 0 None bytes
-starts bytes total = record { taken = []; so_far = begins entries bytes total; last_is = refl }
 
 pub reads_one : (bytes : List ℕ) (total count : ℕ) (last : Option EntryRef) (rest : List ℕ) (e : EntryRef) (after : List ℕ)
     → UnderWay bytes total count last rest → IsEntry (entry_of e) → rest ≡ entry_bytes (entry_of e) ++ after

@@ -1,5 +1,5 @@
 -- The bytes of a table.
-use Rattle.std.specs.Prelude.{◌≡◌, ℕ, ◌+◌, ◌≤◌, ◌<◌, ◌^◌, max, map, List, [], ◌∷◌, ◌++◌, length}
+use Rattle.std.specs.Prelude.{◌≡◌, ℕ, ◌+◌, ◌≤◌, ◌<◌, ◌^◌, max, List, [], ◌∷◌, ◌++◌, length}
 use Rattle.std.specs.List.{sum_by, AllByRecursion}
 use Rattle.byteorder.specs.Endian.{big_bytes}
 use Rattle.vl_frame.specs.Frame.{frame_bytes}
@@ -9,14 +9,12 @@ use Rattle.vl_frame.specs.declared.kinds.FrameKind.TheVariants as kinds
 use Rattle.vl_model.specs.Entries.{in_order}
 use Rattle.vl_model.specs.declared.entry.Entry.{Entry}
 use Rattle.vl_block.specs.Cutting.{block_frame_length, blocks, first_key, index_frame_length, last_key, points_of}
-use Rattle.vl_block.specs.declared.laid_point.LaidPoint.{LaidPoint}
 use Rattle.vl_block.specs.Blocks.{IsBlock, block_body}
 use Rattle.vl_block.specs.Entries.{IsEntry}
 use Rattle.vl_block.specs.Footer.{Foot, IsHead, footer_body, points}
 use Rattle.vl_block.specs.Index.{index_body, places}
 use Rattle.vl_block.specs.Lists.{AreLawful}
 use Rattle.vl_block.specs.declared.index.BlockPlace.{BlockPlace}
-use Rattle.vl_block.specs.declared.points.Point.{Point}
 
 -- the first bytes of the table with this number
 abbrev pub table_header : ℕ → List ℕ
@@ -49,10 +47,6 @@ abbrev pub greatest_version : List Entry → ℕ
 greatest_version [] = 0
 greatest_version (e ∷ es) = max e.version (greatest_version es)
 
--- a point as it is spelled
-abbrev pub said : LaidPoint → Point
-said p = record { segment = p.segment; bytes = p.bytes }
-
 -- what the footer of a table with these entries in these blocks says
 abbrev pub foot : List Entry → List (List Entry) → Foot
 foot es bs = record {
@@ -64,7 +58,7 @@ foot es bs = record {
     first = first_key es;
     last = last_key es;
   };
-  points = map said (points_of es);
+  points = points_of es;
 }
 
 -- the footer stands behind the index

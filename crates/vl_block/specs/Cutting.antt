@@ -6,7 +6,8 @@ use Rattle.vl_model.specs.Entries.{by_order}
 use Rattle.vl_model.specs.declared.entry.Entry.{Entry}
 use Rattle.vl_model.specs.declared.entry.Body.{Body}
 use Rattle.vl_model.specs.declared.entry.Body.TheVariants.{Inline, Gone, Far, Logged}
-use Rattle.vl_block.specs.declared.laid_point.LaidPoint.{LaidPoint}
+use Rattle.vl_block.specs.declared.points.Point.{Point}
+use Rattle.std.proofs.Common.{◌+◌, List, [], ◌∷◌, ◌++◌}
 
 -- ---- blocks
 
@@ -65,7 +66,7 @@ abbrev pub index_frame_length : List (List Entry) → ℕ
 index_frame_length bs = around (4 + sum_by (λ block. 14 + length (last_key block)) bs)
 
 -- so many bytes more of records in this segment
-abbrev pub pointed : ℕ → ℕ → List LaidPoint → List LaidPoint
+abbrev pub pointed : ℕ → ℕ → List Point → List Point
 pointed segment bytes [] = record { segment = segment; bytes = bytes } ∷ []
 pointed segment bytes (p ∷ ps) =
     by_order (nat_cmp segment p.segment)
@@ -73,14 +74,14 @@ pointed segment bytes (p ∷ ps) =
     (record { segment = p.segment; bytes = p.bytes + bytes } ∷ ps)
     (p ∷ pointed segment bytes ps)
 
-abbrev pub with_point : Body → List LaidPoint → List LaidPoint
+abbrev pub with_point : Body → List Point → List Point
 with_point (Inline value) ps = ps
 with_point Gone ps = ps
 with_point (Far pointer) ps = pointed pointer.segment pointer.length ps
 with_point (Logged value pointer) ps = ps
 
 -- the segments that entries lead into, rising, each with the sum of the lengths of these records
-abbrev pub points_of : List Entry → List LaidPoint
+abbrev pub points_of : List Entry → List Point
 points_of [] = []
 points_of (e ∷ es) = with_point e.body (points_of es)
 
@@ -97,3 +98,8 @@ file_length es bs =
 
 abbrev pub table_length : List Entry → ℕ
 table_length es = file_length es (blocks es)
+
+-- lists of entries, end to end
+abbrev pub joined : List (List Entry) → List Entry
+joined [] = []
+joined (es ∷ others) = es ++ joined others

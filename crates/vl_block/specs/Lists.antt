@@ -47,3 +47,10 @@ module _ {Item : Type 0} (S : Spelling Item) where
   abbrev pub IsNext : Option Item → Item → Type 0
   IsNext None b = Unit {0}
   IsNext (Some a) b = S.before a b
+
+module _ {Item : Type 0} where
+  -- the last of some items
+  abbrev pub last_item : List Item → Option Item
+  last_item [] = None
+  last_item (a ∷ []) = Some a
+  last_item (a ∷ b ∷ items) = last_item (b ∷ items)

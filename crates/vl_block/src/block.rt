@@ -2,7 +2,6 @@
 
 ghost use Rattle.std.specs.Prelude.{◌≡◌, ◌↔◌, ◌<◌, List, Option, IfOk, IfNone, IfSome, IsTrue};
 ghost use Rattle.std.specs.Option.{option_map};
-ghost use Rattle.vl_model.specs.Entries.{entry_cmp};
 ghost use Rattle.vl_model.specs.declared.entry.Entry.{Entry};
 ghost use Rattle.vl_block.specs.Blocks.{SpellsBlock, entries};
 ghost use Rattle.vl_block.specs.Entries.{entry_of};
@@ -11,9 +10,8 @@ ghost use Rattle.vl_block.specs.Lists.{IsNext, IsRun};
 use crate::entry_ref::EntryRef;
 use crate::taking::take_entry;
 use std::alloc::{AllocError, Global};
-use std::cmp::Ordering;
 use vl_frame::take_u32;
-use vl_model::Entry;
+use vl_model::{Entry, place_order};
 
 /// Whether a frame's body is a block's.
 pub fn is_block(body: &[u8]) -> bool
@@ -84,13 +82,6 @@ fn is_next(last: &Option<EntryRef>, entry: &EntryRef) -> bool
 {
     match last {
         None => true,
-        Some(last) => order(last, entry).is_lt(),
+        Some(last) => place_order(&last.place(), &entry.place()).is_lt(),
     }
-}
-
-// How two entries stand to each other.
-fn order(a: &EntryRef, b: &EntryRef) -> Ordering
-    ensures { result ≡ entry_cmp (entry_of a.now) (entry_of b.now) }
-{
-    a.key.cmp(&b.key).then(b.version.cmp(&a.version))
 }

@@ -2,7 +2,7 @@ ghost use Rattle.std.specs.Prelude.{◌≡◌, IfOk};
 ghost use Rattle.vl_block.specs.Entries.{body_of, entry_of};
 
 use std::alloc::{AllocError, Global};
-use vl_model::{Body, Bytes, Entry, Pointer};
+use vl_model::{Body, Bytes, Entry, Place, Pointer};
 
 /// A body where it lies in a block.
 #[derive(Clone, Copy, Debug)]
@@ -33,6 +33,17 @@ impl BodyRef<'_> {
 }
 
 impl EntryRef<'_> {
+    /// Its place among entries in order.
+    pub fn place(&self) -> Place<'_>
+        ensures key { result.key.now ≡ (entry_of self.now).key }
+        ensures version { result.version ≡ (entry_of self.now).version }
+    {
+        Place {
+            key: self.key,
+            version: self.version,
+        }
+    }
+
     /// The entry with a key and a value of its own.
     pub fn to_entry(&self, alloc: Global) -> Result<Entry, AllocError>
         ensures { IfOk result (λ entry. entry ≡ entry_of self.now) }

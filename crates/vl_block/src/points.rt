@@ -2,7 +2,7 @@
 
 ghost use Rattle.std.specs.Prelude.{◌≡◌, ◌↔◌, ◌++◌, ◌<◌, ℕ, List, IfOk, IfNone, IfSome, IsTrue};
 ghost use Rattle.vl_block.specs.Footer.{IsPoint, point_bytes, points};
-ghost use Rattle.vl_block.specs.laws.ListLaws.{last_item};
+ghost use Rattle.vl_block.specs.Lists.{last_item};
 ghost use Rattle.vl_block.specs.Lists.{AreLawful, IsNext, IsRun, counted_bytes};
 ghost use Rattle.vl_block.specs.declared.points.Point.{Point};
 

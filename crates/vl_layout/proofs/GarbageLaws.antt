@@ -17,7 +17,7 @@ use Rattle.vl_model.specs.declared.entry.Body.TheVariants.{Inline, Gone, Far, Lo
 use Rattle.vl_layout.specs.Garbage.{far_length, far_bytes, pointed_bytes, discard, is_better, better_of, best_of}
 use Rattle.vl_block.specs.Cutting.{pointed, with_point, points_of}
 use Rattle.vl_layout.specs.declared.segment.SegmentStat.{SegmentStat}
-use Rattle.vl_block.specs.declared.laid_point.LaidPoint.{LaidPoint as Point}
+use Rattle.vl_block.specs.declared.points.Point.{Point}
 
 -- ---- points
 

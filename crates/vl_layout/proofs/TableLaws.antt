@@ -12,8 +12,7 @@ use Rattle.vl_layout.specs.laws.MergeShows.{Marked, marks_from, plain}
 use Rattle.vl_layout.specs.Merging.{Sourced, if_so, inputs_of as sourced_inputs, outside_of as sourced_outside, is_dropped, kept_from, kept}
 use Rattle.vl_layout.specs.Rulings.Plan.{marked_as, sourced}
 use Rattle.vl_layout.specs.Sources.{sources, tables, table_entries}
-use Rattle.vl_block.specs.laws.CuttingLaws.{joined}
-use Rattle.vl_block.specs.Cutting.{max_block_bytes, entry_length, begun_length, around}
+use Rattle.vl_block.specs.Cutting.{joined, max_block_bytes, entry_length, begun_length, around}
 use Rattle.vl_layout.specs.Tables.{full_table_bytes, tables_from, cut_into_tables, numbered}
 use Rattle.vl_layout.specs.declared.job.Job.{Job}
 use Rattle.vl_layout.specs.declared.layout.Layout.{Layout}

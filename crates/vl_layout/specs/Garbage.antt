@@ -8,7 +8,7 @@ use Rattle.vl_layout.specs.Sources.{tables, head}
 use Rattle.vl_layout.specs.declared.layout.Layout.{Layout}
 use Rattle.vl_layout.specs.declared.segment.Segment.{Segment}
 use Rattle.vl_layout.specs.declared.segment.SegmentStat.{SegmentStat}
-use Rattle.vl_block.specs.declared.laid_point.LaidPoint.{LaidPoint as Point}
+use Rattle.vl_block.specs.declared.points.Point.{Point}
 use Rattle.vl_layout.specs.declared.table.Table.{Table}
 
 -- the length of a record where it lies in the segment

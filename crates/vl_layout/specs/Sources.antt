@@ -11,7 +11,7 @@ use Rattle.vl_layout.specs.declared.file_name.FileName.TheVariants.{Log as LogFi
 use Rattle.vl_layout.specs.declared.layout.Layout.{Layout}
 use Rattle.vl_layout.specs.declared.live.Live.{Live}
 use Rattle.vl_layout.specs.declared.segment.Segment.{Segment}
-use Rattle.vl_block.specs.declared.laid_point.LaidPoint.{LaidPoint as Point}
+use Rattle.vl_block.specs.declared.points.Point.{Point}
 use Rattle.vl_layout.specs.declared.table.Table.{Table}
 
 -- the tables of all levels, the newest source first

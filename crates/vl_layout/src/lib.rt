@@ -23,4 +23,4 @@ pub use live::{Live, Pin};
 pub use lock_history::{LockEntry, LockStep};
 pub use segment::{Segment, SegmentStat};
 pub use table::Table;
-pub use vl_block::LaidPoint as Point;
+pub use vl_block::Point;

@@ -1,5 +1,5 @@
 use std::collections::LinkedList;
-use vl_block::LaidPoint;
+use vl_block::Point;
 use vl_model::{Entry, Key};
 
 /// A table file: its number, its length in bytes, its entries in order, and what its footer says of
@@ -9,7 +9,7 @@ pub struct Table {
     pub number: u32,
     pub length: u64,
     pub entries: LinkedList<Entry>,
-    pub points: LinkedList<LaidPoint>,
+    pub points: LinkedList<Point>,
     pub first: Key,
     pub last: Key,
 }

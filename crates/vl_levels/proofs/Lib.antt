@@ -1,1 +1,6 @@
+mod KeyRanges
+mod LevelLaws
+mod LookLaws
+mod LookSteps
 mod LooksOn
+mod Parts

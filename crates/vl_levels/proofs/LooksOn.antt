@@ -6,7 +6,8 @@ use Rattle.vl_table.specs.Buffers.{IsKept}
 use Rattle.vl_table.specs.declared.block_buffer.BlockBuffer.{BlockBuffer}
 use Rattle.vl_table.specs.declared.fault.TableFault.{TableFault}
 use Rattle.vl_table.specs.declared.table.Table.{Table}
-use Rattle.vl_levels.specs.LookedUp.{LookedUp, asks_more, fails_later, stops}
+use Rattle.vl_levels.specs.LookedUp.{LookedUp}
+use Rattle.vl_levels.proofs.LookSteps.{asks_more, fails_later, stops}
 use Rattle.vl_levels.specs.Looks.{better, is_settled, sought}
 use Rattle.vl_levels.specs.declared.look.Look.{Look}
 

@@ -1,4 +1,3 @@
-pub mod laws
 pub mod LevelsLooked
 pub mod LevelTables
 pub mod LookedUp

@@ -2,7 +2,7 @@
 
 ghost use Rattle.std.specs.Prelude.{◌≡◌, ◌≤◌, List, length};
 ghost use Rattle.std.specs.List.{prefix_len};
-ghost use Rattle.vl_run.specs.Places.{IsParted};
+ghost use Rattle.vl_run.specs.Lookups.{IsParted};
 ghost use Rattle.vl_levels.specs.LevelTables.{ends_before, may_hold};
 
 use crate::shared_table::SharedTable;

@@ -1,10 +1,9 @@
 //! What is looked for in tables.
 
 ghost use Rattle.std.specs.Prelude.{◌≡◌, IsTrue};
-ghost use Rattle.vl_model.specs.Winners.{newest_of};
 ghost use Rattle.vl_levels.specs.Looks.{better, is_settled};
 
-use vl_model::Entry;
+use vl_model::{Entry, newest_of};
 
 // Which entry of a key is looked for.
 #[derive(Clone, Copy)]
@@ -20,19 +19,8 @@ pub fn better(look: Look, newer: Option<Entry>, older: Option<Entry>) -> Option<
     ensures { result ≡ better look newer older }
 {
     match look {
-        Look::UpTo(_) => newest(newer, older),
+        Look::UpTo(_) => newest_of(newer, older),
         Look::Exactly(_) => newer.or(older),
-    }
-}
-
-// The one of the greater version; of two of one version the first.
-fn newest(newer: Option<Entry>, older: Option<Entry>) -> Option<Entry>
-    ensures { result ≡ newest_of newer older }
-{
-    match (newer, older) {
-        (Some(a), Some(b)) => Some(if b.version <= a.version { a } else { b }),
-        (None, other) => other,
-        (some, None) => some,
     }
 }
 

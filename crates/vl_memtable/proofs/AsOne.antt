@@ -6,7 +6,7 @@ use Rattle.vl_model.specs.Entries.{by_order, entry_cmp, in_order, put}
 use Rattle.vl_model.specs.declared.entry.Entry.{Entry}
 use Rattle.vl_run.specs.laws.OrderLaws.{in_order-back, in_order-front}
 use Rattle.vl_memtable.specs.Contents.{all_of}
-use Rattle.vl_memtable.specs.laws.Laws.{drop_next}
+use Rattle.vl_memtable.proofs.RunLists.{drop_next}
 
 some-put : (e : Entry) (es : List Entry) → 0 < length (put e es)
 some-put e [] = omega arith

@@ -13,7 +13,8 @@ use Rattle.vl_model.specs.declared.way.Way.{Way}
 use Rattle.vl_model.specs.declared.way.Way.TheVariants.{Up, Down}
 use Rattle.vl_run.specs.Order.{IsInOrder, along}
 use Rattle.vl_run.specs.laws.OrderLaws.{IsBefore, IsRising, rising}
-use Rattle.vl_merge.specs.Merging.{way_cmp, IsFirst, IsAlong}
+use Rattle.vl_merge.specs.Merging.{IsFirst, IsAlong}
+use Rattle.vl_model.specs.Order.{way_cmp}
 use Rattle.vl_memtable.specs.Contents.{Contents, all_of, contents_of, AreRuns, GiveAll}
 use Rattle.vl_memtable.specs.Lengths.{doubles}
 use Rattle.vl_memtable.specs.Facts.{HasFewRuns}

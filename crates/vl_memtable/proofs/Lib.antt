@@ -1,2 +1,3 @@
 mod AsOne
 mod FactLaws
+mod RunLists

@@ -14,31 +14,3 @@ mod runs;
 
 pub use laws::{lengths_after_commits_of_one, runs_are_few, runs_double};
 pub use memtable::{Frozen, Memtable};
-
-#[cfg(test)]
-mod tests {
-    use super::*;
-    use std::test::Fail;
-    use vl_model::{Body, Bytes, Cursor, Entry, Way};
-    use vl_run::Run;
-
-    #[test]
-    fn an_entry_is_found_in_the_new_memtable_alone(rt: HostRuntime) -> Result<(), Fail> {
-        let mut entries = Vec::new(rt.alloc());
-        entries.push(Entry {
-            key: Bytes::copy_of(rt.alloc(), b"a")?,
-            version: 3,
-            body: Body::Gone,
-        })?;
-        let old = Memtable::new(rt.alloc());
-        let new = old.with(Run::from_writes(entries)?)?;
-        assert!(rt; old.is_empty());
-        let found = new.find(b"a", 5).ok_or("none")?;
-        assert_eq!(rt; found.version, 3);
-        assert!(rt; new.exact(b"a", 4).is_none());
-        let frozen = new.share()?.freeze();
-        let cursors = frozen.memtable().cursors(Way::Up)?;
-        assert_eq!(rt; cursors.len(), 1);
-        Ok(())
-    }
-}

@@ -2,13 +2,13 @@
 ghost use Rattle.std.specs.Prelude.{◌≡◌, ◌++◌, ◌<◌, length, map, IfOk, OnOk};
 ghost use Rattle.std.specs.Option.{option_copied};
 ghost use Rattle.vl_model.specs.Entries.{in_order};
-ghost use Rattle.vl_model.specs.Winners.{winner, exact, newest_of};
+ghost use Rattle.vl_model.specs.Winners.{winner, exact};
 ghost use Rattle.vl_run.specs.Order.{along};
 ghost use Rattle.vl_memtable.specs.Contents.{all_of, AreRuns, IsNewTo};
 ghost use Rattle.vl_memtable.specs.Lengths.{lengths_with};
 
 use std::alloc::{AllocError, Global};
-use vl_model::{Entry, Way};
+use vl_model::{Entry, Way, newest_ref};
 use vl_run::{Run, RunCursor};
 
 // These runs with one more. As long as the first has less than twice the entries of the new one, it
@@ -52,20 +52,9 @@ pub fn find<'a>(runs: &'a [Run], key: &[u8], number: u64) -> Option<&'a Entry>
 {
     let mut best = None;
     for run in runs {
-        best = newest(best, run.find(key, number));
+        best = newest_ref(best, run.find(key, number));
     }
     best
-}
-
-// The one of the greater version; of two of one version the first.
-fn newest<'a>(newer: Option<&'a Entry>, older: Option<&'a Entry>) -> Option<&'a Entry>
-    ensures { option_copied result ≡ newest_of (option_copied newer.entry) (option_copied older.entry) }
-{
-    match (newer, older) {
-        (None, _) => older,
-        (Some(_), None) => newer,
-        (Some(a), Some(b)) => { if b.version <= a.version { newer } else { older } }
-    }
 }
 
 pub fn exact<'a>(runs: &'a [Run], key: &[u8], version: u64) -> Option<&'a Entry>

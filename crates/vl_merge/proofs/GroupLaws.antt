@@ -10,11 +10,12 @@ use Rattle.vl_model.specs.laws.WinnerLaws.{same_key}
 use Rattle.vl_model.specs.declared.entry.Entry.{Entry}
 use Rattle.vl_model.specs.declared.way.Way.{Way}
 use Rattle.vl_model.specs.declared.way.Way.TheVariants.{Up, Down}
-use Rattle.vl_merge.specs.Merging.{way_cmp, merged, IsFirst, IsAlong}
+use Rattle.vl_merge.specs.Merging.{merged, IsFirst, IsAlong}
+use Rattle.vl_model.specs.Order.{way_cmp}
 use Rattle.vl_merge.proofs.MergeLaws.{along-merged}
-use Rattle.vl_merge.specs.Told.{told}
+use Rattle.vl_merge.specs.MergeOf.{end_to_end}
 use Rattle.vl_merge.specs.Grouped.{is_without, is_joined, is_grouped}
-use Rattle.vl_merge.specs.Lookaheads.{left_of}
+use Rattle.vl_merge.specs.ReadAhead.{left_of}
 use Rattle.vl_merge.specs.Trees.{tree_left}
 use Rattle.vl_merge.specs.declared.tree.Tree.{Tree, Nothing, Source, Two'}
 
@@ -71,7 +72,7 @@ merge_of-along way (Some all) es is = let same : merged way all ≡ es = cc in s
 module _ {C : Type 0} where
   pub left-grouped : (left : C → Option (List Entry)) (way : Way) (tree : Tree C) (es : List Entry) → tree_left left way tree ≡ Some es → is_grouped es ≡ true
   left-grouped left way Nothing es is = let same : [] ≡ es = cc in ap is_grouped (sym same)
-  left-grouped left way (Source c) es is = grouped-along way es (merge_of-along way (told way (left c ∷ [])) es is)
+  left-grouped left way (Source c) es is = grouped-along way es (merge_of-along way (end_to_end way (left c ∷ [])) es is)
   left-grouped left way (Two' p newer first q older second) es is =
       grouped-along way es
-      (merge_of-along way (told way (left_of first (tree_left left way newer) ∷ left_of second (tree_left left way older) ∷ [])) es is)
+      (merge_of-along way (end_to_end way (left_of first (tree_left left way newer) ∷ left_of second (tree_left left way older) ∷ [])) es is)

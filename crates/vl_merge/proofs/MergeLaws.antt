@@ -16,7 +16,8 @@ use Rattle.vl_model.specs.laws.WinnerLaws.{winner-append, winner-put, same_key, 
 use Rattle.vl_model.specs.declared.entry.Entry.{Entry}
 use Rattle.vl_model.specs.declared.way.Way.{Way}
 use Rattle.vl_model.specs.declared.way.Way.TheVariants.{Up, Down}
-use Rattle.vl_merge.specs.Merging.{way_cmp, place, merged, IsFirst, IsAlong}
+use Rattle.vl_merge.specs.Merging.{place, merged, IsFirst, IsAlong}
+use Rattle.vl_model.specs.Order.{way_cmp}
 
 entry_total : IsTotalOrder entry_cmp
 entry_total = then_total (on_total (λ (e : Entry). e.key) nat_list_cmp_total) (back_total (on_total (λ (e : Entry). e.version) nat_cmp_total))

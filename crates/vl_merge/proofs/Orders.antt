@@ -11,7 +11,8 @@ use Rattle.vl_model.specs.laws.WinnerLaws.{same_key}
 use Rattle.vl_model.specs.declared.entry.Entry.{Entry}
 use Rattle.vl_model.specs.declared.way.Way.{Way}
 use Rattle.std.specs.Ordering.{is_gt}
-use Rattle.vl_merge.specs.Merging.{way_cmp, IsFirst, IsAlong}
+use Rattle.vl_merge.specs.Merging.{IsFirst, IsAlong}
+use Rattle.vl_model.specs.Order.{way_cmp}
 use Rattle.vl_merge.proofs.GroupLaws.{grouped-along}
 use Rattle.vl_merge.specs.Visible.{is_counted, keys_of, shown, visible}
 use Rattle.vl_merge.specs.Held.{held_first, is_held_counted, held_with, held_after, passed_by, passed}

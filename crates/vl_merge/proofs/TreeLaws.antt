@@ -7,10 +7,11 @@ use Rattle.std.specs.Cmp.{upto}
 use Rattle.vl_model.specs.Cursors.{Gives, Keeps}
 use Rattle.vl_model.specs.declared.entry.Entry.{Entry}
 use Rattle.vl_model.specs.declared.way.Way.{Way}
-use Rattle.vl_merge.specs.Merging.{way_cmp, merged, IsFirst, IsAlong}
+use Rattle.vl_merge.specs.Merging.{merged, IsFirst, IsAlong}
+use Rattle.vl_model.specs.Order.{way_cmp}
 use Rattle.vl_merge.proofs.MergeLaws.{way_total, first-all, merged-first}
-use Rattle.vl_merge.specs.Told.{is_first, is_along, told, merge_of, pair_of}
-use Rattle.vl_merge.specs.Lookaheads.{left_of, IsRead, entry_of, taken, is_older_first}
+use Rattle.vl_merge.specs.MergeOf.{is_first, is_along, end_to_end, merge_of, pair_of}
+use Rattle.vl_merge.specs.ReadAhead.{left_of, IsKnown, entry_of, taken, takes_older}
 use Rattle.vl_merge.specs.declared.lookahead.Lookahead.{Lookahead}
 use Rattle.vl_merge.specs.declared.lookahead.Lookahead.TheVariants.{Unread, Next, End}
 
@@ -64,18 +65,18 @@ all-append P (e ∷ es) fs here there = (here.0, all-append P es fs here.1 there
 none_some : (es : List Entry) → None ≡ Some es → ⊥
 none_some es is = cc
 
-told-join : (way : Way) (es fs : List Entry) (rest : List (Option (List Entry))) → is_along way es ≡ true → told way rest ≡ Some fs
-    → told way (Some es ∷ rest) ≡ Some (es ++ fs)
-told-join way es fs rest along later =
-    ap (λ b. cond b (option_map (λ fs. es ++ fs) (told way rest)) None) along ∙ ap (λ t. option_map (λ fs. es ++ fs) t) later
+end_to_end-join : (way : Way) (es fs : List Entry) (rest : List (Option (List Entry))) → is_along way es ≡ true → end_to_end way rest ≡ Some fs
+    → end_to_end way (Some es ∷ rest) ≡ Some (es ++ fs)
+end_to_end-join way es fs rest along later =
+    ap (λ b. cond b (option_map (λ fs. es ++ fs) (end_to_end way rest)) None) along ∙ ap (λ t. option_map (λ fs. es ++ fs) t) later
 
 -- what is told of a source and those behind it
-told-parts : (way : Way) (es : List Entry) (rest : List (Option (List Entry))) (all : List Entry) → told way (Some es ∷ rest) ≡ Some all
-    → (fs : List Entry) × (is_along way es ≡ true) × (told way rest ≡ Some fs) × (all ≡ es ++ fs)
-told-parts way es rest all is = by (is_along way es) (told way rest) refl refl is
+end_to_end-parts : (way : Way) (es : List Entry) (rest : List (Option (List Entry))) (all : List Entry) → end_to_end way (Some es ∷ rest) ≡ Some all
+    → (fs : List Entry) × (is_along way es ≡ true) × (end_to_end way rest ≡ Some fs) × (all ≡ es ++ fs)
+end_to_end-parts way es rest all is = by (is_along way es) (end_to_end way rest) refl refl is
   where
-    by : (b : Bool) (t : Option (List Entry)) → is_along way es ≡ b → told way rest ≡ t → cond b (option_map (λ fs. es ++ fs) t) None ≡ Some all
-        → (fs : List Entry) × (is_along way es ≡ true) × (told way rest ≡ Some fs) × (all ≡ es ++ fs)
+    by : (b : Bool) (t : Option (List Entry)) → is_along way es ≡ b → end_to_end way rest ≡ t → cond b (option_map (λ fs. es ++ fs) t) None ≡ Some all
+        → (fs : List Entry) × (is_along way es ≡ true) × (end_to_end way rest ≡ Some fs) × (all ≡ es ++ fs)
     by true None along later is = absurd (none_some all is)
     by true (Some fs) along later is = (fs, along, later, (cc))
     by false t along later is = absurd (none_some all is)
@@ -86,33 +87,33 @@ merged-of way None out gave = absurd (none_some out gave)
 merged-of way (Some all) out gave = (all, refl, (cc))
 
 pub one-join : (way : Way) (es : List Entry) → is_along way es ≡ true → merge_of way (Some es ∷ []) ≡ Some (merged way es)
-one-join way es along = ap (option_map (merged way)) (told-join way es [] [] along refl) ∙ ap (λ l. Some (merged way l)) (append-nil es)
+one-join way es along = ap (option_map (merged way)) (end_to_end-join way es [] [] along refl) ∙ ap (λ l. Some (merged way l)) (append-nil es)
 
 pub one-parts : (way : Way) (es out : List Entry) → merge_of way (Some es ∷ []) ≡ Some out → (is_along way es ≡ true) × (out ≡ merged way es)
 one-parts way es out gave =
-    let whole = merged-of way (told way (Some es ∷ [])) out gave in
-    let parts = told-parts way es [] whole.0 whole.1 in
+    let whole = merged-of way (end_to_end way (Some es ∷ [])) out gave in
+    let parts = end_to_end-parts way es [] whole.0 whole.1 in
     let nil : parts.0 ≡ [] = cc in
     (parts.1, whole.2 ∙ ap (merged way) (parts.3 ∙ ap (λ l. es ++ l) nil ∙ append-nil es))
 
 pub pair-join : (way : Way) (es fs : List Entry) → is_along way es ≡ true → is_along way fs ≡ true → pair_of way (Some es) (Some fs) ≡ Some (merged way (es ++ fs))
 pair-join way es fs along behind =
-    ap (option_map (merged way)) (told-join way es fs (Some fs ∷ []) along (told-join way fs [] [] behind refl ∙ ap Some (append-nil fs)))
+    ap (option_map (merged way)) (end_to_end-join way es fs (Some fs ∷ []) along (end_to_end-join way fs [] [] behind refl ∙ ap Some (append-nil fs)))
 
 pub pair-parts : (way : Way) (es fs out : List Entry) → pair_of way (Some es) (Some fs) ≡ Some out
     → (is_along way es ≡ true) × (is_along way fs ≡ true) × (out ≡ merged way (es ++ fs))
 pair-parts way es fs out gave =
-    let whole = merged-of way (told way (Some es ∷ Some fs ∷ [])) out gave in
-    let parts = told-parts way es (Some fs ∷ []) whole.0 whole.1 in
-    let last = told-parts way fs [] parts.0 parts.2 in
+    let whole = merged-of way (end_to_end way (Some es ∷ Some fs ∷ [])) out gave in
+    let parts = end_to_end-parts way es (Some fs ∷ []) whole.0 whole.1 in
+    let last = end_to_end-parts way fs [] parts.0 parts.2 in
     let nil : last.0 ≡ [] = cc in
     (parts.1, last.1, whole.2 ∙ ap (merged way) (parts.3 ∙ ap (λ l. es ++ l) (last.3 ∙ ap (λ l. fs ++ l) nil ∙ append-nil fs)))
 
 pair-untold : (way : Way) (a : Option (List Entry)) (out : List Entry) → pair_of way a None ≡ Some out → ⊥
 pair-untold way None out gave = none_some out gave
 pair-untold way (Some es) out gave =
-    let whole = merged-of way (told way (Some es ∷ None ∷ [])) out gave in
-    let parts = told-parts way es (None ∷ []) whole.0 whole.1 in
+    let whole = merged-of way (end_to_end way (Some es ∷ None ∷ [])) out gave in
+    let parts = end_to_end-parts way es (None ∷ []) whole.0 whole.1 in
     none_some parts.0 parts.2
 
 -- ---- a step
@@ -177,7 +178,7 @@ newer_alone way e es out gave =
 none_alone : (way : Way) → Gives (pair_of way (Some []) (Some [])) (pair_of way (Some []) (Some [])) None
 none_alone way out gave = let parts = pair-parts way [] [] out gave in (parts.2, pair-join way [] [] refl refl)
 
-left-none : (head : Lookahead) → IsRead head → left_of head None ≡ None
+left-none : (head : Lookahead) → IsKnown head → left_of head None ≡ None
 left-none Unread read = absurd read
 left-none (Next e) read = refl
 left-none End read = refl
@@ -192,7 +193,7 @@ module _ (way : Way) where
   no_older newer now older (Some e) is = λ out gave. absurd (pair-untold way newer out (ap (pair_of way newer) (sym is) ∙ gave))
 
   -- the older half's entry comes first
-  pub older_given : (newer older : Option (List Entry)) (first second : Lookahead) → IsRead first → IsRead second → is_older_first way first second ≡ true
+  pub older_given : (newer older : Option (List Entry)) (first second : Lookahead) → IsKnown first → IsKnown second → takes_older way first second ≡ true
       → Gives (pair_of way (left_of first newer) (left_of second older)) (pair_of way (left_of first newer) (left_of (taken second) older)) (entry_of second)
   older_given None older first second read known is = no_newer (left_of first None) _ (left_of second older) (entry_of second) (left-none first read)
   older_given (Some es) None first second read known is = no_older (left_of first (Some es)) _ (left_of second None) (entry_of second) (left-none second known)
@@ -205,7 +206,7 @@ module _ (way : Way) where
   older_given (Some es) (Some fs) End End read known is = none_alone way
 
   -- the newer half's does
-  pub newer_given : (newer older : Option (List Entry)) (first second : Lookahead) → IsRead first → IsRead second → is_older_first way first second ≡ false
+  pub newer_given : (newer older : Option (List Entry)) (first second : Lookahead) → IsKnown first → IsKnown second → takes_older way first second ≡ false
       → Gives (pair_of way (left_of first newer) (left_of second older)) (pair_of way (left_of (taken first) newer) (left_of second older)) (entry_of first)
   newer_given None older first second read known is = no_newer (left_of first None) _ (left_of second older) (entry_of first) (left-none first read)
   newer_given (Some es) None first second read known is = no_older (left_of first (Some es)) _ (left_of second None) (entry_of first) (left-none second known)
@@ -233,8 +234,8 @@ keeps_pair way (Some es) (Some fs) c d first second out gave =
 -- both heads are read, and one of them is given
 module _ (way : Way) (newer_old older_old newer older : Option (List Entry)) (first second : Lookahead)
     (newer_kept : Keeps newer_old (left_of first newer)) (older_kept : Keeps older_old (left_of second older))
-    (read : IsRead first) (known : IsRead second) (out : Option Entry) where
-  pub gives_older : (now : Lookahead) → is_older_first way first second ≡ true → now ≡ taken second → out ≡ entry_of second
+    (read : IsKnown first) (known : IsKnown second) (out : Option Entry) where
+  pub gives_older : (now : Lookahead) → takes_older way first second ≡ true → now ≡ taken second → out ≡ entry_of second
       → Gives (pair_of way newer_old older_old) (pair_of way (left_of first newer) (left_of now older)) out
   gives_older now is gone gave =
       gives_kept (pair_of way newer_old older_old) (pair_of way (left_of first newer) (left_of second older)) _ out
@@ -243,7 +244,7 @@ module _ (way : Way) (newer_old older_old newer older : Option (List Entry)) (fi
       (subst (Gives (pair_of way (left_of first newer) (left_of second older)) (pair_of way (left_of first newer) (left_of (taken second) older))) (sym gave)
       (older_given way newer older first second read known is)))
 
-  pub gives_newer : (now : Lookahead) → is_older_first way first second ≡ false → now ≡ taken first → out ≡ entry_of first
+  pub gives_newer : (now : Lookahead) → takes_older way first second ≡ false → now ≡ taken first → out ≡ entry_of first
       → Gives (pair_of way newer_old older_old) (pair_of way (left_of now newer) (left_of second older)) out
   gives_newer now is gone gave =
       gives_kept (pair_of way newer_old older_old) (pair_of way (left_of first newer) (left_of second older)) _ out
@@ -258,11 +259,11 @@ halves of_two a b c d whole first second is = ap (λ x. of_two x b) first ∙ ap
 
 -- ---- sources that are all told, each as the way goes
 
-told-all : (way : Way) (sources : List (List Entry)) → AllByRecursion (IsAlong way) sources → told way (map Some sources) ≡ Some (flat_map (λ es. es) sources)
-told-all way [] along = refl
-told-all way (es ∷ sources) along =
-    told-join way es (flat_map (λ es. es) sources) (map Some sources) (along-is way es along.0) (told-all way sources along.1)
+end_to_end-all : (way : Way) (sources : List (List Entry)) → AllByRecursion (IsAlong way) sources → end_to_end way (map Some sources) ≡ Some (flat_map (λ es. es) sources)
+end_to_end-all way [] along = refl
+end_to_end-all way (es ∷ sources) along =
+    end_to_end-join way es (flat_map (λ es. es) sources) (map Some sources) (along-is way es along.0) (end_to_end-all way sources along.1)
 
 pub merge_of_all : (way : Way) (sources : List (List Entry)) → AllByRecursion (IsAlong way) sources
     → merge_of way (map Some sources) ≡ Some (merged way (flat_map (λ es. es) sources))
-merge_of_all way sources along = ap (option_map (merged way)) (told-all way sources along)
+merge_of_all way sources along = ap (option_map (merged way)) (end_to_end-all way sources along)

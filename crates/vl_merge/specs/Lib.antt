@@ -1,8 +1,8 @@
+pub mod Built
 pub mod Grouped
-pub mod Lookaheads
 pub mod Held
+pub mod MergeOf
 pub mod Merging
-pub mod Planted
-pub mod Told
+pub mod ReadAhead
 pub mod Trees
 pub mod Visible

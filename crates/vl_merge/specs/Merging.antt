@@ -1,18 +1,11 @@
 -- All entries of several sources in one list, either way.
 use Rattle.std.specs.Prelude.{◌≡◌, ℕ, Bool, false, ◌&&◌, nat_lt, if◌then◌else◌, List, [], ◌∷◌}
 use Rattle.std.specs.List.{AllByRecursion, list_any}
-use Rattle.std.specs.declared.cmp.Ordering.{Ordering}
 use Rattle.std.specs.Ordering.{is_gt, eq_by_cmp}
 use Rattle.vl_model.specs.Keys.{key_cmp}
-use Rattle.vl_model.specs.Entries.{entry_cmp}
 use Rattle.vl_model.specs.declared.entry.Entry.{Entry}
 use Rattle.vl_model.specs.declared.way.Way.{Way}
-use Rattle.vl_model.specs.declared.way.Way.TheVariants.{Up, Down}
-
--- how two entries stand to each other on a way: down, the last comes first
-abbrev pub way_cmp : Way → Entry → Entry → Ordering
-way_cmp Up e f = entry_cmp e f
-way_cmp Down e f = entry_cmp f e
+use Rattle.vl_model.specs.Order.{way_cmp}
 
 -- an entry at its place on a way, in front of those of its key and version
 abbrev pub place : Way → Entry → List Entry → List Entry

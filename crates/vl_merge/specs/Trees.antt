@@ -2,8 +2,8 @@
 use Rattle.std.specs.Prelude.{ℕ, ◌+◌, List, [], ◌∷◌, Option, Some}
 use Rattle.vl_model.specs.declared.entry.Entry.{Entry}
 use Rattle.vl_model.specs.declared.way.Way.{Way}
-use Rattle.vl_merge.specs.Told.{merge_of, pair_of}
-use Rattle.vl_merge.specs.Lookaheads.{left_of, budget_of}
+use Rattle.vl_merge.specs.MergeOf.{merge_of, pair_of}
+use Rattle.vl_merge.specs.ReadAhead.{left_of, budget_of}
 use Rattle.vl_merge.specs.declared.lookahead.Lookahead.{Lookahead}
 use Rattle.vl_merge.specs.declared.tree.Tree.{Tree, Nothing, Source, Two'}
 

@@ -5,7 +5,7 @@ ghost use Rattle.vl_model.specs.Keys.{key_cmp};
 ghost use Rattle.vl_model.specs.Winners.{newest_of};
 ghost use Rattle.vl_merge.specs.Held.{held_with, held_after, only_shown, passed_by, passed};
 
-use vl_model::{Body, Entry};
+use vl_model::{Body, Entry, newest_of};
 
 // Takes one entry more, which counts where its version is at most the number. Where it is of another
 // key, that of the entry held is done, and its winner is given.
@@ -29,7 +29,7 @@ fn pass_counted(held: &mut Option<Entry>, entry: Entry) -> Option<Entry>
         return None;
     };
     if is_of_one_key(&best, &entry) {
-        *held = Some(newest_of(best, entry));
+        *held = newest_of(Some(best), Some(entry));
         None
     } else {
         *held = Some(entry);
@@ -54,15 +54,4 @@ fn is_of_one_key(a: &Entry, b: &Entry) -> bool
     ensures { result ≡ eq_by_cmp key_cmp a.now.key b.now.key }
 {
     a.key.as_slice().cmp(&b.key.as_slice()).is_eq()
-}
-
-// The one of the greater version; of two of one version the first.
-fn newest_of(first: Entry, second: Entry) -> Entry
-    ensures { Some result ≡ newest_of (Some first) (Some second) }
-{
-    if second.version > first.version {
-        second
-    } else {
-        first
-    }
 }

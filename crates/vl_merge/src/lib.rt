@@ -9,14 +9,12 @@
 //! comparison of keys more, and nothing is copied. One entry is held; no memory is taken.
 #![tactic(auto)]
 
+mod build;
 mod held;
 mod laws;
 mod lookahead;
 mod merge;
-mod plant;
 mod sources;
-#[cfg(test)]
-mod tests;
 mod tree;
 mod visible;
 mod visible_laws;

@@ -1,10 +1,10 @@
 ghost use Rattle.std.specs.Prelude.{◌≡◌, true, false};
 ghost use Rattle.std.specs.Ordering.{is_gt};
-ghost use Rattle.vl_merge.specs.Lookaheads.{IsRead, entry_of, taken, is_older_first};
-ghost use Rattle.vl_merge.specs.Merging.{way_cmp};
+ghost use Rattle.vl_merge.specs.ReadAhead.{IsKnown, entry_of, taken, takes_older};
+ghost use Rattle.vl_model.specs.Order.{way_cmp};
 
 use std::mem;
-use vl_model::{Entry, Way};
+use vl_model::{Entry, Way, entry_order};
 
 // What is known of the next entry of a source.
 #[derive(Drop)]
@@ -17,8 +17,8 @@ pub enum Lookahead {
 }
 
 // Whether an older source's entry comes before a newer one's; of equal ones the newer one's does.
-pub fn is_older_first(way: Way, newer: &Lookahead, older: &Lookahead) -> bool
-    ensures { result ≡ is_older_first way newer.now older.now }
+pub fn takes_older(way: Way, newer: &Lookahead, older: &Lookahead) -> bool
+    ensures { result ≡ takes_older way newer.now older.now }
 {
     match (newer, older) {
         (Lookahead::Next(a), Lookahead::Next(b)) => is_after(way, a, b),
@@ -52,10 +52,5 @@ fn is_after(way: Way, a: &Entry, b: &Entry) -> bool
         Way::Up => (a, b),
         Way::Down => (b, a),
     };
-    first
-        .key
-        .as_slice()
-        .cmp(&second.key.as_slice())
-        .then(second.version.cmp(&first.version))
-        .is_gt()
+    entry_order(first, second).is_gt()
 }

@@ -2,10 +2,10 @@ ghost use Rattle.std.specs.Prelude.{◌≡◌, true, map, IfOk};
 ghost use Rattle.std.specs.List.{sum_by};
 ghost use Rattle.std.specs.Option.{ForSome};
 ghost use Rattle.vl_merge.specs.Grouped.{is_grouped};
-ghost use Rattle.vl_merge.specs.Told.{merge_of};
+ghost use Rattle.vl_merge.specs.MergeOf.{merge_of};
 ghost use Rattle.vl_merge.specs.Trees.{tree_left, tree_budget, tree_faults};
 
-use crate::plant::tree_of;
+use crate::build::build_tree;
 use crate::tree::Tree;
 use std::alloc::AllocError;
 use vl_model::{Cursor, Entry, Way};
@@ -45,7 +45,7 @@ impl<C: Cursor + Drop> Merge<C> {
             ⟦<Merge<C> as Cursor>⟧.faults merge ≡ sum_by (λ c. C.faults c) sources.items) }
     {
         Ok(Merge {
-            sources: tree_of(sources)?,
+            sources: build_tree(sources)?,
             way,
         })
     }

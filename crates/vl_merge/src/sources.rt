@@ -13,7 +13,7 @@ pub trait Sources {
 
     type Fault;
 
-    /// The entries of all sources, end to end, the newest source first, where they are told.
+    /// The entries of all sources, end to end, the newest source first, where they are end_to_end.
     ghost entries: { Self → Option (List Entry) };
 
     /// The same of the sources that aren't tables of these numbers.

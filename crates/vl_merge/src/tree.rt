@@ -1,9 +1,9 @@
 ghost use Rattle.std.specs.Prelude.{◌≡◌, ◌≤◌, ◌+◌, OnOk, OnErr, IfOk, IfErr, MatchResult};
 ghost use Rattle.vl_model.specs.Cursors.{Gives, Keeps, Spends, HasRisen};
-ghost use Rattle.vl_merge.specs.Lookaheads.{IsRead};
+ghost use Rattle.vl_merge.specs.ReadAhead.{IsKnown};
 ghost use Rattle.vl_merge.specs.Trees.{tree_left, tree_budget, tree_faults, half_left, half_budget, two_left, two_budget};
 
-use crate::lookahead::{Lookahead, is_older_first};
+use crate::lookahead::{Lookahead, takes_older};
 use vl_model::{Cursor, Entry, Way};
 
 // Sources to be merged: one, or newer ones and older ones, each half with its next entry where that is
@@ -68,7 +68,7 @@ fn next_of_two<C: Cursor + Drop>(
 {
     look(newer, first, way)?;
     look(older, second, way)?;
-    if is_older_first(way, first, second) {
+    if takes_older(way, first, second) {
         Ok(second.take())
     } else {
         Ok(first.take())
@@ -84,7 +84,7 @@ fn look<C: Cursor + Drop>(
 ) -> Result<(), C::Fault>
     ensures kept { Keeps (half_left (λ c. C.left c) way head.old half.old)
         (half_left (λ c. C.left c) way head.new half.new) }
-    ensures read { OnOk result (IsRead head.new) }
+    ensures read { OnOk result (IsKnown head.new) }
     ensures spends { half_budget (λ c. C.budget c) head.new half.new
         ≤ half_budget (λ c. C.budget c) head.old half.old }
     ensures counts { tree_faults (λ c. C.faults c) half.old ≤ tree_faults (λ c. C.faults c) half.new }

@@ -11,6 +11,8 @@ mod laws;
 mod lengths;
 mod limits;
 mod log_frame;
+mod newest;
+mod order;
 mod pointer;
 mod span;
 mod way;
@@ -33,6 +35,8 @@ pub use limits::{
     MAX_TRANSACTION_KEYS, MAX_VALUE_BYTES, MAX_VERSION_NUMBER, MIN_ROOM,
 };
 pub use log_frame::{LogFrame, Moved};
+pub use newest::{newest_of, newest_ref};
+pub use order::{Place, entry_order, place_order};
 pub use pointer::Pointer;
 pub use span::Span;
 pub use way::Way;

@@ -7,7 +7,7 @@ use Rattle.std.specs.List.{AllByRecursion}
 use Rattle.std.specs.FinMap.{find, is_sorted}
 use Rattle.std.specs.FinMap.Entries.{below_all}
 use Rattle.std.specs.Ordering.{nat_cmp, eq_by_cmp, is_lt}
-use Rattle.vl_oracle.specs.Live.{Live, Ticket, AreLive, free_from, free_ticket, least_number, floor_of, is_read_at, IsAttained}
+use Rattle.vl_oracle.specs.LiveTickets.{LiveTickets, Ticket, AreLive, free_from, free_ticket, least_number, floor_of, is_read_at, IsAttained}
 
 pub as_T : (b : Bool) → IsTrue b → T b
 as_T true is = tt
@@ -101,11 +101,8 @@ all_from_zero [] = tt
 all_from_zero (t ∷ ts) = (omega arith, all_from_zero ts)
 
 -- none has the free ticket
-pub find-free_ticket : (live : Live) → IsTrue (is_sorted nat_cmp live.tickets) → find nat_cmp (free_ticket live) live.tickets ≡ None
+pub find-free_ticket : (live : LiveTickets) → IsTrue (is_sorted nat_cmp live.tickets) → find nat_cmp (free_ticket live) live.tickets ≡ None
 find-free_ticket live rising = find-free_from 0 live.tickets (as_T (is_sorted nat_cmp live.tickets) rising) (all_from_zero live.tickets)
-
-found_here : (ticket low : ℕ) → ticket ≡ low → eq_by_cmp nat_cmp ticket low ≡ true
-found_here ticket low same = grind (arith, nat_tests)
 
 taken_from : (low : ℕ) (live : List Ticket) (ticket : ℕ) → low ≤ ticket → ticket < free_from low live → IsSome (find nat_cmp ticket live)
 taken_from low [] ticket ge less = absurd (omega arith)
@@ -127,7 +124,7 @@ taken_from low (t ∷ ts) ticket ge less = by_test (t.0 == low) refl (taken_from
     by_test false is further below = absurd (omega arith)
 
 -- and each lesser one is taken
-pub taken-below_free : (live : Live) (ticket : ℕ) → ticket < free_ticket live → IsSome (find nat_cmp ticket live.tickets)
+pub taken-below_free : (live : LiveTickets) (ticket : ℕ) → ticket < free_ticket live → IsSome (find nat_cmp ticket live.tickets)
 taken-below_free live ticket less = taken_from 0 live.tickets ticket (omega arith) less
 
 -- ---- the floor
@@ -152,10 +149,10 @@ floor-low_of last (t ∷ ts) are = by_least (least_number ts) (floor-low_of last
     by_least None is = let le = are.0 in omega arith
     by_least (Some least) is = ap (min t.1) is
 
-pub floor_of-low_of : (live : Live) → AreLive live → floor_of live ≡ low_of live.last live.tickets
+pub floor_of-low_of : (live : LiveTickets) → AreLive live → floor_of live ≡ low_of live.last live.tickets
 floor_of-low_of live are = floor-low_of live.last live.tickets are.read_below
 
-pub floor_of-le_last : (live : Live) → AreLive live → floor_of live ≤ live.last
+pub floor_of-le_last : (live : LiveTickets) → AreLive live → floor_of live ≤ live.last
 floor_of-le_last live are = omega (arith, floor_of-low_of live are, low_of-le live.last live.tickets)
 
 least_number-le : (live : List Ticket) (last ticket number : ℕ) → find nat_cmp ticket live ≡ Some number → unwrap_or (least_number live) last ≤ number
@@ -176,7 +173,7 @@ least_number-le (t ∷ ts) last ticket number found = by_test (eq_by_cmp nat_cmp
     by_test false further is = there (least_number ts) (further is)
 
 -- nothing that is live reads below the floor
-pub floor_of-le : (live : Live) (ticket number : ℕ) → find nat_cmp ticket live.tickets ≡ Some number → floor_of live ≤ number
+pub floor_of-le : (live : LiveTickets) (ticket number : ℕ) → find nat_cmp ticket live.tickets ≡ Some number → floor_of live ≤ number
 floor_of-le live ticket number found = least_number-le live.tickets live.last ticket number found
 
 -- one reads at the floor
@@ -210,5 +207,5 @@ attained [] last = refl
 attained (t ∷ ts) last = least-read t ts last
 
 -- the floor is the number at which one reads, or the last
-pub floor_of-attained : (live : Live) → IsAttained (floor_of live) live.last live.tickets
+pub floor_of-attained : (live : LiveTickets) → IsAttained (floor_of live) live.last live.tickets
 floor_of-attained live = attained live.tickets live.last

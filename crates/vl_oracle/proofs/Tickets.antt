@@ -11,7 +11,7 @@ use Rattle.std.specs.declared.cmp.Ordering.{Ordering}
 use Rattle.std.specs.declared.cmp.Ordering.TheVariants.{Less, Equal, Greater}
 use Rattle.std.specs.Ordering.{nat_cmp, eq_by_cmp, is_eq}
 use Rattle.vl_model.specs.Limits.{max_live}
-use Rattle.vl_oracle.specs.Live.{Live, Ticket, AreLive, free_from, free_ticket, least_number, floor_of, begun, ended, advanced}
+use Rattle.vl_oracle.specs.LiveTickets.{LiveTickets, Ticket, AreLive, free_from, free_ticket, least_number, floor_of, begun, ended}
 use Rattle.vl_oracle.specs.Counts.{uses, counted, with_count, IsLeastKey, IsKept}
 use Rattle.vl_oracle.proofs.LiveLaws.{as_T, from_T, two_parts, low_of, AreUpTo, floor_of-low_of, find-free_ticket, find_less, AreFrom, above_first, free_from-le}
 
@@ -116,7 +116,7 @@ number_is number n is = grind (arith, nat_tests)
 
 -- ---- what is kept after each call
 
-module _ (live : Live) (standing new : ℕ → Option ℕ) (kept : IsKept live standing) where
+module _ (live : LiveTickets) (standing new : ℕ → Option ℕ) (kept : IsKept live standing) where
   added_at : (n : ℕ) → new n ≡ with_count (unwrap_or (standing live.last) 0 + 1) live.last (standing n) n → new n ≡ counted (one_if live.last n + uses n live.tickets)
   added_at n is =
       counts_after live.last (unwrap_or (standing live.last) 0 + 1) n (standing n) (new n) (uses n live.tickets) (one_if live.last n + uses n live.tickets) (kept.counts n) is
@@ -181,10 +181,6 @@ up_to-without last ticket (t ∷ ts) are =
       | false ↦ later
     ]
 
-up_to-more : (last more : ℕ) (live : List Ticket) → last ≤ more → AreUpTo last live → AreUpTo more live
-up_to-more last more [] le are = tt
-up_to-more last more (t ∷ ts) le are = (omega (arith, are.0), up_to-more last more ts le are.1)
-
 length_without-le : (ticket : ℕ) (live : List Ticket) → length (without ticket live) ≤ length live
 length_without-le ticket [] = omega arith
 length_without-le ticket (t ∷ ts) =
@@ -201,7 +197,7 @@ length_put-le ticket number live rising =
     by_test true = omega arith
     by_test false = omega arith
 
-module _ (live : Live) (standing : ℕ → Option ℕ) (kept : IsKept live standing) where
+module _ (live : LiveTickets) (standing : ℕ → Option ℕ) (kept : IsKept live standing) where
   sorted : T (is_sorted nat_cmp live.tickets)
   sorted = as_T (is_sorted nat_cmp live.tickets) kept.are.rising
 
@@ -266,9 +262,6 @@ module _ (live : Live) (standing : ℕ → Option ℕ) (kept : IsKept live stand
 
 -- ---- the floor
 
-pub ended-none : (ticket : ℕ) (live : Live) → find nat_cmp ticket live.tickets ≡ None → ended ticket live ≡ live
-ended-none ticket live none = ap (λ (ts : List Ticket). record { last = live.last; tickets = ts }) (without-none ticket live.tickets none)
-
 low_of-without : (last ticket : ℕ) (live : List Ticket) → low_of last live ≤ low_of last (without ticket live)
 low_of-without last ticket [] = omega arith
 low_of-without last ticket (t ∷ ts) =
@@ -287,27 +280,16 @@ low_of-put last low ticket number (t ∷ ts) none le all = by_order_of (nat_cmp 
     by_order_of Equal further is = cc
     by_order_of Greater further is = let later = further is le (omega arith) in omega arith
 
-low_of-more : (last more : ℕ) (live : List Ticket) → last ≤ more → low_of last live ≤ low_of more live
-low_of-more last more [] le = le
-low_of-more last more (t ∷ ts) le = omega (arith, low_of-more last more ts le)
-
 low_le_last : (last : ℕ) (live : List Ticket) → low_of last live ≤ last
 low_le_last last [] = omega arith
 low_le_last last (t ∷ ts) = omega (arith, low_le_last last ts)
 
-pub floor-begun : (live : Live) → AreLive live → AreLive (begun live) → floor_of live ≤ floor_of (begun live)
+pub floor-begun : (live : LiveTickets) → AreLive live → AreLive (begun live) → floor_of live ≤ floor_of (begun live)
 floor-begun live are after =
     omega (arith, floor_of-low_of live are, floor_of-low_of (begun live) after, low_of-put live.last (low_of live.last live.tickets) (free_ticket live) live.last live.tickets (find-free_ticket live are.rising) (low_le_last live.last live.tickets) (omega arith))
 
-pub floor-ended : (ticket : ℕ) (live : Live) → AreLive live → AreLive (ended ticket live) → floor_of live ≤ floor_of (ended ticket live)
+pub floor-ended : (ticket : ℕ) (live : LiveTickets) → AreLive live → AreLive (ended ticket live) → floor_of live ≤ floor_of (ended ticket live)
 floor-ended ticket live are after = omega (arith, floor_of-low_of live are, floor_of-low_of (ended ticket live) after, low_of-without live.last ticket live.tickets)
-
-pub live-advanced : (last : ℕ) (live : Live) → live.last ≤ last → AreLive live → AreLive (advanced last live)
-live-advanced last live le are = record { rising = are.rising; read_below = up_to-more live.last last live.tickets le are.read_below }
-
-pub floor-advanced : (last : ℕ) (live : Live) → live.last ≤ last → AreLive live → floor_of live ≤ floor_of (advanced last live)
-floor-advanced last live le are =
-    omega (arith, floor_of-low_of live are, floor_of-low_of (advanced last live) (live-advanced last live le are), low_of-more live.last last live.tickets le)
 
 -- ---- the least number of the map
 
@@ -343,7 +325,7 @@ no_tickets (t ∷ ts) none = absurd (other (counted (uses t.1 (t ∷ ts))) (coun
     other None some is = cc
     other (Some n) some is = cc
 
-pub floor-least : (live : Live) (standing : ℕ → Option ℕ) (least : Option ℕ) → IsKept live standing → IsLeastKey standing least → unwrap_or least live.last ≡ floor_of live
+pub floor-least : (live : LiveTickets) (standing : ℕ → Option ℕ) (least : Option ℕ) → IsKept live standing → IsLeastKey standing least → unwrap_or least live.last ≡ floor_of live
 floor-least live standing None kept is =
     sym (ap (λ (ts : List Ticket). unwrap_or (least_number ts) live.last) (no_tickets live.tickets (λ n. sym (kept.counts n) ∙ is n)))
 floor-least live standing (Some least) kept is =
@@ -363,13 +345,13 @@ free_from-next ticket old new t is same = sym (ap (free_from ticket) is ∙ ap (
 pub length-next : (n total : ℕ) (old new : List Ticket) (t : Ticket) → old ≡ t ∷ new → n + length old ≡ total → n + 1 + length new ≡ total
 length-next n total old new t is all = omega (arith, ap length is)
 
-pub few_uses : (live : Live) (standing : ℕ → Option ℕ) → IsKept live standing → unwrap_or (standing live.last) 0 + 1 < 2 ^ 32
+pub few_uses : (live : LiveTickets) (standing : ℕ → Option ℕ) → IsKept live standing → unwrap_or (standing live.last) 0 + 1 < 2 ^ 32
 few_uses live standing kept =
     let few = kept.few in
     let value : unwrap_or (standing live.last) 0 ≡ uses live.last live.tickets = ap (λ (o : Option ℕ). unwrap_or o 0) (kept.counts live.last) ∙ counted-value (uses live.last live.tickets) in
     omega (arith, value, uses-le live.last live.tickets)
 
-pub free_below : (live : Live) → length live.tickets < max_live → free_ticket live < max_live
+pub free_below : (live : LiveTickets) → length live.tickets < max_live → free_ticket live < max_live
 free_below live room = omega (arith, free_from-le 0 live.tickets)
 
 pub lookup-find : (ticket : ℕ) (live : List Ticket) → find nat_cmp ticket live ≡ lookup (is_at (nat_cmp ticket)) live

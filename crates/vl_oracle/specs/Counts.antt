@@ -1,7 +1,7 @@
 -- How many read at each number, and the map that keeps it.
 use Rattle.std.specs.Prelude.{◌≡◌, ◌≤◌, ◌==◌, ◌+◌, ℕ, if◌then◌else◌, List, [], ◌∷◌, length, Option, Some, None, IsSome, unwrap_or}
 use Rattle.vl_model.specs.Limits.{max_live}
-use Rattle.vl_oracle.specs.Live.{Live, Ticket, AreLive}
+use Rattle.vl_oracle.specs.LiveTickets.{LiveTickets, Ticket, AreLive}
 
 -- how many of these read at a number
 abbrev pub uses : ℕ → List Ticket → ℕ
@@ -30,7 +30,7 @@ IsLeastKey standing None = (n : ℕ) → standing n ≡ None
 IsLeastKey standing (Some least) = IsSome (standing least) × ((n : ℕ) → IsSome (standing n) → least ≤ n)
 
 -- what an oracle keeps, where `standing` is the map of counts
-pub record IsKept (live : Live) (standing : ℕ → Option ℕ) : Type 0 where
+pub record IsKept (live : LiveTickets) (standing : ℕ → Option ℕ) : Type 0 where
   pub are : AreLive live
   pub few : length live.tickets ≤ max_live
   pub counts : (n : ℕ) → standing n ≡ counted (uses n live.tickets)

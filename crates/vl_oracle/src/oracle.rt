@@ -1,6 +1,6 @@
 ghost use Rattle.std.specs.Prelude.{◌≡◌, ◌≤◌, ◌<◌, ◌↔◌, ◌∷◌, [], List, ℕ, length, IfOk, OnErr};
 ghost use Rattle.vl_model.specs.Limits.{max_live};
-ghost use Rattle.vl_oracle.specs.Live.{Live, AreLive, free_ticket, free_from, begun, ended, advanced, floor_of};
+ghost use Rattle.vl_oracle.specs.LiveTickets.{LiveTickets, AreLive, free_ticket, free_from, begun, ended, advanced, floor_of};
 
 use crate::BeginFail;
 use crate::numbers::{self, Numbers};
@@ -20,10 +20,10 @@ pub struct Oracle {
 impl Model for Oracle {
     ghost use Rattle.std.specs.Ordering.{nat_cmp};
     ghost use Rattle.std.specs.BTreeMap.{get};
-    ghost use Rattle.vl_oracle.specs.Live.{Live};
+    ghost use Rattle.vl_oracle.specs.LiveTickets.{LiveTickets};
     ghost use Rattle.vl_oracle.specs.Counts.{IsKept};
 
-    ghost Value = { Live };
+    ghost Value = { LiveTickets };
 
     ghost view = { λ a. record { last = a.last; tickets = a.live.entries } };
 

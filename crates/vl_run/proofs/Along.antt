@@ -5,7 +5,7 @@ use Rattle.vl_model.specs.declared.entry.Entry.{Entry}
 use Rattle.vl_model.specs.declared.way.Way.{Way}
 use Rattle.vl_model.specs.declared.way.Way.TheVariants.{Up, Down}
 use Rattle.vl_run.specs.Order.{along}
-use Rattle.vl_run.specs.laws.Merged.{drop_at}
+use Rattle.vl_run.proofs.MergeSteps.{drop_at}
 
 pub length-along : (way : Way) (es : List Entry) → length (along way es) ≡ length es
 length-along Up es = refl

@@ -1,3 +1,3 @@
 pub mod laws
+pub mod Lookups
 pub mod Order
-pub mod Places

@@ -2,6 +2,6 @@
 pub mod Exact
 pub mod Lookup
 pub mod LookupLaws
-pub mod Merged
 pub mod OrderLaws
 pub mod PartLaws
+pub mod Places

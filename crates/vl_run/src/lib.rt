@@ -12,26 +12,3 @@ mod run;
 
 pub use cursor::RunCursor;
 pub use run::Run;
-
-#[cfg(test)]
-mod tests {
-    use super::*;
-    use std::test::Fail;
-    use vl_model::{Body, Bytes, Cursor, Entry, Way};
-
-    #[test]
-    fn an_entry_is_found(rt: HostRuntime) -> Result<(), Fail> {
-        let mut entries = Vec::new(rt.alloc());
-        entries.push(Entry {
-            key: Bytes::copy_of(rt.alloc(), b"a")?,
-            version: 3,
-            body: Body::Gone,
-        })?;
-        let run = Run::from_writes(entries)?;
-        let found = run.find(b"a", 5).ok_or("none")?;
-        assert_eq!(rt; found.version, 3);
-        let mut cursor = run.cursor(Way::Down)?;
-        assert!(rt; cursor.next()?.is_some());
-        Ok(())
-    }
-}

@@ -1,10 +1,10 @@
 ghost use Rattle.std.specs.Prelude.{◌≡◌, ◌++◌, IfOk, OnOk};
-ghost use Rattle.vl_model.specs.Entries.{in_order, entry_cmp};
+ghost use Rattle.vl_model.specs.Entries.{in_order};
 ghost use Rattle.vl_run.specs.Order.{IsInOrder};
 
 use std::alloc::{AllocError, Global};
 use std::cmp::Ordering;
-use vl_model::Entry;
+use vl_model::{Entry, entry_order};
 
 // The entries of both in order; of those of one key and version the newer one's. They share their
 // bytes with those that were given.
@@ -20,7 +20,7 @@ pub fn merged(alloc: Global, newer: &[Entry], older: &[Entry]) -> Result<Vec<Ent
     'steps: while i < newer.len() && j < older.len() {
         let a = &newer[i];
         let b = &older[j];
-        match order(a, b) {
+        match entry_order(a, b) {
             Ordering::Less => {
                 both.push(a.share()?)?;
                 i += 1;
@@ -39,16 +39,6 @@ pub fn merged(alloc: Global, newer: &[Entry], older: &[Entry]) -> Result<Vec<Ent
     share_all(&mut both, &newer[i..])?;
     share_all(&mut both, &older[j..])?;
     Ok(both)
-}
-
-// How two entries stand to each other.
-fn order(a: &Entry, b: &Entry) -> Ordering
-    ensures { result ≡ entry_cmp a.now b.now }
-{
-    a.key
-        .as_slice()
-        .cmp(&b.key.as_slice())
-        .then(b.version.cmp(&a.version))
 }
 
 fn share_all(all: &mut Vec<Entry>, entries: &[Entry]) -> Result<(), AllocError>

@@ -4,15 +4,14 @@ ghost use Rattle.std.specs.Option.{option_copied};
 ghost use Rattle.vl_model.specs.Entries.{in_order};
 ghost use Rattle.vl_model.specs.Winners.{winner, exact};
 ghost use Rattle.vl_run.specs.Order.{IsInOrder, along};
-ghost use Rattle.vl_run.specs.laws.Lookup.{is_ahead};
-ghost use Rattle.vl_run.specs.Places.{first_failing};
+ghost use Rattle.vl_run.specs.Lookups.{is_ahead, first_failing};
 
 use crate::RunCursor;
 use crate::merged::merged;
 use std::alloc::{AllocError, Global};
 use std::marker::Model;
 use std::sync::ArcSlice;
-use vl_model::{Entry, Way};
+use vl_model::{Entry, Place, Way, place_order};
 
 /// Entries that don't change, in order, with no key and version twice. Several may share them.
 #[derive(Drop)]
@@ -123,9 +122,6 @@ fn place(entries: &[Entry], key: &[u8], version: u64) -> usize
     requires { IsInOrder entries.now }
     ensures { result ≡ prefix_len (is_ahead key.now version) entries.now }
 {
-    entries.partition_point(|entry| {
-        key.cmp(&entry.key.as_slice())
-            .then(entry.version.cmp(&version))
-            .is_gt()
-    })
+    let place = Place { key, version };
+    entries.partition_point(|entry| place_order(&place, &entry.place()).is_gt())
 }

@@ -5,12 +5,14 @@ use Rattle.vl_model.specs.declared.entry.Entry.{Entry}
 use Rattle.vl_block.specs.Blocks.{SpellsBlock}
 use Rattle.vl_block.specs.declared.index.BlockPlace.{BlockPlace}
 use Rattle.vl_disk.specs.declared.name.Name.TheVariants.{Table as table_name}
-use Rattle.vl_table.specs.Answers.{Answers, and_then, fails, gives, no_room, refuses}
+use Rattle.vl_table.specs.Answers.{Answers}
+use Rattle.vl_table.proofs.AnswerSteps.{and_then, fails, gives, no_memory, refuses}
 use Rattle.vl_table.specs.Buffers.{HasBlock, NoBlock}
 use Rattle.vl_table.specs.declared.block_buffer.BlockBuffer.{BlockBuffer}
 use Rattle.vl_table.specs.declared.fault.TableFault.{TableFault}
 use Rattle.vl_table.specs.declared.fault.TableFault.TheVariants.{NoMemory, Damaged}
-use Rattle.vl_table.specs.laws.BlockRead.{block-few, block_entries, block_entries-says}
+use Rattle.vl_table.proofs.BlockSays.{block-few, block_entries-says}
+use Rattle.vl_table.specs.BlockEntries.{block_entries}
 
 module _ {T : Type 0} (items : T → List Entry) (before now number : ℕ) (told : Option (List ℕ)) (p : BlockPlace) (buffer : BlockBuffer) where
   -- the buffer has the block
@@ -30,7 +32,7 @@ module _ {T : Type 0} (items : T → List Entry) (before now number : ℕ) (told
   reads_without_room e is load =
       and_then before now now number told Loaded AreRead AreRead (NoBlock number p) (λ bytes damage. ⊥) (NoBlock number p) (tt {0}) (Err e)
       (λ bytes told_is has read good. good) (λ bytes told_is has damage none. absurd none) load
-      (no_room now number told AreRead (λ bytes damage. ⊥) e is)
+      (no_memory now number told AreRead (λ bytes damage. ⊥) e is)
 
   module _ (body : List ℕ) (read : List Entry)
       (spells : (bytes : List ℕ) (es : List Entry) → HasBlock buffer number bytes p.place p.length es → SpellsBlock body es)

@@ -1,33 +1,29 @@
 -- What is left of a cursor, step by step.
-use Rattle.std.specs.Prelude.{◌≡◌, ◌+◌, ◌-◌, ◌<◌, ◌≤◌, ℕ, suc, List, [], ◌∷◌, ◌++◌, length, drop, get_or, reverse, Option, Some, None, Err}
+use Rattle.std.specs.Prelude.{◌≡◌, ◌+◌, ◌<◌, ◌≤◌, ℕ, suc, List, [], ◌∷◌, ◌++◌, length, drop, get_or, reverse, Option, Some, None, Err}
 use Rattle.std.specs.Option.{ForSome, option_map}
 use Rattle.std.proofs.Common.{refl, ap, sym, subst, ◌∙◌, arith, add-one}
 use Rattle.std.proofs.Math.Seq.{drop-cons}
-use Rattle.std.proofs.lemmas.List.{get_or-reverse, length-drop, length-reverse, reverse-append}
+use Rattle.std.proofs.lemmas.List.{length-reverse, reverse-append}
 use Rattle.std.proofs.lemmas.List.Sums.{sum_by-append, sum_by-cons}
-use Rattle.vl_model.specs.Cursors.{Gives, Keeps}
+use Rattle.vl_model.specs.Cursors.{Keeps}
 use Rattle.vl_model.specs.declared.entry.Entry.{Entry}
 use Rattle.vl_model.specs.declared.way.Way.{Way}
 use Rattle.vl_model.specs.declared.way.Way.TheVariants.{Up, Down}
 use Rattle.vl_run.specs.Order.{along}
 use Rattle.vl_block.specs.declared.index.BlockPlace.{BlockPlace}
-use Rattle.vl_table.specs.Answers.{Answers, fails}
+use Rattle.vl_table.specs.Answers.{Answers}
+use Rattle.vl_table.proofs.AnswerSteps.{fails}
 use Rattle.vl_table.specs.Buffers.{NoBlock}
 use Rattle.vl_table.specs.Seeks.{IsBadBlock}
 use Rattle.vl_table.specs.declared.fault.TableFault.{TableFault}
 use Rattle.vl_table.specs.declared.table.Table.{Table}
-use Rattle.vl_table.specs.laws.BlockRead.{block_entries}
+use Rattle.vl_table.specs.BlockEntries.{block_entries}
 use Rattle.vl_table.specs.BlocksRead.{blocks_entries, on_way}
 use Rattle.vl_table.specs.CursorLeft.{blocks_budget}
 
 pub length-on_way : {X : Type 0} (way : Way) (xs : List X) → length (on_way way xs) ≡ length xs
 length-on_way Up xs = refl
 length-on_way Down xs = length-reverse xs
-
-pub get_or-down : {X : Type 0} (xs : List X) (read count : ℕ) (x : X) → read < count → length xs ≡ count
-    → get_or xs (count - 1 - read) x ≡ get_or (reverse xs) read x
-get_or-down xs read count x within counted =
-    ap (λ (n : ℕ). get_or xs (n - 1 - read) x) (sym counted) ∙ sym (get_or-reverse xs read x (omega (arith, within, counted)))
 
 pub budget-on_way : (way : Way) (ps : List BlockPlace) → blocks_budget (on_way way ps) ≡ blocks_budget ps
 budget-on_way Up ps = refl
@@ -70,39 +66,6 @@ pub spends_in : (ps : List BlockPlace) (read : ℕ) (p : BlockPlace) (old new : 
     → length new ≤ p.length → length new + blocks_budget (drop (read + 1) ps) ≤ length old + blocks_budget (drop read ps)
 spends_in ps read p old new within is few =
     omega (arith, few, ap blocks_budget (unread-next ps read p within is), sum_by-cons (λ (q : BlockPlace). q.length) p (drop (read + 1) ps))
-
--- the last entry taken in is given
-pub gives_last : (told : Option (List ℕ)) (way : Way) (ps : List BlockPlace) (old new : List Entry) (e : Entry) → old ≡ new ++ e ∷ []
-    → Gives (left_from told way old ps) (left_from told way new ps) (Some e)
-gives_last None way ps old new e split = λ left is. absurd cc
-gives_last (Some bytes) way ps old new e split = λ left is. (
-  reverse new ++ blocks_entries way bytes ps,
-  some_same left (reverse old ++ blocks_entries way bytes ps) (sym is) ∙ ap (λ (l : List Entry). reverse l ++ blocks_entries way bytes ps) split
-      ∙ ap (λ (l : List Entry). l ++ blocks_entries way bytes ps) (reverse-append new (e ∷ [])),
-  refl,
-)
-  where
-    some_same : (x y : List Entry) → Some x ≡ Some y → x ≡ y
-    some_same x y e = cc
-
--- no entry is taken in, and no block left
-pub gives_none : (told : Option (List ℕ)) (way : Way) (ps : List BlockPlace) (read : ℕ) (old new : List Entry) → old ≡ [] → new ≡ [] → length ps ≤ read
-    → Gives (left_from told way old (drop read ps)) (left_from told way new (drop read ps)) None
-gives_none None way ps read old new none none_new past = λ left is. absurd cc
-gives_none (Some bytes) way ps read old new none none_new past = λ left is.
-    (some_same left (reverse old ++ blocks_entries way bytes (drop read ps)) (sym is) ∙ nothing old none, ap Some (nothing new none_new))
-  where
-    empty : (qs : List BlockPlace) → length qs ≡ 0 → qs ≡ []
-    empty [] none = refl
-    empty (q ∷ qs) none = absurd (omega arith)
-
-    some_same : (x y : List Entry) → Some x ≡ Some y → x ≡ y
-    some_same x y e = cc
-
-    nothing : (es : List Entry) → es ≡ [] → reverse es ++ blocks_entries way bytes (drop read ps) ≡ []
-    nothing es is =
-        ap (λ (l : List Entry). reverse l ++ blocks_entries way bytes (drop read ps)) is
-        ∙ ap (blocks_entries way bytes) (empty (drop read ps) (omega (arith, past, length-drop read ps)))
 
 -- where a block isn't read the table is damaged
 pub block_fails : {H S T : Type 0} (bytes_of : H → Option (List ℕ)) (t : Table H) (number : ℕ) (held : H) (good : List ℕ → S → Type 0) (before now at : ℕ) (p : BlockPlace) (e : TableFault)

@@ -1,8 +1,16 @@
+mod AnswerSteps
+mod BlockSays
 mod BlockSteps
+mod BufferSteps
 mod CursorSteps
 mod Headers
+mod Lookups
+mod MeetSteps
 mod OpeningSteps
 mod Parts
-pub mod Results
+mod ScanSteps
+mod SeekSteps
 mod Stages
-mod Worked
+mod TrueTables
+mod WayEntries
+pub mod Results

@@ -4,7 +4,8 @@ use Rattle.std.proofs.Common.{subst, ◌∙◌}
 use Rattle.vl_block.specs.Footer.{Foot, foot_of}
 use Rattle.vl_block.specs.declared.footer.Footer.{Footer}
 use Rattle.vl_block.specs.declared.index.BlockPlace.{BlockPlace}
-use Rattle.vl_table.specs.Answers.{Answers, and_then, fails}
+use Rattle.vl_table.specs.Answers.{Answers}
+use Rattle.vl_table.proofs.AnswerSteps.{and_then, fails}
 use Rattle.vl_table.specs.Begun.{IsBegun, IsInside}
 use Rattle.vl_table.proofs.Stages.{IsPlace, NoHeader, NoPlace, behind_place}
 use Rattle.vl_table.specs.Opening.{IsDamaged, IsRead, StandsFooter, StandsIndex, no_footer, no_index}

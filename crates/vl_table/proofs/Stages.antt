@@ -1,6 +1,7 @@
 -- The first stages of reading a table: its header, and the place of its footer.
 use Rattle.std.specs.Prelude.{◌≡◌, ◌-◌, ℕ, List, length, Option, Result, Ok}
-use Rattle.vl_table.specs.Answers.{Answers, and_then}
+use Rattle.vl_table.specs.Answers.{Answers}
+use Rattle.vl_table.proofs.AnswerSteps.{and_then}
 use Rattle.vl_table.specs.Begun.{IsBegun, IsInside, said_place}
 use Rattle.vl_table.specs.declared.fault.TableFault.{TableFault}
 

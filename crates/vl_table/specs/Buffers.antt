@@ -1,8 +1,5 @@
 -- The block that a buffer has.
-use Rattle.std.specs.Prelude.{◌≡◌, ◌≢◌, ℕ, List, Option, Some, length, drop}
-use Rattle.std.proofs.Common.{ap, sym, subst, ◌∙◌}
-use Rattle.vl_frame.specs.laws.Laws.{length-frame_bytes, one_frame}
-use Rattle.vl_frame.specs.declared.kinds.FileKind.TheVariants as files
+use Rattle.std.specs.Prelude.{◌≡◌, ◌≢◌, ℕ, List, Option, Some}
 use Rattle.vl_frame.specs.Frame.{frame_bytes}
 use Rattle.vl_frame.specs.declared.kinds.FrameKind.TheVariants as kinds
 use Rattle.vl_model.specs.declared.entry.Entry.{Entry}
@@ -30,26 +27,3 @@ pub record HasBlock (buffer : BlockBuffer) (number : ℕ) (bytes : List ℕ) (pl
 abbrev pub IsKept : (ℕ → Option (List ℕ)) → BlockBuffer → Type 0
 IsKept files buffer = buffer.number ≢ 0 → (bytes : List ℕ) → files buffer.number ≡ Some bytes
     → (size : ℕ) × (es : List Entry) × HasBlock buffer buffer.number bytes buffer.place size es
-
--- the block that is asked for is the one that is there
-pub has_asked : (buffer : BlockBuffer) (number other : ℕ) (bytes : List ℕ) (place other_place size other_size : ℕ) (es : List Entry) → HasBlock buffer number bytes place size es
-    → number ≡ other → place ≡ other_place → length buffer.frame.items ≡ other_size → HasBlock buffer other bytes other_place other_size es
-has_asked buffer number other bytes place other_place size other_size es has numbers places long =
-    let sizes : size ≡ other_size = has.stands.frame.sized ∙ sym (length-frame_bytes number place kinds.Block has.stands.body) ∙ sym (ap length has.frame) ∙ long in
-    subst (λ (n : ℕ). HasBlock buffer other bytes other_place n es) sizes
-    (subst (λ (n : ℕ). HasBlock buffer other bytes n size es) places (subst (λ (n : ℕ). HasBlock buffer n bytes place size es) numbers has))
-
--- the block that was read is there
-pub has_read : (buffer : BlockBuffer) (number : ℕ) (bytes : List ℕ) (place size : ℕ) (body said : List ℕ) (es : List Entry) → FrameAt number bytes place size kinds.Block body
-    → buffer.frame.items ≡ frame_bytes number place kinds.Block body → said ≡ body → SpellsBlock said es → HasBlock buffer number bytes place size es
-has_read buffer number bytes place size body said es at frame same says = record {
-  stands = record { body = body; frame = at; says = subst (λ (b : List ℕ). SpellsBlock b es) same says };
-  frame = frame;
-}
-
--- another body isn't there
-pub not_read : (number : ℕ) (bytes : List ℕ) (place size : ℕ) (body said : List ℕ) → FrameAt number bytes place size kinds.Block body → said ≡ body
-    → ((es : List Entry) → SpellsBlock said es → ⊥) → (es : List Entry) → StandsBlock number bytes place size es → ⊥
-not_read number bytes place size body said at same none es stands =
-    let one = one_frame files.Table number place (drop place bytes) kinds.Block kinds.Block body stands.body at.frame stands.frame.frame in
-    none es (subst (λ (b : List ℕ). SpellsBlock b es) (sym (same ∙ one.1)) stands.says)

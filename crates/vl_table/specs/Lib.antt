@@ -1,5 +1,6 @@
 pub mod Answers
 pub mod Begun
+pub mod BlockEntries
 pub mod BlocksRead
 pub mod Buffers
 pub mod CursorLeft
@@ -9,3 +10,4 @@ pub mod Opened
 pub mod Opening
 pub mod Scans
 pub mod Seeks
+pub mod Worked

@@ -3,7 +3,7 @@
 ghost use Rattle.std.specs.Prelude.{◌≡◌, ◌≤◌, length, IfOk};
 ghost use Rattle.vl_table.specs.Answers.{Answers};
 ghost use Rattle.vl_table.specs.Buffers.{NoBlock};
-ghost use Rattle.vl_table.specs.laws.BlockRead.{block_entries};
+ghost use Rattle.vl_table.specs.BlockEntries.{block_entries};
 
 use crate::{BlockBuffer, TableFault};
 use std::alloc::Global;

@@ -1,8 +1,7 @@
 // Laws of the definitions: each is the contract of a function that does nothing.
 ghost use Rattle.std.specs.Prelude.{◌≡◌, ◌∷◌, [], List, ℕ, ◌<◌, ◌^◌, ◌++◌, length};
 ghost use Rattle.vl_model.specs.declared.entry.Entry.{Entry};
-ghost use Rattle.vl_model.specs.declared.entry.Body.TheVariants.{Gone};
-ghost use Rattle.vl_block.specs.Blocks.{SpellsBlock, block_body};
+ghost use Rattle.vl_block.specs.Blocks.{SpellsBlock};
 ghost use Rattle.vl_block.specs.Footer.{Foot, SpellsFooter};
 ghost use Rattle.vl_block.specs.Index.{SpellsIndex};
 ghost use Rattle.vl_block.specs.declared.index.BlockPlace.{BlockPlace};
@@ -12,6 +11,7 @@ ghost use Rattle.vl_table.specs.Opened.{IsOf};
 ghost use Rattle.vl_table.specs.Seeks.{IsBadBlock};
 ghost use Rattle.vl_table.specs.declared.table.Table.{Table};
 ghost use Rattle.vl_table.specs.Opening.{IsDamaged, IsRead};
+ghost use Rattle.vl_table.specs.Worked.{two_entries, worked_bytes};
 
 use vl_disk::HeldFile;
 
@@ -22,10 +22,9 @@ pub fn bodies_are_read_in_one_way()
     ensures footer { (body : List ℕ) (f g : Foot) → SpellsFooter body f → SpellsFooter body g → f ≡ g }
 {}
 
-/// The body of a block with the deletion of key `61` by commit 1.
-pub fn a_worked_block()
-    ensures { block_body (record { key = 97 ∷ []; version = 1; body = Gone } ∷ [])
-        ≡ 0 ∷ 0 ∷ 0 ∷ 1 ∷ 0 ∷ 1 ∷ 97 ∷ 0 ∷ 0 ∷ 0 ∷ 0 ∷ 0 ∷ 0 ∷ 0 ∷ 1 ∷ 1 ∷ [] }
+/// The whole bytes of a table with a short value and one whose record stands in a log.
+pub fn a_worked_table()
+    ensures { table_bytes 1 two_entries ≡ worked_bytes }
 {}
 
 /// A table is as long as the layout says.

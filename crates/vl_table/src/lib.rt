@@ -23,7 +23,7 @@ pub use block_buffer::BlockBuffer;
 pub use cursor::TableCursor;
 pub use fault::TableFault;
 pub use laws::{
-    a_worked_block, bodies_are_read_in_one_way, tables_are_read_in_one_way,
+    a_worked_table, bodies_are_read_in_one_way, tables_are_read_in_one_way,
     tables_have_their_length, true_tables_are_read, true_tables_have_no_bad_block,
 };
 pub use table::Table;

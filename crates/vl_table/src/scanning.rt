@@ -1,7 +1,6 @@
 ghost use Rattle.std.specs.Prelude.{◌≡◌, List, Some, IfOk};
 ghost use Rattle.vl_model.specs.declared.entry.Entry.{Entry};
-ghost use Rattle.vl_run.specs.laws.Lookup.{is_ahead};
-ghost use Rattle.vl_run.specs.Places.{first_failing};
+ghost use Rattle.vl_run.specs.Lookups.{is_ahead, first_failing};
 ghost use Rattle.vl_block.specs.Blocks.{SpellsBlock};
 ghost use Rattle.vl_block.specs.Entries.{entry_of};
 ghost use Rattle.vl_table.specs.Scans.{IsScan};
@@ -9,7 +8,7 @@ ghost use Rattle.vl_table.specs.Scans.{IsScan};
 use std::alloc::{AllocError, Global};
 use vl_block::{EntryRef, take_entry};
 use vl_frame::take_u32;
-use vl_model::Entry;
+use vl_model::{Entry, Place, place_order};
 
 /// What a block says of a key and a version.
 #[derive(Drop)]
@@ -46,9 +45,8 @@ pub fn look_in(alloc: Global, body: &[u8], key: &[u8], version: u64) -> Result<S
 fn is_before(entry: &EntryRef, key: &[u8], version: u64) -> bool
     ensures { result ≡ is_ahead key.now version (entry_of entry.now) }
 {
-    key.cmp(&entry.key)
-        .then(entry.version.cmp(&version))
-        .is_gt()
+    let place = Place { key, version };
+    place_order(&place, &entry.place()).is_gt()
 }
 
 fn found(alloc: Global, entry: &EntryRef, key: &[u8]) -> Result<Scan, AllocError>

@@ -2,13 +2,14 @@
 
 ghost use Rattle.std.specs.Prelude.{◌≤◌};
 
+use crate::disk::open;
 use std::alloc::Global;
 use std::test::Fail;
-use vl_disk::{Disk, Name, make_file};
+use vl_disk::Disk;
 use vl_levels::{Level, Levels, SharedTable};
 use vl_mem::{MemDisk, MemHeld};
 use vl_model::{Body, Bytes, Entry};
-use vl_table::{BlockBuffer, Table};
+use vl_table::BlockBuffer;
 use vl_table_writer::TableWriter;
 
 fn new_disk(alloc: Global) -> MemDisk {
@@ -21,20 +22,6 @@ fn gone(alloc: Global, key: &[u8], version: u64) -> Result<Entry, Fail> {
         version,
         body: Body::Gone,
     })
-}
-
-// The table with this number and these bytes, on a disk of its own.
-fn open(alloc: Global, number: u32, bytes: &[u8]) -> Result<Table<MemHeld>, Fail>
-    requires some { 1 ≤ number }
-    requires few { number ≤ 9 }
-{
-    let name = Name::Table(number);
-    let mut disk = MemDisk::new(alloc, Vec::new(alloc), Vec::new(alloc));
-    disk.ready(name, bytes.len() as u64)?;
-    make_file(&mut disk, name, bytes)?;
-    let held = disk.hold(name)?;
-    let mut reader = disk.reader(alloc)?;
-    Ok(Table::open(alloc, &mut reader, held, number)?)
 }
 
 // A table of one deletion.
@@ -50,7 +37,8 @@ fn short_table(
     let mut out = Vec::new(alloc);
     let writer = TableWriter::begin(alloc, &mut out, number, &gone(alloc, key, version)?)?;
     writer.finish(alloc, &mut out)?;
-    Ok(SharedTable::new(alloc, open(alloc, number, &out)?)?)
+    let (table, _) = open(alloc, number, &out)?;
+    Ok(SharedTable::new(alloc, table)?)
 }
 
 // Level 0 has the key b at version 3 in its newest table and at version 4 in the other; level 1 has c at 5, and e at 6.

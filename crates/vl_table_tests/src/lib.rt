@@ -4,6 +4,8 @@
 #[cfg(test)]
 mod cursors;
 #[cfg(test)]
+mod disk;
+#[cfg(test)]
 mod levels;
 #[cfg(test)]
 mod tables;

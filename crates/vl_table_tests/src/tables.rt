@@ -1,18 +1,14 @@
-//! The bytes of a whole table, which were computed apart from this crate; versions of one key in several blocks; and each
-//! damage once.
+//! The bytes of a whole table, which were computed apart from this crate; look-ups in it; and each damage once.
 
+use crate::disk::{held, open};
 use std::alloc::Global;
 use std::test::Fail;
-use vl_disk::{Disk, Name, make_file};
-use vl_mem::MemDisk;
 use vl_model::{Body, Bytes, Entry, Pointer};
 use vl_table::{BlockBuffer, Table, TableFault};
 use vl_table_writer::TableWriter;
 
-const NAME: Name = Name::Table(1);
-
 // Table 1 of docs/FORMATS.md.
-const TABLE: [u8; 241] = [
+pub const TABLE: [u8; 241] = [
     0x56, 0x54, 0x41, 0x42, 0x00, 0x00, 0x00, 0x01, 0x00, 0x00, 0x00, 0x01, 0x00, 0x00, 0x00, 0x00,
     0x03, 0x00, 0x00, 0x00, 0x6d, 0x00, 0x00, 0x00, 0x02, 0x00, 0x01, 0x61, 0x00, 0x00, 0x00, 0x00,
     0x00, 0x00, 0x00, 0x01, 0x00, 0x40, 0xaa, 0xaa, 0xaa, 0xaa, 0xaa, 0xaa, 0xaa, 0xaa, 0xaa, 0xaa,
@@ -56,13 +52,23 @@ fn a_table_has_its_bytes(rt: HostRuntime) -> Result<(), Fail> {
     Ok(())
 }
 
+#[test]
+fn entries_are_found(rt: HostRuntime) -> Result<(), Fail> {
+    let alloc = rt.alloc();
+    let (table, mut reader) = open(alloc, 1, &TABLE)?;
+    let mut buffer = BlockBuffer::new(alloc);
+    let found = table
+        .find(alloc, &mut reader, &mut buffer, b"b", 9)?
+        .ok_or("none")?;
+    assert_eq!(rt; found.version, 1);
+    let exact = table.exact(alloc, &mut reader, &mut buffer, b"a", 1)?;
+    assert!(rt; exact.is_some());
+    Ok(())
+}
+
 // Where a table is damaged that has these bytes: at opening, or at looking up its first key.
 fn damage(alloc: Global, bytes: &[u8]) -> Result<Option<u64>, Fail> {
-    let mut disk = MemDisk::new(alloc, Vec::new(alloc), Vec::new(alloc));
-    disk.ready(NAME, bytes.len() as u64)?;
-    make_file(&mut disk, NAME, bytes)?;
-    let held = disk.hold(NAME)?;
-    let mut reader = disk.reader(alloc)?;
+    let (held, mut reader) = held(alloc, 1, bytes)?;
     let table = match Table::open(alloc, &mut reader, held, 1) {
         Ok(table) => table,
         Err(TableFault::Damaged { place, .. }) => return Ok(Some(place)),
@@ -96,43 +102,5 @@ fn each_damage_is_found(rt: HostRuntime) -> Result<(), Fail> {
         Some(171),
     ];
     assert_eq!(rt; places.as_slice(), expected.as_slice());
-    Ok(())
-}
-
-#[test]
-fn versions_of_a_key_are_found_in_several_blocks(rt: HostRuntime) -> Result<(), Fail> {
-    let alloc = rt.alloc();
-    let mut out = Vec::new(alloc);
-    let first = Entry {
-        key: Bytes::copy_of(alloc, b"a")?,
-        version: 1,
-        body: Body::Gone,
-    };
-    let mut writer = TableWriter::begin(alloc, &mut out, 1, &first)?;
-    for back in 0..200u64 {
-        let entry = Entry {
-            key: Bytes::copy_of(alloc, b"b")?,
-            version: 400 - 2 * back,
-            body: Body::Inline(Bytes::copy_of(alloc, &[7; 60])?),
-        };
-        writer.add(&mut out, &entry)?;
-    }
-    writer.finish(alloc, &mut out)?;
-    let mut disk = MemDisk::new(alloc, Vec::new(alloc), Vec::new(alloc));
-    disk.ready(NAME, out.len() as u64)?;
-    make_file(&mut disk, NAME, &out)?;
-    let mut reader = disk.reader(alloc)?;
-    let table = Table::open(alloc, &mut reader, disk.hold(NAME)?, 1)?;
-    let mut buffer = BlockBuffer::new(alloc);
-    for number in 2..401u64 {
-        let found = table
-            .find(alloc, &mut reader, &mut buffer, b"b", number)?
-            .ok_or("none")?;
-        assert_eq!(rt; found.version, number / 2 * 2);
-        let exact = table.exact(alloc, &mut reader, &mut buffer, b"b", number)?;
-        assert_eq!(rt; exact.is_some(), number % 2 == 0);
-    }
-    let none = table.find(alloc, &mut reader, &mut buffer, b"b", 1)?;
-    assert!(rt; none.is_none());
     Ok(())
 }

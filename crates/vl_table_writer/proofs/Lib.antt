@@ -1,4 +1,6 @@
 pub mod Bodies
 mod Finished
+mod Fits
+mod PointLaws
 pub mod Results
 mod Written

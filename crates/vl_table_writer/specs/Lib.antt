@@ -1,3 +1,3 @@
 pub mod Bodies
-pub mod laws
+pub mod Stops
 pub mod Writing

@@ -1,12 +1,12 @@
 -- What a table that is being written has.
-use Rattle.std.specs.Prelude.{◌∷◌, [], ◌≤◌, ◌≡◌, ℕ, ◌+◌, map, List, ◌++◌, length}
+use Rattle.std.specs.Prelude.{◌∷◌, [], ◌≤◌, ◌≡◌, ℕ, ◌+◌, List, ◌++◌, length}
 use Rattle.std.specs.List.{sum_by, AllByRecursion}
 use Rattle.vl_model.specs.declared.entry.Entry.{Entry}
 use Rattle.vl_block.specs.Cutting.{block_frame_length, blocks, blocks_from, first_key, last_key, points_of}
 use Rattle.vl_block.specs.Blocks.{block_body}
 use Rattle.vl_block.specs.Entries.{IsEntry}
 use Rattle.vl_table_writer.specs.Bodies.{HasBody}
-use Rattle.vl_block.specs.Bytes.{block_places, blocks_bytes, greatest_version, said, table_header}
+use Rattle.vl_block.specs.Bytes.{block_places, blocks_bytes, greatest_version, table_header}
 use Rattle.vl_table_writer.specs.declared.blocks_writer.BlocksWriter.{BlocksWriter}
 use Rattle.vl_table_writer.specs.declared.summary.Summary.{Summary}
 use Rattle.vl_table_writer.specs.declared.writer.TableWriter.{TableWriter}
@@ -23,7 +23,7 @@ pub record Sums (s : Summary) (es : List Entry) : Type 0 where
   pub last : s.last ≡ last_key es
   pub count : s.count ≡ length es
   pub greatest : s.greatest ≡ greatest_version es
-  pub points : s.points.items ≡ map said (points_of es)
+  pub points : s.points.items ≡ points_of es
 
 -- These entries were added, and these bytes of their table were given out: those of the blocks that are closed.
 pub record IsWriting (w : TableWriter) (number : ℕ) (es : List Entry) (given : List ℕ) : Type 0 where

@@ -1,8 +1,6 @@
-ghost use Rattle.std.specs.Prelude.{◌≡◌, ◌≤◌, length, map, List, OnOk};
+ghost use Rattle.std.specs.Prelude.{◌≡◌, ◌≤◌, length, OnOk};
 ghost use Rattle.vl_block.specs.Cutting.{pointed};
-ghost use Rattle.vl_block.specs.declared.laid_point.LaidPoint.{LaidPoint};
-ghost use Rattle.vl_block.specs.Bytes.{said};
-ghost use Rattle.vl_table_writer.specs.laws.Points.{Stops};
+ghost use Rattle.vl_table_writer.specs.Stops.{Stops};
 
 use std::alloc::AllocError;
 use vl_block::Point;
@@ -10,8 +8,7 @@ use vl_block::Point;
 /// Adds so many bytes of a segment's records to rising points. Want of memory is the answer too where the sum has no
 /// room.
 pub fn add_point(points: &mut Vec<Point>, segment: u32, bytes: u32) -> Result<(), AllocError>
-    ensures { (ps : List LaidPoint) → points.old.items ≡ map said ps
-        → OnOk result (points.new.items ≡ map said (pointed segment bytes ps)) }
+    ensures { OnOk result (points.new.items ≡ pointed segment bytes points.old.items) }
 {
     let at = place_of(points, segment);
     if at < points.len() && points[at].segment == segment {
@@ -33,7 +30,7 @@ pub fn add_point(points: &mut Vec<Point>, segment: u32, bytes: u32) -> Result<()
 
 // How many points stand before the place of a segment.
 fn place_of(points: &[Point], segment: u32) -> usize
-    ensures stops { (ps : List LaidPoint) → points.now ≡ map said ps → Stops segment ps result }
+    ensures stops { Stops segment points.now result }
     ensures within { result ≤ length points.now }
 {
     let mut at = 0;

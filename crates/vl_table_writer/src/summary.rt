@@ -1,9 +1,7 @@
-ghost use Rattle.std.specs.Prelude.{◌≡◌, ◌≤◌, length, ◌++◌, ◌∷◌, [], map, List, IfOk, OnOk};
+ghost use Rattle.std.specs.Prelude.{◌≡◌, ◌≤◌, length, ◌++◌, ◌∷◌, [], List, IfOk, OnOk};
 ghost use Rattle.vl_model.specs.declared.entry.Entry.{Entry};
 ghost use Rattle.vl_block.specs.Cutting.{with_point};
-ghost use Rattle.vl_block.specs.declared.laid_point.LaidPoint.{LaidPoint};
 ghost use Rattle.vl_block.specs.Footer.{foot_of};
-ghost use Rattle.vl_block.specs.Bytes.{said};
 ghost use Rattle.vl_table_writer.specs.Writing.{Sums};
 
 use crate::point_sums::add_point;
@@ -73,8 +71,7 @@ impl Summary {
 
 // Notes where a body leads.
 fn note(points: &mut Vec<Point>, body: &Body) -> Result<(), AllocError>
-    ensures { (ps : List LaidPoint) → points.old.items ≡ map said ps
-        → OnOk result (points.new.items ≡ map said (with_point body.now ps)) }
+    ensures { OnOk result (points.new.items ≡ with_point body.now points.old.items) }
 {
     match body {
         Body::Far(pointer) => add_point(points, pointer.segment, pointer.length),

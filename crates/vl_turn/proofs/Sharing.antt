@@ -31,9 +31,9 @@ module _ {T E : Type 0} (stands : T → T → List E → Type 0) (by : E → ℕ
         tt,
         kept_still stands by start s r ws s.homes r.turn id w
             (ap (λ ws. set ws 0 (get_or ws 0 0)) r.words)
-            (record { same = mine.same; seen = mine.seen; told = (m.0.seen, refl); owns = mine.owns; apart = mine.apart; made = mine.made })
+            (record { same = mine.same; seen = mine.seen; lagging = (m.0.seen, refl); owns = mine.owns; apart = mine.apart; made = mine.made })
             (state_still stands by start s ws r.list r.turn id m.0 w at refl refl (λ _. refl) r.state),
-        (refl, mine.told),
+        (refl, mine.lagging),
       )
 
   -- number
@@ -50,7 +50,7 @@ module _ {T E : Type 0} (stands : T → T → List E → Type 0) (by : E → ℕ
         record {
           same = mine.same;
           seen = mine.seen;
-          told = mine.told;
+          lagging = mine.lagging;
           owns = subst (λ k. OwnsFit by list (count + 1) more id (record { number = k; entries = [] } ∷ v.owns)) (sym made.0) (own, fit_more by list count token_of id id v.owns mine.owns);
           apart = subst (λ k. AreApart (record { number = k; entries = [] } ∷ v.owns)) (sym made.0) (next_differs by list count token_of id v.owns mine.owns, mine.apart);
           made = (ap (λ k. k + 1) made.0, made.1);
@@ -61,7 +61,7 @@ module _ {T E : Type 0} (stands : T → T → List E → Type 0) (by : E → ℕ
   other_fits list count token_of root id j u is other f = record {
     same = f.same;
     seen = f.seen;
-    told = f.told;
+    lagging = f.lagging;
     owns = fit_more by list count token_of id j u.owns f.owns;
     apart = f.apart;
     made = if_never (λ n. (n ≡ count + 1) × (j ≡ root)) u.made (λ k is'. other ((subst (λ o. IfSome o (λ n. (n ≡ count) × (j ≡ root))) is' f.made).1 ∙ sym is));
@@ -114,7 +114,7 @@ module _ {T E : Type 0} (stands : T → T → List E → Type 0) (by : E → ℕ
   split_keeps id v s r at =
       let mine = r.views id v at in
       kept_with_new s r r.token_of id v v (copied v) at refl refl refl refl mine
-      (record { same = mine.same; seen = mine.seen; told = (v.seen, refl); owns = tt; apart = tt; made = tt })
+      (record { same = mine.same; seen = mine.seen; lagging = (v.seen, refl); owns = tt; apart = tt; made = tt })
       (λ j u _ e. r.views j u e)
 
   -- the split that hands the token's sessions to the new one
@@ -123,9 +123,9 @@ module _ {T E : Type 0} (stands : T → T → List E → Type 0) (by : E → ℕ
       let mine = r.views id v at in
       let new : ℕ = length (set s.views id (disowned v)) in
       kept_with_new s r (token_moved by r.token_of id new) id v (disowned v) (dealt v) at refl refl refl refl
-      (record { same = mine.same; seen = mine.seen; told = mine.told; owns = tt; apart = tt; made = mine.made })
-      (record { same = mine.same; seen = mine.seen; told = (v.seen, refl); owns = fit_moves by r.list r.count r.token_of id new v.owns mine.owns; apart = mine.apart; made = tt })
-      (λ j u other e. let f = r.views j u e in record { same = f.same; seen = f.seen; told = f.told; owns = fit_stays by r.list r.count r.token_of id new j u.owns other f.owns; apart = f.apart; made = f.made })
+      (record { same = mine.same; seen = mine.seen; lagging = mine.lagging; owns = tt; apart = tt; made = mine.made })
+      (record { same = mine.same; seen = mine.seen; lagging = (v.seen, refl); owns = fit_moves by r.list r.count r.token_of id new v.owns mine.owns; apart = mine.apart; made = tt })
+      (λ j u other e. let f = r.views j u e in record { same = f.same; seen = f.seen; lagging = f.lagging; owns = fit_stays by r.list r.count r.token_of id new j u.owns other f.owns; apart = f.apart; made = f.made })
 
   -- join
 
@@ -137,7 +137,7 @@ module _ {T E : Type 0} (stands : T → T → List E → Type 0) (by : E → ℕ
       let moves = fit_moves by list count token_of other id w.owns its.owns in record {
         same = mine.same;
         seen = longest.0;
-        told = longest.1;
+        lagging = longest.1;
         owns = fit_both by list count (token_moved by token_of other id) id v.owns w.owns stays moves;
         apart = apart_both by list count token_of id other v.owns w.owns apart mine.owns its.owns mine.apart its.apart;
         made = mine.made;
@@ -152,7 +152,7 @@ module _ {T E : Type 0} (stands : T → T → List E → Type 0) (by : E → ℕ
       let middle = changed stands by start s s.words s.homes id both in
       let first = state_still stands by start s s.words r.list r.turn id v both at refl refl (λ has. absurd (false≢true (sym idle ∙ has))) r.state in
       let stays : (j : ℕ) (u : View T E) → j ≢ other → get_elem? s.views j ≡ some u → Fit j u
-      = λ j u far e. let f = r.views j u e in record { same = f.same; seen = f.seen; told = f.told; owns = fit_stays by r.list r.count r.token_of other id j u.owns far f.owns; apart = f.apart; made = f.made } in
+      = λ j u far e. let f = r.views j u e in record { same = f.same; seen = f.seen; lagging = f.lagging; owns = fit_stays by r.list r.count r.token_of other id j u.owns far f.owns; apart = f.apart; made = f.made } in
       record {
         list = r.list;
         turn = r.turn;
@@ -162,7 +162,7 @@ module _ {T E : Type 0} (stands : T → T → List E → Type 0) (by : E → ℕ
         words = r.words;
         numbers = r.numbers;
         views = each_after_change Fit middle.views other spent
-            (record { same = tt; seen = (r.list, refl); told = ([], refl); owns = tt; apart = tt; made = tt })
+            (record { same = tt; seen = (r.list, refl); lagging = ([], refl); owns = tt; apart = tt; made = tt })
             (λ j u far e. each_after_change (λ (i : ℕ) (x : View T E). i ≢ other → Fit i x) s.views id both
             (λ _. joined_fits r.list r.count r.token_of r.root id other v w apart (r.views id v at) (r.views other w there))
             (λ i x _ e' far'. stays i x far' e')

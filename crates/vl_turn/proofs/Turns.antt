@@ -29,7 +29,7 @@ module _ {T E : Type 0} (stands : T → T → List E → Type 0) (by : E → ℕ
 
   root_fits : (id : ℕ) (v : View T E) → get_elem? (root start ∷ []) id ≡ some v → Fits by start [] 0 (λ _. 0) 0 id v
   root_fits zero v e = subst (Fits by start [] 0 (λ _. 0) 0 0) (some-injective (root start) v e)
-      (record { same = refl; seen = ([], refl); told = ([], refl); owns = tt; apart = tt; made = (refl, refl) })
+      (record { same = refl; seen = ([], refl); lagging = ([], refl); owns = tt; apart = tt; made = (refl, refl) })
   root_fits (suc id) v e = absurd (some-ne-none v (sym e))
 
   empty : Rule stands by start (opening (0 ∷ 1 ∷ 0 ∷ []) (None ∷ []) (root start))
@@ -66,7 +66,7 @@ module _ {T E : Type 0} (stands : T → T → List E → Type 0) (by : E → ℕ
         ap (λ hs. get_elem? hs 0) f.home,
         kept_still stands by start s r (set s.words 1 1) hs 1 id w
             (ap (λ ws. set ws 1 1) r.words)
-            (record { same = mine.same; seen = begins_itself r.list; told = begins_more m.0.told m.0.seen r.list mine.told mine.seen; owns = mine.owns; apart = mine.apart; made = mine.made })
+            (record { same = mine.same; seen = begins_itself r.list; lagging = begins_more m.0.lagging m.0.seen r.list mine.lagging mine.seen; owns = mine.owns; apart = mine.apart; made = mine.made })
             (inr (refl, record { holder = id; view = w; at = at_changed s.views id m.0 w at; holds = refl; knows = refl; out = ap (λ hs. set hs 0 none) f.home ∙ ap out_slot (sym unclosed); alone = alone })),
         (
           (λ _. record { value = f.value; list = r.list; later = mine.seen; is = refl; owns = owned by r.list r.count r.token_of id m.0.owns mine.owns; meaning = of_start (λ (x : T). stands x f.value r.list) start m.0.start mine.same f.stands }),
@@ -104,7 +104,7 @@ module _ {T E : Type 0} (stands : T → T → List E → Type 0) (by : E → ℕ
         record {
           same = mine.same;
           seen = subst (λ l. IsPrefix (v.seen ++ e ∷ []) (l ++ e ∷ [])) knows (begins_itself (v.seen ++ e ∷ []));
-          told = begins_grown v.told v.seen e mine.told;
+          lagging = begins_grown v.lagging v.seen e mine.lagging;
           owns = subst (λ os. OwnsFit by (list ++ e ∷ []) count token_of id (own_grown e os)) (sym owns) ((fit.0.0, fit.0.1, ap (λ l. l ++ e ∷ []) fit.0.2 ∙ sym (of_this by list e)), tt);
           apart = subst (λ os. AreApart (own_grown e os)) (sym owns) (tt, tt);
           made = mine.made;
@@ -145,7 +145,7 @@ module _ {T E : Type 0} (stands : T → T → List E → Type 0) (by : E → ℕ
               (λ j u other at'. let f = r.views j u at' in record {
                 same = f.same;
                 seen = begins_grown u.seen r.list e f.seen;
-                told = f.told;
+                lagging = f.lagging;
                 owns = fit_grown by r.list r.count r.token_of id j e u.owns mine.1 other f.owns;
                 apart = f.apart;
                 made = f.made;
@@ -171,7 +171,7 @@ module _ {T E : Type 0} (stands : T → T → List E → Type 0) (by : E → ℕ
         tt,
         kept_still stands by start s r (set s.words 1 0) (put_back s.homes m.1) 0 id w
             (ap (λ ws. set ws 1 0) r.words)
-            (record { same = mine.same; seen = mine.seen; told = mine.told; owns = mine.owns; apart = mine.apart; made = mine.made })
+            (record { same = mine.same; seen = mine.seen; lagging = mine.lagging; owns = mine.owns; apart = mine.apart; made = mine.made })
             (inl (
               refl,
               record {
@@ -197,7 +197,7 @@ module _ {T E : Type 0} (stands : T → T → List E → Type 0) (by : E → ℕ
         ap (λ hs. get_elem? hs 0) out,
         kept_still stands by start s r (set s.words 1 1) (set s.homes 0 none) 1 id w
             (ap (λ ws. set ws 1 1) r.words)
-            (record { same = mine.same; seen = mine.seen; told = mine.told; owns = mine.owns; apart = mine.apart; made = mine.made })
+            (record { same = mine.same; seen = mine.seen; lagging = mine.lagging; owns = mine.owns; apart = mine.apart; made = mine.made })
             (inr (refl, held_still stands by start s r (set s.words 1 1) (set s.homes 0 none) r.list id m.0 w at h has h.knows (ap (λ hs. set hs 0 none) out))),
         refl,
       )
@@ -213,7 +213,7 @@ module _ {T E : Type 0} (stands : T → T → List E → Type 0) (by : E → ℕ
         tt,
         kept_still stands by start s r (set s.words 1 1) hs 1 id w
             (ap (λ ws. set ws 1 1) r.words)
-            (record { same = mine.same; seen = mine.seen; told = mine.told; owns = mine.owns; apart = mine.apart; made = mine.made })
+            (record { same = mine.same; seen = mine.seen; lagging = mine.lagging; owns = mine.owns; apart = mine.apart; made = mine.made })
             (inr (refl, held_still stands by start s r (set s.words 1 1) hs r.list id m.0 w at h has h.knows (ap (put_back s.homes) slot ∙ ap (λ hs. set hs 0 (some None)) (h.out ∙ ap out_slot unclosed)))),
         ap (λ c. (closing m.0, rest c)) slot,
       )

@@ -27,7 +27,7 @@ OwnsFit by list count token_of id (own ∷ owns) =
 pub record Fits {T E : Type 0} (by : E → ℕ) (start : T) (list : List E) (count : ℕ) (token_of : ℕ → ℕ) (root id : ℕ) (v : View T E) : Type 0 where
   pub same : IfSome v.start (λ x. x ≡ start)
   pub seen : IsPrefix v.seen list
-  pub told : IsPrefix v.told v.seen
+  pub lagging : IsPrefix v.lagging v.seen
   pub owns : OwnsFit by list count token_of id v.owns
   pub apart : AreApart v.owns
   pub made : IfSome v.made (λ n. (n ≡ count) × (id ≡ root))

@@ -42,7 +42,7 @@ module _ {T E : Type 0} where
   Gives m found m' = m' ≡ (gave m.0, [])
 
   abbrev pub Loads : TokenState T E → ℕ → TokenState T E → Type 0
-  Loads m found m' = (m' ≡ (looked m.0, m.1)) × IsPrefix m.0.told m.0.seen
+  Loads m found m' = (m' ≡ (looked m.0, m.1)) × IsPrefix m.0.lagging m.0.seen
 
   abbrev pub Numbers : TokenState T E → ℕ → TokenState T E → Type 0
   Numbers m found m' = (n : ℕ) → m.0.made ≡ Some n → m' ≡ (numbered n m.0, m.1)

@@ -10,7 +10,7 @@ next_of (Some n) = n
 
 module _ {T E : Type 0} where
   abbrev pub view : Option T → List E → List (Own E) → View T E
-  view start seen owns = record { start = start; seen = seen; told = []; owns = owns; holds = false; made = None; closed = false }
+  view start seen owns = record { start = start; seen = seen; lagging = []; owns = owns; holds = false; made = None; closed = false }
 
   -- the token with which an empty lock is made
   abbrev pub root : T → View T E
@@ -46,7 +46,7 @@ module _ {T E : Type 0} where
 
   -- load: what was joined last is known to begin what was seen
   abbrev pub looked : View T E → View T E
-  looked v = record v { told = [] }
+  looked v = record v { lagging = [] }
 
   -- split
   abbrev pub copied : View T E → View T E
@@ -54,7 +54,7 @@ module _ {T E : Type 0} where
 
   -- join
   abbrev pub joined : View T E → View T E → View T E
-  joined v w = record v { seen = longer v.seen w.seen; told = shorter v.seen w.seen; owns = v.owns ++ w.owns }
+  joined v w = record v { seen = longer v.seen w.seen; lagging = shorter v.seen w.seen; owns = v.owns ++ w.owns }
 
   -- it numbers sessions, and has none itself
   abbrev pub IsRoot : View T E → Type 0

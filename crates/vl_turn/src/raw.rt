@@ -119,7 +119,7 @@ impl<T: Standing> RawLock<T> {
         requires { token.old.table_id ≡ raw_name self.now }
         ensures here { token.new.table_id ≡ token.old.table_id }
         ensures looked { token.new.me ≡ (looked token.old.me.0, token.old.me.1) }
-        ensures told { IsPrefix token.old.me.0.told token.old.me.0.seen }
+        ensures lagging { IsPrefix token.old.me.0.lagging token.old.me.0.seen }
     {
         self.table.shared.load::<Load>(token, ENTRIES);
     }

@@ -58,17 +58,6 @@ fn add_all<R: Wait>(
     token
 }
 
-// Looks at the count, and adds nothing.
-fn look<R: Wait>(rt: &R, lock: &TurnLock<Counter>, token: &mut Token<Counter>) -> u64
-    requires { IsTokenOf (lock_name lock.now) (lock_start lock.now) token.old }
-    ensures { IsTokenOf (lock_name lock.entry.now) (lock_start lock.entry.now) token.new }
-{
-    let mut turn = lock.take(rt, token);
-    let count = turn.value().count;
-    lock.give::<Brand, R>(rt, turn, false);
-    count
-}
-
 #[test]
 fn threads_add_under_the_lock(rt: HostRuntime) -> Result<(), Fail> {
     let (lock, mut root) = TurnLock::new(rt.alloc(), Counter { count: 0 })?;
@@ -90,36 +79,8 @@ fn threads_add_under_the_lock(rt: HostRuntime) -> Result<(), Fail> {
     );
     lock.meet(&mut root, one);
     lock.meet(&mut root, two);
+    let note = lock.split(&mut root)?;
+    lock.meet(&mut root, note);
     assert!(rt; lock.close(&rt, root).count == 40000);
-    Ok(())
-}
-
-#[test]
-fn sessions_meet_by_a_note(rt: HostRuntime) -> Result<(), Fail> {
-    let (lock, mut root) = TurnLock::new(rt.alloc(), Counter { count: 0 })?;
-    let mut one = lock.seat(&mut root)?;
-    let mut two = lock.seat(&mut root)?;
-    add(&rt, &lock, &mut one);
-    add(&rt, &lock, &mut one);
-    let note = lock.split(&mut one)?;
-    let (shared, handle) = (&lock, &rt);
-    let (found, more) = join(
-        &rt,
-        move || -> u64
-            requires { IsTokenOf (lock_name shared.now) (lock_start shared.now) two
-                × IsTokenOf (lock_name shared.now) (lock_start shared.now) note }
-        {
-            shared.meet(&mut two, note);
-            look(handle, shared, &mut two)
-        },
-        move || -> u64
-            requires { IsTokenOf (lock_name shared.now) (lock_start shared.now) one
-                × (length one.me.0.owns ≡ 1) }
-        {
-            add(handle, shared, &mut one);
-            look(handle, shared, &mut one)
-        },
-    );
-    assert!(rt; (found == 2 || found == 3) && more == 3);
     Ok(())
 }

@@ -38,7 +38,7 @@ pub struct View<T, E> {
     /// A beginning of the list.
     pub seen: LinkedList<E>,
     /// Of what was joined last the shorter part. It begins `seen`, which only a load tells.
-    pub told: LinkedList<E>,
+    pub lagging: LinkedList<E>,
     /// The own entries of each session that the token has.
     pub owns: LinkedList<Own<E>>,
     /// Whether it has the turn.

@@ -63,9 +63,6 @@ get_noted own key old new is reads answer are = by_test (is_some (get own key)) 
 
 -- ---- the interval
 
-one_back : (n : ℕ) → n - 0 ≡ n
-one_back n = omega arith
-
 pub last_key-last : (rows : List Row) → last_key rows ≡ option_map (λ (row : Row). row.0) (slice_get rows (length rows - 1))
 last_key-last [] = refl
 last_key-last (row ∷ []) = refl

@@ -15,22 +15,3 @@ pub use key_fail::{KeyFail, check_bound, check_key};
 pub use reads::Reads;
 pub use set_fail::SetFail;
 pub use writes::Writes;
-
-#[cfg(test)]
-mod tests {
-    use super::*;
-    use std::test::Fail;
-
-    #[test]
-    fn writes_and_reads_are_kept(rt: HostRuntime) -> Result<(), Fail> {
-        let mut writes = Writes::new(rt.alloc());
-        let mut reads = Reads::new(rt.alloc());
-        writes.set(b"a", b"1")?;
-        writes.delete(b"b")?;
-        reads.note_get(&writes, b"a")?;
-        reads.note_get(&writes, b"c")?;
-        assert_eq!(rt; writes.len(), 2);
-        assert_eq!(rt; reads.keys().len(), 1);
-        Ok(())
-    }
-}

@@ -3,12 +3,7 @@ use Rattle.std.proofs.Common.{◌≡◌, ℕ, ◌+◌, ◌≤◌, Bool, true, fa
 use Rattle.std.specs.Prelude.{nat_le, if◌then◌else◌}
 use Rattle.std.specs.List.{AllByRecursion}
 use Rattle.vl_model.specs.declared.entry.Entry.{Entry}
-use Rattle.vl_block.specs.Cutting.{begun_length, blocks, blocks_from, entry_length, max_block_bytes}
-
--- lists of entries, end to end
-abbrev pub joined : List (List Entry) → List Entry
-joined [] = []
-joined (es ∷ others) = es ++ joined others
+use Rattle.vl_block.specs.Cutting.{begun_length, blocks, blocks_from, entry_length, max_block_bytes, joined}
 
 one_more : (open_part : List Entry) (e : Entry) (es : List Entry)
     → (open_part ++ e ∷ []) ++ es ≡ open_part ++ e ∷ es

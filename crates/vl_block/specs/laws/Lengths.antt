@@ -1,5 +1,5 @@
 -- How long a table and its parts are.
-use Rattle.std.specs.Prelude.{◌≡◌, ℕ, ◌+◌, ◌*◌, map, List, [], ◌∷◌, ◌++◌, length}
+use Rattle.std.specs.Prelude.{◌≡◌, ℕ, ◌+◌, ◌*◌, List, [], ◌∷◌, ◌++◌, length}
 use Rattle.std.specs.List.{sum_by}
 use Rattle.std.proofs.Common.{refl, arith, length-append}
 use Rattle.std.proofs.lemmas.List.Sums.{sum_by-cons}
@@ -11,13 +11,13 @@ use Rattle.vl_model.specs.declared.entry.Entry.{Entry}
 use Rattle.vl_model.specs.declared.entry.Body.{Body}
 use Rattle.vl_model.specs.declared.entry.Body.TheVariants.{Inline, Gone, Far, Logged}
 use Rattle.vl_block.specs.Cutting.{block_frame_length, blocks, body_length, entry_length, first_key, footer_frame_length, index_frame_length, last_key, points_of, table_length}
-use Rattle.vl_block.specs.declared.laid_point.LaidPoint.{LaidPoint}
+use Rattle.vl_block.specs.declared.points.Point.{Point}
 use Rattle.vl_block.specs.Blocks.{block_body, entries}
 use Rattle.vl_block.specs.Entries.{body_bytes, entry_bytes, key_bytes}
 use Rattle.vl_block.specs.Footer.{footer_body, points}
 use Rattle.vl_block.specs.Index.{index_body, places}
 use Rattle.vl_block.specs.Lists.{counted_bytes, items_bytes}
-use Rattle.vl_block.specs.Bytes.{block_places, blocks_bytes, foot, footer_bytes, footer_place, index_bytes, index_place, said, table_bytes}
+use Rattle.vl_block.specs.Bytes.{block_places, blocks_bytes, foot, footer_bytes, footer_place, index_bytes, index_place, table_bytes}
 
 length-body : (body : Body) → length (body_bytes body) ≡ 1 + body_length body
 length-body (Inline value) = omega arith
@@ -65,7 +65,7 @@ pub length-index : (number : ℕ) (bs : List (List Entry)) → length (index_byt
 length-index number bs =
     omega (arith, length-frame_bytes number (index_place bs) kinds.Index (index_body (block_places 16 bs)), length-places 16 bs)
 
-length-points : (ps : List LaidPoint) → length (items_bytes points (map said ps)) ≡ 12 * length ps
+length-points : (ps : List Point) → length (items_bytes points ps) ≡ 12 * length ps
 length-points [] = refl
 length-points (p ∷ ps) = omega (arith, length-points ps)
 
@@ -75,7 +75,7 @@ length-footer number es bs =
       arith,
       length-frame_bytes number (footer_place bs) kinds.Footer (footer_body (foot es bs)),
       length-points (points_of es),
-      length-append (first_key es ++ key_bytes (last_key es)) (counted_bytes points (map said (points_of es))),
+      length-append (first_key es ++ key_bytes (last_key es)) (counted_bytes points (points_of es)),
       length-append (first_key es) (key_bytes (last_key es)),
     )
 

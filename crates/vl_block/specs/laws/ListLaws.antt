@@ -1,27 +1,11 @@
 -- Items are taken from the left, one after the other, and in one way.
-use Rattle.std.specs.Prelude.{◌≡◌, ◌<◌, ◌≤◌, ◌+◌, ◌^◌, ℕ, List, [], ◌∷◌, ◌++◌, length, get_or, suc, ◌-◌, Option, Some, None, refl}
+use Rattle.std.specs.Prelude.{◌≡◌, ◌<◌, ◌≤◌, ◌+◌, ℕ, List, [], ◌∷◌, ◌++◌, length, get_or, suc, ◌-◌, Some, refl}
 use Rattle.std.specs.List.{AllByRecursion}
 use Rattle.std.proofs.Common.{sym, ap, subst, ◌∙◌, append_assoc, length-append, append-nil, arith}
-use Rattle.std.specs.Prelude.{drop}
-use Rattle.std.proofs.lemmas.List.{drop_at}
-use Rattle.byteorder.specs.Endian.{big_bytes, big_number}
-use Rattle.byteorder.specs.Numbers.{big_number-reads_back, length-bytes_high_first}
-use Rattle.vl_block.specs.Lists.{Spelling, items_bytes, counted_bytes, AreOrdered, AreLawful, IsRun, IsNext}
-
--- Two numbers in as many bytes at the front of the same bytes are one, and the same stands behind them.
-pub one_number : (n a b : ℕ) (x y : List ℕ) → a < 256 ^ n → b < 256 ^ n → big_bytes n a ++ x ≡ big_bytes n b ++ y → (a ≡ b) × (x ≡ y)
-one_number n a b x y a_fits b_fits e = (
-  sym (big_number-reads_back n a x a_fits) ∙ ap (big_number n) e ∙ big_number-reads_back n b y b_fits,
-  sym (drop_at (big_bytes n a) x n (length-bytes_high_first n a)) ∙ ap (drop n) e ∙ drop_at (big_bytes n b) y n (length-bytes_high_first n b),
-)
+use Rattle.vl_frame.specs.Numbers.{one_number}
+use Rattle.vl_block.specs.Lists.{Spelling, items_bytes, counted_bytes, AreOrdered, AreLawful, IsRun, IsNext, last_item}
 
 module _ {Item : Type 0} where
-  -- the last of some items
-  abbrev pub last_item : List Item → Option Item
-  last_item [] = None
-  last_item (a ∷ []) = Some a
-  last_item (a ∷ b ∷ items) = last_item (b ∷ items)
-
   pub last-push : (items : List Item) (a : Item) → last_item (items ++ a ∷ []) ≡ Some a
   last-push [] a = refl
   last-push (b ∷ []) a = refl
@@ -75,9 +59,6 @@ module _ {Item : Type 0} (S : Spelling Item) where
     pub split : all ≡ taken ++ later
     pub each : AllByRecursion S.lawful later
     pub spelled : rest ≡ items_bytes S later
-
-  pub none_taken : (all : List Item) (rest : List ℕ) → AllByRecursion S.lawful all → rest ≡ items_bytes S all → Behind all [] rest
-  none_taken all rest each e = record { later = all; split = refl; each = each; spelled = e }
 
   -- the first of the items that are left
   pub record Next (all taken : List Item) (a : Item) (after : List ℕ) : Type 0 where
@@ -134,15 +115,6 @@ module _ {Item : Type 0} (S : Spelling Item) where
     pub spelled : bytes ≡ items_bytes S taken ++ rest
     pub behind : (all : List Item) → IsRun S bytes total all → Behind all taken rest
 
-  pub begins : (bytes : List ℕ) (total : ℕ) → SoFar bytes total 0 [] bytes
-  begins bytes total = record {
-    counted = refl;
-    each = tt;
-    ordered = tt;
-    spelled = refl;
-    behind = λ all run. none_taken all bytes run.each run.spelled;
-  }
-
   pub goes_on : (bytes : List ℕ) (total count : ℕ) (taken : List Item) (rest : List ℕ) (a : Item) (after : List ℕ)
       → SoFar bytes total count taken rest → 1 ≤ length (S.bytes a) → S.lawful a → rest ≡ S.bytes a ++ after → IsNext S (last_item taken) a
       → SoFar bytes total (count + 1) (taken ++ a ∷ []) after
@@ -171,17 +143,6 @@ module _ {Item : Type 0} (S : Spelling Item) where
       let n = next all taken rest a after (so_far.behind all run) some lawful e in
       apart (ordered-split taken a n.later (subst (AreOrdered S) n.split run.ordered))
 
-  left_over : (later : List Item) (rest : List ℕ) → length later ≡ 0 → rest ≡ items_bytes S later → length rest ≡ 0
-  left_over [] rest none e = ap length e
-  left_over (a ∷ later) rest none e = absurd (omega arith)
-
-  -- bytes are left over
-  pub over : (bytes : List ℕ) (total count : ℕ) (taken : List Item) (rest : List ℕ) → SoFar bytes total count taken rest → count ≡ total
-      → 0 < length rest → (all : List Item) → IsRun S bytes total all → ⊥
-  over bytes total count taken rest so_far eq some all run =
-      let b = so_far.behind all run in
-      omega (arith, left_over b.later rest (omega (arith, so_far.counted, run.counted, ap length b.split, length-append taken b.later)) b.spelled)
-
   pub done : (bytes : List ℕ) (total count : ℕ) (taken : List Item) (rest : List ℕ) → SoFar bytes total count taken rest → count ≡ total
       → length rest ≡ 0 → IsRun S bytes total taken
   done bytes total count taken rest so_far eq empty = record {
@@ -196,21 +157,6 @@ module _ {Item : Type 0} (S : Spelling Item) where
       without (b ∷ rest) front empty = absurd (omega arith)
 
   -- ---- a counted list
-
-  -- what stands behind the count is a run
-  pub run_of : (body rest : List ℕ) (count : ℕ) (items : List Item) → count < 2 ^ 32 → body ≡ big_bytes 4 count ++ rest
-      → AreLawful S items → body ≡ counted_bytes S items → IsRun S rest count items
-  run_of body rest count items fits e lawful spelled =
-      let one = one_number 4 count (length items) rest (items_bytes S items) fits lawful.few (sym e ∙ spelled) in
-      record { counted = sym one.0; each = lawful.each; ordered = lawful.ordered; spelled = one.1 }
-
-  pub lawful_of : (rest : List ℕ) (count : ℕ) (items : List Item) → count < 2 ^ 32 → IsRun S rest count items → AreLawful S items
-  lawful_of rest count items fits run = record { few = omega (arith, run.counted, fits); each = run.each; ordered = run.ordered }
-
-  pub counted_of : (body rest : List ℕ) (count : ℕ) (items : List Item) → body ≡ big_bytes 4 count ++ rest
-      → IsRun S rest count items → body ≡ counted_bytes S items
-  counted_of body rest count items e run =
-      e ∙ ap (λ (r : List ℕ). big_bytes 4 count ++ r) run.spelled ∙ ap (λ (n : ℕ). big_bytes 4 n ++ items_bytes S items) (sym run.counted)
 
   same_items : (items others : List Item) → AllByRecursion S.lawful items → AllByRecursion S.lawful others → length items ≡ length others
       → items_bytes S items ≡ items_bytes S others → items ≡ others

@@ -10,22 +10,18 @@ use Rattle.vl_run.specs.Order.{place_of}
 use Rattle.vl_run.specs.laws.OrderLaws.{entry_total, put-less, put-equal, put-greater}
 use Rattle.vl_run.specs.laws.Lookup.{is_at-tied}
 use Rattle.std.specs.Cmp.{alike_right}
-
--- the first of two that is there
-abbrev pub first_of : Option Entry → Option Entry → Option Entry
-first_of None other = other
-first_of (Some e) other = Some e
+use Rattle.vl_run.specs.Lookups.{or_else}
 
 module _ (key : List ℕ) (version : ℕ) where
-  first_of-cond : (b : Bool) (e : Entry) (x y : Option Entry) → cond b (Some e) (first_of x y) ≡ first_of (cond b (Some e) x) y
-  first_of-cond true e x y = refl
-  first_of-cond false e x y = refl
+  or_else-cond : (b : Bool) (e : Entry) (x y : Option Entry) → cond b (Some e) (or_else x y) ≡ or_else (cond b (Some e) x) y
+  or_else-cond true e x y = refl
+  or_else-cond false e x y = refl
 
-  pub exact-append : (es fs : List Entry) → exact (es ++ fs) key version ≡ first_of (exact es key version) (exact fs key version)
+  pub exact-append : (es fs : List Entry) → exact (es ++ fs) key version ≡ or_else (exact es key version) (exact fs key version)
   exact-append [] fs = refl
   exact-append (e ∷ es) fs =
       ap (cond (is_at key version e) (Some e)) (exact-append es fs)
-      ∙ first_of-cond (is_at key version e) e (exact es key version) (exact fs key version)
+      ∙ or_else-cond (is_at key version e) e (exact es key version) (exact fs key version)
 
   is_at-alike : (e f : Entry) → entry_cmp e f ≡ Equal → is_at key version e ≡ is_at key version f
   is_at-alike e f tied =

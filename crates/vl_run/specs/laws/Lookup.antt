@@ -16,20 +16,7 @@ use Rattle.vl_model.specs.laws.WinnerLaws.{newest_of-assoc, same_key, key_tied}
 use Rattle.vl_model.specs.declared.entry.Entry.{Entry}
 use Rattle.vl_run.specs.Order.{IsInOrder, place_of}
 use Rattle.vl_run.specs.laws.OrderLaws.{entry_total, IsBefore, IsRising, before-all, turned, rising}
-use Rattle.vl_run.specs.Places.{IsParted, first_failing}
-
--- the entry comes before the place of the key and version
-abbrev pub is_ahead : List ℕ → ℕ → Entry → Bool
-is_ahead key version e = is_gt (entry_cmp (place_of key version) e)
-
--- what the first entry at or behind the place is of a key's winner, and of a key and version
-abbrev pub if_of_key : List ℕ → Option Entry → Option Entry
-if_of_key key None = None
-if_of_key key (Some e) = only_if (eq_by_cmp key_cmp key e.key) e
-
-abbrev pub if_exact : List ℕ → ℕ → Option Entry → Option Entry
-if_exact key version None = None
-if_exact key version (Some e) = only_if (is_at key version e) e
+use Rattle.vl_run.specs.Lookups.{IsParted, first_failing, if_exact, if_of_key, is_ahead}
 
 is_gt-greater : (r : Ordering) → is_gt r ≡ true → r ≡ Greater
 is_gt-greater Less is = absurd cc

@@ -11,14 +11,8 @@ use Rattle.vl_model.specs.Keys.{key_cmp}
 use Rattle.vl_model.specs.Entries.{entry_cmp}
 use Rattle.vl_model.specs.Winners.{only_if}
 use Rattle.vl_model.specs.declared.entry.Entry.{Entry}
-use Rattle.vl_run.specs.laws.Lookup.{if_exact, if_of_key, is_ahead}
+use Rattle.vl_run.specs.Lookups.{first_failing, is_ahead, is_below, or_else}
 use Rattle.vl_run.specs.laws.OrderLaws.{IsRising}
-use Rattle.vl_run.specs.Places.{first_failing}
-
--- the first of two that is there
-abbrev pub or_else : {X : Type 0} → Option X → Option X → Option X
-or_else None other = other
-or_else (Some x) other = Some x
 
 module _ {X : Type 0} (p : X → Bool) where
   pub first_failing-append : (xs ys : List X)
@@ -34,10 +28,6 @@ module _ {X : Type 0} (p : X → Bool) where
   pub none_failing : (xs : List X) → AllByRecursion (λ x. p x ≡ true) xs → first_failing p xs ≡ None
   none_failing [] all = refl
   none_failing (x ∷ xs) all = ap (λ b. cond b (first_failing p xs) (Some x)) all.0 ∙ none_failing xs all.1
-
--- the key at the end of a block is below the key that is asked for
-abbrev pub is_below : List ℕ → List ℕ → Bool
-is_below key last = is_gt (key_cmp key last)
 
 greater : (r : Ordering) → is_gt r ≡ true → r ≡ Greater
 greater Less is = absurd cc
@@ -90,40 +80,3 @@ module _ (key : List ℕ) where
       by Less is less above = turned_key e.key (nat_list_cmp_total.trans e.key f.key key is (back_key f.key above))
       by Equal is less above = turned_key e.key (nat_list_cmp_total.congr e.key f.key key is ∙ back_key f.key above)
       by Greater is less above = absurd cc
-
--- ---- of one version
-
-some_same : (e f : Entry) → Some e ≡ Some f → e ≡ f
-some_same e f same = cc
-
-pub right_version : (key : List ℕ) (version : ℕ) (first : Option Entry) (e : Entry) → Some e ≡ if_of_key key first → e.version ≡ version
-    → Some e ≡ if_exact key version first
-right_version key version None e is same = absurd cc
-right_version key version (Some f) e is same = by (eq_by_cmp key_cmp key f.key) is
-  where
-    tested : (m n : ℕ) → m ≡ n → (m == n) ≡ true
-    tested m n same = grind (arith, nat_tests)
-
-    by : (b : Bool) → Some e ≡ only_if b f → Some e ≡ only_if (b && (f.version == version)) f
-    by true is = is ∙ ap (λ t. only_if t f) (sym (tested f.version version (sym (ap (λ (d : Entry). d.version) (some_same e f is)) ∙ same)))
-    by false is = absurd cc
-
-pub wrong_version : (key : List ℕ) (version : ℕ) (first : Option Entry) (e : Entry) → Some e ≡ if_of_key key first → e.version ≢ version
-    → None ≡ if_exact key version first
-wrong_version key version None e is other = refl
-wrong_version key version (Some f) e is other = by (eq_by_cmp key_cmp key f.key) is
-  where
-    tested : (m n : ℕ) → m ≢ n → (m == n) ≡ false
-    tested m n apart = grind (arith, nat_tests, apart)
-
-    by : (b : Bool) → Some e ≡ only_if b f → None ≡ only_if (b && (f.version == version)) f
-    by true is = ap (λ t. only_if t f) (sym (tested f.version version (λ same. other (ap (λ (d : Entry). d.version) (some_same e f is) ∙ same))))
-    by false is = refl
-
-pub no_version : (key : List ℕ) (version : ℕ) (first : Option Entry) → None ≡ if_of_key key first → None ≡ if_exact key version first
-no_version key version None is = refl
-no_version key version (Some f) is = by (eq_by_cmp key_cmp key f.key) is
-  where
-    by : (b : Bool) → None ≡ only_if b f → None ≡ only_if (b && (f.version == version)) f
-    by true is = absurd cc
-    by false is = refl

@@ -4,9 +4,8 @@ use Rattle.std.specs.List.{AllByRecursion}
 use Rattle.std.proofs.Common.{refl, ap, sym, cond, ◌∙◌, append_assoc, length-append, arith}
 use Rattle.std.proofs.lemmas.List.{drop_at, length-drop}
 use Rattle.vl_model.specs.declared.entry.Entry.{Entry}
-use Rattle.vl_run.specs.laws.Lookup.{is_ahead}
-use Rattle.vl_run.specs.laws.LookupLaws.{first_failing-append, none_failing, or_else}
-use Rattle.vl_run.specs.Places.{first_failing}
+use Rattle.vl_run.specs.Lookups.{is_ahead, or_else, first_failing, first_over}
+use Rattle.vl_run.specs.laws.LookupLaws.{first_failing-append, none_failing}
 
 -- ---- in one part
 
@@ -24,32 +23,27 @@ stops_at key version es taken e later is ahead stop =
 -- ---- part by part
 
 module _ (key : List ℕ) (version : ℕ) where
-  -- the first entry of these parts that doesn't come before the place of the key and version
-  abbrev pub first_over : List (List Entry) → Option Entry
-  first_over [] = None
-  first_over (b ∷ bs) = or_else (first_failing (is_ahead key version) b) (first_over bs)
-
   module _ (i : ℕ) (parts front : List (List Entry)) (part : List Entry) (back : List (List Entry))
       (split : parts ≡ front ++ part ∷ back) (counted : length front ≡ i) where
     -- from a part on
-    from_part : first_over (drop i parts) ≡ or_else (first_failing (is_ahead key version) part) (first_over (drop (i + 1) parts))
+    from_part : first_over key version (drop i parts) ≡ or_else (first_failing (is_ahead key version) part) (first_over key version (drop (i + 1) parts))
     from_part =
-        ap (λ l. first_over (drop i l)) split ∙ ap first_over (drop_at front (part ∷ back) i counted)
-        ∙ ap (λ l. or_else (first_failing (is_ahead key version) part) (first_over l))
+        ap (λ l. first_over key version (drop i l)) split ∙ ap (first_over key version) (drop_at front (part ∷ back) i counted)
+        ∙ ap (λ l. or_else (first_failing (is_ahead key version) part) (first_over key version l))
         (sym (ap (drop (i + 1)) (split ∙ sym (append_assoc front (part ∷ []) back))
         ∙ drop_at (front ++ part ∷ []) back (i + 1) (omega (arith, counted, length-append front (part ∷ [])))))
 
     pub goes_behind : (whole : Option Entry) → first_failing (is_ahead key version) part ≡ None
-        → first_over (drop i parts) ≡ whole → first_over (drop (i + 1) parts) ≡ whole
-    goes_behind whole none so_far = sym (from_part ∙ ap (λ o. or_else o (first_over (drop (i + 1) parts))) none) ∙ so_far
+        → first_over key version (drop i parts) ≡ whole → first_over key version (drop (i + 1) parts) ≡ whole
+    goes_behind whole none so_far = sym (from_part ∙ ap (λ o. or_else o (first_over key version (drop (i + 1) parts))) none) ∙ so_far
 
     pub stops_in : (whole : Option Entry) (e : Entry) → first_failing (is_ahead key version) part ≡ Some e
-        → first_over (drop i parts) ≡ whole → first_failing (is_ahead key version) part ≡ whole
-    stops_in whole e some so_far = some ∙ sym (from_part ∙ ap (λ o. or_else o (first_over (drop (i + 1) parts))) some) ∙ so_far
+        → first_over key version (drop i parts) ≡ whole → first_failing (is_ahead key version) part ≡ whole
+    stops_in whole e some so_far = some ∙ sym (from_part ∙ ap (λ o. or_else o (first_over key version (drop (i + 1) parts))) some) ∙ so_far
 
-  pub none_over : (i : ℕ) (parts : List (List Entry)) → length parts ≤ i → first_over (drop i parts) ≡ None
+  pub none_over : (i : ℕ) (parts : List (List Entry)) → length parts ≤ i → first_over key version (drop i parts) ≡ None
   none_over i parts past = by (drop i parts) (omega (arith, past, length-drop i parts))
     where
-      by : (ps : List (List Entry)) → length ps ≡ 0 → first_over ps ≡ None
+      by : (ps : List (List Entry)) → length ps ≡ 0 → first_over key version ps ≡ None
       by [] none = refl
       by (p ∷ ps) none = absurd (omega arith)

@@ -1,7 +1,8 @@
 use Rattle.std.proofs.Common.{◌+◌, sym, subst, arith, List}
 use Rattle.std.proofs.lemmas.Bool.Decides.{nat_tests}
 use Rattle.vl_block.specs.Index.{places}
-use Rattle.vl_block.specs.laws.ListLaws.{SoFar, cut, done, goes_on, last_item}
+use Rattle.vl_block.specs.Lists.{last_item}
+use Rattle.vl_block.specs.laws.ListLaws.{SoFar, cut, done, goes_on}
 use Rattle.vl_block.specs.declared.index.BlockPlace.{BlockPlace}
 use Rattle.vl_block.proofs.Bodies.{next_place, place_is_some}
 use Rattle.vl_block.proofs.index.take_places.Goals as goal

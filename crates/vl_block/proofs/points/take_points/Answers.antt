@@ -1,6 +1,7 @@
 use Rattle.std.proofs.Common.{◌+◌, sym, subst, List}
 use Rattle.vl_block.specs.Footer.{points}
-use Rattle.vl_block.specs.laws.ListLaws.{SoFar, cut, goes_on, last_item, not_next}
+use Rattle.vl_block.specs.Lists.{last_item}
+use Rattle.vl_block.specs.laws.ListLaws.{SoFar, cut, goes_on, not_next}
 use Rattle.vl_block.specs.Lists.{IsNext}
 use Rattle.vl_block.specs.declared.points.Point.{Point}
 use Rattle.vl_block.proofs.Bodies.{point_is_some}

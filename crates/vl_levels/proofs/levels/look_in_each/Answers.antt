@@ -5,7 +5,7 @@ use Rattle.std.proofs.lemmas.Result.{err_from_is_err_and}
 use Rattle.vl_table.specs.declared.table.Table.{Table}
 use Rattle.vl_levels.specs.LookedUp.{LookedUp}
 use Rattle.vl_levels.proofs.LooksOn.{fails_on, looks_on, stops_on}
-use Rattle.vl_levels.specs.laws.Parts.{all_get, split_at, take_next}
+use Rattle.vl_levels.proofs.Parts.{all_get, split_at, take_next}
 use Rattle.vl_levels.specs.Looks.{sought}
 use Rattle.vl_levels.proofs.levels.look_in_each.Goals as goal
 

@@ -6,7 +6,7 @@ use Rattle.vl_table.specs.declared.table.Table.{Table}
 use Rattle.vl_levels.specs.LevelTables.{AreAllApart, AreApart, AreFiles, all_tables}
 use Rattle.vl_levels.specs.LookedUp.{LookedUp}
 use Rattle.vl_levels.proofs.LooksOn.{fails_on, looks_on, stops_on}
-use Rattle.vl_levels.specs.laws.Parts.{all-middle, all_get, tables-next, tables-rest, tables-split}
+use Rattle.vl_levels.proofs.Parts.{all-middle, all_get, tables-next, tables-rest, tables-split}
 use Rattle.vl_levels.specs.Looks.{sought}
 use Rattle.vl_levels.proofs.levels.look_in_levels.Goals as goal
 

@@ -1,5 +1,6 @@
 use Rattle.std.proofs.Common.{◌∙◌, ◌∷◌, [], sym, subst}
-use Rattle.vl_levels.specs.LookedUp.{LookedUp, asks, asks_not}
+use Rattle.vl_levels.specs.LookedUp.{LookedUp}
+use Rattle.vl_levels.proofs.LookSteps.{asks, asks_not}
 use Rattle.vl_levels.specs.declared.look.Look.{Look}
 use Rattle.vl_levels.specs.declared.look.Look.TheVariants.{UpTo, Exactly}
 use Rattle.vl_levels.specs.Looks.{sought}

@@ -1,7 +1,8 @@
 use Rattle.std.proofs.Common.{◌≡◌, ◌<◌, ◌∙◌, ◌∷◌, [], sym, subst, arith, length}
 use Rattle.vl_table.specs.declared.table.Table.{Table}
-use Rattle.vl_levels.specs.laws.Parts.{all_get}
-use Rattle.vl_levels.specs.LookedUp.{LookedUp, level_asks, level_past}
+use Rattle.vl_levels.proofs.Parts.{all_get}
+use Rattle.vl_levels.specs.LookedUp.{LookedUp}
+use Rattle.vl_levels.proofs.LookSteps.{level_asks, level_past}
 use Rattle.vl_levels.specs.Looks.{sought}
 use Rattle.vl_levels.proofs.lookup.look_in_level.Goals as goal
 

@@ -1,4 +1,4 @@
-use Rattle.vl_memtable.specs.laws.Laws.{doubles-with}
+use Rattle.vl_memtable.proofs.RunLists.{doubles-with}
 use Rattle.vl_memtable.proofs.laws.runs_double.Goals as goal
 
 pub returns : goal.returns

@@ -1,8 +1,8 @@
 use Rattle.std.proofs.Common.{take, sym, ap, ◌∙◌}
 use Rattle.vl_model.specs.Winners.{exact}
-use Rattle.vl_run.specs.laws.Exact.{first_of}
+use Rattle.vl_run.specs.Lookups.{or_else}
 use Rattle.vl_memtable.specs.Contents.{all_of}
-use Rattle.vl_memtable.specs.laws.Laws.{take_next, exact-push, exact-found}
+use Rattle.vl_memtable.proofs.RunLists.{take_next, exact-push, exact-found}
 use Rattle.vl_memtable.proofs.runs.exact.Goals as goal
 
 pub returns-in-Some : goal.returns-in-Some
@@ -18,5 +18,5 @@ loop-run-preserved c =
     let run = c.run-item.result in
     ap (λ l. exact (all_of l) key version) (take_next runs i run c.loop-run-test.true c.run-item.is)
     ∙ exact-push key version (take i runs) run
-    ∙ ap (λ x. first_of x (exact run key version)) c.loop-run.invariant
+    ∙ ap (λ x. or_else x (exact run key version)) c.loop-run.invariant
     ∙ sym c.in_default.ensures

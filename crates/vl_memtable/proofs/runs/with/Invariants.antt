@@ -1,5 +1,5 @@
 use Rattle.std.proofs.Common.{◌≤◌, ◌-◌, length, drop}
-use Rattle.vl_memtable.specs.laws.Laws.{Joins}
+use Rattle.vl_memtable.proofs.RunLists.{Joins}
 use Rattle.vl_memtable.proofs.runs.with.Given as goal
 
 abbrev pub invariant-joining : goal.invariant-joining

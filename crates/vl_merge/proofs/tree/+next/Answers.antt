@@ -1,7 +1,7 @@
 use Rattle.std.proofs.Common.{◌≤◌, IfErr, MatchResult, ◌+◌, ap, sym, ◌∙◌, subst}
 use Rattle.std.proofs.lemmas.Result.{IfOk-weaker}
 use Rattle.vl_model.specs.Cursors.{Spends, HasRisen}
-use Rattle.vl_merge.specs.Told.{pair_of}
+use Rattle.vl_merge.specs.MergeOf.{pair_of}
 use Rattle.vl_merge.specs.Trees.{tree_left, tree_budget, tree_faults, half_left, half_budget}
 use Rattle.vl_merge.proofs.TreeLaws.{source_given, gives_same, gives_older, gives_newer, halves}
 use Rattle.vl_merge.proofs.tree.+next.Goals as goal
@@ -40,14 +40,14 @@ Tree::next-returns-in-Two-clause-failed g t c =
     (halves (λ newer older. faults newer + faults older) c.deref_mut.result.now c.deref_mut-in-Two.result.now c.in-Two.newer.value c.in-Two.older.value (faults c.args.self.now)
     c.deref_mut.ensures.value c.deref_mut-in-Two.ensures.value (ap faults c.in-Two.is)) c.next_of_two.ensures.failed
 
-pub next_of_two-returns-then-is_older_first-clause-given : goal.next_of_two-returns-then-is_older_first-clause-given
-next_of_two-returns-then-is_older_first-clause-given g t c =
+pub next_of_two-returns-then-takes_older-clause-given : goal.next_of_two-returns-then-takes_older-clause-given
+next_of_two-returns-then-takes_older-clause-given g t c =
     gives_older c.args.way _ _ (tree_left (λ k. g.C.Cursor.left k) c.args.way c.look.new.half) (tree_left (λ k. g.C.Cursor.left k) c.args.way c.look-2.new.half) c.look.new.head c.look-2.new.head
     c.look.ensures.kept c.look-2.ensures.kept c.in_ok-look.ensures.read c.in_ok-look-2.ensures.read c.take.result c.take.new.self
-    (sym c.is_older_first.ensures ∙ c.if-is_older_first.true) c.take.ensures.taken c.take.ensures.gives
+    (sym c.takes_older.ensures ∙ c.if-takes_older.true) c.take.ensures.taken c.take.ensures.gives
 
-pub next_of_two-returns-else-is_older_first-clause-given : goal.next_of_two-returns-else-is_older_first-clause-given
-next_of_two-returns-else-is_older_first-clause-given g t c =
+pub next_of_two-returns-else-takes_older-clause-given : goal.next_of_two-returns-else-takes_older-clause-given
+next_of_two-returns-else-takes_older-clause-given g t c =
     gives_newer c.args.way _ _ (tree_left (λ k. g.C.Cursor.left k) c.args.way c.look.new.half) (tree_left (λ k. g.C.Cursor.left k) c.args.way c.look-2.new.half) c.look.new.head c.look-2.new.head
-    c.look.ensures.kept c.look-2.ensures.kept c.in_ok-look.ensures.read c.in_ok-look-2.ensures.read c.take-else-is_older_first.result c.take-else-is_older_first.new.self
-    (sym c.is_older_first.ensures ∙ c.if-is_older_first.false) c.take-else-is_older_first.ensures.taken c.take-else-is_older_first.ensures.gives
+    c.look.ensures.kept c.look-2.ensures.kept c.in_ok-look.ensures.read c.in_ok-look-2.ensures.read c.take-else-takes_older.result c.take-else-takes_older.new.self
+    (sym c.takes_older.ensures ∙ c.if-takes_older.false) c.take-else-takes_older.ensures.taken c.take-else-takes_older.ensures.gives

@@ -1,5 +1,5 @@
 use Rattle.std.proofs.Common.{◌≡◌, ◌+◌, length}
-use Rattle.vl_oracle.specs.Live.{free_from}
+use Rattle.vl_oracle.specs.LiveTickets.{free_from}
 use Rattle.vl_oracle.proofs.oracle.free_ticket.Given as goal
 
 -- the first tickets go up without a gap

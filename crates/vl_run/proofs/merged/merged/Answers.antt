@@ -1,6 +1,6 @@
 use Rattle.std.proofs.Common.{◌≡◌, ◌+◌, ◌++◌, ◌∷◌, [], drop, sym, ap, ◌∙◌, subst, arith}
 use Rattle.std.proofs.lemmas.List.{take_rest}
-use Rattle.vl_run.specs.laws.Merged.{Merges, drop_at, takes_newer, takes_both, takes_older, ends_newer, ends_older}
+use Rattle.vl_run.proofs.MergeSteps.{Merges, drop_at, takes_newer, takes_both, takes_older, ends_newer, ends_older}
 use Rattle.vl_run.proofs.merged.merged.Goals as goal
 use Rattle.vl_run.proofs.merged.merged.Goals.{then-steps-test+else-j-older, else-steps-test}
 
@@ -19,7 +19,7 @@ steps-preserved-in-Less c =
       merges =
           subst (λ l. Merges newer older l (c.steps.i + 1) c.steps.j)
           (sym (c.in_ok-push-in-Less.ensures.items ∙ ap (λ e. both ++ e ∷ []) c.in_ok-share-in-Less.ensures))
-          (takes_newer newer older both c.steps.i c.steps.j a b c.requires.newer c.requires.older at_a at_b c.steps.invariant.merges (sym c.order.ensures ∙ c.in-Less.is));
+          (takes_newer newer older both c.steps.i c.steps.j a b c.requires.newer c.requires.older at_a at_b c.steps.invariant.merges (sym c.entry_order.ensures ∙ c.in-Less.is));
     }
 
 pub steps-preserved-in-Equal : goal.steps-preserved-in-Equal
@@ -37,7 +37,7 @@ steps-preserved-in-Equal c =
       merges =
           subst (λ l. Merges newer older l (c.steps.i + 1) (c.steps.j + 1))
           (sym (c.in_ok-push-in-Equal.ensures.items ∙ ap (λ e. both ++ e ∷ []) c.in_ok-share-in-Equal.ensures))
-          (takes_both newer older both c.steps.i c.steps.j a b c.requires.newer c.requires.older at_a at_b c.steps.invariant.merges (sym c.order.ensures ∙ c.in-Equal.is));
+          (takes_both newer older both c.steps.i c.steps.j a b c.requires.newer c.requires.older at_a at_b c.steps.invariant.merges (sym c.entry_order.ensures ∙ c.in-Equal.is));
     }
 
 pub steps-preserved : goal.steps-preserved
@@ -55,7 +55,7 @@ steps-preserved c =
       merges =
           subst (λ l. Merges newer older l c.steps.i (c.steps.j + 1))
           (sym (c.in_ok-push-in-Greater.ensures.items ∙ ap (λ e. both ++ e ∷ []) c.in_ok-share-in-Greater.ensures))
-          (takes_older newer older both c.steps.i c.steps.j a b c.requires.newer c.requires.older at_a at_b c.steps.invariant.merges (sym c.order.ensures ∙ c.in-Greater.is));
+          (takes_older newer older both c.steps.i c.steps.j a b c.requires.newer c.requires.older at_a at_b c.steps.invariant.merges (sym c.entry_order.ensures ∙ c.in-Greater.is));
     }
 
 pub returns : goal.returns

@@ -1,5 +1,5 @@
 use Rattle.std.proofs.Common.{◌≤◌, ◌+◌, ◌-◌, length}
-use Rattle.vl_run.specs.laws.Merged.{Merges}
+use Rattle.vl_run.proofs.MergeSteps.{Merges}
 use Rattle.vl_run.proofs.merged.merged.Given as goal
 
 abbrev pub invariant-steps : goal.invariant-steps

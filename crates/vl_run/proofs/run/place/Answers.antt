@@ -1,9 +1,10 @@
 use Rattle.std.proofs.Common.{rules}
 use Rattle.std.proofs.lemmas.List.Sorted.{IsPartitionPoint-from_clause}
 use Rattle.vl_model.specs.declared.entry.Entry.{Entry}
-use Rattle.vl_run.specs.laws.Lookup.{is_ahead, rising-parted}
+use Rattle.vl_run.specs.laws.Lookup.{rising-parted}
+use Rattle.vl_run.specs.Lookups.{is_ahead}
 use Rattle.vl_run.specs.laws.OrderLaws.{rising}
-use Rattle.vl_run.specs.Places.{parted_at, point-prefix}
+use Rattle.vl_run.specs.laws.Places.{parted_at, point-prefix}
 use Rattle.vl_run.proofs.run.place.Goals as goal
 
 pub returns : goal.returns

@@ -1,5 +1,5 @@
 use Rattle.std.proofs.Common.{subst, arith}
-use Rattle.vl_table.specs.Answers.{and_then, gives}
+use Rattle.vl_table.proofs.AnswerSteps.{and_then, gives}
 use Rattle.vl_table.proofs.Headers.{header_more}
 use Rattle.vl_table.specs.Begun.{HasHeader}
 use Rattle.vl_table.proofs.beginning.read_begin.Goals as goal

@@ -5,7 +5,7 @@ use Rattle.vl_model.specs.declared.entry.Entry.{Entry}
 use Rattle.vl_table.specs.Answers.{Answers}
 use Rattle.vl_table.specs.Buffers.{NoBlock}
 use Rattle.vl_table.specs.declared.fault.TableFault.{TableFault}
-use Rattle.vl_table.specs.laws.BlockRead.{block_entries}
+use Rattle.vl_table.specs.BlockEntries.{block_entries}
 use Rattle.vl_table.proofs.BlockSteps.{load_fails, reads_all, reads_too_many, reads_without_room}
 use Rattle.vl_table.proofs.block.read_entries.Goals as goal
 

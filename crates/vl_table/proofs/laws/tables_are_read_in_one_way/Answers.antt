@@ -1,4 +1,4 @@
-use Rattle.vl_table.specs.Opened.{not_damaged, one_read}
+use Rattle.vl_table.proofs.TrueTables.{not_damaged, one_read}
 use Rattle.vl_table.proofs.laws.tables_are_read_in_one_way.Goals as goal
 
 pub returns-clause-one : goal.returns-clause-one

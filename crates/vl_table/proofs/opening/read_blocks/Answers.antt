@@ -3,7 +3,7 @@ use Rattle.vl_block.specs.Index.{SpellsIndex}
 use Rattle.vl_frame.specs.laws.Laws.{one_frame}
 use Rattle.vl_frame.specs.declared.kinds.FileKind.TheVariants as files
 use Rattle.vl_frame.specs.declared.kinds.FrameKind.TheVariants as kinds
-use Rattle.vl_table.specs.Answers.{and_then, refuses}
+use Rattle.vl_table.proofs.AnswerSteps.{and_then, refuses}
 use Rattle.vl_table.proofs.opening.read_blocks.Goals as goal
 
 pub returns : goal.returns

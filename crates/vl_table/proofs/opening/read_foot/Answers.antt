@@ -1,5 +1,5 @@
 use Rattle.std.proofs.Common.{◌≡◌, ◌∙◌, sym, refl, subst, arith, List, ℕ}
-use Rattle.vl_table.specs.Answers.{and_then, refuses}
+use Rattle.vl_table.proofs.AnswerSteps.{and_then, refuses}
 use Rattle.vl_table.specs.Opening.{FooterIn}
 use Rattle.vl_table.proofs.Parts.{whole_rest}
 use Rattle.vl_table.proofs.opening.read_foot.Goals as goal

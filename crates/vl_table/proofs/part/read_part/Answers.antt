@@ -1,5 +1,5 @@
 use Rattle.std.proofs.Common.{◌≡◌, ◌<◌, ◌≤◌, ◌+◌, ◌∙◌, ap, sym, refl, length, arith}
-use Rattle.vl_table.specs.Answers.{and_then, refuses, gives}
+use Rattle.vl_table.proofs.AnswerSteps.{and_then, refuses, gives}
 use Rattle.vl_table.proofs.Parts.{cut_from, lies_inside, spelled_of, stands, fills, length-cut}
 use Rattle.vl_table.proofs.part.read_part.Goals as goal
 use Rattle.vl_table.proofs.part.read_part.Goals.{then-place-len-via-then-place-len, then-place-len-via-else-place-len+then-size-len}

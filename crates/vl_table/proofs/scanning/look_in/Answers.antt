@@ -1,7 +1,7 @@
 use Rattle.std.proofs.Common.{◌≡◌, ◌++◌, ◌∷◌, [], sym, ◌∙◌, subst, true, Option}
 use Rattle.std.specs.Prelude.{IfOk}
 use Rattle.vl_model.specs.declared.entry.Entry.{Entry}
-use Rattle.vl_run.specs.laws.Lookup.{is_ahead}
+use Rattle.vl_run.specs.Lookups.{is_ahead}
 use Rattle.vl_run.specs.laws.OrderLaws.{all-append}
 use Rattle.vl_block.specs.laws.BlockLaws.{entry_is_some}
 use Rattle.vl_block.specs.Blocks.{entries}

@@ -1,7 +1,7 @@
 use Rattle.std.proofs.Common.{List, length}
 use Rattle.vl_model.specs.declared.entry.Entry.{Entry}
 use Rattle.vl_block.specs.Blocks.{SpellsBlock}
-use Rattle.vl_table.specs.Scans.{Passed}
+use Rattle.vl_table.proofs.ScanSteps.{Passed}
 use Rattle.vl_table.proofs.scanning.look_in.Given as goal
 
 abbrev pub invariant-entries : goal.invariant-entries

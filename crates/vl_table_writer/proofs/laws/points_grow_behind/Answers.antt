@@ -1,4 +1,4 @@
-use Rattle.vl_table_writer.specs.laws.Points.{points_of-push}
+use Rattle.vl_table_writer.proofs.PointLaws.{points_of-push}
 use Rattle.vl_table_writer.proofs.laws.points_grow_behind.Goals as goal
 
 pub returns : goal.returns

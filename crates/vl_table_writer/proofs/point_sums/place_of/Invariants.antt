@@ -1,13 +1,11 @@
-use Rattle.std.proofs.Common.{◌≡◌, ◌≤◌, ◌-◌, map, List, length}
-use Rattle.vl_block.specs.declared.laid_point.LaidPoint.{LaidPoint}
-use Rattle.vl_block.specs.Bytes.{said}
-use Rattle.vl_table_writer.specs.laws.Points.{Passes}
+use Rattle.std.proofs.Common.{◌≤◌, ◌-◌, length}
+use Rattle.vl_table_writer.specs.Stops.{Passes}
 use Rattle.vl_table_writer.proofs.point_sums.place_of.Given as goal
 
 abbrev pub invariant-points : goal.invariant-points
 invariant-points l = record {
   within : l.at ≤ length l.points;
-  passes : (ps : List LaidPoint) → l.points ≡ map said ps → Passes l.segment ps l.at;
+  passes : Passes l.segment l.points l.at;
 }
 
 abbrev pub decreases-points : goal.decreases-points

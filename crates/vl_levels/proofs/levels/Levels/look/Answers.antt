@@ -4,10 +4,10 @@ use Rattle.std.proofs.lemmas.Result.{err_from_is_err_and}
 use Rattle.vl_table.specs.declared.table.Table.{Table}
 use Rattle.vl_levels.specs.LevelTables.{AreAllApart, AreFiles, all_tables}
 use Rattle.vl_levels.specs.LevelsLooked.{AreInOrder, tables_of}
-use Rattle.vl_levels.specs.LookedUp.{asks_none}
-use Rattle.vl_levels.specs.Looks.{better-none}
+use Rattle.vl_levels.proofs.LookSteps.{asks_none}
+use Rattle.vl_levels.proofs.LookLaws.{better-none}
 use Rattle.vl_levels.proofs.LooksOn.{Looked, fails_on, looks_on, stops_on}
-use Rattle.vl_levels.specs.laws.Parts.{all-back, all-middle}
+use Rattle.vl_levels.proofs.Parts.{all-back, all-middle}
 use Rattle.vl_levels.proofs.levels.Levels.look.Goals as goal
 
 pub returns-in_err-newer-clause-kept : goal.returns-in_err-newer-clause-kept

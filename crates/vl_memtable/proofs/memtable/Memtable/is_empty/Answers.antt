@@ -1,6 +1,6 @@
 use Rattle.std.proofs.Common.{◌==◌, length, ap, ◌∙◌}
 use Rattle.vl_memtable.specs.Contents.{Contents}
-use Rattle.vl_memtable.specs.laws.Laws.{is_empty-runs}
+use Rattle.vl_memtable.proofs.RunLists.{is_empty-runs}
 use Rattle.vl_memtable.proofs.memtable.Memtable.is_empty.Goals as goal
 
 pub returns : goal.returns

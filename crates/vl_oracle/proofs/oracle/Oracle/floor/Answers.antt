@@ -1,5 +1,5 @@
 use Rattle.std.proofs.Common.{ap, ◌∙◌}
-use Rattle.vl_oracle.specs.Live.{floor_of}
+use Rattle.vl_oracle.specs.LiveTickets.{floor_of}
 use Rattle.vl_oracle.proofs.Tickets.{floor-least}
 use Rattle.vl_oracle.proofs.oracle.Oracle.floor.Goals as goal
 

@@ -1,7 +1,8 @@
 use Rattle.std.proofs.Common.{◌≡◌, true, false, sym, ap, ◌∙◌}
 use Rattle.std.specs.Str.{bytes_eq}
 use Rattle.std.specs.Option.{option_copied}
-use Rattle.vl_run.specs.laws.Lookup.{if_exact, found_exact, of_version, of_other_version, of_other_key}
+use Rattle.vl_run.specs.laws.Lookup.{found_exact, of_version, of_other_version, of_other_key}
+use Rattle.vl_run.specs.Lookups.{if_exact}
 use Rattle.vl_run.proofs.run.Run.exact.Goals as goal
 use Rattle.vl_run.proofs.run.Run.exact.Goals.{in_default-via-in-Some+then-eq+else-entry-version, in_default-via-in-Some+else-eq, in_default-via-in_default}
 

@@ -1,7 +1,8 @@
 use Rattle.std.proofs.Common.{◌≡◌, true, false, sym, ap, ◌∙◌}
 use Rattle.std.specs.Str.{bytes_eq}
 use Rattle.std.specs.Option.{option_copied}
-use Rattle.vl_run.specs.laws.Lookup.{if_of_key, found_winner, of_key}
+use Rattle.vl_run.specs.laws.Lookup.{found_winner, of_key}
+use Rattle.vl_run.specs.Lookups.{if_of_key}
 use Rattle.vl_run.proofs.run.Run.find.Goals as goal
 use Rattle.vl_run.proofs.run.Run.find.Goals.{in_default-via-in-Some+else-eq, in_default-via-in_default}
 

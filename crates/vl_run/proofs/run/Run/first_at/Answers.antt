@@ -1,6 +1,6 @@
 use Rattle.std.proofs.Common.{ap, ◌∙◌, slice_get}
-use Rattle.vl_run.specs.laws.Lookup.{is_ahead}
-use Rattle.vl_run.specs.Places.{first_failing, slice_get-lent, slice_get-prefix}
+use Rattle.vl_run.specs.Lookups.{is_ahead, first_failing}
+use Rattle.vl_run.specs.laws.Places.{slice_get-lent, slice_get-prefix}
 use Rattle.vl_run.proofs.run.Run.first_at.Goals as goal
 
 pub returns-clause-first : goal.returns-clause-first

@@ -1,7 +1,7 @@
 use Rattle.std.proofs.Common.{◌≡◌, ◌∙◌, ap, sym, refl}
 use Rattle.vl_frame.specs.declared.kinds.FrameKind.TheVariants as kinds
-use Rattle.vl_table.specs.Answers.{and_then, gives, refuses}
-use Rattle.vl_table.specs.Buffers.{has_asked, has_read, not_read}
+use Rattle.vl_table.proofs.AnswerSteps.{and_then, gives, refuses}
+use Rattle.vl_table.proofs.BufferSteps.{has_asked, has_read, not_read}
 use Rattle.vl_table.specs.declared.block_buffer.BlockBuffer.{BlockBuffer}
 use Rattle.vl_table.proofs.block_buffer.BlockBuffer.load.Goals as goal
 

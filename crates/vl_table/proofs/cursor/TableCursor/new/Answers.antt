@@ -2,7 +2,8 @@ use Rattle.std.proofs.Common.{◌∙◌, ap, List, [], Some, length, arith}
 use Rattle.vl_model.specs.declared.entry.Entry.{Entry}
 use Rattle.vl_block.specs.declared.index.BlockPlace.{BlockPlace}
 use Rattle.vl_block.specs.Bytes.{table_bytes}
-use Rattle.vl_table.specs.BlocksRead.{blocks_entries, on_way, table_entries}
+use Rattle.vl_table.specs.BlocksRead.{blocks_entries, on_way}
+use Rattle.vl_table.proofs.WayEntries.{table_entries}
 use Rattle.vl_table.proofs.CursorSteps.{budget-on_way, left_from}
 use Rattle.vl_table.proofs.cursor.TableCursor.new.Goals as goal
 

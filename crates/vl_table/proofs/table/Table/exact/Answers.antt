@@ -4,11 +4,11 @@ use Rattle.std.proofs.lemmas.Result.{err_from_is_err_and}
 use Rattle.vl_model.specs.Winners.{exact}
 use Rattle.vl_model.specs.declared.entry.Entry.{Entry}
 use Rattle.vl_block.specs.Cutting.{blocks}
-use Rattle.vl_table.specs.Answers.{Answers, and_then, fails, gives}
-use Rattle.vl_run.specs.laws.PartLaws.{first_over}
-use Rattle.vl_table.specs.laws.Lookups.{exact-blocks}
+use Rattle.vl_table.specs.Answers.{Answers}
+use Rattle.vl_table.proofs.AnswerSteps.{and_then, fails, gives}
+use Rattle.vl_run.specs.Lookups.{first_over, if_exact}
+use Rattle.vl_table.proofs.Lookups.{exact-blocks}
 use Rattle.vl_table.specs.Opened.{IsOf}
-use Rattle.vl_run.specs.laws.Lookup.{if_exact}
 use Rattle.vl_table.specs.Meets.{LooksIn}
 use Rattle.vl_table.specs.Seeks.{IsBadBlock}
 use Rattle.vl_table.specs.declared.fault.TableFault.{TableFault}

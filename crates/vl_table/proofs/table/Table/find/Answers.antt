@@ -1,6 +1,6 @@
 use Rattle.std.proofs.Common.{◌∙◌}
-use Rattle.vl_table.specs.Answers.{weaker}
-use Rattle.vl_table.specs.laws.Lookups.{found-blocks}
+use Rattle.vl_table.proofs.AnswerSteps.{weaker}
+use Rattle.vl_table.proofs.Lookups.{found-blocks}
 use Rattle.vl_table.proofs.table.Table.find.Goals as goal
 
 pub returns-clause-answers : goal.returns-clause-answers

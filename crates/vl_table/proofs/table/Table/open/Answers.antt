@@ -1,4 +1,4 @@
-use Rattle.vl_table.specs.Opened.{opens_as}
+use Rattle.vl_table.proofs.TrueTables.{opens_as}
 use Rattle.vl_table.proofs.table.Table.open.Goals as goal
 
 pub returns-clause-opens : goal.returns-clause-opens

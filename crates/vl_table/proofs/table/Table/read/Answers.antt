@@ -2,7 +2,8 @@ use Rattle.std.proofs.Common.{◌≡◌, ◌∙◌, refl, ap, sym, subst}
 use Rattle.std.specs.Prelude.{Result, Err}
 use Rattle.std.proofs.lemmas.Result.{err_from_is_err_and}
 use Rattle.vl_block.specs.Footer.{foot_of}
-use Rattle.vl_table.specs.Answers.{Answers, fails, gives, and_then}
+use Rattle.vl_table.specs.Answers.{Answers}
+use Rattle.vl_table.proofs.AnswerSteps.{fails, gives, and_then}
 use Rattle.vl_table.specs.Opening.{IsDamaged, IsRead}
 use Rattle.vl_table.proofs.OpeningSteps.{behind_footer, footer_fails, is_read}
 use Rattle.vl_table.specs.declared.fault.TableFault.{TableFault}

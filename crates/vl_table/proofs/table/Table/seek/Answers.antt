@@ -4,12 +4,11 @@ use Rattle.std.proofs.lemmas.Result.{err_from_is_err_and}
 use Rattle.vl_model.specs.declared.entry.Entry.{Entry}
 use Rattle.vl_block.specs.declared.index.BlockPlace.{BlockPlace}
 use Rattle.std.specs.List.{prefix_len}
-use Rattle.vl_run.specs.laws.Lookup.{if_of_key}
-use Rattle.vl_run.specs.Places.{IsParted}
+use Rattle.vl_run.specs.Lookups.{if_of_key, is_below, IsParted}
 use Rattle.vl_table.specs.Answers.{Answers}
-use Rattle.vl_run.specs.laws.LookupLaws.{is_below}
 use Rattle.vl_table.specs.Meets.{LooksIn}
-use Rattle.vl_table.specs.Seeks.{Finds, IsBadBlock, finds_none, found_here, load_fails, looks_here, looks_none, moves_on, no_memory, seeks}
+use Rattle.vl_table.specs.Seeks.{IsBadBlock}
+use Rattle.vl_table.proofs.SeekSteps.{Finds, finds_none, found_here, load_fails, looks_here, looks_none, moves_on, look_no_memory, seeks}
 use Rattle.vl_table.specs.declared.fault.TableFault.{TableFault}
 use Rattle.vl_table.proofs.table.Table.seek.Goals as goal
 
@@ -39,7 +38,7 @@ returns-in_err-look_in-clause-answers g c = λ files kept file.
     let p = err_from_is_err_and c.from_residual-in_err-look_in.result c.from_residual-in_err-look_in.ensures.1 in
     subst (λ (r : Result (Option Entry) TableFault). Answers (g.R.Reader.faults c.args.reader.now) (g.R.Reader.faults c.load.new.reader) c.args.self.now.number (g.H.HeldFile.bytes c.args.self.now.held)
     (Finds g.H.HeldFile.bytes c.args.self.now c.args.key.now c.args.version) (IsBadBlock c.args.self.now) r) (sym p.1)
-    (no_memory g.H.HeldFile.bytes c.args.self.now c.args.key.now c.args.version c.loop-at.at c.index.result.now (let less = c.loop-at-test.true in omega arith) c.index.ensures _ _ _ c.load.new.self p.0 so.steady p.2
+    (look_no_memory g.H.HeldFile.bytes c.args.self.now c.args.key.now c.args.version c.loop-at.at c.index.result.now (let less = c.loop-at-test.true in omega arith) c.index.ensures _ _ _ c.load.new.self p.0 so.steady p.2
     (c.in_ok-load.ensures.answers files so.kept file))
 
 pub returns-in-Found-clause-kept : goal.returns-in-Found-clause-kept

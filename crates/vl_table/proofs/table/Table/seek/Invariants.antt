@@ -1,6 +1,6 @@
 use Rattle.std.proofs.Common.{◌≡◌, ℕ, List, Option}
 use Rattle.vl_table.specs.Buffers.{IsKept}
-use Rattle.vl_table.specs.Seeks.{Seeking}
+use Rattle.vl_table.proofs.SeekSteps.{Seeking}
 use Rattle.vl_table.proofs.table.Table.seek.Given as goal
 
 abbrev pub invariant-loop-at : goal.invariant-loop-at

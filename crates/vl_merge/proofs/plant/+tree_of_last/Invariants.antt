@@ -1,4 +1,0 @@
-use Rattle.vl_merge.proofs.plant.+tree_of_last.Given as goal
-
-abbrev pub decreases-tree_of_last : goal.decreases-tree_of_last
-decreases-tree_of_last g l = l.count

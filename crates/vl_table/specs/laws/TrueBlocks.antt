@@ -1,0 +1,64 @@
+-- The blocks of a true table stand where its index says.
+use Rattle.std.specs.Prelude.{◌≡◌, ◌<◌, ◌^◌, ℕ, List, [], ◌∷◌, ◌++◌, length, drop, get_or, Option}
+use Rattle.std.specs.List.{AllByRecursion}
+use Rattle.std.proofs.Common.{refl, ap, sym, subst, ◌∙◌, arith}
+use Rattle.std.proofs.lemmas.List.{take-append-drop}
+use Rattle.vl_frame.specs.laws.Laws.{length-frame_bytes, one_frame}
+use Rattle.vl_frame.specs.declared.kinds.FileKind.TheVariants as files
+use Rattle.vl_frame.specs.declared.kinds.FrameKind.TheVariants as kinds
+use Rattle.vl_model.specs.declared.entry.Entry.{Entry}
+use Rattle.vl_block.specs.Cutting.{blocks}
+use Rattle.vl_block.specs.Blocks.{IsBlock, SpellsBlock, block_body}
+use Rattle.vl_block.specs.laws.BlockLaws.{one_block}
+use Rattle.vl_block.specs.declared.index.BlockPlace.{BlockPlace}
+use Rattle.vl_table.specs.Buffers.{HasBlock, StandsBlock}
+use Rattle.vl_block.specs.Bytes.{table_bytes, IsTable}
+use Rattle.vl_block.specs.laws.Lengths.{length-block}
+use Rattle.vl_table.specs.Opened.{IsOf}
+use Rattle.vl_table.specs.laws.TablePlaces.{BlockAt, block_at, block_bytes}
+use Rattle.vl_block.specs.laws.Places.{length-block_places}
+use Rattle.vl_table.specs.declared.block_buffer.BlockBuffer.{BlockBuffer}
+use Rattle.vl_table.specs.declared.table.Table.{Table}
+use Rattle.vl_table.specs.Seeks.{IsBadBlock}
+
+all_at : {X : Type 0} (P : X → Type 0) (front : List X) (x : X) (back : List X) → AllByRecursion P (front ++ x ∷ back) → P x
+all_at P [] x back all = all.0
+all_at P (y ∷ front) x back all = all_at P front x back all.1
+
+-- a block of a true table stands where the index says
+pub block_stands : (number : ℕ) (es : List Entry) (i : ℕ) (p : BlockPlace) → IsTable number es → (b : BlockAt 16 (blocks es) i p)
+    → StandsBlock number (table_bytes number es) p.place p.length b.block
+block_stands number es i p is b =
+    let bytes = table_bytes number es in
+    let body = block_body b.block in
+    record {
+      body = body;
+      frame = record {
+        frame = record {
+          in_file = refl;
+          short = all_at (λ c. length (block_body c) < 2 ^ 32) b.front b.block b.back (subst (AllByRecursion (λ c. length (block_body c) < 2 ^ 32)) b.split is.short);
+          rest = drop p.length (drop p.place bytes);
+          spelled = sym (take-append-drop p.length (drop p.place bytes)) ∙ ap (λ (l : List ℕ). l ++ drop p.length (drop p.place bytes)) (block_bytes number es (blocks es) i p b);
+        };
+        sized = b.length ∙ sym (length-block number p.place b.block) ∙ length-frame_bytes number p.place kinds.Block body;
+      };
+      says = record { lawful = all_at IsBlock b.front b.block b.back (subst (AllByRecursion IsBlock) b.split is.each); spelled = refl };
+    }
+
+-- so it is what the buffer has
+pub block_is : (buffer : BlockBuffer) (number : ℕ) (bytes : List ℕ) (place size : ℕ) (es others : List Entry) → HasBlock buffer number bytes place size es
+    → StandsBlock number bytes place size others → es ≡ others
+block_is buffer number bytes place size es others has stands =
+    let one = one_frame files.Table number place (drop place bytes) kinds.Block kinds.Block has.stands.body stands.body has.stands.frame.frame stands.frame.frame in
+    one_block stands.body es others (subst (λ (l : List ℕ). SpellsBlock l es) one.1 has.stands.says) stands.says
+
+pub named_block : {H : Type 0} (bytes_of : H → Option (List ℕ)) (t : Table H) (es : List Entry) (i : ℕ) (p : BlockPlace) → IsOf bytes_of t es → i < length t.blocks.items
+    → p ≡ get_or t.blocks.items i p → BlockAt 16 (blocks es) i p
+named_block bytes_of t es i p is within found =
+    block_at 16 (blocks es) i p (omega (arith, within, ap length is.blocks, length-block_places 16 (blocks es))) (found ∙ ap (λ l. get_or l i p) is.blocks)
+
+-- a true table has no bad block
+pub no_bad_block : {H : Type 0} (bytes_of : H → Option (List ℕ)) (t : Table H) (es : List Entry) (damage : ℕ) → IsOf bytes_of t es → IsBadBlock t (table_bytes t.number es) damage → ⊥
+no_bad_block bytes_of t es damage is bad =
+    let b = named_block bytes_of t es bad.at bad.place is bad.named bad.place_is in
+    bad.none.0 b.block (block_stands t.number es bad.at bad.place is.table b)
