@@ -2,6 +2,7 @@ pub mod Commit
 pub mod Frames
 pub mod laws
 pub mod LogReading
+pub mod Placed
 pub mod Pointer
 pub mod Reading
 pub mod Record
