@@ -1,7 +1,7 @@
 pub mod ActiveStands
 mod Composing
+mod CountingOn
 pub mod Decided
-mod Entering
 mod Filling
 pub mod Fitted
 mod LastFiles

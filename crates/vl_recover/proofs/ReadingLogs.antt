@@ -24,6 +24,7 @@ use Rattle.vl_recover.specs.LogsSoFar.{AreLogsFound, AreReadSoFar, FindsOneMore,
 use Rattle.vl_recover.specs.Named.{IsLeastOf, IsLogFrom}
 use Rattle.vl_recover.specs.Opening.{IsNextLog, StandingLogs}
 use Rattle.vl_recover.specs.ReadLogs.{IsLogRead, frames_of}
+use Rattle.vl_seglog.specs.Placed.{AreFramesFrom}
 use Rattle.vl_seglog.specs.Reading.{reading_of}
 use Rattle.vl_recover.specs.Results.{frozen_log}
 use Rattle.vl_recover.specs.Stages.{on_ok}
@@ -37,17 +38,21 @@ use Rattle.vl_seglog.specs.LogReading.{AreBehind, ReadsLog}
 use Rattle.vl_seglog.specs.laws.LogReadingLaws.{frames_within, log_apart}
 
 -- what was read of bytes
-pub log_read : (number : ℕ) (bytes : List ℕ) (log : LogRead) → ReadsLog number bytes (reading_of log) → log.end ≡ content_end (reading_of log) → length bytes < 2 ^ 63 → IsLogRead log
-log_read number bytes log reads end_is short = by log.header refl
+pub log_read : (number : ℕ) (bytes : List ℕ) (log : LogRead) → log.number ≡ number → AreFramesFrom number 16 log.frames.items → ReadsLog number bytes (reading_of log) → log.end ≡ content_end (reading_of log) → length bytes < 2 ^ 63 → IsLogRead log
+log_read number bytes log number_is from_first reads end_is short = by log.header refl
   where
     frames : List LogFrame
     frames = frames_of log.frames.items
+
+    places : AreFramesFrom log.number 16 log.frames.items
+    places = subst (λ (n : ℕ). AreFramesFrom n 16 log.frames.items) (sym number_is) from_first
 
     by : (header : Bool) → log.header ≡ header → IsLogRead log
     by true right = record {
       have = (log_apart number bytes (reading_of log) reads right).have;
       headless = λ wrong. absurd (true≢false (sym right ∙ wrong));
       end_is = end_is;
+      places = places;
       fits = let within = frames_within number bytes (reading_of log) reads right in omega (arith, within, short);
     }
     by false wrong =
@@ -56,6 +61,7 @@ log_read number bytes log reads end_is short = by log.header refl
           have = subst (AllByRecursion (HasFrame frames_grammar)) (sym none) tt;
           headless = λ _. none;
           end_is = end_is;
+          places = places;
           fits = subst (λ (fs : List LogFrame). log_length fs < 2 ^ 63) (sym none) (omega arith);
         }
 

@@ -11,7 +11,6 @@ mod entries;
 mod fails;
 mod finding;
 mod found;
-mod frame_length;
 mod last;
 mod logs;
 mod memtables;

@@ -78,25 +78,24 @@ fn with_next<D: Disk>(
     let length = bytes.len() as u64;
     let log = read_log(alloc, &bytes, number)?;
     drop(bytes);
-    Ok(with_log(alloc, so_far, number, length, &log, followed)?)
+    Ok(with_log(alloc, so_far, length, &log, followed)?)
 }
 
-// With a log more, of this number and length.
+// With a log more, which has this length in bytes.
 fn with_log(
     alloc: Global,
     so_far: LogsFound,
-    number: u32,
     length: u64,
     log: &LogRead,
     followed: bool,
 ) -> Result<LogsFound, AllocError>
     requires { IsLogRead log.now }
-    ensures { IfOk result (HasOneMore (standing_log number length log.now) followed so_far) }
+    ensures { IfOk result (HasOneMore (standing_log length log.now) followed so_far) }
 {
-    let count = count_on(so_far.number, number, log, followed);
+    let count = count_on(so_far.number, log, followed);
     let has_frames = !log.frames.is_empty();
     let frozen = if has_frames {
-        with_frozen(alloc, so_far.frozen, number, log)?
+        with_frozen(alloc, so_far.frozen, log)?
     } else {
         so_far.frozen
     };
@@ -104,7 +103,7 @@ fn with_log(
         number: count,
         frozen,
         last: Some(LastLog {
-            number,
+            number: log.number,
             length,
             header: log.header,
             end: log.end,
@@ -116,18 +115,20 @@ fn with_log(
 // The number of the last commit, or the first damage, with one log more.
 fn count_on(
     so_far: Result<u64, DamagePlace>,
-    number: u32,
     log: &LogRead,
     followed: bool,
 ) -> Result<u64, DamagePlace>
     requires { IsLogRead log.now }
     ensures { (length : ℕ) → walk_of result ≡
-        walked_log followed (walk_of so_far) (standing_log number length log.now) }
+        walked_log followed (walk_of so_far) (standing_log length log.now) }
 {
     let before = so_far?;
     match count_log(before, log, followed) {
         Ok(last) => Ok(last),
-        Err(place) => Err(DamagePlace { log: number, place }),
+        Err(place) => Err(DamagePlace {
+            log: log.number,
+            place,
+        }),
     }
 }
 
@@ -135,18 +136,17 @@ fn count_on(
 fn with_frozen(
     alloc: Global,
     frozen: Vec<FrozenLog>,
-    number: u32,
     log: &LogRead,
 ) -> Result<Vec<FrozenLog>, AllocError>
     requires read { IsLogRead log.now }
     requires some { 0 < length log.now.frames.items }
     ensures { IfOk result (λ with. map frozen_log with.items ≡
-        map frozen_log frozen.items ++ held_log (new_segment number (frames_of log.now.frames.items)) ∷ []) }
+        map frozen_log frozen.items ++ held_log (new_segment log.now.number (frames_of log.now.frames.items)) ∷ []) }
 {
     let mut with = frozen;
-    let memtable = memtable_of(alloc, number, &log.frames)?;
+    let memtable = memtable_of(alloc, log)?;
     with.push(FrozenLog {
-        number,
+        number: log.number,
         length: log.end,
         memtable: memtable.freeze(),
     })?;
