@@ -3,7 +3,7 @@ use Rattle.std.proofs.Common.{◌≡◌, ℕ, Bool, true, false, List, [], ◌�
 use Rattle.std.specs.Prelude.{◌≢◌, ◌↔◌, AllPairs, Contains, IfSome, IsSome, filter, if◌then◌else◌, Option, None, Some, Result, Ok}
 use Rattle.std.specs.FinMap.{get}
 use Rattle.std.proofs.lemmas.Bool.Decides.{nat_tests}
-use Rattle.std.proofs.lemmas.List.Elements.{All-contains, All-contains_itself, All-filter, Contains-append_cases, Contains-append_right, Contains-push_cases, filter_passes}
+use Rattle.std.proofs.lemmas.List.Elements.{All-contains, All-contains_itself, All-filter, filter_passes}
 use Rattle.std.proofs.lemmas.List.Kept.{AllPairs-filter}
 use Rattle.vl_disk.specs.Crash.{Image}
 use Rattle.vl_disk.specs.Disk.{Lists}
@@ -24,24 +24,10 @@ use Rattle.vl_recover.specs.declared.found.GreatestNumbers.{GreatestNumbers}
 use Rattle.vl_recover.specs.declared.found.LastLog.{LastLog}
 use Rattle.vl_recover.specs.declared.found.LogsFound.{LogsFound}
 use Rattle.vl_recover.proofs.Looking.{given}
+use Rattle.vl_recover.proofs.Naming.{Contains-cases, Contains-first, Contains-later, nothing_in}
 use Rattle.vl_recover.proofs.ReadingLogs.{listed, not_named}
 
 -- ---- strays
-
-nothing_in : (name : Name) → Contains [] name → ⊥
-nothing_in name c = let within = c.1 in omega (arith, within)
-
-Contains-first : (name : Name) (names : List Name) → Contains (name ∷ names) name
-Contains-first name names = (0, omega arith, refl)
-
-Contains-later : (first name : Name) (names : List Name) → Contains names name → Contains (first ∷ names) name
-Contains-later first name names c = Contains-append_right (first ∷ []) names name c
-
-Contains-cases : (first name : Name) (names : List Name) → Contains (first ∷ names) name → (first ≡ name) ⊎ Contains names name
-Contains-cases first name names c = ⊎_elim (λ (one : Contains (first ∷ []) name). inl (only one)) (λ (rest : Contains names name). inr rest) (Contains-append_cases (first ∷ []) names name c)
-  where
-    only : Contains (first ∷ []) name → first ≡ name
-    only one = ⊎_elim (λ (none : Contains [] name). absurd (nothing_in name none)) (λ (e : first ≡ name). e) (Contains-push_cases [] first name one)
 
 differ : false ≡ true → ⊥
 differ e = cc

@@ -1,8 +1,9 @@
 -- Logs are read, one after the other.
-use Rattle.std.proofs.Common.{◌≡◌, ℕ, ◌+◌, ◌<◌, ◌^◌, Bool, true, false, List, [], ◌∷◌, ◌++◌, length, map, refl, sym, ap, ◌∙◌, subst, arith}
+use Rattle.std.proofs.Common.{◌≡◌, ℕ, ◌+◌, ◌<◌, ◌≤◌, ◌^◌, Bool, true, false, List, [], ◌∷◌, ◌++◌, length, map, refl, sym, ap, ◌∙◌, subst, arith}
 use Rattle.std.specs.List.{AllByRecursion}
 use Rattle.std.proofs.lemmas.Bool.{true≢false}
-use Rattle.std.specs.Prelude.{Contains, IfSome, IsSome, Option, None, Some, Result, Ok, Err, is_some}
+use Rattle.std.proofs.lemmas.Bool.Decides.{nat_tests}
+use Rattle.std.specs.Prelude.{Contains, IfSome, IsSome, Option, None, Some, Result, Ok, Err, nat_lt}
 use Rattle.std.specs.FinMap.{get}
 use Rattle.std.specs.Option.{option_map}
 use Rattle.std.proofs.Common.{append_assoc}
@@ -21,7 +22,7 @@ use Rattle.vl_recover.specs.Answers.{HeldLog, held_log}
 use Rattle.vl_recover.specs.Counting.{walked_before, walked_by, walked_log}
 use Rattle.vl_recover.specs.Finding.{last_log, last_of}
 use Rattle.vl_recover.specs.LogsSoFar.{AreLogsFound, AreReadSoFar, FindsOneMore, HasOneMore, walk_of}
-use Rattle.vl_recover.specs.Named.{IsLeastOf, IsLogFrom}
+use Rattle.vl_recover.specs.Named.{IsGreatestIn, IsLeastOf, IsLogFrom}
 use Rattle.vl_recover.specs.Opening.{IsNextLog, StandingLogs}
 use Rattle.vl_recover.specs.ReadLogs.{IsLogRead, frames_of}
 use Rattle.vl_seglog.specs.Placed.{AreFramesFrom}
@@ -139,9 +140,16 @@ one_or_none names least true false p q = absurd (q p.0 p.1)
 one_or_none names least false true p q = absurd (p q.0 q.1)
 one_or_none names least false false p q = refl
 
-follows : (names : List Name) (least : ℕ) (next : Option ℕ) → IsLeastOf (IsLogFrom names least) next → IsFollowed names least (is_some next)
-follows names least None none = none
-follows names least (Some n) is = (n, is.0)
+-- a log below the greatest is followed
+pub follows : (names : List Name) (number greatest : ℕ) → IsGreatestIn names Log greatest → (followed : Bool) → (followed ≡ nat_lt number greatest) → IsFollowed names (number + 1) followed
+follows names number greatest is true lt =
+    let below : number < greatest = grind (arith, nat_tests) in
+    (greatest, (is.is_there (omega (arith, below)), omega (arith, below)))
+follows names number greatest is false lt = λ n from.
+    let most = is.above n from.0 in
+    let past : greatest ≤ number = grind (arith, nat_tests) in
+    let above = from.1 in
+    omega (arith, most, past, above)
 
 -- the logs before a number were read
 pub record AreReadUpTo (image : Image) (names : List Name) (head covered least : ℕ) (read : LogsFound) : Type 0 where
@@ -168,15 +176,15 @@ module _ (image : Image) (names : List Name) (named : (name : Name) → IsSome (
     };
   }
 
-  pub one_read : (head covered least number : ℕ) (next : Option ℕ) (followed : Bool) (old new : LogsFound) → AreReadUpTo image names head covered least old
-      → IsLeastOf (IsLogFrom names least) (Some number) → IsLeastOf (IsLogFrom names (number + 1)) next → followed ≡ is_some next
+  pub one_read : (head covered least number : ℕ) (followed : Bool) (old new : LogsFound) → AreReadUpTo image names head covered least old
+      → IsLeastOf (IsLogFrom names least) (Some number) → IsFollowed names (number + 1) followed
       → FindsOneMore image number followed old new → AreReadUpTo image names head covered (number + 1) new
-  one_read head covered least number next followed old new so first second is on = record {
+  one_read head covered least number followed old new so first second on = record {
     logs = so.logs ++ on.log ∷ [];
     standing = λ rest standing. subst (StandingLogs image head) (sym (append_assoc so.logs (on.log ∷ []) rest))
         (so.standing (on.log ∷ rest) (here, subst (λ (n : ℕ). StandingLogs image (n + 1) rest) (sym on.number_is) standing));
     so_far = λ other is_other. subst (λ (b : Bool). AreReadSoFar covered b (so.logs ++ on.log ∷ []) new)
-        (is ∙ one_or_none names (number + 1) (is_some next) other (follows names (number + 1) next second) is_other)
+        (one_or_none names (number + 1) followed other second is_other)
         (so_far_more covered followed so.logs on.log old new (so.so_far true (number, first.0)) on.one_more);
   }
     where

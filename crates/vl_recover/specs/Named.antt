@@ -1,5 +1,6 @@
 -- What is looked for among the names of the files that stand.
-use Rattle.std.specs.Prelude.{ℕ, ◌≤◌, ◌<◌, Bool, true, nat_le, nat_lt, if◌then◌else◌, List, Contains, Option, None, Some}
+use Rattle.std.specs.Prelude.{ℕ, ◌≤◌, ◌<◌, Bool, true, nat_le, nat_lt, if◌then◌else◌, List, [], ◌∷◌, Contains, Option, None, Some}
+use Rattle.vl_disk.specs.Name.{name_number}
 use Rattle.vl_disk.specs.declared.name.Name.{Name}
 use Rattle.vl_disk.specs.declared.name.Name.TheVariants.{Log, Table, Manifest}
 use Rattle.vl_recover.specs.Plans.{Greatest}
@@ -42,23 +43,22 @@ IsLogFrom names least n = Contains names (Log n) × (least ≤ n)
 abbrev pub IsManifestBelow : List Name → ℕ → ℕ → Type 0
 IsManifestBelow names above n = Contains names (Manifest n) × (n < above)
 
-abbrev pub lesser : ℕ → Option ℕ → Option ℕ
-lesser number None = Some number
-lesser number (Some least) = if nat_le least number then Some least else Some number
+-- the number in the name of a log from the least on
+abbrev pub log_from : ℕ → Name → Option ℕ
+log_from least (Log number) = if nat_le least number then Some number else None
+log_from least (Table number) = None
+log_from least (Manifest number) = None
 
-abbrev pub next_log_with : ℕ → Name → Option ℕ → Option ℕ
-next_log_with least (Log number) next = if nat_le least number then lesser number next else next
-next_log_with least (Table number) next = next
-next_log_with least (Manifest number) next = next
+-- the number in the name of a manifest below this one
+abbrev pub manifest_below : ℕ → Name → Option ℕ
+manifest_below above (Log number) = None
+manifest_below above (Table number) = None
+manifest_below above (Manifest number) = if nat_lt number above then Some number else None
 
-abbrev pub later : ℕ → Option ℕ → Option ℕ
-later number None = Some number
-later number (Some greatest) = if nat_le number greatest then Some greatest else Some number
-
-abbrev pub next_manifest_with : ℕ → Name → Option ℕ → Option ℕ
-next_manifest_with above (Log number) next = next
-next_manifest_with above (Table number) next = next
-next_manifest_with above (Manifest number) next = if nat_lt number above then later number next else next
+-- Of one kind the numbers rise.
+abbrev pub AreRising : List Name → Type 0
+AreRising [] = Unit {0}
+AreRising (name ∷ names) = ((other : Name) → Contains names other → name_number name ≤ name_number other) × AreRising names
 
 -- ---- strays
 

@@ -33,7 +33,7 @@ pub(crate) fn find<D: Disk>(alloc: Global, disk: &mut D) -> Result<Found, OpenEr
     let names = list_names(alloc, disk)?;
     let greatest = greatest_numbers(&names);
     let state = current_state(alloc, disk, &names, greatest)?;
-    let logs = read_logs(alloc, disk, &names, state.head, state.covered)?;
+    let logs = read_logs(alloc, disk, &names, greatest.log, state.head, state.covered)?;
     found(names, greatest, state, logs)
 }
 

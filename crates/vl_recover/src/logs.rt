@@ -13,30 +13,34 @@ ghost use Rattle.vl_recover.specs.Answers.{held_log};
 ghost use Rattle.vl_recover.specs.Counting.{walked_log};
 ghost use Rattle.vl_recover.specs.Finding.{IsExcused, IsFault, IsFaultAt};
 ghost use Rattle.vl_recover.specs.LogsSoFar.{AreLogsFound, FindsOneMore, HasOneMore, walk_of};
+ghost use Rattle.vl_recover.specs.Named.{AreRising, IsGreatestIn};
 ghost use Rattle.vl_recover.specs.ReadLogs.{IsLogRead, frames_of, standing_log};
 ghost use Rattle.vl_recover.specs.Results.{frozen_log};
 
 use crate::counting::count_log;
 use crate::found::{DamagePlace, LastLog, LogsFound};
 use crate::memtables::memtable_of;
-use crate::names::next_log;
+use crate::names::log_from;
 use crate::reading::read_whole;
 use crate::{FrozenLog, OpenError};
 use std::alloc::{AllocError, Global};
 use vl_disk::{Disk, Name};
 use vl_seglog::{LogRead, read_log};
 
-/// Reads the logs from head on, rising, each once, also behind a damage. The commits before them have numbers up to this
-/// one.
+/// Reads the logs from head on, each once, also behind a damage. The names are in order, and the greatest log has this
+/// number. The commits before the logs have numbers up to `covered`.
 pub fn read_logs<D: Disk>(
     alloc: Global,
     disk: &mut D,
     names: &[Name],
+    greatest: u32,
     head: u32,
     covered: u64,
 ) -> Result<LogsFound, OpenError>
     requires lists { ForSome (D.told disk.old) (Lists names.now) }
     requires numbered { All IsNumbered names.now }
+    requires rising { AreRising names.now }
+    requires greatest { IsGreatestIn names.now kinds.Log greatest }
     ensures reads { (state : DiskState) (read : Image) → D.told disk.old ≡ Some state → IsRead read state
         → IfOk result (AreLogsFound read head covered) }
     ensures last { IfOk result (λ logs. IfSome logs.last (λ q. Contains names.now (kinds.Log q.number))) }
@@ -50,10 +54,12 @@ pub fn read_logs<D: Disk>(
         last: None,
     };
     let mut least = head;
-    while let Some(number) = next_log(names, least) {
+    for name in names {
+        let Some(number) = log_from(*name, least) else {
+            continue;
+        };
         least = number + 1;
-        let followed = next_log(names, least).is_some();
-        so_far = with_next(alloc, disk, so_far, number, followed)?;
+        so_far = with_next(alloc, disk, so_far, number, number < greatest)?;
     }
     Ok(so_far)
 }
