@@ -19,7 +19,7 @@ use Rattle.vl_recover.specs.Named.{AreGreatestIn, IsGreatestIn, is_stray}
 use Rattle.vl_recover.specs.Opening.{Current, LogsFrom, Opening, Refusal, opening_of}
 use Rattle.vl_recover.specs.Plans.{AreGreatest, Greatest, IsGreatest}
 use Rattle.vl_recover.specs.Walk.{LogDamage, filled}
-use Rattle.vl_recover.specs.declared.found.Found.{Found}
+use Rattle.vl_recover.specs.declared.found.Findings.{Findings}
 use Rattle.vl_recover.specs.declared.found.GreatestNumbers.{GreatestNumbers}
 use Rattle.vl_recover.specs.declared.found.LastLog.{LastLog}
 use Rattle.vl_recover.specs.declared.found.LogsFound.{LogsFound}
@@ -86,7 +86,7 @@ module _ (image : Image) (state : ManifestState) (current : Current image (Ok st
   opens_so : (r : Result ℕ LogDamage) → walk_of logs.number ≡ r → (o : Result Opening Refusal) → o ≡ opening_of state read.logs r → LogsFrom image state o
   opens_so r is o opening = (read.logs, read.standing, opening ∙ ap (opening_of state read.logs) (sym is ∙ read.are_read.number))
 
-  pub is_found : (disk : DiskState) (names : List Name) (found : Found) → IsRead image disk → Lists names disk
+  pub is_found : (disk : DiskState) (names : List Name) (found : Findings) → IsRead image disk → Lists names disk
       → AreGreatestIn names (greatest_of found.greatest) → logs.number ≡ Ok found.number
       → found.state ≡ state → found.frozen ≡ logs.frozen → found.last ≡ logs.last → found.strays.items ≡ filter (is_stray state.head) names
       → IsFound image found

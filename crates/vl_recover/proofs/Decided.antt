@@ -11,18 +11,19 @@ use Rattle.vl_manifest.specs.States.{opened_state, whole_edits}
 use Rattle.vl_manifest.specs.declared.state.ManifestState.{ManifestState}
 use Rattle.vl_model.specs.declared.log_frame.LogFrame.{LogFrame}
 use Rattle.vl_recover.specs.Answers.{AnswersBy, AreStrayNames, used_up}
-use Rattle.vl_recover.specs.Deciding.{DecidesSo, IsDecided, IsPrepared, PreparesSo, active_by, log_for, log_of, plan_for, state_for, step_for, used_up_for, used_up_of}
+use Rattle.vl_recover.specs.Deciding.{DecidesSo, IsDecided, IsPrepared, PreparesSo, log_for, next_of, plan_for, state_for, step_for, used_up_for, used_up_of}
 use Rattle.vl_recover.specs.Finding.{IsFaultAt, IsFound, last_log, last_of}
 use Rattle.vl_recover.specs.Repairing.{Cut, Headed, IsPlan, Kept, Plan, Rewritten, plan_of}
 use Rattle.vl_recover.specs.Repairing as repairing
 use Rattle.vl_recover.specs.Opening.{IsNextLog, StandingLogs}
-use Rattle.vl_recover.specs.Plans.{Greatest, active_of, last_number, log_behind, log_made, new_state}
-use Rattle.vl_recover.specs.Results.{HasFailed, came_by, frozen_log}
+use Rattle.vl_recover.specs.Plans.{Greatest, active_of, log_behind, log_made, new_state}
+use Rattle.vl_recover.specs.NextLogs.{made_of, number_of}
+use Rattle.vl_recover.specs.Results.{HasFailed, recovery_by, frozen_log}
 use Rattle.vl_recover.specs.Walk.{StandingLog, content_end}
 use Rattle.vl_seglog.specs.Frames.{frames_end}
 use Rattle.vl_recover.specs.declared.fails.OpenError.{OpenError}
 use Rattle.vl_recover.specs.declared.fails.OpenError.TheVariants as why
-use Rattle.vl_recover.specs.declared.found.Found.{Found}
+use Rattle.vl_recover.specs.declared.found.Findings.{Findings}
 use Rattle.vl_recover.specs.declared.found.LastLog.{LastLog}
 use Rattle.vl_recover.specs.declared.parts.FrozenLog.{FrozenLog}
 use Rattle.vl_recover.specs.declared.prepared.Prepared.{Prepared}
@@ -34,14 +35,27 @@ false_true e = cc
 abbrev end_of : List StandingLog → Option LastLog
 end_of logs = option_map last_log (last_of logs)
 
-log_is : (s : ManifestState) (logs : List StandingLog) → log_of s (end_of logs) ≡ log_made s logs
+log_is : (s : ManifestState) (logs : List StandingLog) → made_of (next_of s (end_of logs)) ≡ log_made s logs
 log_is s [] = refl
 log_is s (q ∷ []) = by q.reading.frames refl
   where
-    by : (frames : List LogFrame) → q.reading.frames ≡ frames → log_of s (end_of (q ∷ [])) ≡ log_behind s q.reading.frames
+    by : (frames : List LogFrame) → q.reading.frames ≡ frames → made_of (next_of s (end_of (q ∷ []))) ≡ log_behind s q.reading.frames
     by [] is = rw is refl
     by (f ∷ fs) is = rw is refl
 log_is s (q ∷ p ∷ ps) = log_is s (p ∷ ps)
+
+active_is : (s : ManifestState) (logs : List StandingLog) → number_of (next_of s (end_of logs)) ≡ active_of (log_made s logs) logs
+active_is s [] = refl
+active_is s (q ∷ []) = by q.reading.frames refl
+  where
+    by : (frames : List LogFrame) → q.reading.frames ≡ frames → number_of (next_of s (end_of (q ∷ []))) ≡ active_of (log_behind s q.reading.frames) (q ∷ [])
+    by [] is = rw is refl
+    by (f ∷ fs) is = rw is refl
+active_is s (q ∷ p ∷ ps) = active_is s (p ∷ ps) ∙ same (log_made s (p ∷ ps))
+  where
+    same : (log : Option ℕ) → active_of log (p ∷ ps) ≡ active_of log (q ∷ p ∷ ps)
+    same None = refl
+    same (Some number) = refl
 
 -- a log with its header is whole where it ends with its content
 whole_is : (image : Image) (least : ℕ) (q : StandingLog) → IsNextLog image least q → q.reading.header ≡ true
@@ -62,31 +76,7 @@ step_is image least (q ∷ []) (next, rest) = by q.reading.header refl
     by false is = refl
 step_is image least (q ∷ p ∷ ps) (next, rest) = step_is image (q.number + 1) (p ∷ ps) rest
 
-abbrev number_or : ℕ → Option LastLog → ℕ
-number_or none None = none
-number_or none (Some last) = last.number
-
-number_is : (none : ℕ) (logs : List StandingLog) → number_or none (end_of logs) ≡ last_number none logs
-number_is none [] = refl
-number_is none (q ∷ []) = refl
-number_is none (q ∷ p ∷ ps) = same (end_of (p ∷ ps)) ∙ number_is q.number (p ∷ ps)
-  where
-    some : (r : StandingLog) (rs : List StandingLog) → (last : LastLog) × (end_of (r ∷ rs) ≡ Some last)
-    some r [] = (last_log r, refl)
-    some r (t ∷ ts) = some t ts
-
-    same : (o : Option LastLog) → number_or none (end_of (p ∷ ps)) ≡ number_or q.number (end_of (p ∷ ps))
-    same o = let (last, is) = some p ps in rw is refl
-
-active_is : (log : Option ℕ) (logs : List StandingLog) → active_by log (end_of logs) ≡ active_of log logs
-active_is (Some log) logs = refl
-active_is None logs = of (end_of logs) refl
-  where
-    of : (o : Option LastLog) → end_of logs ≡ o → active_by None (end_of logs) ≡ last_number 0 logs
-    of None is = (rw is refl) ∙ number_is 0 logs
-    of (Some last) is = (rw is refl) ∙ number_is 0 logs
-
-module _ (image : Image) (found : Found) (is : IsFound image found) where
+module _ (image : Image) (found : Findings) (is : IsFound image found) where
   abbrev new : ManifestState
   new = new_state is.finds.greatest is.finds.opening.state
 
@@ -97,8 +87,8 @@ module _ (image : Image) (found : Found) (is : IsFound image found) where
 
   log_same : log_for found ≡ log_made new is.finds.logs
   log_same =
-      ap (λ (s : ManifestState). log_of s found.last) state_same
-      ∙ ap (λ (o : Option LastLog). log_of new o) is.last
+      ap (λ (s : ManifestState). made_of (next_of s found.last)) state_same
+      ∙ ap (λ (o : Option LastLog). made_of (next_of new o)) is.last
       ∙ log_is new is.finds.logs
 
   used_up_same : used_up_for found ≡ used_up is.finds
@@ -134,12 +124,12 @@ module _ (image : Image) (found : Found) (is : IsFound image found) where
       strays = subst (AreStrayNames image is.finds.opening.state.head) (sym (ap (λ (p : Plan). p.strays) decided.plan)) is.strays;
       is = decided.plan ∙ plan_same ∙ ap (λ (names : List Name). plan_of is.finds names) (sym (ap (λ (p : Plan). p.strays) decided.plan));
     };
-    active = decided.active ∙ ap (λ (l : Option ℕ). active_by l found.last) log_same
-        ∙ ap (λ (o : Option LastLog). active_by (log_made new is.finds.logs) o) is.last ∙ active_is (log_made new is.finds.logs) is.finds.logs;
+    active = decided.active ∙ ap (λ (s : ManifestState). number_of (next_of s found.last)) state_same
+        ∙ ap (λ (o : Option LastLog). number_of (next_of new o)) is.last ∙ active_is new is.finds.logs;
   }
 
   -- or that is the answer
-  pub decided_answer : (reason : OpenError) → DecidesSo found (Err reason) → AnswersBy image (came_by reason)
+  pub decided_answer : (reason : OpenError) → DecidesSo found (Err reason) → AnswersBy image (recovery_by reason)
   decided_answer (why.Exhausted counter) used = (is.finds, sym used_up_same ∙ used)
   decided_answer why.NoMemory used = tt
   decided_answer why.NotAStore used = absurd used
@@ -148,7 +138,7 @@ module _ (image : Image) (found : Found) (is : IsFound image found) where
   decided_answer (why.Disk name) used = absurd used
 
 -- the disk didn't fail
-pub decided_fine : (found : Found) (reason : OpenError) → DecidesSo found (Err reason) → HasFailed (came_by reason) → ⊥
+pub decided_fine : (found : Findings) (reason : OpenError) → DecidesSo found (Err reason) → HasFailed (recovery_by reason) → ⊥
 decided_fine found (why.Exhausted counter) used failed = failed
 decided_fine found why.NoMemory used failed = failed
 decided_fine found why.NotAStore used failed = failed
@@ -157,12 +147,12 @@ decided_fine found (why.Damaged name place) used failed = failed
 decided_fine found (why.Disk name) used failed = used
 
 pub answer_by : (image : Image) (result : Result Prepared OpenError) (reason : OpenError) → IsErr result → IsErrAnd result (λ e. e ≡ reason)
-    → AnswersBy image (came_by reason) → PreparesSo image result
+    → AnswersBy image (recovery_by reason) → PreparesSo image result
 answer_by image (Ok prepared) reason failed is answer = absurd (false_true failed)
-answer_by image (Err e) reason failed is answer = subst (λ (w : OpenError). AnswersBy image (came_by w)) (sym is) answer
+answer_by image (Err e) reason failed is answer = subst (λ (w : OpenError). AnswersBy image (recovery_by w)) (sym is) answer
 
 -- the disk didn't fail
-pub decided_at : (found : Found) (told : Option DiskState) (result : Result Prepared OpenError) (reason : OpenError) → IsErr result → IsErrAnd result (λ e. e ≡ reason)
+pub decided_at : (found : Findings) (told : Option DiskState) (result : Result Prepared OpenError) (reason : OpenError) → IsErr result → IsErrAnd result (λ e. e ≡ reason)
     → DecidesSo found (Err reason) → IfErr result (IsFaultAt told)
 decided_at found told (Ok prepared) reason failed is used = absurd (false_true failed)
 decided_at found told (Err e) reason failed is used = subst (IsFaultAt told) (sym is) (by reason used)

@@ -6,12 +6,14 @@ use Rattle.vl_disk.specs.declared.name.Name.TheVariants.{Log}
 use Rattle.vl_model.specs.Limits.{max_file_number}
 use Rattle.vl_model.specs.declared.counter.Counter.{Counter}
 use Rattle.vl_model.specs.declared.counter.Counter.TheVariants as counters
-use Rattle.vl_recover.specs.Deciding.{log_for, log_of, plan_for, state_for, step_for, used_up_for}
+use Rattle.vl_recover.specs.Deciding.{log_for, next_of, plan_for, state_for, step_for, used_up_for}
 use Rattle.vl_recover.specs.Finding.{AreFileNumbers, IsUpTo}
 use Rattle.vl_recover.specs.Fitting.{HasNumbers, IsBeside, IsLogBeside, IsNumberedLog}
 use Rattle.vl_recover.specs.Repairing.{Cut, Headed, Kept, Plan, Rewritten}
+use Rattle.vl_recover.specs.NextLogs.{made_of}
 use Rattle.vl_recover.specs.Plans.{passes}
-use Rattle.vl_recover.specs.declared.found.Found.{Found}
+use Rattle.vl_recover.specs.declared.plan.NextLog.TheVariants as next
+use Rattle.vl_recover.specs.declared.found.Findings.{Findings}
 use Rattle.vl_recover.specs.declared.found.LastLog.{LastLog}
 
 some_counter : (c : Counter) → Some c ≡ None → ⊥
@@ -54,11 +56,11 @@ other_beside q k other = by q.header (q.length == q.end) (q.length == 0)
     by false whole true = apart
     by false whole false = apart
 
-module _ (found : Found) (numbers : AreFileNumbers found.greatest) (last : IsUpTo found.greatest.log found.last) where
+module _ (found : Findings) (numbers : AreFileNumbers found.greatest) (last : IsUpTo found.greatest.log found.last) where
   next_above : found.greatest.log + 1 ≤ (state_for found).next_log
   next_above = omega arith
 
-  log_first : (o : Option LastLog) (k : ℕ) → log_of (state_for found) o ≡ Some k → 1 ≤ k
+  log_first : (o : Option LastLog) (k : ℕ) → made_of (next_of (state_for found) o) ≡ Some k → 1 ≤ k
   log_first None k is = let e : max (state_for found).head (state_for found).next_log ≡ k = some_same _ k is in omega (arith, e, next_above)
     where
       some_same : (a b : ℕ) → Some a ≡ Some b → a ≡ b
@@ -71,15 +73,15 @@ module _ (found : Found) (numbers : AreFileNumbers found.greatest) (last : IsUpT
       none_some : None ≡ Some k → ⊥
       none_some e = cc
 
-      by : (frames : Bool) → (if frames then Some (state_for found).next_log else None) ≡ Some k → 1 ≤ k
+      by : (frames : Bool) → (made_of (if frames then next.Made (state_for found).next_log else next.Last q.number)) ≡ Some k → 1 ≤ k
       by true e = let same : (state_for found).next_log ≡ k = some_same _ k e in omega (arith, same, next_above)
       by false e = absurd (none_some e)
 
-  beside : (o : Option LastLog) → IsUpTo found.greatest.log o → IsLogBeside (step_for o) (log_of (state_for found) o)
+  beside : (o : Option LastLog) → IsUpTo found.greatest.log o → IsLogBeside (step_for o) (made_of (next_of (state_for found) o))
   beside None up = tt
   beside (Some q) up = by q.has_frames
     where
-      by : (frames : Bool) → IsLogBeside (step_for (Some q)) (if frames then Some (state_for found).next_log else None)
+      by : (frames : Bool) → IsLogBeside (step_for (Some q)) (made_of (if frames then next.Made (state_for found).next_log else next.Last q.number))
       by true = other_beside q (state_for found).next_log (λ (same : (state_for found).next_log ≡ q.number). absurd (omega (arith, same, up, next_above)))
       by false = tt
 

@@ -20,7 +20,7 @@ use Rattle.vl_manifest.specs.declared.fails.IoFail.TheVariants.{Disk}
 use Rattle.vl_manifest.specs.declared.manifest_log.ManifestLog.{ManifestLog}
 use Rattle.vl_manifest.specs.declared.state.ManifestState.{ManifestState}
 use Rattle.vl_recover.specs.Alike.{OpensAsOf}
-use Rattle.vl_recover.specs.Answers.{Came, Faulted, NoRoom, Recovered, Refused, UsedUp, AreStrayNames, Finds, HeldLog, Opened, calls_to_open, held_log, logs_then, opened_from}
+use Rattle.vl_recover.specs.Answers.{Recovery, Faulted, NoMemory, Recovered, Refused, UsedUp, AreStrayNames, Finds, HeldLog, Opened, calls_to_open, held_log, logs_then, no_file, opened_from}
 use Rattle.vl_recover.specs.Deciding.{IsPrepared, opened_by}
 use Rattle.vl_recover.specs.Finding.{IsFaultAt}
 use Rattle.vl_recover.specs.Held.{HoldsStore}
@@ -34,7 +34,7 @@ use Rattle.vl_recover.specs.Opening.{Opening}
 use Rattle.vl_recover.specs.PlanViews.{plan_view}
 use Rattle.vl_recover.specs.Plans.{new_state}
 use Rattle.vl_recover.specs.laws.ReadImage.{read_image}
-use Rattle.vl_recover.specs.Results.{HasFailed, FailsWithoutFault, came_by, frozen_log}
+use Rattle.vl_recover.specs.Results.{HasFailed, FailsWithoutFault, recovery_by, frozen_log}
 use Rattle.vl_recover.specs.Starts.{MayOpen}
 use Rattle.vl_recover.specs.Steps.{IsFailAt, MakesSome, Repairs}
 use Rattle.vl_recover.specs.declared.fails.OpenError.{OpenError}
@@ -66,15 +66,15 @@ abbrev pub repairing_of : (read : Image) (prepared : Prepared) → IsPrepared re
 repairing_of read prepared is = record { found = is.finds; unused = is.unused; plan = plan_view prepared.plan; is = is.plan }
 
 -- a refusal is no failure
-pub refused_fine : (came : Came) → FailsWithoutFault came → HasFailed came → ⊥
+pub refused_fine : (recovery_of : Recovery) → FailsWithoutFault recovery_of → HasFailed recovery_of → ⊥
 refused_fine (Recovered opened) refused failed = refused
 refused_fine (Refused why) refused failed = failed
 refused_fine (UsedUp counter) refused failed = failed
-refused_fine NoRoom refused failed = failed
+refused_fine NoMemory refused failed = failed
 refused_fine (Faulted name) refused failed = refused
 
 -- where the disk failed while it was read
-pub read_faults : (read : Image) (told : Option DiskState) (state : DiskState) → told ≡ Some state → (why : OpenError) → IsFaultAt told why → FaultsAt read state (came_by why)
+pub read_faults : (read : Image) (told : Option DiskState) (state : DiskState) → told ≡ Some state → (why : OpenError) → IsFaultAt told why → FaultsAt read state (recovery_by why)
 read_faults read told state is why.NotAStore at = tt
 read_faults read told state is (why.NewerFormat format) at = tt
 read_faults read told state is (why.Damaged name place) at = tt
@@ -82,7 +82,7 @@ read_faults read told state is (why.Exhausted counter) at = tt
 read_faults read told state is why.NoMemory at = tt
 read_faults read told state is (why.Disk name) at = ⊎_elim
     (λ (stands : ForSome told (Stands name)). at_read (stands state is))
-    (λ (listing : name ≡ Manifest 0). at_list listing)
+    (λ (listing : name ≡ no_file). at_list listing)
     at
 
 -- and while it was repaired

@@ -97,7 +97,7 @@ module _ {D : Type 0} (g : Ghosts D) (plan : RepairingPlan) (edits : List Edit) 
         calls = tt;
         stops = (0, omega arith, makes.answer.calls);
         at = tt;
-        no_room = λ _. makes.answer;
+        no_memory = λ _. makes.answer;
         tells = same_tells (g.told old) (g.told mid) makes.answer.told;
         time = passes_weaker (past_of g old) (past_of g mid)
             (While (g.told old) (WhileMaking (Manifest plan.manifest) view.piece)) (While (g.told old) (WhileRepairing view)) makes.time
@@ -110,7 +110,7 @@ module _ {D : Type 0} (g : Ghosts D) (plan : RepairingPlan) (edits : List Edit) 
         calls = tt;
         stops = (makes.answer.stops.0, omega (arith, makes.answer.stops.2), makes.answer.stops.3);
         at = is_manifest makes.answer.name_is;
-        no_room = λ e. absurd (disk_room name e);
+        no_memory = λ e. absurd (disk_room name e);
         tells = part_tells (Manifest plan.manifest) view.piece (g.told old) (g.told mid) makes.answer.part;
         time = passes_weaker (past_of g old) (past_of g mid)
             (While (g.told old) (WhileMaking (Manifest plan.manifest) view.piece)) (While (g.told old) (WhileRepairing view)) makes.time
@@ -167,7 +167,7 @@ module _ {D : Type 0} (g : Ghosts D) (plan : RepairingPlan) (edits : List Edit) 
             calls = step.calls;
             stops = tt;
             at = tt;
-            no_room = λ e. absurd (ok_err log fails.NoMemory e);
+            no_memory = λ e. absurd (ok_err log fails.NoMemory e);
             tells = step.tells;
             time = step.time;
             cause = record { later = step.cause.later; rose = λ fault. absurd fault; steady = λ _. step.cause.steady false_true };
@@ -186,7 +186,7 @@ module _ {D : Type 0} (g : Ghosts D) (plan : RepairingPlan) (edits : List Edit) 
             calls = tt;
             stops = step.stops;
             at = at;
-            no_room = λ e. absurd (disk_room name e);
+            no_memory = λ e. absurd (disk_room name e);
             tells = step.tells;
             time = step.time;
             cause = record { later = step.cause.later; rose = λ _. step.cause.rose refl; steady = λ fine. absurd (fine tt) };

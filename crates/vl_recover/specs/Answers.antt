@@ -72,23 +72,27 @@ abbrev pub calls_to_open : {image : Image} → Finds image → (removed : ℕ) �
 calls_to_open found removed =
     calls_of_opening found.greatest found.opening.state found.logs removed
 
+-- what is named where the files couldn't be listed: no manifest has this number
+abbrev pub no_file : Name
+no_file = Manifest 0
+
 -- the result of an opening: it was opened; it was refused by what stands there, or since a number is
 -- used up; memory ran out; or the disk failed at a file, or at listing its files
-pub data Came : Type 0 where
-  Recovered : Opened → Came
-  Refused : Refusal → Came
-  UsedUp : Counter → Came
-  NoRoom : Came
-  Faulted : Name → Came
+pub data Recovery : Type 0 where
+  Recovered : Opened → Recovery
+  Refused : Refusal → Recovery
+  UsedUp : Counter → Recovery
+  NoMemory : Recovery
+  Faulted : Name → Recovery
 
 -- It is the answer to what a read gives; for want of memory, and where the disk fails, it may give
 -- up.
-abbrev pub AnswersBy : Image → Came → Type 0
+abbrev pub AnswersBy : Image → Recovery → Type 0
 AnswersBy image (Recovered opened) =
     (found : Finds image) × (used_up found ≡ None) × (opened ≡ opened_from found)
 AnswersBy image (Refused why) = Opens image (Err why)
 AnswersBy image (UsedUp counter) = (found : Finds image) × (used_up found ≡ Some counter)
-AnswersBy image NoRoom = Unit {0}
+AnswersBy image NoMemory = Unit {0}
 AnswersBy image (Faulted name) = Unit {0}
 
 -- reads give an image that isn't opened: it is refused, or a number is used up

@@ -11,19 +11,22 @@ use Rattle.vl_manifest.specs.declared.state.ManifestState.{ManifestState}
 use Rattle.vl_recover.specs.Answers.{AnswersBy, Finds, Opened, held_log, used_up}
 use Rattle.vl_recover.specs.Repairing.{Cut, Headed, IsPlan, Kept, NoLast, Plan, Rewritten}
 use Rattle.vl_recover.specs.Repairing as repairing
+use Rattle.vl_recover.specs.NextLogs.{made_of, number_of}
 use Rattle.vl_recover.specs.PlanViews.{plan_view}
 use Rattle.vl_recover.specs.Plans.{active_log, new_state, passes}
-use Rattle.vl_recover.specs.Results.{came_by, frozen_log}
+use Rattle.vl_recover.specs.Results.{recovery_by, frozen_log}
 use Rattle.vl_recover.specs.declared.fails.OpenError.{OpenError}
 use Rattle.vl_recover.specs.declared.fails.OpenError.TheVariants as why
-use Rattle.vl_recover.specs.declared.found.Found.{Found}
+use Rattle.vl_recover.specs.declared.found.Findings.{Findings}
 use Rattle.vl_recover.specs.declared.found.LastLog.{LastLog}
+use Rattle.vl_recover.specs.declared.plan.NextLog.{NextLog}
+use Rattle.vl_recover.specs.declared.plan.NextLog.TheVariants as next
 use Rattle.vl_recover.specs.declared.prepared.Prepared.{Prepared}
 
--- the log that is made, by the new state and the last log
-abbrev pub log_of : ManifestState → Option LastLog → Option ℕ
-log_of state None = Some (max state.head state.next_log)
-log_of state (Some last) = if last.has_frames then Some state.next_log else None
+-- the log that takes commits then, by the new state and the last log
+abbrev pub next_of : ManifestState → Option LastLog → NextLog
+next_of state None = next.Made (max state.head state.next_log)
+next_of state (Some last) = if last.has_frames then next.Made state.next_log else next.Last last.number
 
 -- what becomes of the last log
 abbrev pub step_for : Option LastLog → repairing.LastLog
@@ -39,24 +42,18 @@ used_up_of log manifest =
     if passes log then Some counters.Log
     else (if manifest == max_file_number then Some counters.Manifest else None)
 
--- the log that takes commits
-abbrev pub active_by : Option ℕ → Option LastLog → ℕ
-active_by (Some log) last = log
-active_by None None = 0
-active_by None (Some last) = last.number
-
 -- ---- the same by all that was found
 
-abbrev pub state_for : Found → ManifestState
+abbrev pub state_for : Findings → ManifestState
 state_for found = opened_state found.greatest.log found.greatest.table found.state
 
-abbrev pub log_for : Found → Option ℕ
-log_for found = log_of (state_for found) found.last
+abbrev pub log_for : Findings → Option ℕ
+log_for found = made_of (next_of (state_for found) found.last)
 
-abbrev pub used_up_for : Found → Option Counter
+abbrev pub used_up_for : Findings → Option Counter
 used_up_for found = used_up_of (log_for found) found.greatest.manifest
 
-abbrev pub plan_for : Found → Plan
+abbrev pub plan_for : Findings → Plan
 plan_for found = record {
   manifest = found.greatest.manifest + 1;
   piece = manifest_bytes (found.greatest.manifest + 1) (whole_edits (state_for found) ∷ []);
@@ -66,17 +63,17 @@ plan_for found = record {
 }
 
 -- it was decided so by what was found
-pub record IsDecided (found : Found) (prepared : Prepared) : Type 0 where
+pub record IsDecided (found : Findings) (prepared : Prepared) : Type 0 where
   pub unused : used_up_for found ≡ None
   pub number : prepared.number ≡ found.number
   pub state : prepared.state ≡ state_for found
   pub frozen : prepared.frozen.items ≡ found.frozen.items
   pub plan : plan_view prepared.plan ≡ plan_for found
   pub edits : prepared.plan.edits.items ≡ whole_edits prepared.state
-  pub active : prepared.active ≡ active_by (log_for found) found.last
+  pub active : prepared.active ≡ number_of (next_of (state_for found) found.last)
 
 -- it was decided, or a number is used up, or memory ran out
-abbrev pub DecidesSo : Found → Result Prepared OpenError → Type 0
+abbrev pub DecidesSo : Findings → Result Prepared OpenError → Type 0
 DecidesSo found (Ok prepared) = IsDecided found prepared
 DecidesSo found (Err (why.Exhausted counter)) = used_up_for found ≡ Some counter
 DecidesSo found (Err why.NoMemory) = Unit {0}
@@ -110,4 +107,4 @@ opened_by prepared = record {
 -- It is ready, or that is the answer.
 abbrev pub PreparesSo : Image → Result Prepared OpenError → Type 0
 PreparesSo image (Ok prepared) = IsPrepared image prepared
-PreparesSo image (Err why) = AnswersBy image (came_by why)
+PreparesSo image (Err why) = AnswersBy image (recovery_by why)

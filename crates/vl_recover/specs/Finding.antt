@@ -4,17 +4,16 @@ use Rattle.std.specs.Option.{ForSome, option_map}
 use Rattle.vl_disk.specs.Crash.{Image}
 use Rattle.vl_disk.specs.Disk.{Stands}
 use Rattle.vl_disk.specs.DiskState.{DiskState}
-use Rattle.vl_disk.specs.declared.name.Name.TheVariants.{Manifest}
 use Rattle.vl_model.specs.Limits.{max_file_number}
 use Rattle.vl_model.specs.declared.log_frame.LogFrame.{LogFrame}
 use Rattle.vl_recover.specs.declared.fails.OpenError.{OpenError}
 use Rattle.vl_recover.specs.declared.fails.OpenError.TheVariants as why
-use Rattle.vl_recover.specs.declared.found.Found.{Found}
+use Rattle.vl_recover.specs.declared.found.Findings.{Findings}
 use Rattle.vl_recover.specs.declared.found.GreatestNumbers.{GreatestNumbers}
 use Rattle.vl_recover.specs.declared.found.LastLog.{LastLog}
-use Rattle.vl_recover.specs.Answers.{AnswersBy, AreStrayNames, Finds, held_log}
+use Rattle.vl_recover.specs.Answers.{AnswersBy, AreStrayNames, Finds, held_log, no_file}
 use Rattle.vl_recover.specs.Plans.{Greatest}
-use Rattle.vl_recover.specs.Results.{HasFailed, came_by, frozen_log}
+use Rattle.vl_recover.specs.Results.{HasFailed, recovery_by, frozen_log}
 use Rattle.vl_recover.specs.Walk.{StandingLog, content_end}
 
 abbrev pub greatest_of : GreatestNumbers → Greatest
@@ -54,7 +53,7 @@ IsUpTo greatest (Some last) = last.number ≤ greatest
 -- ---- all of it
 
 -- what was found is what the image has
-pub record IsFound (image : Image) (found : Found) : Type 0 where
+pub record IsFound (image : Image) (found : Findings) : Type 0 where
   pub finds : Finds image
   pub state : found.state ≡ finds.opening.state
   pub number : found.number ≡ finds.opening.number
@@ -64,14 +63,14 @@ pub record IsFound (image : Image) (found : Found) : Type 0 where
   pub strays : AreStrayNames image finds.opening.state.head found.strays.items
 
 -- It was found, or that is the answer.
-abbrev pub FindsSo : Image → Result Found OpenError → Type 0
+abbrev pub FindsSo : Image → Result Findings OpenError → Type 0
 FindsSo image (Ok found) = IsFound image found
-FindsSo image (Err why) = AnswersBy image (came_by why)
+FindsSo image (Err why) = AnswersBy image (recovery_by why)
 
 -- the disk failed
 abbrev pub IsFault : {A : Type 0} → Result A OpenError → Type 0
 IsFault (Ok a) = ⊥
-IsFault (Err why) = HasFailed (came_by why)
+IsFault (Err why) = HasFailed (recovery_by why)
 
 -- memory ran out, or the disk failed
 abbrev pub IsExcused : OpenError → Type 0
@@ -89,4 +88,4 @@ IsFaultAt told (why.NewerFormat format) = Unit {0}
 IsFaultAt told (why.Damaged name place) = Unit {0}
 IsFaultAt told (why.Exhausted counter) = Unit {0}
 IsFaultAt told why.NoMemory = Unit {0}
-IsFaultAt told (why.Disk name) = ForSome told (Stands name) ⊎ (name ≡ Manifest 0)
+IsFaultAt told (why.Disk name) = ForSome told (Stands name) ⊎ (name ≡ no_file)

@@ -65,20 +65,20 @@ pub record HasNumbers (plan : Plan) : Type 0 where
 
 -- ---- room, so that no call behind the new manifest's wants memory
 
-abbrev pub HasRoomToRepair : LastLog → (Name → Spare) → Type 0
-HasRoomToRepair NoLast spare = Unit {0}
-HasRoomToRepair (Kept log) spare = Unit {0}
-HasRoomToRepair (Cut log len) spare = IsTrue (spare (Log log)).change
-HasRoomToRepair (Rewritten log) spare = IsReady 16 (spare (Log log))
-HasRoomToRepair (Headed log) spare = CanAppend 16 (spare (Log log))
+abbrev pub IsReadyToRepair : LastLog → (Name → Spare) → Type 0
+IsReadyToRepair NoLast spare = Unit {0}
+IsReadyToRepair (Kept log) spare = Unit {0}
+IsReadyToRepair (Cut log len) spare = IsTrue (spare (Log log)).change
+IsReadyToRepair (Rewritten log) spare = IsReady 16 (spare (Log log))
+IsReadyToRepair (Headed log) spare = CanAppend 16 (spare (Log log))
 
-abbrev pub HasRoomToMake : Option ℕ → (Name → Spare) → Type 0
-HasRoomToMake None spare = Unit {0}
-HasRoomToMake (Some log) spare = IsReady 16 (spare (Log log))
+abbrev pub IsReadyToMake : Option ℕ → (Name → Spare) → Type 0
+IsReadyToMake None spare = Unit {0}
+IsReadyToMake (Some log) spare = IsReady 16 (spare (Log log))
 
-pub record HasRoomFor (plan : Plan) (spare : Name → Spare) : Type 0 where
-  pub last : HasRoomToRepair plan.last spare
-  pub log : HasRoomToMake plan.log spare
+pub record IsReadyFor (plan : Plan) (spare : Name → Spare) : Type 0 where
+  pub last : IsReadyToRepair plan.last spare
+  pub log : IsReadyToMake plan.log spare
 
 -- the room of all files but the last log is as it was
 abbrev pub SameSpareBeside : LastLog → (Name → Spare) → (Name → Spare) → Type 0

@@ -13,6 +13,7 @@ pub mod Repairing
 pub mod Named
 pub mod Opening
 pub mod Plans
+pub mod NextLogs
 pub mod PlanViews
 pub mod ReadLogs
 pub mod Results

@@ -4,12 +4,11 @@ use Rattle.vl_disk.specs.Crash.{Image}
 use Rattle.vl_disk.specs.Disk.{Stands}
 use Rattle.vl_disk.specs.DiskState.{DiskState}
 use Rattle.vl_disk.specs.declared.name.Name.{Name}
-use Rattle.vl_disk.specs.declared.name.Name.TheVariants.{Manifest}
 use Rattle.vl_manifest.specs.Manifest.{manifest_bytes}
 use Rattle.vl_manifest.specs.States.{whole_edits}
 use Rattle.vl_manifest.specs.declared.manifest_log.ManifestLog.{ManifestLog}
 use Rattle.vl_manifest.specs.declared.state.ManifestState.{ManifestState}
-use Rattle.vl_recover.specs.Answers.{Came, Faulted, Finds, NoRoom, Recovered, Refused, UsedUp, used_up}
+use Rattle.vl_recover.specs.Answers.{Faulted, Finds, NoMemory, Recovered, Recovery, Refused, UsedUp, no_file, used_up}
 use Rattle.vl_recover.specs.Fitting.{IsFileOf}
 use Rattle.vl_recover.specs.Repairing.{IsPlan, Plan, WhileRepairing, repaired}
 
@@ -37,13 +36,13 @@ IsAsLong state log = log.length ≡ length (manifest_bytes log.number (whole_edi
 -- where a disk fails: at a file that stood and was read, at listing the files, or at a file that a repairing works on
 pub data IsFaultName (read : Image) (old : DiskState) (name : Name) : Type 0 where
   at_read : Stands name old → IsFaultName read old name
-  at_list : name ≡ Manifest 0 → IsFaultName read old name
+  at_list : name ≡ no_file → IsFaultName read old name
   at_repaired : (repairing : Repairing read) → IsFileOf repairing.plan name → IsFaultName read old name
 
 -- the name that a fault is answered with is such a name
-abbrev pub FaultsAt : Image → DiskState → Came → Type 0
+abbrev pub FaultsAt : Image → DiskState → Recovery → Type 0
 FaultsAt read old (Recovered opened) = Unit {0}
 FaultsAt read old (Refused why) = Unit {0}
 FaultsAt read old (UsedUp counter) = Unit {0}
-FaultsAt read old NoRoom = Unit {0}
+FaultsAt read old NoMemory = Unit {0}
 FaultsAt read old (Faulted name) = IsFaultName read old name

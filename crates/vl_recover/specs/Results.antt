@@ -5,7 +5,7 @@ use Rattle.vl_recover.specs.declared.fails.OpenError.{OpenError}
 use Rattle.vl_recover.specs.declared.fails.OpenError.TheVariants as why
 use Rattle.vl_recover.specs.declared.parts.FrozenLog.{FrozenLog}
 use Rattle.vl_recover.specs.declared.parts.Parts.{Parts}
-use Rattle.vl_recover.specs.Answers.{Came, Faulted, HeldLog, NoRoom, Opened, Recovered, Refused, UsedUp}
+use Rattle.vl_recover.specs.Answers.{Recovery, Faulted, HeldLog, NoMemory, Opened, Recovered, Refused, UsedUp}
 use Rattle.vl_recover.specs.Opening.{Damaged, NewerFormat, NotAStore}
 
 abbrev pub frozen_log : FrozenLog → HeldLog
@@ -20,34 +20,34 @@ opened_of parts = record {
   active = parts.active.number;
 }
 
-abbrev pub came_by : OpenError → Came
-came_by why.NotAStore = Refused NotAStore
-came_by (why.NewerFormat format) = Refused (NewerFormat format)
-came_by (why.Damaged name place) = Refused (Damaged name place)
-came_by (why.Exhausted counter) = UsedUp counter
-came_by why.NoMemory = NoRoom
-came_by (why.Disk name) = Faulted name
+abbrev pub recovery_by : OpenError → Recovery
+recovery_by why.NotAStore = Refused NotAStore
+recovery_by (why.NewerFormat format) = Refused (NewerFormat format)
+recovery_by (why.Damaged name place) = Refused (Damaged name place)
+recovery_by (why.Exhausted counter) = UsedUp counter
+recovery_by why.NoMemory = NoMemory
+recovery_by (why.Disk name) = Faulted name
 
-abbrev pub came : {D : Type 0} → Result (Parts D) (OpenFail D) → Came
-came (Ok parts) = Recovered (opened_of parts)
-came (Err fail) = came_by fail.why
+abbrev pub recovery_of : {D : Type 0} → Result (Parts D) (OpenFail D) → Recovery
+recovery_of (Ok parts) = Recovered (opened_of parts)
+recovery_of (Err fail) = recovery_by fail.why
 
 abbrev pub disk_of : {D : Type 0} → Result (Parts D) (OpenFail D) → D
 disk_of (Ok parts) = parts.disk
 disk_of (Err fail) = fail.disk
 
 -- the disk failed
-abbrev pub HasFailed : Came → Type 0
+abbrev pub HasFailed : Recovery → Type 0
 HasFailed (Recovered opened) = ⊥
 HasFailed (Refused refusal) = ⊥
 HasFailed (UsedUp counter) = ⊥
-HasFailed NoRoom = ⊥
+HasFailed NoMemory = ⊥
 HasFailed (Faulted name) = Unit {0}
 
 -- it wasn't opened, and the disk didn't fail
-abbrev pub FailsWithoutFault : Came → Type 0
+abbrev pub FailsWithoutFault : Recovery → Type 0
 FailsWithoutFault (Recovered opened) = ⊥
 FailsWithoutFault (Refused refusal) = Unit {0}
 FailsWithoutFault (UsedUp counter) = Unit {0}
-FailsWithoutFault NoRoom = Unit {0}
+FailsWithoutFault NoMemory = Unit {0}
 FailsWithoutFault (Faulted name) = ⊥

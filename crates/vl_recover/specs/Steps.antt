@@ -84,7 +84,7 @@ pub record Repairs {D : Type 0} (g : Ghosts D) (plan : Plan) (old new : D)
   pub stops : OnErr result (MakesSome (calls_of_plan plan) (g.calls old) (g.calls new))
   -- where the disk failed, it was at a file of the plan; for want of memory it does nothing
   pub at : IfErr result (IsFailAt plan)
-  pub no_room : result ≡ Err NoMemory → ChangesNothing g old new ⊥
+  pub no_memory : result ≡ Err NoMemory → ChangesNothing g old new ⊥
   pub tells : GoesOnTelling (g.told old) (g.told new)
   pub time : Elapses g old new (WhileRepairing plan)
   pub cause : HasCause (g.faults old) (g.faults new) (HasFailed result)

@@ -13,7 +13,7 @@ ghost use Rattle.vl_recover.specs.Opening.{Current};
 
 use crate::OpenError;
 use crate::current::current_state;
-use crate::found::{Found, GreatestNumbers, LogsFound};
+use crate::found::{Findings, GreatestNumbers, LogsFound};
 use crate::logs::read_logs;
 use crate::names::{greatest_numbers, strays};
 use crate::reading::list_names;
@@ -22,7 +22,7 @@ use vl_disk::{Disk, Name};
 use vl_manifest::ManifestState;
 
 /// Finds out what stands on a disk: reads its current manifest, and then its logs. It changes nothing.
-pub(crate) fn find<D: Disk>(alloc: Global, disk: &mut D) -> Result<Found, OpenError>
+pub(crate) fn find<D: Disk>(alloc: Global, disk: &mut D) -> Result<Findings, OpenError>
     ensures answer { (state : DiskState) (read : Image) → D.told disk.old ≡ Some state → IsRead read state
         → FindsSo read result }
     ensures numbers { IfOk result (λ found. AreFileNumbers found.greatest) }
@@ -43,7 +43,7 @@ fn found(
     greatest: GreatestNumbers,
     state: ManifestState,
     logs: LogsFound,
-) -> Result<Found, OpenError>
+) -> Result<Findings, OpenError>
     requires greatest { AreGreatestIn names.items (greatest_of greatest) }
     requires numbered { All IsNumbered names.items }
     requires last { IfSome logs.last (λ q. Contains names.items (kinds.Log q.number)) }
@@ -54,7 +54,7 @@ fn found(
     ensures no_fault { IsFault result → ⊥ }
 {
     match logs.number {
-        Ok(number) => Ok(Found {
+        Ok(number) => Ok(Findings {
             number,
             frozen: logs.frozen,
             greatest,

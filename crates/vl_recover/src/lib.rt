@@ -23,6 +23,6 @@ mod reading;
 mod recovering;
 mod repairing;
 
-pub use fails::{OpenError, OpenFail};
+pub use fails::{NO_FILE, OpenError, OpenFail};
 pub use parts::{FrozenLog, Parts};
 pub use recovering::recover;

@@ -9,12 +9,10 @@ ghost use Rattle.vl_recover.specs.Finding.{IsExcused, IsFault, IsFaultAt};
 ghost use Rattle.vl_recover.specs.Named.{AreRising};
 
 use crate::OpenError;
+use crate::fails::NO_FILE;
 use crate::names::in_order;
 use std::alloc::Global;
 use vl_disk::{Disk, ListFail, Name, ReadFail, read_file};
-
-// What is named where the files couldn't be listed: no manifest has this number.
-const NO_FILE: Name = Name::Manifest(0);
 
 /// The names of the files that stand, in their order.
 pub fn list_names<D: Disk>(alloc: Global, disk: &mut D) -> Result<Vec<Name>, OpenError>
