@@ -1,5 +1,5 @@
 -- What the names of files tell, name by name, and in their order.
-use Rattle.std.proofs.Common.{◌≡◌, ◌⊎◌, ℕ, suc, ◌+◌, ◌<◌, ◌≤◌, Bool, true, false, List, [], ◌∷◌, ◌++◌, ◌-◌, length, get_or, take, refl, sym, ap, subst, ◌∙◌, arith, ⊎_elim, inl, inr, Option, None, Some}
+use Rattle.std.proofs.Common.{◌≡◌, ◌⊎◌, ℕ, suc, ◌+◌, ◌<◌, ◌≤◌, Bool, true, false, List, [], ◌∷◌, ◌++◌, ◌-◌, length, get_or, take, refl, sym, ap, subst, ◌∙◌, arith, ⊎_elim, inl, inr, None, Some}
 use Rattle.std.specs.Prelude.{nat_le, nat_lt, if◌then◌else◌, ◌≢◌, swap, AllPairs, Contains, IsPermutation, IsSortedByKey}
 use Rattle.std.specs.List.Sorted.{IsNonDecreasingBy}
 use Rattle.std.specs.Ordering.{nat_cmp}

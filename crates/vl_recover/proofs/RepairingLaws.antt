@@ -58,23 +58,3 @@ strays_end (name ∷ names) disk = inr (⊎_elim
     (λ (same : behind_strays names (without name disk) ≡ without name disk). inl (inr same))
     (λ (during : WhileStrays names (without name disk) (behind_strays names (without name disk))). inr during)
     (strays_end names (without name disk)))
-
--- A repaired disk is at the last moment of its repairing.
-pub repaired_moment : (plan : Plan) (disk : DiskState) → WhileRepairing plan disk (repaired plan disk)
-repaired_moment plan disk = ⊎_elim
-    (λ (same : repaired plan disk ≡ with_log plan disk). subst (WhileRepairing plan disk) (sym same) with_log_moment)
-    (λ (during : WhileStrays plan.strays (with_log plan disk) (repaired plan disk)). at_strays during)
-    (strays_end plan.strays (with_log plan disk))
-  where
-    with_last_moment : WhileRepairing plan disk (with_last plan disk)
-    with_last_moment = ⊎_elim
-        (λ (same : with_last plan disk ≡ with_manifest plan disk).
-        subst (WhileRepairing plan disk) (sym same) (at_manifest (durable refl)))
-        (λ (during : WhileLast plan.last (with_manifest plan disk) (with_last plan disk)). at_last during)
-        (last_ends plan.last (with_manifest plan disk))
-
-    with_log_moment : WhileRepairing plan disk (with_log plan disk)
-    with_log_moment = ⊎_elim
-        (λ (same : with_log plan disk ≡ with_last plan disk). subst (WhileRepairing plan disk) (sym same) with_last_moment)
-        (λ (during : WhileLog plan.log (with_last plan disk) (with_log plan disk)). at_log during)
-        (log_ends plan.log (with_last plan disk))

@@ -13,7 +13,7 @@ use Rattle.vl_disk.specs.declared.name.Name.TheVariants.{Log, Manifest, Table}
 use Rattle.vl_frame.specs.laws.RunLaws.{frame_is_some}
 use Rattle.vl_frame.specs.Runs.{item_frame}
 use Rattle.vl_manifest.specs.Current.{StandsReadable}
-use Rattle.vl_manifest.specs.laws.EditLaws.{edits_grammar}
+use Rattle.vl_manifest.specs.Grammar.{edits_grammar}
 use Rattle.vl_manifest.specs.Manifest.{IsReadable, SaysState}
 use Rattle.vl_manifest.specs.laws.ManifestLaws.{says_readable}
 use Rattle.vl_manifest.specs.declared.state.ManifestState.{ManifestState}

@@ -1,5 +1,5 @@
 -- What a disk holds of an opened store, of which all files are durable.
-use Rattle.std.specs.Prelude.{◌≡◌, ℕ, ◌+◌, ◌≤◌, ◌<◌, List, [], ◌∷◌, None, Some, Ok}
+use Rattle.std.specs.Prelude.{◌≡◌, ℕ, ◌+◌, ◌≤◌, ◌<◌, List, [], ◌∷◌, map, true, None, Some, Ok}
 use Rattle.std.specs.FinMap.{get}
 use Rattle.std.specs.List.{AllByRecursion}
 use Rattle.vl_disk.specs.DiskState.{DiskState, File, settled}
@@ -9,6 +9,8 @@ use Rattle.vl_layout.specs.declared.segment.Segment.{Segment}
 use Rattle.vl_manifest.specs.Manifest.{ManifestSays}
 use Rattle.vl_manifest.specs.declared.state.ManifestState.{ManifestState}
 use Rattle.vl_frame.specs.Runs.{HasFrame}
+use Rattle.vl_recover.specs.Opening.{Opening}
+use Rattle.vl_recover.specs.Walk.{StandingLog, filled, standing_log, walked}
 use Rattle.vl_seglog.specs.Frames.{frames_grammar, log_bytes}
 
 -- no file stands under this name, and none was removed since the disk was started
@@ -47,3 +49,18 @@ pub record HoldsStore (state : ManifestState) (logs : List Segment) (disk : Disk
   pub manifest : HoldsManifest state disk
   pub logs_are : HoldsLogs state.head logs disk
   pub durable : AllSettled disk
+
+-- ---- what it opens as
+
+-- a log as it stands that is held: whole
+abbrev pub log_as_held : Segment → StandingLog
+log_as_held s = standing_log s.number (log_bytes s.number s.frames)
+    (record { header = true; frames = s.frames; whole = true })
+
+-- their commits go on from a number to another
+abbrev pub GoOn : ℕ → List Segment → ℕ → Type 0
+GoOn covered logs number = walked covered (map log_as_held logs) ≡ Ok number
+
+-- what a store that is held opens as
+abbrev pub opening_held : ManifestState → List Segment → ℕ → Opening
+opening_held state logs number = record { state = state; logs = filled (map log_as_held logs); number = number }

@@ -1,5 +1,5 @@
 -- The commit numbers that logs together give, and the first place at which they are damaged.
-use Rattle.std.specs.Prelude.{ℕ, ◌+◌, ◌==◌, if◌then◌else◌, List, [], ◌∷◌, Result, Ok, Err}
+use Rattle.std.specs.Prelude.{ℕ, ◌+◌, ◌==◌, if◌then◌else◌, List, [], ◌∷◌, length, Result, Ok, Err}
 use Rattle.vl_model.specs.Frames.{frame_length}
 use Rattle.vl_model.specs.declared.log_frame.LogFrame.{LogFrame}
 use Rattle.vl_model.specs.declared.log_frame.LogFrame.TheVariants.{Committed, Relocated}
@@ -13,6 +13,10 @@ pub record StandingLog : Type 0 where
   pub number : ℕ
   pub length : ℕ
   pub reading : LogReading
+
+-- a log with its length and reading, from its bytes
+abbrev pub standing_log : ℕ → List ℕ → LogReading → StandingLog
+standing_log number bytes reading = record { number = number; length = length bytes; reading = reading }
 
 -- where a log is damaged
 pub record LogDamage : Type 0 where

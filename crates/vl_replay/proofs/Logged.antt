@@ -16,7 +16,8 @@ use Rattle.vl_model.specs.Keys.{Writes}
 use Rattle.vl_model.specs.declared.log_frame.LogFrame.TheVariants.{Committed}
 use Rattle.vl_recover.specs.laws.AppendLaws.{append_holds, commit_counts, goes_on, with_frame}
 use Rattle.vl_recover.specs.Held.{HoldsStore}
-use Rattle.vl_recover.specs.laws.HeldLaws.{GoOn, held_may_open, held_opens, opening_held}
+use Rattle.vl_recover.specs.laws.HeldLaws.{held_may_open, held_opens}
+use Rattle.vl_recover.specs.Held.{GoOn, opening_held}
 use Rattle.vl_recover.specs.Opening.{Opens}
 use Rattle.vl_recover.specs.laws.TornFrames.{frame_behind}
 use Rattle.vl_seglog.specs.laws.CommitLaws.{frame_length-committed}

@@ -17,7 +17,7 @@ use Rattle.vl_disk.specs.declared.name.Name.{Name}
 use Rattle.vl_disk.specs.declared.name.Name.TheVariants.{Log, Manifest, Table}
 use Rattle.vl_frame.specs.laws.RunLaws.{frame_is_some}
 use Rattle.vl_frame.specs.Runs.{item_frame}
-use Rattle.vl_manifest.specs.laws.EditLaws.{edits_grammar}
+use Rattle.vl_manifest.specs.Grammar.{edits_grammar}
 use Rattle.vl_manifest.specs.Manifest.{IsReadable, ManifestSays, SaysState, manifest_bytes}
 use Rattle.vl_manifest.specs.laws.ManifestLaws.{one_saying, whole_manifest}
 use Rattle.vl_manifest.specs.laws.StateLaws.{IsInRange}

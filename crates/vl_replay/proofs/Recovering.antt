@@ -14,7 +14,7 @@ use Rattle.vl_model.specs.declared.entry.Entry.{Entry}
 use Rattle.vl_model.specs.declared.log_frame.LogFrame.{LogFrame}
 use Rattle.vl_recover.specs.Answers.{Finds, HeldLog, IsNotOpened, Opened, and_made, as_segment, held_log, logs_then, opened_from}
 use Rattle.vl_recover.specs.Held.{HoldsStore}
-use Rattle.vl_recover.specs.laws.HeldLaws.{GoOn}
+use Rattle.vl_recover.specs.Held.{GoOn}
 use Rattle.vl_recover.specs.Meanwhile.{IsRepaired}
 use Rattle.vl_recover.specs.Repairing.{Plan, repaired, plan_from, plan_of}
 use Rattle.vl_recover.specs.laws.OneFinding.{same_greatest, same_logs, same_opening}

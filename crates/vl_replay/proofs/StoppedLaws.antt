@@ -26,10 +26,11 @@ use Rattle.vl_mem.specs.declared.outcome.Outcome.TheVariants.{Lost, Kept, Halved
 use Rattle.vl_model.specs.History.{last_number}
 use Rattle.vl_model.specs.Limits.{max_file_number}
 use Rattle.vl_model.specs.declared.log_frame.LogFrame.{LogFrame}
-use Rattle.vl_recover.specs.laws.AlikeLaws.{standing_log}
+use Rattle.vl_recover.specs.Walk.{standing_log}
 use Rattle.vl_recover.specs.laws.AppendLaws.{last_held, manifest_kept, standing_with, walked_with}
 use Rattle.vl_recover.specs.Held.{HoldsStore}
-use Rattle.vl_recover.specs.laws.HeldLaws.{GoOn, held_current, held_opens, held_says, log_as_held, opening_held}
+use Rattle.vl_recover.specs.laws.HeldLaws.{held_current, held_opens, held_says}
+use Rattle.vl_recover.specs.Held.{GoOn, log_as_held, opening_held}
 use Rattle.vl_recover.specs.Opening.{Led, Opening, Opens, Refusal, StandingLogs}
 use Rattle.vl_recover.specs.laws.OpeningLaws.{opens_by, single_opening, some_none}
 use Rattle.vl_recover.specs.laws.StageLaws.{ok_same}

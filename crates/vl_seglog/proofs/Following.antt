@@ -9,7 +9,7 @@ use Rattle.vl_seglog.specs.Relocation.{moves_spelling}
 use Rattle.vl_seglog.specs.Series.{Spelling}
 use Rattle.vl_seglog.specs.declared.frame.ReadRecord.{ReadRecord}
 use Rattle.vl_seglog.specs.laws.RecordLaws.{length-record_bytes}
-use Rattle.vl_seglog.specs.laws.RelocationLaws.{length-moved_bytes}
+use Rattle.vl_seglog.specs.laws.MoveLaws.{length-moved_bytes}
 use Rattle.vl_seglog.proofs.Runs.{SoFar, read_one}
 
 module _ {Item : Type 0} (At : ℕ → Item → Type 0) (size : Item → ℕ) where

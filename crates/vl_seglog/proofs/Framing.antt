@@ -10,7 +10,8 @@ use Rattle.vl_frame.specs.declared.kinds.FrameKind.{FrameKind}
 use Rattle.vl_model.specs.Frames.{frame_length}
 use Rattle.vl_model.specs.declared.log_frame.LogFrame.{LogFrame}
 use Rattle.vl_seglog.specs.laws.FrameLaws.{frames_end-more, length-item_frame}
-use Rattle.vl_seglog.specs.Frames.{frame_body, frame_kind, frames_end, frames_grammar}
+use Rattle.vl_seglog.specs.Frames.{frames_end, frames_grammar}
+use Rattle.vl_seglog.specs.Bodies.{frame_body, frame_kind}
 use Rattle.vl_seglog.specs.Placed.{AreFramesFrom, IsFrameAt}
 use Rattle.vl_seglog.specs.Reading.{Says, frame_of}
 use Rattle.vl_seglog.specs.declared.frame.Frame.{Frame}

@@ -1,7 +1,7 @@
 -- Moved records, as they are read from the left.
 use Rattle.std.proofs.Common.{◌≡◌, ℕ, ◌<◌, ◌≤◌, ◌^◌, List, ◌++◌, length, refl, sym, ap, subst, ◌∙◌, arith}
 use Rattle.byteorder.specs.Endian.{big_bytes}
-use Rattle.vl_frame.specs.Numbers.{one_number}
+use Rattle.vl_frame.specs.laws.NumberLaws.{one_number}
 use Rattle.vl_model.specs.Keys.{value_bytes}
 use Rattle.vl_model.specs.declared.change.Change.{Change}
 use Rattle.vl_model.specs.declared.change.Change.TheVariants.{Set}
@@ -10,9 +10,11 @@ use Rattle.vl_seglog.specs.laws.RecordLaws.{one_record}
 use Rattle.vl_seglog.specs.Reading.{moved_of}
 use Rattle.vl_seglog.specs.declared.frame.ReadRecord.{ReadRecord}
 use Rattle.vl_seglog.specs.Record.{IsRecord, IsSpelled, record_bytes}
-use Rattle.vl_seglog.specs.Relocation.{AreOnce, IsMoved, IsRelocation, moved_bytes, moves_bytes, moves_spelling, relocation_body}
+use Rattle.vl_seglog.specs.Relocation.{IsRelocation, moves_bytes, moves_spelling, relocation_body}
+use Rattle.vl_seglog.specs.Moves.{AreOnce, IsMoved, moved_bytes}
 use Rattle.vl_seglog.specs.laws.RelocationLaws.{few_moves}
-use Rattle.vl_seglog.specs.Series.{IsSeries, one_series}
+use Rattle.vl_seglog.specs.Series.{IsSeries}
+use Rattle.vl_seglog.specs.laws.SeriesLaws.{one_series}
 
 -- behind the version of a moved record stands the record
 pub behind_version : (bytes : List ℕ) (version : ℕ) (rest : List ℕ) (moved : Moved) (after : List ℕ) → bytes ≡ big_bytes 8 version ++ rest → version < 2 ^ 64 → IsMoved moved → bytes ≡ moved_bytes moved ++ after

@@ -13,7 +13,8 @@ use Rattle.vl_seglog.specs.declared.frame.Said.{Said}
 use Rattle.vl_seglog.specs.declared.frame.Said.TheVariants as says
 use Rattle.vl_seglog.specs.declared.reading.LogRead.{LogRead}
 use Rattle.vl_seglog.specs.Commit.{Commit}
-use Rattle.vl_seglog.specs.Frames.{IsFrame, frame_body, frame_kind, frames_end}
+use Rattle.vl_seglog.specs.Frames.{frames_end}
+use Rattle.vl_seglog.specs.Bodies.{IsFrame, frame_body, frame_kind}
 use Rattle.vl_seglog.specs.LogReading.{LogReading}
 
 -- a record that was read, as a commit's and as a relocation's: without where it lies

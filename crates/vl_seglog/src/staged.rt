@@ -3,7 +3,7 @@ ghost use Rattle.vl_model.specs.Frames.{record_length};
 ghost use Rattle.vl_model.specs.declared.change.Change.TheVariants.{Set};
 ghost use Rattle.vl_model.specs.declared.log_frame.LogFrame.TheVariants.{Committed, Relocated};
 ghost use Rattle.vl_seglog.specs.Commit.{records_bytes};
-ghost use Rattle.vl_seglog.specs.Frames.{IsFrame};
+ghost use Rattle.vl_seglog.specs.Bodies.{IsFrame};
 ghost use Rattle.vl_seglog.specs.Relocation.{moves_bytes};
 ghost use Rattle.vl_seglog.specs.Staging.{IsStaged};
 ghost use Rattle.vl_seglog.specs.Stored.{moved_pointers, pointer_at, pointers_from};

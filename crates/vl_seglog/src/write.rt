@@ -5,7 +5,8 @@ ghost use Rattle.vl_model.specs.declared.change.Change.{Change};
 ghost use Rattle.vl_seglog.specs.Record.{record_bytes};
 ghost use Rattle.vl_seglog.specs.Commit as commits;
 ghost use Rattle.vl_seglog.specs.Frames as log;
-ghost use Rattle.vl_seglog.specs.Relocation.{moved_bytes, relocation_body, relocation_frame};
+ghost use Rattle.vl_seglog.specs.Relocation.{relocation_body, relocation_frame};
+ghost use Rattle.vl_seglog.specs.Moves.{moved_bytes};
 
 use crate::lengths::COMMIT_HEAD_BYTES;
 use crate::{RECORD_HEAD_BYTES, write_record};

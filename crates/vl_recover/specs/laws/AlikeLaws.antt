@@ -19,7 +19,7 @@ use Rattle.vl_recover.specs.Opening.{Bare, Current, Headless, Heading, IsBare, I
 use Rattle.vl_recover.specs.laws.OpeningLaws.{IsOpened, OpensBy, one_heading, opened, opens_by, some_none, some_same}
 use Rattle.vl_recover.specs.laws.StageLaws.{ok_with, then_kept}
 use Rattle.vl_recover.specs.Stages.{on_ok}
-use Rattle.vl_recover.specs.Walk.{LogDamage, StandingLog, counted, counted_whole, filled, in_log, walked, with_frames}
+use Rattle.vl_recover.specs.Walk.{LogDamage, StandingLog, counted, counted_whole, filled, in_log, standing_log, walked, with_frames}
 
 -- ---- states and images that are alike
 
@@ -93,12 +93,6 @@ abbrev pub SameBut : Name → Image → Image → Type 0
 SameBut name image other = (q : Name) → q ≢ name → get image q ≡ get other q
 
 module _ (image other : Image) where
-  pub same_lead : ((n : ℕ) → get image (Manifest n) ≡ get other (Manifest n)) → SameLead image other
-  same_lead same = record {
-    there = λ n bytes r. record { stands = same n ∙ r.stands; readable = r.readable };
-    back = λ n bytes r. record { stands = sym (same n) ∙ r.stands; readable = r.readable };
-  }
-
   pub led_kept : SameLead image other → (n : ℕ) (bytes : List ℕ) → IsCurrent other n bytes
       → IsCurrent image n bytes
   led_kept same n bytes current = record {
@@ -181,10 +175,6 @@ walk_more k n number log r frames empty header whole e =
     stays : (w : Result ℕ LogDamage) → on_ok (λ m. Ok m) w ≡ w
     stays (Ok m) = refl
     stays (Err damage) = refl
-
--- a log with its length and reading, from its bytes
-abbrev pub standing_log : ℕ → List ℕ → LogReading → StandingLog
-standing_log number bytes reading = record { number = number; length = length bytes; reading = reading }
 
 -- The log with this number stands in both images, with the same frames each time.
 pub record SameFrames (image other : Image) (number : ℕ) : Type 0 where

@@ -25,9 +25,11 @@ use Rattle.vl_model.specs.declared.change.Change.{Change}
 use Rattle.vl_model.specs.declared.log_frame.LogFrame.{LogFrame}
 use Rattle.vl_model.specs.declared.log_frame.LogFrame.TheVariants.{Committed}
 use Rattle.vl_recover.specs.Alike.{IsLeft, Spells}
-use Rattle.vl_recover.specs.laws.AlikeLaws.{log_manifest, log_same, standing_log}
+use Rattle.vl_recover.specs.laws.AlikeLaws.{log_manifest, log_same}
+use Rattle.vl_recover.specs.Walk.{standing_log}
 use Rattle.vl_recover.specs.Held.{AllSettled, HoldsLogs, HoldsManifest, HoldsStore, IsNowhere, IsSettled}
-use Rattle.vl_recover.specs.laws.HeldLaws.{AreSealed, GoOn, held_current, held_may_open, held_opens, held_says, left_nowhere, left_settled, log_as_held, may_open_by, none_removed, opening_held, settled_may_stand}
+use Rattle.vl_recover.specs.laws.HeldLaws.{AreSealed, held_current, held_may_open, held_opens, held_says, left_nowhere, left_settled, may_open_by, none_removed, settled_may_stand}
+use Rattle.vl_recover.specs.Held.{GoOn, log_as_held, opening_held}
 use Rattle.vl_recover.specs.laws.LeadsLaws.{nowhere_kept}
 use Rattle.vl_recover.specs.laws.OneName.{elsewhere_then}
 use Rattle.vl_recover.specs.Opening.{Led, Opens, StandingLogs}

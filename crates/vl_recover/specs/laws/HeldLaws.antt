@@ -16,13 +16,12 @@ use Rattle.vl_manifest.specs.Current.{IsCurrent, StandsReadable}
 use Rattle.vl_manifest.specs.laws.ManifestLaws.{says_readable}
 use Rattle.vl_manifest.specs.declared.state.ManifestState.{ManifestState}
 use Rattle.vl_recover.specs.Alike.{SameState}
-use Rattle.vl_recover.specs.laws.AlikeLaws.{same_state, standing_log}
-use Rattle.vl_recover.specs.Held.{AllSettled, HoldsLogs, HoldsManifest, HoldsStore, IsNowhere, IsSettled}
+use Rattle.vl_recover.specs.laws.AlikeLaws.{same_state}
+use Rattle.vl_recover.specs.Held.{AllSettled, GoOn, HoldsLogs, HoldsManifest, HoldsStore, IsNowhere, IsSettled, log_as_held, opening_held}
 use Rattle.vl_recover.specs.Opening.{Led, Opening, Opens, Refusal, Says, StandingLogs}
 use Rattle.vl_recover.specs.laws.OpeningLaws.{IsOpened, opened, opens_by, single_opening, single_says, one_heading, some_none, some_same}
 use Rattle.vl_recover.specs.laws.StageLaws.{ok_same}
 use Rattle.vl_recover.specs.Starts.{AllMayStand, MayOpen, MayStand}
-use Rattle.vl_recover.specs.Walk.{StandingLog, filled, walked}
 use Rattle.vl_seglog.specs.Frames.{log_bytes}
 use Rattle.vl_seglog.specs.laws.LogReadingLaws.{reads_written}
 
@@ -93,19 +92,6 @@ module _ (state : ManifestState) (disk : DiskState) (holds : HoldsManifest state
       (same_state o.state)
 
 -- ---- the logs
-
--- a log as it stands that is held: whole
-abbrev pub log_as_held : Segment → StandingLog
-log_as_held s = standing_log s.number (log_bytes s.number s.frames)
-    (record { header = true; frames = s.frames; whole = true })
-
--- their commits go on from a number to another
-abbrev pub GoOn : ℕ → List Segment → ℕ → Type 0
-GoOn covered logs number = walked covered (map log_as_held logs) ≡ Ok number
-
--- what a store that is held opens as
-abbrev pub opening_held : ManifestState → List Segment → ℕ → Opening
-opening_held state logs number = record { state = state; logs = filled (map log_as_held logs); number = number }
 
 -- Whatever is left has these logs from a number on.
 pub held_standing : (least : ℕ) (logs : List Segment) (disk : DiskState) (image : Image)

@@ -10,7 +10,8 @@ use Rattle.vl_recover.specs.Alike.{ShowsAs}
 use Rattle.vl_recover.specs.laws.AlikeLaws.{walk_more, whole_log}
 use Rattle.vl_recover.specs.Answers.{Finds, and_made, as_segment, logs_then}
 use Rattle.vl_recover.specs.Held.{HoldsStore}
-use Rattle.vl_recover.specs.laws.HeldLaws.{GoOn, held_opens, log_as_held, opening_held}
+use Rattle.vl_recover.specs.laws.HeldLaws.{held_opens}
+use Rattle.vl_recover.specs.Held.{GoOn, log_as_held, opening_held}
 use Rattle.vl_recover.specs.Opening.{Opening, Opens}
 use Rattle.vl_recover.specs.laws.OpeningLaws.{IsOpened, one_standing, opened}
 use Rattle.vl_recover.specs.Plans.{log_made, new_state}
@@ -131,10 +132,3 @@ module _ {image : Image} (found : Finds image) where
         ∙ sym is_opened.logs_are;
     number = refl;
   }
-
-  -- So whatever a crash leaves of it opens as that.
-  pub recovered_opens : (now : DiskState) → HoldsStore (new_state found.greatest o.state) (logs_then found) now
-      → (left : Image) → MayLeave now left
-      → Opens left (Ok (opening_held (new_state found.greatest o.state) (logs_then found) o.number))
-  recovered_opens now holds left may =
-      held_opens (new_state found.greatest o.state) (logs_then found) o.number now holds found_goes_on left may

@@ -14,7 +14,7 @@ use Rattle.vl_frame.specs.laws.HeaderLaws.{length-header_bytes}
 use Rattle.vl_frame.specs.laws.RunLaws.{frame_is_some, none_at_end, one_front}
 use Rattle.vl_frame.specs.Runs.{StandsAt, StandsNone, item_frame}
 use Rattle.vl_frame.specs.declared.kinds.FileKind.TheVariants as files
-use Rattle.vl_manifest.specs.laws.EditLaws.{edits_grammar}
+use Rattle.vl_manifest.specs.Grammar.{edits_grammar}
 use Rattle.vl_manifest.specs.Manifest.{IsReadable, SaysState, manifest_bytes, manifest_header}
 use Rattle.vl_manifest.specs.laws.ManifestLaws.{made_or_not, whole_has_frame}
 use Rattle.vl_manifest.specs.laws.StateLaws.{IsInRange}

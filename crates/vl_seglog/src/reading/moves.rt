@@ -4,7 +4,8 @@ ghost use Rattle.vl_model.specs.declared.change.Change.TheVariants.{Set};
 ghost use Rattle.vl_model.specs.declared.log_frame.Moved.{Moved};
 ghost use Rattle.vl_seglog.specs.Placed.{AreMovedFrom, LiesMovedAt};
 ghost use Rattle.vl_seglog.specs.Reading.{moved_of};
-ghost use Rattle.vl_seglog.specs.Relocation.{IsMoved, IsRelocation, moved_bytes, moves_spelling, relocation_body};
+ghost use Rattle.vl_seglog.specs.Relocation.{IsRelocation, moves_spelling, relocation_body};
+ghost use Rattle.vl_seglog.specs.Moves.{IsMoved, moved_bytes};
 ghost use Rattle.vl_seglog.specs.Series.{IsSeries};
 
 use crate::frame::ReadRecord;

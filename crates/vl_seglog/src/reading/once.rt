@@ -1,6 +1,6 @@
 ghost use Rattle.std.specs.Prelude.{◌≡◌, ◌↔◌, IsTrue, map};
 ghost use Rattle.vl_seglog.specs.Reading.{moved_of};
-ghost use Rattle.vl_seglog.specs.Relocation.{AreOnce, IsElsewhere};
+ghost use Rattle.vl_seglog.specs.Moves.{AreOnce, IsElsewhere};
 
 use crate::frame::ReadRecord;
 

@@ -1,4 +1,4 @@
-use Rattle.std.proofs.Common.{◌≡◌, ◌+◌, ◌∷◌, drop, get_or, refl, sym, subst, ◌∙◌}
+use Rattle.std.proofs.Common.{◌+◌, drop, get_or, refl, sym, subst, ◌∙◌}
 use Rattle.std.specs.Prelude.{nat_lt}
 use Rattle.std.proofs.lemmas.List.{drop_all, drop_more}
 use Rattle.vl_disk.specs.declared.name.Name.TheVariants.{Log}

@@ -4,7 +4,8 @@ use Rattle.vl_model.specs.Keys.{key_cmp}
 use Rattle.vl_model.specs.declared.change.Change.{Change}
 use Rattle.vl_seglog.specs.Commit.{records_spelling}
 use Rattle.vl_seglog.specs.Reading.{write_of}
-use Rattle.vl_seglog.specs.Series.{IsSeries, one_series}
+use Rattle.vl_seglog.specs.Series.{IsSeries}
+use Rattle.vl_seglog.specs.laws.SeriesLaws.{one_series}
 use Rattle.vl_seglog.specs.declared.frame.ReadRecord.{ReadRecord}
 use Rattle.vl_seglog.proofs.Bodies.{agrees, is_body, no_head}
 use Rattle.vl_seglog.proofs.Options.{at_none}

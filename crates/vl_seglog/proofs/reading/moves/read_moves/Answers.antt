@@ -3,7 +3,8 @@ use Rattle.std.proofs.lemmas.Bool.{true≢false}
 use Rattle.vl_model.specs.declared.log_frame.Moved.{Moved}
 use Rattle.vl_seglog.specs.Reading.{moved_of}
 use Rattle.vl_seglog.specs.declared.frame.ReadRecord.{ReadRecord}
-use Rattle.vl_seglog.specs.Relocation.{AreOnce, moves_spelling}
+use Rattle.vl_seglog.specs.Relocation.{moves_spelling}
+use Rattle.vl_seglog.specs.Moves.{AreOnce}
 use Rattle.vl_seglog.specs.Series.{IsSeries}
 use Rattle.vl_seglog.proofs.Moving.{is_relocation, no_count, not_once, series_of}
 use Rattle.vl_seglog.proofs.Options.{at_none}

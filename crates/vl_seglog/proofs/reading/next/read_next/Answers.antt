@@ -1,6 +1,7 @@
 use Rattle.std.proofs.Common.{ℕ, ◌+◌, List, length, ap, ◌∙◌, refl}
 use Rattle.vl_frame.specs.laws.RunLaws.{frame_of as found_frame}
-use Rattle.vl_seglog.specs.Frames.{frame_body, frame_kind, frames_grammar}
+use Rattle.vl_seglog.specs.Frames.{frames_grammar}
+use Rattle.vl_seglog.specs.Bodies.{frame_body, frame_kind}
 use Rattle.vl_seglog.specs.Reading.{said_of}
 use Rattle.vl_seglog.specs.laws.FrameLaws.{length-frame_body}
 use Rattle.vl_seglog.proofs.Framing.{says}

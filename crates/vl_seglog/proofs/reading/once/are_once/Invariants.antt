@@ -1,6 +1,6 @@
 use Rattle.std.proofs.Common.{◌↔◌, length, map}
 use Rattle.vl_seglog.specs.Reading.{moved_of}
-use Rattle.vl_seglog.specs.Relocation.{AreOnce}
+use Rattle.vl_seglog.specs.Moves.{AreOnce}
 use Rattle.vl_seglog.proofs.reading.once.are_once.Given as goal
 
 -- what is said of those that are left is said of all

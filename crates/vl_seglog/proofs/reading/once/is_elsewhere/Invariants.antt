@@ -1,6 +1,6 @@
 use Rattle.std.proofs.Common.{◌↔◌, length, map}
 use Rattle.vl_seglog.specs.Reading.{moved_of}
-use Rattle.vl_seglog.specs.Relocation.{IsElsewhere}
+use Rattle.vl_seglog.specs.Moves.{IsElsewhere}
 use Rattle.vl_seglog.proofs.reading.once.is_elsewhere.Given as goal
 
 -- what is said of those that are left is said of all
