@@ -1,8 +1,8 @@
 // The commit numbers that logs give.
 ghost use Rattle.std.specs.Prelude.{◌≡◌};
-ghost use Rattle.vl_recover.specs.Counting.{counted_log};
-ghost use Rattle.vl_recover.specs.ReadLogs.{IsLogRead, frames_of};
-ghost use Rattle.vl_recover.specs.Walk as walk;
+ghost use Rattle.vl_recover.specs.opening.Counting.{counted_log};
+ghost use Rattle.vl_recover.specs.opening.ReadLogs.{IsLogRead, frames_of};
+ghost use Rattle.vl_recover.specs.opening.Walk as walk;
 ghost use Rattle.vl_seglog.specs.Reading.{frame_of, reading_of};
 
 use vl_seglog::{Frame, LogRead, Said};

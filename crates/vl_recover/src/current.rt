@@ -7,10 +7,10 @@ ghost use Rattle.vl_disk.specs.Disk.{Lists};
 ghost use Rattle.vl_disk.specs.DiskState.{DiskState};
 ghost use Rattle.vl_disk.specs.Name.{IsNumbered};
 ghost use Rattle.vl_disk.specs.Started.{IsRead};
-ghost use Rattle.vl_recover.specs.Finding.{IsFault, IsFaultAt, greatest_of};
-ghost use Rattle.vl_recover.specs.Leading.{AnswersStage, IsNewestWith, heading_without};
-ghost use Rattle.vl_recover.specs.Named.{AreGreatestIn, AreRising};
-ghost use Rattle.vl_recover.specs.Opening.{Current, Led, Says};
+ghost use Rattle.vl_recover.specs.opening.Finding.{IsFault, IsFaultAt, greatest_of};
+ghost use Rattle.vl_recover.specs.opening.Leading.{AnswersStage, IsNewestWith, heading_without};
+ghost use Rattle.vl_recover.specs.opening.Named.{AreGreatestIn, AreRising};
+ghost use Rattle.vl_recover.specs.opening.Opening.{Current, Led, Says};
 
 use crate::OpenError;
 use crate::found::GreatestNumbers;

@@ -1,10 +1,10 @@
 //! What an opening decides by what it found.
 
 ghost use Rattle.std.specs.Prelude.{◌≡◌, Some};
-ghost use Rattle.vl_recover.specs.Deciding.{DecidesSo, next_of, step_for, used_up_of};
-ghost use Rattle.vl_recover.specs.Finding.{AreFileNumbers};
-ghost use Rattle.vl_recover.specs.PlanViews.{step_of};
-ghost use Rattle.vl_recover.specs.Plans as plans;
+ghost use Rattle.vl_recover.specs.repairing.Deciding.{DecidesSo, next_of, step_for, used_up_of};
+ghost use Rattle.vl_recover.specs.opening.Finding.{AreFileNumbers};
+ghost use Rattle.vl_recover.specs.repairing.PlanViews.{step_of};
+ghost use Rattle.vl_recover.specs.opening.Plans as plans;
 
 use crate::OpenError;
 use crate::found::{Findings, LastLog};

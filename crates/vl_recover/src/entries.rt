@@ -1,6 +1,6 @@
 // The entries of records that were read.
 ghost use Rattle.std.specs.Prelude.{◌≡◌, map, IfOk};
-ghost use Rattle.vl_recover.specs.ReadLogs as logs;
+ghost use Rattle.vl_recover.specs.opening.ReadLogs as logs;
 
 use std::alloc::{AllocError, Global};
 use vl_model::{Body, Change, Entry};

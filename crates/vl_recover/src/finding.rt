@@ -6,10 +6,10 @@ ghost use Rattle.vl_disk.specs.DiskState.{DiskState};
 ghost use Rattle.vl_disk.specs.Name.{IsNumbered};
 ghost use Rattle.vl_disk.specs.Started.{IsRead};
 ghost use Rattle.vl_disk.specs.declared.name.Name.TheVariants as kinds;
-ghost use Rattle.vl_recover.specs.Finding.{AreFileNumbers, FindsSo, IsFault, IsFaultAt, IsUpTo, greatest_of};
-ghost use Rattle.vl_recover.specs.LogsSoFar.{AreLogsFound};
-ghost use Rattle.vl_recover.specs.Named.{AreGreatestIn};
-ghost use Rattle.vl_recover.specs.Opening.{Current};
+ghost use Rattle.vl_recover.specs.opening.Finding.{AreFileNumbers, FindsSo, IsFault, IsFaultAt, IsUpTo, greatest_of};
+ghost use Rattle.vl_recover.specs.opening.LogsSoFar.{AreLogsFound};
+ghost use Rattle.vl_recover.specs.opening.Named.{AreGreatestIn};
+ghost use Rattle.vl_recover.specs.opening.Opening.{Current};
 
 use crate::OpenError;
 use crate::current::current_state;

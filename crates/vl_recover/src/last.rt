@@ -5,10 +5,10 @@ ghost use Rattle.std.specs.Option.{ForSome};
 ghost use Rattle.vl_disk.specs.Disk.{IsInside, Stands};
 ghost use Rattle.vl_disk.specs.Spare.{CanAppend, IsReady, SameSpareElsewhere};
 ghost use Rattle.vl_disk.specs.declared.name.Name.TheVariants.{Log};
-ghost use Rattle.vl_recover.specs.Fitting.{CanRepair, IsReadyToRepair, IsLastFile, SameSpareBeside};
-ghost use Rattle.vl_recover.specs.Repairing as repairing;
-ghost use Rattle.vl_recover.specs.PlanViews.{at_file, step_of};
-ghost use Rattle.vl_recover.specs.Steps.{RepairsLast};
+ghost use Rattle.vl_recover.specs.repairing.Fitting.{CanRepair, IsReadyToRepair, IsLastFile, SameSpareBeside};
+ghost use Rattle.vl_recover.specs.repairing.Repairing as repairing;
+ghost use Rattle.vl_recover.specs.repairing.PlanViews.{at_file, step_of};
+ghost use Rattle.vl_recover.specs.repairing.Steps.{RepairsLast};
 
 use crate::plan::LastStep;
 use vl_disk::{Disk, Failed, Name};

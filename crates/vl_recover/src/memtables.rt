@@ -3,7 +3,7 @@ ghost use Rattle.std.specs.Prelude.{◌≡◌, ◌++◌, ◌<◌, [], ◌∷◌,
 ghost use Rattle.vl_layout.specs.Logs as layout;
 ghost use Rattle.vl_memtable.specs.Contents.{IsNewTo};
 ghost use Rattle.vl_model.specs.Entries.{in_order};
-ghost use Rattle.vl_recover.specs.ReadLogs as logs;
+ghost use Rattle.vl_recover.specs.opening.ReadLogs as logs;
 ghost use Rattle.vl_run.specs.Order.{IsInOrder};
 
 use crate::entries::entries_of;

@@ -1,7 +1,7 @@
 // What the names of the files that stand tell.
 ghost use Rattle.std.specs.Prelude.{◌≡◌, IsPermutation, filter};
-ghost use Rattle.vl_recover.specs.Finding.{greatest_of};
-ghost use Rattle.vl_recover.specs.Named as named;
+ghost use Rattle.vl_recover.specs.opening.Finding.{greatest_of};
+ghost use Rattle.vl_recover.specs.opening.Named as named;
 
 use crate::found::GreatestNumbers;
 use vl_disk::Name;

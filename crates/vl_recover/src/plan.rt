@@ -27,7 +27,7 @@ pub(crate) enum NextLog {
 
 impl NextLog {
     ghost use Rattle.std.specs.Prelude.{◌≡◌};
-    ghost use Rattle.vl_recover.specs.NextLogs.{made_of, number_of};
+    ghost use Rattle.vl_recover.specs.repairing.NextLogs.{made_of, number_of};
 
     pub fn number(self) -> u32
         ensures { result ≡ number_of self }

@@ -7,10 +7,10 @@ ghost use Rattle.vl_disk.specs.Crash.{Image};
 ghost use Rattle.vl_disk.specs.DiskState.{DiskState};
 ghost use Rattle.vl_disk.specs.Started.{IsRead};
 ghost use Rattle.vl_manifest.specs.States.{whole_edits};
-ghost use Rattle.vl_recover.specs.Deciding.{PreparesSo};
-ghost use Rattle.vl_recover.specs.Finding.{IsFault, IsFaultAt};
-ghost use Rattle.vl_recover.specs.Fitting.{Fits, HasNumbers, IsReadyFor, IsReadyToMake, IsReadyToRepair, SameSpareBeside, SameSpareBesideLog};
-ghost use Rattle.vl_recover.specs.PlanViews.{plan_view, step_of};
+ghost use Rattle.vl_recover.specs.repairing.Deciding.{PreparesSo};
+ghost use Rattle.vl_recover.specs.opening.Finding.{IsFault, IsFaultAt};
+ghost use Rattle.vl_recover.specs.repairing.Fitting.{Fits, HasNumbers, IsReadyFor, IsReadyToMake, IsReadyToRepair, SameSpareBeside, SameSpareBesideLog};
+ghost use Rattle.vl_recover.specs.repairing.PlanViews.{plan_view, step_of};
 
 use crate::OpenError;
 use crate::deciding::decide;

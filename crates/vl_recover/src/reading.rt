@@ -5,8 +5,8 @@ ghost use Rattle.vl_disk.specs.Calls.{ChangesNothing};
 ghost use Rattle.vl_disk.specs.Disk.{Lists, Stands};
 ghost use Rattle.vl_disk.specs.DiskState.{file_at};
 ghost use Rattle.vl_disk.specs.Name.{IsNumbered};
-ghost use Rattle.vl_recover.specs.Finding.{IsExcused, IsFault, IsFaultAt};
-ghost use Rattle.vl_recover.specs.Named.{AreRising};
+ghost use Rattle.vl_recover.specs.opening.Finding.{IsExcused, IsFault, IsFaultAt};
+ghost use Rattle.vl_recover.specs.opening.Named.{AreRising};
 
 use crate::OpenError;
 use crate::fails::NO_FILE;

@@ -2,9 +2,9 @@
 
 ghost use Rattle.std.specs.Prelude.{◌≡◌, Contains, IfErr};
 ghost use Rattle.std.specs.Option.{ForSome};
-ghost use Rattle.vl_recover.specs.Fitting.{CanMake, CanRemove, Fits, FitsBehind, HasNumbers, IsReadyFor, IsReadyToMake, IsFileOf, IsNewLog, IsNumberedLog};
-ghost use Rattle.vl_recover.specs.PlanViews.{plan_view};
-ghost use Rattle.vl_recover.specs.Steps.{MakesLog, Repairs, RepairsBehind, RemovesAll};
+ghost use Rattle.vl_recover.specs.repairing.Fitting.{CanMake, CanRemove, Fits, FitsBehind, HasNumbers, IsReadyFor, IsReadyToMake, IsFileOf, IsNewLog, IsNumberedLog};
+ghost use Rattle.vl_recover.specs.repairing.PlanViews.{plan_view};
+ghost use Rattle.vl_recover.specs.repairing.Steps.{MakesLog, Repairs, RepairsBehind, RemovesAll};
 
 use crate::last::{at, repair_last};
 use crate::plan::RepairingPlan;

@@ -19,10 +19,10 @@ use Rattle.vl_mem.specs.MemDisk.{changes_of, faults_of, reads_of, state_of, told
 use Rattle.vl_mem.specs.contracts.mem_disk.MemDiskWatched.TheImpl as memory
 use Rattle.vl_mem.specs.declared.mem_disk.MemDisk.{MemDisk}
 use Rattle.vl_model.specs.History.{History, contents_at, pairs_after}
-use Rattle.vl_recover.specs.Answers.{AnswersBy, Finds, calls_to_open}
-use Rattle.vl_recover.specs.Meanwhile.{IsMeanwhile}
-use Rattle.vl_recover.specs.Results.{HasFailed, recovery_by, opened_of}
-use Rattle.vl_recover.specs.Answers.{opened_from}
+use Rattle.vl_recover.specs.opening.Answers.{AnswersBy, Finds, calls_to_open}
+use Rattle.vl_recover.specs.crash.Meanwhile.{IsMeanwhile}
+use Rattle.vl_recover.specs.opening.Results.{HasFailed, recovery_by, opened_of}
+use Rattle.vl_recover.specs.opening.Answers.{opened_from}
 use Rattle.vl_recover.specs.declared.fails.OpenFail.{OpenFail}
 use Rattle.vl_recover.specs.declared.fails.OpenError.{OpenError}
 use Rattle.vl_recover.specs.declared.fails.OpenError.TheVariants as why

@@ -10,7 +10,7 @@ use Rattle.vl_mem.specs.MemDisk.{state_of}
 use Rattle.vl_mem.specs.declared.mem_disk.MemDisk.{MemDisk}
 use Rattle.vl_mem.specs.declared.outcome.Outcome.{Outcome}
 use Rattle.vl_model.specs.History.{last_number}
-use Rattle.vl_recover.specs.Results.{HasFailed, recovery_by}
+use Rattle.vl_recover.specs.opening.Results.{HasFailed, recovery_by}
 use Rattle.vl_recover.specs.declared.fails.OpenError.{OpenError}
 use Rattle.vl_recover.specs.declared.fails.OpenError.TheVariants as why
 use Rattle.vl_replay.specs.Endings.{Culprit, CountsFaultsOf, TheDisk, culprit_of, no_memory_line, read_fault_line}

@@ -1,5 +1,5 @@
 use Rattle.std.proofs.Common.{drop}
-use Rattle.vl_recover.proofs.CountingOn.{AreCountedTo}
+use Rattle.vl_recover.proofs.opening.CountingOn.{AreCountedTo}
 use Rattle.vl_recover.proofs.counting.count_frames.Given as goal
 
 abbrev pub invariant-loop-frame : goal.invariant-loop-frame

@@ -7,14 +7,14 @@ use Rattle.vl_disk.specs.Name.{IsNumbered}
 use Rattle.vl_disk.specs.declared.name.Name.{Name}
 use Rattle.vl_disk.specs.declared.name.Name.TheVariants as kinds
 use Rattle.vl_disk.specs.declared.name.Name.TheVariants.{Log}
-use Rattle.vl_recover.specs.Finding.{greatest_of}
+use Rattle.vl_recover.specs.opening.Finding.{greatest_of}
 use Rattle.vl_manifest.specs.Manifest.{IsReadable}
-use Rattle.vl_recover.specs.Leading.{AnswersStage, IsNewestWith, heading_without}
-use Rattle.vl_recover.specs.Opening.{Led, Says}
-use Rattle.vl_recover.proofs.Looking.{as_read, given, is_current, is_headed, one_passed, says_current}
-use Rattle.vl_recover.proofs.Naming.{ManifestsLeft, last_of_front, next_left, no_front, none_left, not_left}
-use Rattle.vl_recover.proofs.ReadingLogs.{listed}
-use Rattle.vl_recover.proofs.Unmoved.{then_call}
+use Rattle.vl_recover.specs.opening.Leading.{AnswersStage, IsNewestWith, heading_without}
+use Rattle.vl_recover.specs.opening.Opening.{Led, Says}
+use Rattle.vl_recover.proofs.opening.Looking.{as_read, given, is_current, is_headed, one_passed, says_current}
+use Rattle.vl_recover.proofs.opening.Naming.{ManifestsLeft, last_of_front, next_left, no_front, none_left, not_left}
+use Rattle.vl_recover.proofs.opening.ReadingLogs.{listed}
+use Rattle.vl_recover.proofs.opening.Unmoved.{then_call}
 use Rattle.vl_recover.proofs.current.current_state.Goals as goal
 
 pub returns-then-branch-clause-says : goal.returns-then-branch-clause-says

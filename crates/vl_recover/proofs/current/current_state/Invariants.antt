@@ -4,8 +4,8 @@ use Rattle.vl_disk.specs.Calls.{ChangesNothing}
 use Rattle.vl_disk.specs.Crash.{Image}
 use Rattle.vl_disk.specs.DiskState.{DiskState}
 use Rattle.vl_disk.specs.Started.{IsRead}
-use Rattle.vl_recover.specs.Leading.{ArePassed}
-use Rattle.vl_recover.proofs.Naming.{ManifestsLeft}
+use Rattle.vl_recover.specs.opening.Leading.{ArePassed}
+use Rattle.vl_recover.proofs.opening.Naming.{ManifestsLeft}
 use Rattle.vl_recover.proofs.current.current_state.Given as goal
 
 abbrev pub invariant-loop-i : goal.invariant-loop-i

@@ -1,5 +1,5 @@
 use Rattle.std.proofs.Common.{◌≡◌, ◌++◌, map, drop}
-use Rattle.vl_recover.specs.ReadLogs.{entry_of}
+use Rattle.vl_recover.specs.opening.ReadLogs.{entry_of}
 use Rattle.vl_recover.proofs.entries.entries_of.Given as goal
 
 -- the entries so far, and those of the records that are left, are all

@@ -2,9 +2,9 @@ use Rattle.std.proofs.Common.{◌+◌, drop, get_or, refl, sym, subst, ◌∙◌
 use Rattle.std.specs.Prelude.{nat_lt}
 use Rattle.std.proofs.lemmas.List.{drop_all, drop_more}
 use Rattle.vl_disk.specs.declared.name.Name.TheVariants.{Log}
-use Rattle.vl_recover.proofs.Naming.{LogsToCome, all_to_come, next_come, none_come, not_come}
-use Rattle.vl_recover.proofs.ReadingLogs.{all_read, follows, last_named, listed, none_read, one_read}
-use Rattle.vl_recover.proofs.Unmoved.{no_call, then_call}
+use Rattle.vl_recover.proofs.opening.Naming.{LogsToCome, all_to_come, next_come, none_come, not_come}
+use Rattle.vl_recover.proofs.opening.ReadingLogs.{all_read, follows, last_named, listed, none_read, one_read}
+use Rattle.vl_recover.proofs.opening.Unmoved.{no_call, then_call}
 use Rattle.vl_recover.proofs.logs.read_logs.Goals as goal
 
 pub loop-name-init : goal.loop-name-init

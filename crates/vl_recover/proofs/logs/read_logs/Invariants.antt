@@ -5,8 +5,8 @@ use Rattle.vl_disk.specs.Crash.{Image}
 use Rattle.vl_disk.specs.DiskState.{DiskState}
 use Rattle.vl_disk.specs.Started.{IsRead}
 use Rattle.vl_disk.specs.declared.name.Name.TheVariants as kinds
-use Rattle.vl_recover.proofs.Naming.{LogsToCome}
-use Rattle.vl_recover.proofs.ReadingLogs.{AreReadUpTo}
+use Rattle.vl_recover.proofs.opening.Naming.{LogsToCome}
+use Rattle.vl_recover.proofs.opening.ReadingLogs.{AreReadUpTo}
 use Rattle.vl_recover.proofs.logs.read_logs.Given as goal
 
 abbrev pub invariant-loop-name : goal.invariant-loop-name

@@ -1,5 +1,5 @@
 use Rattle.std.proofs.Common.{arith}
-use Rattle.vl_recover.proofs.ReadingLogs.{log_read}
+use Rattle.vl_recover.proofs.opening.ReadingLogs.{log_read}
 use Rattle.vl_recover.proofs.logs.with_next.Goals as goal
 
 pub with_log-requires : goal.with_log-requires

@@ -1,5 +1,5 @@
 use Rattle.std.proofs.Common.{◌+◌, drop}
-use Rattle.vl_recover.proofs.Filling.{frame_filled, next_filled, run_filled}
+use Rattle.vl_recover.proofs.opening.Filling.{frame_filled, next_filled, run_filled}
 use Rattle.vl_recover.proofs.memtables.memtable_of.Goals as goal
 
 pub with_frame-requires-clause-run : goal.with_frame-requires-clause-run

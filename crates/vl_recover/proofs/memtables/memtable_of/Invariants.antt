@@ -1,5 +1,5 @@
 use Rattle.std.proofs.Common.{drop}
-use Rattle.vl_recover.proofs.Filling.{AreFilledTo}
+use Rattle.vl_recover.proofs.opening.Filling.{AreFilledTo}
 use Rattle.vl_recover.proofs.memtables.memtable_of.Given as goal
 
 abbrev pub invariant-loop-frame : goal.invariant-loop-frame

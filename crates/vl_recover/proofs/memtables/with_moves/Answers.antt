@@ -1,8 +1,8 @@
 use Rattle.std.proofs.Common.{◌++◌, List, map, subst, ap, ◌∙◌}
 use Rattle.vl_model.specs.Entries.{in_order}
 use Rattle.vl_model.specs.declared.entry.Entry.{Entry}
-use Rattle.vl_recover.specs.ReadLogs.{entry_of}
-use Rattle.vl_recover.proofs.Filling.{ArePut, one_put}
+use Rattle.vl_recover.specs.opening.ReadLogs.{entry_of}
+use Rattle.vl_recover.proofs.opening.Filling.{ArePut, one_put}
 use Rattle.vl_recover.proofs.memtables.with_moves.Goals as goal
 
 pub loop-entry-preserved : goal.loop-entry-preserved

@@ -1,6 +1,6 @@
 use Rattle.std.proofs.Common.{length, map}
-use Rattle.vl_recover.specs.ReadLogs.{entry_of}
-use Rattle.vl_recover.proofs.Filling.{ArePut}
+use Rattle.vl_recover.specs.opening.ReadLogs.{entry_of}
+use Rattle.vl_recover.proofs.opening.Filling.{ArePut}
 use Rattle.vl_recover.proofs.memtables.with_moves.Given as goal
 
 abbrev pub invariant-loop-entry : goal.invariant-loop-entry

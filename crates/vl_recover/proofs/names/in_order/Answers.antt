@@ -1,4 +1,4 @@
-use Rattle.vl_recover.proofs.Naming.{sorted_rising}
+use Rattle.vl_recover.proofs.opening.Naming.{sorted_rising}
 use Rattle.vl_recover.proofs.names.in_order.Goals as goal
 
 pub returns-clause-rising : goal.returns-clause-rising

@@ -1,9 +1,9 @@
 use Rattle.std.proofs.Common.{◌∙◌, sym}
-use Rattle.vl_recover.specs.laws.ReadImage.{read_image}
-use Rattle.vl_recover.proofs.Decided.{answer_by, decided_answer, decided_at, decided_prepared}
-use Rattle.vl_recover.proofs.Fitted.{found_fits}
-use Rattle.vl_recover.proofs.Numbers.{decided_numbers}
-use Rattle.vl_recover.proofs.Unmoved.{then_call}
+use Rattle.vl_recover.specs.laws.opening.ReadImage.{read_image}
+use Rattle.vl_recover.proofs.opening.Decided.{answer_by, decided_answer, decided_at, decided_prepared}
+use Rattle.vl_recover.proofs.repairs.Fitted.{found_fits}
+use Rattle.vl_recover.proofs.opening.Numbers.{decided_numbers}
+use Rattle.vl_recover.proofs.opening.Unmoved.{then_call}
 use Rattle.vl_recover.proofs.preparing.prepare.Goals as goal
 
 pub returns-in_err-prepared-clause-answer : goal.returns-in_err-prepared-clause-answer

@@ -1,6 +1,6 @@
 use Rattle.std.proofs.lemmas.List.Sorted.{All-permutation}
 use Rattle.vl_disk.specs.Name.{IsNumbered}
-use Rattle.vl_recover.proofs.Naming.{lists_permuted}
+use Rattle.vl_recover.proofs.opening.Naming.{lists_permuted}
 use Rattle.vl_recover.proofs.reading.list_names.Goals as goal
 
 pub returns-in-Ok-clause-names : goal.returns-in-Ok-clause-names

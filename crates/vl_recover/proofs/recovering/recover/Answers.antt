@@ -1,11 +1,11 @@
 use Rattle.std.proofs.Common.{List, [], ◌∷◌, ap, ◌∙◌}
 use Rattle.vl_manifest.specs.declared.edit.Edit.{Edit}
 use Rattle.vl_manifest.specs.Manifest.{manifest_bytes}
-use Rattle.vl_recover.specs.laws.OneFinding.{opened_not}
-use Rattle.vl_recover.specs.PlanViews.{plan_view}
-use Rattle.vl_recover.specs.Results.{HasFailed, recovery_by}
-use Rattle.vl_recover.proofs.Recovered.{active_stays, as_long, calls_counted, calls_stopped, none_made, disk_repaired, repaired_again, repaired_faults, repaired_meanwhile, repaired_tells, repaired_through, opened_same, read_faults, refused_fine, still_tells, store_held, unchanged_again, unchanged_meanwhile, unchanged_through}
-use Rattle.vl_recover.proofs.Unmoved.{call_as, then_call}
+use Rattle.vl_recover.specs.laws.opening.OneFinding.{opened_not}
+use Rattle.vl_recover.specs.repairing.PlanViews.{plan_view}
+use Rattle.vl_recover.specs.opening.Results.{HasFailed, recovery_by}
+use Rattle.vl_recover.proofs.crash.Recovered.{active_stays, as_long, calls_counted, calls_stopped, none_made, disk_repaired, repaired_again, repaired_faults, repaired_meanwhile, repaired_tells, repaired_through, opened_same, read_faults, refused_fine, still_tells, store_held, unchanged_again, unchanged_meanwhile, unchanged_through}
+use Rattle.vl_recover.proofs.opening.Unmoved.{call_as, then_call}
 use Rattle.vl_seglog.specs.declared.active.ActiveLog.{ActiveLog}
 use Rattle.vl_recover.proofs.recovering.recover.Goals as goal
 

@@ -1,7 +1,7 @@
 use Rattle.std.proofs.Common.{◌≡◌, ap, refl, subst, sym}
 use Rattle.vl_disk.specs.Faults.{Rose}
-use Rattle.vl_recover.specs.Answers.{AnswersBy}
-use Rattle.vl_recover.specs.Results.{recovery_by}
+use Rattle.vl_recover.specs.opening.Answers.{AnswersBy}
+use Rattle.vl_recover.specs.opening.Results.{recovery_by}
 use Rattle.vl_recover.specs.declared.fails.OpenError.{OpenError}
 use Rattle.vl_replay.specs.Durable.{Tells}
 use Rattle.vl_replay.specs.Endings.{culprit_of}
