@@ -1,7 +1,7 @@
 -- What the footer of a table spells: where the index stands, and what the entries are, taken together.
 use Rattle.std.specs.Prelude.{◌≡◌, ◌<◌, ◌^◌, ℕ, true, List, ◌++◌, length}
 use Rattle.byteorder.specs.Endian.{big_bytes}
-use Rattle.vl_frame.specs.Numbers.{one_number}
+use Rattle.vl_frame.specs.laws.NumberLaws.{one_number}
 use Rattle.vl_model.specs.Keys.{is_key_length}
 use Rattle.vl_block.specs.declared.points.Point.{Point}
 use Rattle.vl_block.specs.declared.footer.Footer.{Footer}

@@ -1,7 +1,7 @@
 -- What the index of a table spells: where its blocks stand, and the last key of each.
 use Rattle.std.specs.Prelude.{◌≡◌, ◌<◌, ◌^◌, ℕ, true, List, ◌++◌, length}
 use Rattle.byteorder.specs.Endian.{big_bytes}
-use Rattle.vl_frame.specs.Numbers.{one_number}
+use Rattle.vl_frame.specs.laws.NumberLaws.{one_number}
 use Rattle.vl_model.specs.Keys.{is_key_length}
 use Rattle.vl_block.specs.declared.index.BlockPlace.{BlockPlace}
 use Rattle.vl_block.specs.declared.index.PlaceParts.{PlaceParts}

@@ -2,6 +2,5 @@ pub mod Begins
 pub mod Frame
 pub mod Header
 pub mod laws
-pub mod Numbers
 pub mod FrameFields
 pub mod Runs

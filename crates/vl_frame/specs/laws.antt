@@ -1,4 +1,6 @@
 -- Laws of the definitions beside this folder, which proofs in other crates cite. Nothing here is needed to read a contract.
+pub mod BeginLaws
 pub mod HeaderLaws
 pub mod Laws
+pub mod NumberLaws
 pub mod RunLaws

@@ -8,7 +8,7 @@ use Rattle.vl_manifest.specs.declared.edit.Edit.{Edit}
 use Rattle.vl_manifest.specs.declared.fails.StateFail.{StateFail}
 use Rattle.vl_manifest.specs.declared.fails.StateFail.TheVariants.{Damaged, NoMemory}
 use Rattle.vl_manifest.specs.declared.state.ManifestState.{ManifestState}
-use Rattle.vl_manifest.specs.laws.EditLaws.{edits_grammar}
+use Rattle.vl_manifest.specs.Grammar.{edits_grammar}
 use Rattle.vl_manifest.specs.Manifest.{HasHeader, IsDamaged, not_applied}
 use Rattle.vl_manifest.specs.Reading.{AnswersSo, GoesOn, GoesOnSo}
 use Rattle.vl_manifest.specs.States.{first_state, next_state, state_behind, state_then}

@@ -1,5 +1,6 @@
 pub mod Current
 pub mod Edits
+pub mod Grammar
 pub mod laws
 pub mod Levels
 pub mod Making

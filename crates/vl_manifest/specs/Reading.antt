@@ -7,7 +7,7 @@ use Rattle.vl_manifest.specs.declared.edit.Edit.{Edit}
 use Rattle.vl_manifest.specs.declared.fails.StateFail.{StateFail}
 use Rattle.vl_manifest.specs.declared.fails.StateFail.TheVariants.{Damaged, NoMemory}
 use Rattle.vl_manifest.specs.declared.state.ManifestState.{ManifestState}
-use Rattle.vl_manifest.specs.laws.EditLaws.{edits_grammar}
+use Rattle.vl_manifest.specs.Grammar.{edits_grammar}
 use Rattle.vl_manifest.specs.Edits.{IsEdit, edits_bytes}
 use Rattle.vl_manifest.specs.Manifest.{IsDamaged, SaysState}
 use Rattle.vl_manifest.specs.States.{state_behind}

@@ -2,7 +2,7 @@
 
 ghost use Rattle.std.specs.Prelude.{◌≡◌, ◌++◌, ◌∷◌, ◌<◌, ◌^◌, List, length, ℕ, IfNone, IfOk, IfSome};
 ghost use Rattle.vl_frame.specs.Runs.{StandsAt, StandsNone};
-ghost use Rattle.vl_manifest.specs.laws.EditLaws.{edits_grammar};
+ghost use Rattle.vl_manifest.specs.Grammar.{edits_grammar};
 ghost use Rattle.vl_manifest.specs.Edits.{AreEdits, IsEdit, edit_bytes, edits_body};
 ghost use Rattle.vl_manifest.specs.Reading.{IsRun};
 ghost use Rattle.vl_manifest.specs.declared.edit.Edit.{Edit};

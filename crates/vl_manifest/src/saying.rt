@@ -11,10 +11,10 @@ use crate::manifest_log::ManifestLog;
 use crate::reading::read_edits;
 use crate::state::ManifestState;
 use std::alloc::{AllocError, Global};
-use vl_frame::{FileKind, read_header};
+use vl_frame::{FileKind, HEADER_BYTES, read_header};
 
 // Where a manifest's first frame stands, in bytes.
-const FIRST_FRAME: u64 = 16;
+const FIRST_FRAME: u64 = HEADER_BYTES as u64;
 
 impl ManifestLog {
     /// Whether the bytes are those of the manifest with this number, as far as its header and its first frame go. Of

@@ -1,21 +1,3 @@
-pub mod ActiveStands
-mod Composing
-pub mod Decided
-mod Entering
-mod Filling
-pub mod Fitted
-mod LastFiles
-mod Looking
-pub mod Repaired
-mod RepairingAgain
-mod RepairingLaws
-mod RepairingMayOpen
-mod Naming
-pub mod Numbers
-mod ReadingLogs
-pub mod Recovered
-pub mod Removals
-mod Rows
-pub mod Stepping
-mod TornManifest
-mod Unmoved
+mod opening
+mod repairs
+mod crash

@@ -1,20 +1,4 @@
 -- Laws of the definitions beside this folder, which proofs in other crates cite. Nothing here is needed to read a contract.
-pub mod AlikeLaws
-pub mod AppendLaws
-pub mod HeldLaws
-pub mod LastLaws
-pub mod LeadsLaws
-pub mod LogsLaws
-pub mod RepairingOpens
-pub mod RepairingStages
-pub mod RepairingStart
-pub mod RepairingSteps
-pub mod OneFinding
-pub mod OneName
-pub mod OpeningLaws
-pub mod ReadImage
-pub mod RecoveredLaws
-pub mod StageLaws
-pub mod StraysLaws
-pub mod Torn
-pub mod TornFrames
+pub mod opening
+pub mod repairing
+pub mod crash

@@ -7,21 +7,21 @@ ghost use Rattle.vl_disk.specs.Disk.{Lists};
 ghost use Rattle.vl_disk.specs.DiskState.{DiskState};
 ghost use Rattle.vl_disk.specs.Name.{IsNumbered};
 ghost use Rattle.vl_disk.specs.Started.{IsRead};
-ghost use Rattle.vl_recover.specs.Finding.{IsFault, IsFaultAt, greatest_of};
-ghost use Rattle.vl_recover.specs.Leading.{AnswersStage, IsNewestWith, heading_without};
-ghost use Rattle.vl_recover.specs.Named.{AreGreatestIn};
-ghost use Rattle.vl_recover.specs.Opening.{Current, Led, Says};
+ghost use Rattle.vl_recover.specs.opening.Finding.{IsFault, IsFaultAt, greatest_of};
+ghost use Rattle.vl_recover.specs.opening.Leading.{AnswersStage, IsNewestWith, heading_without};
+ghost use Rattle.vl_recover.specs.opening.Named.{AreGreatestIn, AreRising};
+ghost use Rattle.vl_recover.specs.opening.Opening.{Current, Led, Says};
 
 use crate::OpenError;
 use crate::found::GreatestNumbers;
-use crate::names::next_manifest;
+use crate::names::manifest_below;
 use crate::reading::read_whole;
 use std::alloc::Global;
 use vl_disk::{Disk, Name};
 use vl_manifest::{ManifestLog, ManifestState, StateFail, newer_format};
 
 /// What the current manifest says: of those that can be read the one with the greatest number. Down to that one each is
-/// read, once.
+/// read, once. The names are in order.
 pub fn current_state<D: Disk>(
     alloc: Global,
     disk: &mut D,
@@ -30,6 +30,7 @@ pub fn current_state<D: Disk>(
 ) -> Result<ManifestState, OpenError>
     requires lists { ForSome (D.told disk.old) (Lists names.now) }
     requires numbered { All IsNumbered names.now }
+    requires rising { AreRising names.now }
     requires greatest { AreGreatestIn names.now (greatest_of greatest) }
     ensures says { (state : DiskState) (read : Image) → D.told disk.old ≡ Some state → IsRead read state
         → AnswersStage (Current read) result }
@@ -38,7 +39,11 @@ pub fn current_state<D: Disk>(
 {
     let mut above = u32::MAX;
     let mut newest = None;
-    while let Some(number) = next_manifest(names, above) {
+    for i in 0..names.len() {
+        let name = names[names.len() - 1 - i];
+        let Some(number) = manifest_below(name, above) else {
+            continue;
+        };
         let bytes = read_whole(alloc, disk, Name::Manifest(number))?;
         if ManifestLog::is_readable(alloc, &bytes, number)? {
             return read_state(alloc, &bytes, number);

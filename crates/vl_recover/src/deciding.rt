@@ -1,25 +1,25 @@
 //! What an opening decides by what it found.
 
 ghost use Rattle.std.specs.Prelude.{◌≡◌, Some};
-ghost use Rattle.vl_recover.specs.Deciding.{DecidesSo, active_by, log_of, step_for, used_up_of};
-ghost use Rattle.vl_recover.specs.Finding.{AreFileNumbers};
-ghost use Rattle.vl_recover.specs.PlanViews.{step_of};
-ghost use Rattle.vl_recover.specs.Plans as plans;
+ghost use Rattle.vl_recover.specs.repairing.Deciding.{DecidesSo, next_of, step_for, used_up_of};
+ghost use Rattle.vl_recover.specs.opening.Finding.{AreFileNumbers};
+ghost use Rattle.vl_recover.specs.repairing.PlanViews.{step_of};
+ghost use Rattle.vl_recover.specs.opening.Plans as plans;
 
 use crate::OpenError;
-use crate::found::{Found, LastLog};
-use crate::plan::{LastStep, RepairingPlan};
+use crate::found::{Findings, LastLog};
+use crate::plan::{LastStep, NextLog, RepairingPlan};
 use crate::prepared::Prepared;
 use std::alloc::Global;
 use vl_manifest::ManifestState;
 use vl_model::{Counter, MAX_FILE_NUMBER};
 
 /// Decides how a store is repaired and gone on with. A number that is used up is found before memory is asked for.
-pub(crate) fn decide(alloc: Global, found: Found) -> Result<Prepared, OpenError>
+pub(crate) fn decide(alloc: Global, found: Findings) -> Result<Prepared, OpenError>
     requires { AreFileNumbers found.greatest }
     ensures { DecidesSo found result }
 {
-    let Found {
+    let Findings {
         state,
         number,
         frozen,
@@ -28,7 +28,8 @@ pub(crate) fn decide(alloc: Global, found: Found) -> Result<Prepared, OpenError>
         strays,
     } = found;
     let state = state.opened(greatest.log, greatest.table);
-    let log = new_log(&state, last);
+    let next = next_log(&state, last);
+    let log = next.made();
     if let Some(counter) = used_up(log, greatest.manifest) {
         return Err(OpenError::Exhausted(counter));
     }
@@ -47,21 +48,21 @@ pub(crate) fn decide(alloc: Global, found: Found) -> Result<Prepared, OpenError>
             log,
             strays,
         },
-        active: active_log(log, last),
+        active: next.number(),
     })
 }
 
-// The log that is made: none where the last log has no frames.
-fn new_log(state: &ManifestState, last: Option<LastLog>) -> Option<u32>
-    ensures { result ≡ log_of state.now last }
+// The log that takes commits then: one is made where the last has frames, or where there is none.
+fn next_log(state: &ManifestState, last: Option<LastLog>) -> NextLog
+    ensures { result ≡ next_of state.now last }
 {
     match last {
-        None => Some(state.head.max(state.next_log)),
+        None => NextLog::Made(state.head.max(state.next_log)),
         Some(last) => {
             if last.has_frames {
-                Some(state.next_log)
+                NextLog::Made(state.next_log)
             } else {
-                None
+                NextLog::Last(last.number)
             }
         }
     }
@@ -115,18 +116,5 @@ fn step_of_log(last: LastLog) -> LastStep
         LastStep::Head(last.number)
     } else {
         LastStep::Rewrite(last.number)
-    }
-}
-
-// The log that takes commits. Where none is made there is a last one.
-fn active_log(log: Option<u32>, last: Option<LastLog>) -> u32
-    ensures { result ≡ active_by log last }
-{
-    match log {
-        Some(number) => number,
-        None => match last {
-            Some(last) => last.number,
-            None => 0,
-        },
     }
 }

@@ -2,7 +2,7 @@ use std::alloc::AllocError;
 use vl_disk::Name;
 use vl_model::Counter;
 
-/// OpenError a store wasn't opened.
+/// Why a store wasn't opened.
 #[derive(Clone, Copy, Debug, PartialEq, Eq)]
 pub enum OpenError {
     /// A log or a table stands, and no manifest that can be read, in a known format or a newer one.
@@ -15,9 +15,12 @@ pub enum OpenError {
     Exhausted(Counter),
     /// Memory ran out. Nothing was changed.
     NoMemory,
-    /// The disk failed at this file; at listing the files, where it is the manifest with number 0, which is none.
+    /// The disk failed at this file, or at listing the files, where it is `NO_FILE`.
     Disk { name: Name },
 }
+
+/// What is named where the files couldn't be listed: no manifest has this number.
+pub const NO_FILE: Name = Name::Manifest(0);
 
 impl From<AllocError> for OpenError {
     ghost use Rattle.std.specs.Prelude.{◌≡◌};

@@ -6,14 +6,14 @@ ghost use Rattle.vl_disk.specs.DiskState.{DiskState};
 ghost use Rattle.vl_disk.specs.Name.{IsNumbered};
 ghost use Rattle.vl_disk.specs.Started.{IsRead};
 ghost use Rattle.vl_disk.specs.declared.name.Name.TheVariants as kinds;
-ghost use Rattle.vl_recover.specs.Finding.{AreFileNumbers, FindsSo, IsFault, IsFaultAt, IsUpTo, greatest_of};
-ghost use Rattle.vl_recover.specs.LogsSoFar.{AreLogsFound};
-ghost use Rattle.vl_recover.specs.Named.{AreGreatestIn};
-ghost use Rattle.vl_recover.specs.Opening.{Current};
+ghost use Rattle.vl_recover.specs.opening.Finding.{AreFileNumbers, FindsSo, IsFault, IsFaultAt, IsUpTo, greatest_of};
+ghost use Rattle.vl_recover.specs.opening.LogsSoFar.{AreLogsFound};
+ghost use Rattle.vl_recover.specs.opening.Named.{AreGreatestIn};
+ghost use Rattle.vl_recover.specs.opening.Opening.{Current};
 
 use crate::OpenError;
 use crate::current::current_state;
-use crate::found::{Found, GreatestNumbers, LogsFound};
+use crate::found::{Findings, GreatestNumbers, LogsFound};
 use crate::logs::read_logs;
 use crate::names::{greatest_numbers, strays};
 use crate::reading::list_names;
@@ -22,7 +22,7 @@ use vl_disk::{Disk, Name};
 use vl_manifest::ManifestState;
 
 /// Finds out what stands on a disk: reads its current manifest, and then its logs. It changes nothing.
-pub(crate) fn find<D: Disk>(alloc: Global, disk: &mut D) -> Result<Found, OpenError>
+pub(crate) fn find<D: Disk>(alloc: Global, disk: &mut D) -> Result<Findings, OpenError>
     ensures answer { (state : DiskState) (read : Image) → D.told disk.old ≡ Some state → IsRead read state
         → FindsSo read result }
     ensures numbers { IfOk result (λ found. AreFileNumbers found.greatest) }
@@ -33,7 +33,7 @@ pub(crate) fn find<D: Disk>(alloc: Global, disk: &mut D) -> Result<Found, OpenEr
     let names = list_names(alloc, disk)?;
     let greatest = greatest_numbers(&names);
     let state = current_state(alloc, disk, &names, greatest)?;
-    let logs = read_logs(alloc, disk, &names, state.head, state.covered)?;
+    let logs = read_logs(alloc, disk, &names, greatest.log, state.head, state.covered)?;
     found(names, greatest, state, logs)
 }
 
@@ -43,7 +43,7 @@ fn found(
     greatest: GreatestNumbers,
     state: ManifestState,
     logs: LogsFound,
-) -> Result<Found, OpenError>
+) -> Result<Findings, OpenError>
     requires greatest { AreGreatestIn names.items (greatest_of greatest) }
     requires numbered { All IsNumbered names.items }
     requires last { IfSome logs.last (λ q. Contains names.items (kinds.Log q.number)) }
@@ -54,7 +54,7 @@ fn found(
     ensures no_fault { IsFault result → ⊥ }
 {
     match logs.number {
-        Ok(number) => Ok(Found {
+        Ok(number) => Ok(Findings {
             number,
             frozen: logs.frozen,
             greatest,

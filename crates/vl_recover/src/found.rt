@@ -25,7 +25,7 @@ pub(crate) struct LastLog {
 
 /// What an opening found out by reading.
 #[derive(Drop)]
-pub(crate) struct Found {
+pub(crate) struct Findings {
     /// What the current manifest says.
     pub state: ManifestState,
     /// Of the last commit.

@@ -5,10 +5,10 @@ ghost use Rattle.std.specs.Option.{ForSome};
 ghost use Rattle.vl_disk.specs.Disk.{IsInside, Stands};
 ghost use Rattle.vl_disk.specs.Spare.{CanAppend, IsReady, SameSpareElsewhere};
 ghost use Rattle.vl_disk.specs.declared.name.Name.TheVariants.{Log};
-ghost use Rattle.vl_recover.specs.Fitting.{CanRepair, HasRoomToRepair, IsLastFile, SameSpareBeside};
-ghost use Rattle.vl_recover.specs.Repairing as repairing;
-ghost use Rattle.vl_recover.specs.PlanViews.{at_file, step_of};
-ghost use Rattle.vl_recover.specs.Steps.{RepairsLast};
+ghost use Rattle.vl_recover.specs.repairing.Fitting.{CanRepair, IsReadyToRepair, IsLastFile, SameSpareBeside};
+ghost use Rattle.vl_recover.specs.repairing.Repairing as repairing;
+ghost use Rattle.vl_recover.specs.repairing.PlanViews.{at_file, step_of};
+ghost use Rattle.vl_recover.specs.repairing.Steps.{RepairsLast};
 
 use crate::plan::LastStep;
 use vl_disk::{Disk, Failed, Name};
@@ -17,7 +17,7 @@ use vl_seglog::log_header;
 /// Repairs the last log, and makes it durable. Where it fails the answer is the log's name.
 pub(crate) fn repair_last<D: Disk>(disk: &mut D, last: LastStep) -> Result<(), Name>
     requires stands { ForSome (D.told disk.old) (CanRepair (step_of last)) }
-    requires room { HasRoomToRepair (step_of last) (D.spare disk.old) }
+    requires ready { IsReadyToRepair (step_of last) (D.spare disk.old) }
     ensures repaired { RepairsLast D.Watched (step_of last) disk.old disk.new result }
     ensures at { IfErr result (IsLastFile (step_of last)) }
     ensures spare { SameSpareBeside (step_of last) (D.spare disk.old) (D.spare disk.new) }
@@ -35,7 +35,7 @@ pub(crate) fn repair_last<D: Disk>(disk: &mut D, last: LastStep) -> Result<(), N
 fn cut<D: Disk>(disk: &mut D, number: u32, length: u64) -> Result<(), Failed>
     requires stands { ForSome (D.told disk.old) (Stands (Log number)) }
     requires inside { ForSome (D.told disk.old) (IsInside (Log number) length) }
-    requires room { IsTrue (D.spare disk.old (Log number)).change }
+    requires ready { IsTrue (D.spare disk.old (Log number)).change }
     ensures repaired { RepairsLast D.Watched (repairing.Cut number length) disk.old disk.new result }
     ensures spare { SameSpareElsewhere (Log number) (D.spare disk.old) (D.spare disk.new) }
 {
@@ -46,7 +46,7 @@ fn cut<D: Disk>(disk: &mut D, number: u32, length: u64) -> Result<(), Failed>
 // Cuts the log to nothing, gives it a header and makes it durable.
 fn rewrite<D: Disk>(disk: &mut D, number: u32) -> Result<(), Failed>
     requires stands { ForSome (D.told disk.old) (Stands (Log number)) }
-    requires room { IsReady 16 (D.spare disk.old (Log number)) }
+    requires ready { IsReady 16 (D.spare disk.old (Log number)) }
     ensures repaired { RepairsLast D.Watched (repairing.Rewritten number) disk.old disk.new result }
     ensures spare { SameSpareElsewhere (Log number) (D.spare disk.old) (D.spare disk.new) }
 {
@@ -57,7 +57,7 @@ fn rewrite<D: Disk>(disk: &mut D, number: u32) -> Result<(), Failed>
 // Gives the empty log a header and makes it durable.
 fn head<D: Disk>(disk: &mut D, number: u32) -> Result<(), Failed>
     requires stands { ForSome (D.told disk.old) (Stands (Log number)) }
-    requires room { CanAppend 16 (D.spare disk.old (Log number)) }
+    requires ready { CanAppend 16 (D.spare disk.old (Log number)) }
     ensures repaired { RepairsLast D.Watched (repairing.Headed number) disk.old disk.new result }
     ensures spare { SameSpareElsewhere (Log number) (D.spare disk.old) (D.spare disk.new) }
 {

@@ -11,7 +11,6 @@ mod entries;
 mod fails;
 mod finding;
 mod found;
-mod frame_length;
 mod last;
 mod logs;
 mod memtables;
@@ -24,6 +23,6 @@ mod reading;
 mod recovering;
 mod repairing;
 
-pub use fails::{OpenError, OpenFail};
+pub use fails::{NO_FILE, OpenError, OpenFail};
 pub use parts::{FrozenLog, Parts};
 pub use recovering::recover;

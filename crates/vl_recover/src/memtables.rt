@@ -1,64 +1,40 @@
 // The memtable of a log that was read.
-ghost use Rattle.std.specs.Prelude.{◌≡◌, ◌+◌, ◌++◌, ◌<◌, ◌^◌, [], ◌∷◌, length, IfOk, IsTrue};
-ghost use Rattle.std.specs.List.{AllByRecursion, sum_by};
-ghost use Rattle.vl_frame.specs.Runs.{HasFrame};
+ghost use Rattle.std.specs.Prelude.{◌≡◌, ◌++◌, ◌<◌, [], ◌∷◌, length, map, IfOk, IsTrue};
 ghost use Rattle.vl_layout.specs.Logs as layout;
 ghost use Rattle.vl_memtable.specs.Contents.{IsNewTo};
 ghost use Rattle.vl_model.specs.Entries.{in_order};
-ghost use Rattle.vl_model.specs.Frames as frames;
-ghost use Rattle.vl_model.specs.declared.log_frame.LogFrame.TheVariants.{Relocated};
-ghost use Rattle.vl_recover.specs.ReadLogs.{committed, frames_of};
+ghost use Rattle.vl_recover.specs.opening.ReadLogs as logs;
 ghost use Rattle.vl_run.specs.Order.{IsInOrder};
-ghost use Rattle.vl_seglog.specs.Frames.{frames_grammar};
-ghost use Rattle.vl_seglog.specs.Reading.{frame_of};
 
-use crate::entries::{commit_entries, moved_entries};
-use crate::frame_length::frame_length;
+use crate::entries::entries_of;
 use std::alloc::{AllocError, Global};
 use vl_memtable::Memtable;
-use vl_model::{Entry, Moved};
+use vl_model::Entry;
 use vl_run::Run;
-use vl_seglog::{Commit, Frame, LOG_HEADER_BYTES};
+use vl_seglog::{Frame, LogRead, ReadRecord, Said};
 
-// How many bytes of a commit's frame stand before its first record.
-const BEFORE_RECORDS: u64 = 17;
-
-// How many bytes of a relocation's frame stand before its first version.
-const BEFORE_MOVES: u64 = 9;
-
-/// The entries of the frames of the log with this number.
-pub fn memtable_of(alloc: Global, log: u32, frames: &[Frame]) -> Result<Memtable, AllocError>
-    requires frames { AllByRecursion (HasFrame frames_grammar) (frames_of frames.now) }
-    requires fits { layout.log_length (frames_of frames.now) < 2 ^ 63 }
+/// The entries of a log's records.
+pub fn memtable_of(alloc: Global, log: &LogRead) -> Result<Memtable, AllocError>
+    requires { logs.IsLogRead log.now }
     ensures { IfOk result (λ memtable. memtable.entries ≡
-        layout.memtable (layout.new_segment log (frames_of frames.now))) }
+        layout.memtable (layout.new_segment log.now.number (logs.frames_of log.now.frames.items))) }
 {
     let mut memtable = Memtable::new(alloc);
-    let mut place = LOG_HEADER_BYTES as u64;
-    for frame in frames {
-        memtable = with_frame(alloc, &memtable, log, place, frame)?;
-        place += frame_length(frame);
+    for frame in &log.frames {
+        memtable = with_frame(alloc, &memtable, frame)?;
     }
     Ok(memtable)
 }
 
-// A memtable with the entries of the frame at a place.
-fn with_frame(
-    alloc: Global,
-    memtable: &Memtable,
-    log: u32,
-    place: u64,
-    frame: &Frame,
-) -> Result<Memtable, AllocError>
-    requires frame { HasFrame frames_grammar (frame_of frame.now) }
-    requires fits { place + frames.frame_length (frame_of frame.now) < 2 ^ 63 }
+// A memtable with the entries of a frame.
+fn with_frame(alloc: Global, memtable: &Memtable, frame: &Frame) -> Result<Memtable, AllocError>
+    requires run { logs.HasRun frame.now.said }
     requires in_order { IsInOrder memtable.now.entries }
-    ensures { IfOk result (λ with. with.entries ≡
-        in_order (layout.frame_entries log place (frame_of frame.now) ++ memtable.now.entries)) }
+    ensures { IfOk result (λ with. with.entries ≡ in_order (logs.entries_in frame.now.said ++ memtable.now.entries)) }
 {
-    match frame {
-        Frame::Commit(commit) => with_commit(alloc, memtable, log, place, commit),
-        Frame::Moves(moves) => with_moves(alloc, memtable, log, place, moves),
+    match &frame.said {
+        Said::Commit(commit) => with_commit(alloc, memtable, &commit.records),
+        Said::Moves(records) => with_moves(alloc, memtable, records),
     }
 }
 
@@ -66,22 +42,12 @@ fn with_frame(
 fn with_commit(
     alloc: Global,
     memtable: &Memtable,
-    log: u32,
-    place: u64,
-    commit: &Commit,
+    records: &[ReadRecord],
 ) -> Result<Memtable, AllocError>
-    requires frame { HasFrame frames_grammar (committed commit.now) }
-    requires fits { place + frames.frame_length (committed commit.now) < 2 ^ 63 }
-    ensures { IfOk result (λ with. with.entries ≡
-        in_order (layout.frame_entries log place (committed commit.now) ++ memtable.now.entries)) }
+    requires { logs.AreRun (map logs.entry_of records.now) }
+    ensures { IfOk result (λ with. with.entries ≡ in_order (map logs.entry_of records.now ++ memtable.now.entries)) }
 {
-    let entries = commit_entries(
-        alloc,
-        log,
-        place + BEFORE_RECORDS,
-        commit.number,
-        &commit.writes,
-    )?;
+    let entries = entries_of(alloc, records)?;
     with_run(memtable, Run::from_writes(entries)?)
 }
 
@@ -89,17 +55,12 @@ fn with_commit(
 fn with_moves(
     alloc: Global,
     memtable: &Memtable,
-    log: u32,
-    place: u64,
-    moves: &[Moved],
+    records: &[ReadRecord],
 ) -> Result<Memtable, AllocError>
-    requires short { sum_by frames.moved_length moves.now < 2 ^ 32 }
-    requires fits { place + 17 + sum_by frames.moved_length moves.now < 2 ^ 63 }
-    requires in_order { IsInOrder memtable.now.entries }
-    ensures { IfOk result (λ with. with.entries ≡ in_order
-        (layout.frame_entries log place (Relocated moves.now) ++ memtable.now.entries)) }
+    requires { IsInOrder memtable.now.entries }
+    ensures { IfOk result (λ with. with.entries ≡ in_order (map logs.entry_of records.now ++ memtable.now.entries)) }
 {
-    let mut entries = moved_entries(alloc, log, place + BEFORE_MOVES, moves)?;
+    let mut entries = entries_of(alloc, records)?;
     let mut with = memtable.share()?;
     while let Some(entry) = entries.pop() {
         with = with_run(&with, run_of_one(alloc, entry)?)?;

@@ -1,7 +1,7 @@
 // What the names of the files that stand tell.
-ghost use Rattle.std.specs.Prelude.{◌≡◌, filter};
-ghost use Rattle.vl_recover.specs.Finding.{greatest_of};
-ghost use Rattle.vl_recover.specs.Named as named;
+ghost use Rattle.std.specs.Prelude.{◌≡◌, IsPermutation, filter};
+ghost use Rattle.vl_recover.specs.opening.Finding.{greatest_of};
+ghost use Rattle.vl_recover.specs.opening.Named as named;
 
 use crate::found::GreatestNumbers;
 use vl_disk::Name;
@@ -46,69 +46,33 @@ fn greater(number: u32, found: u32) -> u32
     if number <= found { found } else { number }
 }
 
-/// Of the logs with this number or a greater one the first.
-pub fn next_log(names: &[Name], least: u32) -> Option<u32>
-    ensures { named.IsLeastOf (named.IsLogFrom names.now least) result }
+/// The names in their order: of one kind the numbers rise.
+pub fn in_order(names: Vec<Name>) -> Vec<Name>
+    ensures rising { named.AreRising result.items }
+    ensures same { IsPermutation names.items result.items }
 {
-    let mut next = None;
-    for name in names {
-        next = next_log_with(least, *name, next);
-    }
-    next
+    let mut sorted = names;
+    sorted.sort_unstable();
+    sorted
 }
 
-fn next_log_with(least: u32, name: Name, next: Option<u32>) -> Option<u32>
-    ensures { result ≡ named.next_log_with least name next }
+/// The number of a log that isn't below the least.
+pub fn log_from(name: Name, least: u32) -> Option<u32>
+    ensures { result ≡ named.log_from least name }
 {
     match name {
-        Name::Log(number) => if least <= number {
-            lesser(number, next)
-        } else {
-            next
-        },
-        _ => next,
+        Name::Log(number) => if least <= number { Some(number) } else { None },
+        Name::Table(_) | Name::Manifest(_) => None,
     }
 }
 
-fn lesser(number: u32, found: Option<u32>) -> Option<u32>
-    ensures { result ≡ named.lesser number found }
-{
-    match found {
-        Some(least) if least <= number => found,
-        _ => Some(number),
-    }
-}
-
-/// Of the manifests with lesser numbers than this one the last.
-pub fn next_manifest(names: &[Name], above: u32) -> Option<u32>
-    ensures { named.IsGreatestOf (named.IsManifestBelow names.now above) result }
-{
-    let mut next = None;
-    for name in names {
-        next = next_manifest_with(above, *name, next);
-    }
-    next
-}
-
-fn next_manifest_with(above: u32, name: Name, next: Option<u32>) -> Option<u32>
-    ensures { result ≡ named.next_manifest_with above name next }
+/// The number of a manifest that is below this one.
+pub fn manifest_below(name: Name, above: u32) -> Option<u32>
+    ensures { result ≡ named.manifest_below above name }
 {
     match name {
-        Name::Manifest(number) => if number < above {
-            later(number, next)
-        } else {
-            next
-        },
-        _ => next,
-    }
-}
-
-fn later(number: u32, found: Option<u32>) -> Option<u32>
-    ensures { result ≡ named.later number found }
-{
-    match found {
-        Some(greatest) if number <= greatest => found,
-        _ => Some(number),
+        Name::Manifest(number) => if number < above { Some(number) } else { None },
+        Name::Log(_) | Name::Table(_) => None,
     }
 }
 

@@ -16,6 +16,37 @@ pub(crate) enum LastStep {
     Head(u32),
 }
 
+/// The log that takes commits then.
+#[derive(Clone, Copy)]
+pub(crate) enum NextLog {
+    /// It is made.
+    Made(u32),
+    /// It is the last one, which has no frames.
+    Last(u32),
+}
+
+impl NextLog {
+    ghost use Rattle.std.specs.Prelude.{◌≡◌};
+    ghost use Rattle.vl_recover.specs.repairing.NextLogs.{made_of, number_of};
+
+    pub fn number(self) -> u32
+        ensures { result ≡ number_of self }
+    {
+        match self {
+            NextLog::Made(number) | NextLog::Last(number) => number,
+        }
+    }
+
+    pub fn made(self) -> Option<u32>
+        ensures { result ≡ made_of self }
+    {
+        match self {
+            NextLog::Made(number) => Some(number),
+            NextLog::Last(_) => None,
+        }
+    }
+}
+
 /// How an opening repairs a store.
 #[derive(Drop)]
 pub(crate) struct RepairingPlan {

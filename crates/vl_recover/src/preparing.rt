@@ -7,10 +7,10 @@ ghost use Rattle.vl_disk.specs.Crash.{Image};
 ghost use Rattle.vl_disk.specs.DiskState.{DiskState};
 ghost use Rattle.vl_disk.specs.Started.{IsRead};
 ghost use Rattle.vl_manifest.specs.States.{whole_edits};
-ghost use Rattle.vl_recover.specs.Deciding.{PreparesSo};
-ghost use Rattle.vl_recover.specs.Finding.{IsFault, IsFaultAt};
-ghost use Rattle.vl_recover.specs.Fitting.{Fits, HasNumbers, HasRoomFor, HasRoomToMake, HasRoomToRepair, SameSpareBeside, SameSpareBesideLog};
-ghost use Rattle.vl_recover.specs.PlanViews.{plan_view, step_of};
+ghost use Rattle.vl_recover.specs.repairing.Deciding.{PreparesSo};
+ghost use Rattle.vl_recover.specs.opening.Finding.{IsFault, IsFaultAt};
+ghost use Rattle.vl_recover.specs.repairing.Fitting.{Fits, HasNumbers, IsReadyFor, IsReadyToMake, IsReadyToRepair, SameSpareBeside, SameSpareBesideLog};
+ghost use Rattle.vl_recover.specs.repairing.PlanViews.{plan_view, step_of};
 
 use crate::OpenError;
 use crate::deciding::decide;
@@ -29,22 +29,22 @@ pub(crate) fn prepare<D: Disk>(alloc: Global, disk: &mut D) -> Result<Prepared, 
     ensures fits { IfOk result (λ prepared. ForSome (D.told disk.new) (Fits (plan_view prepared.plan))) }
     ensures edits { IfOk result (λ prepared. prepared.plan.edits.items ≡ whole_edits prepared.state) }
     ensures numbers { IfOk result (λ prepared. HasNumbers (plan_view prepared.plan)) }
-    ensures room { IfOk result (λ prepared. HasRoomFor (plan_view prepared.plan) (D.spare disk.new)) }
+    ensures ready { IfOk result (λ prepared. IsReadyFor (plan_view prepared.plan) (D.spare disk.new)) }
     ensures at { IfErr result (IsFaultAt (D.told disk.old)) }
     ensures no_change { ChangesNothing D.Watched disk.old disk.new (IsFault result) }
 {
     let found = find(alloc, disk)?;
     let prepared = decide(alloc, found)?;
-    if take_room(disk, &prepared.plan).is_err() {
+    if ready_all(disk, &prepared.plan).is_err() {
         return Err(OpenError::NoMemory);
     }
     Ok(prepared)
 }
 
-// Makes room on the disk for all calls of a plan behind the new manifest's.
-fn take_room<D: Disk>(disk: &mut D, plan: &RepairingPlan) -> Result<(), NoMemory>
+// Makes the disk ready for all calls of a plan behind the new manifest's.
+fn ready_all<D: Disk>(disk: &mut D, plan: &RepairingPlan) -> Result<(), NoMemory>
     requires { HasNumbers (plan_view plan.now) }
-    ensures room { OnOk result (HasRoomFor (plan_view plan.now) (D.spare disk.new)) }
+    ensures ready { OnOk result (IsReadyFor (plan_view plan.now) (D.spare disk.new)) }
     ensures no_change { ChangesNothing D.Watched disk.old disk.new ⊥ }
 {
     ready_last(disk, plan.last)?;
@@ -52,7 +52,7 @@ fn take_room<D: Disk>(disk: &mut D, plan: &RepairingPlan) -> Result<(), NoMemory
 }
 
 fn ready_last<D: Disk>(disk: &mut D, last: LastStep) -> Result<(), NoMemory>
-    ensures room { OnOk result (HasRoomToRepair (step_of last) (D.spare disk.new)) }
+    ensures ready { OnOk result (IsReadyToRepair (step_of last) (D.spare disk.new)) }
     ensures elsewhere { SameSpareBeside (step_of last) (D.spare disk.old) (D.spare disk.new) }
     ensures no_change { ChangesNothing D.Watched disk.old disk.new ⊥ }
 {
@@ -66,7 +66,7 @@ fn ready_last<D: Disk>(disk: &mut D, last: LastStep) -> Result<(), NoMemory>
 }
 
 fn ready_log<D: Disk>(disk: &mut D, log: Option<u32>) -> Result<(), NoMemory>
-    ensures room { OnOk result (HasRoomToMake log (D.spare disk.new)) }
+    ensures ready { OnOk result (IsReadyToMake log (D.spare disk.new)) }
     ensures elsewhere { SameSpareBesideLog log (D.spare disk.old) (D.spare disk.new) }
     ensures no_change { ChangesNothing D.Watched disk.old disk.new ⊥ }
 {

@@ -5,25 +5,26 @@ ghost use Rattle.vl_disk.specs.Calls.{ChangesNothing};
 ghost use Rattle.vl_disk.specs.Disk.{Lists, Stands};
 ghost use Rattle.vl_disk.specs.DiskState.{file_at};
 ghost use Rattle.vl_disk.specs.Name.{IsNumbered};
-ghost use Rattle.vl_recover.specs.Finding.{IsExcused, IsFault, IsFaultAt};
+ghost use Rattle.vl_recover.specs.opening.Finding.{IsExcused, IsFault, IsFaultAt};
+ghost use Rattle.vl_recover.specs.opening.Named.{AreRising};
 
 use crate::OpenError;
+use crate::fails::NO_FILE;
+use crate::names::in_order;
 use std::alloc::Global;
 use vl_disk::{Disk, DiskFail, Name, read_file};
 
-// What is named where the files couldn't be listed: no manifest has this number.
-const NO_FILE: Name = Name::Manifest(0);
-
-/// The names of the files that stand.
+/// The names of the files that stand, in their order.
 pub fn list_names<D: Disk>(alloc: Global, disk: &mut D) -> Result<Vec<Name>, OpenError>
     ensures names { IfOk result (λ names. ForSome (D.told disk.old) (Lists names.items)) }
     ensures numbered { IfOk result (λ names. All IsNumbered names.items) }
+    ensures rising { IfOk result (λ names. AreRising names.items) }
     ensures excused { IfErr result IsExcused }
     ensures at { IfErr result (IsFaultAt (D.told disk.old)) }
     ensures no_change { ChangesNothing D.Watched disk.old disk.new (IsFault result) }
 {
     match disk.list(alloc) {
-        Ok(names) => Ok(names),
+        Ok(names) => Ok(in_order(names)),
         Err(DiskFail::NoMemory) => Err(OpenError::NoMemory),
         Err(DiskFail::Failed) => Err(OpenError::Disk { name: NO_FILE }),
     }

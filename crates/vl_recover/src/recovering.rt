@@ -9,14 +9,14 @@ ghost use Rattle.vl_disk.specs.Moments.{HoldsThroughout};
 ghost use Rattle.vl_disk.specs.Started.{IsRead};
 ghost use Rattle.vl_disk.specs.declared.name.Name.{Name};
 ghost use Rattle.vl_disk.specs.declared.name.Name.TheVariants.{Log};
-ghost use Rattle.vl_recover.specs.Alike.{OpensAsOf};
-ghost use Rattle.vl_recover.specs.Answers.{AnswersBy, AreStrayNames, Finds, IsNotOpened, calls_to_open, logs_then};
-ghost use Rattle.vl_recover.specs.Deciding.{opened_by};
-ghost use Rattle.vl_recover.specs.Held.{HoldsStore};
-ghost use Rattle.vl_recover.specs.Meanwhile.{FaultsAt, IsAsLong, IsMeanwhile, IsRepaired};
-ghost use Rattle.vl_recover.specs.Results.{HasFailed, FailsWithoutFault, came, disk_of, opened_of};
-ghost use Rattle.vl_recover.specs.Starts.{MayOpen};
-ghost use Rattle.vl_recover.specs.Steps.{MakesSome};
+ghost use Rattle.vl_recover.specs.crash.Alike.{OpensAsOf};
+ghost use Rattle.vl_recover.specs.opening.Answers.{AnswersBy, AreStrayNames, Finds, IsNotOpened, calls_to_open, logs_then};
+ghost use Rattle.vl_recover.specs.repairing.Deciding.{opened_by};
+ghost use Rattle.vl_recover.specs.crash.Held.{HoldsStore};
+ghost use Rattle.vl_recover.specs.crash.Meanwhile.{FaultsAt, IsAsLong, IsMeanwhile, IsRepaired};
+ghost use Rattle.vl_recover.specs.opening.Results.{HasFailed, FailsWithoutFault, recovery_of, disk_of, opened_of};
+ghost use Rattle.vl_recover.specs.crash.Starts.{MayOpen};
+ghost use Rattle.vl_recover.specs.repairing.Steps.{MakesSome};
 
 use crate::prepared::Prepared;
 use crate::preparing::prepare;
@@ -33,10 +33,10 @@ use vl_seglog::ActiveLog;
 pub fn recover<D: Disk>(alloc: Global, disk: D, room: u64) -> Result<Parts<D>, OpenFail<D>>
     // It answers what reads give, unless memory runs out or the disk fails.
     ensures answer { (state : DiskState) (read : Image) → D.told disk ≡ Some state → IsRead read state
-        → AnswersBy read (came result) }
+        → AnswersBy read (recovery_of result) }
 
     // A refusal, and want of memory, changed nothing, at no moment.
-    ensures refused { FailsWithoutFault (came result) → ChangesNothing D.Watched disk (disk_of result) ⊥ }
+    ensures refused { FailsWithoutFault (recovery_of result) → ChangesNothing D.Watched disk (disk_of result) ⊥ }
 
     // Where what reads give is refused, nothing is changed, whatever is answered.
     ensures not_opened { (state : DiskState) (read : Image) → D.told disk ≡ Some state → IsRead read state → IsNotOpened read
@@ -72,8 +72,8 @@ pub fn recover<D: Disk>(alloc: Global, disk: D, room: u64) -> Result<Parts<D>, O
 
     // A fault is counted, and named by the file at which it came.
     ensures at { (state : DiskState) (read : Image) → D.told disk ≡ Some state → IsRead read state
-        → FaultsAt read state (came result) }
-    ensures cause { HasCause (D.faults disk) (D.faults (disk_of result)) (HasFailed (came result)) }
+        → FaultsAt read state (recovery_of result) }
+    ensures cause { HasCause (D.faults disk) (D.faults (disk_of result)) (HasFailed (recovery_of result)) }
     ensures room { IfOk result (λ parts. parts.room ≡ room) }
 
     // The log that takes commits stands, and has only its header.

@@ -2,9 +2,9 @@
 
 ghost use Rattle.std.specs.Prelude.{◌≡◌, Contains, IfErr};
 ghost use Rattle.std.specs.Option.{ForSome};
-ghost use Rattle.vl_recover.specs.Fitting.{CanMake, CanRemove, Fits, FitsBehind, HasNumbers, HasRoomFor, HasRoomToMake, IsFileOf, IsNewLog, IsNumberedLog};
-ghost use Rattle.vl_recover.specs.PlanViews.{plan_view};
-ghost use Rattle.vl_recover.specs.Steps.{MakesLog, Repairs, RepairsBehind, RemovesAll};
+ghost use Rattle.vl_recover.specs.repairing.Fitting.{CanMake, CanRemove, Fits, FitsBehind, HasNumbers, IsReadyFor, IsReadyToMake, IsFileOf, IsNewLog, IsNumberedLog};
+ghost use Rattle.vl_recover.specs.repairing.PlanViews.{plan_view};
+ghost use Rattle.vl_recover.specs.repairing.Steps.{MakesLog, Repairs, RepairsBehind, RemovesAll};
 
 use crate::last::{at, repair_last};
 use crate::plan::RepairingPlan;
@@ -23,7 +23,7 @@ pub(crate) fn repair<D: Disk>(
 ) -> Result<ManifestLog, IoFail>
     requires fits { ForSome (D.told disk.old) (Fits (plan_view plan.now)) }
     requires numbers { HasNumbers (plan_view plan.now) }
-    requires room { HasRoomFor (plan_view plan.now) (D.spare disk.old) }
+    requires ready { IsReadyFor (plan_view plan.now) (D.spare disk.old) }
     ensures { Repairs D.Watched (plan_view plan.now) disk.old disk.new result }
 {
     let manifest = ManifestLog::create(alloc, disk, plan.manifest, &plan.edits)?;
@@ -37,7 +37,7 @@ pub(crate) fn repair<D: Disk>(
 fn repair_behind<D: Disk>(disk: &mut D, plan: &RepairingPlan) -> Result<(), Name>
     requires fits { ForSome (D.told disk.old) (FitsBehind (plan_view plan.now)) }
     requires numbers { HasNumbers (plan_view plan.now) }
-    requires room { HasRoomFor (plan_view plan.now) (D.spare disk.old) }
+    requires ready { IsReadyFor (plan_view plan.now) (D.spare disk.old) }
     ensures repaired { RepairsBehind D.Watched (plan_view plan.now) disk.old disk.new result }
     ensures at { IfErr result (IsFileOf (plan_view plan.now)) }
 {
@@ -50,7 +50,7 @@ fn repair_behind<D: Disk>(disk: &mut D, plan: &RepairingPlan) -> Result<(), Name
 fn make_log<D: Disk>(disk: &mut D, log: Option<u32>) -> Result<(), Name>
     requires numbered { IsNumberedLog log }
     requires free { ForSome (D.told disk.old) (CanMake log) }
-    requires room { HasRoomToMake log (D.spare disk.old) }
+    requires ready { IsReadyToMake log (D.spare disk.old) }
     ensures made { MakesLog D.Watched log disk.old disk.new result }
     ensures at { IfErr result (IsNewLog log) }
 {

@@ -21,11 +21,11 @@ use Rattle.vl_disk.specs.Moments.{Elapses, While, goes_by}
 use Rattle.vl_disk.specs.declared.name.Name.TheVariants as names
 use Rattle.vl_frame.specs.Runs.{HasFrame}
 use Rattle.vl_layout.specs.Logs.{new_segment}
-use Rattle.vl_recover.specs.laws.AppendLaws.{OpensEither, append_leaves, append_may_open, sync_leaves, sync_may_open, with_frame}
-use Rattle.vl_recover.specs.laws.HeldLaws.{opening_held}
-use Rattle.vl_recover.specs.Opening.{Opens}
-use Rattle.vl_recover.specs.Starts.{MayOpen}
-use Rattle.vl_recover.specs.laws.TornFrames.{frame_behind}
+use Rattle.vl_recover.specs.laws.crash.AppendLaws.{OpensEither, append_leaves, append_may_open, sync_leaves, sync_may_open, with_frame}
+use Rattle.vl_recover.specs.crash.Held.{opening_held}
+use Rattle.vl_recover.specs.opening.Opening.{Opens}
+use Rattle.vl_recover.specs.crash.Starts.{MayOpen}
+use Rattle.vl_recover.specs.laws.crash.TornFrames.{frame_behind}
 use Rattle.vl_seglog.specs.Commit.{AreRecords, IsCommit}
 use Rattle.vl_seglog.specs.Frames.{frame_at, frames_end, frames_grammar}
 use Rattle.vl_seglog.specs.Staging.{IsStaged}

@@ -7,7 +7,7 @@ use Rattle.vl_disk.specs.Faults.{Rose}
 use Rattle.vl_disk.specs.DiskState.{DiskState}
 use Rattle.vl_disk.specs.Crash.{Image}
 use Rattle.vl_disk.specs.Moments.{waits, holds_weaker, holds_then}
-use Rattle.vl_recover.specs.Starts.{MayOpen}
+use Rattle.vl_recover.specs.crash.Starts.{MayOpen}
 use Rattle.vl_script.specs.declared.line.Line.{Line}
 use Rattle.vl_script.specs.Script.{line_of}
 use Rattle.vl_replay.specs.Sequential.{State, state_after}

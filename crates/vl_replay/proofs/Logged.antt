@@ -14,11 +14,12 @@ use Rattle.vl_model.specs.Frames.{frame_length}
 use Rattle.vl_model.specs.History.{History, last_number}
 use Rattle.vl_model.specs.Keys.{Writes}
 use Rattle.vl_model.specs.declared.log_frame.LogFrame.TheVariants.{Committed}
-use Rattle.vl_recover.specs.laws.AppendLaws.{append_holds, commit_counts, goes_on, with_frame}
-use Rattle.vl_recover.specs.Held.{HoldsStore}
-use Rattle.vl_recover.specs.laws.HeldLaws.{GoOn, held_may_open, held_opens, opening_held}
-use Rattle.vl_recover.specs.Opening.{Opens}
-use Rattle.vl_recover.specs.laws.TornFrames.{frame_behind}
+use Rattle.vl_recover.specs.laws.crash.AppendLaws.{append_holds, commit_counts, goes_on, with_frame}
+use Rattle.vl_recover.specs.crash.Held.{HoldsStore}
+use Rattle.vl_recover.specs.laws.opening.HeldLaws.{held_may_open, held_opens}
+use Rattle.vl_recover.specs.crash.Held.{GoOn, opening_held}
+use Rattle.vl_recover.specs.opening.Opening.{Opens}
+use Rattle.vl_recover.specs.laws.crash.TornFrames.{frame_behind}
 use Rattle.vl_seglog.specs.laws.CommitLaws.{frame_length-committed}
 use Rattle.vl_seglog.specs.laws.FrameLaws.{frames_end-more}
 use Rattle.vl_seglog.specs.Frames.{frames_end, frames_grammar}

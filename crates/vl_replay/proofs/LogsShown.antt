@@ -18,9 +18,9 @@ use Rattle.vl_model.specs.declared.change.Change.{Change}
 use Rattle.vl_model.specs.declared.entry.Entry.{Entry}
 use Rattle.vl_model.specs.declared.log_frame.LogFrame.{LogFrame}
 use Rattle.vl_model.specs.declared.log_frame.LogFrame.TheVariants.{Committed}
-use Rattle.vl_recover.specs.laws.AppendLaws.{with_frame}
-use Rattle.vl_recover.specs.laws.HeldLaws.{log_as_held}
-use Rattle.vl_recover.specs.Walk.{filled, with_frames}
+use Rattle.vl_recover.specs.laws.crash.AppendLaws.{with_frame}
+use Rattle.vl_recover.specs.crash.Held.{log_as_held}
+use Rattle.vl_recover.specs.opening.Walk.{filled, with_frames}
 use Rattle.vl_replay.specs.Stored.{LogsShow, logs_entries, no_logs}
 
 -- ---- a later history

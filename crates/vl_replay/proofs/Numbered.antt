@@ -10,7 +10,7 @@ use Rattle.vl_disk.specs.Name.{file_number}
 use Rattle.vl_disk.specs.laws.NameMap.{get_inserted_other, get_removed, get_removed_other, same_or_other}
 use Rattle.vl_disk.specs.declared.name.Name.{Name}
 use Rattle.vl_disk.specs.declared.name.Name.TheVariants.{Log, Manifest}
-use Rattle.vl_recover.specs.Repairing.{Cut, Headed, Kept, LastLog, NoLast, Plan, Rewritten, behind_last, behind_log, behind_strays, headed, repaired, with_last, with_log, with_manifest}
+use Rattle.vl_recover.specs.repairing.Repairing.{Cut, Headed, Kept, LastLog, NoLast, Plan, Rewritten, behind_last, behind_log, behind_strays, headed, repaired, with_last, with_log, with_manifest}
 use Rattle.vl_replay.specs.Stopped.{AreNumberedUpTo}
 
 module _ (n : ℕ) where

@@ -22,12 +22,12 @@ use Rattle.vl_model.specs.History.{History}
 use Rattle.vl_model.specs.Limits.{max_file_number}
 use Rattle.vl_model.specs.declared.counter.Counter.TheVariants as counters
 use Rattle.vl_model.specs.declared.log_frame.LogFrame.{LogFrame}
-use Rattle.vl_recover.specs.Answers.{AreStrayNames, Finds, IsStrayName, calls_to_open, used_up}
-use Rattle.vl_recover.specs.laws.OneFinding.{opened_not}
-use Rattle.vl_recover.specs.Opening.{Opening, Opens}
-use Rattle.vl_recover.specs.laws.OpeningLaws.{opened, some_none}
-use Rattle.vl_recover.specs.Plans.{IsGreatest, log_behind, log_made, new_state, passes}
-use Rattle.vl_recover.specs.Walk.{StandingLog}
+use Rattle.vl_recover.specs.opening.Answers.{AreStrayNames, Finds, IsStrayName, calls_to_open, used_up}
+use Rattle.vl_recover.specs.laws.opening.OneFinding.{opened_not}
+use Rattle.vl_recover.specs.opening.Opening.{Opening, Opens}
+use Rattle.vl_recover.specs.laws.opening.OpeningLaws.{opened, some_none}
+use Rattle.vl_recover.specs.opening.Plans.{IsGreatest, log_behind, log_made, new_state, passes}
+use Rattle.vl_recover.specs.opening.Walk.{StandingLog}
 use Rattle.vl_replay.specs.Opening.{IsRefused}
 use Rattle.vl_replay.specs.Reopens.{NamesUpTo, Reopens}
 use Rattle.vl_replay.specs.Start.{OpensUpTo, StartsIn}

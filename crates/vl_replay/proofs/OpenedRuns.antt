@@ -6,7 +6,7 @@ use Rattle.vl_io.specs.declared.sink.Sink as sink
 use Rattle.vl_io.specs.Sink.{Takes}
 use Rattle.vl_recover.specs.declared.fails.OpenError.{OpenError}
 use Rattle.vl_recover.specs.declared.fails.OpenError.TheVariants as why
-use Rattle.vl_recover.specs.Starts.{MayOpen}
+use Rattle.vl_recover.specs.crash.Starts.{MayOpen}
 use Rattle.vl_script.specs.Script.{lines_of}
 use Rattle.vl_replay.specs.Sequential.{State}
 use Rattle.vl_replay.specs.Exchanges.{Exchange, KeepsUp, last_state}

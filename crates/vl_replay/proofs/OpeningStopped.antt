@@ -17,7 +17,7 @@ use Rattle.vl_disk.specs.declared.name.Name.{Name}
 use Rattle.vl_disk.specs.declared.name.Name.TheVariants.{Log, Manifest, Table}
 use Rattle.vl_frame.specs.laws.RunLaws.{frame_is_some}
 use Rattle.vl_frame.specs.Runs.{item_frame}
-use Rattle.vl_manifest.specs.laws.EditLaws.{edits_grammar}
+use Rattle.vl_manifest.specs.Grammar.{edits_grammar}
 use Rattle.vl_manifest.specs.Manifest.{IsReadable, ManifestSays, SaysState, manifest_bytes}
 use Rattle.vl_manifest.specs.laws.ManifestLaws.{one_saying, whole_manifest}
 use Rattle.vl_manifest.specs.laws.StateLaws.{IsInRange}
@@ -28,23 +28,23 @@ use Rattle.vl_mem.specs.CrashImage.{crash_image}
 use Rattle.vl_mem.specs.laws.CrashLaws.{crash_left}
 use Rattle.vl_mem.specs.declared.outcome.Outcome.{Outcome}
 use Rattle.vl_model.specs.History.{no_history}
-use Rattle.vl_recover.specs.Alike.{IsLeft, OpensAsOf, Spells}
-use Rattle.vl_recover.specs.Answers.{AreStrayNames}
-use Rattle.vl_recover.specs.Held.{IsNowhere}
-use Rattle.vl_recover.specs.laws.HeldLaws.{left_nowhere, left_settled, started_may_open, started_settled}
-use Rattle.vl_recover.specs.Meanwhile.{IsMeanwhile, Repairing, as_before, at_repairing}
-use Rattle.vl_recover.specs.Repairing.{NoLast, Plan, WhileRepairing, at_last, at_log, at_manifest, at_strays, plan_from}
-use Rattle.vl_recover.specs.laws.RepairingOpens.{repairing_opens}
-use Rattle.vl_recover.specs.laws.RepairingSteps.{manifest_log}
-use Rattle.vl_recover.specs.laws.OneFinding.{same_greatest, same_logs, same_opening}
-use Rattle.vl_recover.specs.laws.OneName as one
-use Rattle.vl_recover.specs.laws.OneName.{IsLeftOne, IsPart, Making, left_one, part_empty, part_some}
-use Rattle.vl_recover.specs.Opening.{Bare, Heading, Headless, IsHeaded, Led, Newest, Opening, Opens, Refusal, Says, of_manifest}
-use Rattle.vl_recover.specs.laws.OpeningLaws.{opened, some_none, some_same}
-use Rattle.vl_recover.specs.Plans.{Greatest}
-use Rattle.vl_recover.specs.laws.StageLaws.{ok_err, ok_same}
-use Rattle.vl_recover.specs.laws.Torn.{torn_manifest}
-use Rattle.vl_recover.specs.Walk.{StandingLog}
+use Rattle.vl_recover.specs.crash.Alike.{IsLeft, OpensAsOf, Spells}
+use Rattle.vl_recover.specs.opening.Answers.{AreStrayNames}
+use Rattle.vl_recover.specs.crash.Held.{IsNowhere}
+use Rattle.vl_recover.specs.laws.opening.HeldLaws.{left_nowhere, left_settled, started_may_open, started_settled}
+use Rattle.vl_recover.specs.crash.Meanwhile.{IsMeanwhile, Repairing, as_before, at_repairing}
+use Rattle.vl_recover.specs.repairing.Repairing.{NoLast, Plan, WhileRepairing, at_last, at_log, at_manifest, at_strays, plan_from}
+use Rattle.vl_recover.specs.laws.repairing.RepairingOpens.{repairing_opens}
+use Rattle.vl_recover.specs.laws.repairing.RepairingSteps.{manifest_log}
+use Rattle.vl_recover.specs.laws.opening.OneFinding.{same_greatest, same_logs, same_opening}
+use Rattle.vl_recover.specs.laws.crash.OneName as one
+use Rattle.vl_recover.specs.laws.crash.OneName.{IsLeftOne, IsPart, Making, left_one, part_empty, part_some}
+use Rattle.vl_recover.specs.opening.Opening.{Bare, Heading, Headless, IsHeaded, Led, Newest, Opening, Opens, Refusal, Says, of_manifest}
+use Rattle.vl_recover.specs.laws.opening.OpeningLaws.{opened, some_none, some_same}
+use Rattle.vl_recover.specs.opening.Plans.{Greatest}
+use Rattle.vl_recover.specs.laws.repairing.StageLaws.{ok_err, ok_same}
+use Rattle.vl_recover.specs.laws.crash.Torn.{torn_manifest}
+use Rattle.vl_recover.specs.opening.Walk.{StandingLog}
 use Rattle.vl_seglog.specs.Frames.{frames_grammar, log_header}
 use Rattle.vl_replay.specs.Reopens.{NamesUpTo, Reopens}
 use Rattle.vl_replay.specs.laws.StartLaws.{finds_nothing, not_there, shows_nothing, started_durable}

@@ -12,17 +12,17 @@ use Rattle.vl_manifest.specs.declared.state.ManifestState.{ManifestState}
 use Rattle.vl_model.specs.History.{last_number}
 use Rattle.vl_model.specs.declared.entry.Entry.{Entry}
 use Rattle.vl_model.specs.declared.log_frame.LogFrame.{LogFrame}
-use Rattle.vl_recover.specs.Answers.{Finds, HeldLog, IsNotOpened, Opened, and_made, as_segment, held_log, logs_then, opened_from}
-use Rattle.vl_recover.specs.Held.{HoldsStore}
-use Rattle.vl_recover.specs.laws.HeldLaws.{GoOn}
-use Rattle.vl_recover.specs.Meanwhile.{IsRepaired}
-use Rattle.vl_recover.specs.Repairing.{Plan, repaired, plan_from, plan_of}
-use Rattle.vl_recover.specs.laws.OneFinding.{same_greatest, same_logs, same_opening}
-use Rattle.vl_recover.specs.Opening.{Opening}
-use Rattle.vl_recover.specs.Plans.{Greatest, active_log, active_of, last_number as last_log, log_behind, log_made, new_state}
-use Rattle.vl_recover.specs.laws.RecoveredLaws.{found_goes_on, found_shows}
-use Rattle.vl_recover.specs.Results.{frozen_log, opened_of}
-use Rattle.vl_recover.specs.Walk.{StandingLog}
+use Rattle.vl_recover.specs.opening.Answers.{Finds, HeldLog, IsNotOpened, Opened, and_made, as_segment, held_log, logs_then, opened_from}
+use Rattle.vl_recover.specs.crash.Held.{HoldsStore}
+use Rattle.vl_recover.specs.crash.Held.{GoOn}
+use Rattle.vl_recover.specs.crash.Meanwhile.{IsRepaired}
+use Rattle.vl_recover.specs.repairing.Repairing.{Plan, repaired, plan_from, plan_of}
+use Rattle.vl_recover.specs.laws.opening.OneFinding.{same_greatest, same_logs, same_opening}
+use Rattle.vl_recover.specs.opening.Opening.{Opening}
+use Rattle.vl_recover.specs.opening.Plans.{Greatest, active_log, active_of, last_number as last_log, log_behind, log_made, new_state}
+use Rattle.vl_recover.specs.laws.repairing.RecoveredLaws.{found_goes_on, found_shows}
+use Rattle.vl_recover.specs.opening.Results.{frozen_log, opened_of}
+use Rattle.vl_recover.specs.opening.Walk.{StandingLog}
 use Rattle.vl_recover.specs.declared.parts.FrozenLog.{FrozenLog}
 use Rattle.vl_recover.specs.declared.parts.Parts.{Parts}
 use Rattle.vl_replay.specs.Opened.{IsOpenedStore, entries_in}

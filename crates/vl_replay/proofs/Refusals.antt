@@ -4,11 +4,11 @@ use Rattle.std.specs.Prelude.{None, Some, Result, Ok, Err}
 use Rattle.vl_disk.specs.Crash.{Image}
 use Rattle.vl_io.specs.declared.sink.Sink as sink
 use Rattle.vl_model.specs.declared.counter.Counter.{Counter}
-use Rattle.vl_recover.specs.Answers.{Finds, used_up}
-use Rattle.vl_recover.specs.laws.OneFinding.{same_used_up}
-use Rattle.vl_recover.specs.Opening.{Opens}
-use Rattle.vl_recover.specs.Opening as openings
-use Rattle.vl_recover.specs.laws.OpeningLaws.{single_opening}
+use Rattle.vl_recover.specs.opening.Answers.{Finds, used_up}
+use Rattle.vl_recover.specs.laws.opening.OneFinding.{same_used_up}
+use Rattle.vl_recover.specs.opening.Opening.{Opens}
+use Rattle.vl_recover.specs.opening.Opening as openings
+use Rattle.vl_recover.specs.laws.opening.OpeningLaws.{single_opening}
 use Rattle.vl_replay.specs.Endings.{refusal_line}
 use Rattle.vl_recover.specs.declared.fails.OpenError.{OpenError}
 use Rattle.vl_recover.specs.declared.fails.OpenError.TheVariants as why

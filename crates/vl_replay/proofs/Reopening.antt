@@ -19,10 +19,10 @@ use Rattle.vl_mem.specs.MemDisk.{changes_of, faults_of, reads_of, state_of, told
 use Rattle.vl_mem.specs.contracts.mem_disk.MemDiskWatched.TheImpl as memory
 use Rattle.vl_mem.specs.declared.mem_disk.MemDisk.{MemDisk}
 use Rattle.vl_model.specs.History.{History, contents_at, pairs_after}
-use Rattle.vl_recover.specs.Answers.{AnswersBy, Finds, calls_to_open}
-use Rattle.vl_recover.specs.Meanwhile.{IsMeanwhile}
-use Rattle.vl_recover.specs.Results.{HasFailed, came_by, opened_of}
-use Rattle.vl_recover.specs.Answers.{opened_from}
+use Rattle.vl_recover.specs.opening.Answers.{AnswersBy, Finds, calls_to_open}
+use Rattle.vl_recover.specs.crash.Meanwhile.{IsMeanwhile}
+use Rattle.vl_recover.specs.opening.Results.{HasFailed, recovery_by, opened_of}
+use Rattle.vl_recover.specs.opening.Answers.{opened_from}
 use Rattle.vl_recover.specs.declared.fails.OpenFail.{OpenFail}
 use Rattle.vl_recover.specs.declared.fails.OpenError.{OpenError}
 use Rattle.vl_recover.specs.declared.fails.OpenError.TheVariants as why
@@ -104,7 +104,7 @@ module _ (stop : ℕ) (disk : MemDisk) (told : told_by disk ≡ Some empty_disk)
       not_refused : (refusal : Refusal) → IsRefused empty refusal → ⊥
       not_refused = opened_not_refused empty finds_nothing refl
 
-      of : (reason : OpenError) → HasCause (faults_of disk) (faults_of fail.disk) (IsFault (Some reason)) → AnswersBy empty (came_by reason)
+      of : (reason : OpenError) → HasCause (faults_of disk) (faults_of fail.disk) (IsFault (Some reason)) → AnswersBy empty (recovery_by reason)
           → StopsOpening stop reason fail.disk
       of why.NotAStore by answer = not_refused refusals.NotAStore answer
       of (why.NewerFormat format) by answer = not_refused (refusals.NewerFormat format) answer
@@ -130,7 +130,7 @@ never_failed old new P failed changes reads meanwhile cause fails =
     omega (arith, none, rose)
 
 -- what reads give of the disk before
-pub is_fault_too : (reason : OpenError) → IsFault (Some reason) → HasFailed (came_by reason)
+pub is_fault_too : (reason : OpenError) → IsFault (Some reason) → HasFailed (recovery_by reason)
 is_fault_too why.NotAStore by = absurd by
 is_fault_too (why.NewerFormat format) by = absurd by
 is_fault_too (why.Damaged name place) by = absurd by
@@ -164,14 +164,14 @@ module _ (image : Image) (h : History) (m : ℕ) (disk : MemDisk) (started : Sta
       ∙ ap (reopened_text m) (contents_again h m)
 
   -- where it isn't opened, memory ran out
-  pub only_memory : (reason : OpenError) → ((state : DiskState) (read : Image) → told_by disk ≡ Some state → IsRead read state → AnswersBy read (came_by reason))
-      → (HasFailed (came_by reason) → ⊥) → reason ≡ why.NoMemory
+  pub only_memory : (reason : OpenError) → ((state : DiskState) (read : Image) → told_by disk ≡ Some state → IsRead read state → AnswersBy read (recovery_by reason))
+      → (HasFailed (recovery_by reason) → ⊥) → reason ≡ why.NoMemory
   only_memory reason answers sound = of reason (answers (state_of disk) image refl (started_read image (state_of disk) started)) sound
     where
       not_refused : (refusal : Refusal) → IsRefused image refusal → ⊥
       not_refused = reopens_not_refused memory.ghosts disk image (state_of disk) h m refl started again image (started_read image (state_of disk) started)
 
-      of : (reason : OpenError) → AnswersBy image (came_by reason) → (HasFailed (came_by reason) → ⊥) → reason ≡ why.NoMemory
+      of : (reason : OpenError) → AnswersBy image (recovery_by reason) → (HasFailed (recovery_by reason) → ⊥) → reason ≡ why.NoMemory
       of why.NotAStore answer fine = absurd (not_refused refusals.NotAStore answer)
       of (why.NewerFormat format) answer fine = absurd (not_refused (refusals.NewerFormat format) answer)
       of (why.Damaged name place) answer fine = absurd (not_refused (refusals.Damaged name place) answer)

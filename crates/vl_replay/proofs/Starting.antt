@@ -13,9 +13,9 @@ use Rattle.vl_model.specs.Winners.{resolved_at, winner}
 use Rattle.vl_model.specs.declared.entry.Body.{Body}
 use Rattle.vl_model.specs.declared.entry.Body.TheVariants.{Far, Gone, Inline, Logged}
 use Rattle.vl_model.specs.declared.entry.Entry.{Entry}
-use Rattle.vl_recover.specs.Alike.{IsLeft, OpensAsOf}
-use Rattle.vl_recover.specs.Answers.{Finds}
-use Rattle.vl_recover.specs.Steps.{MakesSome}
+use Rattle.vl_recover.specs.crash.Alike.{IsLeft, OpensAsOf}
+use Rattle.vl_recover.specs.opening.Answers.{Finds}
+use Rattle.vl_recover.specs.repairing.Steps.{MakesSome}
 use Rattle.vl_recover.specs.declared.parts.FrozenLog.{FrozenLog}
 use Rattle.vl_seglog.specs.declared.active.ActiveLog.{ActiveLog}
 use Rattle.vl_replay.specs.Opened.{IsOpenedStore, any_number, body_value, entries_in, entry_value, opened_value}

@@ -26,15 +26,16 @@ use Rattle.vl_mem.specs.declared.outcome.Outcome.TheVariants.{Lost, Kept, Halved
 use Rattle.vl_model.specs.History.{last_number}
 use Rattle.vl_model.specs.Limits.{max_file_number}
 use Rattle.vl_model.specs.declared.log_frame.LogFrame.{LogFrame}
-use Rattle.vl_recover.specs.laws.AlikeLaws.{standing_log}
-use Rattle.vl_recover.specs.laws.AppendLaws.{last_held, manifest_kept, standing_with, walked_with}
-use Rattle.vl_recover.specs.Held.{HoldsStore}
-use Rattle.vl_recover.specs.laws.HeldLaws.{GoOn, held_current, held_opens, held_says, log_as_held, opening_held}
-use Rattle.vl_recover.specs.Opening.{Led, Opening, Opens, Refusal, StandingLogs}
-use Rattle.vl_recover.specs.laws.OpeningLaws.{opens_by, single_opening, some_none}
-use Rattle.vl_recover.specs.laws.StageLaws.{ok_same}
-use Rattle.vl_recover.specs.laws.TornFrames.{frame_behind, torn_log}
-use Rattle.vl_recover.specs.Walk.{StandingLog, filled, walked, with_frames}
+use Rattle.vl_recover.specs.opening.Walk.{standing_log}
+use Rattle.vl_recover.specs.laws.crash.AppendLaws.{last_held, manifest_kept, standing_with, walked_with}
+use Rattle.vl_recover.specs.crash.Held.{HoldsStore}
+use Rattle.vl_recover.specs.laws.opening.HeldLaws.{held_current, held_opens, held_says}
+use Rattle.vl_recover.specs.crash.Held.{GoOn, log_as_held, opening_held}
+use Rattle.vl_recover.specs.opening.Opening.{Led, Opening, Opens, Refusal, StandingLogs}
+use Rattle.vl_recover.specs.laws.opening.OpeningLaws.{opens_by, single_opening, some_none}
+use Rattle.vl_recover.specs.laws.repairing.StageLaws.{ok_same}
+use Rattle.vl_recover.specs.laws.crash.TornFrames.{frame_behind, torn_log}
+use Rattle.vl_recover.specs.opening.Walk.{StandingLog, filled, walked, with_frames}
 use Rattle.vl_seglog.specs.Frames.{frame_at, frames_end, frames_grammar, log_bytes}
 use Rattle.vl_seglog.specs.laws.LogReadingLaws.{SaysFrames, reads_with_tail}
 use Rattle.vl_replay.specs.Reopens.{NamesUpTo, Reopens, commits_of, state_left}

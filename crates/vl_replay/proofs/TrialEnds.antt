@@ -10,7 +10,7 @@ use Rattle.vl_mem.specs.MemDisk.{state_of}
 use Rattle.vl_mem.specs.declared.mem_disk.MemDisk.{MemDisk}
 use Rattle.vl_mem.specs.declared.outcome.Outcome.{Outcome}
 use Rattle.vl_model.specs.History.{last_number}
-use Rattle.vl_recover.specs.Results.{HasFailed, came_by}
+use Rattle.vl_recover.specs.opening.Results.{HasFailed, recovery_by}
 use Rattle.vl_recover.specs.declared.fails.OpenError.{OpenError}
 use Rattle.vl_recover.specs.declared.fails.OpenError.TheVariants as why
 use Rattle.vl_replay.specs.Endings.{Culprit, CountsFaultsOf, TheDisk, culprit_of, no_memory_line, read_fault_line}
@@ -96,7 +96,7 @@ module _ (t : Trial) (held mid : Option (List ℕ)) (taken : Takes held mid (ans
 
 -- the disk is to blame only where it failed
 pub not_by_disk : {K : Type 0} (k : sink.Ghosts K) (old new : K) (reason : OpenError) (result : Ending) → EndsUnopened k old new reason result
-    → (HasFailed (came_by reason) → ⊥) → culprit_of result ≢ TheDisk
+    → (HasFailed (recovery_by reason) → ⊥) → culprit_of result ≢ TheDisk
 not_by_disk k old new reason result (how, for, (line, line_is, finishes)) sound =
     or_cut k old new line (ending_unopened how) result (λ (e : Ending). culprit_of e ≢ TheDisk) finishes
     (λ by. sound (is_fault_too reason (fault_for reason how for (of how by)))) (λ e. cc)

@@ -8,8 +8,8 @@ use Rattle.vl_disk.specs.Faults.{Rose, after_calls}
 use Rattle.vl_disk.specs.DiskState.{DiskState}
 use Rattle.vl_disk.specs.Crash.{Image}
 use Rattle.vl_disk.specs.Moments.{HoldsThroughout}
-use Rattle.vl_recover.specs.Alike.{IsLeft}
-use Rattle.vl_recover.specs.Starts.{MayOpen}
+use Rattle.vl_recover.specs.crash.Alike.{IsLeft}
+use Rattle.vl_recover.specs.crash.Starts.{MayOpen}
 use Rattle.vl_replay.specs.Sequential.{State}
 use Rattle.vl_replay.specs.Exchanges.{Exchange, last_state}
 pub use Rattle.vl_replay.specs.Between.{Holding}

@@ -1,8 +1,8 @@
 -- What an opening gives, where a store was opened and where not.
 use Rattle.std.specs.Prelude.{◌≡◌, Option, Some, None, Result, Ok, Err}
 use Rattle.vl_disk.specs.Crash.{Image}
-use Rattle.vl_recover.specs.Answers.{AnswersBy, Finds, used_up}
-use Rattle.vl_recover.specs.Results.{came_by}
+use Rattle.vl_recover.specs.opening.Answers.{AnswersBy, Finds, used_up}
+use Rattle.vl_recover.specs.opening.Results.{recovery_by}
 use Rattle.vl_recover.specs.declared.fails.OpenFail.{OpenFail}
 use Rattle.vl_recover.specs.declared.fails.OpenError.{OpenError}
 use Rattle.vl_recover.specs.declared.fails.OpenError.TheVariants as why
@@ -41,13 +41,13 @@ ending_unopened (why.Disk name) = DiskFault
 
 -- what reads give is refused so
 abbrev pub IsRefused : Image → Refusal → Type 0
-IsRefused read refusal = AnswersBy read (came_by (why_refused refusal))
+IsRefused read refusal = AnswersBy read (recovery_by (why_refused refusal))
 
 -- an opening answers so by what reads give: a store that is there, with a number left for each file that is made, is
 -- opened; a refusal has its cause; want of memory and faults may come instead
 abbrev pub AnswersOpening : Image → Option OpenError → Type 0
 AnswersOpening read None = (found : Finds read) × (used_up found ≡ None)
-AnswersOpening read (Some reason) = AnswersBy read (came_by reason)
+AnswersOpening read (Some reason) = AnswersBy read (recovery_by reason)
 
 -- the disk failed
 abbrev pub IsFault : Option OpenError → Type 0

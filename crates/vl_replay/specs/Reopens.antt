@@ -8,7 +8,7 @@ use Rattle.vl_disk.specs.declared.name.Name.{Name}
 use Rattle.vl_mem.specs.declared.outcome.Outcome.{Outcome}
 use Rattle.vl_mem.specs.declared.outcome.Outcome.TheVariants.{Lost, Kept, Halved}
 use Rattle.vl_model.specs.History.{History}
-use Rattle.vl_recover.specs.Answers.{AreStrayNames, Finds, used_up}
+use Rattle.vl_recover.specs.opening.Answers.{AreStrayNames, Finds, used_up}
 use Rattle.vl_replay.specs.Durable.{Holding}
 use Rattle.vl_replay.specs.Sequential.{State}
 use Rattle.vl_replay.specs.Stopped.{Commits, IsStoppedIn, append_failed, sync_failed}

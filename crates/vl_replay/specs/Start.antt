@@ -9,10 +9,10 @@ use Rattle.vl_disk.specs.Started.{IsRead}
 use Rattle.vl_disk.specs.declared.name.Name.{Name}
 use Rattle.vl_disk.specs.declared.watched.Watched.{Ghosts}
 use Rattle.vl_model.specs.Keys.{key_cmp}
-use Rattle.vl_recover.specs.Alike.{IsLeft, OpensLike}
-use Rattle.vl_recover.specs.Answers.{AreStrayNames, Finds, calls_to_open, used_up}
-use Rattle.vl_recover.specs.Plans.{active_log, new_state}
-use Rattle.vl_recover.specs.Starts.{MayOpen}
+use Rattle.vl_recover.specs.crash.Alike.{IsLeft, OpensLike}
+use Rattle.vl_recover.specs.opening.Answers.{AreStrayNames, Finds, calls_to_open, used_up}
+use Rattle.vl_recover.specs.opening.Plans.{active_log, new_state}
+use Rattle.vl_recover.specs.crash.Starts.{MayOpen}
 use Rattle.vl_replay.specs.Durable.{DiskEnds, IsAsBefore, Tells}
 use Rattle.vl_replay.specs.Exchanges.{AreExplained, exchanges_from}
 use Rattle.vl_replay.specs.laws.Laws.{IsSound, exchanges_from-explained, none_in_empty, nothing_there}

@@ -10,9 +10,9 @@ use Rattle.vl_model.specs.History.{History, last_number}
 use Rattle.vl_model.specs.Winners.{Logs}
 use Rattle.vl_model.specs.declared.entry.Entry.{Entry}
 use Rattle.vl_model.specs.declared.log_frame.LogFrame.{LogFrame}
-use Rattle.vl_recover.specs.Held.{HoldsStore}
-use Rattle.vl_recover.specs.Opening.{Opening, Opens}
-use Rattle.vl_recover.specs.laws.HeldLaws.{GoOn}
+use Rattle.vl_recover.specs.crash.Held.{HoldsStore}
+use Rattle.vl_recover.specs.opening.Opening.{Opening, Opens}
+use Rattle.vl_recover.specs.crash.Held.{GoOn}
 use Rattle.vl_replay.specs.Sequential.{State}
 use Rattle.vl_replay.specs.Stopped.{AreNumberedUpTo, GivesUpTo}
 

@@ -13,9 +13,9 @@ ghost use Rattle.vl_replay.specs.Sequential.{State, answer_to, state_after};
 ghost use Rattle.vl_replay.specs.Represents.{Represents};
 ghost use Rattle.vl_replay.specs.Halts.{HaltsByDisk};
 ghost use Rattle.vl_replay.specs.declared.fails.Refusal.{Refusal};
-ghost use Rattle.vl_recover.specs.Meanwhile.{FaultsAt, IsMeanwhile};
-ghost use Rattle.vl_recover.specs.Results.{came_by};
-ghost use Rattle.vl_recover.specs.Starts.{MayOpen};
+ghost use Rattle.vl_recover.specs.crash.Meanwhile.{FaultsAt, IsMeanwhile};
+ghost use Rattle.vl_recover.specs.opening.Results.{recovery_by};
+ghost use Rattle.vl_recover.specs.crash.Starts.{MayOpen};
 ghost use Rattle.vl_disk.specs.declared.name.Name.{Name};
 ghost use Rattle.vl_disk.specs.Crash.{Image};
 ghost use Rattle.vl_disk.specs.Started.{IsRead};
@@ -82,7 +82,7 @@ impl<D: Disk> Replayer<D> {
 
         // A fault is named by the file at which it came.
         ensures at { (state : DiskState) (read : Image) → D.told disk ≡ Some state → IsRead read state
-            → IfErr result (λ fail. FaultsAt read state (came_by fail.why)) }
+            → IfErr result (λ fail. FaultsAt read state (recovery_by fail.why)) }
 
         // And a store may be opened on the disk again, whatever is answered.
         ensures again { (state now : DiskState) → D.told disk ≡ Some state → MayOpen state

@@ -6,7 +6,7 @@ use Rattle.byteorder.specs.Endian.{big_bytes}
 use Rattle.vl_model.specs.Keys.{key_cmp}
 use Rattle.vl_model.specs.declared.change.Change.{Change}
 use Rattle.vl_model.specs.Limits.{max_commit_number}
-use Rattle.vl_frame.specs.Numbers.{one_number}
+use Rattle.vl_frame.specs.laws.NumberLaws.{one_number}
 use Rattle.vl_seglog.specs.laws.CommitLaws.{few_records}
 use Rattle.vl_seglog.specs.Commit.{Commit, IsCommit, commit_body, head_bytes, records_bytes, records_spelling}
 use Rattle.vl_seglog.specs.Series.{IsSeries}

@@ -1,16 +1,21 @@
 -- What a frame says that was found.
-use Rattle.std.proofs.Common.{◌≡◌, ℕ, ◌+◌, ◌-◌, List, [], ◌∷◌, ◌++◌, length, take, drop, sym, ap, ◌∙◌, arith}
-use Rattle.std.proofs.lemmas.List.{take_all, length-drop}
+use Rattle.std.proofs.Common.{◌≡◌, ℕ, ◌+◌, ◌-◌, List, [], ◌∷◌, ◌++◌, length, map, take, drop, sym, ap, subst, ◌∙◌, arith}
+use Rattle.std.proofs.lemmas.List.{map_push, take_all, length-drop}
 use Rattle.vl_frame.specs.Frame.{IsSpelled, frame_bytes}
 use Rattle.vl_frame.specs.laws.Laws.{one_frame}
 use Rattle.vl_frame.specs.laws.RunLaws as runs
 use Rattle.vl_frame.specs.Runs.{StandsAt}
 use Rattle.vl_frame.specs.declared.kinds.FileKind.TheVariants as files
 use Rattle.vl_frame.specs.declared.kinds.FrameKind.{FrameKind}
+use Rattle.vl_model.specs.Frames.{frame_length}
 use Rattle.vl_model.specs.declared.log_frame.LogFrame.{LogFrame}
 use Rattle.vl_seglog.specs.laws.FrameLaws.{frames_end-more, length-item_frame}
-use Rattle.vl_seglog.specs.Frames.{frame_body, frame_kind, frames_end, frames_grammar}
-use Rattle.vl_seglog.specs.Reading.{Says}
+use Rattle.vl_seglog.specs.Frames.{frames_end, frames_grammar}
+use Rattle.vl_seglog.specs.Bodies.{frame_body, frame_kind}
+use Rattle.vl_seglog.specs.Placed.{AreFramesFrom, IsFrameAt}
+use Rattle.vl_seglog.specs.Reading.{Says, frame_of}
+use Rattle.vl_seglog.specs.declared.frame.Frame.{Frame}
+use Rattle.vl_seglog.proofs.Following.{Placing, all_placed, none_placed, one_placed}
 
 -- the frame that was found says what stands there
 pub says : (number at : ℕ) (bytes : List ℕ) (kind : FrameKind) (body : List ℕ) (f : LogFrame) (rest : List ℕ) → IsSpelled files.Log number at bytes kind body → StandsAt frames_grammar number at bytes f rest → Says kind body f
@@ -40,3 +45,32 @@ goes_on number bytes frames rest at f after so_far is s =
     let more = runs.goes_on frames_grammar number 16 bytes frames rest at f after so_far.under_way is s in
     let less = runs.shorter frames_grammar number at rest f after s in
     record { under_way = more; place = omega (arith, so_far.place, so_far.under_way.within, less.0, length-item_frame number at f, frames_end-more frames f) }
+
+-- ---- frames with their places
+
+abbrev size : Frame → ℕ
+size f = frame_length (frame_of f)
+
+pub record FramesSoFar (number : ℕ) (bytes : List ℕ) (frames : List Frame) (rest : List ℕ) : Type 0 where
+  pub so_far : SoFar number bytes (map frame_of frames) rest
+  pub placed : Placing (IsFrameAt number) size 16 frames (frames_end (map frame_of frames))
+
+pub none_read : (number : ℕ) (bytes : List ℕ) (none : List Frame) → none ≡ [] → FramesSoFar number bytes none bytes
+none_read number bytes none is = subst (λ (fs : List Frame). FramesSoFar number bytes fs bytes) (sym is) (record {
+  so_far = record { under_way = runs.begins frames_grammar number 16 bytes; place = omega arith };
+  placed = none_placed (IsFrameAt number) size 16;
+})
+
+pub one_read : (number : ℕ) (bytes : List ℕ) (frames now : List Frame) (rest : List ℕ) (at : ℕ) (f : Frame) (after : List ℕ) → FramesSoFar number bytes frames rest → at ≡ 16 + (length bytes - length rest)
+    → now ≡ frames ++ f ∷ [] → StandsAt frames_grammar number at rest (frame_of f) after → IsFrameAt number at f → FramesSoFar number bytes now after
+one_read number bytes frames now rest at f after so is now_is stands placed = subst (λ (fs : List Frame). FramesSoFar number bytes fs after) (sym now_is) (record {
+  so_far = subst (λ (fs : List LogFrame). SoFar number bytes fs after) (sym pushed) (goes_on number bytes (map frame_of frames) rest at (frame_of f) after so.so_far is stands);
+  placed = subst (λ (n : ℕ). Placing (IsFrameAt number) size 16 (frames ++ f ∷ []) n) (sym (ap frames_end pushed ∙ frames_end-more (map frame_of frames) (frame_of f)))
+      (one_placed (IsFrameAt number) size 16 frames (frames_end (map frame_of frames)) f so.placed (subst (λ (n : ℕ). IsFrameAt number n f) (is ∙ so.so_far.place) placed));
+})
+  where
+    pushed : map frame_of (frames ++ f ∷ []) ≡ map frame_of frames ++ frame_of f ∷ []
+    pushed = map_push frame_of frames f
+
+pub frames_placed : (number : ℕ) (bytes : List ℕ) (frames : List Frame) (rest : List ℕ) → FramesSoFar number bytes frames rest → AreFramesFrom number 16 frames
+frames_placed number bytes frames rest so = all_placed (IsFrameAt number) size 16 frames (frames_end (map frame_of frames)) so.placed

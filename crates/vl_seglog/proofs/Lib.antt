@@ -1,4 +1,5 @@
 pub mod Bodies
+pub mod Following
 pub mod Framing
 pub mod Headless
 pub mod Moving
@@ -11,3 +12,4 @@ pub mod Records
 pub mod Runs
 pub mod Staging
 mod StoredLaws
+mod Worked

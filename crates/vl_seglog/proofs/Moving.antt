@@ -1,15 +1,20 @@
 -- Moved records, as they are read from the left.
-use Rattle.std.proofs.Common.{◌≡◌, ℕ, ◌<◌, ◌≤◌, ◌^◌, List, ◌++◌, length, sym, ap, subst, ◌∙◌, arith}
+use Rattle.std.proofs.Common.{◌≡◌, ℕ, ◌<◌, ◌≤◌, ◌^◌, List, ◌++◌, length, refl, sym, ap, subst, ◌∙◌, arith}
 use Rattle.byteorder.specs.Endian.{big_bytes}
-use Rattle.vl_frame.specs.Numbers.{one_number}
+use Rattle.vl_frame.specs.laws.NumberLaws.{one_number}
+use Rattle.vl_model.specs.Keys.{value_bytes}
 use Rattle.vl_model.specs.declared.change.Change.{Change}
-use Rattle.vl_model.specs.declared.change.Change.TheVariants.{Set, Delete}
+use Rattle.vl_model.specs.declared.change.Change.TheVariants.{Set}
 use Rattle.vl_model.specs.declared.log_frame.Moved.{Moved}
 use Rattle.vl_seglog.specs.laws.RecordLaws.{one_record}
+use Rattle.vl_seglog.specs.Reading.{moved_of}
+use Rattle.vl_seglog.specs.declared.frame.ReadRecord.{ReadRecord}
 use Rattle.vl_seglog.specs.Record.{IsRecord, IsSpelled, record_bytes}
-use Rattle.vl_seglog.specs.Relocation.{AreOnce, IsMoved, IsRelocation, moved_bytes, moves_bytes, moves_spelling, relocation_body}
+use Rattle.vl_seglog.specs.Relocation.{IsRelocation, moves_bytes, moves_spelling, relocation_body}
+use Rattle.vl_seglog.specs.Moves.{AreOnce, IsMoved, moved_bytes}
 use Rattle.vl_seglog.specs.laws.RelocationLaws.{few_moves}
-use Rattle.vl_seglog.specs.Series.{IsSeries, one_series}
+use Rattle.vl_seglog.specs.Series.{IsSeries}
+use Rattle.vl_seglog.specs.laws.SeriesLaws.{one_series}
 
 -- behind the version of a moved record stands the record
 pub behind_version : (bytes : List ℕ) (version : ℕ) (rest : List ℕ) (moved : Moved) (after : List ℕ) → bytes ≡ big_bytes 8 version ++ rest → version < 2 ^ 64 → IsMoved moved → bytes ≡ moved_bytes moved ++ after
@@ -22,13 +27,19 @@ behind_version bytes version rest moved after e fits lawful spelled =
 pub no_version : (bytes : List ℕ) (moved : Moved) (after : List ℕ) → length bytes < 8 → bytes ≡ moved_bytes moved ++ after → ⊥
 no_version bytes moved after short spelled = let len = ap length spelled in omega (arith, len)
 
-not_both : (value : List ℕ) → Delete ≡ Set value → ⊥
-not_both value e = cc
+-- what stands where a moved record does sets its key
+pub must_set : (rest key : List ℕ) (change : Change) (after : List ℕ) (moved : Moved) → IsRecord key change → rest ≡ record_bytes key change ++ after → IsSpelled rest moved.key (Set moved.value) → change ≡ Set (value_bytes change)
+must_set rest key change after moved lawful parts s =
+    let same : change ≡ Set moved.value = (one_record rest key moved.key change (Set moved.value) (record { lawful = lawful; rest = after; parts = parts }) s).1 in
+    subst (λ (c : Change). c ≡ Set (value_bytes c)) (sym same) refl
 
--- a deletion isn't moved
-pub no_deletion : (rest key : List ℕ) (change : Change) (after : List ℕ) (moved : Moved) → IsRecord key change → rest ≡ record_bytes key change ++ after → change ≡ Delete → IsSpelled rest moved.key (Set moved.value) → ⊥
-no_deletion rest key change after moved lawful parts deletes s =
-    not_both moved.value (sym deletes ∙ (one_record rest key moved.key change (Set moved.value) (record { lawful = lawful; rest = after; parts = parts }) s).1)
+-- a version, and a record behind it that sets its key
+pub is_moved : (bytes : List ℕ) (version : ℕ) (rest : List ℕ) (r : ReadRecord) (after : List ℕ) → bytes ≡ big_bytes 8 version ++ rest → version < 2 ^ 64 → IsRecord r.key r.change → rest ≡ record_bytes r.key r.change ++ after
+    → r.version ≡ version → r.change ≡ Set (value_bytes r.change) → IsMoved (moved_of r) × (bytes ≡ moved_bytes (moved_of r) ++ after)
+is_moved bytes version rest r after e fits lawful parts same sets = (
+  record { version = subst (λ (n : ℕ). n < 2 ^ 64) (sym same) fits; lawful = subst (IsRecord r.key) sets lawful },
+  e ∙ ap (λ (n : ℕ). big_bytes 8 n ++ rest) (sym same) ∙ ap (λ (b : List ℕ). big_bytes 8 r.version ++ b) (parts ∙ ap (λ (c : Change). record_bytes r.key c ++ after) sets),
+)
 
 -- ---- bodies
 

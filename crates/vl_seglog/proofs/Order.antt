@@ -1,5 +1,5 @@
 -- Keys rise where each is below the next.
-use Rattle.std.proofs.Common.{◌≡◌, ℕ, zero, suc, ◌+◌, ◌-◌, ◌<◌, ◌≤◌, Bool, true, false, List, [], ◌∷◌, length, drop, get_or, refl, sym, ap, ◌∙◌, arith}
+use Rattle.std.proofs.Common.{◌≡◌, ℕ, zero, suc, ◌+◌, ◌-◌, ◌<◌, ◌≤◌, Bool, true, false, List, [], ◌∷◌, length, drop, get_or, map, refl, sym, ap, ◌∙◌, arith}
 use Rattle.std.proofs.Math.Seq.{drop-cons}
 use Rattle.std.proofs.lemmas.Bool.{and_parts, and_from}
 use Rattle.std.proofs.lemmas.List.{length-drop}
@@ -12,6 +12,8 @@ use Rattle.std.specs.declared.cmp.Ordering.{Ordering}
 use Rattle.std.specs.declared.cmp.Ordering.TheVariants.{Less, Equal, Greater}
 use Rattle.vl_model.specs.Keys.{key_cmp}
 use Rattle.vl_model.specs.declared.change.Change.{Change}
+use Rattle.vl_seglog.specs.Reading.{write_of}
+use Rattle.vl_seglog.specs.declared.frame.ReadRecord.{ReadRecord}
 
 less : (r : Ordering) → is_lt r ≡ true → r ≡ Less
 less Less e = refl
@@ -35,38 +37,38 @@ goes_up e f es lt =
 goes_down : (e f : List ℕ × Change) (es : List (List ℕ × Change)) → is_lt (key_cmp e.0 f.0) ≡ false → is_sorted key_cmp (e ∷ f ∷ es) ≡ false
 goes_down e f es ge = rw ge refl
 
--- the entries from the one before a place on
-two_from : (ws : List (List ℕ × Change)) (i : ℕ) (a b : List ℕ × Change) → 1 ≤ i → i < length ws → a ≡ get_or ws (i - 1) a → b ≡ get_or ws i b
+-- the records from the one before a place on
+two_from : (ws : List ReadRecord) (i : ℕ) (a b : ReadRecord) → 1 ≤ i → i < length ws → a ≡ get_or ws (i - 1) a → b ≡ get_or ws i b
     → (drop (i - 1) ws ≡ a ∷ b ∷ drop (i + 1) ws) × (drop i ws ≡ b ∷ drop (i + 1) ws)
 two_from ws zero a b some lt is_a is_b = absurd (omega arith)
 two_from ws (suc j) a b some lt is_a is_b =
     let more : suc j + 1 ≡ suc (suc j) = omega arith in
-    let next : drop (suc j) ws ≡ b ∷ drop (suc (suc j)) ws = drop-cons ws (suc j) b lt ∙ ap (λ (x : List ℕ × Change). x ∷ drop (suc (suc j)) ws) (sym is_b) in
+    let next : drop (suc j) ws ≡ b ∷ drop (suc (suc j)) ws = drop-cons ws (suc j) b lt ∙ ap (λ (x : ReadRecord). x ∷ drop (suc (suc j)) ws) (sym is_b) in
     let before : suc j - 1 ≡ j = omega arith in
     let is_here : a ≡ get_or ws j a = is_a ∙ ap (λ (n : ℕ). get_or ws n a) before in
-    let here : drop j ws ≡ a ∷ drop (suc j) ws = drop-cons ws j a (omega arith) ∙ ap (λ (x : List ℕ × Change). x ∷ drop (suc j) ws) (sym is_here) in
-    rw (before, more) (here ∙ ap (λ (l : List (List ℕ × Change)). a ∷ l) next, next)
+    let here : drop j ws ≡ a ∷ drop (suc j) ws = drop-cons ws j a (omega arith) ∙ ap (λ (x : ReadRecord). x ∷ drop (suc j) ws) (sym is_here) in
+    rw (before, more) (here ∙ ap (λ (l : List ReadRecord). a ∷ l) next, next)
 
-tested : (ws : List (List ℕ × Change)) (i : ℕ) (a b : List ℕ × Change) (t : Bool) → a ≡ get_or ws (i - 1) a → b ≡ get_or ws i b → is_lt (key_cmp (get_or ws (i - 1) a).0 (get_or ws i b).0) ≡ t → is_lt (key_cmp a.0 b.0) ≡ t
+tested : (ws : List ReadRecord) (i : ℕ) (a b : ReadRecord) (t : Bool) → a ≡ get_or ws (i - 1) a → b ≡ get_or ws i b → is_lt (key_cmp (get_or ws (i - 1) a).key (get_or ws i b).key) ≡ t → is_lt (key_cmp a.key b.key) ≡ t
 tested ws i a b t is_a is_b test =
-    ap (λ (x : List ℕ × Change). is_lt (key_cmp x.0 b.0)) is_a ∙ ap (λ (x : List ℕ × Change). is_lt (key_cmp (get_or ws (i - 1) a).0 x.0)) is_b ∙ test
+    ap (λ (x : ReadRecord). is_lt (key_cmp x.key b.key)) is_a ∙ ap (λ (x : ReadRecord). is_lt (key_cmp (get_or ws (i - 1) a).key x.key)) is_b ∙ test
 
-pub up_at : (ws : List (List ℕ × Change)) (i : ℕ) (a b : List ℕ × Change) → 1 ≤ i → i < length ws → a ≡ get_or ws (i - 1) a → b ≡ get_or ws i b → is_lt (key_cmp (get_or ws (i - 1) a).0 (get_or ws i b).0) ≡ true
-    → is_sorted key_cmp ws ≡ is_sorted key_cmp (drop (i - 1) ws) → is_sorted key_cmp ws ≡ is_sorted key_cmp (drop (i + 1 - 1) ws)
+pub up_at : (ws : List ReadRecord) (i : ℕ) (a b : ReadRecord) → 1 ≤ i → i < length ws → a ≡ get_or ws (i - 1) a → b ≡ get_or ws i b → is_lt (key_cmp (get_or ws (i - 1) a).key (get_or ws i b).key) ≡ true
+    → is_sorted key_cmp (map write_of ws) ≡ is_sorted key_cmp (map write_of (drop (i - 1) ws)) → is_sorted key_cmp (map write_of ws) ≡ is_sorted key_cmp (map write_of (drop (i + 1 - 1) ws))
 up_at ws i a b some lt is_a is_b up so_far =
     let two = two_from ws i a b some lt is_a is_b in
     let place : i + 1 - 1 ≡ i = omega arith in
-    rw place (so_far ∙ ap (is_sorted key_cmp) two.0 ∙ goes_up a b (drop (i + 1) ws) (tested ws i a b true is_a is_b up) ∙ ap (is_sorted key_cmp) (sym two.1))
+    rw place (so_far ∙ ap (λ (l : List ReadRecord). is_sorted key_cmp (map write_of l)) two.0 ∙ goes_up (write_of a) (write_of b) (map write_of (drop (i + 1) ws)) (tested ws i a b true is_a is_b up) ∙ ap (λ (l : List ReadRecord). is_sorted key_cmp (map write_of l)) (sym two.1))
 
-pub down_at : (ws : List (List ℕ × Change)) (i : ℕ) (a b : List ℕ × Change) → 1 ≤ i → i < length ws → a ≡ get_or ws (i - 1) a → b ≡ get_or ws i b → is_lt (key_cmp (get_or ws (i - 1) a).0 (get_or ws i b).0) ≡ false
-    → is_sorted key_cmp ws ≡ is_sorted key_cmp (drop (i - 1) ws) → is_sorted key_cmp ws ≡ false
+pub down_at : (ws : List ReadRecord) (i : ℕ) (a b : ReadRecord) → 1 ≤ i → i < length ws → a ≡ get_or ws (i - 1) a → b ≡ get_or ws i b → is_lt (key_cmp (get_or ws (i - 1) a).key (get_or ws i b).key) ≡ false
+    → is_sorted key_cmp (map write_of ws) ≡ is_sorted key_cmp (map write_of (drop (i - 1) ws)) → is_sorted key_cmp (map write_of ws) ≡ false
 down_at ws i a b some lt is_a is_b down so_far =
-    so_far ∙ ap (is_sorted key_cmp) (two_from ws i a b some lt is_a is_b).0 ∙ goes_down a b (drop (i + 1) ws) (tested ws i a b false is_a is_b down)
+    so_far ∙ ap (λ (l : List ReadRecord). is_sorted key_cmp (map write_of l)) (two_from ws i a b some lt is_a is_b).0 ∙ goes_down (write_of a) (write_of b) (map write_of (drop (i + 1) ws)) (tested ws i a b false is_a is_b down)
 
-few_rise : (ws : List (List ℕ × Change)) → length ws ≤ 1 → is_sorted key_cmp ws ≡ true
+few_rise : (ws : List ReadRecord) → length ws ≤ 1 → is_sorted key_cmp (map write_of ws) ≡ true
 few_rise [] le = refl
 few_rise (w ∷ []) le = refl
 few_rise (w ∷ v ∷ ws) le = absurd (omega arith)
 
-pub up_to_end : (ws : List (List ℕ × Change)) (i : ℕ) → length ws ≤ i → is_sorted key_cmp ws ≡ is_sorted key_cmp (drop (i - 1) ws) → is_sorted key_cmp ws ≡ true
+pub up_to_end : (ws : List ReadRecord) (i : ℕ) → length ws ≤ i → is_sorted key_cmp (map write_of ws) ≡ is_sorted key_cmp (map write_of (drop (i - 1) ws)) → is_sorted key_cmp (map write_of ws) ≡ true
 up_to_end ws i le so_far = so_far ∙ few_rise (drop (i - 1) ws) (omega (arith, length-drop (i - 1) ws))

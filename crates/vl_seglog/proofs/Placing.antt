@@ -10,7 +10,7 @@ use Rattle.vl_model.specs.declared.pointer.Pointer.{Pointer}
 use Rattle.vl_seglog.specs.laws.RecordLaws.{length-record_bytes}
 use Rattle.vl_seglog.specs.Commit.{records_spelling}
 use Rattle.vl_seglog.specs.Relocation.{moves_spelling}
-use Rattle.vl_seglog.specs.laws.RelocationLaws.{length-moved_bytes}
+use Rattle.vl_seglog.specs.laws.MoveLaws.{length-moved_bytes}
 use Rattle.vl_seglog.specs.Series.{Spelling, series_bytes}
 use Rattle.vl_seglog.specs.Stored.{moved_pointers, pointer_at, pointers_from}
 

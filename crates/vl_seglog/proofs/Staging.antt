@@ -8,7 +8,8 @@ use Rattle.vl_model.specs.declared.log_frame.Moved.{Moved}
 use Rattle.vl_frame.specs.laws.Laws.{length-frame_bytes}
 use Rattle.vl_seglog.specs.Commit.{records_bytes}
 use Rattle.vl_seglog.specs.laws.CommitLaws.{body_length}
-use Rattle.vl_seglog.specs.Frames.{IsFrame, frame_at, frame_body, frame_kind, frames_grammar}
+use Rattle.vl_seglog.specs.Frames.{frame_at, frames_grammar}
+use Rattle.vl_seglog.specs.Bodies.{IsFrame, frame_body, frame_kind}
 use Rattle.vl_seglog.specs.Relocation.{moves_bytes, relocation_body}
 
 pub record IsWritten (log place : ℕ) (f : LogFrame) (out : List ℕ) : Type 0 where

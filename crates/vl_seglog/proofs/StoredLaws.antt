@@ -26,8 +26,9 @@ use Rattle.vl_seglog.specs.Commit.{AreRecords, Commit, commit_body, head_bytes a
 use Rattle.vl_seglog.specs.laws.FrameLaws.{length-item_frame}
 use Rattle.vl_seglog.specs.Frames.{frames_grammar}
 use Rattle.vl_seglog.specs.LogReading.{AreBehind, LogReading, ReadsLog}
-use Rattle.vl_seglog.specs.Relocation.{IsMoved, moved_bytes, moves_bytes, relocation_body}
-use Rattle.vl_seglog.specs.laws.RelocationLaws.{length-moved_bytes}
+use Rattle.vl_seglog.specs.Relocation.{moves_bytes, relocation_body}
+use Rattle.vl_seglog.specs.Moves.{IsMoved, moved_bytes}
+use Rattle.vl_seglog.specs.laws.MoveLaws.{length-moved_bytes}
 use Rattle.vl_seglog.specs.Stored.{AllLead, LeadsTo, LeadToAll, frame_pointers, frame_writes, lies_at, moved_pointers, moved_write, pointers_from, stored_at}
 
 value_behind : (key value : List ℕ) → drop (7 + length key) (record_bytes key (Set value)) ≡ value

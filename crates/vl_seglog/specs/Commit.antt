@@ -1,5 +1,5 @@
 -- A commit, and how its frame is spelled.
-use Rattle.std.specs.Prelude.{◌≡◌, ◌+◌, ◌*◌, ◌≤◌, ℕ, List, ◌++◌, length, IsTrue, refl}
+use Rattle.std.specs.Prelude.{◌+◌, ◌*◌, ◌≤◌, ℕ, List, ◌++◌, length, IsTrue}
 use Rattle.std.specs.FinMap.{is_sorted}
 use Rattle.std.specs.List.{AllByRecursion}
 use Rattle.byteorder.specs.Endian.{big_bytes}
@@ -8,8 +8,8 @@ use Rattle.vl_model.specs.declared.change.Change.{Change}
 use Rattle.vl_model.specs.Limits.{max_commit_number}
 use Rattle.vl_frame.specs.Frame.{frame_bytes}
 use Rattle.vl_frame.specs.declared.kinds.FrameKind.TheVariants as kinds
-use Rattle.vl_seglog.specs.laws.RecordLaws.{one_record}
-use Rattle.vl_seglog.specs.Record.{IsRecord, IsSpelled, record_bytes}
+use Rattle.vl_seglog.specs.laws.RecordLaws.{one_write}
+use Rattle.vl_seglog.specs.Record.{IsRecord, record_bytes}
 use Rattle.vl_seglog.specs.Series.{Spelling, series_bytes}
 
 -- a commit, and what it does to each key that it names
@@ -28,16 +28,6 @@ pub record IsCommit (c : Commit) : Type 0 where
   pub some : 1 ≤ length c.writes
   pub rising : IsTrue (is_sorted key_cmp c.writes)
   pub lawful : AreRecords c.writes
-
--- At the front of the same bytes stands one record at most, and the same stands behind it.
-pub one_write : (a b : List ℕ × Change) (rest other : List ℕ) → IsRecord a.0 a.1 → IsRecord b.0 b.1
-    → record_bytes a.0 a.1 ++ rest ≡ record_bytes b.0 b.1 ++ other → (a ≡ b) × (rest ≡ other)
-one_write a b rest other p q e =
-    let bytes = record_bytes a.0 a.1 ++ rest in
-    let first : IsSpelled bytes a.0 a.1 = record { lawful = p; rest = rest; parts = refl } in
-    let second : IsSpelled bytes b.0 b.1 = record { lawful = q; rest = other; parts = e } in
-    let same = one_record bytes a.0 b.0 a.1 b.1 first second in
-    ((λ i. (same.0 i, same.1 i)), same.2)
 
 -- how records are spelled, each of a key and what is done to it
 abbrev pub records_spelling : Spelling (List ℕ × Change)

@@ -1,7 +1,10 @@
+pub mod Bodies
 pub mod Commit
 pub mod Frames
 pub mod laws
 pub mod LogReading
+pub mod Moves
+pub mod Placed
 pub mod Pointer
 pub mod Reading
 pub mod Record

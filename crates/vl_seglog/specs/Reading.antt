@@ -1,24 +1,38 @@
 -- What reading meets on its way.
 use Rattle.std.specs.Prelude.{◌≡◌, ℕ, List, if◌then◌else◌, map}
 use Rattle.vl_frame.specs.declared.kinds.FrameKind.{FrameKind}
+use Rattle.vl_model.specs.Keys.{value_bytes}
+use Rattle.vl_model.specs.declared.change.Change.{Change}
 use Rattle.vl_model.specs.declared.log_frame.LogFrame.{LogFrame}
 use Rattle.vl_model.specs.declared.log_frame.LogFrame.TheVariants.{Committed, Relocated}
+use Rattle.vl_model.specs.declared.log_frame.Moved.{Moved}
 use Rattle.vl_seglog.specs.declared.frame.Commit.{Commit as ReadCommit}
 use Rattle.vl_seglog.specs.declared.frame.Frame.{Frame}
-use Rattle.vl_seglog.specs.declared.frame.Frame.TheVariants as read
+use Rattle.vl_seglog.specs.declared.frame.ReadRecord.{ReadRecord}
+use Rattle.vl_seglog.specs.declared.frame.Said.{Said}
+use Rattle.vl_seglog.specs.declared.frame.Said.TheVariants as says
 use Rattle.vl_seglog.specs.declared.reading.LogRead.{LogRead}
 use Rattle.vl_seglog.specs.Commit.{Commit}
-use Rattle.vl_seglog.specs.Frames.{IsFrame, frame_body, frame_kind, frames_end}
+use Rattle.vl_seglog.specs.Frames.{frames_end}
+use Rattle.vl_seglog.specs.Bodies.{IsFrame, frame_body, frame_kind}
 use Rattle.vl_seglog.specs.LogReading.{LogReading}
 
--- a commit that was read, without where it lies in memory
-abbrev pub commit_of : ReadCommit → Commit
-commit_of c = record { number = c.number; writes = c.writes.items }
+-- a record that was read, as a commit's and as a relocation's: without where it lies
+abbrev pub write_of : ReadRecord → List ℕ × Change
+write_of r = (r.key, r.change)
 
--- a frame likewise
+abbrev pub moved_of : ReadRecord → Moved
+moved_of r = record { key = r.key; version = r.version; value = value_bytes r.change }
+
+abbrev pub commit_of : ReadCommit → Commit
+commit_of c = record { number = c.number; writes = map write_of c.records.items }
+
+abbrev pub said_of : Said → LogFrame
+said_of (says.Commit c) = Committed c.number (map write_of c.records.items)
+said_of (says.Moves records) = Relocated (map moved_of records.items)
+
 abbrev pub frame_of : Frame → LogFrame
-frame_of (read.Commit c) = Committed c.number c.writes.items
-frame_of (read.Moves records) = Relocated records.items
+frame_of f = said_of f.said
 
 abbrev pub reading_of : LogRead → LogReading
 reading_of r = record { header = r.header; frames = map frame_of r.frames.items; whole = r.whole }

@@ -1,7 +1,6 @@
 -- Items one behind the other, whatever they are, of which each is spelled in one way.
-use Rattle.std.specs.Prelude.{◌≡◌, ℕ, List, [], ◌∷◌, ◌++◌, length, refl}
+use Rattle.std.specs.Prelude.{◌≡◌, ℕ, List, [], ◌∷◌, ◌++◌, length}
 use Rattle.std.specs.List.{AllByRecursion}
-use Rattle.std.proofs.Common.{ap, ◌∙◌, arith}
 
 -- How an item is spelled. At the front of the same bytes stands one lawful item at most, and the same stands
 -- behind it.
@@ -22,14 +21,3 @@ module _ {Item : Type 0} (S : Spelling Item) where
     pub counted : length items ≡ count
     pub lawful : AllByRecursion S.lawful items
     pub spelled : bytes ≡ series_bytes items
-
-  -- So many items one behind the other are spelled in one way.
-  pub one_series : (items others : List Item) → AllByRecursion S.lawful items → AllByRecursion S.lawful others
-      → length items ≡ length others → series_bytes items ≡ series_bytes others → items ≡ others
-  one_series [] [] p q counts e = refl
-  one_series [] (b ∷ others) p q counts e = absurd (omega arith)
-  one_series (a ∷ items) [] p q counts e = absurd (omega arith)
-  one_series (a ∷ items) (b ∷ others) p q counts e =
-      let same = S.one a b (series_bytes items) (series_bytes others) p.0 q.0 e in
-      ap (λ (x : Item). x ∷ items) same.0
-      ∙ ap (λ (l : List Item). b ∷ l) (one_series items others p.1 q.1 (omega arith) same.1)

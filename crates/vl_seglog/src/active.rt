@@ -5,11 +5,11 @@ ghost use Rattle.vl_disk.specs.Calls.{Appends, ChangesNothing, Syncs};
 ghost use Rattle.vl_disk.specs.Disk.{Stands};
 ghost use Rattle.vl_disk.specs.Spare.{CanAppend, SameSpare, SameSpareElsewhere};
 ghost use Rattle.vl_model.specs.declared.log_frame.LogFrame.TheVariants.{Committed, Relocated};
-ghost use Rattle.vl_seglog.specs.Frames.{IsFrame};
+ghost use Rattle.vl_seglog.specs.Bodies.{IsFrame};
 ghost use Rattle.vl_seglog.specs.Staging.{IsStaged, IsStagedFor};
 
+use crate::lengths::LOG_HEADER_BYTES;
 use crate::staged::{Staged, staged_commit, staged_move};
-use crate::write::LOG_HEADER_BYTES;
 use std::alloc::Global;
 use vl_disk::{Disk, Failed, Name, NoMemory};
 use vl_model::{Change, Key, Moved};

@@ -11,6 +11,7 @@
 
 mod active;
 mod frame;
+mod lengths;
 mod pointer;
 mod reading;
 mod record;
@@ -18,14 +19,10 @@ mod staged;
 mod write;
 
 pub use active::ActiveLog;
-pub use frame::{Commit, Frame};
+pub use frame::{Commit, Frame, ReadRecord, Said};
+pub use lengths::LOG_HEADER_BYTES;
 pub use pointer::{POINTER_BYTES, pointer_bytes, read_pointer};
 pub use reading::{LogRead, read_log};
 pub use record::{RECORD_HEAD_BYTES, RecordRef, read_record, write_record};
 pub use staged::Staged;
-pub use write::{
-    LOG_FORMAT, LOG_HEADER_BYTES, commit_length, log_header, write_commit, write_move,
-};
-
-#[cfg(test)]
-mod tests;
+pub use write::{LOG_FORMAT, commit_length, log_header, write_commit, write_move};

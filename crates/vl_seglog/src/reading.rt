@@ -11,17 +11,21 @@ ghost use Rattle.std.specs.Prelude.{◌≡◌, ◌≤◌, IfOk, drop, length, ma
 ghost use Rattle.vl_frame.specs.Runs.{ReadsAs};
 ghost use Rattle.vl_seglog.specs.Frames.{frames_end, frames_grammar};
 ghost use Rattle.vl_seglog.specs.LogReading.{ReadsLog};
+ghost use Rattle.vl_seglog.specs.Placed.{AreFramesFrom};
 ghost use Rattle.vl_seglog.specs.Reading.{frame_of, reading_end, reading_of};
 
 use crate::frame::Frame;
+use crate::lengths::LOG_HEADER_BYTES;
 use crate::reading::next::read_next;
-use crate::write::{LOG_FORMAT, LOG_HEADER_BYTES};
+use crate::write::LOG_FORMAT;
 use std::alloc::{AllocError, Global};
 use vl_frame::{FileKind, read_header};
 
 /// What the bytes of a log say.
 #[derive(Drop)]
 pub struct LogRead {
+    /// Of its file, which is the segment of its records' pointers too.
+    pub number: u32,
     /// Whether they begin with the right header.
     pub header: bool,
     /// Those that stand one behind the other from byte 16 on, up to where none stands. None without the header.
@@ -36,9 +40,12 @@ pub struct LogRead {
 pub fn read_log(alloc: Global, bytes: &[u8], number: u32) -> Result<LogRead, AllocError>
     ensures reads { IfOk result (λ read. ReadsLog number bytes.now (reading_of read)) }
     ensures end { IfOk result (λ read. read.end ≡ reading_end (reading_of read)) }
+    ensures number { IfOk result (λ read. read.number ≡ number) }
+    ensures places { IfOk result (λ read. AreFramesFrom number 16 read.frames.items) }
 {
     let Some(_) = read_header(bytes, FileKind::Log, number, LOG_FORMAT) else {
         return Ok(LogRead {
+            number,
             header: false,
             frames: Vec::new(alloc),
             end: 0,
@@ -47,6 +54,7 @@ pub fn read_log(alloc: Global, bytes: &[u8], number: u32) -> Result<LogRead, All
     };
     let (frames, end) = read_frames(alloc, &bytes[LOG_HEADER_BYTES..], number)?;
     Ok(LogRead {
+        number,
         header: true,
         frames,
         end,
@@ -58,6 +66,7 @@ pub fn read_log(alloc: Global, bytes: &[u8], number: u32) -> Result<LogRead, All
 fn read_frames(alloc: Global, bytes: &[u8], number: u32) -> Result<(Vec<Frame>, u64), AllocError>
     ensures frames { IfOk result (λ r. ReadsAs frames_grammar number 16 bytes.now (map frame_of r.0.items)) }
     ensures end { IfOk result (λ r. r.1 ≡ frames_end (map frame_of r.0.items)) }
+    ensures places { IfOk result (λ r. AreFramesFrom number 16 r.0.items) }
 {
     let mut frames = Vec::new(alloc);
     let mut rest = bytes;

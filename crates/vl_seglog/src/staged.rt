@@ -3,24 +3,16 @@ ghost use Rattle.vl_model.specs.Frames.{record_length};
 ghost use Rattle.vl_model.specs.declared.change.Change.TheVariants.{Set};
 ghost use Rattle.vl_model.specs.declared.log_frame.LogFrame.TheVariants.{Committed, Relocated};
 ghost use Rattle.vl_seglog.specs.Commit.{records_bytes};
-ghost use Rattle.vl_seglog.specs.Frames.{IsFrame};
+ghost use Rattle.vl_seglog.specs.Bodies.{IsFrame};
 ghost use Rattle.vl_seglog.specs.Relocation.{moves_bytes};
 ghost use Rattle.vl_seglog.specs.Staging.{IsStaged};
 ghost use Rattle.vl_seglog.specs.Stored.{moved_pointers, pointer_at, pointers_from};
 
 use crate::RECORD_HEAD_BYTES;
+use crate::lengths::{BEFORE_MOVES, BEFORE_RECORDS, VERSION_BYTES};
 use crate::write::{write_commit, write_move};
 use std::alloc::{AllocError, Global};
 use vl_model::{Change, Key, Moved, Pointer, Value};
-
-// How many bytes of a frame stand before its first record: five of the frame's, and of a commit its number and count.
-const BEFORE_RECORDS: u64 = 17;
-
-// The same of a relocation, which has a count alone.
-const BEFORE_MOVED: u64 = 9;
-
-// How many bytes a version has.
-const VERSION_BYTES: u64 = 8;
 
 /// A frame that is to be appended to a log, and where its records lie then.
 #[derive(Drop)]
@@ -77,7 +69,7 @@ pub fn staged_move(
     if frame.len() as u64 > u64::MAX - place {
         return Err(AllocError);
     }
-    let pointers = moved_pointers(alloc, log, place + BEFORE_MOVED, records)?;
+    let pointers = moved_pointers(alloc, log, place + BEFORE_MOVES, records)?;
     Ok(Staged {
         log,
         place,

@@ -5,19 +5,18 @@ ghost use Rattle.vl_model.specs.declared.change.Change.{Change};
 ghost use Rattle.vl_seglog.specs.Record.{record_bytes};
 ghost use Rattle.vl_seglog.specs.Commit as commits;
 ghost use Rattle.vl_seglog.specs.Frames as log;
-ghost use Rattle.vl_seglog.specs.Relocation.{moved_bytes, relocation_body, relocation_frame};
+ghost use Rattle.vl_seglog.specs.Relocation.{relocation_body, relocation_frame};
+ghost use Rattle.vl_seglog.specs.Moves.{moved_bytes};
 
-use crate::write_record;
+use crate::lengths::COMMIT_HEAD_BYTES;
+use crate::{RECORD_HEAD_BYTES, write_record};
 use byteorder::{BigEndian, ByteOrder};
 use std::alloc::{AllocError, Global};
-use vl_frame::{FileKind, FrameKind, HEADER_BYTES, file_header, write_frame};
+use vl_frame::{FRAME_BYTES, FileKind, FrameKind, HEADER_BYTES, file_header, write_frame};
 use vl_model::{Change, Key, Moved};
 
 /// The format in which logs are written, and the greatest that is read.
 pub const LOG_FORMAT: u32 = 1;
-
-/// How many bytes stand before a log's first frame.
-pub const LOG_HEADER_BYTES: usize = HEADER_BYTES;
 
 /// The first bytes of the log with this number.
 pub fn log_header(number: u32) -> [u8; HEADER_BYTES]
@@ -31,7 +30,8 @@ pub fn commit_length(records: usize, bytes: usize) -> u64
     requires { commits.commit_length records bytes < 2 ^ 64 }
     ensures { result ≡ commits.commit_length records bytes }
 {
-    25 + 7 * records as u64 + bytes as u64
+    let around = (FRAME_BYTES + COMMIT_HEAD_BYTES) as u64;
+    around + RECORD_HEAD_BYTES as u64 * records as u64 + bytes as u64
 }
 
 /// Appends the frame of a commit that is to stand at the place `at` of the log with the number `file`. Want of memory
@@ -71,10 +71,10 @@ fn commit_body(alloc: Global, number: u64, writes: &[(Key, Change)]) -> Result<V
 }
 
 // What stands before the records.
-fn head(number: u64, count: u32) -> [u8; 12]
+fn head(number: u64, count: u32) -> [u8; COMMIT_HEAD_BYTES]
     ensures { result ≡ commits.head_bytes number count }
 {
-    let mut head = [0; 12];
+    let mut head = [0; COMMIT_HEAD_BYTES];
     BigEndian::write_u64(&mut head, number);
     BigEndian::write_u32(&mut head[8..], count);
     head

@@ -3,7 +3,7 @@ use Rattle.std.specs.Prelude.{◌≡◌, ◌<◌, ℕ, true, List, ◌∷◌, �
 use Rattle.std.proofs.Common.{sym, ap, ◌∙◌, append_assoc, arith}
 use Rattle.std.proofs.lemmas.Bool.Decides.{nat_tests}
 use Rattle.byteorder.specs.Endian.{big_bytes}
-use Rattle.vl_frame.specs.Numbers.{one_number, same_front}
+use Rattle.vl_frame.specs.laws.NumberLaws.{one_number, same_front}
 use Rattle.vl_model.specs.Keys.{is_key_length}
 use Rattle.vl_model.specs.declared.entry.Entry.{Entry}
 use Rattle.vl_model.specs.declared.entry.Body.{Body}

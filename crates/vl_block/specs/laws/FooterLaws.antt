@@ -2,7 +2,7 @@
 use Rattle.std.specs.Prelude.{◌≡◌, ℕ, List, ◌++◌, refl}
 use Rattle.std.proofs.Common.{sym, ap, ◌∙◌, append_assoc}
 use Rattle.byteorder.specs.Endian.{big_bytes}
-use Rattle.vl_frame.specs.Numbers.{one_number}
+use Rattle.vl_frame.specs.laws.NumberLaws.{one_number}
 use Rattle.vl_block.specs.Entries.{key_bytes}
 use Rattle.vl_block.specs.laws.EntryLaws.{one_key}
 use Rattle.vl_block.specs.Footer.{Head, IsHead, head_bytes, Foot, SpellsFooter, points}

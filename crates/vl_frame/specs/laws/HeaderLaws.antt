@@ -4,7 +4,7 @@ use Rattle.byteorder.specs.Endian.{big_bytes}
 use Rattle.vl_frame.specs.declared.kinds.FileKind.{FileKind}
 use Rattle.vl_frame.specs.declared.kinds.FileKind.TheVariants.{Log, Table, Manifest}
 use Rattle.vl_frame.specs.Header.{HasFormat, IsHeader, IsHeaderApart, header_bytes, letters}
-use Rattle.vl_frame.specs.Numbers.{one_number, same_front}
+use Rattle.vl_frame.specs.laws.NumberLaws.{one_number, same_front}
 
 -- The header of log 1 in format 1.
 pub worked_header : header_bytes Log 1 1 ≡ 86 ∷ 76 ∷ 79 ∷ 71 ∷ 0 ∷ 0 ∷ 0 ∷ 1 ∷ 0 ∷ 0 ∷ 0 ∷ 1 ∷ 0 ∷ 0 ∷ 0 ∷ 0 ∷ []

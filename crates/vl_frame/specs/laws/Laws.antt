@@ -8,7 +8,7 @@ use Rattle.vl_frame.specs.declared.kinds.FileKind.{FileKind}
 use Rattle.vl_frame.specs.declared.kinds.FrameKind.{FrameKind}
 use Rattle.vl_frame.specs.declared.kinds.FrameKind.TheVariants.{Commit, Move, Block, Index, Footer, Edits}
 use Rattle.vl_frame.specs.Frame.{frame_code, head_bytes, spelling, check_of, frame_bytes, IsSpelled, file_of, frame_length, place_bytes}
-use Rattle.vl_frame.specs.Numbers.{one_number, same_front}
+use Rattle.vl_frame.specs.laws.NumberLaws.{one_number, same_front}
 use Rattle.vl_frame.specs.FrameFields.{IsApart}
 
 kind_at : ℕ → FrameKind

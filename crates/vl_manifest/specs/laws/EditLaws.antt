@@ -3,10 +3,7 @@ use Rattle.std.specs.Prelude.{◌≡◌, ◌<◌, ◌^◌, ℕ, List, [], ◌∷
 use Rattle.std.specs.List.{AllByRecursion}
 use Rattle.std.proofs.Common.{sym, ap, ◌∙◌, append_assoc, arith}
 use Rattle.byteorder.specs.Endian.{big_bytes}
-use Rattle.vl_frame.specs.Numbers.{one_number}
-use Rattle.vl_frame.specs.Runs.{Grammar}
-use Rattle.vl_frame.specs.declared.kinds.FileKind.TheVariants as files
-use Rattle.vl_frame.specs.declared.kinds.FrameKind.TheVariants as kinds
+use Rattle.vl_frame.specs.laws.NumberLaws.{one_number}
 use Rattle.vl_manifest.specs.declared.edit.Edit.{Edit}
 use Rattle.vl_manifest.specs.declared.edit.Edit.TheVariants.{Add, Drop, Head, Next}
 use Rattle.vl_manifest.specs.Edits.{edit_bytes, IsEdit, edits_bytes, edits_body, AreEdits}
@@ -73,14 +70,3 @@ pub one_body : (es fs : List Edit) → AreEdits es → AreEdits fs → edits_bod
 one_body es fs i j e =
     let count = one_number 4 (length es) (length fs) (edits_bytes es) (edits_bytes fs) i.few j.few e in
     same_edits es fs i.each j.each count.0 count.1
-
--- what the frames of manifests say
-abbrev pub edits_grammar : Grammar (List Edit)
-edits_grammar = record {
-  file = files.Manifest;
-  kind = λ es. kinds.Edits;
-  body = edits_body;
-  lawful = AreEdits;
-  in_file = λ es. refl;
-  one = λ es fs i j short k e. one_body es fs i j e;
-}

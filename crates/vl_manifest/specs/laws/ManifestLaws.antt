@@ -8,7 +8,8 @@ use Rattle.std.proofs.lemmas.Slice.Eq.{bytes_eq-Decides}
 use Rattle.std.proofs.lemmas.List.{drop_at, take_at, take-append-drop}
 use Rattle.vl_frame.specs.Header.{header_bytes}
 use Rattle.vl_frame.specs.laws.HeaderLaws.{header_has_format, length-header_bytes, one_format}
-use Rattle.vl_frame.specs.Begins.{one_begins, placed, reads_past}
+use Rattle.vl_frame.specs.Begins.{placed}
+use Rattle.vl_frame.specs.laws.BeginLaws.{one_begins, reads_past}
 use Rattle.vl_frame.specs.laws.RunLaws.{one_reading, reads_whole, there_or_not}
 use Rattle.vl_frame.specs.Runs.{HasFrame, ReadsAs, StandsAt, StandsNone, item_frame, run_bytes}
 use Rattle.vl_frame.specs.declared.kinds.FileKind.TheVariants as files
@@ -16,7 +17,7 @@ use Rattle.vl_manifest.specs.declared.edit.Edit.{Edit}
 use Rattle.vl_manifest.specs.declared.edit.Edit.TheVariants.{Head, Next}
 use Rattle.vl_manifest.specs.declared.format.TheConstants.{MANIFEST_FORMAT}
 use Rattle.vl_manifest.specs.declared.state.ManifestState.{ManifestState}
-use Rattle.vl_manifest.specs.laws.EditLaws.{edits_grammar}
+use Rattle.vl_manifest.specs.Grammar.{edits_grammar}
 use Rattle.vl_manifest.specs.Manifest.{HasHeader, IsDamaged, IsNewer, IsReadable, ManifestSays, ReadsManifest, SaysState, manifest_bytes, manifest_header, no_frame, no_header, not_applied, state_of}
 use Rattle.vl_manifest.specs.laws.StateLaws.{IsInRange, state_in_range, whole_says}
 use Rattle.vl_manifest.specs.States.{adds_from, first_state, next_state, state_behind, state_then, whole_edits}
@@ -138,14 +139,6 @@ says_readable number bytes s says = record {
 pub one_newer : (number : ℕ) (bytes : List ℕ) (format other : ℕ) → IsNewer number bytes format
     → IsNewer number bytes other → format ≡ other
 one_newer number bytes format other p q = (one_format bytes files.Manifest files.Manifest format other p.says q.says).1
-
--- A manifest in a newer format can't be read.
-pub newer_or_readable : (number : ℕ) (bytes : List ℕ) (format : ℕ) → IsNewer number bytes format
-    → HasHeader number bytes → ⊥
-newer_or_readable number bytes format newer h =
-    let says = header_has_format files.Manifest h.format number bytes h.header in
-    let same = (one_format bytes files.Manifest files.Manifest format h.format newer.says says).1 in
-    omega (arith, same, newer.above, h.readable)
 
 -- ---- manifests that are made
 

@@ -20,13 +20,6 @@ pub record SameState (a b : ManifestState) : Type 0 where
 pub same_state : (s : ManifestState) → SameState s s
 same_state s = record { levels = refl; head = refl; covered = refl }
 
-pub state_sym : (a b : ManifestState) → SameState a b → SameState b a
-state_sym a b p = record { levels = sym p.levels; head = sym p.head; covered = sym p.covered }
-
-pub state_trans : (a b c : ManifestState) → SameState a b → SameState b c → SameState a c
-state_trans a b c p q =
-    record { levels = p.levels ∙ q.levels; head = p.head ∙ q.head; covered = p.covered ∙ q.covered }
-
 -- an opening changes the next numbers alone
 pub opened_same : (log table : ℕ) (s : ManifestState) → SameState (opened_state log table s) s
 opened_same log table s = record { levels = refl; head = refl; covered = refl }

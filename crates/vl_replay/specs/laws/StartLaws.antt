@@ -16,14 +16,14 @@ use Rattle.vl_manifest.specs.States.{fresh_state}
 use Rattle.vl_model.specs.History.{History, contents_at, last_number, no_history, value_at}
 use Rattle.vl_model.specs.laws.HistoryLaws.{get-contents_at, value_at-first}
 use Rattle.vl_model.specs.Keys.{key_cmp}
-use Rattle.vl_recover.specs.Alike.{OpensLike}
-use Rattle.vl_recover.specs.laws.AlikeLaws.{like_same, shows_same}
-use Rattle.vl_recover.specs.Answers.{AreStrayNames, Finds, calls_to_open, used_up}
-use Rattle.vl_recover.specs.laws.HeldLaws.{held_may_open, held_opens, held_reads, started_may_open}
-use Rattle.vl_recover.specs.Opening.{Bare, Opening, Opens, Refusal}
-use Rattle.vl_recover.specs.laws.OpeningLaws.{single_opening}
-use Rattle.vl_recover.specs.Plans.{active_log, new_state}
-use Rattle.vl_recover.specs.laws.StageLaws.{ok_same}
+use Rattle.vl_recover.specs.crash.Alike.{OpensLike}
+use Rattle.vl_recover.specs.laws.crash.AlikeLaws.{like_same, shows_same}
+use Rattle.vl_recover.specs.opening.Answers.{AreStrayNames, Finds, calls_to_open, used_up}
+use Rattle.vl_recover.specs.laws.opening.HeldLaws.{held_may_open, held_opens, held_reads, started_may_open}
+use Rattle.vl_recover.specs.opening.Opening.{Bare, Opening, Opens, Refusal}
+use Rattle.vl_recover.specs.laws.opening.OpeningLaws.{single_opening}
+use Rattle.vl_recover.specs.opening.Plans.{active_log, new_state}
+use Rattle.vl_recover.specs.laws.repairing.StageLaws.{ok_same}
 use Rattle.vl_replay.specs.Sequential.{State}
 use Rattle.vl_replay.specs.Start.{IsDurable, OpensUpTo, StartsIn}
 use Rattle.vl_replay.specs.Stopped.{AreNumberedUpTo}

@@ -4,17 +4,15 @@ use Rattle.std.specs.List.{sum_by}
 use Rattle.std.proofs.Common.{sym, ap, subst, ◌∙◌, length-append, arith}
 use Rattle.std.proofs.lemmas.List.Sums.{sum_by-cons}
 use Rattle.byteorder.specs.Endian.{big_bytes}
-use Rattle.vl_frame.specs.laws.Laws.{length-frame_bytes}
-use Rattle.vl_frame.specs.Numbers.{one_number}
-use Rattle.vl_frame.specs.declared.kinds.FrameKind.TheVariants as kinds
+use Rattle.vl_frame.specs.laws.NumberLaws.{one_number}
 use Rattle.vl_model.specs.Frames.{frame_length, record_length}
 use Rattle.vl_model.specs.Keys.{value_bytes}
 use Rattle.vl_model.specs.declared.change.Change.{Change}
 use Rattle.vl_model.specs.declared.log_frame.LogFrame.TheVariants.{Committed}
 use Rattle.vl_seglog.specs.laws.RecordLaws.{length-record_bytes}
 use Rattle.vl_seglog.specs.Record.{record_bytes}
-use Rattle.vl_seglog.specs.Commit.{Commit, IsCommit, commit_body, commit_frame, commit_length, records_bytes, records_spelling}
-use Rattle.vl_seglog.specs.Series.{one_series}
+use Rattle.vl_seglog.specs.Commit.{Commit, IsCommit, commit_body, commit_length, records_bytes, records_spelling}
+use Rattle.vl_seglog.specs.laws.SeriesLaws.{one_series}
 
 -- ---- lengths
 
@@ -34,10 +32,6 @@ parts_length : (writes : List (List ℕ × Change)) → length (records_bytes wr
 parts_length [] = refl
 parts_length (w ∷ writes) =
     omega (arith, length-append (record_bytes w.0 w.1) (records_bytes writes), length-record_bytes w.0 w.1, parts_length writes, sum_by-cons (λ (write : List ℕ × Change). length write.0 + length (value_bytes write.1)) w writes)
-
--- A commit's frame has the length that its records' count, and its keys and values give.
-pub length-commit_frame : (file at : ℕ) (c : Commit) → length (commit_frame file at c) ≡ commit_length (length c.writes) (sum_by (λ write. length write.0 + length (value_bytes write.1)) c.writes)
-length-commit_frame file at c = omega (arith, length-frame_bytes file at kinds.Commit (commit_body c), body_length c, parts_length c.writes)
 
 -- That is its length as the layout has it.
 pub frame_length-committed : (number : ℕ) (writes : List (List ℕ × Change)) → frame_length (Committed number writes) ≡ commit_length (length writes) (sum_by (λ write. length write.0 + length (value_bytes write.1)) writes)

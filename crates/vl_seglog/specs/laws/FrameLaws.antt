@@ -10,7 +10,8 @@ use Rattle.vl_model.specs.Frames.{frame_length}
 use Rattle.vl_model.specs.declared.log_frame.LogFrame.{LogFrame}
 use Rattle.vl_model.specs.declared.log_frame.LogFrame.TheVariants.{Committed, Relocated}
 use Rattle.vl_seglog.specs.laws.CommitLaws.{body_length, records_length}
-use Rattle.vl_seglog.specs.Frames.{frame_body, frame_kind, frames_end, frames_grammar, log_bytes, log_header}
+use Rattle.vl_seglog.specs.Frames.{frames_end, frames_grammar, log_bytes, log_header}
+use Rattle.vl_seglog.specs.Bodies.{frame_body, frame_kind}
 use Rattle.vl_seglog.specs.laws.RelocationLaws.{length-relocation_body}
 
 -- A log's header has 16 bytes.
@@ -36,10 +37,6 @@ length-run_bytes number at (f ∷ frames) =
 -- A log ends where its frames end.
 pub length-log_bytes : (number : ℕ) (frames : List LogFrame) → length (log_bytes number frames) ≡ frames_end frames
 length-log_bytes number frames = omega (arith, length-append (log_header number) (run_bytes frames_grammar number 16 frames), length-run_bytes number 16 frames)
-
--- A log without frames is its header.
-pub log_bytes-none : (number : ℕ) → log_bytes number [] ≡ log_header number
-log_bytes-none number = refl
 
 -- The log of one frame more has that frame behind it.
 pub log_bytes-more : (number : ℕ) (frames : List LogFrame) (f : LogFrame) → log_bytes number (frames ++ f ∷ []) ≡ log_bytes number frames ++ item_frame frames_grammar number (frames_end frames) f

@@ -5,7 +5,7 @@ use Rattle.std.specs.Cmp.{both_ways}
 use Rattle.std.proofs.Common.{sym, ap, subst, ◌∙◌, append_assoc, length-append, arith, inl, inr, ⊎_elim}
 use Rattle.std.proofs.lemmas.Bool.{and_parts, true≢false}
 use Rattle.std.proofs.lemmas.Bool.Decides.{nat_tests}
-use Rattle.std.proofs.lemmas.List.{append-nil, drop_at, take_all, take_at, take-append-drop}
+use Rattle.std.proofs.lemmas.List.{append-nil, drop_at, take_at, take-append-drop}
 use Rattle.vl_frame.specs.laws.RunLaws as runs
 use Rattle.vl_frame.specs.Runs.{HasFrame, ReadsAs, StandsAt, StandsNone, item_frame, run_bytes}
 use Rattle.vl_model.specs.declared.log_frame.LogFrame.{LogFrame}
@@ -130,8 +130,3 @@ reads_cut number bytes reading reads header =
 -- A whole log has its header, and is as it was written.
 pub whole_has_header : (number : ℕ) (bytes : List ℕ) (reading : LogReading) → ReadsLog number bytes reading → reading.whole ≡ true → reading.header ≡ true
 whole_has_header number bytes reading reads whole = (and_parts reading.header (length bytes == frames_end reading.frames) (sym reads.whole ∙ whole)).0
-
-pub whole_is_written : (number : ℕ) (bytes : List ℕ) (reading : LogReading) → ReadsLog number bytes reading → reading.whole ≡ true → bytes ≡ log_bytes number reading.frames
-whole_is_written number bytes reading reads whole =
-    let ends : (length bytes == frames_end reading.frames) ≡ true = (and_parts reading.header (length bytes == frames_end reading.frames) (sym reads.whole ∙ whole)).1 in
-    sym (take_all (frames_end reading.frames) bytes (grind (arith, nat_tests, ends))) ∙ reads_cut number bytes reading reads (whole_has_header number bytes reading reads whole)

@@ -2,7 +2,7 @@
 use Rattle.std.proofs.Common.{◌≡◌, ◌<◌, ℕ, List, [], ◌∷◌, ◌++◌, true, length, drop, get_or, refl, ap, sym, ◌∙◌, arith, append_assoc, length-append}
 use Rattle.std.proofs.lemmas.Bool.Decides.{nat_tests}
 use Rattle.byteorder.specs.Endian.{big_bytes}
-use Rattle.vl_frame.specs.Numbers.{one_number, same_front}
+use Rattle.vl_frame.specs.laws.NumberLaws.{one_number, same_front}
 use Rattle.vl_model.specs.Frames.{record_length}
 use Rattle.vl_model.specs.Keys.{is_key_length, is_value_length, value_bytes}
 use Rattle.vl_model.specs.declared.change.Change.{Change}
@@ -78,17 +78,22 @@ one_record bytes key other_key change other_change one other =
     let same = one_apart bytes (flag_of change) (flag_of other_change) key other_key (value_bytes change) (value_bytes other_change) (spelled_apart bytes key change one) (spelled_apart bytes other_key other_change other) in
     (same.key_is, same_change change other_change same.flag_is same.value_is, same.rest_is)
 
+-- At the front of the same bytes stands one record at most, and the same stands behind it.
+pub one_write : (a b : List ℕ × Change) (rest other : List ℕ) → IsRecord a.0 a.1 → IsRecord b.0 b.1
+    → record_bytes a.0 a.1 ++ rest ≡ record_bytes b.0 b.1 ++ other → (a ≡ b) × (rest ≡ other)
+one_write a b rest other p q e =
+    let bytes = record_bytes a.0 a.1 ++ rest in
+    let first : IsSpelled bytes a.0 a.1 = record { lawful = p; rest = rest; parts = refl } in
+    let second : IsSpelled bytes b.0 b.1 = record { lawful = q; rest = other; parts = e } in
+    let same = one_record bytes a.0 b.0 a.1 b.1 first second in
+    ((λ i. (same.0 i, same.1 i)), same.2)
+
 -- ---- pointers
 
 -- The pointer to the nine bytes from place 33 of log 1.
 pub worked_pointer : pointer_bytes (record { segment = 1; place = 33; length = 9 }) ≡ 0 ∷ 0 ∷ 0 ∷ 1 ∷ 0 ∷ 0 ∷ 0 ∷ 0 ∷ 0 ∷ 0 ∷ 0 ∷ 33 ∷ 0 ∷ 0 ∷ 0 ∷ 9 ∷ []
 unfolding pointer_bytes
 worked_pointer = refl
-
--- A pointer has 16 bytes.
-pub length-pointer_bytes : (p : Pointer) → length (pointer_bytes p) ≡ 16
-unfolding pointer_bytes
-length-pointer_bytes p = refl
 
 -- No two pointers stand at the front of the same bytes.
 pub one_pointer : (bytes : List ℕ) (p q : Pointer) → IsPointerSpelled bytes p → IsPointerSpelled bytes q → p ≡ q

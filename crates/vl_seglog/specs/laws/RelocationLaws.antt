@@ -3,19 +3,15 @@ use Rattle.std.specs.Prelude.{◌≡◌, ℕ, ◌+◌, ◌≤◌, ◌<◌, ◌^�
 use Rattle.std.specs.List.{sum_by}
 use Rattle.std.proofs.Common.{subst, length-append, arith}
 use Rattle.std.proofs.lemmas.List.Sums.{sum_by-cons}
-use Rattle.vl_frame.specs.Numbers.{one_number}
+use Rattle.vl_frame.specs.laws.NumberLaws.{one_number}
 use Rattle.vl_model.specs.Frames.{moved_length}
-use Rattle.vl_model.specs.declared.change.Change.TheVariants.{Set}
 use Rattle.vl_model.specs.declared.log_frame.Moved.{Moved}
-use Rattle.vl_seglog.specs.laws.RecordLaws.{length-record_bytes}
-use Rattle.vl_seglog.specs.Relocation.{IsRelocation, moved_bytes, moves_bytes, moves_spelling, relocation_body}
-use Rattle.vl_seglog.specs.Series.{one_series}
+use Rattle.vl_seglog.specs.laws.MoveLaws.{length-moved_bytes}
+use Rattle.vl_seglog.specs.Relocation.{IsRelocation, moves_bytes, moves_spelling, relocation_body}
+use Rattle.vl_seglog.specs.Moves.{moved_bytes}
+use Rattle.vl_seglog.specs.laws.SeriesLaws.{one_series}
 
 -- ---- lengths
-
--- A record behind its version has 8 bytes more than the record.
-pub length-moved_bytes : (moved : Moved) → length (moved_bytes moved) ≡ moved_length moved
-length-moved_bytes moved = omega (arith, length-record_bytes moved.key (Set moved.value))
 
 -- Moved records one behind the other have the sum of their lengths.
 pub moves_length : (records : List Moved) → length (moves_bytes records) ≡ sum_by moved_length records

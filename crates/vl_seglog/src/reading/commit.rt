@@ -1,19 +1,28 @@
-ghost use Rattle.std.specs.Prelude.{◌≡◌, ◌++◌, ◌<◌, ◌^◌, length, IfNone, IfOk, IfSome};
+ghost use Rattle.std.specs.Prelude.{◌≡◌, ◌+◌, ◌++◌, ◌<◌, ◌^◌, length, IfNone, IfOk, IfSome};
 ghost use Rattle.vl_seglog.specs.Commit as spelling;
+ghost use Rattle.vl_seglog.specs.Placed.{AreCommitted};
 ghost use Rattle.vl_seglog.specs.Reading.{commit_of};
 
 use crate::frame::Commit;
+use crate::lengths::COMMIT_HEAD_BYTES;
 use crate::reading::order::is_rising;
 use crate::reading::records::read_records;
 use std::alloc::{AllocError, Global};
 use vl_frame::{take_u32, take_u64};
 use vl_model::MAX_COMMIT_NUMBER;
 
-/// The commit that the body of a frame spells.
-pub fn read_commit(alloc: Global, body: &[u8]) -> Result<Option<Commit>, AllocError>
-    requires { length body.now < 2 ^ 32 }
+/// The commit that the body of a frame spells, which begins at this place of the log.
+pub fn read_commit(
+    alloc: Global,
+    body: &[u8],
+    log: u32,
+    place: u64,
+) -> Result<Option<Commit>, AllocError>
+    requires short { length body.now < 2 ^ 32 }
+    requires fits { place + length body.now < 2 ^ 64 }
     ensures found { IfOk result (λ read. IfSome read
         (λ c. spelling.IsCommit (commit_of c) × (body.now ≡ spelling.commit_body (commit_of c)))) }
+    ensures places { IfOk result (λ read. IfSome read (λ c. AreCommitted log (place + 12) c)) }
     ensures none { IfOk result (λ read. IfNone read
         ((c : spelling.Commit) → spelling.IsCommit c → body.now ≡ spelling.commit_body c → ⊥)) }
 {
@@ -23,13 +32,14 @@ pub fn read_commit(alloc: Global, body: &[u8]) -> Result<Option<Commit>, AllocEr
     if number == 0 || number > MAX_COMMIT_NUMBER || count == 0 {
         return Ok(None);
     }
-    let Some(writes) = read_records(alloc, count, rest)? else {
+    let first = place + COMMIT_HEAD_BYTES as u64;
+    let Some(records) = read_records(alloc, count, rest, log, first, number)? else {
         return Ok(None);
     };
-    if !is_rising(&writes) {
+    if !is_rising(&records) {
         return Ok(None);
     }
-    Ok(Some(Commit { number, writes }))
+    Ok(Some(Commit { number, records }))
 }
 
 // The numbers before the records, and the bytes behind them.

@@ -1,14 +1,15 @@
-ghost use Rattle.std.specs.Prelude.{◌<◌, ◌^◌, length, IfNone, IfOk, IfSome};
+ghost use Rattle.std.specs.Prelude.{◌+◌, ◌<◌, ◌^◌, length, IfNone, IfOk, IfSome};
 ghost use Rattle.vl_frame.specs.Runs.{StandsAt, StandsNone};
 ghost use Rattle.vl_model.specs.declared.log_frame.LogFrame.{LogFrame};
 ghost use Rattle.vl_seglog.specs.Frames.{frames_grammar};
-ghost use Rattle.vl_seglog.specs.Reading.{Says, frame_of};
+ghost use Rattle.vl_seglog.specs.Placed.{IsFrameAt, RecordsLie};
+ghost use Rattle.vl_seglog.specs.Reading.{Says, frame_of, said_of};
 
-use crate::frame::Frame;
+use crate::frame::{Frame, Said};
 use crate::reading::commit::read_commit;
 use crate::reading::moves::read_moves;
 use std::alloc::{AllocError, Global};
-use vl_frame::{FileKind, FrameKind, read_frame};
+use vl_frame::{FileKind, FrameKind, HEAD_BYTES, read_frame};
 
 /// The frame at the front of the bytes, which are those of the log with this number from the place `at` on, and the
 /// bytes behind it.
@@ -18,8 +19,10 @@ pub fn read_next(
     number: u32,
     at: u64,
 ) -> Result<Option<(Frame, &[u8])>, AllocError>
+    requires { at + length bytes.now < 2 ^ 64 }
     ensures found { IfOk result (λ read. IfSome read (λ r.
         StandsAt frames_grammar number at bytes.now (frame_of r.0) r.1.now)) }
+    ensures place { IfOk result (λ read. IfSome read (λ r. IsFrameAt number at r.0)) }
 
     // None is found only where none stands.
     ensures none { IfOk result (λ read. IfNone read (StandsNone frames_grammar number at bytes.now)) }
@@ -27,26 +30,43 @@ pub fn read_next(
     let Some(frame) = read_frame(bytes, FileKind::Log, number, at) else {
         return Ok(None);
     };
-    match read_body(alloc, frame.kind, frame.body)? {
+    let length = frame.length;
+    let body_at = at + HEAD_BYTES as u64;
+    match read_body(alloc, frame.kind, frame.body, number, body_at)? {
         None => Ok(None),
-        Some(said) => Ok(Some((said, &bytes[frame.length as usize..]))),
+        Some(said) => Ok(Some((
+            Frame {
+                place: at,
+                length,
+                said,
+            },
+            &bytes[length as usize..],
+        ))),
     }
 }
 
-// What a frame of this kind says with this body.
-fn read_body(alloc: Global, kind: FrameKind, body: &[u8]) -> Result<Option<Frame>, AllocError>
-    requires { length body.now < 2 ^ 32 }
-    ensures found { IfOk result (λ read. IfSome read (λ f. Says kind body.now (frame_of f))) }
+// What a frame of this kind says with this body, which begins at this place of the log.
+fn read_body(
+    alloc: Global,
+    kind: FrameKind,
+    body: &[u8],
+    log: u32,
+    place: u64,
+) -> Result<Option<Said>, AllocError>
+    requires short { length body.now < 2 ^ 32 }
+    requires fits { place + length body.now < 2 ^ 64 }
+    ensures found { IfOk result (λ read. IfSome read (λ s. Says kind body.now (said_of s))) }
+    ensures places { IfOk result (λ read. IfSome read (RecordsLie log place)) }
     ensures none { IfOk result (λ read. IfNone read ((f : LogFrame) → Says kind body.now f → ⊥)) }
 {
     match kind {
-        FrameKind::Commit => match read_commit(alloc, body)? {
+        FrameKind::Commit => match read_commit(alloc, body, log, place)? {
             None => Ok(None),
-            Some(commit) => Ok(Some(Frame::Commit(commit))),
+            Some(commit) => Ok(Some(Said::Commit(commit))),
         },
-        FrameKind::Move => match read_moves(alloc, body)? {
+        FrameKind::Move => match read_moves(alloc, body, log, place)? {
             None => Ok(None),
-            Some(records) => Ok(Some(Frame::Moves(records))),
+            Some(records) => Ok(Some(Said::Moves(records))),
         },
         _ => Ok(None),
     }

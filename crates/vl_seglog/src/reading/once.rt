@@ -1,12 +1,13 @@
-ghost use Rattle.std.specs.Prelude.{◌≡◌, ◌↔◌, IsTrue};
-ghost use Rattle.vl_seglog.specs.Relocation.{AreOnce, IsElsewhere};
+ghost use Rattle.std.specs.Prelude.{◌≡◌, ◌↔◌, IsTrue, map};
+ghost use Rattle.vl_seglog.specs.Reading.{moved_of};
+ghost use Rattle.vl_seglog.specs.Moves.{AreOnce, IsElsewhere};
 
-use vl_model::Moved;
+use crate::frame::ReadRecord;
 
 /// Whether no key and version is there twice. Each is compared with each: a store moves at most `MAX_BATCH_RECORDS` at
 /// once.
-pub fn are_once(records: &[Moved]) -> bool
-    ensures { IsTrue result ↔ AreOnce records.now }
+pub fn are_once(records: &[ReadRecord]) -> bool
+    ensures { IsTrue result ↔ AreOnce (map moved_of records.now) }
 {
     let mut rest = records;
     while let [first, others @ ..] = rest {
@@ -19,8 +20,8 @@ pub fn are_once(records: &[Moved]) -> bool
 }
 
 // Whether none of the others has its key and its version.
-fn is_elsewhere(moved: &Moved, others: &[Moved]) -> bool
-    ensures { IsTrue result ↔ IsElsewhere moved.now others.now }
+fn is_elsewhere(moved: &ReadRecord, others: &[ReadRecord]) -> bool
+    ensures { IsTrue result ↔ IsElsewhere (moved_of moved.now) (map moved_of others.now) }
 {
     let mut rest = others;
     while let [first, after @ ..] = rest {
@@ -32,7 +33,7 @@ fn is_elsewhere(moved: &Moved, others: &[Moved]) -> bool
     true
 }
 
-fn is_same(moved: &Moved, other: &Moved) -> bool
+fn is_same(moved: &ReadRecord, other: &ReadRecord) -> bool
     ensures { IsTrue result ↔ ((other.now.version ≡ moved.now.version) × (other.now.key ≡ moved.now.key)) }
 {
     other.version == moved.version && other.key.as_slice() == moved.key.as_slice()

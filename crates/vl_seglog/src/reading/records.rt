@@ -1,46 +1,65 @@
-ghost use Rattle.std.specs.Prelude.{◌≡◌, ◌++◌, List, ℕ, IfNone, IfOk, IfSome};
+ghost use Rattle.std.specs.Prelude.{◌≡◌, ◌+◌, ◌++◌, ◌<◌, ◌^◌, List, length, map, ℕ, IfNone, IfOk, IfSome};
 ghost use Rattle.std.specs.Option.{option_copied};
 ghost use Rattle.vl_model.specs.declared.change.Change.{Change};
 ghost use Rattle.vl_seglog.specs.Record.{IsRecord, IsSpelled, change_of, record_bytes};
 ghost use Rattle.vl_seglog.specs.Commit.{records_spelling};
+ghost use Rattle.vl_seglog.specs.Placed.{AreRecordsFrom, LiesAt};
+ghost use Rattle.vl_seglog.specs.Reading.{write_of};
 ghost use Rattle.vl_seglog.specs.Series.{IsSeries};
 
+use crate::frame::ReadRecord;
 use crate::read_record;
 use std::alloc::{AllocError, Global};
-use vl_model::{Change, Key, Value};
+use vl_model::{Change, Key, Pointer, Value};
 
-/// The changes of the records that these bytes are, so many, one behind the other.
+/// The records that these bytes are, so many, one behind the other, of the commit with this number. The first lies at
+/// this place of the log.
 pub fn read_records(
     alloc: Global,
     count: u32,
     bytes: &[u8],
-) -> Result<Option<Vec<(Key, Change)>>, AllocError>
-    ensures found { IfOk result (λ read. IfSome read (λ v. IsSeries records_spelling bytes.now count v.items)) }
+    log: u32,
+    first: u64,
+    number: u64,
+) -> Result<Option<Vec<ReadRecord>>, AllocError>
+    requires { first + length bytes.now < 2 ^ 64 }
+    ensures found { IfOk result (λ read. IfSome read
+        (λ v. IsSeries records_spelling bytes.now count (map write_of v.items))) }
+    ensures places { IfOk result (λ read. IfSome read (λ v. AreRecordsFrom log number first v.items)) }
     ensures none { IfOk result (λ read. IfNone read
         ((writes : List (List ℕ × Change)) → IsSeries records_spelling bytes.now count writes → ⊥)) }
 {
-    let mut writes = Vec::new(alloc);
+    let mut records = Vec::new(alloc);
     let mut rest = bytes;
+    let mut place = first;
     for _ in 0..count {
-        match take_record(alloc, rest)? {
+        match take_record(alloc, rest, log, place, number)? {
             None => return Ok(None),
-            Some((key, change, after)) => {
-                writes.push((key, change))?;
+            Some((record, after)) => {
+                place += record.pointer.length as u64;
+                records.push(record)?;
                 rest = after;
             }
         }
     }
     if rest.is_empty() {
-        Ok(Some(writes))
+        Ok(Some(records))
     } else {
         Ok(None)
     }
 }
 
-/// What the record at the front does to its key, and the bytes behind it.
-pub fn take_record(alloc: Global, bytes: &[u8]) -> Result<Option<(Key, Change, &[u8])>, AllocError>
+/// The record at the front, which lies at this place of the log and has this version, and the bytes behind it.
+pub fn take_record(
+    alloc: Global,
+    bytes: &[u8],
+    log: u32,
+    place: u64,
+    version: u64,
+) -> Result<Option<(ReadRecord, &[u8])>, AllocError>
     ensures found { IfOk result (λ read. IfSome read (λ r.
-        IsRecord r.0 r.1 × (bytes.now ≡ record_bytes r.0 r.1 ++ r.2.now))) }
+        IsRecord r.0.key r.0.change × (bytes.now ≡ record_bytes r.0.key r.0.change ++ r.1.now))) }
+    ensures place { IfOk result (λ read. IfSome read (λ r. LiesAt log version place r.0)) }
     ensures none { IfOk result (λ read. IfNone read
         ((key : List ℕ) (change : Change) → IsSpelled bytes.now key change → ⊥)) }
 {
@@ -49,7 +68,18 @@ pub fn take_record(alloc: Global, bytes: &[u8]) -> Result<Option<(Key, Change, &
     };
     let key = Key::copy_of(alloc, record.key)?;
     let change = copy_of_change(alloc, record.value)?;
-    Ok(Some((key, change, &bytes[record.length as usize..])))
+    let pointer = Pointer {
+        segment: log,
+        place,
+        length: record.length,
+    };
+    let taken = ReadRecord {
+        key,
+        version,
+        change,
+        pointer,
+    };
+    Ok(Some((taken, &bytes[record.length as usize..])))
 }
 
 fn copy_of_change(alloc: Global, value: Option<&[u8]>) -> Result<Change, AllocError>

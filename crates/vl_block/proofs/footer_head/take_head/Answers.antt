@@ -1,5 +1,5 @@
 use Rattle.std.proofs.Common.{sym, ◌∙◌}
-use Rattle.vl_frame.specs.Numbers.{one_number}
+use Rattle.vl_frame.specs.laws.NumberLaws.{one_number}
 use Rattle.vl_block.specs.laws.FooterLaws.{head-parts}
 use Rattle.vl_block.specs.laws.EntryLaws.{one_key}
 use Rattle.vl_block.proofs.footer_head.take_head.Goals as goal

@@ -1,6 +1,6 @@
 use Rattle.std.proofs.Common.{◌++◌, sym, ◌∙◌}
 use Rattle.byteorder.specs.Endian.{big_bytes}
-use Rattle.vl_frame.specs.Numbers.{one_number}
+use Rattle.vl_frame.specs.laws.NumberLaws.{one_number}
 use Rattle.vl_block.specs.Entries.{body_bytes}
 use Rattle.vl_block.specs.laws.EntryLaws.{entry-parts, one_key}
 use Rattle.vl_block.proofs.taking.take_entry.Goals as goal

@@ -2,7 +2,7 @@ use Rattle.vl_frame.specs.laws.Laws.{one_frame}
 use Rattle.vl_frame.specs.laws.RunLaws.{frame_of}
 use Rattle.vl_frame.specs.declared.kinds.FileKind.TheVariants as files
 use Rattle.vl_frame.specs.declared.kinds.FrameKind.TheVariants as kinds
-use Rattle.vl_manifest.specs.laws.EditLaws.{edits_grammar}
+use Rattle.vl_manifest.specs.Grammar.{edits_grammar}
 use Rattle.vl_manifest.specs.Edits.{edits_body}
 use Rattle.vl_manifest.proofs.reading.read_edits.Goals as goal
 

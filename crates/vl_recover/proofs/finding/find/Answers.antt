@@ -1,5 +1,5 @@
-use Rattle.vl_recover.specs.Finding.{IsFault}
-use Rattle.vl_recover.proofs.Unmoved.{call_as, then_call}
+use Rattle.vl_recover.specs.opening.Finding.{IsFault}
+use Rattle.vl_recover.proofs.opening.Unmoved.{call_as, then_call}
 use Rattle.vl_recover.proofs.finding.find.Goals as goal
 
 pub returns-clause-no_change : goal.returns-clause-no_change

@@ -1,5 +1,5 @@
 use Rattle.std.proofs.Common.{refl}
-use Rattle.vl_recover.proofs.Composing.{is_found, numbered_last}
+use Rattle.vl_recover.proofs.opening.Composing.{is_found, numbered_last}
 use Rattle.vl_recover.proofs.finding.found.Goals as goal
 
 pub returns-in-Ok-clause-answer : goal.returns-in-Ok-clause-answer

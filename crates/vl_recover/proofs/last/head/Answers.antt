@@ -2,8 +2,8 @@ use Rattle.std.proofs.Common.{arith, inl}
 use Rattle.vl_disk.specs.Crash.{WhileAppending, WhileSyncing}
 use Rattle.vl_disk.specs.DiskState.{synced}
 use Rattle.vl_disk.specs.declared.name.Name.TheVariants.{Log}
-use Rattle.vl_recover.specs.Repairing.{Headed, WhileLast, behind_last, headed}
-use Rattle.vl_recover.proofs.Stepping.{append_as, performs_stop, performs_then, sync_performs}
+use Rattle.vl_recover.specs.repairing.Repairing.{Headed, WhileLast, behind_last, headed}
+use Rattle.vl_recover.proofs.repairs.Stepping.{append_as, performs_stop, performs_then, sync_performs}
 use Rattle.vl_seglog.specs.Frames.{log_header}
 use Rattle.vl_recover.proofs.last.head.Goals as goal
 

@@ -1,10 +1,10 @@
 use Rattle.std.proofs.Common.{ap, refl, subst}
 use Rattle.std.specs.Option.{ForSome}
 use Rattle.vl_disk.specs.declared.name.Name.TheVariants.{Log}
-use Rattle.vl_recover.specs.Fitting.{CanRepair}
-use Rattle.vl_recover.specs.Repairing.{Kept, LastLog}
-use Rattle.vl_recover.specs.PlanViews.{step_of}
-use Rattle.vl_recover.proofs.Stepping.{last_at, last_none, named_at, sync_performs}
+use Rattle.vl_recover.specs.repairing.Fitting.{CanRepair}
+use Rattle.vl_recover.specs.repairing.Repairing.{Kept, LastLog}
+use Rattle.vl_recover.specs.repairing.PlanViews.{step_of}
+use Rattle.vl_recover.proofs.repairs.Stepping.{last_at, last_none, named_at, sync_performs}
 use Rattle.vl_recover.proofs.last.repair_last.Goals as goal
 
 pub sync-requires : goal.sync-requires

@@ -1,30 +1,56 @@
-use Rattle.std.proofs.Common.{refl, ◌∙◌}
-use Rattle.vl_recover.proofs.ReadingLogs.{all_read, last_named, listed, none_read, one_read}
-use Rattle.vl_recover.proofs.Unmoved.{no_call, then_call}
+use Rattle.std.proofs.Common.{◌+◌, drop, get_or, refl, sym, subst, ◌∙◌}
+use Rattle.std.specs.Prelude.{nat_lt}
+use Rattle.std.proofs.lemmas.List.{drop_all, drop_more}
+use Rattle.vl_disk.specs.declared.name.Name.TheVariants.{Log}
+use Rattle.vl_recover.proofs.opening.Naming.{LogsToCome, all_to_come, next_come, none_come, not_come}
+use Rattle.vl_recover.proofs.opening.ReadingLogs.{all_read, follows, last_named, listed, none_read, one_read}
+use Rattle.vl_recover.proofs.opening.Unmoved.{no_call, then_call}
 use Rattle.vl_recover.proofs.logs.read_logs.Goals as goal
 
-pub loop-number-init : goal.loop-number-init
-loop-number-init g c = record {
+pub loop-name-init : goal.loop-name-init
+loop-name-init g c = record {
   still = no_call g.D.Watched c.args.disk.now;
+  come = all_to_come c.args.names.now c.args.head c.requires.rising;
   last = tt;
   reads = λ state read told is.
       none_read read c.args.names.now (listed read state c.args.names.now is (c.requires.lists state told)) c.args.head c.args.covered _ refl c.new.ensures.items refl;
 }
 
-pub loop-number-preserved : goal.loop-number-preserved
-loop-number-preserved g c =
+pub loop-name-preserved-in_default : goal.loop-name-preserved-in_default
+loop-name-preserved-in_default g c =
     let names = c.args.names.now in
-    let so = c.loop-number.invariant in
+    let i = c.loop-name.name-index in
+    let so = c.loop-name.invariant in
     record {
-      still = then_call g.D.Watched c.args.disk.now c.loop-number.disk c.with_next.new.disk ⊥ so.still c.in_ok-so_far.ensures.no_change;
-      last = last_named names c.in-Some.number c.in_ok-so_far.so_far.last c.in-Some.ensures.0.0 c.in_ok-so_far.ensures.last;
+      still = so.still;
+      come = not_come names c.loop-name.least (get_or names i (Log 0)) (drop (i + 1) names)
+          (subst (LogsToCome names c.loop-name.least) (drop_more names i (Log 0) c.loop-name-test.true) so.come) (sym c.log_from.ensures ∙ c.in_default.is);
+      last = so.last;
+      reads = so.reads;
+    }
+
+pub loop-name-preserved : goal.loop-name-preserved
+loop-name-preserved g c =
+    let names = c.args.names.now in
+    let i = c.loop-name.name-index in
+    let so = c.loop-name.invariant in
+    let next = next_come names c.loop-name.least (get_or names i (Log 0)) c.in-Some.number (drop (i + 1) names)
+    (subst (LogsToCome names c.loop-name.least) (drop_more names i (Log 0) c.loop-name-test.true) so.come) (sym c.log_from.ensures ∙ c.in-Some.is) in
+    record {
+      still = then_call g.D.Watched c.args.disk.now c.loop-name.disk c.with_next.new.disk ⊥ so.still c.in_ok-so_far.ensures.no_change;
+      come = next.come;
+      last = last_named names c.in-Some.number c.in_ok-so_far.so_far.last next.first.0.0 c.in_ok-so_far.ensures.last;
       reads = λ state read told is.
-          one_read read names (listed read state names is (c.requires.lists state told)) c.args.head c.args.covered c.loop-number.least c.in-Some.number
-          c.next_log-in-Some.result c.is_some-followed.result c.loop-number.so_far c.in_ok-so_far.so_far (so.reads state read told is) c.in-Some.ensures c.next_log-in-Some.ensures
-          c.is_some-followed.ensures (c.in_ok-so_far.ensures.reads state read (so.still.told ∙ told) is);
+          one_read read names (listed read state names is (c.requires.lists state told)) c.args.head c.args.covered c.loop-name.least c.in-Some.number
+          (nat_lt c.in-Some.number c.args.greatest) c.loop-name.so_far c.in_ok-so_far.so_far (so.reads state read told is) next.first
+          (follows names c.in-Some.number c.args.greatest c.requires.greatest (nat_lt c.in-Some.number c.args.greatest) refl)
+          (c.in_ok-so_far.ensures.reads state read (so.still.told ∙ told) is);
     }
 
 pub returns-clause-reads : goal.returns-clause-reads
 returns-clause-reads g c = λ state read told is.
-    all_read read c.args.names.now (listed read state c.args.names.now is (c.requires.lists state told)) c.args.head c.args.covered c.loop-number.least c.loop-number.so_far
-    (c.loop-number.invariant.reads state read told is) c.in_default.ensures
+    let names = c.args.names.now in
+    let so = c.loop-name.invariant in
+    all_read read names (listed read state names is (c.requires.lists state told)) c.args.head c.args.covered c.loop-name.least c.loop-name.so_far
+    (so.reads state read told is)
+    (none_come names c.loop-name.least (subst (LogsToCome names c.loop-name.least) (drop_all c.loop-name.name-index names c.loop-name-test.false) so.come))

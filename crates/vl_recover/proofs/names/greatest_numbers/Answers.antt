@@ -1,8 +1,8 @@
 use Rattle.std.proofs.Common.{take, get_or}
 use Rattle.std.proofs.lemmas.List.{take_more}
 use Rattle.vl_disk.specs.declared.name.Name.TheVariants.{Log}
-use Rattle.vl_recover.specs.Finding.{greatest_of}
-use Rattle.vl_recover.proofs.Naming.{greatest_more_names}
+use Rattle.vl_recover.specs.opening.Finding.{greatest_of}
+use Rattle.vl_recover.proofs.opening.Naming.{greatest_more_names}
 use Rattle.vl_recover.proofs.names.greatest_numbers.Goals as goal
 
 pub loop-name-preserved : goal.loop-name-preserved

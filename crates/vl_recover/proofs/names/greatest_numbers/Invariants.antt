@@ -1,6 +1,6 @@
 use Rattle.std.proofs.Common.{take}
-use Rattle.vl_recover.specs.Finding.{greatest_of}
-use Rattle.vl_recover.specs.Named.{AreGreatestIn}
+use Rattle.vl_recover.specs.opening.Finding.{greatest_of}
+use Rattle.vl_recover.specs.opening.Named.{AreGreatestIn}
 use Rattle.vl_recover.proofs.names.greatest_numbers.Given as goal
 
 abbrev pub invariant-loop-name : goal.invariant-loop-name

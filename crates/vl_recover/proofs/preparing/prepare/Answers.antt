@@ -1,9 +1,9 @@
 use Rattle.std.proofs.Common.{◌∙◌, sym}
-use Rattle.vl_recover.specs.laws.ReadImage.{read_image}
-use Rattle.vl_recover.proofs.Decided.{answer_by, decided_answer, decided_at, decided_prepared}
-use Rattle.vl_recover.proofs.Fitted.{found_fits}
-use Rattle.vl_recover.proofs.Numbers.{decided_numbers}
-use Rattle.vl_recover.proofs.Unmoved.{then_call}
+use Rattle.vl_recover.specs.laws.opening.ReadImage.{read_image}
+use Rattle.vl_recover.proofs.opening.Decided.{answer_by, decided_answer, decided_at, decided_prepared}
+use Rattle.vl_recover.proofs.repairs.Fitted.{found_fits}
+use Rattle.vl_recover.proofs.opening.Numbers.{decided_numbers}
+use Rattle.vl_recover.proofs.opening.Unmoved.{then_call}
 use Rattle.vl_recover.proofs.preparing.prepare.Goals as goal
 
 pub returns-in_err-prepared-clause-answer : goal.returns-in_err-prepared-clause-answer
@@ -18,18 +18,18 @@ returns-clause-answer g c state read told is =
 pub returns-clause-fits : goal.returns-clause-fits
 returns-clause-fits g c state told =
     let (read, is) = read_image state in
-    let before = sym (c.take_room.ensures.no_change.told ∙ c.in_ok-found.ensures.no_change.told) ∙ told in
+    let before = sym (c.ready_all.ensures.no_change.told ∙ c.in_ok-found.ensures.no_change.told) ∙ told in
     let prepared = decided_prepared read c.in_ok-found.found (c.in_ok-found.ensures.answer state read before is) c.in_ok-prepared.prepared c.in_ok-prepared.ensures in
     found_fits prepared.finds state is _ prepared.plan
 
 pub returns-then-is_err-clause-no_change : goal.returns-then-is_err-clause-no_change
-returns-then-is_err-clause-no_change g c = then_call g.D.Watched _ _ _ ⊥ c.in_ok-found.ensures.no_change c.take_room.ensures.no_change
+returns-then-is_err-clause-no_change g c = then_call g.D.Watched _ _ _ ⊥ c.in_ok-found.ensures.no_change c.ready_all.ensures.no_change
 
 pub returns-clause-no_change : goal.returns-clause-no_change
-returns-clause-no_change g c = then_call g.D.Watched _ _ _ ⊥ c.in_ok-found.ensures.no_change c.take_room.ensures.no_change
+returns-clause-no_change g c = then_call g.D.Watched _ _ _ ⊥ c.in_ok-found.ensures.no_change c.ready_all.ensures.no_change
 
-pub take_room-requires : goal.take_room-requires
-take_room-requires g c =
+pub ready_all-requires : goal.ready_all-requires
+ready_all-requires g c =
     decided_numbers c.in_ok-found.found c.in_ok-found.ensures.numbers c.in_ok-found.ensures.last c.in_ok-prepared.ensures.unused _ c.in_ok-prepared.ensures.plan
 
 pub returns-clause-numbers : goal.returns-clause-numbers

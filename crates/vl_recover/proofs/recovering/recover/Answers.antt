@@ -1,18 +1,18 @@
 use Rattle.std.proofs.Common.{List, [], ◌∷◌, ap, ◌∙◌}
 use Rattle.vl_manifest.specs.declared.edit.Edit.{Edit}
 use Rattle.vl_manifest.specs.Manifest.{manifest_bytes}
-use Rattle.vl_recover.specs.laws.OneFinding.{opened_not}
-use Rattle.vl_recover.specs.PlanViews.{plan_view}
-use Rattle.vl_recover.specs.Results.{HasFailed, came_by}
-use Rattle.vl_recover.proofs.Recovered.{active_stays, as_long, calls_counted, calls_stopped, none_made, disk_repaired, repaired_again, repaired_faults, repaired_meanwhile, repaired_tells, repaired_through, opened_same, read_faults, refused_fine, still_tells, store_held, unchanged_again, unchanged_meanwhile, unchanged_through}
-use Rattle.vl_recover.proofs.Unmoved.{call_as, then_call}
+use Rattle.vl_recover.specs.laws.opening.OneFinding.{opened_not}
+use Rattle.vl_recover.specs.repairing.PlanViews.{plan_view}
+use Rattle.vl_recover.specs.opening.Results.{HasFailed, recovery_by}
+use Rattle.vl_recover.proofs.crash.Recovered.{active_stays, as_long, calls_counted, calls_stopped, none_made, disk_repaired, repaired_again, repaired_faults, repaired_meanwhile, repaired_tells, repaired_through, opened_same, read_faults, refused_fine, still_tells, store_held, unchanged_again, unchanged_meanwhile, unchanged_through}
+use Rattle.vl_recover.proofs.opening.Unmoved.{call_as, then_call}
 use Rattle.vl_seglog.specs.declared.active.ActiveLog.{ActiveLog}
 use Rattle.vl_recover.proofs.recovering.recover.Goals as goal
 
 -- it was refused, or there was no memory
 pub returns-in-Err-clause-refused : goal.returns-in-Err-clause-refused
 returns-in-Err-clause-refused g c refused =
-    call_as g.D.Watched _ _ (HasFailed (came_by c.in-Err.why)) ⊥ (refused_fine (came_by c.in-Err.why) refused) (λ none. none) c.in-Err.ensures.no_change
+    call_as g.D.Watched _ _ (HasFailed (recovery_by c.in-Err.why)) ⊥ (refused_fine (recovery_by c.in-Err.why) refused) (λ none. none) c.in-Err.ensures.no_change
 
 pub returns-in-Err-clause-meanwhile : goal.returns-in-Err-clause-meanwhile
 returns-in-Err-clause-meanwhile g c state read told is_read = unchanged_meanwhile g.D.Watched g.met.D.Disk.only_now _ _ c.in-Err.ensures.no_change state told read
@@ -30,7 +30,7 @@ returns-in-Err-clause-tells g c state told = still_tells g.D.Watched g.met.D.Dis
 pub returns-in-Err-NoMemory-clause-refused : goal.returns-in-Err-NoMemory-clause-refused
 returns-in-Err-NoMemory-clause-refused g c refused =
     let failed = rw c.in-Err-NoMemory.field-0-is at c.in-Err-NoMemory.is in
-    then_call g.D.Watched _ _ _ ⊥ c.in-Ok.ensures.no_change (c.repair.ensures.no_room failed)
+    then_call g.D.Watched _ _ _ ⊥ c.in-Ok.ensures.no_change (c.repair.ensures.no_memory failed)
 
 pub returns-in-Err-NoMemory-clause-meanwhile : goal.returns-in-Err-NoMemory-clause-meanwhile
 returns-in-Err-NoMemory-clause-meanwhile g c state read told is_read =
@@ -158,7 +158,7 @@ returns-in-Err-clause-stopped g c state read found strays told is_read are = non
 pub returns-in-Err-NoMemory-clause-stopped : goal.returns-in-Err-NoMemory-clause-stopped
 returns-in-Err-NoMemory-clause-stopped g c state read found strays told is_read are =
     let failed = rw c.in-Err-NoMemory.field-0-is at c.in-Err-NoMemory.is in
-    none_made g.D.Watched _ _ _ _ (then_call g.D.Watched _ _ _ ⊥ c.in-Ok.ensures.no_change (c.repair.ensures.no_room failed))
+    none_made g.D.Watched _ _ _ _ (then_call g.D.Watched _ _ _ ⊥ c.in-Ok.ensures.no_change (c.repair.ensures.no_memory failed))
 
 pub returns-clause-stopped : goal.returns-clause-stopped
 returns-clause-stopped g c state read found strays told is_read are =

@@ -1,8 +1,8 @@
 use Rattle.std.proofs.Common.{ℕ, Option, refl, subst}
 use Rattle.std.specs.Option.{ForSome}
 use Rattle.vl_disk.specs.declared.name.Name.TheVariants.{Log}
-use Rattle.vl_recover.specs.Fitting.{CanMake}
-use Rattle.vl_recover.proofs.Stepping.{log_made_at, log_none, named_at}
+use Rattle.vl_recover.specs.repairing.Fitting.{CanMake}
+use Rattle.vl_recover.proofs.repairs.Stepping.{log_made_at, log_none, named_at}
 use Rattle.vl_recover.proofs.repairing.make_log.Goals as goal
 
 pub make_file-requires-clause-free : goal.make_file-requires-clause-free

@@ -1,9 +1,9 @@
 use Rattle.std.proofs.lemmas.List.Elements.{Contains-get_or}
 use Rattle.std.specs.Prelude.{Contains}
 use Rattle.vl_disk.specs.declared.name.Name.TheVariants.{Log}
-use Rattle.vl_recover.proofs.Stepping.{named_at, named_on}
+use Rattle.vl_recover.proofs.repairs.Stepping.{named_at, named_on}
 use Rattle.std.proofs.Common.{arith}
-use Rattle.vl_recover.proofs.Removals.{can_here, can_next, left_from, none_left, removing_ends, removing_goes_on, removing_stops}
+use Rattle.vl_recover.proofs.repairs.Removals.{can_here, can_next, left_from, none_left, removing_ends, removing_goes_on, removing_stops}
 use Rattle.vl_recover.proofs.repairing.remove_all.Goals as goal
 
 pub remove-requires : goal.remove-requires

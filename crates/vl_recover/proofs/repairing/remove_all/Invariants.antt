@@ -1,7 +1,7 @@
 use Rattle.std.proofs.Common.{drop}
 use Rattle.std.specs.Option.{ForSome}
-use Rattle.vl_recover.specs.Fitting.{CanRemove}
-use Rattle.vl_recover.proofs.Removals.{Removing}
+use Rattle.vl_recover.specs.repairing.Fitting.{CanRemove}
+use Rattle.vl_recover.proofs.repairs.Removals.{Removing}
 use Rattle.vl_recover.proofs.repairing.remove_all.Given as goal
 
 abbrev pub invariant-loop-name : goal.invariant-loop-name

@@ -1,4 +1,4 @@
-use Rattle.vl_recover.proofs.Repaired.{all_repaired, behind_fits, create_stops, err_is, repairing_fails}
+use Rattle.vl_recover.proofs.repairs.Repaired.{all_repaired, behind_fits, create_stops, err_is, repairing_fails}
 use Rattle.vl_recover.proofs.repairing.repair.Goals as goal
 
 pub returns-in_err-manifest : goal.returns-in_err-manifest

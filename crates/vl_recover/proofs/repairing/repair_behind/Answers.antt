@@ -1,7 +1,7 @@
-use Rattle.vl_recover.specs.Fitting.{IsFileOf, is_last, is_log}
-use Rattle.vl_recover.specs.PlanViews.{plan_view}
-use Rattle.vl_recover.proofs.Repaired.{all_behind, log_stops, strays_at}
-use Rattle.vl_recover.proofs.Stepping.{named_on}
+use Rattle.vl_recover.specs.repairing.Fitting.{IsFileOf, is_last, is_log}
+use Rattle.vl_recover.specs.repairing.PlanViews.{plan_view}
+use Rattle.vl_recover.proofs.repairs.Repaired.{all_behind, log_stops, strays_at}
+use Rattle.vl_recover.proofs.repairs.Stepping.{named_on}
 use Rattle.vl_recover.proofs.repairing.repair_behind.Goals as goal
 
 pub returns-in_err-make_log-clause-repaired : goal.returns-in_err-make_log-clause-repaired

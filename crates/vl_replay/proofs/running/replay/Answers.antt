@@ -1,7 +1,7 @@
 use Rattle.std.proofs.Common.{◌≡◌, ap, refl, subst, sym}
 use Rattle.vl_disk.specs.Faults.{Rose}
-use Rattle.vl_recover.specs.Answers.{AnswersBy}
-use Rattle.vl_recover.specs.Results.{came_by}
+use Rattle.vl_recover.specs.opening.Answers.{AnswersBy}
+use Rattle.vl_recover.specs.opening.Results.{recovery_by}
 use Rattle.vl_recover.specs.declared.fails.OpenError.{OpenError}
 use Rattle.vl_replay.specs.Durable.{Tells}
 use Rattle.vl_replay.specs.Endings.{culprit_of}
@@ -50,7 +50,7 @@ returns-in-Err-clause-runs g c s input starts told =
     ended.result (refused_nothing g.K.Sink c.args.sink.now ended.new.sink how ended.result ended.ensures.2)
     (refused g.K.Sink c.args.sink.now ended.new.sink (Rose (g.S.Source.faults c.args.source.now) (g.S.Source.faults c.args.source.now)) by_disk script (g.S.Source.left c.args.source.now) how ended.result
     (λ refusal is. opened_not_refused starts.read starts.found starts.unused refusal
-    (subst (λ (w : OpenError). AnswersBy starts.read (came_by w)) (refused_for reason how refusal ended.ensures.1 is) (c.in-Err.ensures.answer starts.state starts.read starts.told starts.is_read)))
+    (subst (λ (w : OpenError). AnswersBy starts.read (recovery_by w)) (refused_for reason how refusal ended.ensures.1 is) (c.in-Err.ensures.answer starts.state starts.read starts.told starts.is_read)))
     (λ fault. c.in-Err.ensures.cause.rose (fault_for reason how ended.ensures.1 fault)) ended.ensures.2)
     (keeps_up_at_first input (g.S.Source.asked c.args.source.now) (g.met.S.Source.since_asked c.args.source.now input told))
     (c.in-Err.ensures.through s starts) (λ p. let told = c.in-Err.ensures.tells p.0 p.1 in (told.0, told.1, c.in-Err.ensures.again p.0 told.0 p.1 p.2.may_open told.1))
@@ -79,7 +79,7 @@ returns-in-Err-clause-refused g c refusal is =
     let how = ended.ensures.0 in
     let reason_is = refused_for reason how refusal ended.ensures.1 (refused_as g.K.Sink c.args.sink.now ended.new.sink how ended.result ended.ensures.2 refusal is) in (
       record {
-        given = λ state read told is_read. subst (λ (w : OpenError). AnswersBy read (came_by w)) reason_is (c.in-Err.ensures.answer state read told is_read);
+        given = λ state read told is_read. subst (λ (w : OpenError). AnswersBy read (recovery_by w)) reason_is (c.in-Err.ensures.answer state read told is_read);
         unchanged = c.in-Err.ensures.left_alone (λ fault. no_fault refusal (subst (λ (w : OpenError). IsFault (Some w)) reason_is fault)) refl;
         printed = refused_line g.K.Sink c.args.sink.now ended.new.sink how ended.result ended.ensures.2 refusal is;
       },

@@ -1,6 +1,9 @@
+use Rattle.vl_seglog.specs.Placed.{LiesMovedAt, moved_size}
+use Rattle.vl_seglog.specs.Reading.{moved_of}
 use Rattle.vl_seglog.specs.Relocation.{moves_spelling}
-use Rattle.vl_seglog.proofs.Runs.{SoFar}
+use Rattle.vl_seglog.proofs.Following.{ReadSoFar, moved_sized}
 use Rattle.vl_seglog.proofs.reading.moves.read_all_moved.Given as goal
 
 abbrev pub invariant-loop : goal.invariant-loop
-invariant-loop l = SoFar moves_spelling l.bytes l.counter l.records.items l.rest
+invariant-loop l =
+    ReadSoFar moves_spelling moved_of (LiesMovedAt l.log) moved_size moved_sized l.first l.bytes l.counter l.records.items l.rest l.place

@@ -1,6 +1,9 @@
 use Rattle.vl_seglog.specs.Commit.{records_spelling}
-use Rattle.vl_seglog.proofs.Runs.{SoFar}
+use Rattle.vl_seglog.specs.Placed.{LiesAt, record_size}
+use Rattle.vl_seglog.specs.Reading.{write_of}
+use Rattle.vl_seglog.proofs.Following.{ReadSoFar, write_sized}
 use Rattle.vl_seglog.proofs.reading.records.read_records.Given as goal
 
 abbrev pub invariant-loop : goal.invariant-loop
-invariant-loop l = SoFar records_spelling l.bytes l.counter l.writes.items l.rest
+invariant-loop l =
+    ReadSoFar records_spelling write_of (LiesAt l.log l.number) record_size write_sized l.first l.bytes l.counter l.records.items l.rest l.place

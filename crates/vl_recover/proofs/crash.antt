@@ -1,0 +1,5 @@
+-- What a crash leaves.
+pub mod Recovered
+pub mod RepairingAgain
+pub mod RepairingMayOpen
+pub mod TornManifest

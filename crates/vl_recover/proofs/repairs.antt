@@ -1,0 +1,8 @@
+-- What is changed.
+pub mod ActiveStands
+pub mod Fitted
+pub mod LastFiles
+pub mod Removals
+pub mod Repaired
+pub mod RepairingLaws
+pub mod Stepping
