@@ -46,13 +46,15 @@ pub fn serve<R: Env + AllocGlobal, S: Source, K: Sink, D: Disk, M: FnOnce(String
         → MayExitWith (words_of given) (exit_status result.exit) }
 {
     let Ok((words, folder)) = words_and_folder(rt) else {
-        let exit = ExitCode::from(refuse_without_words(sink));
+        let status = refuse_without_words(sink);
+        let exit = ExitCode::from(status);
         return Served { exit, disk: None };
     };
     let disk = make_disk(folder);
     let Ended { status, disk } = run(rt.alloc(), words.as_slice(), source, sink, disk);
+    let exit = ExitCode::from(status);
     Served {
-        exit: ExitCode::from(status),
+        exit,
         disk: Some(disk),
     }
 }

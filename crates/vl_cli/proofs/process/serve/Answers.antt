@@ -7,7 +7,8 @@ use Rattle.vl_cli.proofs.process.serve.Goals as goal
 pub returns-clause-served : goal.returns-clause-served
 returns-clause-served g c =
     let same = ap (map string_bytes) (sym c.as_slice.ensures.value) in
-    let ran = c.run-status.ensures in (
+    let ran = c.run-status.ensures in
+    rw c.from-exit-2.ensures (
       map string_bytes c.as_slice.result.now,
       subst (AreGiven c.args.rt.now) same c.in-Ok.ensures.words,
       record {
@@ -27,9 +28,9 @@ pub returns-clause-exits : goal.returns-clause-exits
 returns-clause-exits g c given told =
     let ran = c.run-status.ensures in
     let is = ap (map string_bytes) c.as_slice.ensures.value ∙ c.in-Ok.ensures.words given told in
-    subst (λ (words : List (List ℕ)). MayExitWith words c.run-status.result.status) is
-    (served_exits g.K.Sink c.args.sink.now c.run-status.new.sink _ c.run-status.result.status ran.status (λ not. (ran.not_plain not).2) ran.no_usage_line)
+    rw c.from-exit-2.ensures (subst (λ (words : List (List ℕ)). MayExitWith words c.run-status.result.status) is
+    (served_exits g.K.Sink c.args.sink.now c.run-status.new.sink _ c.run-status.result.status ran.status (λ not. (ran.not_plain not).2) ran.no_usage_line))
 
 pub returns-in_default-clause-exits : goal.returns-in_default-clause-exits
 returns-in_default-clause-exits g c given told =
-    unserved_exits g.K.Sink c.args.sink.now c.refuse_without_words-status.new.sink _ c.refuse_without_words-status.result c.refuse_without_words-status.ensures
+    rw c.from-exit.ensures (unserved_exits g.K.Sink c.args.sink.now c.refuse_without_words-status.new.sink _ c.refuse_without_words-status.result c.refuse_without_words-status.ensures)
