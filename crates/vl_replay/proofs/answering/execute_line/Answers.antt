@@ -4,7 +4,7 @@ use Rattle.std.specs.Option.{option_map}
 use Rattle.vl_script.specs.Script.{text_of}
 use Rattle.vl_replay.specs.Exchanges.{exchanged}
 use Rattle.vl_replay.specs.Sequential.{state_after}
-use Rattle.vl_replay.specs.declared.fails.Halt.TheVariants.{NoMemory as NoRoom}
+use Rattle.vl_replay.specs.declared.fails.Halt.TheVariants as why
 use Rattle.vl_replay.proofs.Ends.{exchange_at-answered}
 use Rattle.vl_replay.proofs.Halting.{by_disk_still, out_not_by_disk}
 use Rattle.vl_replay.proofs.Texts.{carries_nothing, carries_bad, carries_line, kept_without_number, of_ok, ok_not_err, ok_not_out, same_halt}
@@ -41,7 +41,7 @@ returns-in_err-answer-clause-carries g c s stands held =
     (sym c.in_ok-line.ensures ∙ c.in-Some.is) carried
     (λ ok. absurd (ok_not_err residual.result ok residual.ensures.0))
     (by_disk_still c.line.result residual.result _ c.in_err-answer.was residual.ensures.1)
-    (λ out. carried.no_commit (c.in_err-answer.was ∙ ap Err (same_halt residual.result _ NoRoom out residual.ensures.1)))
+    (λ out. carried.no_commit (c.in_err-answer.was ∙ ap Err (same_halt residual.result _ why.NoMemory out residual.ensures.1)))
 
 pub returns-in_err-print_answer-clause-carries : goal.returns-in_err-print_answer-clause-carries
 returns-in_err-print_answer-clause-carries g c s stands held =
