@@ -1,18 +1,67 @@
--- What a process does: the folder that its words name, and the disk that is made for it.
-use Rattle.std.specs.Prelude.{◌≡◌, ◌≢◌, ℕ, List, ◌∷◌, codes}
+-- The process: the words that it was given, the folder that they name, and what a run over them came to.
+use Rattle.std.specs.Prelude.{◌≡◌, ◌≢◌, ◌⊎◌, ℕ, List, [], ◌∷◌, Option, None, Some, unwrap_or, codes}
 use Rattle.vl_disk.specs.Faults.{Rose}
 use Rattle.vl_disk.specs.declared.watched.Watched.{Ghosts}
+use Rattle.vl_io.specs.declared.sink.Sink as sink
+use Rattle.vl_io.specs.declared.source.Source as source
+use Rattle.vl_mem.specs.declared.outcome.Outcome.{Outcome}
+use Rattle.vl_replay.specs.Endings.{status_of}
+use Rattle.vl_replay.specs.Reading.{streams}
+use Rattle.vl_replay.specs.Runs.{outside}
+use Rattle.vl_replay.specs.Trying.{trial_of}
+use Rattle.vl_replay.specs.declared.ending.Ending.{Ending}
+use Rattle.vl_replay.specs.declared.ending.Ending.TheVariants.{BadWords}
+use Rattle.vl_cli.specs.Run.{AreNotPlain, AskFor, EndsBy, StatusOfAnswers, StatusOfTrial, TellsOfInput}
+use Rattle.vl_cli.specs.declared.command_line.words.Command.{Command}
+use Rattle.vl_cli.specs.declared.command_line.words.Command.TheVariants.{Replay, Trial}
+
+-- The words that a process was given behind its name, where they are told: None of them where one isn't text. Std tells none,
+-- so that nothing is claimed of a process by this alone. But proofs can't look into it: a body has to hold for all words that
+-- may have been given.
+pub given_words : {R : Type 0} → R → Option (Option (List (List ℕ)))
+given_words rt = None
+
+-- The one law that looks into it, for the call that asks the process for its words.
+pub untold : {R : Type 0} (rt : R) (given : Option (List (List ℕ))) → given_words rt ≡ Some given → ⊥
+unfolding given_words
+untold rt given told = cc
+
+-- the words of a command line that was given so: none where one isn't text, so that they aren't plain
+abbrev pub words_of : Option (List (List ℕ)) → List (List ℕ)
+words_of given = unwrap_or given []
+
+-- these are the words that the process was given, where they are told
+abbrev pub AreGiven : {R : Type 0} → R → (words : List (List ℕ)) → Type 0
+AreGiven rt words = (given : Option (List (List ℕ))) → given_words rt ≡ Some given → words ≡ words_of given
 
 -- the folder that the second word names, and the working folder where there is none
 abbrev pub folder_of : List (List ℕ) → List ℕ
 folder_of (command ∷ folder ∷ words) = folder
 folder_of words = codes "."
 
--- A process ended with this status and left this disk.
-pub record ServedOver {D : Type 0} (g : Ghosts D) (IsMade : D → Type 0) (left : D) (status : ℕ) : Type 0 where
+-- a process that was given these words may end with this status: with 2 just where they aren't plain, where else there was no
+-- memory for them, or the last line couldn't be put
+pub record MayExitWith (words : List (List ℕ)) (status : ℕ) : Type 0 where
+  pub status_is : (ending : Ending) × (status ≡ status_of ending)
+  pub not_plain : AreNotPlain words → (status ≡ 2) ⊎ ((status ≡ 5) ⊎ (status ≡ 7))
+  pub plain : (command : Command) → AskFor words command → status ≢ 2
+
+-- A run over these words, and over the disk that was made for their folder, left the source, the sink and the disk so.
+pub record ServedOver {S K D : Type 0} (s : source.Ghosts S) (k : sink.Ghosts K) (g : Ghosts D)
+    (IsMade : (folder : List ℕ) → D → Type 0) (words : List (List ℕ)) (source source' : S) (sink sink' : K)
+    (left : D) (status : ℕ) : Type 0 where
   -- the disk as it was made
   pub made : D
-  pub is_made : IsMade made
+  pub is_made : IsMade (folder_of words) made
+  -- the status is that of the run, as these tell of it
+  pub answers : AskFor words Replay
+      → StatusOfAnswers g (outside s k source sink made) (outside s k source' sink' left) status
+  pub input : AskFor words Replay → TellsOfInput (streams s k source sink) (streams s k source' sink') status
+  pub tries : (stop : ℕ) (outcome : Outcome) (input : List ℕ) → AskFor words (Trial stop outcome)
+      → s.left source ≡ Some input
+      → StatusOfTrial (trial_of stop input outcome) (k.held sink) (k.held sink') (s.left source') status
+  pub not_plain : AreNotPlain words → (source' ≡ source) × (left ≡ made) × EndsBy k sink sink' BadWords status
+  pub no_usage_line : (command : Command) → AskFor words command → status ≢ 2
   -- status 3 comes only by a fault of the disk, and all others but 7 only without
   pub disk_fault : status ≡ 3 → Rose (g.faults made) (g.faults left)
   pub no_disk_fault : status ≢ 3 → status ≢ 7 → g.faults left ≡ g.faults made

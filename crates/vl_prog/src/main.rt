@@ -1,11 +1,18 @@
-//! The program: the command line over the process's words and streams.
+//! The program: the command line over the process's words and streams, and over the folder that they name. Its stored run has a
+//! bad line behind good ones, and ends with status 1.
 #![tactic(auto)]
 
+use std::io;
 use std::process::ExitCode;
-use vl_cli::{Ended, serve};
+use vl_cli::{Served, serve};
 use vl_folder::FolderDisk;
+use vl_io::{StdSink, StdSource};
 
 fn main(rt: HostRuntime) -> ExitCode {
-    let Ended { status, disk: _ } = serve(&rt, |folder| FolderDisk::new(&rt, rt.alloc(), folder));
-    ExitCode::from(status)
+    let mut source = StdSource::new(rt.reader());
+    let mut sink = StdSink::new(io::writer(&rt));
+    let Served { exit, disk: _ } = serve(&rt, &mut source, &mut sink, |folder| {
+        FolderDisk::new(&rt, rt.alloc(), folder)
+    });
+    exit
 }

@@ -1,11 +1,17 @@
-//! The program over the files of an earlier run: its stored run reads what was committed, and goes on.
+//! The program over the files of an earlier run, in a folder of its own: its stored run reads what was committed, and goes on.
 #![tactic(auto)]
 
+use std::io;
 use std::process::ExitCode;
-use vl_cli::{Ended, serve};
+use vl_cli::{Served, serve};
 use vl_folder::FolderDisk;
+use vl_io::{StdSink, StdSource};
 
 fn main(rt: HostRuntime) -> ExitCode {
-    let Ended { status, disk: _ } = serve(&rt, |folder| FolderDisk::new(&rt, rt.alloc(), folder));
-    ExitCode::from(status)
+    let mut source = StdSource::new(rt.reader());
+    let mut sink = StdSink::new(io::writer(&rt));
+    let Served { exit, disk: _ } = serve(&rt, &mut source, &mut sink, |folder| {
+        FolderDisk::new(&rt, rt.alloc(), folder)
+    });
+    exit
 }

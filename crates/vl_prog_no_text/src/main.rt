@@ -1,11 +1,17 @@
 //! The program with a word that is not UTF-8: its stored run prints the usage line and ends with status 2.
 #![tactic(auto)]
 
+use std::io;
 use std::process::ExitCode;
-use vl_cli::{Ended, serve};
+use vl_cli::{Served, serve};
 use vl_folder::FolderDisk;
+use vl_io::{StdSink, StdSource};
 
 fn main(rt: HostRuntime) -> ExitCode {
-    let Ended { status, disk: _ } = serve(&rt, |folder| FolderDisk::new(&rt, rt.alloc(), folder));
-    ExitCode::from(status)
+    let mut source = StdSource::new(rt.reader());
+    let mut sink = StdSink::new(io::writer(&rt));
+    let Served { exit, disk: _ } = serve(&rt, &mut source, &mut sink, |folder| {
+        FolderDisk::new(&rt, rt.alloc(), folder)
+    });
+    exit
 }

@@ -43,7 +43,7 @@ use Rattle.vl_replay.specs.Sequential.{State, after_commit}
 use Rattle.vl_replay.specs.Represents.{Represents}
 use Rattle.vl_replay.specs.declared.replayer.store.Store.{Store}
 use Rattle.vl_replay.specs.declared.fails.Halt.{Halt}
-use Rattle.vl_replay.specs.declared.fails.Halt.TheVariants.{NoMemory as NoRoom}
+use Rattle.vl_replay.specs.declared.fails.Halt.TheVariants as why
 use Rattle.vl_replay.proofs.Betweens.{extends_itself, extends_same, extends_one, last-extends}
 use Rattle.vl_replay.proofs.Outcomes.{Keeps}
 use Rattle.vl_replay.proofs.DiskSteps.{IsWatched, rests, rests_until, goes_then, goes_wider, it_holds, opens_again}
@@ -261,7 +261,7 @@ module _ {D : Type 0} (g : Ghosts D) (watched : IsWatched g) where
     }
 
     -- the disk failed while it was written
-    pub carries_failed : {T : Type 0} (result : Result T Halt) → IsErr result → (result ≡ Err NoRoom → ⊥) → (now : DiskState) × (g.told new ≡ Some now)
+    pub carries_failed : {T : Type 0} (result : Result T Halt) → IsErr result → (result ≡ Err why.NoMemory → ⊥) → (now : DiskState) × (g.told new ≡ Some now)
         → (failed → ⊥) → (IsTrue g.fails_cleanly → StopsWriting g (names.Log s.log.number) bytes mid new) → LeadsTo g IsStored Shown old new s after result
     carries_failed result err no_room tells fine stops = record {
       answered = on_ok_at_err result _ err;

@@ -3,20 +3,20 @@ use Rattle.std.proofs.Common.{◌≡◌, Result, Ok, Err, sym, ◌∙◌, ap, su
 use Rattle.std.specs.Prelude.{IfErr, IsErrAnd}
 use Rattle.vl_replay.specs.Halts.{HaltsByDisk}
 use Rattle.vl_replay.specs.declared.fails.Halt.{Halt}
-use Rattle.vl_replay.specs.declared.fails.Halt.TheVariants.{NoMemory as NoRoom, Disk as DiskFailed}
+use Rattle.vl_replay.specs.declared.fails.Halt.TheVariants as why
 
 -- a line that is halted by nothing else isn't halted by the disk
-pub not_by_disk : {T : Type 0} (result : Result T Halt) → IfErr result (λ halt. halt ≡ NoRoom) → HaltsByDisk result → ⊥
+pub not_by_disk : {T : Type 0} (result : Result T Halt) → IfErr result (λ halt. halt ≡ why.NoMemory) → HaltsByDisk result → ⊥
 not_by_disk (Ok answer) out by = by
-not_by_disk (Err NoRoom) out by = by
-not_by_disk (Err (DiskFailed name)) out by = cc
+not_by_disk (Err why.NoMemory) out by = by
+not_by_disk (Err (why.Disk name)) out by = cc
 
-pub out_not_by_disk : {T : Type 0} (result : Result T Halt) → IsErrAnd result (λ halt. halt ≡ NoRoom) → HaltsByDisk result → ⊥
+pub out_not_by_disk : {T : Type 0} (result : Result T Halt) → IsErrAnd result (λ halt. halt ≡ why.NoMemory) → HaltsByDisk result → ⊥
 out_not_by_disk (Ok answer) out by = by
 out_not_by_disk {T} (Err halt) out by = not_by_disk {T = T} (Err halt) out by
 
 -- a halt that is handed on is the same
 pub by_disk_still : {T U : Type 0} (carried : Result U Halt) (result : Result T Halt) (halt : Halt) → carried ≡ Err halt → IsErrAnd result (λ other. other ≡ halt) → HaltsByDisk result → HaltsByDisk carried
 by_disk_still carried (Ok answer) halt was is by = absurd by
-by_disk_still {U = U} carried (Err NoRoom) halt was is by = absurd by
-by_disk_still {U = U} carried (Err (DiskFailed name)) halt was is by = subst (λ (r : Result U Halt). HaltsByDisk r) (ap Err is ∙ sym was) tt
+by_disk_still {U = U} carried (Err why.NoMemory) halt was is by = absurd by
+by_disk_still {U = U} carried (Err (why.Disk name)) halt was is by = subst (λ (r : Result U Halt). HaltsByDisk r) (ap Err is ∙ sym was) tt

@@ -18,7 +18,7 @@ use Rattle.vl_replay.specs.Durable.{HoldsState, HoldsCommits, LeadsTo, DiskEnds}
 use Rattle.vl_replay.specs.Stored.{IsStored, Shown}
 use Rattle.vl_replay.specs.Steps.{Finishes}
 use Rattle.vl_replay.specs.declared.fails.Halt.{Halt}
-use Rattle.vl_replay.specs.declared.fails.Halt.TheVariants.{NoMemory as NoRoom, Disk as DiskFailed}
+use Rattle.vl_replay.specs.declared.fails.Halt.TheVariants as why
 use Rattle.vl_replay.specs.declared.ending.Ending.{Ending}
 use Rattle.vl_replay.specs.declared.ending.Ending.TheVariants.{NoMemory, AnswerCut}
 use Rattle.vl_replay.specs.declared.ending.OnFault.{OnFault}
@@ -46,13 +46,13 @@ pub ok_not_err : {T E : Type 0} (r : Result T E) → IsOk r → IsErr r → ⊥
 ok_not_err (Ok x) ok err = cc
 ok_not_err (Err e) ok err = cc
 
-pub ok_not_out : {T : Type 0} (x : T) → Ok x ≡ Err NoRoom → ⊥
+pub ok_not_out : {T : Type 0} (x : T) → Ok x ≡ Err why.NoMemory → ⊥
 ok_not_out x e = cc
 
 pub same_halt : {T : Type 0} (r : Result T Halt) (h e : Halt) → r ≡ Err e → IsErrAnd r (λ y. y ≡ h) → h ≡ e
 same_halt {T = T} r h e is same = sym (subst (λ (x : Result T Halt). IsErrAnd x (λ y. y ≡ h)) is same)
 
-pub halts : {T : Type 0} (r : Result T Halt) (name : Name) → r ≡ Err (DiskFailed name) → HaltsByDisk r
+pub halts : {T : Type 0} (r : Result T Halt) (name : Name) → r ≡ Err (why.Disk name) → HaltsByDisk r
 halts {T = T} r name is = subst (λ (x : Result T Halt). HaltsByDisk x) (sym is) tt
 
 -- ---- the state behind a text
@@ -93,7 +93,7 @@ module _ {D : Type 0} (g : Ghosts D) (watched : IsWatched g) (s : State) (text :
   module _ (old new : D) where
     -- the line was carried out, or failed
     pub carries_line : {T U : Type 0} (line : Line) (carried : Result U Halt) (result : Result T Halt) → line_of text ≡ Some line → LeadsTo g IsStored Shown old new s (state_after s line) carried
-        → (IsOk result → IsOk carried) → (HaltsByDisk result → HaltsByDisk carried) → (result ≡ Err NoRoom → HoldsCommits g IsStored s new) → LeadsTo g IsStored Shown old new s behind result
+        → (IsOk result → IsOk carried) → (HaltsByDisk result → HaltsByDisk carried) → (result ≡ Err why.NoMemory → HoldsCommits g IsStored s new) → LeadsTo g IsStored Shown old new s behind result
     carries_line line carried result spelled carries ok by_disk out =
         subst (λ (t : State). LeadsTo g IsStored Shown old new s t result) (sym (line_behind s text line spelled)) (record {
           answered = on_ok_if result carried _ ok carries.answered;
@@ -124,7 +124,7 @@ module _ {D : Type 0} (g : Ghosts D) (watched : IsWatched g) (s : State) (text :
         (behind, ap (λ (t : State). t.history) (bad_behind s text bad), ap (λ (t : State). t.calls) (bad_behind s text bad), ap (λ (t : State). t.files) (bad_behind s text bad), held) (λ cuts. it_holds g watched IsStored Shown shown_stays stored_exactly behind new held) sound
 
     -- memory ran out
-    pub ends_out : {T K : Type 0} (k : sink.Ghosts K) (sink_old sink_new : K) (line : List ℕ) (result : Result T Halt) (ending : Ending) → result ≡ Err NoRoom → Finishes k sink_old sink_new line NoMemory ending
+    pub ends_out : {T K : Type 0} (k : sink.Ghosts K) (sink_old sink_new : K) (line : List ℕ) (result : Result T Halt) (ending : Ending) → result ≡ Err why.NoMemory → Finishes k sink_old sink_new line NoMemory ending
         → LeadsTo g IsStored Shown old new s behind result → DiskEnds g IsStored Shown ⊥ ⊥ old new (record { ending = ending; first = s; answered = []; most = behind })
     ends_out k sink_old sink_new line result ending out finishes carries =
         ends_unchanged g watched IsStored Shown shown_stays stored_exactly old new ending s behind carries.through carries.tells (carries.no_commit out)

@@ -12,7 +12,7 @@ use Rattle.vl_txn.specs.Refusals.{IsWritten, fits_transaction, refused_write}
 use Rattle.vl_txn.specs.declared.set_fail.SetFail.{SetFail}
 use Rattle.vl_txn.specs.declared.set_fail.SetFail.TheVariants.{EmptyKey, KeyTooLong, ValueTooLong, TooBig as TooMuch, NoMemory}
 use Rattle.vl_replay.specs.Represents.{write_answer, writes_after, answer_of}
-use Rattle.vl_replay.specs.declared.fails.Halt.TheVariants.{NoMemory as NoRoom}
+use Rattle.vl_replay.specs.declared.fails.Halt.TheVariants as why
 
 -- the first limit passed, by the four tests: of an empty key, of the key's and the value's length, and of the whole
 abbrev tested : Bool → Bool → Bool → Bool → Option SetFail
@@ -82,7 +82,7 @@ module _ (old : Writes) (key : List ℕ) (change : Change) where
     kept (Err TooMuch) is = tt
     kept (Err NoMemory) is = is.1
 
-pub halted : (written : Result ⊤ SetFail) → IfErr (answer_of written) (λ halt. halt ≡ NoRoom)
+pub halted : (written : Result ⊤ SetFail) → IfErr (answer_of written) (λ halt. halt ≡ why.NoMemory)
 halted (Ok done) = tt
 halted (Err EmptyKey) = tt
 halted (Err KeyTooLong) = tt

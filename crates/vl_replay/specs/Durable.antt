@@ -20,7 +20,7 @@ use Rattle.vl_replay.specs.Halts.{HaltsByDisk}
 use Rattle.vl_replay.specs.Stopped.{IsStoppedIn, append_passed, calls_until}
 use Rattle.vl_replay.specs.Writing.{PassedOne}
 use Rattle.vl_replay.specs.declared.fails.Halt.{Halt}
-use Rattle.vl_replay.specs.declared.fails.Halt.TheVariants.{NoMemory as NoRoom}
+use Rattle.vl_replay.specs.declared.fails.Halt.TheVariants as why
 use Rattle.vl_replay.specs.declared.ending.Ending.TheVariants.{NoMemory}
 
 -- P holds of whatever a crash leaves of this disk, if no torn bytes spell a frame by chance
@@ -98,7 +98,7 @@ pub record LeadsTo {D T : Type 0} (g : Ghosts D) (holds : Holding) (shows : Show
   -- where it was answered the disk holds the state after it;
   pub answered : OnOk result (HoldsState g holds after new)
   -- where memory ran out it holds the commits before and no more;
-  pub no_commit : result ≡ Err NoRoom → HoldsCommits g holds before new
+  pub no_commit : result ≡ Err why.NoMemory → HoldsCommits g holds before new
   -- it tells its bytes, and a store may be opened on them, also where it failed;
   pub tells : Tells g new MayOpen
   -- what a crash meanwhile leaves shows the commits before, or those after it;

@@ -12,7 +12,7 @@ use Rattle.vl_replay.specs.Opened.{opened_value}
 use Rattle.vl_replay.specs.Sequential.{State, Outcome, OpenTransaction, OpenView, without_handle, is_lawful_write, fits_transaction, committed, after_commit}
 use Rattle.vl_replay.specs.Sequential as sequential
 use Rattle.vl_replay.specs.declared.fails.Halt.{Halt}
-use Rattle.vl_replay.specs.declared.fails.Halt.TheVariants.{NoMemory as NoRoom}
+use Rattle.vl_replay.specs.declared.fails.Halt.TheVariants as why
 use Rattle.vl_replay.specs.declared.replayer.entry.Entry.{Entry}
 use Rattle.vl_replay.specs.declared.replayer.handle.Open.{Open}
 use Rattle.vl_replay.specs.declared.replayer.handle.Handle.{Handle}
@@ -104,4 +104,4 @@ answer_of (Err EmptyKey) = Ok Invalid
 answer_of (Err KeyTooLong) = Ok Invalid
 answer_of (Err ValueTooLong) = Ok Invalid
 answer_of (Err TooMuch) = Ok TooBig
-answer_of (Err NoMemory) = Err NoRoom
+answer_of (Err NoMemory) = Err why.NoMemory

@@ -1,5 +1,5 @@
 //! One line of a script: carried out, and answered.
-ghost use Rattle.std.specs.Prelude.{◌≡◌, ◌≢◌, Some, Err, IfOk};
+ghost use Rattle.std.specs.Prelude.{◌≡◌, ◌≢◌, None, Some, Err, IfOk, OnOk};
 ghost use Rattle.std.specs.Option.{option_map};
 ghost use Rattle.vl_disk.specs.Faults.{Rose, HasCause};
 ghost use Rattle.vl_replay.specs.Sequential.{State};
@@ -29,12 +29,14 @@ fn execute_line<D: Disk>(
     replayer: &mut Replayer<D>,
     text: &[u8],
 ) -> Result<Option<Vec<u8>>, Halt>
+    requires { replayer.old.halted ≡ None }
     ensures answers { (s : State) → Represents replayer.old.store s
         → IfOk result (λ out. IsAnswered s text.now replayer.new.store (option_map (λ text. text.items) out)) }
     ensures carries { (s : State) → Represents replayer.old.store s
         → CarriesOut D.Watched IsStored Shown replayer.old.disk replayer.new.disk s (state_behind s (exchange_at s text.now)) result }
     ensures cause { HasCause (D.faults replayer.old.disk) (D.faults replayer.new.disk) (HaltsByDisk result) }
     ensures reads { IfOk result (λ out. ReadsText text.now (option_map (λ text. text.items) out)) }
+    ensures goes_on { OnOk result (replayer.new.halted ≡ None) }
 {
     let Some(line) = parse_line(alloc, text)? else {
         return Ok(None);
@@ -72,6 +74,7 @@ pub fn answer<K: Sink, D: Disk>(
     sink: &mut K,
     on_fault: OnFault,
 ) -> Option<Ending>
+    requires { replayer.old.halted ≡ None }
     ensures printed { (script : Script) → Represents replayer.old.store script.start
         → answered ≡ line_number script.before
         → IsNext script text.now
@@ -87,6 +90,7 @@ pub fn answer<K: Sink, D: Disk>(
     ensures not_the_words { result ≢ Some Ending.BadWords }
     ensures reads { AnswersText text.now answered result (K.held sink.old) (K.held sink.new) }
     ensures as_meant { EndsAs on_fault result }
+    ensures goes_on { result ≡ None → replayer.new.halted ≡ None }
 {
     match execute_line(alloc, replayer, text) {
         Ok(Some(answer)) => match sink.put(&answer) {

@@ -3,10 +3,10 @@ ghost use Rattle.std.specs.Prelude.{◌≡◌};
 
 use std::alloc::{AllocError, AllocFailed};
 use thiserror::Error;
-use vl_disk::{Failed, Name, NoMemory as NoRoom};
+use vl_disk::{Failed, Name, NoMemory};
 use vl_model::Counter;
 
-/// OpenError what stands on a disk isn't opened.
+/// Why what stands on a disk isn't opened.
 #[derive(Clone, Copy, Debug, PartialEq, Eq)]
 pub enum Refusal {
     /// A log or a table stands, and no manifest that can be read, in a known format or a newer one.
@@ -19,7 +19,7 @@ pub enum Refusal {
     Exhausted(Counter),
 }
 
-/// OpenError a line was given no answer.
+/// Why a line was given no answer.
 #[derive(Clone, Copy, Debug, PartialEq, Eq, Error)]
 pub enum Halt {
     /// Memory ran out.
@@ -50,17 +50,17 @@ impl<T: Drop> From<AllocFailed<T>> for Halt {
     }
 }
 
-impl From<NoRoom> for Halt {
-    ghost use Rattle.vl_replay.specs.declared.fails.Halt.TheVariants.{NoMemory};
+impl From<NoMemory> for Halt {
+    ghost use Rattle.vl_replay.specs.declared.fails.Halt.TheVariants as why;
 
-    ghost from_gives = { λ _ halt. halt ≡ NoMemory };
+    ghost from_gives = { λ _ halt. halt ≡ why.NoMemory };
 
-    fn from(_: NoRoom) -> Halt {
+    fn from(_: NoMemory) -> Halt {
         Halt::NoMemory
     }
 }
 
-/// OpenError no line could be read.
+/// Why no line could be read.
 #[derive(Clone, Copy, Debug, PartialEq, Eq)]
 pub enum InputFail {
     /// Memory ran out.

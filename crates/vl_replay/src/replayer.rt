@@ -1,5 +1,5 @@
 //! A script's lines answered, one after the other, over the disk that holds the store.
-ghost use Rattle.std.specs.Prelude.{◌≡◌, ◌≢◌, ◌≤◌, ◌^◌, ◌-◌, Some, Err, IfOk, IfErr, IsErr, OnOk, OnErr};
+ghost use Rattle.std.specs.Prelude.{◌≡◌, ◌≢◌, ◌≤◌, ◌^◌, ◌-◌, None, Some, Err, IfOk, IfErr, IsErr, OnOk, OnErr};
 ghost use Rattle.std.specs.Option.{ForSome};
 ghost use Rattle.vl_disk.specs.declared.name.Name.TheVariants as names;
 ghost use Rattle.vl_disk.specs.DiskState.{DiskState};
@@ -12,6 +12,7 @@ ghost use Rattle.vl_replay.specs.Start.{IsDurable, StartsIn};
 ghost use Rattle.vl_replay.specs.Sequential.{State, answer_to, state_after};
 ghost use Rattle.vl_replay.specs.Represents.{Represents};
 ghost use Rattle.vl_replay.specs.Halts.{HaltsByDisk};
+ghost use Rattle.vl_replay.specs.declared.fails.Halt.{Halt as Halts};
 ghost use Rattle.vl_replay.specs.declared.fails.Refusal.{Refusal};
 ghost use Rattle.vl_recover.specs.crash.Meanwhile.{FaultsAt, IsMeanwhile};
 ghost use Rattle.vl_recover.specs.opening.Results.{recovery_by};
@@ -49,6 +50,8 @@ use vl_script::{Answer, Line};
 pub struct Replayer<D: Disk> {
     store: Store,
     disk: D,
+    /// Why a line was given no answer, after which none is.
+    halted: Option<Halt>,
     ghost stands: { ForSome (D.told disk) (Stands (names.Log store.log.number)) },
 }
 
@@ -60,6 +63,7 @@ impl<D: Disk> Replayer<D> {
         // It stands for the store that the disk opens as, and the disk holds it.
         ensures store { (s : State) → StartsIn D.Watched disk s
             → IfOk result (λ replayer. Represents replayer.store s) }
+        ensures goes_on { IfOk result (λ replayer. replayer.halted ≡ None) }
         ensures holds { (s : State) → StartsIn D.Watched disk s → Tells D.Watched disk MayOpen
             → IfOk result (λ replayer. HoldsState D.Watched IsStored s replayer.disk) }
 
@@ -100,13 +104,15 @@ impl<D: Disk> Replayer<D> {
             Ok(parts) => Ok(Replayer {
                 store: Store::new(alloc, parts.number, parts.frozen, parts.active),
                 disk: parts.disk,
+                halted: None,
             }),
             Err(fail) => Err(fail),
         }
     }
 
     /// Answers a line. Want of memory leaves the store and the disk's bytes as they were. A fault of the disk leaves the
-    /// store as it was. After such a fault the disk may hold less or more than the store, and no further line is to be answered.
+    /// store as it was, and the disk may then hold less or more than the store. So a line that is given no answer is the
+    /// last one: each line behind it is halted as it was.
     pub fn line(&mut self, line: Line) -> Result<Answer, Halt>
         ensures answer { (s : State) → Represents self.old.store s
             → IfOk result (λ answer. answer ≡ answer_to s line) }
@@ -115,16 +121,32 @@ impl<D: Disk> Replayer<D> {
         ensures kept { (s : State) → Represents self.old.store s
             → OnErr result (Represents self.new.store s) }
 
+        // A halt stays: each line behind it is halted so too, and changes nothing.
+        ensures halts { (halt : Halts) → result ≡ Err halt → self.new.halted ≡ Some halt }
+        ensures goes_on { OnOk result (self.new.halted ≡ None) }
+        ensures stays_halted { (halt : Halts) → self.old.halted ≡ Some halt
+            → (result ≡ Err halt) × (self.new ≡ self.old) }
+
         // Over a disk that holds the state: where there is an answer it holds the state behind the line, in which a commit has
         // made two calls and its log is longer by a frame. However the line ends, a store may be opened on the disk again.
-        ensures carries { (s : State) → Represents self.old.store s
+        ensures carries { self.old.halted ≡ None → (s : State) → Represents self.old.store s
             → CarriesOut D.Watched IsStored Shown self.old.disk self.new.disk s (state_after s line) result }
         ensures no_memory { result ≡ Err Halt.NoMemory
             → D.told self.new.disk ≡ D.told self.old.disk }
-        ensures cause { HasCause (D.faults self.old.disk) (D.faults self.new.disk) (HaltsByDisk result) }
-        ensures named { (name : Name) → result ≡ Err (Halt.Disk name) → name ≡ names.Log self.old.store.log.number }
+        ensures cause { self.old.halted ≡ None
+            → HasCause (D.faults self.old.disk) (D.faults self.new.disk) (HaltsByDisk result) }
+        ensures named { self.old.halted ≡ None → (name : Name) → result ≡ Err (Halt.Disk name) → name ≡ names.Log self.old.store.log.number }
     {
-        self.store.line(&mut self.disk, line)
+        if let Some(halt) = self.halted {
+            return Err(halt);
+        }
+        match self.store.line(&mut self.disk, line) {
+            Ok(answer) => Ok(answer),
+            Err(halt) => {
+                self.halted = Some(halt);
+                Err(halt)
+            }
+        }
     }
 
     /// The disk. What is open is ended.

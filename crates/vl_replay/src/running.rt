@@ -43,6 +43,7 @@ struct Progress<D: Disk> {
 impl<D: Disk> Progress<D> {
     /// Reads a line and answers it. None where the run goes on.
     fn step<S: Source, K: Sink>(&mut self, source: &mut S, sink: &mut K) -> Option<Ending>
+        requires { self.old.replayer.halted ≡ None }
         ensures runs { (script : Script)
             → HasToDo script (kept self.old.replayer.store self.old.buffer self.old.answered)
             (outside S.Source K.Sink source.old sink.old self.old.replayer.disk)
@@ -63,6 +64,7 @@ impl<D: Disk> Progress<D> {
             → ReadsOn input begin (streams S.Source K.Sink source.new sink.new) self.new.buffer self.new.answered result }
         ensures as_meant { EndsAs self.old.on_fault result }
         ensures same_mode { self.new.on_fault ≡ self.old.on_fault }
+        ensures goes_on { result ≡ None → self.new.replayer.halted ≡ None }
         ensures still_told { (left : List ℕ) → S.left source.old ≡ Some left → (rest : List ℕ) × (S.left source.new ≡ Some rest) }
     {
         match read_line(&mut self.buffer, source, &mut self.line) {
@@ -77,6 +79,7 @@ impl<D: Disk> Progress<D> {
 
     /// Answers the line that was read.
     fn answer<K: Sink>(&mut self, sink: &mut K) -> Option<Ending>
+        requires { self.old.replayer.halted ≡ None }
         ensures printed { (script : Script) → Represents self.old.replayer.store script.start
             → self.old.answered ≡ line_number script.before → IsNext script self.old.line.items
             → PrintsStep (Rose (D.faults self.old.replayer.disk) (D.faults self.new.replayer.disk)) script self.old.line.items
@@ -96,6 +99,7 @@ impl<D: Disk> Progress<D> {
         ensures reads { AnswersText self.old.line.items self.old.answered result (K.held sink.old) (K.held sink.new) }
         ensures as_meant { EndsAs self.old.on_fault result }
         ensures same_mode { self.new.on_fault ≡ self.old.on_fault }
+        ensures goes_on { result ≡ None → self.new.replayer.halted ≡ None }
     {
         let ended = answer(
             self.alloc,
@@ -164,6 +168,7 @@ pub(crate) fn answer_lines<S: Source, K: Sink, D: Disk>(
     replayer: Replayer<D>,
     on_fault: OnFault,
 ) -> Ended<D>
+    requires { replayer.halted ≡ None }
     ensures runs { (s : State) (input : List ℕ) → Represents replayer.store s
         → S.left source.old ≡ Some input
         → EndsRun D.Watched (DiskEndsFrom D.Watched IsStored Shown replayer.disk result.disk s)

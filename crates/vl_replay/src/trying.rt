@@ -1,5 +1,5 @@
 //! A script over a disk that stops, and the store that is opened on what a crash then leaves.
-ghost use Rattle.std.specs.Prelude.{◌≡◌, ◌≢◌, ◌↔◌, ℕ, List, [], Some, IfErr, IfOk, IsErr, IsTrue, OnOk};
+ghost use Rattle.std.specs.Prelude.{◌≡◌, ◌≢◌, ◌↔◌, ℕ, List, [], None, Some, IfErr, IfOk, IsErr, IsTrue, OnOk};
 ghost use Rattle.vl_disk.specs.Faults.{HasCause};
 ghost use Rattle.vl_mem.specs.CrashImage.{crash_image};
 ghost use Rattle.vl_mem.specs.MemDisk.{state_of};
@@ -101,6 +101,7 @@ fn is_fault(why: &OpenError) -> bool
 // Opens a store on an empty disk that stops behind so many changing calls.
 fn begin(alloc: Global, stop: u32) -> Result<Replayer<MemDisk>, OpenFail<MemDisk>>
     ensures opened { IfOk result (λ replayer. IsOnTrial stop replayer.store replayer.disk) }
+    ensures goes_on { IfOk result (λ replayer. replayer.halted ≡ None) }
     ensures stopped { IfErr result (λ fail. StopsOpening stop fail.why fail.disk) }
 {
     let mut disk = MemDisk::new(alloc, Vec::new(alloc), Vec::new(alloc));

@@ -1,4 +1,4 @@
-//! Tests of replays on the command line: their answers and statuses.
+//! Tests of replays and trials on the command line: what they print, and their statuses.
 #![tactic(auto)]
 
 #[cfg(test)]

@@ -4,7 +4,7 @@ use Rattle.std.specs.Option.{option_map}
 use Rattle.vl_script.specs.Script.{text_of}
 use Rattle.vl_replay.specs.Exchanges.{exchanged}
 use Rattle.vl_replay.specs.Sequential.{state_after}
-use Rattle.vl_replay.specs.declared.fails.Halt.TheVariants.{NoMemory as NoRoom}
+use Rattle.vl_replay.specs.declared.fails.Halt.TheVariants as why
 use Rattle.vl_replay.proofs.Ends.{exchange_at-answered}
 use Rattle.vl_replay.proofs.Halting.{by_disk_still, out_not_by_disk}
 use Rattle.vl_replay.proofs.Texts.{carries_nothing, carries_bad, carries_line, kept_without_number, of_ok, ok_not_err, ok_not_out, same_halt}
@@ -36,17 +36,17 @@ returns-in_err-out-clause-carries g c s stands held =
 pub returns-in_err-answer-clause-carries : goal.returns-in_err-answer-clause-carries
 returns-in_err-answer-clause-carries g c s stands held =
     let residual = c.from_residual-in_err-answer in
-    let carried = c.line.ensures.carries s stands held in
+    let carried = c.line.ensures.carries c.requires s stands held in
     carries_line g.D.Watched (record { only_now = g.met.D.Disk.only_now; counts_now = g.met.D.Disk.counts_now }) s c.args.text.now c.args.replayer.now.disk c.line.new.self.disk c.in-Some.line c.line.result residual.result
     (sym c.in_ok-line.ensures ∙ c.in-Some.is) carried
     (λ ok. absurd (ok_not_err residual.result ok residual.ensures.0))
     (by_disk_still c.line.result residual.result _ c.in_err-answer.was residual.ensures.1)
-    (λ out. carried.no_commit (c.in_err-answer.was ∙ ap Err (same_halt residual.result _ NoRoom out residual.ensures.1)))
+    (λ out. carried.no_commit (c.in_err-answer.was ∙ ap Err (same_halt residual.result _ why.NoMemory out residual.ensures.1)))
 
 pub returns-in_err-print_answer-clause-carries : goal.returns-in_err-print_answer-clause-carries
 returns-in_err-print_answer-clause-carries g c s stands held =
     let residual = c.from_residual-in_err-print_answer in
-    let carried = c.line.ensures.carries s stands held in
+    let carried = c.line.ensures.carries c.requires s stands held in
     let ok = ap is_ok c.in_ok-answer.was in
     carries_line g.D.Watched (record { only_now = g.met.D.Disk.only_now; counts_now = g.met.D.Disk.counts_now }) s c.args.text.now c.args.replayer.now.disk c.line.new.self.disk c.in-Some.line c.line.result residual.result
     (sym c.in_ok-line.ensures ∙ c.in-Some.is) carried
@@ -59,7 +59,7 @@ returns-in_err-print_answer-clause-carries g c s stands held =
 pub returns-clause-carries : goal.returns-clause-carries
 returns-clause-carries g c s stands held =
     carries_line g.D.Watched (record { only_now = g.met.D.Disk.only_now; counts_now = g.met.D.Disk.counts_now }) s c.args.text.now c.args.replayer.now.disk c.line.new.self.disk c.in-Some.line c.line.result _
-    (sym c.in_ok-line.ensures ∙ c.in-Some.is) (c.line.ensures.carries s stands held) (λ ok. ap is_ok c.in_ok-answer.was) (λ by. absurd by) (λ out. absurd (ok_not_out _ out))
+    (sym c.in_ok-line.ensures ∙ c.in-Some.is) (c.line.ensures.carries c.requires s stands held) (λ ok. ap is_ok c.in_ok-answer.was) (λ by. absurd by) (λ out. absurd (ok_not_out _ out))
 
 pub returns-in_default-clause-reads : goal.returns-in_default-clause-reads
 returns-in_default-clause-reads g c = sym c.in_ok-line.ensures ∙ c.in_default.is

@@ -38,6 +38,7 @@ lines-init g c = record {
   sink_steady = refl;
   disk_steady = refl;
   mode = refl;
+  goes_on = c.requires;
 }
 
 pub lines-preserved : goal.lines-preserved
@@ -53,6 +54,7 @@ lines-preserved g c = record {
   sink_steady = c.in_default-step.ensures.sink_faults.steady (λ e. cc) (λ e. cc) ∙ c.lines.invariant.sink_steady;
   disk_steady = c.in_default-step.ensures.disk_faults.steady (λ e. cc) (λ e. cc) ∙ c.lines.invariant.disk_steady;
   mode = c.in_default-step.ensures.same_mode ∙ c.lines.invariant.mode;
+  goes_on = c.in_default-step.ensures.goes_on refl;
 }
 
 pub returns-in-Some-clause-runs : goal.returns-in-Some-clause-runs

@@ -1,4 +1,4 @@
-use Rattle.std.proofs.Common.{◌≡◌, ◌+◌, ℕ, List, length, Some}
+use Rattle.std.proofs.Common.{◌≡◌, ◌+◌, ℕ, List, length, None, Some}
 use Rattle.vl_replay.specs.Reading.{HasRead, streams}
 use Rattle.vl_replay.specs.Represents.{Represents}
 use Rattle.vl_replay.specs.Runs.{script_of, outside}
@@ -21,6 +21,7 @@ invariant-lines g l =
       sink_steady : g.K.Sink.faults l.sink ≡ g.K.Sink.faults l.fn.sink;
       disk_steady : g.D.Watched.faults l.progress.replayer.disk ≡ g.D.Watched.faults l.fn.replayer.disk;
       mode : l.progress.on_fault ≡ l.fn.on_fault;
+      goes_on : l.progress.replayer.halted ≡ None;
     }
 
 abbrev pub decreases-lines : goal.decreases-lines

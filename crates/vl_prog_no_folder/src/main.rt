@@ -1,0 +1,17 @@
+//! The program with a file where its folder should be: its stored run prints `disk fault` and ends with status 3.
+#![tactic(auto)]
+
+use std::io;
+use std::process::ExitCode;
+use vl_cli::{Served, serve};
+use vl_folder::FolderDisk;
+use vl_io::{StdSink, StdSource};
+
+fn main(rt: HostRuntime) -> ExitCode {
+    let mut source = StdSource::new(rt.reader());
+    let mut sink = StdSink::new(io::writer(&rt));
+    let Served { exit, disk: _ } = serve(&rt, &mut source, &mut sink, |folder| {
+        FolderDisk::new(&rt, rt.alloc(), folder)
+    });
+    exit
+}
