@@ -4,8 +4,8 @@ use Rattle.std.proofs.lemmas.Bool.Decides.{nat_tests}
 use Rattle.std.specs.Prelude.{◌==◌}
 use Rattle.std.specs.List.{filter}
 use Rattle.std.specs.FinMap.{from_sorted}
-use Rattle.vl_model.specs.Keys.{Pairs, Writes}
-use Rattle.vl_model.specs.History.{with_commit}
+use Rattle.vl_model.specs.Keys.{Writes}
+use Rattle.vl_model.specs.History.{Past, with_commit}
 use Rattle.vl_model.specs.declared.change.Change.{Change}
 use Rattle.vl_layout.specs.LockHistory.{OpenTicket, is_of, closed, tickets_after, open_tickets, put_by, commits_of, history_of, last_layout, number_after, IsLegalStep, IsLegalFrom, session_of, entries_by, tickets_by}
 use Rattle.vl_layout.specs.declared.layout.Layout.{Layout}
@@ -54,7 +54,7 @@ commits_of-more [] e = refl
 commits_of-more (d ∷ es) e = ap (put_by d.step) (commits_of-more es e) ∙ put_by-append d.step (commits_of es) (put_by e.step [])
 
 -- a commit's step adds its writes to the history
-pub history_of-put : (base : Pairs) (number : ℕ) (es : List LockEntry) (session ticket at : ℕ) (writes : List (List ℕ × Change)) (l : Layout)
+pub history_of-put : (base : Past) (number : ℕ) (es : List LockEntry) (session ticket at : ℕ) (writes : List (List ℕ × Change)) (l : Layout)
     → history_of base number (es ++ record { step = Put session ticket at writes; layout = l } ∷ []) ≡ with_commit (history_of base number es) (from_sorted writes)
 history_of-put base number es session ticket at writes l =
     ap (λ (cs : List Writes). record { first = number; base = base; commits = cs }) (commits_of-more es (record { step = Put session ticket at writes; layout = l }))

@@ -186,7 +186,7 @@ planned l = plan_ruling l (at 4)
 
 abbrev installing : Layout → Option Job → Ruling InstallAnswer
 installing l None =
-    install_ruling l (at 4) (record { inputs = []; target = InPlace; base = []; floor = 0 }) []
+    install_ruling l (at 4) (record { inputs = []; target = InPlace; base = []; floor = 0; keep = 1 }) []
 installing l (Some job) = install_ruling l (at 4) job (outputs job)
 
 -- the deletion hides a value that nothing reads any more: both go

@@ -91,14 +91,14 @@ both_ways : (i d : Bool) → (i && not (i && d)) ≡ (i && not d)
 both_ways true d = refl
 both_ways false d = refl
 
-kept_from-marks : (inputs outside : List Entry) (floor : ℕ) (newer : List Entry) (ss : List Sourced)
-    → kept_inputs (marks_from inputs outside floor newer ss) ≡ kept_from inputs outside floor newer ss
-kept_from-marks inputs outside floor newer [] = refl
-kept_from-marks inputs outside floor newer (s ∷ ss) =
-    ap (λ b. if_so b s.1 (kept_inputs (marks_from inputs outside floor (s.1 ∷ newer) ss))) (both_ways s.0 (is_dropped inputs outside floor newer s.1))
-    ∙ ap (if_so (s.0 && not (is_dropped inputs outside floor newer s.1)) s.1) (kept_from-marks inputs outside floor (s.1 ∷ newer) ss)
+kept_from-marks : (keep : ℕ) (inputs outside : List Entry) (floor : ℕ) (newer : List Entry) (ss : List Sourced)
+    → kept_inputs (marks_from keep inputs outside floor newer ss) ≡ kept_from keep inputs outside floor newer ss
+kept_from-marks keep inputs outside floor newer [] = refl
+kept_from-marks keep inputs outside floor newer (s ∷ ss) =
+    ap (λ b. if_so b s.1 (kept_inputs (marks_from keep inputs outside floor (s.1 ∷ newer) ss))) (both_ways s.0 (is_dropped keep inputs outside floor newer s.1))
+    ∙ ap (if_so (s.0 && not (is_dropped keep inputs outside floor newer s.1)) s.1) (kept_from-marks keep inputs outside floor (s.1 ∷ newer) ss)
 
 -- what a job keeps of its inputs is what its marks keep of them
 pub kept-marks : (job : Job)
-    → kept_inputs (marks_from (sourced_inputs job.base) (sourced_outside job.base) job.floor [] job.base) ≡ kept job
-kept-marks job = kept_from-marks (sourced_inputs job.base) (sourced_outside job.base) job.floor [] job.base
+    → kept_inputs (marks_from job.keep (sourced_inputs job.base) (sourced_outside job.base) job.floor [] job.base) ≡ kept job
+kept-marks job = kept_from-marks job.keep (sourced_inputs job.base) (sourced_outside job.base) job.floor [] job.base

@@ -3,8 +3,8 @@
 use Rattle.std.specs.Prelude.{◌≡◌, ◌≢◌, ℕ, ◌+◌, ◌==◌, Bool, true, false, ◌&&◌, not, List, [], ◌∷◌, IsTrue}
 use Rattle.std.specs.List.{filter, list_any}
 use Rattle.std.specs.FinMap.{from_sorted, is_sorted}
-use Rattle.vl_model.specs.Keys.{Pairs, Writes, key_cmp}
-use Rattle.vl_model.specs.History.{History}
+use Rattle.vl_model.specs.Keys.{Writes, key_cmp}
+use Rattle.vl_model.specs.History.{Past, History}
 use Rattle.vl_layout.specs.declared.layout.Layout.{Layout}
 use Rattle.vl_layout.specs.declared.lock_history.LockEntry.{LockEntry}
 use Rattle.vl_layout.specs.declared.lock_history.LockStep.{LockStep}
@@ -50,7 +50,7 @@ commits_of [] = []
 commits_of (e ∷ es) = put_by e.step (commits_of es)
 
 -- the history whose commits are the writes of these steps, over what there was at a number
-abbrev pub history_of : Pairs → ℕ → List LockEntry → History
+abbrev pub history_of : Past → ℕ → List LockEntry → History
 history_of base number es = record { first = number; base = base; commits = commits_of es }
 
 -- the layout behind the last step; behind none the one at the start

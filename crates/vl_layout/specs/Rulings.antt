@@ -8,6 +8,7 @@ pub mod EndPass
 pub mod Flush
 pub mod Forget
 pub mod Install
+pub mod Keep
 pub mod Next
 pub mod Pick
 pub mod Plan

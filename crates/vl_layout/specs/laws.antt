@@ -1,6 +1,8 @@
--- Laws of the definitions beside this folder, which proofs in other crates cite. Nothing here is needed to read a contract.
 pub mod CommitShows
+pub mod FromLow
 pub mod LayoutShows
+pub mod LowRulings
+pub mod LowShows
 pub mod MergeShows
 pub mod OrderShows
 pub mod RelocationShows

@@ -19,6 +19,8 @@ pub struct Job {
     pub target: Target,
     pub base: LinkedList<(bool, Entry)>,
     pub floor: u64,
+    /// How many of the newest versions of a key it keeps.
+    pub keep: u8,
 }
 
 /// A job that is open, and each key that was relocated since it began, the latest first, with the

@@ -10,7 +10,9 @@ ghost use Rattle.vl_layout.specs.Garbage.{far_bytes, pointed_bytes, best_of, is_
 ghost use Rattle.vl_layout.specs.laws.LayoutShows.{ArePlaced};
 ghost use Rattle.vl_layout.specs.Logs.{memtable};
 ghost use Rattle.vl_layout.specs.laws.MergeShows.{Marked, AreJustified, all_of, kept_of, inputs_of, outside_of, marks, plain};
-ghost use Rattle.vl_layout.specs.Merging.{Sourced};
+ghost use Rattle.vl_layout.specs.Merging.{Sourced, inputs_of as sourced_inputs};
+ghost use Rattle.vl_layout.specs.laws.LowShows.{AreOf, Fits};
+ghost use Rattle.vl_model.specs.Versions.{low};
 ghost use Rattle.vl_layout.specs.laws.OrderShows.{of_key, Gathers};
 ghost use Rattle.vl_layout.specs.Relocation.{Pass, Candidate};
 ghost use Rattle.vl_layout.specs.laws.RulingShows.{ShowsRuled, IsThere};
@@ -88,16 +90,17 @@ pub fn shown_after_a_relocation()
         → ShowsRuled logs from (relocate_ruling l h pass batch) }
 {}
 
-/// What a merge leaves of the sources shows the same from its floor on: at once, and also later,
-/// where a rule drops now whatever it drops, and nothing that it keeps of its inputs is outdated.
+/// What a merge leaves of the sources shows the same from low on, at the floor, v and since that there
+/// are when it is put in place: where it keeps at least as many versions as are kept then, or its floor
+/// isn't above since.
 pub fn shown_after_a_merge()
-    ensures at_once { (logs : Logs) (ss : List Sourced) (floor : ℕ) (h : History) (from : List ℕ → ℕ) (to : ℕ)
-        → ((key : List ℕ) → floor ≤ from key)
-        → Shows logs (plain ss) h from to → Shows logs (kept_of (marks ss floor)) h from to }
-    ensures later { (logs : Logs) (ms : List Marked) (floor : ℕ) (h : History) (from : List ℕ → ℕ) (to : ℕ)
-        → ((key : List ℕ) → floor ≤ from key)
-        → AreJustified (inputs_of ms) (outside_of ms) floor [] ms → Shows logs (all_of ms) h from to
-        → Shows logs (kept_of ms) h from to }
+    ensures at_once { (logs : Logs) (keep : ℕ) (ss : List Sourced) (floor : ℕ) (h : History) (since to : ℕ)
+        → 1 ≤ keep → AreOf h (sourced_inputs ss) → Shows logs (plain ss) h (low h floor keep since) to
+        → Shows logs (kept_of (marks keep ss floor)) h (low h floor keep since) to }
+    ensures later { (logs : Logs) (ms : List Marked) (keep floor : ℕ) (h : History) (now v since to : ℕ)
+        → 1 ≤ keep → floor ≤ now → Fits keep floor v since → AreOf h (inputs_of ms)
+        → AreJustified keep (inputs_of ms) (outside_of ms) floor [] ms
+        → Shows logs (all_of ms) h (low h now v since) to → Shows logs (kept_of ms) h (low h now v since) to }
 {}
 
 /// What a table's footer says of a segment is the sum of the lengths of all records there that its

@@ -9,7 +9,7 @@ use Rattle.vl_model.specs.declared.counter.Counter.{Counter}
 use Rattle.vl_model.specs.declared.counter.Counter.TheVariants as counter
 use Rattle.vl_model.specs.declared.entry.Entry.{Entry}
 use Rattle.vl_layout.specs.Levels.{is_one, replaced}
-use Rattle.vl_layout.specs.Merging.{needless}
+use Rattle.vl_layout.specs.Merging.{needless, gone_after}
 use Rattle.vl_layout.specs.Sources.{tables}
 use Rattle.vl_layout.specs.Tables.{numbered}
 use Rattle.vl_layout.specs.Ruling.{Ruling, leaving, freed, switched, has_no_number, has_no_version}
@@ -51,6 +51,7 @@ installed l job output = switched (filter (is_one job.inputs) (tables l)) (recor
   next_table = l.next_table + length output;
   version_number = l.version_number + 1;
   job = None;
+  gone = gone_after l.gone (needless job);
 })
 
 -- what is left where the switch fails, but for the halt

@@ -30,7 +30,7 @@ sourced l inputs =
 -- the merge of these tables
 abbrev pub job_of : Layout → History → List Table → Target → Job
 job_of l h inputs target =
-    record { inputs = numbers_of inputs; target = target; base = sourced l (numbers_of inputs); floor = floor l h }
+    record { inputs = numbers_of inputs; target = target; base = sourced l (numbers_of inputs); floor = floor l h; keep = l.keep }
 
 abbrev pub with_job : Job → Layout → Layout
 with_job job l = record l { job = Some (record { job = job; pin = pin_of l; moved = [] }) }
