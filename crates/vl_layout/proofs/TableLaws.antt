@@ -8,7 +8,6 @@ use Rattle.vl_model.specs.Keys.{key_cmp}
 use Rattle.vl_model.specs.declared.entry.Entry.{Entry}
 use Rattle.vl_layout.specs.Levels.{is_one}
 use Rattle.vl_layout.specs.Logs.{memtable}
-use Rattle.vl_layout.specs.laws.MergeShows.{Marked, marks_from, plain}
 use Rattle.vl_layout.specs.Merging.{Sourced, if_so, inputs_of as sourced_inputs, outside_of as sourced_outside, is_dropped, kept_from, kept}
 use Rattle.vl_layout.specs.Rulings.Plan.{marked_as, sourced}
 use Rattle.vl_layout.specs.Sources.{sources, tables, table_entries}
@@ -18,6 +17,7 @@ use Rattle.vl_layout.specs.Tables.{full_table_bytes, tables_from, cut_into_table
 use Rattle.vl_layout.specs.declared.job.Job.{Job}
 use Rattle.vl_layout.specs.declared.layout.Layout.{Layout}
 use Rattle.vl_layout.specs.declared.table.Table.{Table}
+use Rattle.vl_layout.specs.Marks.{Marked, marks_from, plain}
 
 one_more : (open_part : List Entry) (e : Entry) (es : List Entry)
     → (open_part ++ e ∷ []) ++ es ≡ open_part ++ e ∷ es

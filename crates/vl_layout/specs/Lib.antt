@@ -4,10 +4,12 @@ pub mod laws
 pub mod Levels
 pub mod LockHistory
 pub mod Logs
+pub mod Marks
 pub mod Merging
 pub mod Relocation
 pub mod Ruling
 pub mod Rulings
+pub mod Shown
 pub mod Shows
 pub mod Sources
 pub mod Start

@@ -7,15 +7,10 @@ ghost use Rattle.vl_model.specs.Keys.{Stored};
 ghost use Rattle.vl_model.specs.Winners.{Logs, resolved};
 ghost use Rattle.vl_model.specs.declared.entry.Entry.{Entry};
 ghost use Rattle.vl_layout.specs.Garbage.{far_bytes, pointed_bytes, best_of, is_better as is_better_than};
-ghost use Rattle.vl_layout.specs.laws.LayoutShows.{ArePlaced};
 ghost use Rattle.vl_layout.specs.Logs.{memtable};
-ghost use Rattle.vl_layout.specs.laws.MergeShows.{Marked, AreJustified, all_of, kept_of, inputs_of, outside_of, marks, plain};
 ghost use Rattle.vl_layout.specs.Merging.{Sourced, inputs_of as sourced_inputs};
-ghost use Rattle.vl_layout.specs.laws.LowShows.{AreOf, Fits};
 ghost use Rattle.vl_model.specs.Versions.{low};
-ghost use Rattle.vl_layout.specs.laws.OrderShows.{of_key, Gathers};
 ghost use Rattle.vl_layout.specs.Relocation.{Pass, Candidate};
-ghost use Rattle.vl_layout.specs.laws.RulingShows.{ShowsRuled, IsThere};
 ghost use Rattle.vl_layout.specs.Rulings.Commit.{Transaction, commit_ruling};
 ghost use Rattle.vl_layout.specs.Rulings.Flush.{flush_ruling};
 ghost use Rattle.vl_layout.specs.Rulings.Relocate.{relocate_ruling};
@@ -29,6 +24,8 @@ ghost use Rattle.vl_layout.specs.declared.layout.Layout.{Layout};
 ghost use Rattle.vl_layout.specs.declared.segment.Segment.{Segment};
 ghost use Rattle.vl_layout.specs.declared.segment.SegmentStat.{SegmentStat};
 ghost use Rattle.vl_layout.specs.declared.table.Table.{Table};
+ghost use Rattle.vl_layout.specs.Shown.{ArePlaced, AreOf, Fits, of_key, Gathers, ShowsRuled, IsThere};
+ghost use Rattle.vl_layout.specs.Marks.{Marked, AreJustified, all_of, kept_of, inputs_of, outside_of, marks, plain};
 
 /// Where each entry stands for the one in whose place it is, the same is shown: as after a flush,
 /// or in other logs.

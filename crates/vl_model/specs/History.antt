@@ -1,5 +1,5 @@
 -- The accepted commits, oldest first, over a base: what each key has after each of them.
-use Rattle.std.specs.Prelude.{◌≡◌, ◌+◌, ◌-◌, ℕ, min, Bool, nat_le, List, [], ◌∷◌, length, take, map, Option, Some, None, ◌++◌}
+use Rattle.std.specs.Prelude.{◌≡◌, ◌+◌, ◌-◌, ℕ, min, nat_le, List, [], ◌∷◌, length, take, map, Option, Some, None, ◌++◌}
 use Rattle.std.specs.Option.{option_map}
 use Rattle.std.specs.List.{filter}
 use Rattle.std.specs.Ordering.{nat_cmp}

@@ -1,5 +1,5 @@
 -- How many of the newest versions of a key are kept.
-use Rattle.std.specs.Prelude.{ℕ, Bool, ◌==◌, ◌||◌, nat_lt, if◌then◌else◌, List, [], Option, Some, None}
+use Rattle.std.specs.Prelude.{ℕ, ◌==◌, ◌||◌, nat_lt, if◌then◌else◌, [], Option, Some, None}
 use Rattle.vl_model.specs.History.{History, last_number}
 use Rattle.vl_model.specs.Numbers.{since_kept}
 use Rattle.vl_layout.specs.Ruling.{Ruling, leaving}

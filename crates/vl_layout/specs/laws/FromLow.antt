@@ -1,9 +1,9 @@
 -- From the least number on at which a key can be read, a merge that keeps so many versions may be seen.
-use Rattle.std.proofs.Common.{◌≡◌, ◌⊎◌, inl, inr, ⊎_elim, ℕ, zero, suc, ◌+◌, ◌≤◌, ◌<◌, Bool, true, false, cond, ◌&&◌, ◌||◌, List, [], ◌∷◌, map, refl, ap, sym, ◌∙◌, subst, arith}
-use Rattle.std.proofs.lemmas.Bool.{and_parts, and_from, cases_Bool, cases_lt}
+use Rattle.std.proofs.Common.{◌≡◌, ◌⊎◌, ⊎_elim, ℕ, zero, suc, ◌+◌, ◌≤◌, ◌<◌, Bool, true, false, cond, ◌&&◌, ◌||◌, List, [], ◌∷◌, map, refl, ap, sym, ◌∙◌, subst, arith}
+use Rattle.std.proofs.lemmas.Bool.{and_parts, and_from, cases_lt}
 use Rattle.std.proofs.lemmas.Bool.Decides.{nat_tests}
-use Rattle.std.specs.Prelude.{min, max, Option, Some, None, nat_le, nat_lt, ◌==◌}
-use Rattle.std.specs.List.{AllByRecursion, list_any, filter}
+use Rattle.std.specs.Prelude.{min, Option, Some, None, nat_le, nat_lt, ◌==◌}
+use Rattle.std.specs.List.{list_any, filter}
 use Rattle.std.specs.Ordering.{eq_by_cmp}
 use Rattle.vl_model.specs.Keys.{key_cmp}
 use Rattle.vl_model.specs.Entries.{is_at}
@@ -12,12 +12,13 @@ use Rattle.vl_model.specs.laws.WinnerLaws.{same_key}
 use Rattle.vl_model.specs.declared.entry.Entry.{Entry}
 use Rattle.vl_layout.specs.laws.MergeShows.{IsIn, members}
 use Rattle.vl_layout.specs.laws.ShowsLaws.{is_at-itself}
-use Rattle.vl_model.specs.Numbers.{has, greatest_below, next_below, nth_below, at_least, low_of}
-use Rattle.vl_model.specs.laws.NumberLaws.{IsFound, AreAmong, AreRisen, greatest-found, greatest-reaches, nth-risen, nth-fewer_than}
+use Rattle.vl_model.specs.Numbers.{has, greatest_below, next_below, nth_below, at_least, low_of, AreAmong}
+use Rattle.vl_model.specs.laws.NumberLaws.{IsFound, AreRisen, greatest-found, greatest-reaches, nth-risen, nth-fewer_than}
 use Rattle.vl_model.specs.laws.NumberLaws as laws
 use Rattle.vl_model.specs.Versions.{versions_in}
 use Rattle.vl_layout.specs.Merging.{is_outdated}
-use Rattle.vl_layout.specs.laws.MergeShows.{IsPast, picked, counts_parts, true_false}
+use Rattle.vl_layout.specs.laws.MergeShows.{picked, counts_parts}
+use Rattle.vl_layout.specs.Marks.{IsPast}
 
 -- a version stands among those of a key exactly where an entry of both does
 pub has-versions_in : (key : List ℕ) (version : ℕ) (es : List Entry)

@@ -1,32 +1,29 @@
 -- Whatever a call answers, what is left shows from low on at the floor, v and since that are left.
-use Rattle.std.proofs.Common.{◌≡◌, ℕ, ◌+◌, ◌≤◌, Bool, true, false, not, List, [], ◌∷◌, ◌++◌, length, refl, ap, sym, ◌∙◌, subst, arith, length-append}
-use Rattle.std.specs.Prelude.{Option, Some, None, nat_le, nat_lt, ◌==◌, ◌||◌, if◌then◌else◌, min}
+use Rattle.std.proofs.Common.{◌≡◌, ℕ, ◌+◌, ◌≤◌, Bool, true, false, not, List, [], ◌∷◌, ◌++◌, refl, ap, sym, ◌∙◌, subst, arith}
+use Rattle.std.specs.Prelude.{Option, Some, None, nat_le, ◌==◌, if◌then◌else◌}
 use Rattle.std.specs.List.{AllByRecursion, filter}
 use Rattle.std.specs.FinMap.{len}
 use Rattle.vl_model.specs.Conflicts.{Named, first_conflict}
 use Rattle.vl_model.specs.Frames.{frame_length}
 use Rattle.vl_model.specs.History.{History, Extends, last_number, with_commit}
 use Rattle.vl_model.specs.laws.HistoryLaws.{with_commit-extends}
-use Rattle.vl_model.specs.Limits.{max_commit_number, max_live}
+use Rattle.vl_model.specs.Limits.{max_commit_number}
 use Rattle.vl_model.specs.Winners.{Logs}
-use Rattle.vl_model.specs.Numbers.{since_kept}
 use Rattle.vl_model.specs.Versions.{low}
 use Rattle.vl_model.specs.declared.log_frame.LogFrame.{LogFrame}
 use Rattle.vl_model.specs.declared.log_frame.LogFrame.TheVariants.{Relocated}
 use Rattle.vl_model.specs.declared.log_frame.Moved.{Moved}
-use Rattle.vl_model.specs.declared.entry.Entry.{Entry}
-use Rattle.vl_layout.specs.laws.LayoutShows.{ArePlaced}
 use Rattle.vl_layout.specs.Logs.{memtable}
 use Rattle.vl_layout.specs.laws.LowShows.{shows_later, shows_keep, low_up, floor-up, floor-rises, floor-begun}
 use Rattle.vl_layout.specs.Relocation.{Pass, Candidate, moved_of}
-use Rattle.vl_layout.specs.Ruling.{Ruling, leaving, ended, has_no_number, has_no_version}
-use Rattle.vl_layout.specs.Rulings.Begin.{begun, free_ticket, begin_ruling}
-use Rattle.vl_layout.specs.Rulings.Commit.{Transaction, committed, commit_ended, commit_checked, commit_running, commit_unless, commit_ruling, commit_frame}
+use Rattle.vl_layout.specs.Ruling.{Ruling, ended, has_no_number, has_no_version}
+use Rattle.vl_layout.specs.Rulings.Begin.{begun}
+use Rattle.vl_layout.specs.Rulings.Commit.{Transaction, committed, commit_checked, commit_running, commit_unless, commit_ruling, commit_frame}
 use Rattle.vl_layout.specs.Rulings.Flush.{flushed, flush_of, flush_unless, flush_ruling}
-use Rattle.vl_layout.specs.Rulings.Keep.{keeping, keep_unless, keep_ruling}
+use Rattle.vl_layout.specs.Rulings.Keep.{keeping}
 use Rattle.vl_layout.specs.Rulings.Relocate.{relocated, relocate_of, relocate_unless, relocate_ruling}
 use Rattle.vl_layout.specs.Rulings.Rotate.{rotated, rotate_of, rotate_unless, rotate_ruling}
-use Rattle.vl_layout.specs.laws.RulingShows.{ShowsRuled, IsThere, commit_ruling-shows, rotate_ruling-shows, flush_ruling-shows, relocate_ruling-shows}
+use Rattle.vl_layout.specs.laws.RulingShows.{commit_ruling-shows, rotate_ruling-shows, flush_ruling-shows, relocate_ruling-shows}
 use Rattle.vl_layout.specs.Shows.{Shows, AreUpTo}
 use Rattle.vl_layout.specs.Sources.{sources, floor, oldest}
 use Rattle.vl_layout.specs.declared.file_name.FileName.{FileName}
@@ -34,13 +31,7 @@ use Rattle.vl_layout.specs.declared.layout.Layout.{Layout}
 use Rattle.vl_layout.specs.declared.live.Live.{Live}
 use Rattle.vl_layout.specs.declared.segment.Segment.{Segment}
 use Rattle.vl_layout.specs.declared.table.Table.{Table}
-
--- from which number on the key can be read
-abbrev pub low_at : Layout → History → List ℕ → ℕ
-low_at l h key = low h (floor l h) l.keep l.since key
-
-abbrev pub ShowsLow : Logs → Layout → History → Type 0
-ShowsLow logs l h = Shows logs (sources l) h (low_at l h) (last_number h)
+use Rattle.vl_layout.specs.Shown.{ArePlaced, IsThere, low_at, ShowsLow}
 
 -- the same history or one with more commits, no lower floor, and the same v and since
 pub record IsLater (h : History) (l : Layout) (h' : History) (l' : Layout) : Type 0 where

@@ -1,25 +1,25 @@
 -- What is shown from low on: each step that leaves the sources showing keeps it, whatever floor there is then.
-use Rattle.std.proofs.Common.{◌≡◌, ◌⊎◌, inl, inr, ⊎_elim, ℕ, ◌+◌, ◌≤◌, ◌<◌, Bool, true, false, cond, not, List, [], ◌∷◌, refl, ap, sym, ◌∙◌, subst, arith}
-use Rattle.std.specs.Prelude.{min, nat_lt, Option, Some, None}
+use Rattle.std.proofs.Common.{◌≡◌, ◌⊎◌, inl, inr, ⊎_elim, ℕ, ◌≤◌, Bool, true, false, cond, List, [], ◌∷◌, refl, ap, sym, ◌∙◌, subst, arith}
+use Rattle.std.specs.Prelude.{nat_lt, Some}
 use Rattle.std.proofs.lemmas.Bool.Decides.{nat_tests}
-use Rattle.std.specs.List.{AllByRecursion, filter}
-use Rattle.vl_model.specs.Keys.{Writes}
+use Rattle.std.specs.List.{filter}
 use Rattle.vl_model.specs.History.{History, Extends, last_number, value_at}
 use Rattle.vl_model.specs.laws.HistoryLaws.{last_number-extends}
 use Rattle.vl_model.specs.Winners.{Logs, winner, resolved_at}
 use Rattle.vl_model.specs.declared.entry.Entry.{Entry}
-use Rattle.vl_layout.specs.laws.MergeShows.{Marked, all_of, kept_of, inputs_of, outside_of}
 use Rattle.vl_layout.specs.Merging.{Sourced, inputs_of as sourced_inputs}
 use Rattle.vl_layout.specs.Shows.{Shows}
 use Rattle.vl_layout.specs.Sources.{floor, least_number}
 use Rattle.vl_layout.specs.declared.layout.Layout.{Layout}
 use Rattle.vl_layout.specs.declared.live.Live.{Live}
-use Rattle.vl_model.specs.Numbers.{low_of, since_kept}
-use Rattle.vl_model.specs.laws.NumberLaws.{AreAmong, low-floor, low-rises, low-kept}
-use Rattle.vl_model.specs.Versions.{versions, versions_in, low}
+use Rattle.vl_model.specs.Numbers.{since_kept}
+use Rattle.vl_model.specs.laws.NumberLaws.{low-floor, low-rises, low-kept}
+use Rattle.vl_model.specs.Versions.{versions, low}
 use Rattle.vl_model.specs.laws.VersionLaws.{versions-stay}
-use Rattle.vl_layout.specs.laws.MergeShows.{AreJustified, IsPast, shows_installed, shows_merged, plain, marks}
+use Rattle.vl_layout.specs.laws.MergeShows.{shows_installed, shows_merged}
 use Rattle.vl_layout.specs.laws.FromLow.{past_low}
+use Rattle.vl_layout.specs.Marks.{Marked, all_of, kept_of, inputs_of, outside_of, AreJustified, plain, marks}
+use Rattle.vl_layout.specs.Shown.{AreOf, Fits}
 
 -- what is shown is shown from a greater number on
 pub shows_from : (logs : Logs) (es : List Entry) (h : History) (from from' : List ℕ → ℕ) (to : ℕ)
@@ -58,10 +58,6 @@ pub shows_keep : (logs : Logs) (es : List Entry) (h : History) (f keep since v t
 shows_keep logs es h f keep since v to le =
     shows_from logs es h (low h f keep since) (low h f v (since_kept (last_number h) keep since v)) to
     (λ key. low-kept (versions h key) f (last_number h) keep since v le)
-
--- the entries' versions are versions of the history
-abbrev pub AreOf : History → List Entry → Type 0
-AreOf h es = (key : List ℕ) → AreAmong (versions_in es key) (versions h key)
 
 -- a merge that is put in place, at once or later, where v and the floor may be others by then
 pub shows_merge : (logs : Logs) (ms : List Marked) (keep at : ℕ) → 1 ≤ keep → (h : History) (f v since to : ℕ)
@@ -125,10 +121,6 @@ floor-begun l l' h x at live =
     ap (λ (xs : List Live). least_number (last_number h) xs) live ∙ (omega (arith, u, at))
 
 -- ---- what an open job asks of v and since
-
--- it keeps as many versions as are kept now, or its floor isn't above since
-abbrev pub Fits : (keep at v since : ℕ) → Type 0
-Fits keep at v since = (v ≤ keep) ⊎ (at ≤ since)
 
 pub fits-planned : (v since at : ℕ) → Fits v at v since
 fits-planned v since at = inl (omega arith)

@@ -1,6 +1,6 @@
 -- What a merge that keeps so many versions leaves of the sources shows what they showed, also from below its
 -- floor, and also where it is put in their place later than it was planned.
-use Rattle.std.proofs.Common.{◌≡◌, ◌⊎◌, inl, inr, ⊎_elim, ℕ, zero, suc, ◌≤◌, ◌<◌, Bool, true, false, not, ◌&&◌, ◌||◌, List, [], ◌∷◌, refl, ap, sym, ◌∙◌, subst, arith}
+use Rattle.std.proofs.Common.{◌≡◌, ◌⊎◌, inl, inr, ⊎_elim, ℕ, ◌≤◌, ◌<◌, Bool, true, false, not, ◌&&◌, ◌||◌, List, [], ◌∷◌, refl, ap, sym, ◌∙◌, subst, arith}
 use Rattle.std.proofs.lemmas.Bool.{and_parts, and_from, cases_Bool, cases_lt}
 use Rattle.std.proofs.lemmas.Bool.Decides.{nat_tests}
 use Rattle.std.specs.Prelude.{Option, Some, None, nat_le, nat_lt, ◌==◌}
@@ -18,41 +18,7 @@ use Rattle.vl_layout.specs.Merging.{Sourced, if_so, inputs_of as sourced_inputs,
 use Rattle.vl_layout.specs.laws.RelocationShows.{Has, Reaches, winner_has, winner_reaches}
 use Rattle.vl_layout.specs.Shows.{Shows, Meaning, Means, times}
 use Rattle.vl_layout.specs.laws.ShowsLaws.{shows_as, is_at-itself}
-
--- an entry of the sources: whether an input of the merge has it, and whether it is kept
-pub record Marked : Type 0 where
-  pub input : Bool
-  pub kept : Bool
-  pub entry : Entry
-
-abbrev pub all_of : List Marked → List Entry
-all_of [] = []
-all_of (m ∷ ms) = m.entry ∷ all_of ms
-
--- what is left
-abbrev pub kept_of : List Marked → List Entry
-kept_of [] = []
-kept_of (m ∷ ms) = if_so m.kept m.entry (kept_of ms)
-
-abbrev pub inputs_of : List Marked → List Entry
-inputs_of [] = []
-inputs_of (m ∷ ms) = if_so m.input m.entry (inputs_of ms)
-
-abbrev pub outside_of : List Marked → List Entry
-outside_of [] = []
-outside_of (m ∷ ms) = if_so (not m.input) m.entry (outside_of ms)
-
-module _ (keep : ℕ) (inputs outside : List Entry) (floor : ℕ) where
-  -- what is dropped stands in an input, and one of the three rules drops it now; what is kept of an
-  -- input isn't outdated
-  pub record IsJustified (newer : List Entry) (m : Marked) : Type 0 where
-    pub drops : m.kept ≡ false
-        → (m.input ≡ true) × (is_dropped keep inputs outside floor newer m.entry ≡ true)
-    pub keeps : m.kept ≡ true → m.input ≡ true → is_outdated keep inputs floor m.entry ≡ false
-
-  abbrev pub AreJustified : List Entry → List Marked → Type 0
-  AreJustified newer [] = Unit {0}
-  AreJustified newer (m ∷ ms) = IsJustified newer m × AreJustified (m.entry ∷ newer) ms
+use Rattle.vl_layout.specs.Marks.{Marked, all_of, kept_of, inputs_of, outside_of, plain, marks_from, marks, IsJustified, AreJustified, IsPast}
 
 -- ---- one of them
 
@@ -234,13 +200,6 @@ counts_parts key number e counted =
     let both = and_parts _ _ counted in
     let le : e.version ≤ number = grind (arith, nat_tests, both.1) in
     (same_key key e.key both.0, le)
-
--- At this number a merge may be seen: what it outdates is behind another of the key that counts there, and where
--- it may drop deletions the number isn't below its floor.
-pub record IsPast (keep : ℕ) (inputs : List Entry) (floor : ℕ) (key : List ℕ) (number : ℕ) : Type 0 where
-  pub outdates : (e : Entry) → e.key ≡ key → is_outdated keep inputs floor e ≡ true
-      → list_any (λ (f : Entry). counts key number f && nat_lt e.version f.version) inputs ≡ true
-  pub needs : keep ≡ 1 → floor ≤ number
 
 module _ (keep : ℕ) (logs : Logs) (meaning : Meaning) (ms : List Marked) (floor : ℕ) (resolves : AllByRecursion (Means logs meaning) (all_of ms))
     (justified : AreJustified keep (inputs_of ms) (outside_of ms) floor [] ms) (key : List ℕ) (number : ℕ) (past : IsPast keep (inputs_of ms) floor key number) where
@@ -425,19 +384,6 @@ shows_installed keep logs ms floor h from to past justified shows =
     (λ key version. times-kept key version ms)
 
 -- ---- the marks of a plan over the sources that it was made of
-
-abbrev pub plain : List Sourced → List Entry
-plain [] = []
-plain (s ∷ ss) = s.1 ∷ plain ss
-
-abbrev pub marks_from : ℕ → List Entry → List Entry → ℕ → List Entry → List Sourced → List Marked
-marks_from keep inputs outside floor newer [] = []
-marks_from keep inputs outside floor newer (s ∷ ss) =
-    record { input = s.0; kept = not (s.0 && is_dropped keep inputs outside floor newer s.1); entry = s.1 } ∷ marks_from keep inputs outside floor (s.1 ∷ newer) ss
-
--- what a merge of these sources keeps of its inputs, and all that is outside them
-abbrev pub marks : ℕ → List Sourced → ℕ → List Marked
-marks keep ss floor = marks_from keep (sourced_inputs ss) (sourced_outside ss) floor [] ss
 
 module _ (keep : ℕ) (inputs outside : List Entry) (floor : ℕ) where
   all_of-marks : (newer : List Entry) (ss : List Sourced)

@@ -24,7 +24,7 @@ use Rattle.vl_model.specs.declared.log_frame.LogFrame.TheVariants.{Relocated}
 use Rattle.vl_model.specs.declared.log_frame.Moved.{Moved}
 use Rattle.vl_model.specs.declared.pointer.Pointer.{Pointer}
 use Rattle.vl_model.specs.declared.counter.Counter.TheVariants as counter
-use Rattle.vl_layout.specs.laws.LayoutShows.{ArePlaced, AreShown, sources-rotated, commit_shows, flush_shows, relocate_shows}
+use Rattle.vl_layout.specs.laws.LayoutShows.{AreShown, sources-rotated, commit_shows, flush_shows, relocate_shows}
 use Rattle.vl_layout.specs.Logs.{memtable}
 use Rattle.vl_layout.specs.Relocation.{Pass, Candidate, is_moved, moved_of}
 use Rattle.vl_layout.specs.Ruling.{Ruling, leaving, StepAnswer, Stepped, Exhausted as NoNumber, has_no_number, has_no_version}
@@ -38,10 +38,7 @@ use Rattle.vl_layout.specs.declared.file_name.FileName.{FileName}
 use Rattle.vl_layout.specs.declared.layout.Layout.{Layout}
 use Rattle.vl_layout.specs.declared.segment.Segment.{Segment}
 use Rattle.vl_layout.specs.declared.table.Table.{Table}
-
--- the layout that a ruling leaves shows the history that it leaves, up to the last number
-abbrev pub ShowsRuled : {A : Type 0} → Logs → (List ℕ → ℕ) → Ruling A → Type 0
-ShowsRuled logs from r = Shows logs (sources r.layout) r.history from (last_number r.history)
+use Rattle.vl_layout.specs.Shown.{ArePlaced, ShowsRuled, IsThere}
 
 either : {A : Type 0} (logs : Logs) (from : List ℕ → ℕ) (b : Bool) (x y : Ruling A)
     → ShowsRuled logs from x → ShowsRuled logs from y → ShowsRuled logs from (if b then x else y)
@@ -122,10 +119,6 @@ module _ (logs : Logs) (from : List ℕ → ℕ) (l : Layout) (h : History) (sho
   flush_ruling-shows = flush_unless-shows l.halted
 
 -- ---- a relocation
-
--- in the logs nothing but its value stands where the candidate was found
-abbrev pub IsThere : Logs → ℕ → Candidate → Type 0
-IsThere logs segment c = (p : Pointer) (value : Stored) → p.segment ≡ segment → p.place ≡ c.place → logs p c.moved.key ≡ Some value → value ≡ c.moved.value
 
 module _ (logs : Logs) (meaning : Meaning) (segment : ℕ) (c : Candidate) (there : IsThere logs segment c) where
   abbrev IsShown : List Entry → Type 0

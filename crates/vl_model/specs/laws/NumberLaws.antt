@@ -1,10 +1,9 @@
 -- Laws of the greatest numbers below a bound, and of the least number that can be read.
-use Rattle.std.proofs.Common.{◌≡◌, ◌⊎◌, inl, inr, ⊎_elim, ℕ, zero, suc, ◌+◌, ◌≤◌, ◌<◌, Bool, true, false, cond, ◌&&◌, ◌||◌, List, [], ◌∷◌, refl, ap, sym, ◌∙◌, subst, arith}
-use Rattle.std.proofs.lemmas.Bool.{cases_Bool, cases_lt}
+use Rattle.std.proofs.Common.{◌≡◌, ⊎_elim, ℕ, zero, suc, ◌+◌, ◌≤◌, ◌<◌, Bool, true, false, cond, ◌||◌, List, [], ◌∷◌, refl, ap, sym, ◌∙◌, subst, arith}
+use Rattle.std.proofs.lemmas.Bool.{cases_lt}
 use Rattle.std.proofs.lemmas.Bool.Decides.{nat_tests}
 use Rattle.std.specs.Prelude.{min, max, Option, Some, None, nat_le, nat_lt, ◌==◌}
-use Rattle.std.specs.List.{list_any}
-use Rattle.vl_model.specs.Numbers.{has, greater, greatest_below, next_below, nth_below, at_least, low_of, since_kept}
+use Rattle.vl_model.specs.Numbers.{has, greater, greatest_below, next_below, nth_below, at_least, low_of, since_kept, AreAmong}
 
 abbrev pub Reaches : ℕ → Option ℕ → Type 0
 Reaches m None = ⊥
@@ -13,10 +12,6 @@ Reaches m (Some n) = m ≤ n
 abbrev pub IsFound : ℕ → List ℕ → Option ℕ → Type 0
 IsFound bound numbers None = Unit {0}
 IsFound bound numbers (Some n) = (n < bound) × (has n numbers ≡ true)
-
--- each of the one is one of the other
-abbrev pub AreAmong : List ℕ → List ℕ → Type 0
-AreAmong some all = (n : ℕ) → has n some ≡ true → has n all ≡ true
 
 has_first : (n : ℕ) (ns : List ℕ) → has n (n ∷ ns) ≡ true
 has_first n ns = let same : (n == n) ≡ true = grind (arith, nat_tests) in ap (λ b. b || has n ns) same

@@ -1,14 +1,12 @@
 -- Laws of the versions of a history: they stay, none is above the last number, and a commit has its own.
-use Rattle.std.proofs.Common.{◌≡◌, ◌⊎◌, inl, inr, ⊎_elim, ℕ, zero, suc, ◌+◌, ◌≤◌, ◌<◌, Bool, true, false, cond, ◌&&◌, ◌||◌, List, [], ◌∷◌, ◌++◌, length, map, refl, ap, sym, ◌∙◌, subst, arith, append_assoc}
+use Rattle.std.proofs.Common.{◌≡◌, ℕ, ◌+◌, ◌≤◌, Bool, true, false, cond, ◌||◌, List, [], ◌∷◌, ◌++◌, length, map, refl, ap, sym, ◌∙◌, subst, arith, append_assoc}
 use Rattle.std.proofs.lemmas.Bool.Decides.{nat_tests}
-use Rattle.std.specs.Prelude.{Option, Some, None, nat_le, is_some, ◌==◌}
-use Rattle.std.specs.List.{filter, list_any, AllByRecursion}
+use Rattle.std.specs.Prelude.{nat_le, is_some, ◌==◌}
+use Rattle.std.specs.List.{filter, AllByRecursion}
 use Rattle.std.specs.FinMap.{get, entries}
 use Rattle.vl_model.specs.Keys.{Writes}
 use Rattle.vl_model.specs.History.{History, Past, Extends, last_number, with_commit}
-use Rattle.vl_model.specs.laws.HistoryLaws.{with_commit-extends}
-use Rattle.vl_model.specs.Numbers.{has}
-use Rattle.vl_model.specs.laws.NumberLaws.{AreAmong}
+use Rattle.vl_model.specs.Numbers.{has, AreAmong}
 use Rattle.vl_model.specs.Versions.{Numbered, numbered, all_numbered, naming, versions}
 
 pub has-append : (n : ℕ) (xs ys : List ℕ) → has n (xs ++ ys) ≡ (has n xs || has n ys)
