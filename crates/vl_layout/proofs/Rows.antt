@@ -1,5 +1,5 @@
 -- Worked rows of maintenance, which hold by computing: each is what a script prints.
-use Rattle.std.proofs.Common.{◌≡◌, ℕ, List, [], ◌∷◌, map, length, refl}
+use Rattle.std.proofs.Common.{◌≡◌, ℕ, List, [], ◌∷◌, ◌++◌, map, length, refl}
 use Rattle.std.specs.Prelude.{Option, Some, None, replicate}
 use Rattle.std.specs.FinMap.{empty}
 use Rattle.vl_model.specs.Keys.{Stored}
@@ -17,9 +17,12 @@ use Rattle.vl_layout.specs.Relocation.{Pass, Candidate}
 use Rattle.vl_layout.specs.Sources.{sources, tables}
 use Rattle.vl_layout.specs.Start.{fresh_layout}
 use Rattle.vl_layout.specs.Ruling.{Ruling, Stepped, logged}
+use Rattle.vl_layout.specs.Jobs.{Made, nothing_made, tables_made}
+use Rattle.vl_layout.specs.Rulings.Abandon.{abandon_ruling}
 use Rattle.vl_layout.specs.Rulings.Begin.{begin_ruling}
 use Rattle.vl_layout.specs.Rulings.Drain.{drain_ruling}
 use Rattle.vl_layout.specs.Rulings.Flush.{flush_ruling}
+use Rattle.vl_layout.specs.Rulings.Fresh.{fresh_ruling}
 use Rattle.vl_layout.specs.Rulings.Install.{InstallAnswer, Installed, Raced, install_ruling}
 use Rattle.vl_layout.specs.Rulings.Next.{next_ruling}
 use Rattle.vl_layout.specs.Rulings.Pick.{PickAnswer, Picked, InvalidRequest, Rejected, NoRewrite, pick_ruling}
@@ -29,7 +32,7 @@ use Rattle.vl_layout.specs.Rulings.Relocate.{MoveAnswer, Moves, relocate_ruling}
 use Rattle.vl_layout.specs.Rulings.EndPass.{end_pass_ruling}
 use Rattle.vl_layout.specs.Rulings.Rotate.{rotate_ruling}
 use Rattle.vl_layout.specs.Rulings.Stats.{stats_ruling}
-use Rattle.vl_layout.specs.Rulings.Sweep.{SweepAnswer, Removed, sweep_ruling}
+use Rattle.vl_layout.specs.Rulings.Sweep.{SweepAnswer, Removed, sweep_ruling, sweep_to_ruling}
 use Rattle.vl_layout.specs.declared.file_name.FileName.TheVariants.{Log, Table as TableFile}
 use Rattle.vl_layout.specs.declared.job.Job.{Job}
 use Rattle.vl_layout.specs.declared.job.Target.TheVariants.{InPlace}
@@ -184,10 +187,24 @@ kept_of (Some job) = kept job
 abbrev planned : Layout → Ruling (Option Job)
 planned l = plan_ruling l (at 4)
 
-abbrev installing : Layout → Option Job → Ruling InstallAnswer
-installing l None =
-    install_ruling l (at 4) (record { inputs = []; target = InPlace; base = []; floor = 0; keep = 1 }) []
-installing l (Some job) = install_ruling l (at 4) job (outputs job)
+-- the tables of a merge, each drawn in turn; and how many calls that made
+abbrev drawn_for : Layout → List (List Entry) → List ℕ → Layout × List ℕ
+drawn_for l [] numbers = (l, numbers)
+drawn_for l (es ∷ output) numbers = drawn_for (fresh_ruling l (at 4)).layout output (numbers ++ l.next_table ∷ [])
+
+abbrev made_by : Job → List ℕ → Made
+made_by job numbers = record { tables = tables_made numbers (outputs job); leavings = [] }
+
+-- a job that was planned, with its files
+abbrev filled : Layout → Option Job → Layout × Option (Job × Made)
+filled l None = (l, None)
+filled l (Some job) =
+    let files = drawn_for l (outputs job) [] in
+    (files.0, Some (job, made_by job files.1))
+
+abbrev installing : Layout × Option (Job × Made) → Ruling InstallAnswer
+installing (l, None) = install_ruling l (at 4) (record { inputs = []; target = InPlace; base = []; floor = 0; keep = 1 }) nothing_made
+installing (l, Some work) = install_ruling l (at 4) work.0 work.1
 
 -- the deletion hides a value that nothing reads any more: both go
 both_dropped : map (λ (e : Entry). e.key) (kept_of (planned four).answer) ≡
@@ -206,42 +223,58 @@ four_pass = pass_of (picked four 4).answer
 abbrev four_picked : Layout
 four_picked = (picked four 4).layout
 
+abbrev planned_four : Layout × Option (Job × Made)
+planned_four = filled (planned four_picked).layout (planned four_picked).answer
+
 abbrev four_moved : Ruling MoveAnswer
-four_moved = moving (planned four_picked).layout 4 four_pass (found four_pass)
+four_moved = moving planned_four.0 4 four_pass (found four_pass)
 
 moved_meanwhile : (four_pass.segment ≡ 1) × (four_moved.answer ≡ Moves 1)
 moved_meanwhile = (refl, refl)
 
-abbrev first_job : Option Job
-first_job = (planned four_picked).answer
+abbrev raced_install : Ruling InstallAnswer
+raced_install = installing (four_moved.layout, planned_four.1)
 
-raced : (installing four_moved.layout first_job).answer ≡ Raced (0x61 ∷ []) 9
+raced : raced_install.answer ≡ Raced (0x61 ∷ []) 9
 raced = refl
 
-abbrev after_race : Layout
-after_race = (installing four_moved.layout first_job).layout
+abbrev after_race : Layout × Option (Job × Made)
+after_race = filled (planned raced_install.layout).layout (planned raced_install.layout).answer
 
-deletion_kept : map (λ (e : Entry). e.key) (kept_of (planned after_race).answer) ≡
+deletion_kept : map (λ (e : Entry). e.key) (kept_of (planned raced_install.layout).answer) ≡
     (0x63 ∷ []) ∷ (0x62 ∷ []) ∷ (0x61 ∷ []) ∷ []
 deletion_kept = refl
 
 abbrev after_install : Ruling InstallAnswer
-after_install = installing (planned after_race).layout (planned after_race).answer
+after_install = installing after_race
 
-second_installed : (after_install.answer ≡ Installed) × (after_install.calls ≡ 5)
+second_installed : (after_install.answer ≡ Installed) × (after_install.calls ≡ 2)
 second_installed = (refl, refl)
 
--- logs 1 to 4 and tables 1 to 4 go, once the pass has ended
+-- logs 1 to 4, tables 1 to 4, and the table of the merge that raced, go once the pass has ended
 abbrev revival_swept : Ruling SweepAnswer
-revival_swept = sweep_ruling (end_pass_ruling after_install.layout (at 4)).layout (at 4)
+revival_swept = sweep_ruling (end_pass_ruling after_install.layout (at 4) four_pass).layout (at 4)
 
-eight_go : (revival_swept.answer ≡ Removed 8) × (map (λ (t : Table). t.number) (tables revival_swept.layout) ≡ 5 ∷ [])
-eight_go = (refl, refl)
+nine_go : (revival_swept.answer ≡ Removed 9) × (map (λ (t : Table). t.number) (tables revival_swept.layout) ≡ 6 ∷ [])
+nine_go = (refl, refl)
+
+-- ---- a merge that is given up
+
+abbrev planned_plain : Layout × Option (Job × Made)
+planned_plain = filled (planned four).layout (planned four).answer
+
+abbrev given_up : Layout × Option (Job × Made) → Layout
+given_up (l, None) = l
+given_up (l, Some work) = (abandon_ruling l (at 4) work.1).layout
+
+-- logs 2 to 4, and its table
+four_go : (sweep_ruling (given_up planned_plain) (at 4)).answer ≡ Removed 4
+four_go = refl
 
 -- ---- a batch that came too late
 
 abbrev merged_first : Layout
-merged_first = (installing (planned four_picked).layout first_job).layout
+merged_first = (installing planned_four).layout
 
 stale_batch : (moving merged_first 4 four_pass (found four_pass)).answer ≡ Moves 0
 stale_batch = refl
@@ -253,7 +286,7 @@ shadowed_pass = pass_of (picked first_version 1).answer
 
 abbrev shadowed : Layout
 shadowed =
-    (end_pass_ruling (moving (picked first_version 1).layout 1 shadowed_pass (found shadowed_pass)).layout (at 1)).layout
+    (end_pass_ruling (moving (picked first_version 1).layout 1 shadowed_pass (found shadowed_pass)).layout (at 1) shadowed_pass).layout
 
 not_retired : (sweep_ruling shadowed (at 1)).answer ≡ Removed 0
 not_retired = refl
@@ -262,7 +295,7 @@ abbrev drained : Ruling (Option Job)
 drained = drain_ruling shadowed (at 1) 1
 
 abbrev drain_installed : Ruling InstallAnswer
-drain_installed = installing drained.layout drained.answer
+drain_installed = installing (filled drained.layout drained.answer)
 
 nothing_kept : (kept_of drained.answer ≡ []) × (drain_installed.calls ≡ 2)
 nothing_kept = (refl, refl)
@@ -277,7 +310,11 @@ pinned = (begin_ruling shadowed (at 1)).layout
 
 abbrev pinned_drained : Layout
 pinned_drained =
-    (installing (drain_ruling pinned (at 1) 1).layout (drain_ruling pinned (at 1) 1).answer).layout
+    (installing (filled (drain_ruling pinned (at 1) 1).layout (drain_ruling pinned (at 1) 1).answer)).layout
 
-pinned_stay : ((sweep_ruling pinned_drained (at 1)).answer ≡ Removed 0) × ((sweep_ruling (release_ruling pinned_drained (at 1) 0).layout (at 1)).answer ≡ Removed 2)
+pinned_stay : ((sweep_ruling pinned_drained (at 1)).answer ≡ Removed 0) × ((sweep_ruling (release_ruling pinned_drained (at 1) (record { ticket = 0; number = 1 })).layout (at 1)).answer ≡ Removed 2)
 pinned_stay = (refl, refl)
+
+-- what others may still look at stays too
+held_stay : ((sweep_to_ruling drain_installed.layout (at 1) 3).answer ≡ Removed 0) × ((sweep_to_ruling drain_installed.layout (at 1) 4).answer ≡ Removed 2)
+held_stay = (refl, refl)

@@ -1,6 +1,6 @@
 -- Tables hold the entries of their merge, all and in order; and what a job began with are the
 -- sources of its layout.
-use Rattle.std.proofs.Common.{◌≡◌, ℕ, ◌+◌, Bool, true, false, not, ◌&&◌, List, [], ◌∷◌, ◌++◌, refl, ap, ◌∙◌, append_assoc}
+use Rattle.std.proofs.Common.{◌≡◌, ℕ, ◌+◌, Bool, true, false, not, ◌&&◌, List, [], ◌∷◌, ◌++◌, length, refl, ap, ◌∙◌, append_assoc, arith}
 use Rattle.std.specs.Prelude.{nat_le, if◌then◌else◌}
 use Rattle.std.specs.List.{flat_map}
 use Rattle.std.specs.Ordering.{eq_by_cmp}
@@ -13,7 +13,8 @@ use Rattle.vl_layout.specs.Rulings.Plan.{marked_as, sourced}
 use Rattle.vl_layout.specs.Sources.{sources, tables, table_entries}
 use Rattle.vl_block.specs.laws.CuttingLaws.{joined}
 use Rattle.vl_block.specs.Cutting.{max_block_bytes, entry_length, begun_length, around}
-use Rattle.vl_layout.specs.Tables.{full_table_bytes, tables_from, cut_into_tables, numbered}
+use Rattle.vl_layout.specs.Jobs.{tables_made}
+use Rattle.vl_layout.specs.Tables.{full_table_bytes, tables_from, cut_into_tables}
 use Rattle.vl_layout.specs.declared.job.Job.{Job}
 use Rattle.vl_layout.specs.declared.layout.Layout.{Layout}
 use Rattle.vl_layout.specs.declared.table.Table.{Table}
@@ -49,10 +50,12 @@ cut-whole [] = refl
 cut-whole (e ∷ es) = tables_from-whole (e ∷ []) e.key 0 (begun_length e) es
 
 -- tables of some entries hold these
-pub numbered-entries : (number : ℕ) (ess : List (List Entry))
-    → flat_map table_entries (numbered number ess) ≡ joined ess
-numbered-entries number [] = refl
-numbered-entries number (es ∷ ess) = ap (λ xs. es ++ xs) (numbered-entries (number + 1) ess)
+pub tables_made-entries : (numbers : List ℕ) (ess : List (List Entry)) → length numbers ≡ length ess
+    → flat_map table_entries (tables_made numbers ess) ≡ joined ess
+tables_made-entries [] [] are = refl
+tables_made-entries [] (es ∷ ess) are = absurd (omega arith)
+tables_made-entries (n ∷ ns) [] are = absurd (omega arith)
+tables_made-entries (n ∷ ns) (es ∷ ess) are = ap (λ xs. es ++ xs) (tables_made-entries ns ess (omega arith))
 
 -- ---- a job's base
 

@@ -1,5 +1,6 @@
 pub mod Decides
 pub mod Garbage
+pub mod Jobs
 pub mod laws
 pub mod Levels
 pub mod LockHistory

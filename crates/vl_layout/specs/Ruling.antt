@@ -55,10 +55,6 @@ logged f l =
 abbrev pub pin_of : Layout → Pin
 pin_of l = record { version_number = l.version_number; needs = needed l }
 
--- without an open job
-abbrev pub freed : Layout → Layout
-freed l = record l { job = None }
-
 -- ---- retirement
 
 -- below head, with nothing live

@@ -7,6 +7,7 @@ pub mod Drain
 pub mod EndPass
 pub mod Flush
 pub mod Forget
+pub mod Fresh
 pub mod Install
 pub mod Keep
 pub mod Next
