@@ -3,8 +3,8 @@ use Rattle.std.specs.Prelude.{◌≡◌, ◌+◌, ◌-◌, ℕ, min, nat_le, Lis
 use Rattle.std.specs.Option.{option_map}
 use Rattle.std.specs.List.{filter}
 use Rattle.std.specs.Ordering.{nat_cmp}
-use Rattle.std.specs.FinMap.{FinMap, get, insert, remove, entries, empty}
-use Rattle.vl_model.specs.Keys.{Stored, Pairs, Writes}
+use Rattle.std.specs.FinMap.{FinMap, get, insert, remove, entries, empty, from_sorted}
+use Rattle.vl_model.specs.Keys.{Stored, Row, Pairs, Writes}
 use Rattle.vl_model.specs.declared.change.Change.{Change}
 use Rattle.vl_model.specs.declared.change.Change.TheVariants.{Set, Delete}
 
@@ -18,6 +18,11 @@ pub record History : Type 0 where
   pub first : ℕ
   pub base : Past
   pub commits : List Writes
+
+-- what stands at a number, as versions of that number
+abbrev pub standing_at : ℕ → Pairs → Past
+standing_at number pairs =
+    from_sorted ((number, from_sorted (map (λ (row : Row). (row.0, Set row.1)) (entries pairs))) ∷ [])
 
 -- the history of a new store
 abbrev pub no_history : History
