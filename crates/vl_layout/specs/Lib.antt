@@ -8,6 +8,7 @@ pub mod Logs
 pub mod Marks
 pub mod Merging
 pub mod Relocation
+pub mod Rising
 pub mod Ruling
 pub mod Rulings
 pub mod Shown
@@ -15,3 +16,4 @@ pub mod Shows
 pub mod Sources
 pub mod Start
 pub mod Tables
+pub mod Tickets

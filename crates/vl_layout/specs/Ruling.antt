@@ -1,5 +1,5 @@
 -- What a call of an engine answers and what it leaves, and the changes that several calls share.
-use Rattle.std.specs.Prelude.{ℕ, ◌+◌, ◌==◌, Bool, not, ◌&&◌, nat_lt, List, [], ◌∷◌, ◌++◌, map, Some, None}
+use Rattle.std.specs.Prelude.{ℕ, ◌+◌, ◌==◌, Bool, not, ◌&&◌, nat_lt, List, [], ◌∷◌, ◌++◌, map, Some}
 use Rattle.std.specs.List.{filter}
 use Rattle.vl_model.specs.Limits.{max_file_number, max_version_number}
 use Rattle.vl_model.specs.History.{History}

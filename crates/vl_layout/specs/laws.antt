@@ -1,10 +1,13 @@
 pub mod CommitShows
 pub mod FromLow
 pub mod LayoutShows
+pub mod LockHistoryLaws
 pub mod LowRulings
 pub mod LowShows
 pub mod MergeShows
 pub mod OrderShows
 pub mod RelocationShows
+pub mod RisingLaws
 pub mod RulingShows
 pub mod ShowsLaws
+pub mod TicketLaws

@@ -28,6 +28,7 @@ pub struct Layout {
     pub since: u64,
     /// The greatest version of a deletion that a merge dropped for good.
     pub gone: u64,
+    /// The live transactions and views, by rising tickets.
     pub live: LinkedList<Live>,
     pub job: Option<OpenJob>,
     pub pass: Option<OpenPass>,

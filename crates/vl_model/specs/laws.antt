@@ -1,4 +1,5 @@
 pub mod ConflictLaws
+pub mod ExplainedLaws
 pub mod HistoryLaws
 pub mod NumberLaws
 pub mod VersionLaws

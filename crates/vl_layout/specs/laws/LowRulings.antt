@@ -16,7 +16,7 @@ use Rattle.vl_model.specs.declared.log_frame.Moved.{Moved}
 use Rattle.vl_layout.specs.Logs.{memtable}
 use Rattle.vl_layout.specs.laws.LowShows.{shows_later, shows_keep, low_up, floor-up, floor-rises, floor-begun}
 use Rattle.vl_layout.specs.Relocation.{Pass, Candidate, moved_of}
-use Rattle.vl_layout.specs.Ruling.{Ruling, ended, has_no_number, has_no_version}
+use Rattle.vl_layout.specs.Ruling.{pin_of, Ruling, ended, has_no_number, has_no_version}
 use Rattle.vl_layout.specs.Rulings.Begin.{begun}
 use Rattle.vl_layout.specs.Rulings.Commit.{Transaction, committed, commit_checked, commit_running, commit_unless, commit_ruling, commit_frame}
 use Rattle.vl_layout.specs.Rulings.Flush.{flushed, flush_of, flush_unless, flush_ruling}
@@ -164,7 +164,7 @@ module _ (h : History) (l : Layout) where
   begun_later : (ticket : ℕ) → IsLater h l h (begun l ticket (last_number h))
   begun_later ticket = record {
     extends = extends_itself h;
-    floors = let same_floor = floor-begun l (begun l ticket (last_number h)) h _ refl refl in omega (arith, same_floor);
+    floors = let same_floor = floor-begun l (begun l ticket (last_number h)) h (record { ticket = ticket; number = last_number h; pin = pin_of l }) refl refl in omega (arith, same_floor);
     keep = refl;
     since = refl;
   }

@@ -1,13 +1,14 @@
 -- What is shown from low on: each step that leaves the sources showing keeps it, whatever floor there is then.
 use Rattle.std.proofs.Common.{◌≡◌, ◌⊎◌, inl, inr, ⊎_elim, ℕ, ◌≤◌, Bool, true, false, cond, List, [], ◌∷◌, refl, ap, sym, ◌∙◌, subst, arith}
-use Rattle.std.specs.Prelude.{nat_lt, Some}
+use Rattle.std.specs.Prelude.{min, nat_lt, Some}
 use Rattle.std.proofs.lemmas.Bool.Decides.{nat_tests}
 use Rattle.std.specs.List.{filter}
 use Rattle.vl_model.specs.History.{History, Extends, last_number, value_at}
-use Rattle.vl_model.specs.laws.HistoryLaws.{last_number-extends}
+use Rattle.vl_model.specs.laws.HistoryLaws.{last_number-extends, value_at-extends}
 use Rattle.vl_model.specs.Winners.{Logs, winner, resolved_at}
 use Rattle.vl_model.specs.declared.entry.Entry.{Entry}
 use Rattle.vl_layout.specs.Merging.{Sourced, inputs_of as sourced_inputs}
+use Rattle.vl_layout.specs.Rising.{put_by}
 use Rattle.vl_layout.specs.Shows.{Shows}
 use Rattle.vl_layout.specs.Sources.{floor, least_number}
 use Rattle.vl_layout.specs.declared.layout.Layout.{Layout}
@@ -26,6 +27,16 @@ pub shows_from : (logs : Logs) (es : List Entry) (h : History) (from from' : Lis
     → ((key : List ℕ) → from key ≤ from' key) → Shows logs es h from to → Shows logs es h from' to
 shows_from logs es h from from' to later shows = record {
   values = λ key number low high. shows.values key number (let l = later key in omega (arith, l, low)) high;
+  meaning = shows.meaning;
+  resolves = shows.resolves;
+  gone_once = shows.gone_once;
+}
+
+-- what is shown up to a number stays, whatever is committed later
+pub shows-extends : (logs : Logs) (es : List Entry) (least most : History) (from : List ℕ → ℕ) (to : ℕ) → Extends least most
+    → to ≤ last_number least → Shows logs es least from to → Shows logs es most from to
+shows-extends logs es least most from to e le shows = record {
+  values = λ key number low high. shows.values key number low high ∙ ap Some (sym (value_at-extends least most e number key (omega arith)));
   meaning = shows.meaning;
   resolves = shows.resolves;
   gone_once = shows.gone_once;
@@ -114,11 +125,22 @@ floor-rises l l' least most e p live =
     let b = least-ended (last_number most) p l.live in
     subst (λ (xs : List Live). least_number (last_number least) l.live ≤ least_number (last_number most) xs) (sym live) (omega (arith, a, b))
 
-pub floor-begun : (l l' : Layout) (h : History) (x : Live) → x.number ≡ last_number h → l'.live ≡ x ∷ l.live
-    → floor l' h ≡ floor l h
+least-put : (n : ℕ) (x : Live) (xs : List Live)
+    → least_number n (put_by (λ (y : Live). y.ticket) x xs) ≡ min x.number (least_number n xs)
+least-put n x [] = refl
+least-put n x (y ∷ ys) =
+    let later = least-put n x ys in
+    elim (nat_lt y.ticket x.ticket) as (λ b. least_number n (cond b (y ∷ put_by (λ (z : Live). z.ticket) x ys) (x ∷ y ∷ ys)) ≡ min x.number (min y.number (least_number n ys))) [
+      | true ↦ omega (arith, later)
+      | false ↦ refl
+    ]
+
+pub floor-begun : (l l' : Layout) (h : History) (x : Live) → x.number ≡ last_number h
+    → l'.live ≡ put_by (λ (y : Live). y.ticket) x l.live → floor l' h ≡ floor l h
 floor-begun l l' h x at live =
     let u = floor-up l h in
-    ap (λ (xs : List Live). least_number (last_number h) xs) live ∙ (omega (arith, u, at))
+    let put = least-put (last_number h) x l.live in
+    ap (λ (xs : List Live). least_number (last_number h) xs) live ∙ omega (arith, u, at, put)
 
 -- ---- what an open job asks of v and since
 
