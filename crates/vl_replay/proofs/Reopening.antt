@@ -2,7 +2,6 @@
 use Rattle.std.proofs.Common.{◌≡◌, ⊎_elim, ℕ, ◌-◌, ◌^◌, ◌≤◌, List, [], length, Some, None, Result, Ok, Err, refl, sym, ◌∙◌, ap, subst, arith}
 use Rattle.std.specs.Prelude.{IfOk, IfErr}
 use Rattle.std.specs.FinMap.{empty, get-empty}
-use Rattle.std.proofs.lemmas.List.{take_all}
 use Rattle.vl_replay.specs.Text.{reopened_text}
 use Rattle.vl_disk.specs.Crash.{Image}
 use Rattle.vl_disk.specs.DiskState.{DiskState, empty_disk}
@@ -19,6 +18,7 @@ use Rattle.vl_mem.specs.MemDisk.{changes_of, faults_of, reads_of, state_of, told
 use Rattle.vl_mem.specs.contracts.mem_disk.MemDiskWatched.TheImpl as memory
 use Rattle.vl_mem.specs.declared.mem_disk.MemDisk.{MemDisk}
 use Rattle.vl_model.specs.History.{History, contents_at}
+use Rattle.vl_model.specs.laws.HistoryLaws.{contents_at-standing_at}
 use Rattle.vl_recover.specs.Answers.{AnswersBy, Finds, calls_to_open}
 use Rattle.vl_recover.specs.Meanwhile.{IsMeanwhile}
 use Rattle.vl_recover.specs.Results.{HasFailed, came_by, opened_of}
