@@ -15,5 +15,6 @@ pub mod Shown
 pub mod Shows
 pub mod Sources
 pub mod Start
+pub mod Stock
 pub mod Tables
 pub mod Tickets
