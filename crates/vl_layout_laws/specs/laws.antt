@@ -1,6 +1,8 @@
 -- Laws of what an engine keeps tidy, by matter, which proofs in other crates cite.
 pub mod Drawn
 pub mod Files
+pub mod LiveBytes
+pub mod RulingStocked
 pub mod Steps
 pub mod Stock
 pub mod Streaming

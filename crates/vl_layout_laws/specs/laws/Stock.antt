@@ -1,21 +1,17 @@
 -- What is so of a layout's retired files, pins and numbers; and so of what a sweep removes.
-use Rattle.std.proofs.Common.{◌≡◌, ◌⊎◌, inl, inr, ⊎_elim, ℕ, ◌+◌, ◌≤◌, ◌<◌, Bool, true, false, cond, not, ◌&&◌, ◌||◌, List, [], ◌∷◌, ◌++◌, map, refl, ap, sym, ◌∙◌, subst, arith}
+use Rattle.std.proofs.Common.{◌≡◌, ⊎_elim, ℕ, ◌≤◌, ◌<◌, Bool, true, false, not, ◌&&◌, List, [], ◌∷◌, refl, sym, ◌∙◌, subst, arith}
 use Rattle.std.proofs.lemmas.Bool.{and_parts}
 use Rattle.std.proofs.lemmas.Bool.Decides.{nat_tests}
-use Rattle.std.specs.Prelude.{Option, Some, None, nat_le, nat_lt, ◌==◌}
-use Rattle.std.specs.List.{AllByRecursion, flat_map, list_any, filter}
-use Rattle.vl_layout.specs.Rulings.Sweep.{is_same, pins, is_held, is_up_to, swept, job_pin, pass_pin}
-use Rattle.vl_layout.specs.Sources.{needed, tables, oldest, number_or, head}
-use Rattle.vl_layout.specs.declared.file_name.FileName.{FileName}
-use Rattle.vl_layout.specs.declared.file_name.FileName.TheVariants.{Log, Table as TableFile, Manifest}
+use Rattle.std.specs.Prelude.{Option, nat_lt}
+use Rattle.std.specs.List.{AllByRecursion, filter}
+use Rattle.vl_layout.specs.Rulings.Sweep.{pins, is_held, is_up_to, swept}
+use Rattle.vl_layout.specs.Sources.{needed, oldest, number_or, head}
 use Rattle.vl_layout.specs.declared.file_name.Retired.{Retired}
 use Rattle.vl_layout.specs.declared.layout.Layout.{Layout}
-use Rattle.vl_layout.specs.declared.live.Live.{Live}
 use Rattle.vl_layout.specs.declared.live.Pin.{Pin}
 use Rattle.vl_layout.specs.declared.segment.Segment.{Segment}
-use Rattle.vl_layout.specs.declared.table.Table.{Table}
-use Rattle.vl_layout_laws.specs.laws.Files.{true_false, or_cases, or_false, all_weaker, all_passed, all_mapped, is_not}
-use Rattle.vl_layout.specs.Stock.{is_in, IsFooted, IsDrawn, IsUnneeded, IsOff, IsPinned, IsFalling, IsStocked, IsLoose}
+use Rattle.vl_layout_laws.specs.laws.Files.{true_false, or_false, all_weaker, all_passed, all_mapped}
+use Rattle.vl_layout.specs.Stock.{is_in, IsDrawn, IsUnneeded, IsOff, IsPinned, IsFalling, IsStocked, IsLoose}
 
 -- ---- what a sweep removes
 

@@ -1,60 +1,26 @@
 -- Tables with numbers drawn before their switch: a lent file counts as one that retired at 0, which no pin may need.
-use Rattle.std.proofs.Common.{◌≡◌, ◌⊎◌, inl, inr, ⊎_elim, ℕ, ◌+◌, ◌≤◌, ◌<◌, Bool, true, false, cond, not, ◌&&◌, ◌||◌, List, [], ◌∷◌, ◌++◌, map, refl, ap, sym, ◌∙◌, subst, arith}
-use Rattle.std.proofs.lemmas.Bool.{and_parts}
+use Rattle.std.proofs.Common.{◌≡◌, ◌⊎◌, inl, inr, ⊎_elim, ℕ, ◌+◌, ◌<◌, true, false, List, [], ◌∷◌, ◌++◌, map, refl, ap, sym, ◌∙◌, arith}
 use Rattle.std.proofs.lemmas.Bool.Decides.{nat_tests}
-use Rattle.std.specs.Prelude.{Option, Some, None, nat_le, nat_lt, ◌==◌, length}
+use Rattle.std.specs.Prelude.{None, ◌==◌}
 use Rattle.std.specs.List.{AllByRecursion, flat_map, list_any, filter}
-use Rattle.std.specs.Ordering.{nat_cmp}
-use Rattle.std.specs.declared.cmp.Ordering.TheVariants.{Less, Equal, Greater}
-use Rattle.vl_model.specs.Entries.{by_order, put, in_order, entry_cmp}
-use Rattle.vl_model.specs.Frames.{record_length, moved_length, frame_length}
-use Rattle.vl_model.specs.Limits.{max_inline_bytes}
-use Rattle.vl_model.specs.Placement.{placement, placed}
-use Rattle.vl_model.specs.declared.change.Change.{Change}
-use Rattle.vl_model.specs.declared.change.Change.TheVariants.{Set, Delete}
-use Rattle.vl_model.specs.declared.entry.Entry.{Entry}
-use Rattle.vl_model.specs.declared.entry.Body.{Body}
-use Rattle.vl_model.specs.declared.entry.Body.TheVariants.{Inline, Gone, Far, Logged}
-use Rattle.vl_model.specs.declared.log_frame.LogFrame.{LogFrame}
-use Rattle.vl_model.specs.declared.log_frame.LogFrame.TheVariants.{Committed, Relocated}
-use Rattle.vl_model.specs.declared.log_frame.Moved.{Moved}
-use Rattle.vl_model.specs.declared.pointer.Pointer.{Pointer}
-use Rattle.vl_block.specs.Cutting.{points_of}
-use Rattle.vl_block.specs.laws.CuttingLaws.{joined}
 use Rattle.vl_block.specs.declared.laid_point.LaidPoint.{LaidPoint as Point}
-use Rattle.vl_layout.specs.Garbage.{live_bytes}
-use Rattle.vl_layout.specs.Levels.{is_one, in_front, replaced, without, at_level, in_key_order, is_before}
-use Rattle.vl_layout.specs.Logs.{LogRecord, record_entry, logged_body, pointer_to, committed_records, relocated_records, frame_entries, frame_records, logged_entries, memtable, new_segment}
-use Rattle.vl_layout.specs.laws.OrderShows.{all-in_order}
-use Rattle.vl_layout.specs.Ruling.{logged, ended, pin_of, is_idle, retired_at, switched}
-use Rattle.vl_layout.specs.Rulings.Begin.{begun}
-use Rattle.vl_layout.specs.Rulings.EndPass.{without_pass}
-use Rattle.vl_layout.specs.Rulings.Flush.{flushed, flushed_table}
-use Rattle.vl_layout.specs.Rulings.Install.{installed}
-use Rattle.vl_layout.specs.Rulings.Pick.{with_pass}
-use Rattle.vl_layout.specs.Rulings.Plan.{with_job}
-use Rattle.vl_layout.specs.Rulings.Relocate.{with_moves, relocated}
-use Rattle.vl_layout.specs.Rulings.Rotate.{rotated}
-use Rattle.vl_layout.specs.Rulings.Sweep.{is_same, pins, is_held, swept, job_pin, pass_pin, without_files}
-use Rattle.vl_layout.specs.Sources.{needed, tables, oldest, but_oldest, number_or, head, log_of, table_of, pointed_logs, put_segment, rising}
-use Rattle.vl_layout.specs.Tables.{new_table}
+use Rattle.vl_layout.specs.Levels.{is_one, replaced}
+use Rattle.vl_layout.specs.Ruling.{retired_at, switched}
+use Rattle.vl_layout.specs.Rulings.Sweep.{is_same, pins, job_pin, pass_pin}
+use Rattle.vl_layout.specs.Sources.{needed, tables, log_of, table_of, pointed_logs}
 use Rattle.vl_layout.specs.declared.file_name.FileName.{FileName}
 use Rattle.vl_layout.specs.declared.file_name.FileName.TheVariants.{Log, Table as TableFile, Manifest}
 use Rattle.vl_layout.specs.declared.file_name.Retired.{Retired}
 use Rattle.vl_layout.specs.declared.job.Job.{Job}
-use Rattle.vl_layout.specs.declared.job.OpenJob.{OpenJob}
-use Rattle.vl_layout.specs.declared.job.Target.{Target}
-use Rattle.vl_layout.specs.declared.job.Target.TheVariants.{Level, InPlace}
 use Rattle.vl_layout.specs.declared.layout.Layout.{Layout}
 use Rattle.vl_layout.specs.declared.live.Live.{Live}
 use Rattle.vl_layout.specs.declared.live.Pin.{Pin}
 use Rattle.vl_layout.specs.declared.segment.Segment.{Segment}
 use Rattle.vl_layout.specs.declared.table.Table.{Table}
-use Rattle.vl_layout_laws.specs.laws.Files.{true_false, or_cases, or_left, or_right, or_false, neither, is_not, any-append, any-map, any-flat_map, any_alike, all_weaker, all_both, all_parts, all_filtered, all_passed, all_mapped, all_unmapped, picked, everything, same_file, itself, leads-points, none_live}
-use Rattle.vl_layout_laws.specs.laws.Switches.{all_replaced, seen, early_pins, each_of}
-use Rattle.vl_layout_laws.specs.laws.Steps.{Gains, still_unneeded, drawn_later, needed_parts, in_tables, in_points, in_logs, is_pointed, tables_only, not_in, later_pins, nothing_more, parts, stocked_switched}
-use Rattle.vl_layout_laws.specs.laws.Stock.{head_least}
-use Rattle.vl_layout.specs.Stock.{is_in, leads, is_body_into, is_into, HasBytesAt, HasBytes, IsFooted, IsDrawn, IsUnneeded, IsOff, IsPinned, IsFalling, IsStocked, PointsDrawn, IsDrawnWhole}
+use Rattle.vl_layout_laws.specs.laws.Files.{true_false, neither, is_not, any-append, any-map, all_weaker, all_both, all_parts, all_passed, all_mapped, picked, everything}
+use Rattle.vl_layout_laws.specs.laws.Switches.{all_replaced, seen, early_pins}
+use Rattle.vl_layout_laws.specs.laws.Steps.{drawn_later, needed_parts, in_tables, in_points, in_logs, is_pointed, not_in, stocked_switched}
+use Rattle.vl_layout.specs.Stock.{is_in, leads, IsFooted, IsDrawn, IsUnneeded, IsOff, IsPinned, IsStocked, PointsDrawn, IsDrawnWhole}
 
 -- ---- what a pin needs was drawn
 

@@ -1,37 +1,30 @@
 -- Each call's ruling keeps what is so of an engine's files, those that were lent to a job among them.
-use Rattle.std.proofs.Common.{◌≡◌, ◌⊎◌, inl, inr, ⊎_elim, ℕ, ◌+◌, ◌≤◌, ◌<◌, Bool, true, false, cond, not, ◌&&◌, ◌||◌, List, [], ◌∷◌, ◌++◌, map, length, refl, ap, sym, ◌∙◌, subst, arith, append_assoc}
-use Rattle.std.proofs.lemmas.Bool.{and_parts, false≢true}
+use Rattle.std.proofs.Common.{◌≡◌, ℕ, ◌+◌, ◌<◌, Bool, true, false, not, ◌||◌, List, [], ◌∷◌, ◌++◌, map, refl, ap, sym, ◌∙◌, subst, arith, append_assoc}
+use Rattle.std.proofs.lemmas.Bool.{false≢true}
 use Rattle.std.proofs.lemmas.Bool.Decides.{nat_tests}
-use Rattle.std.specs.Prelude.{Option, Some, None, nat_le, nat_lt, ◌==◌, if◌then◌else◌}
+use Rattle.std.specs.Prelude.{Option, Some, None, ◌==◌}
 use Rattle.std.specs.List.{AllByRecursion, flat_map, list_any, filter}
-use Rattle.std.specs.FinMap.{len}
-use Rattle.vl_model.specs.Conflicts.{Named, first_conflict}
-use Rattle.vl_model.specs.Frames.{frame_length}
-use Rattle.vl_model.specs.History.{History, last_number}
-use Rattle.vl_model.specs.Limits.{max_commit_number, max_live}
+use Rattle.vl_model.specs.History.{History}
 use Rattle.vl_model.specs.Numbers.{has}
 use Rattle.vl_model.specs.declared.log_frame.LogFrame.{LogFrame}
-use Rattle.vl_model.specs.declared.log_frame.LogFrame.TheVariants.{Relocated}
 use Rattle.vl_model.specs.declared.log_frame.Moved.{Moved}
 use Rattle.vl_layout.specs.Jobs.{Made, loose, lent_numbers, job_ended, AreDistinct, AreLent}
 use Rattle.vl_layout.specs.Levels.{is_one}
 use Rattle.vl_layout.specs.Merging.{needless, gone_after}
-use Rattle.vl_layout.specs.Relocation.{Pass, Candidate, moved_of}
-use Rattle.vl_layout.specs.Ruling.{Ruling, leaving, logged, ended, retired_at, switched, has_no_number, has_no_version, is_idle}
-use Rattle.vl_layout.specs.Rulings.Begin.{begun, begin_ruling}
-use Rattle.vl_layout.specs.Rulings.Commit.{Transaction, committed, commit_ended, commit_checked, commit_running, commit_unless, commit_ruling, commit_frame}
+use Rattle.vl_layout.specs.Ruling.{logged, ended, retired_at, switched}
+use Rattle.vl_layout.specs.Rulings.Begin.{begun}
 use Rattle.vl_layout.specs.Rulings.EndPass.{without_pass}
-use Rattle.vl_layout.specs.Rulings.Flush.{flushed, flush_of, flush_unless, flush_ruling}
-use Rattle.vl_layout.specs.Rulings.Fresh.{lent_to, drawn, fresh_unless, fresh_ruling}
-use Rattle.vl_layout.specs.Rulings.Install.{put_in, installed}
-use Rattle.vl_layout.specs.Rulings.Keep.{keeping, keep_unless, keep_ruling}
+use Rattle.vl_layout.specs.Rulings.Flush.{flushed}
+use Rattle.vl_layout.specs.Rulings.Fresh.{lent_to, drawn}
+use Rattle.vl_layout.specs.Rulings.Install.{installed}
+use Rattle.vl_layout.specs.Rulings.Keep.{keeping}
 use Rattle.vl_layout.specs.Rulings.Pick.{with_pass}
 use Rattle.vl_layout.specs.Rulings.Plan.{with_job}
-use Rattle.vl_layout.specs.Rulings.Relocate.{with_moves, relocated, relocate_of, relocate_unless, relocate_ruling}
-use Rattle.vl_layout.specs.Rulings.Rotate.{rotated, rotate_of, rotate_unless, rotate_ruling}
-use Rattle.vl_layout.specs.Rulings.Sweep.{is_same, job_pin, pass_pin, pins, swept, without_files, sweep_unless}
-use Rattle.vl_layout.specs.Sources.{log_of, pointed_logs, needed, numbers_of, oldest, rising, sources, table_of, tables}
-use Rattle.vl_layout.specs.Stock.{is_in, leads, IsDrawn, IsUnneeded, IsOff, IsPinned, IsStocked, IsFooted, PointsDrawn, IsDrawnWhole, with_lent, IsNotLent, IsWellStocked, IsLoose}
+use Rattle.vl_layout.specs.Rulings.Relocate.{with_moves, relocated}
+use Rattle.vl_layout.specs.Rulings.Rotate.{rotated}
+use Rattle.vl_layout.specs.Rulings.Sweep.{is_same, job_pin, pass_pin, pins, without_files}
+use Rattle.vl_layout.specs.Sources.{log_of, pointed_logs, needed, numbers_of, oldest, table_of, tables}
+use Rattle.vl_layout.specs.Stock.{is_in, leads, IsDrawn, IsUnneeded, IsOff, IsPinned, IsStocked, IsFooted, PointsDrawn, IsDrawnWhole, with_lent, IsNotLent, IsWellStocked}
 use Rattle.vl_layout.specs.declared.file_name.FileName.{FileName}
 use Rattle.vl_layout.specs.declared.file_name.FileName.TheVariants.{Log, Table as TableFile, Manifest}
 use Rattle.vl_layout.specs.declared.file_name.Retired.{Retired}
@@ -42,11 +35,10 @@ use Rattle.vl_layout.specs.declared.live.Live.{Live}
 use Rattle.vl_layout.specs.declared.live.Pin.{Pin}
 use Rattle.vl_layout.specs.declared.segment.Segment.{Segment}
 use Rattle.vl_layout.specs.declared.table.Table.{Table}
-use Rattle.vl_layout_laws.specs.laws.Files.{or_right, all_weaker, all_both, all_parts, all_filtered, all_mapped, all_unmapped, any-map}
-use Rattle.vl_layout_laws.specs.laws.Stock.{swept_are_loose}
+use Rattle.vl_layout_laws.specs.laws.Files.{all_weaker, all_both, all_parts, all_filtered, any-map}
 use Rattle.vl_layout_laws.specs.laws.Steps.{in_tables, stocked_begun, stocked_ended, stocked_planned, stocked_picked, stocked_freed, stocked_pass_ended, stocked_logged, stocked_relocated, stocked_rotated, tables_only}
 use Rattle.vl_layout_laws.specs.laws.Streaming.{lending, stocked_lent, stocked_put, putting}
-use Rattle.vl_layout_laws.specs.laws.Drawn.{drawn_begun, drawn_ended, drawn_planned, drawn_picked, drawn_freed, drawn_pass_ended, drawn_logged, drawn_swept, drawn_relocated, drawn_rotated, drawn_lent, drawn_flushed, drawn_put}
+use Rattle.vl_layout_laws.specs.laws.Drawn.{drawn_begun, drawn_ended, drawn_planned, drawn_picked, drawn_freed, drawn_pass_ended, drawn_logged, drawn_relocated, drawn_rotated, drawn_lent, drawn_flushed, drawn_put}
 use Rattle.vl_layout_laws.specs.laws.Switches.{stocked_flushed}
 
 -- ---- other retired files, another job
