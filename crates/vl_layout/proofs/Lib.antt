@@ -1,3 +1,2 @@
 mod GarbageLaws
 mod Rows
-mod TableLaws

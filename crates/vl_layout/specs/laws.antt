@@ -10,4 +10,5 @@ pub mod RelocationShows
 pub mod RisingLaws
 pub mod RulingShows
 pub mod ShowsLaws
+pub mod TableLaws
 pub mod TicketLaws
