@@ -1,9 +1,10 @@
 // Laws of the definitions: each is the contract of a function that does nothing.
-ghost use Rattle.std.specs.Prelude.{◌≡◌, ◌≤◌, ◌<◌, ◌++◌, ◌∷◌, [], ℕ, List, Some, None, false};
+ghost use Rattle.std.specs.Prelude.{IsTrue, ◌≡◌, ◌≤◌, ◌<◌, ◌++◌, ◌∷◌, [], ℕ, List, Some, None, false};
+ghost use Rattle.std.specs.FinMap.{is_sorted};
 ghost use Rattle.std.specs.List.{AllZip, AllByRecursion};
 ghost use Rattle.vl_model.specs.Entries.{in_order};
 ghost use Rattle.vl_model.specs.History.{History, last_number};
-ghost use Rattle.vl_model.specs.Keys.{Stored};
+ghost use Rattle.vl_model.specs.Keys.{Stored, key_cmp};
 ghost use Rattle.vl_model.specs.Winners.{Logs, resolved};
 ghost use Rattle.vl_model.specs.declared.entry.Entry.{Entry};
 ghost use Rattle.vl_layout.specs.Garbage.{far_bytes, pointed_bytes, best_of, is_better as is_better_than};
@@ -59,7 +60,7 @@ pub fn one_version_leads_to_one_value()
 /// Whatever a commit answers, the layout that it leaves shows the history that it leaves.
 pub fn shown_after_a_commit()
     ensures { (logs : Logs) (from : List ℕ → ℕ) (l : Layout) (h : History) (t : Transaction)
-        → AreUpTo (last_number h) (sources l)
+        → IsTrue (is_sorted key_cmp t.writes) → AreUpTo (last_number h) (sources l)
         → ((key : List ℕ) → from key ≤ last_number h)
         → Shows logs (sources l) h from (last_number h)
         → ShowsRuled logs from (commit_ruling l h t) }

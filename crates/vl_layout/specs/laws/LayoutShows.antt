@@ -2,6 +2,7 @@
 -- relocation.
 use Rattle.std.proofs.Common.{◌≡◌, ℕ, ◌+◌, ◌≤◌, Bool, true, false, ◌||◌, List, [], ◌∷◌, ◌++◌, map, refl, ap, sym, ◌∙◌, subst, append_assoc}
 use Rattle.std.specs.Prelude.{Option, Some}
+use Rattle.std.specs.FinMap.{entries}
 use Rattle.std.specs.List.{AllZip, AllByRecursion, flat_map, list_any}
 use Rattle.vl_model.specs.Keys.{Stored, Writes}
 use Rattle.vl_model.specs.Entries.{is_at, in_order}
@@ -75,9 +76,9 @@ module _ (logs : Logs) (l : Layout) (f : LogFrame) (h : History) (from : List �
 pub commit_shows : (logs : Logs) (l : Layout) (ticket : ℕ) (h : History) (writes : Writes) (from : List ℕ → ℕ)
     → AreUpTo (last_number h) (sources l) → ((key : List ℕ) → from key ≤ last_number h)
     → Shows logs (sources l) h from (last_number h)
-    → Shows logs (sources (logged (commit_frame h writes) (ended ticket l))) (with_commit h writes) from (last_number h + 1)
+    → Shows logs (sources (logged (commit_frame h (entries writes)) (ended ticket l))) (with_commit h writes) from (last_number h + 1)
 commit_shows logs l ticket h writes from up begins shows =
-    shows_logged logs (ended ticket l) (commit_frame h writes) (with_commit h writes) from (last_number h + 1)
+    shows_logged logs (ended ticket l) (commit_frame h (entries writes)) (with_commit h writes) from (last_number h + 1)
     (shows_committed logs (sources l) h from writes l.active.number (place_behind 16 l.active.frames + 17) up begins shows)
 
 -- ---- a flush

@@ -1,8 +1,9 @@
 -- Whatever a call answers, what is left shows from low on at the floor, v and since that are left.
 use Rattle.std.proofs.Common.{◌≡◌, ℕ, ◌+◌, ◌≤◌, Bool, true, false, not, List, [], ◌∷◌, ◌++◌, refl, ap, sym, ◌∙◌, subst, arith}
-use Rattle.std.specs.Prelude.{Option, Some, None, nat_le, ◌==◌, if◌then◌else◌}
+use Rattle.std.specs.Prelude.{length, T, Option, Some, None, nat_le, ◌==◌, if◌then◌else◌}
 use Rattle.std.specs.List.{AllByRecursion, filter}
-use Rattle.std.specs.FinMap.{len}
+use Rattle.std.specs.FinMap.{from_sorted, is_sorted}
+use Rattle.vl_model.specs.Keys.{key_cmp}
 use Rattle.vl_model.specs.Conflicts.{Named, first_conflict}
 use Rattle.vl_model.specs.Frames.{frame_length}
 use Rattle.vl_model.specs.History.{History, Extends, last_number, with_commit}
@@ -90,8 +91,8 @@ module _ (h : History) (l : Layout) where
 
   committed_later : (t : Transaction) → RuledLater h l (committed l h t)
   committed_later t = record {
-    extends = with_commit-extends h t.writes;
-    floors = floor-rises l (committed l h t).layout h (with_commit h t.writes) (with_commit-extends h t.writes) (λ (x : Live). not (x.ticket == t.ticket)) refl;
+    extends = with_commit-extends h (from_sorted t.writes);
+    floors = floor-rises l (committed l h t).layout h (with_commit h (from_sorted t.writes)) (with_commit-extends h (from_sorted t.writes)) (λ (x : Live). not (x.ticket == t.ticket)) refl;
     keep = refl;
     since = refl;
   }
@@ -102,18 +103,18 @@ module _ (h : History) (l : Layout) where
 
   running_later : (t : Transaction) (conflict : Option Named) → RuledLater h l (commit_running l h t conflict)
   running_later t conflict =
-      either h l (len t.writes == 0) _ _ (one_ended h l t.ticket)
+      either h l (length t.writes == 0) _ _ (one_ended h l t.ticket)
       (either h l (nat_le max_commit_number (last_number h)) _ _ same (checked_later t conflict))
 
   unless_later : (t : Transaction) (halted : Option FileName) → RuledLater h l (commit_unless halted l h t (first_conflict h t.number t.reads))
   unless_later t (Some name) = one_ended h l t.ticket
   unless_later t None = running_later t (first_conflict h t.number t.reads)
 
-  pub commit_shows_low : (logs : Logs) (t : Transaction) → AreUpTo (last_number h) (sources l) → ShowsLow logs l h
+  pub commit_shows_low : (logs : Logs) (t : Transaction) → T (is_sorted key_cmp t.writes) → AreUpTo (last_number h) (sources l) → ShowsLow logs l h
       → ShowsLow logs (commit_ruling l h t).layout (commit_ruling l h t).history
-  commit_shows_low logs t up shows =
+  commit_shows_low logs t rising up shows =
       later_shows logs h (commit_ruling l h t).history l (commit_ruling l h t).layout (unless_later t l.halted)
-      (commit_ruling-shows logs (low_at l h) l h t up (λ key. let a = low_up h (floor l h) l.keep l.since key in let b = floor-up l h in omega (arith, a, b)) shows)
+      (commit_ruling-shows logs (low_at l h) l h t up (λ key. let a = low_up h (floor l h) l.keep l.since key in let b = floor-up l h in omega (arith, a, b)) rising shows)
 
   -- ---- a rotation, a flush, a relocation
 

@@ -68,7 +68,7 @@ module _ (l : Layout) (h : History) (w : IsWellStocked l) where
 
   running_well : (t : Transaction) (conflict : Option Named) → LeavesWell (commit_running l h t conflict)
   running_well t conflict =
-      either (len t.writes == 0) _ _ (well_ended l w t.ticket)
+      either (length t.writes == 0) _ _ (well_ended l w t.ticket)
       (either (nat_le max_commit_number (last_number h)) _ _ w (checked_well t conflict))
 
   unless_well : (t : Transaction) (conflict : Option Named) (halted : Option FileName) → LeavesWell (commit_unless halted l h t conflict)
