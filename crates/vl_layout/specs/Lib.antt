@@ -16,5 +16,6 @@ pub mod Shows
 pub mod Sources
 pub mod Start
 pub mod Stock
+pub mod Store
 pub mod Tables
 pub mod Tickets
