@@ -1,2 +1,3 @@
 mod GarbageLaws
 mod Rows
+mod Scripts

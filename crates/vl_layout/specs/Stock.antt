@@ -1,5 +1,5 @@
 -- What an engine keeps tidy of its files: which numbers were drawn, what is retired, and what pins need.
-use Rattle.std.specs.Prelude.{◌≡◌, ◌⊎◌, ℕ, ◌<◌, ◌≤◌, ◌==◌, Bool, true, false, List, [], ◌∷◌, ◌++◌, map}
+use Rattle.std.specs.Prelude.{◌≡◌, ◌⊎◌, ℕ, ◌<◌, ◌≤◌, ◌==◌, Bool, false, List, [], ◌∷◌, ◌++◌}
 use Rattle.std.specs.List.{AllByRecursion, list_any}
 use Rattle.vl_model.specs.Numbers.{has}
 use Rattle.vl_model.specs.declared.entry.Entry.{Entry}

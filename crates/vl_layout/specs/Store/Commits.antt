@@ -1,5 +1,5 @@
 -- A history as plain lists, by which reads and conflicts compute.
-use Rattle.std.specs.Prelude.{ℕ, ◌+◌, nat_le, is_some, if◌then◌else◌, List, [], ◌∷◌, ◌++◌, map, Option, Some, None}
+use Rattle.std.specs.Prelude.{ℕ, ◌+◌, nat_le, is_some, List, [], ◌∷◌, ◌++◌, map, Option, None}
 use Rattle.std.specs.List.{filter}
 use Rattle.std.specs.FinMap.{find, from_sorted}
 use Rattle.vl_model.specs.Conflicts.{Named, named_from, is_overwritten, first_of}

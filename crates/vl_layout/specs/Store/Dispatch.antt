@@ -2,7 +2,6 @@
 use Rattle.std.specs.Prelude.{ℕ, ◌+◌, nat_le, if◌then◌else◌, List, [], ◌∷◌, ◌++◌, length, Option, Some, None}
 use Rattle.vl_model.specs.declared.change.Change.TheVariants as change
 use Rattle.vl_model.specs.declared.entry.Entry.{Entry}
-use Rattle.vl_model.specs.declared.way.Way.{Way}
 use Rattle.vl_layout.specs.Jobs.{Made, tables_made, job_ended}
 use Rattle.vl_layout.specs.Merging.{kept, outputs}
 use Rattle.vl_layout.specs.Relocation.{Pass, Candidate, next_batch}

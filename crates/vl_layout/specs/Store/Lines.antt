@@ -1,5 +1,5 @@
 -- The lines of a script, and their answers.
-use Rattle.std.specs.Prelude.{ℕ, List, Option}
+use Rattle.std.specs.Prelude.{ℕ, List}
 use Rattle.vl_model.specs.Keys.{Stored, Row}
 use Rattle.vl_model.specs.declared.counter.Counter.{Counter}
 use Rattle.vl_model.specs.declared.way.Way.{Way}

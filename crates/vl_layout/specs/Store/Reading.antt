@@ -2,7 +2,7 @@
 use Rattle.std.specs.Prelude.{ℕ, ◌+◌, Bool, ◌&&◌, ◌||◌, not, nat_le, nat_lt, if◌then◌else◌, List, [], ◌∷◌, ◌++◌, length, Option, Some, None}
 use Rattle.std.specs.List.{sum_by}
 use Rattle.std.specs.FinMap.{find, put, from_sorted}
-use Rattle.vl_model.specs.History.{value_left, last_number}
+use Rattle.vl_model.specs.History.{value_left}
 use Rattle.vl_model.specs.Keys.{Stored, Row, key_cmp, value_bytes, is_key_length, is_value_length}
 use Rattle.vl_model.specs.Limits.{max_key_bytes, max_transaction_keys, max_transaction_bytes}
 use Rattle.vl_model.specs.Reads.{Scan, KeyRead, RangeRead, scanned}
@@ -13,11 +13,10 @@ use Rattle.vl_layout.specs.Rulings.Begin as begin
 use Rattle.vl_layout.specs.Rulings.Begin.{BeginAnswer, begin_ruling}
 use Rattle.vl_layout.specs.Rulings.Commit as commit
 use Rattle.vl_layout.specs.Rulings.Commit.{Transaction, CommitAnswer, commit_unless}
-use Rattle.vl_layout.specs.Rulings.View.{View}
 use Rattle.vl_layout.specs.Sources.{floor}
-use Rattle.vl_layout.specs.Store.Commits.{Commits, Changes, history_in, with_changes, value_in, rows_in, low_in, conflict_in}
+use Rattle.vl_layout.specs.Store.Commits.{Changes, history_in, with_changes, value_in, rows_in, low_in, conflict_in}
 use Rattle.vl_layout.specs.Store.Lines.{Name, Answer, Done, Number, Value, NoValue, Dropped, Rows, Taken, Unknown, ReadOnly, Invalid, TooBig, TooMany, Nothing, Conflict, Full, Exhausted, Halted}
-use Rattle.vl_layout.specs.Store.Things.{Beginning, Thing, ATransaction, AView, AJob, APass, State, Step, only, thing_of, with_thing, without_thing}
+use Rattle.vl_layout.specs.Store.Things.{Beginning, Thing, ATransaction, AView, AJob, APass, State, Step, only, with_thing, without_thing}
 use Rattle.vl_layout.specs.declared.layout.Layout.{Layout}
 
 -- ---- begin and view
