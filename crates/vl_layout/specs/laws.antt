@@ -1,4 +1,5 @@
 pub mod CommitShows
+pub mod CommitsLaws
 pub mod FromLow
 pub mod LayoutShows
 pub mod LockHistoryLaws

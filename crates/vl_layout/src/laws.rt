@@ -1,9 +1,9 @@
 // Laws of the definitions: each is the contract of a function that does nothing.
 ghost use Rattle.std.specs.Prelude.{IsTrue, ◌≡◌, ◌≤◌, ◌<◌, ◌++◌, ◌∷◌, [], ℕ, List, Some, None, false};
-ghost use Rattle.std.specs.FinMap.{is_sorted};
+ghost use Rattle.std.specs.FinMap.{entries, is_sorted};
 ghost use Rattle.std.specs.List.{AllZip, AllByRecursion};
 ghost use Rattle.vl_model.specs.Entries.{in_order};
-ghost use Rattle.vl_model.specs.History.{History, last_number};
+ghost use Rattle.vl_model.specs.History.{History, contents_at, last_number, value_at};
 ghost use Rattle.vl_model.specs.Keys.{Stored, key_cmp};
 ghost use Rattle.vl_model.specs.Winners.{Logs, resolved};
 ghost use Rattle.vl_model.specs.declared.entry.Entry.{Entry};
@@ -20,6 +20,9 @@ ghost use Rattle.vl_layout.specs.Shows.{Shows, StandsFor, AreUpTo};
 ghost use Rattle.vl_layout.specs.Sources.{sources, oldest};
 ghost use Rattle.vl_block.specs.laws.CuttingLaws.{joined};
 ghost use Rattle.vl_block.specs.Cutting.{points_of, blocks};
+ghost use Rattle.vl_model.specs.Conflicts.{first_conflict};
+ghost use Rattle.vl_model.specs.Reads.{Read};
+ghost use Rattle.vl_layout.specs.Store.Commits.{AreProper, Commits, conflict_in, history_in, low_in, rows_in, value_in};
 ghost use Rattle.vl_layout.specs.Tables.{cut_into_tables};
 ghost use Rattle.vl_layout.specs.declared.layout.Layout.{Layout};
 ghost use Rattle.vl_layout.specs.declared.segment.Segment.{Segment};
@@ -120,4 +123,15 @@ pub fn best_has_the_greatest_share()
 pub fn cutting_keeps_all_entries()
     ensures blocks { (es : List Entry) → joined (blocks es) ≡ es }
     ensures tables { (es : List Entry) → joined (cut_into_tables es) ≡ es }
+{}
+
+/// Plain lists of commits give the values, rows, least numbers and conflicts of the history that they
+/// are.
+pub fn plain_commits_are_the_history()
+    ensures values { (p : Commits) (n : ℕ) (key : List ℕ) → AreProper p → value_in p n key ≡ value_at (history_in p) n key }
+    ensures rows { (p : Commits) (n : ℕ) → AreProper p → rows_in p n ≡ entries (contents_at (history_in p) n) }
+    ensures low { (p : Commits) (floor keep since : ℕ) (key : List ℕ) → AreProper p
+        → low_in p floor keep since key ≡ low (history_in p) floor keep since key }
+    ensures conflicts { (p : Commits) (n : ℕ) (reads : List Read) → AreProper p
+        → conflict_in p n reads ≡ first_conflict (history_in p) n reads }
 {}

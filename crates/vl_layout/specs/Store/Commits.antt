@@ -1,7 +1,8 @@
 -- A history as plain lists, by which reads and conflicts compute.
-use Rattle.std.specs.Prelude.{ℕ, ◌+◌, nat_le, is_some, List, [], ◌∷◌, ◌++◌, map, Option, None}
-use Rattle.std.specs.List.{filter}
-use Rattle.std.specs.FinMap.{find, from_sorted}
+use Rattle.std.specs.Prelude.{T, ℕ, ◌+◌, nat_le, is_some, List, [], ◌∷◌, ◌++◌, map, Option, None}
+use Rattle.std.specs.List.{AllByRecursion, filter}
+use Rattle.std.specs.Ordering.{nat_cmp}
+use Rattle.std.specs.FinMap.{find, from_sorted, is_sorted}
 use Rattle.vl_model.specs.Conflicts.{Named, named_from, is_overwritten, first_of}
 use Rattle.vl_model.specs.History.{History, newer, value_left}
 use Rattle.vl_model.specs.Keys.{Stored, Row, key_cmp}
@@ -72,3 +73,9 @@ low_in p floor keep since key = low_of (versions_in p key) floor keep since
 abbrev pub conflict_in : Commits → ℕ → List Read → Option Named
 conflict_in p number reads =
     first_of (filter (is_overwritten number reads) (named_from (p.first + 1) p.commits []))
+
+-- its lists rise: the base by numbers, and each of its changes and commits by keys
+pub record AreProper (p : Commits) : Type 0 where
+  pub numbers : T (is_sorted nat_cmp (map (λ (c : ℕ × Changes). (c.0, from_sorted {R = key_cmp} c.1)) p.base))
+  pub base : AllByRecursion (λ (c : ℕ × Changes). T (is_sorted key_cmp c.1)) p.base
+  pub commits : AllByRecursion (λ (c : Changes). T (is_sorted key_cmp c)) p.commits
