@@ -22,9 +22,6 @@ use Rattle.vl_block.specs.declared.points.Point.{Point}
 -- ---- points
 
 module _ (segment : ℕ) where
-  bytes_in : Point → ℕ
-  bytes_in p = if p.segment == segment then p.bytes else 0
-
   more : (b : Bool) (m n : ℕ) → cond b (m + n) 0 ≡ cond b n 0 + cond b m 0
   more true m n = omega arith
   more false m n = refl

@@ -1,4 +1,3 @@
 mod GarbageLaws
-mod LockHistoryLaws
 mod Rows
-mod TableLaws
+mod Scripts

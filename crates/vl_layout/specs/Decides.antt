@@ -7,18 +7,28 @@ use Rattle.vl_layout.specs.declared.layout.Layout.{Layout}
 
 -- what a call came to: an answer; want of memory; a call on a file that failed; or bytes of a file
 -- that aren't what should stand there, at a place
-pub data Came (A : Type 0) : Type 0 where
-  Answered : A → Came A
-  NoRoom : Came A
-  Failed : FileName → Came A
-  Spoiled : FileName → ℕ → Came A
+pub data Outcome (A : Type 0) : Type 0 where
+  Answered : A → Outcome A
+  NoMemory : Outcome A
+  Failed : FileName → Outcome A
+  Damaged : FileName → ℕ → Outcome A
+
+-- What is left where there is no answer: for want of memory, and, but for the halt, where a call on a
+-- file failed.
+pub record Otherwise : Type 0 where
+  pub short : Layout
+  pub lost : Layout
+
+-- of a call that takes all memory before it changes anything
+abbrev pub as_before : Layout → Layout → Otherwise
+as_before l lost = record { short = l; lost = lost }
 
 -- An answer is that of the ruling, and leaves what it leaves; a failed call, which comes only where the
--- engine isn't halted already, halts what is left then; after the others all is as before. `stands` says of
--- a history and a layout that the engine stands for them after the call.
+-- engine isn't halted already, halts what is left then; damage leaves all as before. `stands` says of a
+-- history and a layout that the engine stands for them after the call.
 pub record Decides {A : Type 0} (stands : History → Layout → Type 0) (h : History) (l : Layout)
-    (ruling : Ruling A) (lost : Layout) (came : Came A) : Type 0 where
-  pub answered : (a : A) → came ≡ Answered a → (a ≡ ruling.answer) × stands ruling.history ruling.layout
-  pub no_room : came ≡ NoRoom → stands h l
-  pub failed : (name : FileName) → came ≡ Failed name → (l.halted ≡ None) × stands h (halted_at name lost)
-  pub spoiled : (name : FileName) (place : ℕ) → came ≡ Spoiled name place → stands h l
+    (ruling : Ruling A) (otherwise : Otherwise) (outcome : Outcome A) : Type 0 where
+  pub answered : (a : A) → outcome ≡ Answered a → (a ≡ ruling.answer) × stands ruling.history ruling.layout
+  pub no_memory : outcome ≡ NoMemory → stands h otherwise.short
+  pub failed : (name : FileName) → outcome ≡ Failed name → (l.halted ≡ None) × stands h (halted_at name otherwise.lost)
+  pub damaged : (name : FileName) (place : ℕ) → outcome ≡ Damaged name place → stands h l

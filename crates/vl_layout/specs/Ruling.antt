@@ -1,5 +1,5 @@
 -- What a call of an engine answers and what it leaves, and the changes that several calls share.
-use Rattle.std.specs.Prelude.{ℕ, ◌+◌, ◌==◌, Bool, not, ◌&&◌, nat_lt, List, [], ◌∷◌, ◌++◌, map, Some, None}
+use Rattle.std.specs.Prelude.{ℕ, ◌+◌, ◌==◌, Bool, not, ◌&&◌, nat_lt, List, [], ◌∷◌, ◌++◌, map, Some}
 use Rattle.std.specs.List.{filter}
 use Rattle.vl_model.specs.Limits.{max_file_number, max_version_number}
 use Rattle.vl_model.specs.History.{History}
@@ -54,10 +54,6 @@ logged f l =
 -- a pin of the version of this moment
 abbrev pub pin_of : Layout → Pin
 pin_of l = record { version_number = l.version_number; needs = needed l }
-
--- without an open job
-abbrev pub freed : Layout → Layout
-freed l = record l { job = None }
 
 -- ---- retirement
 

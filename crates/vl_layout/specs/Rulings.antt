@@ -7,7 +7,9 @@ pub mod Drain
 pub mod EndPass
 pub mod Flush
 pub mod Forget
+pub mod Fresh
 pub mod Install
+pub mod Keep
 pub mod Next
 pub mod Pick
 pub mod Plan

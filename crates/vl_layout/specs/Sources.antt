@@ -18,6 +18,9 @@ use Rattle.vl_layout.specs.declared.table.Table.{Table}
 abbrev pub tables : Layout → List Table
 tables l = flat_map (λ level. level) l.levels
 
+abbrev pub numbers_of : List Table → List ℕ
+numbers_of ts = map (λ (t : Table). t.number) ts
+
 abbrev pub table_entries : Table → List Entry
 table_entries t = t.entries
 

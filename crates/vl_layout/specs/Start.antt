@@ -15,6 +15,9 @@ pub record Found : Type 0 where
   pub covered : ℕ
   pub next_log : ℕ
   pub next_table : ℕ
+  pub keep : ℕ
+  pub since : ℕ
+  pub gone : ℕ
 
 -- with nothing live, open, retired or failed
 abbrev pub layout_at_start : ℕ → Found → Layout
@@ -33,6 +36,9 @@ layout_at_start room found = record {
   pass = None;
   retired = [];
   halted = None;
+  keep = found.keep;
+  since = found.since;
+  gone = found.gone;
 }
 
 -- the levels from 0 to the deepest, without tables
@@ -49,4 +55,7 @@ fresh_layout room = layout_at_start room (record {
   covered = 0;
   next_log = 2;
   next_table = 1;
+  keep = 1;
+  since = 0;
+  gone = 0;
 })

@@ -39,8 +39,3 @@ tables_from table key closed open_bytes (e ∷ es) =
 abbrev pub cut_into_tables : List Entry → List (List Entry)
 cut_into_tables [] = []
 cut_into_tables (e ∷ es) = tables_from (e ∷ []) e.key 0 (begun_length e) es
-
--- tables of these entries, with the numbers from this one on
-abbrev pub numbered : ℕ → List (List Entry) → List Table
-numbered number [] = []
-numbered number (es ∷ others) = new_table number es ∷ numbered (number + 1) others

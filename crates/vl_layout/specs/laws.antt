@@ -1,8 +1,15 @@
--- Laws of the definitions beside this folder, which proofs in other crates cite. Nothing here is needed to read a contract.
 pub mod CommitShows
+pub mod CommitsLaws
+pub mod FromLow
 pub mod LayoutShows
+pub mod LockHistoryLaws
+pub mod LowRulings
+pub mod LowShows
 pub mod MergeShows
 pub mod OrderShows
 pub mod RelocationShows
+pub mod RisingLaws
 pub mod RulingShows
 pub mod ShowsLaws
+pub mod TableLaws
+pub mod TicketLaws

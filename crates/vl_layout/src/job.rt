@@ -19,15 +19,19 @@ pub struct Job {
     pub target: Target,
     pub base: LinkedList<(bool, Entry)>,
     pub floor: u64,
+    /// How many of the newest versions of a key it keeps.
+    pub keep: u8,
 }
 
-/// A job that is open, and each key that was relocated since it began, the latest first, with the
-/// version number that this made.
+/// A job that is open; each key that was relocated since it began, the latest first, with the
+/// version number that this made; and the numbers of the tables that were drawn for it, the
+/// earliest first.
 #[derive(Drop)]
 pub struct OpenJob {
     pub job: Job,
     pub pin: Pin,
     pub moved: LinkedList<(Key, u64)>,
+    pub lent: LinkedList<u32>,
 }
 
 /// A pass that is open over a segment.

@@ -1,19 +1,17 @@
 // Laws of the definitions: each is the contract of a function that does nothing.
-ghost use Rattle.std.specs.Prelude.{◌≡◌, ◌≤◌, ◌<◌, ◌++◌, ◌∷◌, [], ℕ, List, Some, None, false};
+ghost use Rattle.std.specs.Prelude.{IsTrue, ◌≡◌, ◌≤◌, ◌<◌, ◌++◌, ◌∷◌, [], ℕ, List, Some, None, false};
+ghost use Rattle.std.specs.FinMap.{entries, is_sorted};
 ghost use Rattle.std.specs.List.{AllZip, AllByRecursion};
 ghost use Rattle.vl_model.specs.Entries.{in_order};
-ghost use Rattle.vl_model.specs.History.{History, last_number};
-ghost use Rattle.vl_model.specs.Keys.{Stored};
+ghost use Rattle.vl_model.specs.History.{History, contents_at, last_number, value_at};
+ghost use Rattle.vl_model.specs.Keys.{Stored, key_cmp};
 ghost use Rattle.vl_model.specs.Winners.{Logs, resolved};
 ghost use Rattle.vl_model.specs.declared.entry.Entry.{Entry};
 ghost use Rattle.vl_layout.specs.Garbage.{far_bytes, pointed_bytes, best_of, is_better as is_better_than};
-ghost use Rattle.vl_layout.specs.laws.LayoutShows.{ArePlaced};
 ghost use Rattle.vl_layout.specs.Logs.{memtable};
-ghost use Rattle.vl_layout.specs.laws.MergeShows.{Marked, AreJustified, all_of, kept_of, inputs_of, outside_of, marks, plain};
-ghost use Rattle.vl_layout.specs.Merging.{Sourced};
-ghost use Rattle.vl_layout.specs.laws.OrderShows.{of_key, Gathers};
+ghost use Rattle.vl_layout.specs.Merging.{Sourced, inputs_of as sourced_inputs};
+ghost use Rattle.vl_model.specs.Versions.{low};
 ghost use Rattle.vl_layout.specs.Relocation.{Pass, Candidate};
-ghost use Rattle.vl_layout.specs.laws.RulingShows.{ShowsRuled, IsThere};
 ghost use Rattle.vl_layout.specs.Rulings.Commit.{Transaction, commit_ruling};
 ghost use Rattle.vl_layout.specs.Rulings.Flush.{flush_ruling};
 ghost use Rattle.vl_layout.specs.Rulings.Relocate.{relocate_ruling};
@@ -21,11 +19,16 @@ ghost use Rattle.vl_layout.specs.Rulings.Rotate.{rotate_ruling};
 ghost use Rattle.vl_layout.specs.Shows.{Shows, StandsFor, AreUpTo};
 ghost use Rattle.vl_layout.specs.Sources.{sources, oldest};
 ghost use Rattle.vl_block.specs.Cutting.{joined, points_of, blocks};
+ghost use Rattle.vl_model.specs.Conflicts.{first_conflict};
+ghost use Rattle.vl_model.specs.Reads.{Read};
+ghost use Rattle.vl_layout.specs.Store.Commits.{AreProper, Commits, conflict_in, history_in, low_in, rows_in, value_in};
 ghost use Rattle.vl_layout.specs.Tables.{cut_into_tables};
 ghost use Rattle.vl_layout.specs.declared.layout.Layout.{Layout};
 ghost use Rattle.vl_layout.specs.declared.segment.Segment.{Segment};
 ghost use Rattle.vl_layout.specs.declared.segment.SegmentStat.{SegmentStat};
 ghost use Rattle.vl_layout.specs.declared.table.Table.{Table};
+ghost use Rattle.vl_layout.specs.Shown.{ArePlaced, AreOf, Fits, of_key, Gathers, ShowsRuled, IsThere};
+ghost use Rattle.vl_layout.specs.Marks.{Marked, AreJustified, all_of, kept_of, inputs_of, outside_of, marks, plain};
 
 /// Where each entry stands for the one in whose place it is, the same is shown: as after a flush,
 /// or in other logs.
@@ -59,7 +62,7 @@ pub fn one_version_leads_to_one_value()
 /// Whatever a commit answers, the layout that it leaves shows the history that it leaves.
 pub fn shown_after_a_commit()
     ensures { (logs : Logs) (from : List ℕ → ℕ) (l : Layout) (h : History) (t : Transaction)
-        → AreUpTo (last_number h) (sources l)
+        → IsTrue (is_sorted key_cmp t.writes) → AreUpTo (last_number h) (sources l)
         → ((key : List ℕ) → from key ≤ last_number h)
         → Shows logs (sources l) h from (last_number h)
         → ShowsRuled logs from (commit_ruling l h t) }
@@ -87,16 +90,17 @@ pub fn shown_after_a_relocation()
         → ShowsRuled logs from (relocate_ruling l h pass batch) }
 {}
 
-/// What a merge leaves of the sources shows the same from its floor on: at once, and also later,
-/// where a rule drops now whatever it drops, and nothing that it keeps of its inputs is outdated.
+/// What a merge leaves of the sources shows the same from low on, at the floor, v and since that there
+/// are when it is put in place: where it keeps at least as many versions as are kept then, or its floor
+/// isn't above since.
 pub fn shown_after_a_merge()
-    ensures at_once { (logs : Logs) (ss : List Sourced) (floor : ℕ) (h : History) (from : List ℕ → ℕ) (to : ℕ)
-        → ((key : List ℕ) → floor ≤ from key)
-        → Shows logs (plain ss) h from to → Shows logs (kept_of (marks ss floor)) h from to }
-    ensures later { (logs : Logs) (ms : List Marked) (floor : ℕ) (h : History) (from : List ℕ → ℕ) (to : ℕ)
-        → ((key : List ℕ) → floor ≤ from key)
-        → AreJustified (inputs_of ms) (outside_of ms) floor [] ms → Shows logs (all_of ms) h from to
-        → Shows logs (kept_of ms) h from to }
+    ensures at_once { (logs : Logs) (keep : ℕ) (ss : List Sourced) (floor : ℕ) (h : History) (since to : ℕ)
+        → 1 ≤ keep → AreOf h (sourced_inputs ss) → Shows logs (plain ss) h (low h floor keep since) to
+        → Shows logs (kept_of (marks keep ss floor)) h (low h floor keep since) to }
+    ensures later { (logs : Logs) (ms : List Marked) (keep floor : ℕ) (h : History) (now v since to : ℕ)
+        → 1 ≤ keep → floor ≤ now → Fits keep floor v since → AreOf h (inputs_of ms)
+        → AreJustified keep (inputs_of ms) (outside_of ms) floor [] ms
+        → Shows logs (all_of ms) h (low h now v since) to → Shows logs (kept_of ms) h (low h now v since) to }
 {}
 
 /// What a table's footer says of a segment is the sum of the lengths of all records there that its
@@ -118,4 +122,15 @@ pub fn best_has_the_greatest_share()
 pub fn cutting_keeps_all_entries()
     ensures blocks { (es : List Entry) → joined (blocks es) ≡ es }
     ensures tables { (es : List Entry) → joined (cut_into_tables es) ≡ es }
+{}
+
+/// Plain lists of commits give the values, rows, least numbers and conflicts of the history that they
+/// are.
+pub fn plain_commits_are_the_history()
+    ensures values { (p : Commits) (n : ℕ) (key : List ℕ) → AreProper p → value_in p n key ≡ value_at (history_in p) n key }
+    ensures rows { (p : Commits) (n : ℕ) → AreProper p → rows_in p n ≡ entries (contents_at (history_in p) n) }
+    ensures low { (p : Commits) (floor keep since : ℕ) (key : List ℕ) → AreProper p
+        → low_in p floor keep since key ≡ low (history_in p) floor keep since key }
+    ensures conflicts { (p : Commits) (n : ℕ) (reads : List Read) → AreProper p
+        → conflict_in p n reads ≡ first_conflict (history_in p) n reads }
 {}

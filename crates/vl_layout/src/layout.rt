@@ -23,6 +23,12 @@ pub struct Layout {
     pub version_number: u64,
     /// The longest that a log may get.
     pub room: u64,
+    /// How many of the newest versions of a key are kept, and the last number when that was raised last.
+    pub keep: u8,
+    pub since: u64,
+    /// The greatest version of a deletion that a merge dropped for good.
+    pub gone: u64,
+    /// The live transactions and views, by rising tickets.
     pub live: LinkedList<Live>,
     pub job: Option<OpenJob>,
     pub pass: Option<OpenPass>,

@@ -2,7 +2,7 @@
 use Rattle.std.proofs.Common.{length-take, ◌≡◌, ℕ, ◌+◌, ◌-◌, ◌≤◌, ◌<◌, suc, Bool, true, false, cond, not, ◌&&◌, ◌||◌, List, [], ◌∷◌, length, take, reverse, refl, ap, sym, ◌∙◌, arith, ⊎_elim}
 use Rattle.std.proofs.lemmas.Bool.{cases_lt}
 use Rattle.std.proofs.lemmas.Bool.Decides.{nat_tests}
-use Rattle.std.specs.Prelude.{T, Option, Some, None, nat_le, nat_lt, if◌then◌else◌}
+use Rattle.std.specs.Prelude.{T, Option, Some, None, min, nat_le, nat_lt, if◌then◌else◌}
 use Rattle.std.specs.Option.{option_map}
 use Rattle.std.specs.Ordering.{eq_by_cmp, is_eq, is_lt, is_gt, ordering_reverse}
 use Rattle.std.specs.declared.cmp.Ordering.{Ordering}
@@ -11,9 +11,9 @@ use Rattle.std.specs.Cmp.{back_total}
 use Rattle.std.specs.Cmp.Lexicographic.{nat_list_cmp_total}
 use Rattle.std.specs.FinMap.{entries, entries_sorted, find, get, get-entries}
 use Rattle.std.specs.FinMap.Entries.{is_sorted, where_key, is_sorted-put, is_sorted-where_key, find-put, find-where_key, same_entries}
-use Rattle.vl_model.specs.Keys.{Row, Writes, Pairs, key_cmp}
-use Rattle.vl_model.specs.History.{History, newer, last_change, last_naming, value_left, value_at, contents_at, last_number}
-use Rattle.vl_model.specs.laws.HistoryLaws.{take_all, get-contents_at}
+use Rattle.vl_model.specs.Keys.{Stored, Row, Writes, Pairs, key_cmp}
+use Rattle.vl_model.specs.History.{History, past_value, newer, last_change, last_naming, value_left, value_at, contents_at, last_number}
+use Rattle.vl_model.specs.laws.HistoryLaws.{take_all, get-contents_at, past_stays}
 use Rattle.vl_model.specs.Reads.{Scan, Read, KeyRead, RangeRead, is_within, rows_written, in_direction, scanned, bound, last_key, covered_to, covered, is_from, is_up_to, is_in_span, is_read_by, is_read, IsExplainedRead, IsExplained}
 use Rattle.vl_model.specs.Conflicts.{Named, is_overwritten, overwritten, passing, first_of, first_conflict}
 use Rattle.vl_model.specs.laws.ConflictLaws.{find-overwritten}
@@ -85,15 +85,17 @@ change_stays (w ∷ later) number n q up = ⊎_elim
     unnamed less (Some m) is up = absurd (let least = named_from_here number (w ∷ later) q m is in omega (arith, less, least, up))
 
 -- what stood at a number stands at the last one, where no later commit names the key
-pub value_stays : (h : History) (n : ℕ) (q : List ℕ)
+pub value_stays : (h : History) (n : ℕ) (q : List ℕ) → h.first ≤ n
     → IsNotAbove n (last_naming (h.first + 1) h.commits q)
     → value_at h (last_number h) q ≡ value_at h n q
-value_stays h n q up =
+value_stays h n q least up =
     let whole : take (h.first + length h.commits - h.first) h.commits ≡ h.commits = take_all h.commits (h.first + length h.commits - h.first) (omega arith) in
     let count : n + 1 - (h.first + 1) ≡ n - h.first = omega arith in
-    ap (λ (cs : List Writes). value_left (get h.base q) (last_change cs q)) whole
-    ∙ ap (value_left (get h.base q)) (sym (change_stays h.commits (h.first + 1) n q up))
-    ∙ ap (λ k. value_left (get h.base q) (last_change (take k h.commits) q)) count
+    let old = past_value h.base (min n h.first) q in
+    ap (λ (o : Option Stored). value_left o (last_change (take (h.first + length h.commits - h.first) h.commits) q)) (past_stays h (h.first + length h.commits) n q (omega arith) least)
+    ∙ ap (λ (cs : List Writes). value_left old (last_change cs q)) whole
+    ∙ ap (value_left old) (sym (change_stays h.commits (h.first + 1) n q up))
+    ∙ ap (λ k. value_left old (last_change (take k h.commits) q)) count
 
 not_overwritten : (h : History) (n : ℕ) (reads : List Read) (q : List ℕ)
     → overwritten h n reads ≡ [] → is_read reads q ≡ true
@@ -302,11 +304,11 @@ module _ (h : History) (n : ℕ) where
       later false b is = is
 
   -- Reads that nothing overwrote are explained at the last number as well as at their own.
-  pub reads_stay_explained : (reads : List Read) → overwritten h n reads ≡ []
+  pub reads_stay_explained : (reads : List Read) → h.first ≤ n → overwritten h n reads ≡ []
       → IsExplained h n reads → IsExplained h (last_number h) reads
-  reads_stay_explained reads none explained =
-      all_stay reads (λ q covers. value_stays h n q (not_overwritten h n reads q none covers)) explained
+  reads_stay_explained reads least none explained =
+      all_stay reads (λ q covers. value_stays h n q least (not_overwritten h n reads q none covers)) explained
 
-  pub explained_without_conflict : (reads : List Read) → first_conflict h n reads ≡ None
+  pub explained_without_conflict : (reads : List Read) → h.first ≤ n → first_conflict h n reads ≡ None
       → IsExplained h n reads → IsExplained h (last_number h) reads
-  explained_without_conflict reads none explained = reads_stay_explained reads (no_first (overwritten h n reads) none) explained
+  explained_without_conflict reads least none explained = reads_stay_explained reads least (no_first (overwritten h n reads) none) explained

@@ -1,16 +1,28 @@
 -- The accepted commits, oldest first, over a base: what each key has after each of them.
-use Rattle.std.specs.Prelude.{◌≡◌, ◌+◌, ◌-◌, ℕ, List, [], ◌∷◌, length, take, Option, Some, None, ◌++◌}
+use Rattle.std.specs.Prelude.{◌≡◌, ◌+◌, ◌-◌, ℕ, min, nat_le, List, [], ◌∷◌, length, take, map, Option, Some, None, ◌++◌}
 use Rattle.std.specs.Option.{option_map}
-use Rattle.std.specs.FinMap.{get, insert, remove, entries, empty}
-use Rattle.vl_model.specs.Keys.{Stored, Pairs, Writes}
+use Rattle.std.specs.List.{filter}
+use Rattle.std.specs.Ordering.{nat_cmp}
+use Rattle.std.specs.FinMap.{FinMap, get, insert, remove, entries, empty, from_sorted}
+use Rattle.vl_model.specs.Keys.{Stored, Row, Pairs, Writes}
 use Rattle.vl_model.specs.declared.change.Change.{Change}
 use Rattle.vl_model.specs.declared.change.Change.TheVariants.{Set, Delete}
 
--- the i-th commit, counted from 1, has the number first + i
+-- what is known of the versions up to a number: of each number, what was done to some keys
+abbrev pub Past : Type 0
+Past = FinMap nat_cmp Writes
+
+-- The i-th commit, counted from 1, has the number first + i. Of a base versions above the first number
+-- don't count.
 pub record History : Type 0 where
   pub first : ℕ
-  pub base : Pairs
+  pub base : Past
   pub commits : List Writes
+
+-- what stands at a number, as versions of that number
+abbrev pub standing_at : ℕ → Pairs → Past
+standing_at number pairs =
+    from_sorted ((number, from_sorted (map (λ (row : Row). (row.0, Set row.1)) (entries pairs))) ∷ [])
 
 -- the history of a new store
 abbrev pub no_history : History
@@ -58,11 +70,19 @@ value_left old None = old
 value_left old (Some (Set value)) = Some value
 value_left old (Some Delete) = None
 
--- What a key has at a number from the first to the last: the value that the last commit up to it
--- that names the key sets, none where that commit deletes it, and the base's where there is no such
--- commit
+-- what is known of the versions numbered at most n, the least first
+abbrev pub known_up_to : ℕ → Past → List Writes
+known_up_to n past = map (λ (c : ℕ × Writes). c.1) (filter (λ (c : ℕ × Writes). nat_le c.0 n) (entries past))
+
+-- what a base gives a key at a number
+abbrev pub past_value : Past → ℕ → List ℕ → Option Stored
+past_value past n key = value_left None (last_change (known_up_to n past) key)
+
+-- What a key has at a number up to the last: the value of its greatest version that is at most the
+-- number, in the base or a commit; none if that is a deletion or there is no such version
 abbrev pub value_at : History → ℕ → List ℕ → Option Stored
-value_at h n key = value_left (get h.base key) (last_change (commits_up_to h n) key)
+value_at h n key =
+    value_left (past_value h.base (min n h.first) key) (last_change (commits_up_to h n) key)
 
 -- the pairs after one change
 abbrev pub changed : Pairs → List ℕ → Change → Pairs
@@ -81,4 +101,5 @@ pairs_after pairs (writes ∷ later) = pairs_after (changed_by pairs (entries wr
 
 -- all that stands at a number: each key that has a value, with it
 abbrev pub contents_at : History → ℕ → Pairs
-contents_at h n = pairs_after h.base (commits_up_to h n)
+contents_at h n =
+    pairs_after (pairs_after empty (known_up_to (min n h.first) h.base)) (commits_up_to h n)

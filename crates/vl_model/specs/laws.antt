@@ -1,4 +1,6 @@
--- Laws of the definitions beside this folder, which proofs in other crates cite. Nothing here is needed to read a contract.
 pub mod ConflictLaws
+pub mod ExplainedLaws
 pub mod HistoryLaws
+pub mod NumberLaws
+pub mod VersionLaws
 pub mod WinnerLaws

@@ -1,18 +1,18 @@
 // Laws of the definitions: each is the contract of a function that does nothing.
-ghost use Rattle.std.specs.Prelude.{◌≡◌, ◌≤◌, ◌+◌, ◌++◌, ℕ, true, List, None, IsTrue};
+ghost use Rattle.std.specs.Prelude.{[], ◌≡◌, ◌≤◌, ◌+◌, ◌++◌, ℕ, true, List, None, IsTrue};
 ghost use Rattle.std.specs.List.{filter};
 ghost use Rattle.std.specs.FinMap.{get, find, is_sorted};
 ghost use Rattle.std.specs.Ordering.{eq_by_cmp};
 ghost use Rattle.vl_model.specs.Conflicts.{overwritten, is_overwritten, passing, first_conflict};
 ghost use Rattle.vl_model.specs.Entries.{in_order};
-ghost use Rattle.vl_model.specs.Keys.{Writes, key_cmp};
+ghost use Rattle.vl_model.specs.Keys.{Pairs, Writes, key_cmp};
 ghost use Rattle.vl_model.specs.Placement.{placed, is_placed, IsLogged};
 ghost use Rattle.vl_model.specs.Reads.{Read, IsExplained};
 ghost use Rattle.vl_model.specs.Winners.{winner, newest_of};
 ghost use Rattle.vl_model.specs.declared.entry.Entry.{Entry};
 ghost use Rattle.vl_model.specs.Limits.{max_key_bytes, max_value_bytes, max_inline_bytes, max_transaction_keys, max_transaction_bytes, max_live, min_room, max_room, max_level, max_batch_records, max_batch_bytes, max_commit_number, max_file_number, max_version_number, max_sessions};
 ghost use Rattle.vl_model.specs.declared.limits.TheConstants.{MAX_KEY_BYTES, MAX_VALUE_BYTES, MAX_INLINE_BYTES, MAX_TRANSACTION_KEYS, MAX_TRANSACTION_BYTES, MAX_LIVE, MIN_ROOM, MAX_ROOM, MAX_LEVEL, MAX_BATCH_RECORDS, MAX_BATCH_BYTES, MAX_COMMIT_NUMBER, MAX_FILE_NUMBER, MAX_VERSION_NUMBER, MAX_SESSIONS};
-ghost use Rattle.vl_model.specs.History.{History, Extends, last_naming, value_at, contents_at, last_number, with_commit, value_left};
+ghost use Rattle.vl_model.specs.History.{standing_at, History, past_value, Extends, last_naming, value_at, contents_at, last_number, with_commit, value_left};
 
 /// The contents at a number have, at each key, the value that stands there at that number.
 pub fn contents_agree_with_values()
@@ -21,7 +21,13 @@ pub fn contents_agree_with_values()
 
 /// Up to the first number there is no commit, and what stands is the base.
 pub fn value_without_commits()
-    ensures { (h : History) (n : ℕ) (key : List ℕ) → n ≤ h.first → value_at h n key ≡ get h.base key }
+    ensures { (h : History) (n : ℕ) (key : List ℕ) → n ≤ h.first → value_at h n key ≡ past_value h.base n key }
+{}
+
+/// Contents that stand at a number are the versions of a base, which gives just them.
+pub fn a_base_that_stands_at_a_number()
+    ensures { (number : ℕ) (pairs : Pairs) →
+        contents_at (record { first = number; base = standing_at number pairs; commits = [] }) number ≡ pairs }
 {}
 
 /// A commit leaves what stood at the numbers before it, and at its own number changes just the keys
@@ -53,7 +59,7 @@ pub fn overwritten_keys_are_read_and_named_later()
 /// Without a conflict what a transaction read is explained at the last number as well as at its
 /// own: it may as well have read there.
 pub fn reads_without_conflict_stay_explained()
-    ensures { (h : History) (n : ℕ) (reads : List Read) → first_conflict h n reads ≡ None
+    ensures { (h : History) (n : ℕ) (reads : List Read) → h.first ≤ n → first_conflict h n reads ≡ None
         → IsExplained h n reads → IsExplained h (last_number h) reads }
 {}
 

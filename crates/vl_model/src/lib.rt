@@ -23,7 +23,7 @@ pub use counter::Counter;
 pub use cursor::Cursor;
 pub use entry::{Body, Entry};
 pub use laws::{
-    constants_are_the_limits, contents_agree_with_values,
+    a_base_that_stands_at_a_number, constants_are_the_limits, contents_agree_with_values,
     overwritten_keys_are_read_and_named_later, placed_entries_may_stand_in_tables,
     reads_without_conflict_stay_explained, value_after_one_more_commit, value_without_commits,
     values_stay, winners_of_a_key, winners_of_parts,

@@ -2,7 +2,6 @@
 use Rattle.std.proofs.Common.{◌≡◌, ⊎_elim, ℕ, ◌-◌, ◌^◌, ◌≤◌, List, [], length, Some, None, Result, Ok, Err, refl, sym, ◌∙◌, ap, subst, arith}
 use Rattle.std.specs.Prelude.{IfOk, IfErr}
 use Rattle.std.specs.FinMap.{empty, get-empty}
-use Rattle.std.proofs.lemmas.List.{take_all}
 use Rattle.vl_replay.specs.Text.{reopened_text}
 use Rattle.vl_disk.specs.Crash.{Image}
 use Rattle.vl_disk.specs.DiskState.{DiskState, empty_disk}
@@ -18,7 +17,8 @@ use Rattle.vl_disk.specs.FaultPlan.{new_plan}
 use Rattle.vl_mem.specs.MemDisk.{changes_of, faults_of, reads_of, state_of, told_by}
 use Rattle.vl_mem.specs.contracts.mem_disk.MemDiskWatched.TheImpl as memory
 use Rattle.vl_mem.specs.declared.mem_disk.MemDisk.{MemDisk}
-use Rattle.vl_model.specs.History.{History, contents_at, pairs_after}
+use Rattle.vl_model.specs.History.{History, contents_at}
+use Rattle.vl_model.specs.laws.HistoryLaws.{contents_at-standing_at}
 use Rattle.vl_recover.specs.opening.Answers.{AnswersBy, Finds, calls_to_open}
 use Rattle.vl_recover.specs.crash.Meanwhile.{IsMeanwhile}
 use Rattle.vl_recover.specs.opening.Results.{HasFailed, recovery_by, opened_of}
@@ -140,7 +140,7 @@ is_fault_too (why.Disk name) by = tt
 
 -- the history goes on with what it has at the number
 contents_again : (h : History) (m : ℕ) → contents_at (gone_on_from h m) m ≡ contents_at h m
-contents_again h m = ap (pairs_after (contents_at h m)) (take_all (m - m) [] (omega arith))
+contents_again h m = contents_at-standing_at m (contents_at h m)
 
 module _ (image : Image) (h : History) (m : ℕ) (disk : MemDisk) (started : Started image (state_of disk)) (again : Reopens image h m) where
   pub lawful_up : (files : ℕ) × OpensUpTo files (state_of disk) again.found

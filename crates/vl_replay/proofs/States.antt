@@ -18,7 +18,7 @@ use Rattle.vl_model.specs.History.{History, last_number, with_commit, value_at, 
 use Rattle.vl_model.specs.Reads.{KeyRead}
 use Rattle.vl_model.specs.declared.change.Change.{Change}
 use Rattle.vl_model.specs.declared.change.Change.TheVariants.{Set as Put, Delete}
-use Rattle.vl_model.specs.laws.HistoryLaws.{value_at-with_commit}
+use Rattle.vl_model.specs.laws.HistoryLaws.{value_at-with_commit, value_at-before}
 use Rattle.vl_replay.specs.Memtable.{newest}
 use Rattle.vl_replay.specs.Opened.{opened_value}
 use Rattle.vl_replay.specs.Sequential as sequential
@@ -278,11 +278,6 @@ gives_unknown_dropped r s name o rep is none =
     gives_as _ (ap (dropped s name) missing) (record { answer_is = refl; stands = rep })
 
 -- ---- commits
-
--- the numbers up to the last keep what they had
-pub value_at-before : (h : History) (writes : Writes) (n : ℕ) (key : List ℕ) → n ≤ last_number h → value_at (with_commit h writes) n key ≡ value_at h n key
-value_at-before h writes n key le =
-    ap (λ commits. value_left (get h.base key) (last_change commits key)) (take-append-le (n - h.first) h.commits (writes ∷ []) (omega arith))
 
 newest-later : (entries : List Entry) (key : List ℕ) (m n : ℕ) → AllByRecursion (λ (entry : Entry). entry.version ≤ m) entries → m ≤ n → newest entries key n ≡ newest entries key m
 newest-later [] key m n all le = refl

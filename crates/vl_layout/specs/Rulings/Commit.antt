@@ -1,9 +1,9 @@
 -- A transaction commits: its writes become the next commit where nothing that it read was
 -- overwritten.
-use Rattle.std.specs.Prelude.{ℕ, ◌+◌, ◌==◌, nat_le, if◌then◌else◌, List, [], Option, Some, None}
-use Rattle.std.specs.FinMap.{entries, len}
+use Rattle.std.specs.Prelude.{ℕ, ◌+◌, ◌==◌, nat_le, if◌then◌else◌, List, [], length, Option, Some, None}
+use Rattle.std.specs.FinMap.{from_sorted}
 use Rattle.vl_model.specs.Limits.{max_commit_number}
-use Rattle.vl_model.specs.Keys.{Writes}
+use Rattle.vl_model.specs.declared.change.Change.{Change}
 use Rattle.vl_model.specs.History.{History, last_number, with_commit}
 use Rattle.vl_model.specs.Reads.{Read}
 use Rattle.vl_model.specs.Conflicts.{Named, first_conflict}
@@ -16,12 +16,13 @@ use Rattle.vl_layout.specs.Ruling.{Ruling, leaving, ended, logged}
 use Rattle.vl_layout.specs.declared.file_name.FileName.{FileName}
 use Rattle.vl_layout.specs.declared.layout.Layout.{Layout}
 
--- a transaction: its ticket, the number at which it reads, what it read and what it wrote
+-- a transaction: its ticket, the number at which it reads, what it read and what it wrote, in key
+-- order
 pub record Transaction : Type 0 where
   pub ticket : ℕ
   pub number : ℕ
   pub reads : List Read
-  pub writes : Writes
+  pub writes : List (List ℕ × Change)
 
 pub data CommitAnswer : Type 0 where
   At : ℕ → CommitAnswer
@@ -33,8 +34,8 @@ pub data CommitAnswer : Type 0 where
   -- the length of the active log, and that of the frame
   Full : ℕ → ℕ → CommitAnswer
 
-abbrev pub commit_frame : History → Writes → LogFrame
-commit_frame h writes = Committed (last_number h + 1) (entries writes)
+abbrev pub commit_frame : History → List (List ℕ × Change) → LogFrame
+commit_frame h writes = Committed (last_number h + 1) writes
 
 -- what is left where writing the frame fails, but for the halt
 abbrev pub commit_lost : Layout → Transaction → Layout
@@ -46,7 +47,7 @@ commit_ended answer l h t = leaving answer h (ended t.ticket l)
 abbrev pub committed : Layout → History → Transaction → Ruling CommitAnswer
 committed l h t = record {
   answer = At (last_number h + 1);
-  history = with_commit h t.writes;
+  history = with_commit h (from_sorted t.writes);
   layout = logged (commit_frame h t.writes) (ended t.ticket l);
   calls = 2;
   gone = [];
@@ -61,7 +62,7 @@ commit_checked l h t None =
 
 abbrev pub commit_running : Layout → History → Transaction → Option Named → Ruling CommitAnswer
 commit_running l h t conflict =
-    if len t.writes == 0 then commit_ended Nothing l h t
+    if length t.writes == 0 then commit_ended Nothing l h t
     else (if nat_le max_commit_number (last_number h) then leaving (Exhausted CommitNumber) h l
     else commit_checked l h t conflict)
 

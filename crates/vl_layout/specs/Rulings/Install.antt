@@ -1,5 +1,5 @@
 -- The tables of a merge take the place of its inputs.
-use Rattle.std.specs.Prelude.{ℕ, ◌+◌, ◌*◌, if◌then◌else◌, List, [], ◌∷◌, length, Option, Some, None}
+use Rattle.std.specs.Prelude.{ℕ, ◌+◌, if◌then◌else◌, List, [], ◌∷◌, ◌++◌, Option, Some, None}
 use Rattle.std.specs.FinMap.{find, put}
 use Rattle.std.specs.List.{filter}
 use Rattle.vl_model.specs.Keys.{key_cmp}
@@ -8,11 +8,11 @@ use Rattle.vl_model.specs.History.{History}
 use Rattle.vl_model.specs.declared.counter.Counter.{Counter}
 use Rattle.vl_model.specs.declared.counter.Counter.TheVariants as counter
 use Rattle.vl_model.specs.declared.entry.Entry.{Entry}
+use Rattle.vl_layout.specs.Jobs.{Made, loose, job_ended}
 use Rattle.vl_layout.specs.Levels.{is_one, replaced}
-use Rattle.vl_layout.specs.Merging.{needless}
+use Rattle.vl_layout.specs.Merging.{needless, gone_after}
 use Rattle.vl_layout.specs.Sources.{tables}
-use Rattle.vl_layout.specs.Tables.{numbered}
-use Rattle.vl_layout.specs.Ruling.{Ruling, leaving, freed, switched, has_no_number, has_no_version}
+use Rattle.vl_layout.specs.Ruling.{Ruling, leaving, switched, has_no_version}
 use Rattle.vl_layout.specs.declared.file_name.FileName.{FileName}
 use Rattle.vl_layout.specs.declared.job.Job.{Job}
 use Rattle.vl_layout.specs.declared.job.OpenJob.{OpenJob}
@@ -31,45 +31,50 @@ abbrev pub moved_since : Option OpenJob → List Named
 moved_since None = []
 moved_since (Some job) = job.moved
 
-abbrev pub noted : List ℕ → Option ℕ → List Named → List Named
-noted key None others = others
-noted key (Some number) others = put key_cmp key number others
+-- with the last move of a key, where it was moved
+abbrev pub with_move : List ℕ → Option ℕ → List Named → List Named
+with_move key None others = others
+with_move key (Some number) others = put key_cmp key number others
 
 -- of these deletions the keys that were moved, in rising order, each with its last move
 abbrev pub moved_among : List Named → List Entry → List Named
 moved_among moved [] = []
-moved_among moved (e ∷ es) = noted e.key (find key_cmp e.key moved) (moved_among moved es)
+moved_among moved (e ∷ es) = with_move e.key (find key_cmp e.key moved) (moved_among moved es)
 
 -- the least key of which the merge drops a deletion that the first two rules leave, and that was
 -- moved since it began
 abbrev pub race : Job → List Named → Option Named
 race job moved = first_of (moved_among moved (needless job))
 
-abbrev pub installed : Layout → Job → List (List Entry) → Layout
-installed l job output = switched (filter (is_one job.inputs) (tables l)) (record l {
-  levels = replaced job.target job.inputs (numbered l.next_table output) l.levels;
-  next_table = l.next_table + length output;
+-- with its tables in the place of its inputs, before files retire, but for its leavings, which are
+-- retired at 0
+abbrev pub put_in : Job → Made → Layout → Layout
+put_in job made l = record l {
+  levels = replaced job.target job.inputs made.tables l.levels;
   version_number = l.version_number + 1;
   job = None;
-})
+  retired = l.retired ++ loose made.leavings;
+  gone = gone_after l.gone (needless job);
+}
+
+abbrev pub installed : Job → Made → Layout → Layout
+installed job made l = switched (filter (is_one job.inputs) (tables l)) (put_in job made l)
 
 -- what is left where the switch fails, but for the halt
-abbrev pub install_lost : Layout → Layout
-install_lost l = freed l
+abbrev pub install_lost : Made → Layout → Layout
+install_lost made l = job_ended made l
 
-abbrev pub install_checked : Layout → History → Job → List (List Entry) → Option Named
-    → Ruling InstallAnswer
-install_checked l h job output (Some named) = leaving (Raced named.0 named.1) h (freed l)
-install_checked l h job output None =
-    if has_no_number l.next_table (length output) then leaving (Exhausted counter.Table) h (freed l)
-    else (if has_no_version l then leaving (Exhausted counter.Version) h (freed l)
-    else record { answer = Installed; history = h; layout = installed l job output; calls = 2 + 3 * length output; gone = [] })
+abbrev pub install_checked : Layout → History → Job → Made → Option Named → Ruling InstallAnswer
+install_checked l h job made (Some named) =
+    leaving (Raced named.0 named.1) h (job_ended made l)
+install_checked l h job made None =
+    if has_no_version l then leaving (Exhausted counter.Version) h (job_ended made l)
+    else record { answer = Installed; history = h; layout = installed job made l; calls = 2; gone = [] }
 
-abbrev pub install_unless : Option FileName → Layout → History → Job → List (List Entry)
-    → Ruling InstallAnswer
-install_unless (Some name) l h job output = leaving (Halted name) h (freed l)
-install_unless None l h job output = install_checked l h job output (race job (moved_since l.job))
+abbrev pub install_unless : Option FileName → Layout → History → Job → Made → Ruling InstallAnswer
+install_unless (Some name) l h job made = leaving (Halted name) h (job_ended made l)
+install_unless None l h job made = install_checked l h job made (race job (moved_since l.job))
 
--- of the tables' entries that the job's merge gave
-abbrev pub install_ruling : Layout → History → Job → List (List Entry) → Ruling InstallAnswer
-install_ruling l h job output = install_unless l.halted l h job output
+-- of the open job, which has all the tables of its merge
+abbrev pub install_ruling : Layout → History → Job → Made → Ruling InstallAnswer
+install_ruling l h job made = install_unless l.halted l h job made

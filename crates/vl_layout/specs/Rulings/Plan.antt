@@ -6,7 +6,7 @@ use Rattle.vl_model.specs.declared.entry.Entry.{Entry}
 use Rattle.vl_layout.specs.Levels.{due_from, inputs_at, is_one}
 use Rattle.vl_layout.specs.Logs.{memtable}
 use Rattle.vl_layout.specs.Merging.{Sourced}
-use Rattle.vl_layout.specs.Sources.{tables, floor}
+use Rattle.vl_layout.specs.Sources.{tables, floor, numbers_of}
 use Rattle.vl_layout.specs.Ruling.{Ruling, leaving, pin_of}
 use Rattle.vl_layout.specs.declared.job.Job.{Job}
 use Rattle.vl_layout.specs.declared.job.OpenJob.{OpenJob}
@@ -14,9 +14,6 @@ use Rattle.vl_layout.specs.declared.job.Target.{Target}
 use Rattle.vl_layout.specs.declared.job.Target.TheVariants.{Level}
 use Rattle.vl_layout.specs.declared.layout.Layout.{Layout}
 use Rattle.vl_layout.specs.declared.table.Table.{Table}
-
-abbrev pub numbers_of : List Table → List ℕ
-numbers_of ts = map (λ (t : Table). t.number) ts
 
 abbrev pub marked_as : Bool → List Entry → List Sourced
 marked_as input es = map (λ e. (input, e)) es
@@ -30,10 +27,10 @@ sourced l inputs =
 -- the merge of these tables
 abbrev pub job_of : Layout → History → List Table → Target → Job
 job_of l h inputs target =
-    record { inputs = numbers_of inputs; target = target; base = sourced l (numbers_of inputs); floor = floor l h }
+    record { inputs = numbers_of inputs; target = target; base = sourced l (numbers_of inputs); floor = floor l h; keep = l.keep }
 
 abbrev pub with_job : Job → Layout → Layout
-with_job job l = record l { job = Some (record { job = job; pin = pin_of l; moved = [] }) }
+with_job job l = record l { job = Some (record { job = job; pin = pin_of l; moved = []; lent = [] }) }
 
 abbrev pub planned : Layout → History → Job → Ruling (Option Job)
 planned l h job = leaving (Some job) h (with_job job l)

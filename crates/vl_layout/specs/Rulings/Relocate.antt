@@ -21,18 +21,19 @@ pub data MoveAnswer : Type 0 where
   -- the length of the active log, and that of the frame
   Full : ℕ → ℕ → MoveAnswer
 
-abbrev pub noted_at : ℕ → List Moved → List (List ℕ × ℕ)
-noted_at number moved = map (λ (m : Moved). (m.key, number)) moved
+-- the keys of these records, each with the version number that their move made
+abbrev pub moves_at : ℕ → List Moved → List (List ℕ × ℕ)
+moves_at number moved = map (λ (m : Moved). (m.key, number)) moved
 
--- an open job notes what is moved
-abbrev pub noting : ℕ → List Moved → Option OpenJob → Option OpenJob
-noting number moved None = None
-noting number moved (Some job) = Some (record job { moved = noted_at number moved ++ job.moved })
+-- an open job is told of them
+abbrev pub with_moves : ℕ → List Moved → Option OpenJob → Option OpenJob
+with_moves number moved None = None
+with_moves number moved (Some job) = Some (record job { moved = moves_at number moved ++ job.moved })
 
 abbrev pub relocated : Layout → List Moved → Layout
 relocated l moved = logged (Relocated moved) (record l {
   version_number = l.version_number + 1;
-  job = noting (l.version_number + 1) moved l.job;
+  job = with_moves (l.version_number + 1) moved l.job;
 })
 
 -- by the records that are moved

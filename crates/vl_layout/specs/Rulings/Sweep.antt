@@ -1,5 +1,5 @@
 -- Retired files that no pin holds are removed.
-use Rattle.std.specs.Prelude.{ℕ, Bool, not, nat_lt, ◌==◌, List, [], ◌∷◌, ◌++◌, map, length, take, Option, Some, None, false}
+use Rattle.std.specs.Prelude.{ℕ, Bool, not, ◌&&◌, nat_lt, nat_le, ◌==◌, List, [], ◌∷◌, ◌++◌, map, length, take, Option, Some, None, true, false}
 use Rattle.std.specs.List.{filter, list_any}
 use Rattle.vl_model.specs.History.{History}
 use Rattle.vl_layout.specs.Ruling.{Ruling, leaving}
@@ -33,9 +33,15 @@ pins l = map (λ (x : Live). x.pin) l.live ++ job_pin l.job ++ pass_pin l.pass
 abbrev pub is_held : List Pin → Retired → Bool
 is_held ps file = list_any (λ (p : Pin). nat_lt p.version_number file.version_number) ps
 
+-- where there is a least number that is still looked at, the file retired at one up to it
+abbrev pub is_up_to : Option ℕ → Retired → Bool
+is_up_to None file = true
+is_up_to (Some least) file = nat_le file.version_number least
+
 -- the files that a sweep removes, the earliest retired first
-abbrev pub swept : Layout → List FileName
-swept l = map (λ (r : Retired). r.file) (filter (λ r. not (is_held (pins l) r)) l.retired)
+abbrev pub swept : Option ℕ → Layout → List FileName
+swept least l =
+    map (λ (r : Retired). r.file) (filter (λ r. not (is_held (pins l) r) && is_up_to least r) l.retired)
 
 abbrev pub is_same : FileName → FileName → Bool
 is_same (Log a) (Log b) = a == b
@@ -54,18 +60,22 @@ without_files gone l =
     record l { retired = filter (λ (r : Retired). not (list_any (is_same r.file) gone)) l.retired }
 
 -- what is left where a removal fails after so many of the files have gone, but for the halt
-abbrev pub sweep_lost : Layout → ℕ → Layout
-sweep_lost l count = without_files (take count (swept l)) l
+abbrev pub sweep_lost : Option ℕ → Layout → ℕ → Layout
+sweep_lost least l count = without_files (take count (swept least l)) l
 
-abbrev pub sweep_unless : Option FileName → Layout → History → Ruling SweepAnswer
-sweep_unless (Some name) l h = leaving (Halted name) h l
-sweep_unless None l h = record {
-  answer = Removed (length (swept l));
+abbrev pub sweep_unless : Option FileName → Option ℕ → Layout → History → Ruling SweepAnswer
+sweep_unless (Some name) least l h = leaving (Halted name) h l
+sweep_unless None least l h = record {
+  answer = Removed (length (swept least l));
   history = h;
-  layout = without_files (swept l) l;
-  calls = length (swept l);
-  gone = swept l;
+  layout = without_files (swept least l) l;
+  calls = length (swept least l);
+  gone = swept least l;
 }
 
 abbrev pub sweep_ruling : Layout → History → Ruling SweepAnswer
-sweep_ruling l h = sweep_unless l.halted l h
+sweep_ruling l h = sweep_unless l.halted None l h
+
+-- where others may still look at each version from this number on
+abbrev pub sweep_to_ruling : Layout → History → ℕ → Ruling SweepAnswer
+sweep_to_ruling l h least = sweep_unless l.halted (Some least) l h

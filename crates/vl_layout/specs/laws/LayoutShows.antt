@@ -2,12 +2,13 @@
 -- relocation.
 use Rattle.std.proofs.Common.{◌≡◌, ℕ, ◌+◌, ◌≤◌, Bool, true, false, ◌||◌, List, [], ◌∷◌, ◌++◌, map, refl, ap, sym, ◌∙◌, subst, append_assoc}
 use Rattle.std.specs.Prelude.{Option, Some}
+use Rattle.std.specs.FinMap.{entries}
 use Rattle.std.specs.List.{AllZip, AllByRecursion, flat_map, list_any}
 use Rattle.vl_model.specs.Keys.{Stored, Writes}
 use Rattle.vl_model.specs.Entries.{is_at, in_order}
 use Rattle.vl_model.specs.Frames.{moved_length, frame_length}
 use Rattle.vl_model.specs.History.{History, last_number, with_commit}
-use Rattle.vl_model.specs.Placement.{placement, placed}
+use Rattle.vl_model.specs.Placement.{placed}
 use Rattle.vl_model.specs.Winners.{Logs, resolved}
 use Rattle.vl_model.specs.declared.entry.Entry.{Entry}
 use Rattle.vl_model.specs.declared.change.Change.TheVariants.{Set}
@@ -30,6 +31,7 @@ use Rattle.vl_layout.specs.Sources.{sources, behind_active, tables, table_entrie
 use Rattle.vl_layout.specs.declared.layout.Layout.{Layout}
 use Rattle.vl_layout.specs.declared.segment.Segment.{Segment}
 use Rattle.vl_layout.specs.declared.table.Table.{Table}
+use Rattle.vl_layout.specs.Shown.{ArePlaced}
 
 -- ---- a rotation
 
@@ -74,16 +76,12 @@ module _ (logs : Logs) (l : Layout) (f : LogFrame) (h : History) (from : List �
 pub commit_shows : (logs : Logs) (l : Layout) (ticket : ℕ) (h : History) (writes : Writes) (from : List ℕ → ℕ)
     → AreUpTo (last_number h) (sources l) → ((key : List ℕ) → from key ≤ last_number h)
     → Shows logs (sources l) h from (last_number h)
-    → Shows logs (sources (logged (commit_frame h writes) (ended ticket l))) (with_commit h writes) from (last_number h + 1)
+    → Shows logs (sources (logged (commit_frame h (entries writes)) (ended ticket l))) (with_commit h writes) from (last_number h + 1)
 commit_shows logs l ticket h writes from up begins shows =
-    shows_logged logs (ended ticket l) (commit_frame h writes) (with_commit h writes) from (last_number h + 1)
+    shows_logged logs (ended ticket l) (commit_frame h (entries writes)) (with_commit h writes) from (last_number h + 1)
     (shows_committed logs (sources l) h from writes l.active.number (place_behind 16 l.active.frames + 17) up begins shows)
 
 -- ---- a flush
-
--- in the logs each value of the memtable that is placed far is found
-abbrev pub ArePlaced : Logs → List Entry → Type 0
-ArePlaced logs es = AllByRecursion (λ (e : Entry). resolved logs e.key (placement e.body) ≡ resolved logs e.key e.body) es
 
 module _ (logs : Logs) where
   zip_both : (es es' fs fs' : List Entry) → AllZip (StandsFor logs logs) es es'
@@ -121,11 +119,6 @@ frozen_parts (t ∷ []) s is = nothing_behind (memtable t) ∙ ap memtable (the_
 frozen_parts (t ∷ u ∷ us) s is =
     ap (λ es. memtable t ++ es) (frozen_parts (u ∷ us) s is)
     ∙ sym (append_assoc (memtable t) (flat_map memtable (but_oldest (u ∷ us))) (memtable s))
-
--- the table in front of the others
-tables_parts : (t : Table) (level : List Table) (deeper : List (List Table))
-    → flat_map table_entries (flat_map (λ ts. ts) (in_front t (level ∷ deeper))) ≡ t.entries ++ flat_map table_entries (flat_map (λ ts. ts) (level ∷ deeper))
-tables_parts t level deeper = refl
 
 module _ (logs : Logs) (l : Layout) (s : Segment) (h : History) (from : List ℕ → ℕ) (to : ℕ) where
   flush_parts : oldest l.frozen ≡ Some s → (level : List Table) (deeper : List (List Table))

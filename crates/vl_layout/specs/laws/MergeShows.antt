@@ -1,5 +1,5 @@
--- What a merge leaves of the sources shows what they showed, from its floor on, also where it is
--- put in their place later than it was planned.
+-- What a merge that keeps so many versions leaves of the sources shows what they showed, also from below its
+-- floor, and also where it is put in their place later than it was planned.
 use Rattle.std.proofs.Common.{◌≡◌, ◌⊎◌, inl, inr, ⊎_elim, ℕ, ◌≤◌, ◌<◌, Bool, true, false, not, ◌&&◌, ◌||◌, List, [], ◌∷◌, refl, ap, sym, ◌∙◌, subst, arith}
 use Rattle.std.proofs.lemmas.Bool.{and_parts, and_from, cases_Bool, cases_lt}
 use Rattle.std.proofs.lemmas.Bool.Decides.{nat_tests}
@@ -14,49 +14,15 @@ use Rattle.vl_model.specs.laws.WinnerLaws.{same_key, key_tied}
 use Rattle.vl_model.specs.declared.entry.Entry.{Entry}
 use Rattle.vl_model.specs.declared.entry.Body.{Body}
 use Rattle.vl_model.specs.declared.entry.Body.TheVariants.{Inline, Gone, Far, Logged}
-use Rattle.vl_layout.specs.Merging.{Sourced, if_so, inputs_of as sourced_inputs, outside_of as sourced_outside, is_shadowed, is_outdated, is_below, is_needless, is_dropped}
+use Rattle.vl_layout.specs.Merging.{Sourced, if_so, inputs_of as sourced_inputs, outside_of as sourced_outside, is_shadowed, is_below, is_outdated, is_needless_one, is_needless, is_dropped}
 use Rattle.vl_layout.specs.laws.RelocationShows.{Has, Reaches, winner_has, winner_reaches}
 use Rattle.vl_layout.specs.Shows.{Shows, Meaning, Means, times}
 use Rattle.vl_layout.specs.laws.ShowsLaws.{shows_as, is_at-itself}
-
--- an entry of the sources: whether an input of the merge has it, and whether it is kept
-pub record Marked : Type 0 where
-  pub input : Bool
-  pub kept : Bool
-  pub entry : Entry
-
-abbrev pub all_of : List Marked → List Entry
-all_of [] = []
-all_of (m ∷ ms) = m.entry ∷ all_of ms
-
--- what is left
-abbrev pub kept_of : List Marked → List Entry
-kept_of [] = []
-kept_of (m ∷ ms) = if_so m.kept m.entry (kept_of ms)
-
-abbrev pub inputs_of : List Marked → List Entry
-inputs_of [] = []
-inputs_of (m ∷ ms) = if_so m.input m.entry (inputs_of ms)
-
-abbrev pub outside_of : List Marked → List Entry
-outside_of [] = []
-outside_of (m ∷ ms) = if_so (not m.input) m.entry (outside_of ms)
-
-module _ (inputs outside : List Entry) (floor : ℕ) where
-  -- what is dropped stands in an input, and one of the three rules drops it now; what is kept of an
-  -- input isn't outdated
-  pub record IsJustified (newer : List Entry) (m : Marked) : Type 0 where
-    pub drops : m.kept ≡ false
-        → (m.input ≡ true) × (is_dropped inputs outside floor newer m.entry ≡ true)
-    pub keeps : m.kept ≡ true → m.input ≡ true → is_outdated inputs floor m.entry ≡ false
-
-  abbrev pub AreJustified : List Entry → List Marked → Type 0
-  AreJustified newer [] = Unit {0}
-  AreJustified newer (m ∷ ms) = IsJustified newer m × AreJustified (m.entry ∷ newer) ms
+use Rattle.vl_layout.specs.Marks.{Marked, all_of, kept_of, inputs_of, outside_of, plain, marks_from, marks, IsJustified, AreJustified, IsPast}
 
 -- ---- one of them
 
-true_false : true ≡ false → ⊥
+pub true_false : true ≡ false → ⊥
 true_false is = cc
 
 -- a test that it passes is passed by one of these
@@ -76,7 +42,7 @@ pub members : (es : List Entry) → AllByRecursion (IsIn es) es
 members [] = tt
 members (e ∷ es) = ((λ p passes. ap (λ b. b || list_any p es) passes), all_later e es es (members es))
 
-or_cases : (a b : Bool) → (a || b) ≡ true → (a ≡ true) ⊎ (b ≡ true)
+pub or_cases : (a b : Bool) → (a || b) ≡ true → (a ≡ true) ⊎ (b ≡ true)
 or_cases true b h = inl refl
 or_cases false b h = inr h
 
@@ -89,7 +55,7 @@ not_true true h = absurd (true_false (sym h))
 not_true false h = refl
 
 -- where a test is passed, one of them passes it, of which all is so that is so of all
-picked : (P : Entry → Type 0) (p : Entry → Bool) (es : List Entry) → AllByRecursion P es
+pub picked : (P : Entry → Type 0) (p : Entry → Bool) (es : List Entry) → AllByRecursion P es
     → list_any p es ≡ true → (f : Entry) × (p f ≡ true) × P f
 picked P p [] all h = absurd (true_false (sym h))
 picked P p (e ∷ es) all h = ⊎_elim (λ (here : p e ≡ true). (e, here, all.0)) (λ (later : list_any p es ≡ true). picked P p es all.1 later) (or_cases (p e) (list_any p es) h)
@@ -106,7 +72,7 @@ pub of_kept : (P : Entry → Type 0) (ms : List Marked) → AllByRecursion P (al
 of_kept P [] all = tt
 of_kept P (m ∷ ms) all = all_if_so P m.kept m.entry (kept_of ms) all.0 (of_kept P ms all.1)
 
-of_inputs : (P : Entry → Type 0) (ms : List Marked) → AllByRecursion P (all_of ms)
+pub of_inputs : (P : Entry → Type 0) (ms : List Marked) → AllByRecursion P (all_of ms)
     → AllByRecursion P (inputs_of ms)
 of_inputs P [] all = tt
 of_inputs P (m ∷ ms) all = all_if_so P m.input m.entry (inputs_of ms) all.0 (of_inputs P ms all.1)
@@ -122,7 +88,7 @@ times-kept : (key : List ℕ) (version : ℕ) (ms : List Marked)
 times-kept key version [] = omega arith
 times-kept key version (m ∷ ms) = times_if_so key version m.kept m.entry (kept_of ms) (all_of ms) (times-kept key version ms)
 
-head_input : (inputs : List Entry) (m : Marked) (ms : List Marked)
+pub head_input : (inputs : List Entry) (m : Marked) (ms : List Marked)
     → AllByRecursion (IsIn inputs) (inputs_of (m ∷ ms))
     → (m.input ≡ true → IsIn inputs m.entry) × AllByRecursion (IsIn inputs) (inputs_of ms)
 head_input inputs m ms = by_test m.input
@@ -142,16 +108,16 @@ head_outside outside m ms = by_test m.input
     by_test true all = ((λ is. absurd (true_false is)), all)
     by_test false all = ((λ is. all.0), all.1)
 
-module _ (inputs outside : List Entry) (floor : ℕ) where
+module _ (keep : ℕ) (inputs outside : List Entry) (floor : ℕ) where
   -- ---- why an entry went
 
   abbrev pub Reason : Entry → Type 0
-  Reason e = IsIn inputs e × ((is_outdated inputs floor e ≡ true) ⊎ (is_needless outside floor e ≡ true))
+  Reason e = IsIn inputs e × ((is_outdated keep inputs floor e ≡ true) ⊎ (is_needless keep outside floor e ≡ true))
 
   -- where no entry of a key and version is kept, the first of them was dropped by the second or the
   -- third rule
-  first_dropped : (key : List ℕ) (version : ℕ) (newer : List Entry) (ms : List Marked)
-      → AreJustified inputs outside floor newer ms → AllByRecursion (IsIn inputs) (inputs_of ms)
+  pub first_dropped : (key : List ℕ) (version : ℕ) (newer : List Entry) (ms : List Marked)
+      → AreJustified keep inputs outside floor newer ms → AllByRecursion (IsIn inputs) (inputs_of ms)
       → list_any (is_at key version) newer ≡ false → list_any (is_at key version) (all_of ms) ≡ true
       → list_any (is_at key version) (kept_of ms) ≡ false
       → (e : Entry) × (is_at key version e ≡ true) × Reason e
@@ -173,8 +139,8 @@ module _ (inputs outside : List Entry) (floor : ℕ) where
           let unshadowed : is_shadowed newer m.entry ≡ false = ap (λ k. list_any (is_at k m.entry.version) newer) keys ∙ ap (λ v. list_any (is_at key v) newer) versions ∙ none in
           let others = ⊎_elim
           (λ (shadowed : is_shadowed newer m.entry ≡ true). absurd (true_false (sym shadowed ∙ unshadowed)))
-          (λ (rules : (is_outdated inputs floor m.entry || is_needless outside floor m.entry) ≡ true). or_cases (is_outdated inputs floor m.entry) (is_needless outside floor m.entry) rules)
-          (or_cases (is_shadowed newer m.entry) (is_outdated inputs floor m.entry || is_needless outside floor m.entry) both.1) in
+          (λ (rules : (is_outdated keep inputs floor m.entry || is_needless keep outside floor m.entry) ≡ true). or_cases (is_outdated keep inputs floor m.entry) (is_needless keep outside floor m.entry) rules)
+          (or_cases (is_shadowed newer m.entry) (is_outdated keep inputs floor m.entry || is_needless keep outside floor m.entry) both.1) in
           (m.entry, at, ((head_input inputs m ms within).0 both.0, others))
 
       by_tests : (a k : Bool) → is_at key version m.entry ≡ a → m.kept ≡ k
@@ -193,13 +159,13 @@ module _ (inputs outside : List Entry) (floor : ℕ) where
   -- ---- what is kept
 
   abbrev pub IsKept : Entry → Type 0
-  IsKept e = (is_outdated inputs floor e ≡ false) ⊎ IsIn outside e
+  IsKept e = (is_outdated keep inputs floor e ≡ false) ⊎ IsIn outside e
 
-  kept_one : (newer : List Entry) (m : Marked) → IsJustified inputs outside floor newer m
+  kept_one : (newer : List Entry) (m : Marked) → IsJustified keep inputs outside floor newer m
       → (m.input ≡ false → IsIn outside m.entry) → m.kept ≡ true → IsKept m.entry
   kept_one newer m j out keep = ⊎_elim (λ (input : m.input ≡ true). inl (j.keeps keep input)) (λ (other : m.input ≡ false). inr (out other)) (cases_Bool m.input)
 
-  all_kept : (newer : List Entry) (ms : List Marked) → AreJustified inputs outside floor newer ms
+  all_kept : (newer : List Entry) (ms : List Marked) → AreJustified keep inputs outside floor newer ms
       → AllByRecursion (IsIn outside) (outside_of ms) → AllByRecursion IsKept (kept_of ms)
   all_kept newer [] j within = tt
   all_kept newer (m ∷ ms) j within =
@@ -228,15 +194,15 @@ tied_itself : (key : List ℕ) → eq_by_cmp key_cmp key key ≡ true
 tied_itself key = ap is_eq (key_tied key)
 
 -- a winner is of the key, and of a version of at most the number
-counts_parts : (key : List ℕ) (number : ℕ) (e : Entry) → counts key number e ≡ true
+pub counts_parts : (key : List ℕ) (number : ℕ) (e : Entry) → counts key number e ≡ true
     → (key ≡ e.key) × (e.version ≤ number)
 counts_parts key number e counted =
     let both = and_parts _ _ counted in
     let le : e.version ≤ number = grind (arith, nat_tests, both.1) in
     (same_key key e.key both.0, le)
 
-module _ (logs : Logs) (meaning : Meaning) (ms : List Marked) (floor : ℕ) (resolves : AllByRecursion (Means logs meaning) (all_of ms))
-    (justified : AreJustified (inputs_of ms) (outside_of ms) floor [] ms) (key : List ℕ) (number : ℕ) (above : floor ≤ number) where
+module _ (keep : ℕ) (logs : Logs) (meaning : Meaning) (ms : List Marked) (floor : ℕ) (resolves : AllByRecursion (Means logs meaning) (all_of ms))
+    (justified : AreJustified keep (inputs_of ms) (outside_of ms) floor [] ms) (key : List ℕ) (number : ℕ) (past : IsPast keep (inputs_of ms) floor key number) where
   -- some entry of this key and version counts, so the winner is of at least that version
   reaches : (f : Entry) → counts key number f ≡ true → IsIn (all_of ms) f
       → Reaches key number (Means logs meaning) f.version (winner (all_of ms) key number)
@@ -265,44 +231,42 @@ module _ (logs : Logs) (meaning : Meaning) (ms : List Marked) (floor : ℕ) (res
 
   -- what is so of the winner of those kept
   Left : Entry → Type 0
-  Left g = IsKept (inputs_of ms) (outside_of ms) floor g × (Means logs meaning g × (IsIn (all_of ms) g × IsIn (kept_of ms) g))
+  Left g = IsKept keep (inputs_of ms) (outside_of ms) floor g × (Means logs meaning g × (IsIn (all_of ms) g × IsIn (kept_of ms) g))
 
   left_all : AllByRecursion Left (kept_of ms)
   unfolding Left
   left_all =
-      all_pairs (IsKept (inputs_of ms) (outside_of ms) floor) (λ g. Means logs meaning g × (IsIn (all_of ms) g × IsIn (kept_of ms) g)) (kept_of ms)
-      (all_kept (inputs_of ms) (outside_of ms) floor [] ms justified (members (outside_of ms)))
+      all_pairs (IsKept keep (inputs_of ms) (outside_of ms) floor) (λ g. Means logs meaning g × (IsIn (all_of ms) g × IsIn (kept_of ms) g)) (kept_of ms)
+      (all_kept keep (inputs_of ms) (outside_of ms) floor [] ms justified (members (outside_of ms)))
       (all_pairs (Means logs meaning) (λ g. IsIn (all_of ms) g × IsIn (kept_of ms) g) (kept_of ms) (of_kept (Means logs meaning) ms resolves)
       (all_pairs (IsIn (all_of ms)) (IsIn (kept_of ms)) (kept_of ms) (of_kept (IsIn (all_of ms)) ms (members (all_of ms))) (members (kept_of ms))))
 
   -- the winner isn't outdated: what makes it so would be newer
   not_outdated : (won e : Entry) → winner (all_of ms) key number ≡ Some won → e.key ≡ key
-      → e.version ≡ won.version → is_outdated (inputs_of ms) floor e ≡ true → ⊥
+      → e.version ≡ won.version → is_outdated keep (inputs_of ms) floor e ≡ true → ⊥
   not_outdated won e is keys versions outdated =
-      let f = picked (IsIn (all_of ms)) (λ (g : Entry). counts e.key floor g && nat_lt e.version g.version) (inputs_of ms) (of_inputs (IsIn (all_of ms)) ms (members (all_of ms))) outdated in
-      let both = and_parts _ _ f.1 in
-      let parts = counts_parts e.key floor f.0 both.0 in
-      let low : nat_le f.0.version number ≡ true = let le = parts.1 in grind (arith, nat_tests) in
-      let tied : eq_by_cmp key_cmp key f.0.key ≡ true = ap (λ k. eq_by_cmp key_cmp k f.0.key) (sym keys) ∙ (and_parts _ _ both.0).0 in
-      let counted : counts key number f.0 ≡ true = and_from (eq_by_cmp key_cmp key f.0.key) (nat_le f.0.version number) tied low in
-      let most : f.0.version ≤ won.version = won_at_most won f.0 is counted f.2 in
+      let f = picked (IsIn (all_of ms)) (λ (g : Entry). counts key number g && nat_lt e.version g.version) (inputs_of ms) (of_inputs (IsIn (all_of ms)) ms (members (all_of ms))) (past.outdates e keys outdated) in
+      let both = and_parts (counts key number f.0) (nat_lt e.version f.0.version) f.1 in
+      let most : f.0.version ≤ won.version = won_at_most won f.0 is both.0 f.2 in
       let more : e.version < f.0.version = grind (arith, nat_tests, both.1) in
       omega (arith, most, more, versions)
 
   -- a kept entry below a needless deletion would make it needed, or be outdated by it
   none_below : (e g : Entry) → e.key ≡ key → counts key number g ≡ true → g.version < e.version
-      → IsIn (inputs_of ms) e → is_needless (outside_of ms) floor e ≡ true
-      → IsKept (inputs_of ms) (outside_of ms) floor g → ⊥
+      → IsIn (inputs_of ms) e → is_needless keep (outside_of ms) floor e ≡ true
+      → IsKept keep (inputs_of ms) (outside_of ms) floor g → ⊥
   none_below e g keys counted less within needless kept =
-      let gone = and_parts (is_gone e.body) (nat_le e.version floor && not (list_any (is_below e) (outside_of ms))) needless in
+      let first = and_parts (keep == 1) (is_needless_one (outside_of ms) floor e) needless in
+      let one : keep ≡ 1 = grind (arith, nat_tests, first.0) in
+      let gone = and_parts (is_gone e.body) (nat_le e.version floor && not (list_any (is_below e) (outside_of ms))) first.1 in
       let more = and_parts (nat_le e.version floor) (not (list_any (is_below e) (outside_of ms))) gone.1 in
       let of_g : key ≡ g.key = (counts_parts key number g counted).0 in
       let lt : nat_lt g.version e.version ≡ true = grind (arith, nat_tests) in
       ⊎_elim
-      (λ (fresh : is_outdated (inputs_of ms) floor g ≡ false).
+      (λ (fresh : is_outdated keep (inputs_of ms) floor g ≡ false).
       let tied : eq_by_cmp key_cmp g.key e.key ≡ true = ap (λ k. eq_by_cmp key_cmp k e.key) (sym of_g ∙ sym keys) ∙ (and_parts _ _ (is_at-itself e)).0 in
       let passes : (counts g.key floor e && nat_lt g.version e.version) ≡ true = and_from (counts g.key floor e) (nat_lt g.version e.version) (and_from (eq_by_cmp key_cmp g.key e.key) (nat_le e.version floor) tied more.0) lt in
-      true_false (sym (within (λ (f : Entry). counts g.key floor f && nat_lt g.version f.version) passes) ∙ fresh))
+      true_false (sym (within (λ (f : Entry). counts g.key floor f && nat_lt g.version f.version) passes) ∙ subst (λ (k : ℕ). is_outdated k (inputs_of ms) floor g ≡ false) one fresh))
       (λ (out : IsIn (outside_of ms) g).
       let tied : eq_by_cmp key_cmp e.key g.key ≡ true = ap (λ k. eq_by_cmp key_cmp k g.key) keys ∙ (and_parts _ _ counted).0 in
       true_false (sym (out (is_below e) (and_from (eq_by_cmp key_cmp e.key g.key) (nat_lt g.version e.version) tied lt)) ∙ not_true (list_any (is_below e) (outside_of ms)) more.1))
@@ -324,14 +288,14 @@ module _ (logs : Logs) (meaning : Meaning) (ms : List Marked) (floor : ℕ) (res
 
   -- none is kept, so that it was a needless deletion, below which nothing is kept
   none_kept : (won : Entry) → winner (all_of ms) key number ≡ Some won → (e : Entry)
-      → is_at key won.version e ≡ true → Reason (inputs_of ms) (outside_of ms) floor e
+      → is_at key won.version e ≡ true → Reason keep (inputs_of ms) (outside_of ms) floor e
       → list_any (is_at key won.version) (kept_of ms) ≡ false
       → (w : Option Entry) → Has key number Left w
       → resolved_at logs w ≡ resolved_at logs (Some won)
   unfolding Left
   none_kept won is e at reason gone w has = ⊎_elim
-      (λ (outdated : is_outdated (inputs_of ms) floor e ≡ true). absurd (not_outdated won e is keys versions outdated))
-      (λ (needless : is_needless (outside_of ms) floor e ≡ true). by_winner needless w has)
+      (λ (outdated : is_outdated keep (inputs_of ms) floor e ≡ true). absurd (not_outdated won e is keys versions outdated))
+      (λ (needless : is_needless keep (outside_of ms) floor e ≡ true). by_winner needless w has)
       reason.1
     where
       keys : e.key ≡ key
@@ -344,10 +308,10 @@ module _ (logs : Logs) (meaning : Meaning) (ms : List Marked) (floor : ℕ) (res
       of_won = won_has won is
 
       -- that version is a deletion's
-      meant_none : is_needless (outside_of ms) floor e ≡ true
+      meant_none : is_needless keep (outside_of ms) floor e ≡ true
           → Some (meaning key won.version) ≡ Some None
       meant_none needless =
-          let gone_body : is_gone e.body ≡ true = (and_parts (is_gone e.body) (nat_le e.version floor && not (list_any (is_below e) (outside_of ms))) needless).0 in
+          let gone_body : is_gone e.body ≡ true = (and_parts (is_gone e.body) (nat_le e.version floor && not (list_any (is_below e) (outside_of ms))) (and_parts (keep == 1) (is_needless_one (outside_of ms) floor e) needless).1).0 in
           let passes : (is_at key won.version e && is_gone e.body) ≡ true = and_from (is_at key won.version e) (is_gone e.body) at gone_body in
           let f = picked (Means logs meaning) (λ (g : Entry). is_at key won.version g && is_gone g.body) (inputs_of ms) (of_inputs (Means logs meaning) ms resolves)
           (reason.0 (λ (g : Entry). is_at key won.version g && is_gone g.body) passes) in
@@ -357,10 +321,10 @@ module _ (logs : Logs) (meaning : Meaning) (ms : List Marked) (floor : ℕ) (res
           let f_version : f.0.version ≡ won.version = grind (arith, nat_tests, parts.1) in
           ap Some (ap (λ k. meaning k won.version) (sym f_key) ∙ ap (meaning f.0.key) (sym f_version)) ∙ sym f.2 ∙ gone_leads logs f.0.key f.0.body both.1
 
-      none : is_needless (outside_of ms) floor e ≡ true → resolved_at logs (Some won) ≡ Some None
+      none : is_needless keep (outside_of ms) floor e ≡ true → resolved_at logs (Some won) ≡ Some None
       none needless = of_won.1 ∙ ap Some (ap (λ k. meaning k won.version) (sym (counts_parts key number won of_won.0).0)) ∙ meant_none needless
 
-      by_winner : is_needless (outside_of ms) floor e ≡ true → (w : Option Entry)
+      by_winner : is_needless keep (outside_of ms) floor e ≡ true → (w : Option Entry)
           → Has key number Left w → resolved_at logs w ≡ resolved_at logs (Some won)
       by_winner needless None has = sym (none needless)
       by_winner needless (Some g) has = ⊎_elim
@@ -400,52 +364,40 @@ module _ (logs : Logs) (meaning : Meaning) (ms : List Marked) (floor : ℕ) (res
           same_version won is (winner (kept_of ms) key number) has
           (winner_reaches key number (Means logs meaning) key won.version (kept_of ms) (and_from (eq_by_cmp key_cmp key key) (nat_le won.version number) (tied_itself key) (and_parts (eq_by_cmp key_cmp key won.key) (nat_le won.version number) of_won.0).1) kept (of_kept (Means logs meaning) ms resolves))
       by_kept false gone =
-          let first = first_dropped (inputs_of ms) (outside_of ms) floor key won.version [] ms justified (members (inputs_of ms)) refl there gone in
+          let first = first_dropped keep (inputs_of ms) (outside_of ms) floor key won.version [] ms justified (members (inputs_of ms)) refl there gone in
           none_kept won is first.0 first.1 first.2 gone (winner (kept_of ms) key number) has
 
   -- from the floor on, what is left leads each key to what all led it to
   pub installed_leads : resolved_at logs (winner (kept_of ms) key number) ≡ resolved_at logs (winner (all_of ms) key number)
   installed_leads = by_winner_of_all (winner (all_of ms) key number) refl
 
--- What is left of the sources by the marks of an earlier plan shows what they show, from the plan's
--- floor on.
-pub shows_installed : (logs : Logs) (ms : List Marked) (floor : ℕ) (h : History) (from : List ℕ → ℕ) (to : ℕ)
-    → ((key : List ℕ) → floor ≤ from key) → AreJustified (inputs_of ms) (outside_of ms) floor [] ms
+-- What is left of the sources by the marks of an earlier plan shows what they show, at each number at which the
+-- merge may be seen.
+pub shows_installed : (keep : ℕ) (logs : Logs) (ms : List Marked) (floor : ℕ) (h : History) (from : List ℕ → ℕ) (to : ℕ)
+    → ((key : List ℕ) (number : ℕ) → from key ≤ number → IsPast keep (inputs_of ms) floor key number)
+    → AreJustified keep (inputs_of ms) (outside_of ms) floor [] ms
     → Shows logs (all_of ms) h from to → Shows logs (kept_of ms) h from to
-shows_installed logs ms floor h from to above justified shows =
+shows_installed keep logs ms floor h from to past justified shows =
     shows_as logs logs (all_of ms) (kept_of ms) h from to shows
-    (λ key number low high. installed_leads logs shows.meaning ms floor shows.resolves justified key number (let least = above key in omega arith))
+    (λ key number low high. installed_leads keep logs shows.meaning ms floor shows.resolves justified key number (past key number low))
     (λ meaning all. of_kept (Means logs meaning) ms all)
     (λ key version. times-kept key version ms)
 
 -- ---- the marks of a plan over the sources that it was made of
 
-abbrev pub plain : List Sourced → List Entry
-plain [] = []
-plain (s ∷ ss) = s.1 ∷ plain ss
-
-abbrev pub marks_from : List Entry → List Entry → ℕ → List Entry → List Sourced → List Marked
-marks_from inputs outside floor newer [] = []
-marks_from inputs outside floor newer (s ∷ ss) =
-    record { input = s.0; kept = not (s.0 && is_dropped inputs outside floor newer s.1); entry = s.1 } ∷ marks_from inputs outside floor (s.1 ∷ newer) ss
-
--- what a merge of these sources keeps of its inputs, and all that is outside them
-abbrev pub marks : List Sourced → ℕ → List Marked
-marks ss floor = marks_from (sourced_inputs ss) (sourced_outside ss) floor [] ss
-
-module _ (inputs outside : List Entry) (floor : ℕ) where
+module _ (keep : ℕ) (inputs outside : List Entry) (floor : ℕ) where
   all_of-marks : (newer : List Entry) (ss : List Sourced)
-      → all_of (marks_from inputs outside floor newer ss) ≡ plain ss
+      → all_of (marks_from keep inputs outside floor newer ss) ≡ plain ss
   all_of-marks newer [] = refl
   all_of-marks newer (s ∷ ss) = ap (λ es. s.1 ∷ es) (all_of-marks (s.1 ∷ newer) ss)
 
   inputs_of-marks : (newer : List Entry) (ss : List Sourced)
-      → inputs_of (marks_from inputs outside floor newer ss) ≡ sourced_inputs ss
+      → inputs_of (marks_from keep inputs outside floor newer ss) ≡ sourced_inputs ss
   inputs_of-marks newer [] = refl
   inputs_of-marks newer (s ∷ ss) = ap (if_so s.0 s.1) (inputs_of-marks (s.1 ∷ newer) ss)
 
   outside_of-marks : (newer : List Entry) (ss : List Sourced)
-      → outside_of (marks_from inputs outside floor newer ss) ≡ sourced_outside ss
+      → outside_of (marks_from keep inputs outside floor newer ss) ≡ sourced_outside ss
   outside_of-marks newer [] = refl
   outside_of-marks newer (s ∷ ss) = ap (if_so (not s.0) s.1) (outside_of-marks (s.1 ∷ newer) ss)
 
@@ -461,25 +413,27 @@ module _ (inputs outside : List Entry) (floor : ℕ) where
   keeps_input false s o n is input = absurd (true_false (sym input))
 
   marks_justified : (newer : List Entry) (ss : List Sourced)
-      → AreJustified inputs outside floor newer (marks_from inputs outside floor newer ss)
+      → AreJustified keep inputs outside floor newer (marks_from keep inputs outside floor newer ss)
   marks_justified newer [] = tt
   marks_justified newer (s ∷ ss) = (
     record {
-      drops = drops_both s.0 (is_dropped inputs outside floor newer s.1);
-      keeps = keeps_input s.0 (is_shadowed newer s.1) (is_outdated inputs floor s.1) (is_needless outside floor s.1);
+      drops = drops_both s.0 (is_dropped keep inputs outside floor newer s.1);
+      keeps = keeps_input s.0 (is_shadowed newer s.1) (is_outdated keep inputs floor s.1) (is_needless keep outside floor s.1);
     },
     marks_justified (s.1 ∷ newer) ss,
   )
 
 -- A merge that is put in place of its inputs at once leaves what shows the same.
-pub shows_merged : (logs : Logs) (ss : List Sourced) (floor : ℕ) (h : History) (from : List ℕ → ℕ) (to : ℕ)
-    → ((key : List ℕ) → floor ≤ from key)
-    → Shows logs (plain ss) h from to → Shows logs (kept_of (marks ss floor)) h from to
-shows_merged logs ss floor h from to above shows =
-    let ms = marks ss floor in
+pub shows_merged : (keep : ℕ) (logs : Logs) (ss : List Sourced) (floor : ℕ) (h : History) (from : List ℕ → ℕ) (to : ℕ)
+    → ((key : List ℕ) (number : ℕ) → from key ≤ number → IsPast keep (sourced_inputs ss) floor key number)
+    → Shows logs (plain ss) h from to → Shows logs (kept_of (marks keep ss floor)) h from to
+shows_merged keep logs ss floor h from to past shows =
+    let ms = marks keep ss floor in
     let inputs = sourced_inputs ss in
     let outside = sourced_outside ss in
-    let justified : AreJustified (inputs_of ms) (outside_of ms) floor [] ms =
-    subst (λ (es : List Entry). AreJustified es (outside_of ms) floor [] ms) (sym (inputs_of-marks inputs outside floor [] ss))
-    (subst (λ (es : List Entry). AreJustified inputs es floor [] ms) (sym (outside_of-marks inputs outside floor [] ss)) (marks_justified inputs outside floor [] ss)) in
-    shows_installed logs ms floor h from to above justified (subst (λ (es : List Entry). Shows logs es h from to) (sym (all_of-marks inputs outside floor [] ss)) shows)
+    let justified : AreJustified keep (inputs_of ms) (outside_of ms) floor [] ms =
+    subst (λ (es : List Entry). AreJustified keep es (outside_of ms) floor [] ms) (sym (inputs_of-marks keep inputs outside floor [] ss))
+    (subst (λ (es : List Entry). AreJustified keep inputs es floor [] ms) (sym (outside_of-marks keep inputs outside floor [] ss)) (marks_justified keep inputs outside floor [] ss)) in
+    shows_installed keep logs ms floor h from to
+    (λ key number low. subst (λ (es : List Entry). IsPast keep es floor key number) (sym (inputs_of-marks keep inputs outside floor [] ss)) (past key number low))
+    justified (subst (λ (es : List Entry). Shows logs es h from to) (sym (all_of-marks keep inputs outside floor [] ss)) shows)

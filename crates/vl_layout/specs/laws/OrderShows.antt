@@ -2,7 +2,7 @@
 -- key and version.
 use Rattle.std.proofs.Common.{◌≡◌, ℕ, ◌+◌, ◌≤◌, Bool, true, false, cond, ◌&&◌, List, [], ◌∷◌, ◌++◌, refl, ap, sym, ◌∙◌, subst, arith, zero-add}
 use Rattle.std.specs.Prelude.{◌==◌}
-use Rattle.std.specs.List.{AllByRecursion, filter}
+use Rattle.std.specs.List.{AllByRecursion}
 use Rattle.std.specs.Ordering.{eq_by_cmp, is_eq}
 use Rattle.std.specs.declared.cmp.Ordering.TheVariants.{Less, Equal, Greater}
 use Rattle.vl_model.specs.Keys.{key_cmp}
@@ -13,6 +13,7 @@ use Rattle.vl_model.specs.laws.WinnerLaws.{winner-append, winner-middle, winner-
 use Rattle.vl_model.specs.declared.entry.Entry.{Entry}
 use Rattle.vl_layout.specs.Shows.{Shows, Means, times}
 use Rattle.vl_layout.specs.laws.ShowsLaws.{shows_as, all_parts, all_both, times-append}
+use Rattle.vl_layout.specs.Shown.{of_key, Gathers}
 
 -- ---- in order
 
@@ -101,9 +102,6 @@ shows_in_order logs front es back h from to shows =
 
 -- ---- key by key
 
-abbrev pub of_key : List ℕ → List Entry → List Entry
-of_key key es = filter (λ (e : Entry). eq_by_cmp key_cmp key e.key) es
-
 all_of_key : (P : Entry → Type 0) (key : List ℕ) (es : List Entry) → AllByRecursion P es
     → AllByRecursion P (of_key key es)
 all_of_key P key [] all = tt
@@ -155,14 +153,6 @@ shows_by_key logs es fs h from to same shows =
     omega arith)
 
 -- ---- gathered
-
--- Some entries of a list are gathered and put in order: of this key they stand side by side in the one list, and in order in
--- their place in the other.
-pub record Gathers (key : List ℕ) (es some fs : List Entry) : Type 0 where
-  pub front : List Entry
-  pub behind : List Entry
-  pub apart : of_key key es ≡ front ++ of_key key some ++ behind
-  pub together : of_key key fs ≡ front ++ of_key key (in_order some) ++ behind
 
 -- what is so of a key's entries is so of them in order
 own_in_order : (P : Entry → Type 0) (key : List ℕ) (es : List Entry)

@@ -3,10 +3,11 @@
 use Rattle.std.proofs.Common.{◌≡◌, ℕ, ◌+◌, ◌≤◌, Bool, true, false, cond, ◌||◌, List, [], ◌∷◌, map, length, refl, ap, sym, ◌∙◌, subst, arith, length-append}
 use Rattle.std.proofs.lemmas.Bool.{and_parts}
 use Rattle.std.proofs.lemmas.Bool.Decides.{nat_tests}
-use Rattle.std.specs.Prelude.{Option, Some, None, nat_le, ◌==◌, if◌then◌else◌}
+use Rattle.std.specs.Prelude.{T, Option, Some, None, nat_le, ◌==◌, if◌then◌else◌}
 use Rattle.std.specs.Option.{option_map}
 use Rattle.std.specs.List.{AllByRecursion, filter, list_any}
-use Rattle.std.specs.FinMap.{len}
+use Rattle.std.specs.FinMap.{from_sorted, is_sorted, entries-from_sorted}
+use Rattle.vl_model.specs.declared.change.Change.{Change}
 use Rattle.std.specs.Ordering.{eq_by_cmp}
 use Rattle.vl_model.specs.Conflicts.{Named, first_conflict}
 use Rattle.vl_model.specs.Keys.{Stored, Writes, key_cmp}
@@ -24,10 +25,10 @@ use Rattle.vl_model.specs.declared.log_frame.LogFrame.TheVariants.{Relocated}
 use Rattle.vl_model.specs.declared.log_frame.Moved.{Moved}
 use Rattle.vl_model.specs.declared.pointer.Pointer.{Pointer}
 use Rattle.vl_model.specs.declared.counter.Counter.TheVariants as counter
-use Rattle.vl_layout.specs.laws.LayoutShows.{ArePlaced, AreShown, sources-rotated, commit_shows, flush_shows, relocate_shows}
+use Rattle.vl_layout.specs.laws.LayoutShows.{AreShown, sources-rotated, commit_shows, flush_shows, relocate_shows}
 use Rattle.vl_layout.specs.Logs.{memtable}
 use Rattle.vl_layout.specs.Relocation.{Pass, Candidate, is_moved, moved_of}
-use Rattle.vl_layout.specs.Ruling.{Ruling, leaving, StepAnswer, Stepped, Exhausted as NoNumber, has_no_number, has_no_version}
+use Rattle.vl_layout.specs.Ruling.{Ruling, leaving, ended, logged, StepAnswer, Stepped, Exhausted as NoNumber, has_no_number, has_no_version}
 use Rattle.vl_layout.specs.Rulings.Commit.{Transaction, CommitAnswer, Nothing, Exhausted, Full, commit_ended, committed, commit_checked, commit_running, commit_unless, commit_ruling, commit_frame}
 use Rattle.vl_layout.specs.Rulings.Flush.{flushed, flush_of, flush_unless, flush_ruling}
 use Rattle.vl_layout.specs.Rulings.Relocate.{MoveAnswer, Moves, Exhausted as NoVersion, Full as NoRoom, relocated, relocate_of, relocate_unless, relocate_ruling}
@@ -38,10 +39,7 @@ use Rattle.vl_layout.specs.declared.file_name.FileName.{FileName}
 use Rattle.vl_layout.specs.declared.layout.Layout.{Layout}
 use Rattle.vl_layout.specs.declared.segment.Segment.{Segment}
 use Rattle.vl_layout.specs.declared.table.Table.{Table}
-
--- the layout that a ruling leaves shows the history that it leaves, up to the last number
-abbrev pub ShowsRuled : {A : Type 0} → Logs → (List ℕ → ℕ) → Ruling A → Type 0
-ShowsRuled logs from r = Shows logs (sources r.layout) r.history from (last_number r.history)
+use Rattle.vl_layout.specs.Shown.{ArePlaced, ShowsRuled, IsThere}
 
 either : {A : Type 0} (logs : Logs) (from : List ℕ → ℕ) (b : Bool) (x y : Ruling A)
     → ShowsRuled logs from x → ShowsRuled logs from y → ShowsRuled logs from (if b then x else y)
@@ -54,11 +52,13 @@ last_number-more : (h : History) (writes : Writes)
     → last_number (with_commit h writes) ≡ last_number h + 1
 last_number-more h writes = let both = length-append h.commits (writes ∷ []) in omega arith
 
-module _ (logs : Logs) (from : List ℕ → ℕ) (l : Layout) (h : History) (t : Transaction) (up : AreUpTo (last_number h) (sources l)) (begins : (key : List ℕ) → from key ≤ last_number h) (shows : Shows logs (sources l) h from (last_number h)) where
+module _ (logs : Logs) (from : List ℕ → ℕ) (l : Layout) (h : History) (t : Transaction) (up : AreUpTo (last_number h) (sources l)) (begins : (key : List ℕ) → from key ≤ last_number h) (rising : T (is_sorted key_cmp t.writes)) (shows : Shows logs (sources l) h from (last_number h)) where
   committed_shows : ShowsRuled logs from (committed l h t)
   committed_shows =
-      subst (Shows logs (sources (committed l h t).layout) (with_commit h t.writes) from) (sym (last_number-more h t.writes))
-      (commit_shows logs l t.ticket h t.writes from up begins shows)
+      let writes : Writes = from_sorted t.writes in
+      subst (Shows logs (sources (committed l h t).layout) (with_commit h writes) from) (sym (last_number-more h writes))
+      (subst (λ (ws : List (List ℕ × Change)). Shows logs (sources (logged (commit_frame h ws) (ended t.ticket l))) (with_commit h writes) from (last_number h + 1))
+      (entries-from_sorted key_cmp t.writes rising) (commit_shows logs l t.ticket h writes from up begins shows))
 
   checked_shows : (conflict : Option Named) → ShowsRuled logs from (commit_checked l h t conflict)
   checked_shows (Some named) = shows
@@ -68,7 +68,7 @@ module _ (logs : Logs) (from : List ℕ → ℕ) (l : Layout) (h : History) (t :
   running_shows : (conflict : Option Named) → ShowsRuled logs from (commit_running l h t conflict)
   running_shows conflict =
       let rest : Ruling CommitAnswer = if nat_le max_commit_number (last_number h) then leaving (Exhausted counter.Commit) h l else commit_checked l h t conflict in
-      either logs from (len t.writes == 0) (commit_ended Nothing l h t) rest shows
+      either logs from (length t.writes == 0) (commit_ended Nothing l h t) rest shows
       (either logs from (nat_le max_commit_number (last_number h)) (leaving (Exhausted counter.Commit) h l) (commit_checked l h t conflict) shows (checked_shows conflict))
 
   unless_shows : (halted : Option FileName)
@@ -122,10 +122,6 @@ module _ (logs : Logs) (from : List ℕ → ℕ) (l : Layout) (h : History) (sho
   flush_ruling-shows = flush_unless-shows l.halted
 
 -- ---- a relocation
-
--- in the logs nothing but its value stands where the candidate was found
-abbrev pub IsThere : Logs → ℕ → Candidate → Type 0
-IsThere logs segment c = (p : Pointer) (value : Stored) → p.segment ≡ segment → p.place ≡ c.place → logs p c.moved.key ≡ Some value → value ≡ c.moved.value
 
 module _ (logs : Logs) (meaning : Meaning) (segment : ℕ) (c : Candidate) (there : IsThere logs segment c) where
   abbrev IsShown : List Entry → Type 0

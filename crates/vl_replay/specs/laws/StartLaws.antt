@@ -13,8 +13,8 @@ use Rattle.vl_disk.specs.declared.name.Name.TheVariants.{Log, Manifest, Table}
 use Rattle.vl_disk.specs.declared.watched.Watched.{Ghosts}
 use Rattle.vl_layout.specs.declared.segment.Segment.{Segment}
 use Rattle.vl_manifest.specs.States.{fresh_state}
-use Rattle.vl_model.specs.History.{History, contents_at, last_number, no_history, value_at}
-use Rattle.vl_model.specs.laws.HistoryLaws.{get-contents_at, value_at-first}
+use Rattle.vl_model.specs.History.{History, contents_at, last_number, no_history, standing_at, value_at}
+use Rattle.vl_model.specs.laws.HistoryLaws.{get-contents_at, value_at-first, past_value-empty, past_value-standing_at}
 use Rattle.vl_model.specs.Keys.{key_cmp}
 use Rattle.vl_recover.specs.crash.Alike.{OpensLike}
 use Rattle.vl_recover.specs.laws.crash.AlikeLaws.{like_same, shows_same}
@@ -104,7 +104,7 @@ no_strays head = record {
 pub shows_nothing : LogsShow [] no_history 0
 shows_nothing = record {
   shows = record {
-    values = λ key number from to. ap Some (sym (value_at-first no_history number key to ∙ get-empty key_cmp key));
+    values = λ key number from to. ap Some (sym (value_at-first no_history number key to ∙ past_value-empty number key));
     meaning = λ _ _. None;
     resolves = tt;
     gone_once = λ key version gone. omega arith;
@@ -148,7 +148,7 @@ starts_empty g disk state told bare none = starts_bare g disk state 1 told bare 
 
 -- a history that is gone on with from one of its numbers
 abbrev pub gone_on_from : History → ℕ → History
-gone_on_from h m = record { first = m; base = contents_at h m; commits = [] }
+gone_on_from h m = record { first = m; base = standing_at m (contents_at h m); commits = [] }
 
 shows_again : (logs : List Segment) (h : History) (m : ℕ) → LogsShow logs h m → LogsShow logs (gone_on_from h m) m
 shows_again logs h m shown = record {
@@ -157,7 +157,7 @@ shows_again logs h m shown = record {
         let same : number ≡ m = omega (arith, from, to) in
         shown.shows.values key number from to
         ∙ ap Some (ap (λ (n : ℕ). value_at h n key) same ∙ sym (get-contents_at h m key)
-        ∙ sym (value_at-first (gone_on_from h m) number key to));
+        ∙ sym (value_at-first (gone_on_from h m) number key to ∙ past_value-standing_at m number (contents_at h m) key (omega arith)));
     meaning = shown.shows.meaning;
     resolves = shown.shows.resolves;
     gone_once = shown.shows.gone_once;

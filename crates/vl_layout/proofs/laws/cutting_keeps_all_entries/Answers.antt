@@ -1,5 +1,5 @@
 use Rattle.vl_block.specs.laws.CuttingLaws.{blocks-whole}
-use Rattle.vl_layout.proofs.TableLaws.{cut-whole}
+use Rattle.vl_layout.specs.laws.TableLaws.{cut-whole}
 use Rattle.vl_layout.proofs.laws.cutting_keeps_all_entries.Goals as goal
 
 pub returns-clause-blocks : goal.returns-clause-blocks

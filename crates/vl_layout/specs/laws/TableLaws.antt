@@ -1,6 +1,6 @@
 -- Tables hold the entries of their merge, all and in order; and what a job began with are the
 -- sources of its layout.
-use Rattle.std.proofs.Common.{◌≡◌, ℕ, ◌+◌, Bool, true, false, not, ◌&&◌, List, [], ◌∷◌, ◌++◌, refl, ap, ◌∙◌, append_assoc}
+use Rattle.std.proofs.Common.{◌≡◌, ℕ, ◌+◌, Bool, true, false, not, ◌&&◌, List, [], ◌∷◌, ◌++◌, length, refl, ap, ◌∙◌, append_assoc, arith}
 use Rattle.std.specs.Prelude.{nat_le, if◌then◌else◌}
 use Rattle.std.specs.List.{flat_map}
 use Rattle.std.specs.Ordering.{eq_by_cmp}
@@ -8,15 +8,16 @@ use Rattle.vl_model.specs.Keys.{key_cmp}
 use Rattle.vl_model.specs.declared.entry.Entry.{Entry}
 use Rattle.vl_layout.specs.Levels.{is_one}
 use Rattle.vl_layout.specs.Logs.{memtable}
-use Rattle.vl_layout.specs.laws.MergeShows.{Marked, marks_from, plain}
 use Rattle.vl_layout.specs.Merging.{Sourced, if_so, inputs_of as sourced_inputs, outside_of as sourced_outside, is_dropped, kept_from, kept}
 use Rattle.vl_layout.specs.Rulings.Plan.{marked_as, sourced}
 use Rattle.vl_layout.specs.Sources.{sources, tables, table_entries}
 use Rattle.vl_block.specs.Cutting.{joined, max_block_bytes, entry_length, begun_length, around}
-use Rattle.vl_layout.specs.Tables.{full_table_bytes, tables_from, cut_into_tables, numbered}
+use Rattle.vl_layout.specs.Jobs.{tables_made}
+use Rattle.vl_layout.specs.Tables.{full_table_bytes, tables_from, cut_into_tables}
 use Rattle.vl_layout.specs.declared.job.Job.{Job}
 use Rattle.vl_layout.specs.declared.layout.Layout.{Layout}
 use Rattle.vl_layout.specs.declared.table.Table.{Table}
+use Rattle.vl_layout.specs.Marks.{Marked, marks_from, plain}
 
 one_more : (open_part : List Entry) (e : Entry) (es : List Entry)
     → (open_part ++ e ∷ []) ++ es ≡ open_part ++ e ∷ es
@@ -48,10 +49,12 @@ cut-whole [] = refl
 cut-whole (e ∷ es) = tables_from-whole (e ∷ []) e.key 0 (begun_length e) es
 
 -- tables of some entries hold these
-pub numbered-entries : (number : ℕ) (ess : List (List Entry))
-    → flat_map table_entries (numbered number ess) ≡ joined ess
-numbered-entries number [] = refl
-numbered-entries number (es ∷ ess) = ap (λ xs. es ++ xs) (numbered-entries (number + 1) ess)
+pub tables_made-entries : (numbers : List ℕ) (ess : List (List Entry)) → length numbers ≡ length ess
+    → flat_map table_entries (tables_made numbers ess) ≡ joined ess
+tables_made-entries [] [] are = refl
+tables_made-entries [] (es ∷ ess) are = absurd (omega arith)
+tables_made-entries (n ∷ ns) [] are = absurd (omega arith)
+tables_made-entries (n ∷ ns) (es ∷ ess) are = ap (λ xs. es ++ xs) (tables_made-entries ns ess (omega arith))
 
 -- ---- a job's base
 
@@ -90,14 +93,14 @@ both_ways : (i d : Bool) → (i && not (i && d)) ≡ (i && not d)
 both_ways true d = refl
 both_ways false d = refl
 
-kept_from-marks : (inputs outside : List Entry) (floor : ℕ) (newer : List Entry) (ss : List Sourced)
-    → kept_inputs (marks_from inputs outside floor newer ss) ≡ kept_from inputs outside floor newer ss
-kept_from-marks inputs outside floor newer [] = refl
-kept_from-marks inputs outside floor newer (s ∷ ss) =
-    ap (λ b. if_so b s.1 (kept_inputs (marks_from inputs outside floor (s.1 ∷ newer) ss))) (both_ways s.0 (is_dropped inputs outside floor newer s.1))
-    ∙ ap (if_so (s.0 && not (is_dropped inputs outside floor newer s.1)) s.1) (kept_from-marks inputs outside floor (s.1 ∷ newer) ss)
+kept_from-marks : (keep : ℕ) (inputs outside : List Entry) (floor : ℕ) (newer : List Entry) (ss : List Sourced)
+    → kept_inputs (marks_from keep inputs outside floor newer ss) ≡ kept_from keep inputs outside floor newer ss
+kept_from-marks keep inputs outside floor newer [] = refl
+kept_from-marks keep inputs outside floor newer (s ∷ ss) =
+    ap (λ b. if_so b s.1 (kept_inputs (marks_from keep inputs outside floor (s.1 ∷ newer) ss))) (both_ways s.0 (is_dropped keep inputs outside floor newer s.1))
+    ∙ ap (if_so (s.0 && not (is_dropped keep inputs outside floor newer s.1)) s.1) (kept_from-marks keep inputs outside floor (s.1 ∷ newer) ss)
 
 -- what a job keeps of its inputs is what its marks keep of them
 pub kept-marks : (job : Job)
-    → kept_inputs (marks_from (sourced_inputs job.base) (sourced_outside job.base) job.floor [] job.base) ≡ kept job
-kept-marks job = kept_from-marks (sourced_inputs job.base) (sourced_outside job.base) job.floor [] job.base
+    → kept_inputs (marks_from job.keep (sourced_inputs job.base) (sourced_outside job.base) job.floor [] job.base) ≡ kept job
+kept-marks job = kept_from-marks job.keep (sourced_inputs job.base) (sourced_outside job.base) job.floor [] job.base

@@ -1,0 +1,14 @@
+use Rattle.vl_layout.specs.laws.CommitsLaws.{value_in-is, rows_in-are, low_in-is, conflict_in-is}
+use Rattle.vl_layout.proofs.laws.plain_commits_are_the_history.Goals as goal
+
+pub returns-clause-values : goal.returns-clause-values
+returns-clause-values c p n key proper = value_in-is p proper n key
+
+pub returns-clause-rows : goal.returns-clause-rows
+returns-clause-rows c p n proper = rows_in-are p proper n
+
+pub returns-clause-low : goal.returns-clause-low
+returns-clause-low c p floor keep since key proper = low_in-is p proper floor keep since key
+
+pub returns-clause-conflicts : goal.returns-clause-conflicts
+returns-clause-conflicts c p n reads proper = conflict_in-is p proper n reads

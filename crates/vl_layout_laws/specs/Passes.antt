@@ -1,0 +1,24 @@
+-- What a pass comes to: the records that it finds, and that none of a segment win exactly from inside any more.
+use Rattle.std.specs.Prelude.{◌≡◌, ℕ, true, false, List}
+use Rattle.std.specs.List.{flat_map}
+use Rattle.vl_model.specs.Winners.{is_far_to, wins_exactly}
+use Rattle.vl_model.specs.declared.entry.Entry.{Entry}
+use Rattle.vl_layout.specs.Logs.{LogRecord}
+use Rattle.vl_layout.specs.Relocation.{Candidate, found_in}
+
+-- what wins exactly from inside a log now did before
+abbrev pub Shrinks : ℕ → List Entry → List Entry → Type 0
+Shrinks segment before now = (key : List ℕ) (version place : ℕ)
+    → wins_exactly now segment key version place ≡ true → wins_exactly before segment key version place ≡ true
+
+-- an entry that leads nowhere into a log
+abbrev pub IsOutside : ℕ → Entry → Type 0
+IsOutside segment e = (place : ℕ) → is_far_to segment place e.body ≡ false
+
+-- no record of the batch wins exactly from inside the log
+abbrev pub IsSettled : ℕ → List Entry → Candidate → Type 0
+IsSettled segment es c = wins_exactly es segment c.moved.key c.moved.version c.place ≡ false
+
+-- all records of a log that win exactly in a pass's base
+abbrev pub found_all : List Entry → ℕ → List LogRecord → List Candidate
+found_all base segment rs = flat_map (found_in base segment) rs

@@ -1,0 +1,463 @@
+-- Each call's ruling keeps what is so of an engine's files, those that were lent to a job among them.
+use Rattle.std.proofs.Common.{◌≡◌, ℕ, ◌+◌, ◌<◌, Bool, true, false, not, ◌||◌, List, [], ◌∷◌, ◌++◌, map, refl, ap, sym, ◌∙◌, subst, arith, append_assoc}
+use Rattle.std.proofs.lemmas.Bool.{false≢true}
+use Rattle.std.proofs.lemmas.Bool.Decides.{nat_tests}
+use Rattle.std.specs.Prelude.{Option, Some, None, ◌==◌}
+use Rattle.std.specs.List.{AllByRecursion, flat_map, list_any, filter}
+use Rattle.vl_model.specs.History.{History}
+use Rattle.vl_model.specs.Numbers.{has}
+use Rattle.vl_model.specs.declared.log_frame.LogFrame.{LogFrame}
+use Rattle.vl_model.specs.declared.log_frame.Moved.{Moved}
+use Rattle.vl_layout.specs.Jobs.{Made, loose, lent_numbers, job_ended, AreDistinct, AreLent}
+use Rattle.vl_layout.specs.Levels.{is_one}
+use Rattle.vl_layout.specs.Merging.{needless, gone_after}
+use Rattle.vl_layout.specs.Ruling.{logged, ended, retired_at, switched}
+use Rattle.vl_layout.specs.Rulings.Begin.{begun}
+use Rattle.vl_layout.specs.Rulings.EndPass.{without_pass}
+use Rattle.vl_layout.specs.Rulings.Flush.{flushed}
+use Rattle.vl_layout.specs.Rulings.Fresh.{lent_to, drawn}
+use Rattle.vl_layout.specs.Rulings.Install.{installed}
+use Rattle.vl_layout.specs.Rulings.Keep.{keeping}
+use Rattle.vl_layout.specs.Rulings.Pick.{with_pass}
+use Rattle.vl_layout.specs.Rulings.Plan.{with_job}
+use Rattle.vl_layout.specs.Rulings.Relocate.{with_moves, relocated}
+use Rattle.vl_layout.specs.Rulings.Rotate.{rotated}
+use Rattle.vl_layout.specs.Rulings.Sweep.{is_same, job_pin, pass_pin, pins, without_files}
+use Rattle.vl_layout.specs.Sources.{log_of, pointed_logs, needed, numbers_of, oldest, table_of, tables}
+use Rattle.vl_layout.specs.Stock.{is_in, leads, IsDrawn, IsUnneeded, IsOff, IsPinned, IsStocked, IsFooted, PointsDrawn, IsDrawnWhole, with_lent, IsNotLent, IsWellStocked}
+use Rattle.vl_layout.specs.declared.file_name.FileName.{FileName}
+use Rattle.vl_layout.specs.declared.file_name.FileName.TheVariants.{Log, Table as TableFile, Manifest}
+use Rattle.vl_layout.specs.declared.file_name.Retired.{Retired}
+use Rattle.vl_layout.specs.declared.job.Job.{Job}
+use Rattle.vl_layout.specs.declared.job.OpenJob.{OpenJob}
+use Rattle.vl_layout.specs.declared.layout.Layout.{Layout}
+use Rattle.vl_layout.specs.declared.live.Live.{Live}
+use Rattle.vl_layout.specs.declared.live.Pin.{Pin}
+use Rattle.vl_layout.specs.declared.segment.Segment.{Segment}
+use Rattle.vl_layout.specs.declared.table.Table.{Table}
+use Rattle.vl_layout_laws.specs.laws.Files.{all_weaker, all_both, all_parts, all_filtered, any-map}
+use Rattle.vl_layout_laws.specs.laws.Steps.{in_tables, stocked_begun, stocked_ended, stocked_planned, stocked_picked, stocked_freed, stocked_pass_ended, stocked_logged, stocked_relocated, stocked_rotated, tables_only}
+use Rattle.vl_layout_laws.specs.laws.Streaming.{lending, stocked_lent, stocked_put, putting}
+use Rattle.vl_layout_laws.specs.laws.Drawn.{drawn_begun, drawn_ended, drawn_planned, drawn_picked, drawn_freed, drawn_pass_ended, drawn_logged, drawn_relocated, drawn_rotated, drawn_lent, drawn_flushed, drawn_put}
+use Rattle.vl_layout_laws.specs.laws.Switches.{stocked_flushed}
+
+-- ---- other retired files, another job
+
+-- what is so of all of the others is so of these
+abbrev Within : List Retired → List Retired → Type 1
+Within rs others = (P : Retired → Type 0) → AllByRecursion P others → AllByRecursion P rs
+
+pub restocked : (l : Layout) (rs : List Retired) → IsStocked l
+    → ((P : Retired → Type 0) → AllByRecursion P l.retired → AllByRecursion P rs) → IsStocked (record l { retired = rs })
+restocked l rs s within = record {
+  unneeded = within (IsUnneeded (needed l)) s.unneeded;
+  retired_drawn = within (λ (r : Retired). IsDrawn l.next_log l.next_table r.file) s.retired_drawn;
+  pinned = all_weaker (IsPinned l.version_number l.retired) (IsPinned l.version_number rs)
+    (λ p is. record { old = is.old; off = within (IsOff p) is.off }) (pins l) s.pinned;
+  tables_drawn = s.tables_drawn;
+  logs_drawn = s.logs_drawn;
+  flushed_drawn = s.flushed_drawn;
+  falling = s.falling;
+  footed = s.footed;
+}
+
+rejobbed : (l : Layout) (job : Option OpenJob) → job_pin job ≡ job_pin l.job → IsStocked l → IsStocked (record l { job = job })
+rejobbed l job same s = record {
+  unneeded = s.unneeded;
+  retired_drawn = s.retired_drawn;
+  pinned = subst (λ (ps : List Pin). AllByRecursion (IsPinned l.version_number l.retired) ((map (λ (x : Live). x.pin) l.live ++ ps) ++ pass_pin l.pass)) (sym same) s.pinned;
+  tables_drawn = s.tables_drawn;
+  logs_drawn = s.logs_drawn;
+  flushed_drawn = s.flushed_drawn;
+  falling = s.falling;
+  footed = s.footed;
+}
+
+with_gone : (l : Layout) (gone keep since : ℕ) → IsStocked l → IsStocked (record l { gone = gone; keep = keep; since = since })
+with_gone l gone keep since s = record {
+  unneeded = s.unneeded;
+  retired_drawn = s.retired_drawn;
+  pinned = s.pinned;
+  tables_drawn = s.tables_drawn;
+  logs_drawn = s.logs_drawn;
+  flushed_drawn = s.flushed_drawn;
+  falling = s.falling;
+  footed = s.footed;
+}
+
+-- ---- what is lent
+
+up : (l : Layout) → IsDrawnWhole l → IsDrawnWhole (with_lent l)
+up l d = record { points = d.points; pins_drawn = d.pins_drawn }
+
+none_lent : (rs : List Retired) → AllByRecursion (λ (r : Retired). IsNotLent [] r.file) rs
+none_lent [] = tt
+none_lent (r ∷ rs) = (by_file r.file, none_lent rs)
+  where
+    by_file : (f : FileName) → IsNotLent [] f
+    by_file (Log n) = tt
+    by_file (TableFile n) = refl
+    by_file (Manifest n) = tt
+
+or_false : (a b : Bool) → a ≡ false → b ≡ false → (a || b) ≡ false
+or_false true b p q = absurd (false≢true (sym p))
+or_false false b p q = q
+
+-- what is so of a file with each number that was lent is so of the files with these, which were
+of_lent : (P : Retired → Type 0) (lent ms : List ℕ) → AllByRecursion P (loose lent) → AllByRecursion (λ n. has n lent ≡ true) ms
+    → AllByRecursion P (loose ms)
+of_lent P lent [] all are = tt
+of_lent P lent (m ∷ ms) all are = (one lent all are.0, of_lent P lent ms all are.1)
+  where
+    one : (ns : List ℕ) → AllByRecursion P (loose ns) → has m ns ≡ true → P (retired_at 0 (TableFile m))
+    one [] all is = absurd (false≢true is)
+    one (n ∷ ns) all is = by_test (n == m) refl is (one ns all.1)
+      where
+        by_test : (b : Bool) → (n == m) ≡ b → (b || has m ns) ≡ true → (has m ns ≡ true → P (retired_at 0 (TableFile m))) → P (retired_at 0 (TableFile m))
+        by_test true at is later = let same : n ≡ m = grind (arith, nat_tests) in subst (λ (k : ℕ). P (retired_at 0 (TableFile k))) same all.0
+        by_test false at is later = later is
+
+lent_drawn : (l : Layout) → IsWellStocked l → AllByRecursion (λ (r : Retired). IsDrawn l.next_log l.next_table r.file) (loose (lent_numbers l.job))
+lent_drawn l w = (all_parts (λ (r : Retired). IsDrawn l.next_log l.next_table r.file) (loose (lent_numbers l.job)) l.retired w.stocked.retired_drawn).0
+
+retired_drawn : (l : Layout) → IsWellStocked l → AllByRecursion (λ (r : Retired). IsDrawn l.next_log l.next_table r.file) l.retired
+retired_drawn l w = (all_parts (λ (r : Retired). IsDrawn l.next_log l.next_table r.file) (loose (lent_numbers l.job)) l.retired w.stocked.retired_drawn).1
+
+module _ (l : Layout) (w : IsWellStocked l) where
+  -- ---- what lives, a pass, a frame
+
+  pub well_begun : (ticket number : ℕ) → IsWellStocked (begun l ticket number)
+  well_begun ticket number = record {
+    stocked = stocked_begun (with_lent l) w.stocked ticket number;
+    drawn = let d = drawn_begun (with_lent l) w.stocked (up l w.drawn) ticket number in record { points = d.points; pins_drawn = d.pins_drawn };
+    lent_once = w.lent_once;
+    lent_apart = w.lent_apart;
+  }
+
+  pub well_ended : (ticket : ℕ) → IsWellStocked (ended ticket l)
+  well_ended ticket = record {
+    stocked = stocked_ended (with_lent l) w.stocked ticket;
+    drawn = let d = drawn_ended (with_lent l) w.stocked (up l w.drawn) ticket in record { points = d.points; pins_drawn = d.pins_drawn };
+    lent_once = w.lent_once;
+    lent_apart = w.lent_apart;
+  }
+
+  pub well_picked : (segment : ℕ) → IsWellStocked (with_pass segment l)
+  well_picked segment = record {
+    stocked = stocked_picked (with_lent l) w.stocked segment;
+    drawn = let d = drawn_picked (with_lent l) w.stocked (up l w.drawn) segment in record { points = d.points; pins_drawn = d.pins_drawn };
+    lent_once = w.lent_once;
+    lent_apart = w.lent_apart;
+  }
+
+  pub well_pass_ended : IsWellStocked (without_pass l)
+  well_pass_ended = record {
+    stocked = stocked_pass_ended (with_lent l) w.stocked;
+    drawn = let d = drawn_pass_ended (with_lent l) w.stocked (up l w.drawn) in record { points = d.points; pins_drawn = d.pins_drawn };
+    lent_once = w.lent_once;
+    lent_apart = w.lent_apart;
+  }
+
+  pub well_logged : (f : LogFrame) → IsWellStocked (logged f l)
+  well_logged f = record {
+    stocked = stocked_logged (with_lent l) w.stocked f;
+    drawn = let d = drawn_logged (with_lent l) w.stocked (up l w.drawn) f in record { points = d.points; pins_drawn = d.pins_drawn };
+    lent_once = w.lent_once;
+    lent_apart = w.lent_apart;
+  }
+
+  pub well_keeping : (v : ℕ) (h : History) → IsWellStocked (keeping v h l)
+  well_keeping v h = record {
+    stocked = with_gone (with_lent l) l.gone (keeping v h l).keep (keeping v h l).since w.stocked;
+    drawn = record { points = w.drawn.points; pins_drawn = w.drawn.pins_drawn };
+    lent_once = w.lent_once;
+    lent_apart = w.lent_apart;
+  }
+
+  -- ---- a rotation, a relocation
+
+  pub well_rotated : IsWellStocked (rotated l)
+  well_rotated = record {
+    stocked = stocked_rotated (with_lent l) w.stocked;
+    drawn = let d = drawn_rotated (with_lent l) w.stocked (up l w.drawn) in record { points = d.points; pins_drawn = d.pins_drawn };
+    lent_once = w.lent_once;
+    lent_apart = w.lent_apart;
+  }
+
+  lent_moved : (number : ℕ) (moved : List Moved) (o : Option OpenJob) → lent_numbers (with_moves number moved o) ≡ lent_numbers o
+  lent_moved number moved None = refl
+  lent_moved number moved (Some job) = refl
+
+  pub well_relocated : (moved : List Moved) → IsWellStocked (relocated l moved)
+  well_relocated moved =
+      let same = sym (lent_moved (l.version_number + 1) moved l.job) in
+      record {
+        stocked = subst (λ (ns : List ℕ). IsStocked (record (relocated l moved) { retired = loose ns ++ l.retired })) same (stocked_relocated (with_lent l) w.stocked moved);
+        drawn = let d = drawn_relocated (with_lent l) w.stocked (up l w.drawn) moved in record { points = d.points; pins_drawn = d.pins_drawn };
+        lent_once = subst AreDistinct same w.lent_once;
+        lent_apart = subst (λ (ns : List ℕ). AllByRecursion (λ (r : Retired). IsNotLent ns r.file) l.retired) same w.lent_apart;
+      }
+
+  -- ---- a flush
+
+  logs_apart : (lent : List ℕ) (v : ℕ) (ss : List Segment) → AllByRecursion (λ (r : Retired). IsNotLent lent r.file) (map (retired_at v) (map log_of ss))
+  logs_apart lent v [] = tt
+  logs_apart lent v (s ∷ ss) = (tt, logs_apart lent v ss)
+
+  pub well_flushed : (s : Segment) (level : List Table) (deeper : List (List Table)) → oldest l.frozen ≡ Some s → l.levels ≡ level ∷ deeper
+      → IsWellStocked (flushed l s)
+  well_flushed s level deeper waits are = record {
+    stocked = restocked (flushed (with_lent l) s) (loose (lent_numbers l.job) ++ (flushed l s).retired)
+      (stocked_flushed (with_lent l) s level deeper w.stocked waits are)
+      (λ P all. subst (AllByRecursion P) (append_assoc (loose (lent_numbers l.job)) l.retired _) all);
+    drawn = let d = drawn_flushed (with_lent l) w.stocked (up l w.drawn) s level deeper waits are in record { points = d.points; pins_drawn = d.pins_drawn };
+    lent_once = w.lent_once;
+    lent_apart = all_both (λ (r : Retired). IsNotLent (lent_numbers l.job) r.file) l.retired _ w.lent_apart (logs_apart (lent_numbers l.job) (l.version_number + 1) _);
+  }
+
+  -- ---- a sweep
+
+  pub well_swept : (gone : List FileName) → IsWellStocked (without_files gone l)
+  well_swept gone = record {
+    stocked = restocked (with_lent l) (loose (lent_numbers l.job) ++ (without_files gone l).retired) w.stocked
+      (λ P all. let both = all_parts P (loose (lent_numbers l.job)) l.retired all in
+      all_both P (loose (lent_numbers l.job)) (without_files gone l).retired both.0 (all_filtered P (λ (r : Retired). not (list_any (is_same r.file) gone)) l.retired both.1));
+    drawn = record { points = w.drawn.points; pins_drawn = w.drawn.pins_drawn };
+    lent_once = w.lent_once;
+    lent_apart = all_filtered (λ (r : Retired). IsNotLent (lent_numbers l.job) r.file) (λ (r : Retired). not (list_any (is_same r.file) gone)) l.retired w.lent_apart;
+  }
+
+  -- ---- a job begins, draws a number and ends without its switch
+
+  pub well_planned : (job : Job) → IsWellStocked (with_job job l)
+  well_planned job = record {
+    stocked = stocked_planned (record l { retired = l.retired })
+      (restocked (with_lent l) l.retired w.stocked (λ P all. (all_parts P (loose (lent_numbers l.job)) l.retired all).1)) job;
+    drawn = let d = drawn_planned (with_lent l) w.stocked (up l w.drawn) job in record { points = d.points; pins_drawn = d.pins_drawn };
+    lent_once = tt;
+    lent_apart = none_lent l.retired;
+  }
+
+  same_pin : (n : ℕ) (o : Option OpenJob) → job_pin (lent_to n o) ≡ job_pin o
+  same_pin n None = refl
+  same_pin n (Some job) = refl
+
+  one_more : (n : ℕ) (rs : List Retired) (o : Option OpenJob) (P : Retired → Type 0)
+      → AllByRecursion P ((loose (lent_numbers o) ++ rs) ++ retired_at 0 (TableFile n) ∷ []) → AllByRecursion P (loose (lent_numbers (lent_to n o)) ++ rs)
+  one_more n rs None P all = (all_parts P rs (retired_at 0 (TableFile n) ∷ []) all).0
+  one_more n rs (Some job) P all =
+      let outer = all_parts P (loose job.lent ++ rs) (retired_at 0 (TableFile n) ∷ []) all in
+      let inner = all_parts P (loose job.lent) rs outer.0 in
+      all_both P (loose (job.lent ++ n ∷ [])) rs (appended job.lent inner.0 outer.1) inner.1
+    where
+      appended : (ns : List ℕ) → AllByRecursion P (loose ns) → AllByRecursion P (retired_at 0 (TableFile n) ∷ []) → AllByRecursion P (loose (ns ++ n ∷ []))
+      appended [] some one = one
+      appended (m ∷ ms) some one = (some.0, appended ms some.1 one)
+
+  not_drawn : (next_log n : ℕ) (ns : List ℕ) → AllByRecursion (λ (r : Retired). IsDrawn next_log n r.file) (loose ns) → has n ns ≡ false
+  not_drawn next_log n [] all = refl
+  not_drawn next_log n (m ∷ ms) all =
+      let less = all.0 in
+      let no : (m == n) ≡ false = grind (arith, nat_tests, less) in
+      or_false (m == n) (has n ms) no (not_drawn next_log n ms all.1)
+
+  has-more : (m n : ℕ) (ns : List ℕ) → has m ns ≡ false → (n == m) ≡ false → has m (ns ++ n ∷ []) ≡ false
+  has-more m n [] none apart = or_false (n == m) false apart refl
+  has-more m n (k ∷ ks) none apart = by_test (k == m) none (has-more m n ks)
+    where
+      by_test : (b : Bool) → (b || has m ks) ≡ false → (has m ks ≡ false → (n == m) ≡ false → has m (ks ++ n ∷ []) ≡ false) → (b || has m (ks ++ n ∷ [])) ≡ false
+      by_test true none later = absurd (false≢true (sym none))
+      by_test false none later = later none apart
+
+  once_more : (n : ℕ) (ns : List ℕ) → AreDistinct ns → has n ns ≡ false → AreDistinct (ns ++ n ∷ [])
+  once_more n [] once none = (refl, tt)
+  once_more n (m ∷ ms) once none = by_test (m == n) refl none (once_more n ms once.1)
+    where
+      by_test : (b : Bool) → (m == n) ≡ b → (b || has n ms) ≡ false → (has n ms ≡ false → AreDistinct (ms ++ n ∷ [])) → AreDistinct (m ∷ (ms ++ n ∷ []))
+      by_test true is none later = absurd (false≢true (sym none))
+      by_test false is none later = let apart : (n == m) ≡ false = grind (arith, nat_tests) in (has-more m n ms once.0 apart, later none)
+
+  once_lent : (n : ℕ) (o : Option OpenJob) → AreDistinct (lent_numbers o) → has n (lent_numbers o) ≡ false → AreDistinct (lent_numbers (lent_to n o))
+  once_lent n None once none = tt
+  once_lent n (Some job) once none = once_more n job.lent once none
+
+  apart_lent : (next_log n : ℕ) (o : Option OpenJob) (rs : List Retired) → AllByRecursion (λ (r : Retired). IsNotLent (lent_numbers o) r.file) rs
+      → AllByRecursion (λ (r : Retired). IsDrawn next_log n r.file) rs → AllByRecursion (λ (r : Retired). IsNotLent (lent_numbers (lent_to n o)) r.file) rs
+  apart_lent next_log n o [] apart given = tt
+  apart_lent next_log n o (r ∷ rs) apart given = (by_file r.file o apart.0 given.0, apart_lent next_log n o rs apart.1 given.1)
+    where
+      by_file : (f : FileName) (x : Option OpenJob) → IsNotLent (lent_numbers x) f → IsDrawn next_log n f → IsNotLent (lent_numbers (lent_to n x)) f
+      by_file (Log m) x apart given = tt
+      by_file (TableFile m) None apart given = refl
+      by_file (TableFile m) (Some job) apart given = let no : (n == m) ≡ false = grind (arith, nat_tests, given) in has-more m n job.lent apart no
+      by_file (Manifest m) x apart given = tt
+
+  pub well_drawn : IsWellStocked (drawn l)
+  well_drawn =
+      let n = l.next_table in
+      record {
+        stocked = rejobbed (record (lending (with_lent l)) { retired = loose (lent_numbers (lent_to n l.job)) ++ l.retired }) (lent_to n l.job) (same_pin n l.job)
+          (restocked (lending (with_lent l)) (loose (lent_numbers (lent_to n l.job)) ++ l.retired) (stocked_lent (with_lent l) w.stocked (up l w.drawn)) (one_more n l.retired l.job));
+        drawn = let d = drawn_lent (with_lent l) w.stocked (up l w.drawn) in record {
+          points = d.points;
+          pins_drawn = subst (λ (ps : List Pin). AllByRecursion (λ (p : Pin). AllByRecursion (IsDrawn l.next_log (n + 1)) p.needs) ((map (λ (x : Live). x.pin) l.live ++ ps) ++ pass_pin l.pass)) (sym (same_pin n l.job)) d.pins_drawn;
+        };
+        lent_once = once_lent n l.job w.lent_once (not_drawn l.next_log n (lent_numbers l.job) (lent_drawn l w));
+        lent_apart = apart_lent l.next_log n l.job l.retired w.lent_apart (retired_drawn l w);
+      }
+
+  pub well_job_ended : (made : Made) → AreLent (lent_numbers l.job) made → IsWellStocked (job_ended made l)
+  well_job_ended made are = record {
+    stocked = restocked (record (with_lent l) { job = None }) (job_ended made l).retired (stocked_freed (with_lent l) w.stocked)
+      (λ P all. let both = all_parts P (loose (lent_numbers l.job)) l.retired all in
+      all_both P l.retired (loose (numbers_of made.tables ++ made.leavings)) both.1 (of_lent P (lent_numbers l.job) (numbers_of made.tables ++ made.leavings) both.0 are.drawn));
+    drawn = let d = drawn_freed (with_lent l) w.stocked (up l w.drawn) in record { points = d.points; pins_drawn = d.pins_drawn };
+    lent_once = tt;
+    lent_apart = none_lent (job_ended made l).retired;
+  }
+
+  -- ---- a job's tables are put in
+
+  -- each input is a table of the moment
+  abbrev pub AreStanding : List ℕ → Type 0
+  AreStanding inputs = AllByRecursion (λ (n : ℕ). list_any (λ (t : Table). n == t.number) (tables l) ≡ true) inputs
+
+  -- a lent number is that of no table
+  not_standing : (n : ℕ) → has n (lent_numbers l.job) ≡ true → list_any (λ (t : Table). n == t.number) (tables l) ≡ false
+  not_standing n is =
+      sym (any-map (is_same (TableFile n)) table_of (tables l))
+      ∙ front (is_in (TableFile n) (map table_of (tables l))) refl
+      (of_lent (λ (r : Retired). IsUnneeded (needed l) r) (lent_numbers l.job) (n ∷ []) (all_parts (IsUnneeded (needed l)) (loose (lent_numbers l.job)) l.retired w.stocked.unneeded).0 (is, tt)).0
+    where
+      front : (b : Bool) → is_in (TableFile n) (map table_of (tables l)) ≡ b → is_in (TableFile n) (needed l) ≡ false → is_in (TableFile n) (map table_of (tables l)) ≡ false
+      front true at none = absurd (false≢true (sym none ∙ in_tables (TableFile n) (map table_of (tables l)) (flat_map pointed_logs (tables l)) (map log_of (l.active ∷ l.frozen)) at))
+      front false at none = at
+
+  no_input : (inputs : List ℕ) → AreStanding inputs → (t : Table) → has t.number (lent_numbers l.job) ≡ true → is_one inputs t ≡ false
+  no_input [] standing t lent = refl
+  no_input (n ∷ ns) standing t lent = or_false (n == t.number) (is_one ns t) (apart (n == t.number) refl) (no_input ns standing.1 t lent)
+    where
+      apart : (b : Bool) → (n == t.number) ≡ b → (n == t.number) ≡ false
+      apart true is =
+          let same : t.number ≡ n = grind (arith, nat_tests) in
+          absurd (false≢true (sym (subst (λ (m : ℕ). list_any (λ (u : Table). m == u.number) (tables l) ≡ false) same (not_standing t.number lent)) ∙ standing.0))
+      apart false is = is
+
+  all_no_input : (inputs : List ℕ) → AreStanding inputs → (ts : List Table) → AllByRecursion (λ n. has n (lent_numbers l.job) ≡ true) (numbers_of ts)
+      → AllByRecursion (λ (t : Table). is_one inputs t ≡ false) ts
+  all_no_input inputs standing [] lent = tt
+  all_no_input inputs standing (t ∷ ts) lent = (no_input inputs standing t lent.0, all_no_input inputs standing ts lent.1)
+
+  given_below : (ts : List Table) → AllByRecursion (λ n. has n (lent_numbers l.job) ≡ true) (numbers_of ts) → AllByRecursion (λ (t : Table). t.number < l.next_table) ts
+  given_below [] lent = tt
+  given_below (t ∷ ts) lent =
+      ((of_lent (λ (r : Retired). IsDrawn l.next_log l.next_table r.file) (lent_numbers l.job) (t.number ∷ []) (lent_drawn l w) (lent.0, tt)).0, given_below ts lent.1)
+
+  -- a file that isn't lent is none of tables that were
+  not_made : (f : FileName) → IsNotLent (lent_numbers l.job) f → (ts : List Table) → AllByRecursion (λ n. has n (lent_numbers l.job) ≡ true) (numbers_of ts)
+      → is_in f (map table_of ts) ≡ false
+  not_made (Log n) off ts lent = tables_only n ts
+  not_made (TableFile n) off [] lent = refl
+  not_made (TableFile n) off (t ∷ ts) lent = or_false (n == t.number) (is_in (TableFile n) (map table_of ts)) (apart (n == t.number) refl) (not_made (TableFile n) off ts lent.1)
+    where
+      apart : (b : Bool) → (n == t.number) ≡ b → (n == t.number) ≡ false
+      apart true is =
+          let same : t.number ≡ n = grind (arith, nat_tests) in
+          absurd (false≢true (sym off ∙ subst (λ (m : ℕ). has m (lent_numbers l.job) ≡ true) same lent.0))
+      apart false is = is
+  not_made (Manifest n) off ts lent = no_manifest ts
+    where
+      no_manifest : (us : List Table) → is_in (Manifest n) (map table_of us) ≡ false
+      no_manifest [] = refl
+      no_manifest (u ∷ us) = no_manifest us
+
+  all_not_made : (rs : List Retired) → AllByRecursion (λ (r : Retired). IsNotLent (lent_numbers l.job) r.file) rs → (ts : List Table)
+      → AllByRecursion (λ n. has n (lent_numbers l.job) ≡ true) (numbers_of ts) → AllByRecursion (λ (r : Retired). is_in r.file (map table_of ts) ≡ false) rs
+  all_not_made [] off ts lent = tt
+  all_not_made (r ∷ rs) off ts lent = (not_made r.file off.0 ts lent, all_not_made rs off.1 ts lent)
+
+  distinct-later : (ns ms : List ℕ) → AreDistinct (ns ++ ms) → AllByRecursion (λ (m : ℕ). has m ns ≡ false) ms
+  distinct-later ns [] once = tt
+  distinct-later ns (m ∷ ms) once = (first ns once, distinct-later ns ms (but_one ns once))
+    where
+      has-append : (k : ℕ) (xs ys : List ℕ) → has k (xs ++ ys) ≡ false → (has k xs ≡ false) × (has k ys ≡ false)
+      has-append k [] ys none = (refl, none)
+      has-append k (x ∷ xs) ys none = by_test (x == k) none (has-append k xs ys)
+        where
+          by_test : (b : Bool) → (b || has k (xs ++ ys)) ≡ false → (has k (xs ++ ys) ≡ false → (has k xs ≡ false) × (has k ys ≡ false))
+              → ((b || has k xs) ≡ false) × (has k ys ≡ false)
+          by_test true none later = absurd (false≢true (sym none))
+          by_test false none later = later none
+
+      first : (xs : List ℕ) → AreDistinct (xs ++ m ∷ ms) → has m xs ≡ false
+      first [] once = refl
+      first (x ∷ xs) once = or_false (x == m) (has m xs) (apart (x == m) refl) (first xs once.1)
+        where
+          apart : (b : Bool) → (x == m) ≡ b → (x == m) ≡ false
+          apart true is = let turned : (m == x) ≡ true = grind (arith, nat_tests) in
+              absurd (false≢true (sym (has-append x xs (m ∷ ms) once.0).1 ∙ ap (λ b. b || has x ms) turned))
+          apart false is = is
+
+      but_one : (xs : List ℕ) → AreDistinct (xs ++ m ∷ ms) → AreDistinct (xs ++ ms)
+      but_one [] once = once.1
+      but_one (x ∷ xs) once = (fewer x xs once.0, but_one xs once.1)
+        where
+          fewer : (k : ℕ) (ys : List ℕ) → has k (ys ++ m ∷ ms) ≡ false → has k (ys ++ ms) ≡ false
+          fewer k [] none = (by_test (m == k) none)
+            where
+              by_test : (b : Bool) → (b || has k ms) ≡ false → has k ms ≡ false
+              by_test true none = absurd (false≢true (sym none))
+              by_test false none = none
+          fewer k (y ∷ ys) none = by_test (y == k) none (fewer k ys)
+            where
+              by_test : (b : Bool) → (b || has k (ys ++ m ∷ ms)) ≡ false → (has k (ys ++ m ∷ ms) ≡ false → has k (ys ++ ms) ≡ false) → (b || has k (ys ++ ms)) ≡ false
+              by_test true none later = absurd (false≢true (sym none))
+              by_test false none later = later none
+
+  leavings_off : (ts : List Table) (ns : List ℕ) → AllByRecursion (λ (m : ℕ). has m (numbers_of ts) ≡ false) ns
+      → AllByRecursion (λ (r : Retired). is_in r.file (map table_of ts) ≡ false) (loose ns)
+  leavings_off ts [] off = tt
+  leavings_off ts (n ∷ ns) off = (one ts off.0, leavings_off ts ns off.1)
+    where
+      one : (us : List Table) → has n (numbers_of us) ≡ false → is_in (TableFile n) (map table_of us) ≡ false
+      one [] none = refl
+      one (u ∷ us) none = by_test (u.number == n) refl none (one us)
+        where
+          by_test : (b : Bool) → (u.number == n) ≡ b → (b || has n (numbers_of us)) ≡ false → (has n (numbers_of us) ≡ false → is_in (TableFile n) (map table_of us) ≡ false)
+              → ((n == u.number) || is_in (TableFile n) (map table_of us)) ≡ false
+          by_test true is none later = absurd (false≢true (sym none))
+          by_test false is none later = let turned : (n == u.number) ≡ false = grind (arith, nat_tests) in or_false (n == u.number) (is_in (TableFile n) (map table_of us)) turned (later none)
+
+  -- The switch of a job whose inputs stand, and whose tables have true footers and lead only where tables lead.
+  pub well_installed : (job : Job) (made : Made) → AreLent (lent_numbers l.job) made
+      → AllByRecursion (λ (n : ℕ). list_any (λ (t : Table). n == t.number) (tables l) ≡ true) job.inputs
+      → AllByRecursion IsFooted made.tables
+      → ((n : ℕ) → AllByRecursion (λ (t : Table). leads n t.points ≡ true → list_any (λ (u : Table). leads n u.points) (tables l) ≡ true) made.tables)
+      → AllByRecursion (PointsDrawn l.next_log) made.tables
+      → IsWellStocked (installed job made l)
+  well_installed job made are standing footed into below = record {
+    stocked = with_gone (switched (filter (is_one job.inputs) (tables l)) (putting (with_lent l) job made.tables rest)) (gone_after l.gone (needless job)) l.keep l.since
+      (stocked_put (with_lent l) job made.tables rest w.stocked
+      (within (IsUnneeded (needed l)) w.stocked.unneeded)
+      (within (λ (r : Retired). IsDrawn l.next_log l.next_table r.file) w.stocked.retired_drawn)
+      (all_weaker (IsPinned l.version_number (loose (lent_numbers l.job) ++ l.retired)) (IsPinned l.version_number rest)
+      (λ p is. record { old = is.old; off = within (IsOff p) is.off }) (pins l) w.stocked.pinned)
+      (all_both (λ (r : Retired). is_in r.file (map table_of made.tables) ≡ false) l.retired (loose made.leavings)
+      (all_not_made l.retired w.lent_apart made.tables lent.0) (leavings_off made.tables made.leavings (distinct-later (numbers_of made.tables) made.leavings are.distinct)))
+      (given_below made.tables lent.0)
+      (all_no_input job.inputs standing made.tables lent.0)
+      footed into);
+    drawn = let d = drawn_put (with_lent l) w.stocked (up l w.drawn) job made.tables rest below in record { points = d.points; pins_drawn = d.pins_drawn };
+    lent_once = tt;
+    lent_apart = none_lent (installed job made l).retired;
+  }
+    where
+      lent : AllByRecursion (λ n. has n (lent_numbers l.job) ≡ true) (numbers_of made.tables) × AllByRecursion (λ n. has n (lent_numbers l.job) ≡ true) made.leavings
+      lent = all_parts (λ n. has n (lent_numbers l.job) ≡ true) (numbers_of made.tables) made.leavings are.drawn
+
+      rest : List Retired
+      rest = l.retired ++ loose made.leavings
+
+      within : (P : Retired → Type 0) → AllByRecursion P (loose (lent_numbers l.job) ++ l.retired) → AllByRecursion P (l.retired ++ loose made.leavings)
+      within P all = let both = all_parts P (loose (lent_numbers l.job)) l.retired all in
+          all_both P l.retired (loose made.leavings) both.1 (of_lent P (lent_numbers l.job) made.leavings both.0 (all_parts (λ n. has n (lent_numbers l.job) ≡ true) (numbers_of made.tables) made.leavings are.drawn).1)

@@ -1,0 +1,9 @@
+//! What an engine keeps tidy, whatever its calls answer: laws of layouts.
+#![tactic(auto)]
+
+mod laws;
+
+pub use laws::{
+    a_moved_batch_wins_no_more, a_sweep_removes_what_nothing_needs, batches_are_all_found_records,
+    files_stay_tidy, jobs_leave_files_tidy, live_bytes_after_a_switch,
+};
