@@ -23,11 +23,7 @@ pub fn held(alloc: Global, number: u32, bytes: &[u8]) -> Result<(MemHeld, MemRea
 }
 
 // The table with this number and these bytes, and a reader.
-pub fn open(
-    alloc: Global,
-    number: u32,
-    bytes: &[u8],
-) -> Result<(Table<MemHeld>, MemReader), Fail>
+pub fn open(alloc: Global, number: u32, bytes: &[u8]) -> Result<(Table<MemHeld>, MemReader), Fail>
     requires some { 1 ≤ number }
     requires few { number ≤ 9 }
 {
