@@ -18,9 +18,9 @@ use Rattle.vl_replay.specs.declared.input.lines.Next.TheVariants.{Line as WholeL
 use Rattle.vl_replay.specs.declared.replayer.store.Store.{Store}
 use Rattle.vl_replay.specs.declared.ending.Ending.{Ending}
 use Rattle.vl_replay.specs.declared.ending.Ending.TheVariants.{Complete}
-use Rattle.vl_replay.proofs.Lines.{lines_of-ended, lines_of-unended}
-use Rattle.vl_replay.proofs.Ends.{LeavesDisk, keeps_up_after, keeps_up_more, last_answered, next_answered, none_left, takes_nothing, ends_weaker, evidence_weaker}
-use Rattle.vl_replay.proofs.DiskSteps.{IsWatched, exchanges_extend, first_behind, ends_untouched, ends_answered}
+use Rattle.vl_replay.proofs.Runs.Lines.{lines_of-ended, lines_of-unended}
+use Rattle.vl_replay.proofs.Runs.Ends.{LeavesDisk, keeps_up_after, keeps_up_more, last_answered, next_answered, none_left, takes_nothing, ends_weaker, evidence_weaker}
+use Rattle.vl_replay.proofs.Disk.DiskSteps.{IsWatched, exchanges_extend, first_behind, ends_untouched, ends_answered}
 
 -- the bytes of a script that is still to do are those that were read, and those that the source has left
 

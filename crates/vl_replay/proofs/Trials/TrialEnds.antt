@@ -24,10 +24,10 @@ use Rattle.vl_replay.specs.Trial.{EndsTrial, IsLastFront, ReachesEnd, TakesFirst
 use Rattle.vl_replay.specs.Trying.{ComesTo, LeavesToOpen, ReopensAs, StopsOpening, trial_of}
 use Rattle.vl_replay.specs.declared.ending.Ending.{Ending}
 use Rattle.vl_replay.specs.declared.ending.Ending.TheVariants.{Complete, BadLine, BadWords, DiskFault, Refused, NoMemory, ReadFault, WriteFault, AnswerCut, Stopped}
-use Rattle.vl_replay.proofs.Ends.{or_cut, takes_both, takes_nothing}
-use Rattle.vl_replay.proofs.TrialLines.{chosen_false, is_past}
-use Rattle.vl_replay.proofs.Refusals.{fault_for}
-use Rattle.vl_replay.proofs.Reopening.{is_fault_too}
+use Rattle.vl_replay.proofs.Runs.Ends.{or_cut, takes_both, takes_nothing}
+use Rattle.vl_replay.proofs.Trials.TrialLines.{chosen_false, is_past}
+use Rattle.vl_replay.proofs.Runs.Refusals.{fault_for}
+use Rattle.vl_replay.proofs.Trials.Reopening.{is_fault_too}
 
 -- ---- the last piece, behind all answers
 

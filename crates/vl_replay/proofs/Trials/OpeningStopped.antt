@@ -49,8 +49,8 @@ use Rattle.vl_seglog.specs.Frames.{frames_grammar, log_header}
 use Rattle.vl_replay.specs.Reopens.{NamesUpTo, Reopens}
 use Rattle.vl_replay.specs.laws.StartLaws.{finds_nothing, not_there, shows_nothing, started_durable}
 use Rattle.vl_replay.specs.Stopped.{AreNumberedUpTo}
-use Rattle.vl_replay.proofs.NumbersLeft.{names_left, numbers_left, reopens_by}
-use Rattle.vl_replay.proofs.Starting.{opening_shows}
+use Rattle.vl_replay.proofs.Openings.NumbersLeft.{names_left, numbers_left, reopens_by}
+use Rattle.vl_replay.proofs.Openings.Starting.{opening_shows}
 
 -- ---- frames stand where they are spelled
 

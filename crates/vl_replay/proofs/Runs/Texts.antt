@@ -22,10 +22,10 @@ use Rattle.vl_replay.specs.declared.fails.Halt.TheVariants as why
 use Rattle.vl_replay.specs.declared.ending.Ending.{Ending}
 use Rattle.vl_replay.specs.declared.ending.Ending.TheVariants.{NoMemory, AnswerCut}
 use Rattle.vl_replay.specs.declared.ending.OnFault.{OnFault}
-use Rattle.vl_replay.proofs.Ends.{at_fault, or_cut}
-use Rattle.vl_replay.proofs.DiskSteps.{IsWatched, text_extends, rests_until, it_holds, opens_again, ends_within, ends_unchanged}
-use Rattle.vl_replay.proofs.Logged.{shown_stays, stored_exactly}
-use Rattle.vl_replay.proofs.Outcomes.{line_keeps}
+use Rattle.vl_replay.proofs.Runs.Ends.{at_fault, or_cut}
+use Rattle.vl_replay.proofs.Disk.DiskSteps.{IsWatched, text_extends, rests_until, it_holds, opens_again, ends_within, ends_unchanged}
+use Rattle.vl_replay.proofs.Disk.Logged.{shown_stays, stored_exactly}
+use Rattle.vl_replay.proofs.Store.Outcomes.{line_keeps}
 
 -- ---- results
 

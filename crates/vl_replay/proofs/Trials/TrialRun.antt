@@ -30,8 +30,8 @@ use Rattle.vl_replay.specs.declared.ending.Ending.{Ending}
 use Rattle.vl_replay.specs.declared.ending.Ending.TheVariants.{Complete, BadLine, BadWords, DiskFault, Refused, NoMemory, ReadFault, WriteFault, AnswerCut, Stopped}
 use Rattle.vl_replay.specs.declared.ending.OnFault.TheVariants.{Stop}
 use Rattle.vl_replay.specs.declared.replayer.store.Store.{Store}
-use Rattle.vl_replay.proofs.StoppedLaws.{stopped_reopens, stored_reopens}
-use Rattle.vl_replay.proofs.TrialLines.{Passes, all_next, before_all, before_front, before_get, before_met, chosen_true, is_past, is_within, last_files, last_next, last_within, none_next}
+use Rattle.vl_replay.proofs.Trials.StoppedLaws.{stopped_reopens, stored_reopens}
+use Rattle.vl_replay.proofs.Trials.TrialLines.{Passes, all_next, before_all, before_front, before_get, before_met, chosen_true, is_past, is_within, last_files, last_next, last_within, none_next}
 
 some_state : (a b : DiskState) → Some a ≡ Some b → a ≡ b
 some_state a b e = cc

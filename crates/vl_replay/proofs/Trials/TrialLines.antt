@@ -15,8 +15,8 @@ use Rattle.vl_model.specs.declared.change.Change.TheVariants.{Set as Put, Delete
 use Rattle.vl_replay.specs.Exchanges.{Exchange, and_later, exchange_at, exchanges_from, last_state}
 use Rattle.vl_replay.specs.Sequential.{Handle, OpenTransaction, OpenView, Outcome, State, after_commit, bytes_in_log, committed, state_after, without_handle}
 use Rattle.vl_replay.specs.Trial.{at_stop, before_stop}
-use Rattle.vl_replay.proofs.DiskSteps.{exchange_after}
-use Rattle.vl_replay.proofs.Outcomes.{either, kept_dropped, kept_opened, kept_read, kept_written}
+use Rattle.vl_replay.proofs.Disk.DiskSteps.{exchange_after}
+use Rattle.vl_replay.proofs.Store.Outcomes.{either, kept_dropped, kept_opened, kept_read, kept_written}
 
 none_some : {X : Type 0} (x : X) → None ≡ Some x → ⊥
 none_some x e = cc

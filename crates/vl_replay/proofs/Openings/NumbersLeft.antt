@@ -35,7 +35,7 @@ use Rattle.vl_replay.specs.laws.StartLaws.{past, reopened, starts_shown}
 use Rattle.vl_replay.specs.Stopped.{AreNumberedUpTo}
 use Rattle.vl_replay.specs.Stored.{Shown}
 use Rattle.vl_replay.specs.declared.fails.Refusal.{Refusal}
-use Rattle.vl_replay.proofs.Recovering.{refused_not}
+use Rattle.vl_replay.proofs.Openings.Recovering.{refused_not}
 
 -- ---- numbers
 

@@ -25,7 +25,7 @@ use Rattle.vl_replay.specs.declared.ending.Ending.TheVariants.{Complete, DiskFau
 use Rattle.vl_replay.specs.declared.ending.OnFault.{OnFault}
 use Rattle.vl_replay.specs.declared.ending.OnFault.TheVariants.{Report, Stop}
 use Rattle.vl_replay.specs.laws.Laws.{ended_lines-cons}
-use Rattle.vl_replay.proofs.Lines.{lines_of-ended}
+use Rattle.vl_replay.proofs.Runs.Lines.{lines_of-ended}
 
 -- ---- exchanges
 

@@ -20,9 +20,9 @@ use Rattle.vl_replay.specs.Steps.{Finishes, FinishesBy}
 use Rattle.vl_replay.specs.declared.ending.Ending.{Ending}
 use Rattle.vl_replay.specs.declared.ending.Ending.TheVariants.{Complete, BadLine, WriteFault}
 use Rattle.vl_replay.specs.declared.input.lines.Next.TheVariants.{Line as WholeLine, LastLine, TooLong}
-use Rattle.vl_replay.proofs.Ends.{ended_lines-line, keeps_up_after, takes_both, takes_nothing, or_cut}
-use Rattle.vl_replay.proofs.Lines.{lines_of-ended, lines_of-unended}
-use Rattle.vl_replay.proofs.OpenedRuns.{of_unopened}
+use Rattle.vl_replay.proofs.Runs.Ends.{ended_lines-line, keeps_up_after, takes_both, takes_nothing, or_cut}
+use Rattle.vl_replay.proofs.Runs.Lines.{lines_of-ended, lines_of-unended}
+use Rattle.vl_replay.proofs.Runs.OpenedRuns.{of_unopened}
 
 -- ---- endings
 

@@ -17,9 +17,9 @@ use Rattle.vl_replay.specs.Steps.{Kept, kept, HasToDo, GoesOn}
 use Rattle.vl_replay.specs.declared.replayer.store.Store.{Store}
 use Rattle.vl_replay.specs.declared.ending.Ending.{Ending}
 use Rattle.vl_replay.specs.laws.Laws.{keeps_up_at_first}
-use Rattle.vl_replay.proofs.Betweens.{extends_itself, extends_then}
-use Rattle.vl_replay.proofs.Ends.{takes_both, takes_nothing, goes_on, longer, keeps_up_behind, ends_weaker, evidence_weaker}
-use Rattle.vl_replay.proofs.DiskSteps.{IsWatched, exchange_extends, exchanges_extend, rests, it_holds, goes_then, ends_later, rose_earlier}
+use Rattle.vl_replay.proofs.Disk.Betweens.{extends_itself, extends_then}
+use Rattle.vl_replay.proofs.Runs.Ends.{takes_both, takes_nothing, goes_on, longer, keeps_up_behind, ends_weaker, evidence_weaker}
+use Rattle.vl_replay.proofs.Disk.DiskSteps.{IsWatched, exchange_extends, exchanges_extend, rests, it_holds, goes_then, ends_later, rose_earlier}
 
 -- So far the disk holds the state before the rest, a crash since the begin left no more than its commits, and what goes along
 -- the lines of the rest goes along those of the whole.

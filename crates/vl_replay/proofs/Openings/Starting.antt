@@ -25,7 +25,7 @@ use Rattle.vl_disk.specs.Moments.{HoldsThroughout, holds_weaker}
 use Rattle.vl_disk.specs.declared.watched.Watched.{Ghosts}
 use Rattle.vl_replay.specs.Between.{ShowsBetween}
 use Rattle.vl_replay.specs.Durable.{CrashesShow, Leaves}
-use Rattle.vl_replay.proofs.Betweens.{between_exactly}
+use Rattle.vl_replay.proofs.Disk.Betweens.{between_exactly}
 use Rattle.vl_replay.specs.Start.{IsDurable, StartsIn}
 use Rattle.vl_replay.specs.Stored.{LogsShow, Shown, logs_entries, no_logs}
 

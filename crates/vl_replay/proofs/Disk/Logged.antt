@@ -28,9 +28,9 @@ use Rattle.vl_replay.specs.Durable.{LeavesItsHistory, StaysShown}
 use Rattle.vl_replay.specs.Stopped.{AreNumberedUpTo, GivesUpTo}
 use Rattle.vl_replay.specs.Stored.{IsStored, LogsShow, Shown, logs_of}
 use Rattle.vl_replay.specs.Writing.{written}
-use Rattle.vl_replay.proofs.LogsShown.{held_show, next_frame, shows_later, shows_next}
-use Rattle.vl_replay.proofs.Numbered.{changed_numbered}
-use Rattle.vl_replay.proofs.Outcomes.{Keeps}
+use Rattle.vl_replay.proofs.Disk.LogsShown.{held_show, next_frame, shows_later, shows_next}
+use Rattle.vl_replay.proofs.Openings.Numbered.{changed_numbered}
+use Rattle.vl_replay.proofs.Store.Outcomes.{Keeps}
 
 -- ---- the laws
 

@@ -36,17 +36,17 @@ use Rattle.vl_replay.specs.Halts.{HaltsByDisk}
 use Rattle.vl_replay.specs.Stopped.{Commits, append_failed, sync_failed}
 use Rattle.vl_replay.specs.Stored.{IsStored, Shown, logs_of}
 use Rattle.vl_replay.specs.Writing.{StopsWriting, WhileWriting, at_append, at_sync, written}
-use Rattle.vl_replay.proofs.Deciding.{same_frame, staged_frame}
-use Rattle.vl_replay.proofs.Logged.{numbers_next, shown_by, shown_stays, stored_exactly, stored_kept, stored_next}
-use Rattle.vl_replay.proofs.LogsShown.{next_frame, shows_next}
+use Rattle.vl_replay.proofs.Store.Deciding.{same_frame, staged_frame}
+use Rattle.vl_replay.proofs.Disk.Logged.{numbers_next, shown_by, shown_stays, stored_exactly, stored_kept, stored_next}
+use Rattle.vl_replay.proofs.Disk.LogsShown.{next_frame, shows_next}
 use Rattle.vl_replay.specs.Sequential.{State, after_commit}
 use Rattle.vl_replay.specs.Represents.{Represents}
 use Rattle.vl_replay.specs.declared.replayer.store.Store.{Store}
 use Rattle.vl_replay.specs.declared.fails.Halt.{Halt}
 use Rattle.vl_replay.specs.declared.fails.Halt.TheVariants as why
-use Rattle.vl_replay.proofs.Betweens.{extends_itself, extends_same, extends_one, last-extends}
-use Rattle.vl_replay.proofs.Outcomes.{Keeps}
-use Rattle.vl_replay.proofs.DiskSteps.{IsWatched, rests, rests_until, goes_then, goes_wider, it_holds, opens_again}
+use Rattle.vl_replay.proofs.Disk.Betweens.{extends_itself, extends_same, extends_one, last-extends}
+use Rattle.vl_replay.proofs.Store.Outcomes.{Keeps}
+use Rattle.vl_replay.proofs.Disk.DiskSteps.{IsWatched, rests, rests_until, goes_then, goes_wider, it_holds, opens_again}
 
 -- ---- results
 

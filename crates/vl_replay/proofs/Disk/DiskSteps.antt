@@ -17,9 +17,9 @@ use Rattle.vl_replay.specs.Endings.{CutsAnswer, IsBetweenLines, TheDisk, culprit
 use Rattle.vl_replay.specs.Durable.{DiskEnds, GoesAlong, CrashesShow, Holding, HoldsCommits, HoldsState, Leaves, LeavesItsHistory, StaysShown, StopsWithin, Tells}
 use Rattle.vl_replay.specs.declared.ending.Ending.{Ending}
 use Rattle.vl_replay.specs.declared.ending.Ending.TheVariants.{NoMemory}
-use Rattle.vl_replay.proofs.Betweens.{extends_itself, extends_then, between_wider, between_exactly}
-use Rattle.vl_replay.proofs.Ends.{LeavesDisk}
-use Rattle.vl_replay.proofs.Outcomes.{line_extends}
+use Rattle.vl_replay.proofs.Disk.Betweens.{extends_itself, extends_then, between_wider, between_exactly}
+use Rattle.vl_replay.proofs.Runs.Ends.{LeavesDisk}
+use Rattle.vl_replay.proofs.Store.Outcomes.{line_extends}
 
 -- ---- exchanges
 

@@ -45,10 +45,10 @@ use Rattle.vl_replay.specs.declared.ending.Ending.TheVariants.{NoMemory}
 use Rattle.vl_replay.specs.declared.fails.Refusal.{Refusal}
 use Rattle.vl_replay.specs.declared.fails.Refusal.TheVariants as refusals
 use Rattle.vl_replay.specs.declared.replayer.Replayer.{Replayer}
-use Rattle.vl_replay.proofs.NumbersLeft.{reopens_not_refused, reopens_starts}
-use Rattle.vl_replay.proofs.OpeningStopped.{opening_reopens}
-use Rattle.vl_replay.proofs.Recovering.{opened_store}
-use Rattle.vl_replay.proofs.Refusals.{opened_not_refused}
+use Rattle.vl_replay.proofs.Openings.NumbersLeft.{reopens_not_refused, reopens_starts}
+use Rattle.vl_replay.proofs.Trials.OpeningStopped.{opening_reopens}
+use Rattle.vl_replay.proofs.Openings.Recovering.{opened_store}
+use Rattle.vl_replay.proofs.Runs.Refusals.{opened_not_refused}
 
 some_list : (a b : List ℕ) → Some a ≡ Some b → a ≡ b
 some_list a b e = cc

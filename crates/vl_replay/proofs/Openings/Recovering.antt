@@ -33,8 +33,8 @@ use Rattle.vl_replay.specs.Stopped.{AreNumberedUpTo, GivesUpTo}
 use Rattle.vl_replay.specs.Stored.{IsStored, LogsShow, logs_entries, logs_of, no_logs}
 use Rattle.vl_replay.specs.declared.fails.Refusal.{Refusal}
 use Rattle.vl_replay.specs.declared.fails.Refusal.TheVariants.{NotAStore, NewerFormat, Damaged, Exhausted}
-use Rattle.vl_replay.proofs.LogsShown.{held-entries}
-use Rattle.vl_replay.proofs.Numbered.{IsLogUpTo, repaired_numbered}
+use Rattle.vl_replay.proofs.Disk.LogsShown.{held-entries}
+use Rattle.vl_replay.proofs.Openings.Numbered.{IsLogUpTo, repaired_numbered}
 
 -- ---- what is kept
 

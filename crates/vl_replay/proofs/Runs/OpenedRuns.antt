@@ -21,9 +21,9 @@ use Rattle.vl_replay.specs.declared.fails.Refusal.TheVariants as refusals
 use Rattle.vl_replay.specs.Steps.{EndsBefore, FinishesBy}
 use Rattle.vl_replay.specs.declared.ending.Ending.{Ending}
 use Rattle.vl_replay.specs.declared.ending.Ending.TheVariants.{BadWords, DiskFault, NoMemory, Refused, Stopped, WriteFault}
-use Rattle.vl_replay.proofs.Betweens.{extends_itself}
-use Rattle.vl_replay.proofs.Ends.{ends_weaker, evidence_weaker, finished, or_cut, finish_counts, counts_none}
-use Rattle.vl_replay.proofs.DiskSteps.{IsWatched, exchanges_extend, goes_wider, goes_then, at_end, ends_later, rose_earlier}
+use Rattle.vl_replay.proofs.Disk.Betweens.{extends_itself}
+use Rattle.vl_replay.proofs.Runs.Ends.{ends_weaker, evidence_weaker, finished, or_cut, finish_counts, counts_none}
+use Rattle.vl_replay.proofs.Disk.DiskSteps.{IsWatched, exchanges_extend, goes_wider, goes_then, at_end, ends_later, rose_earlier}
 
 -- ---- the store wasn't opened
 

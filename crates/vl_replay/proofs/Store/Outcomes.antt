@@ -13,7 +13,7 @@ use Rattle.vl_script.specs.declared.answer.Answer.TheVariants.{Done, Number, Tak
 use Rattle.vl_script.specs.declared.line.Line.{Line}
 use Rattle.vl_script.specs.declared.line.Line.TheVariants.{Begin, View, Get, Set, Delete as DeleteLine, Commit as CommitLine, Drop}
 use Rattle.vl_replay.specs.Sequential.{State, Handle, Outcome, OpenTransaction, OpenView, most_open, with_handle, without_handle, opened, found, read, read_in_transaction, is_lawful_write, written, committed, dropped, fits_transaction, bytes_in_log, after_commit, answer_to, state_after}
-use Rattle.vl_replay.proofs.Betweens.{extends_same, extends_one}
+use Rattle.vl_replay.proofs.Disk.Betweens.{extends_same, extends_one}
 
 -- the commits, the log, the calls and the files stay
 pub record Keeps (before after : State) : Type 0 where

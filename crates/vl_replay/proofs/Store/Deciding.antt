@@ -25,10 +25,10 @@ use Rattle.vl_replay.specs.declared.replayer.handle.Handle.TheVariants.{Transact
 use Rattle.vl_replay.specs.declared.replayer.handle.Open.{Open}
 use Rattle.vl_replay.specs.declared.replayer.memtable.Memtable.{Memtable}
 use Rattle.vl_replay.specs.declared.replayer.store.Store.{Store}
-use Rattle.vl_replay.proofs.Logged.{commit-length}
-use Rattle.vl_replay.proofs.LogsShown.{next_frame}
+use Rattle.vl_replay.proofs.Disk.Logged.{commit-length}
+use Rattle.vl_replay.proofs.Disk.LogsShown.{next_frame}
 use Rattle.vl_replay.specs.Opened.{opened_value}
-use Rattle.vl_replay.proofs.States.{IsInUse, held_in_use, named, remove_in_use, Takes, shows_commit}
+use Rattle.vl_replay.proofs.Store.States.{IsInUse, held_in_use, named, remove_in_use, Takes, shows_commit}
 
 -- what is open under a name
 pub open_named : (held : Option Open) (name : List ℕ) (kept : Handle) → handle_named held name ≡ Some kept → held ≡ Some (record { name = name; handle = kept })

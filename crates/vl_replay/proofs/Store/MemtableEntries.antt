@@ -21,7 +21,7 @@ use Rattle.vl_model.specs.declared.change.Change.{Change}
 use Rattle.vl_model.specs.declared.change.Change.TheVariants.{Delete}
 use Rattle.vl_replay.specs.Memtable.{entry_cmp, is_ordered, is_before, newest}
 use Rattle.vl_replay.specs.declared.replayer.entry.Entry.{Entry}
-use Rattle.vl_replay.proofs.Places.{IsParted, put_before, first_failing, insert-prefix_len, slice_get-item, slice_get-prefix_len}
+use Rattle.vl_replay.proofs.Store.Places.{IsParted, put_before, first_failing, insert-prefix_len, slice_get-item, slice_get-prefix_len}
 
 pub entry_cmp_total : IsTotalOrder entry_cmp
 entry_cmp_total = then_total (on_total (λ (e : Entry). e.key) nat_list_cmp_total) (back_total (on_total (λ (e : Entry). e.version) nat_cmp_total))

@@ -43,8 +43,8 @@ use Rattle.vl_replay.specs.Sequential.{State}
 use Rattle.vl_replay.specs.Stopped.{AreNumberedUpTo, Commits, GivesUpTo, IsStoppedIn, append_failed, append_passed, sync_failed, with_taken}
 use Rattle.vl_replay.specs.Stored.{IsStored, Shown, logs_of}
 use Rattle.vl_replay.specs.Writing.{written}
-use Rattle.vl_replay.proofs.Logged.{shown_by}
-use Rattle.vl_replay.proofs.NumbersLeft.{names_left, numbered_changed, numbers_left, reopens_by}
+use Rattle.vl_replay.proofs.Disk.Logged.{shown_by}
+use Rattle.vl_replay.proofs.Openings.NumbersLeft.{names_left, numbered_changed, numbers_left, reopens_by}
 
 -- ---- a log that ends with a part of a frame
 
