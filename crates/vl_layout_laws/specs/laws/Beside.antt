@@ -36,13 +36,12 @@ use Rattle.vl_layout.specs.declared.layout.Layout.{Layout}
 use Rattle.vl_layout.specs.declared.live.Live.{Live}
 use Rattle.vl_layout.specs.declared.segment.Segment.{Segment}
 use Rattle.vl_layout.specs.declared.table.Table.{Table}
-use Rattle.vl_layout_laws.specs.laws.Gathered.{all_entries, IsIdle, IsShaped, IsClear, IsUntouched}
+use Rattle.vl_layout_laws.specs.laws.Gathered.{all_entries, IsShaped, IsClear, IsUntouched}
 use Rattle.vl_layout_laws.specs.laws.Installs.{IsFit, install_ruling-shows}
 use Rattle.vl_layout_laws.specs.laws.Justified.{same_inputs}
 use Rattle.vl_layout_laws.specs.laws.Keeps.{in_memory, marked_tables, all_weaker, kept_committed, kept_relocated, kept_rotated, kept_flushed}
 use Rattle.vl_layout_laws.specs.laws.Lists.{true_false, or_left, or_right}
-use Rattle.vl_layout_laws.specs.laws.OpenJobs.{place_if, places, Covers, IsStillBehind, IsAccounted, IsKeptFor}
-use Rattle.vl_layout.specs.Shown.{ShowsRuled, ShowsLow, low_at, AreOf, Fits}
+use Rattle.vl_layout.specs.Shown.{ShowsRuled, ShowsLow, low_at, AreOf}
 use Rattle.vl_layout.specs.Jobs.{Made, AreOutputs}
 use Rattle.vl_layout.specs.Rulings.Fresh.{drawn}
 use Rattle.vl_layout.specs.Rulings.Keep.{keeping}
@@ -54,25 +53,7 @@ use Rattle.vl_model.specs.laws.VersionLaws.{versions-stay}
 use Rattle.vl_model.specs.laws.HistoryLaws.{with_commit-extends}
 use Rattle.vl_model.specs.declared.change.Change.{Change}
 use Rattle.std.specs.FinMap.{from_sorted}
-
--- where the inputs stand among the tables
-abbrev pub IsFitted : Layout → Job → Target → Type 0
-IsFitted l job (Level n) = (key : List ℕ) → IsShaped job.keep (inputs_of job.base) (outside_of job.base) job.floor job.inputs key n l.levels
-IsFitted l job InPlace = (xs : List Table) × (t : Table) × (ys : List Table) × (tables l ≡ xs ++ t ∷ ys)
-    × (IsIdle job.keep (inputs_of job.base) (outside_of job.base) job.floor job.inputs xs × ((is_one job.inputs t ≡ true) × IsIdle job.keep (inputs_of job.base) (outside_of job.base) job.floor job.inputs ys))
-
--- what is so of an open job, whatever was done since it was made
-pub record IsOpenWell (l : Layout) (h : History) (job : Job) (moved : List Named) : Type 0 where
-  pub kept : IsKeptFor job moved (sourced l job.inputs)
-  -- its floor is at most that of the engine
-  pub last : job.floor ≤ last_number h
-  pub live : AllByRecursion (λ (x : Live). job.floor ≤ x.number) l.live
-  pub given : AllByRecursion (λ n. n < l.next_table) job.inputs
-  pub fitted : IsFitted l job job.target
-  -- it keeps some versions; as many as are kept now, or its floor isn't above since; and its inputs are of the history
-  pub some : 1 ≤ job.keep
-  pub fits : Fits job.keep job.floor l.keep l.since
-  pub of : AreOf h (inputs_of job.base)
+use Rattle.vl_layout.specs.OpenJobs.{place_if, places, Covers, IsStillBehind, IsAccounted, IsKeptFor, IsFitted, IsOpenWell}
 
 -- ---- when it is made
 

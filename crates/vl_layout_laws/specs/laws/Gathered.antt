@@ -1,20 +1,22 @@
 -- What an install leaves is gathered: of each key what the job keeps stands in its place.
-use Rattle.std.proofs.Common.{◌≡◌, ◌⊎◌, inl, inr, ⊎_elim, ℕ, ◌-◌, ◌<◌, Bool, true, false, cond, not, ◌&&◌, List, [], ◌∷◌, ◌++◌, map, refl, ap, sym, ◌∙◌, subst, arith, append_assoc}
+use Rattle.std.proofs.Common.{◌≡◌, ◌⊎◌, inl, inr, ⊎_elim, ℕ, ◌-◌, Bool, true, false, cond, not, ◌&&◌, List, [], ◌∷◌, ◌++◌, map, refl, ap, sym, ◌∙◌, subst, arith, append_assoc}
 use Rattle.std.proofs.lemmas.Bool.Decides.{nat_tests}
 use Rattle.std.specs.Prelude.{◌==◌}
 use Rattle.std.specs.List.{AllByRecursion, flat_map}
 use Rattle.std.specs.Ordering.{eq_by_cmp}
 use Rattle.vl_model.specs.Keys.{key_cmp}
 use Rattle.vl_model.specs.declared.entry.Entry.{Entry}
+use Rattle.vl_layout.specs.OpenJobs as spec
 use Rattle.vl_layout.specs.Levels.{is_one, without, at_level, in_key_order, is_before}
 use Rattle.vl_layout.specs.Merging.{Sourced, if_so}
 use Rattle.vl_layout.specs.Rulings.Plan.{marked_as}
 use Rattle.vl_layout.specs.laws.TableLaws.{kept_inputs}
 use Rattle.vl_layout.specs.declared.table.Table.{Table}
 use Rattle.vl_layout_laws.specs.laws.Keeps.{marked_tables}
-use Rattle.vl_layout_laws.specs.laws.OpenJobs.{Place, drops_at, head_mark, rest_places, marked_by}
+use Rattle.vl_layout_laws.specs.laws.OpenJobs.{drops_at, head_mark, rest_places, marked_by}
 use Rattle.vl_layout.specs.Marks.{Marked, kept_of}
 use Rattle.vl_layout.specs.Shown.{of_key}
+use Rattle.vl_layout.specs.OpenJobs.{Place}
 
 abbrev pub entries_of : Table → List Entry
 entries_of t = t.entries
@@ -166,7 +168,7 @@ module _ (keep : ℕ) (I O : List Entry) (floor : ℕ) (inputs : List ℕ) where
 
   -- none of these tables is an input
   abbrev pub IsIdle : List Table → Type 0
-  IsIdle ts = AllByRecursion (λ (t : Table). is_one inputs t ≡ false) ts
+  IsIdle ts = spec.IsIdle inputs ts
 
   idle_left : (ps : List Place) (ts : List Table) → IsIdle ts → left_level ps ts ≡ all_entries ts
   idle_left ps [] idle = refl
@@ -197,16 +199,15 @@ module _ (keep : ℕ) (I O : List Entry) (floor : ℕ) (inputs : List ℕ) where
   module _ (key : List ℕ) where
     -- of the key nothing stands in a table that isn't an input
     abbrev pub IsClear : List Table → Type 0
-    IsClear ts = AllByRecursion (λ (t : Table). is_one inputs t ≡ false → IsWithout key t.entries) ts
+    IsClear ts = spec.IsClear inputs key ts
 
     -- of the key nothing stands in an input
     abbrev pub IsUntouched : List Table → Type 0
-    IsUntouched ts = AllByRecursion (λ (t : Table). is_one inputs t ≡ true → IsWithout key t.entries) ts
+    IsUntouched ts = spec.IsUntouched inputs key ts
 
     -- behind an input that has the key no other table has it
     abbrev pub IsParted : List Table → Type 0
-    IsParted [] = Unit {0}
-    IsParted (t ∷ ts) = (is_one inputs t ≡ true → IsWithout key t.entries ⊎ IsClear ts) × IsParted ts
+    IsParted ts = spec.IsParted inputs key ts
 
     clear_without : (ts : List Table) → IsClear ts → IsWithout key (all_entries (without inputs ts))
     clear_without [] clear = tt
@@ -265,16 +266,11 @@ module _ (keep : ℕ) (I O : List Entry) (floor : ℕ) (inputs : List ℕ) where
 
     -- a merge of a level into the next one: the first is parted; of the key either nothing stands in an
     -- input, or nothing in another table of the second; and the deeper ones have no input
-    pub record IsPair (first second : List Table) (deeper : List (List Table)) : Type 0 where
-      pub parted : IsParted first
-      pub apart : (IsUntouched first × IsUntouched second) ⊎ IsClear second
-      pub idle : IsIdle (flat_map (λ ts. ts) deeper)
+    abbrev pub IsPair : List Table → List Table → List (List Table) → Type 0
+    IsPair first second deeper = spec.IsPair inputs key first second deeper
 
     abbrev pub IsShaped : ℕ → List (List Table) → Type 0
-    IsShaped n [] = ⊥
-    IsShaped n (first ∷ []) = ⊥
-    IsShaped n (first ∷ second ∷ deeper) =
-        ((n ≡ 1) × IsPair first second deeper) ⊎ ((1 < n) × (IsIdle first × IsShaped (n - 1) (second ∷ deeper)))
+    IsShaped n levels = spec.IsShaped inputs key n levels
 
     module _ (new : List Table) (out : List Entry) (made : all_entries new ≡ out) where
       of_key_order : (ts : List Table)

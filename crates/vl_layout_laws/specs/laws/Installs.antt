@@ -30,9 +30,10 @@ use Rattle.vl_layout.specs.declared.table.Table.{Table}
 use Rattle.vl_layout_laws.specs.laws.Gathered.{all_entries, nothing_more, IsWithout, of-append, outside_left, outside_rest, outside_kept, marked-append, kept_of-append, kept_inputs-append, left_level, kept_level, left_is, kept_is, IsIdle, IsShaped, IsPlaced, levels_placed, in_place_placed}
 use Rattle.vl_layout_laws.specs.laws.Justified.{marks_shown}
 use Rattle.vl_layout_laws.specs.laws.Keeps.{marked_tables, in_memory}
-use Rattle.vl_layout_laws.specs.laws.OpenJobs.{Place, place_if, places, IsStillBehind, IsKeptFor, drops_at, head_mark, rest_places, marked_by, marks_now}
+use Rattle.vl_layout_laws.specs.laws.OpenJobs.{drops_at, head_mark, rest_places, marked_by, marks_now}
 use Rattle.vl_layout.specs.Marks.{kept_of, IsPast}
 use Rattle.vl_layout.specs.Shown.{of_key, Gathers, ShowsRuled}
+use Rattle.vl_layout.specs.OpenJobs.{Place, place_if, places, IsStillBehind, IsKeptFor}
 
 -- ---- what is kept is what the plan keeps
 

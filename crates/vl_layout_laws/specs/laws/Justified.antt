@@ -21,8 +21,9 @@ use Rattle.vl_layout.specs.Rulings.Install.{with_move, moved_among, race}
 use Rattle.vl_layout.specs.Shows.{Shows}
 use Rattle.vl_layout.specs.declared.job.Job.{Job}
 use Rattle.vl_layout_laws.specs.laws.Lists.{true_false, or_cases, or_left, or_right, picked, at_parts}
-use Rattle.vl_layout_laws.specs.laws.OpenJobs.{Place, place_if, places, IsStillBehind, IsAccounted, IsKeptFor, drops_at, head_mark, rest_places, marked_by, marks_now}
+use Rattle.vl_layout_laws.specs.laws.OpenJobs.{drops_at, head_mark, rest_places, marked_by, marks_now}
 use Rattle.vl_layout.specs.Marks.{all_of, kept_of, inputs_of as marked_inputs, outside_of as marked_outside, IsJustified, AreJustified, IsPast, plain}
+use Rattle.vl_layout.specs.OpenJobs.{Place, place_if, places, IsStillBehind, IsAccounted, IsKeptFor}
 
 -- ---- no race
 

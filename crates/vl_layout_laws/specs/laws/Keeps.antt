@@ -35,7 +35,7 @@ use Rattle.vl_layout.specs.declared.layout.Layout.{Layout}
 use Rattle.vl_layout.specs.declared.segment.Segment.{Segment}
 use Rattle.vl_layout.specs.declared.table.Table.{Table}
 use Rattle.vl_layout_laws.specs.laws.Lists.{or_cases, or_left, or_right, any-append, any-in_order}
-use Rattle.vl_layout_laws.specs.laws.OpenJobs.{Place, place_if, places, Covers, IsStillBehind, IsAccounted, IsKeptFor}
+use Rattle.vl_layout.specs.OpenJobs.{Place, place_if, places, Covers, IsStillBehind, IsAccounted, IsKeptFor}
 
 -- ---- sources in front of the tables
 

@@ -1,50 +1,10 @@
 -- What an open job asks of the sources that it is put into later.
-use Rattle.std.specs.Prelude.{◌≡◌, ◌⊎◌, ℕ, ◌<◌, Bool, true, false, not, List, [], ◌∷◌, is_some}
-use Rattle.std.specs.List.{AllZip, AllByRecursion, list_any}
-use Rattle.std.specs.FinMap.{find}
-use Rattle.vl_model.specs.Conflicts.{Named}
-use Rattle.vl_model.specs.Keys.{key_cmp}
-use Rattle.vl_model.specs.Entries.{is_at}
+use Rattle.std.specs.Prelude.{ℕ, Bool, true, false, not, List, [], ◌∷◌}
 use Rattle.vl_model.specs.declared.entry.Entry.{Entry}
 use Rattle.vl_layout.specs.Merging.{Sourced, inputs_of, outside_of, is_dropped}
 use Rattle.vl_layout.specs.declared.job.Job.{Job}
 use Rattle.vl_layout.specs.Marks.{Marked}
-
--- an input's entry, and the entries before it in the sources, the nearest first
-pub record Place : Type 0 where
-  pub entry : Entry
-  pub newer : List Entry
-
-abbrev pub place_if : Bool → Entry → List Entry → List Place → List Place
-place_if true e newer ps = record { entry = e; newer = newer } ∷ ps
-place_if false e newer ps = ps
-
--- the inputs' entries with what stands before them, behind these
-abbrev pub places : List Entry → List Sourced → List Place
-places newer [] = []
-places newer (s ∷ ss) = place_if s.0 s.1 newer (places (s.1 ∷ newer) ss)
-
--- each key and version that stands in the one stands in the other
-abbrev pub Covers : List Entry → List Entry → Type 0
-Covers old new = (key : List ℕ) (version : ℕ) → list_any (is_at key version) old ≡ true
-    → list_any (is_at key version) new ≡ true
-
--- the entry is the same, and whatever key and version stood before it still does
-pub record IsStillBehind (old new : Place) : Type 0 where
-  pub same : new.entry ≡ old.entry
-  pub covers : Covers old.newer new.newer
-
--- an entry outside the inputs stood outside them when the job began, by key and version; or is of a
--- version above its floor; or its key was moved since
-abbrev pub IsAccounted : List Entry → ℕ → List Named → Entry → Type 0
-IsAccounted outside floor moved e =
-    (list_any (is_at e.key e.version) outside ≡ true)
-    ⊎ ((floor < e.version) ⊎ (is_some (find key_cmp e.key moved) ≡ true))
-
--- the sources of a moment, each entry with whether an input has it, are still what the job may be put into
-pub record IsKeptFor (job : Job) (moved : List Named) (now : List Sourced) : Type 0 where
-  pub inputs : AllZip IsStillBehind (places [] job.base) (places [] now)
-  pub outside : AllByRecursion (IsAccounted (outside_of job.base) job.floor moved) (outside_of now)
+use Rattle.vl_layout.specs.OpenJobs.{Place, places}
 
 -- ---- what the job drops of the sources of a moment
 

@@ -19,9 +19,9 @@ use Rattle.vl_layout.specs.Sources.{tables, numbers_of}
 use Rattle.vl_layout.specs.declared.job.Target.TheVariants.{Level, InPlace}
 use Rattle.vl_layout.specs.declared.layout.Layout.{Layout}
 use Rattle.vl_layout.specs.declared.table.Table.{Table}
-use Rattle.vl_layout_laws.specs.laws.Beside.{IsFitted}
 use Rattle.vl_layout_laws.specs.laws.Gathered.{IsWithout, IsIdle, IsShaped, IsPair, IsClear, IsUntouched, IsParted}
 use Rattle.vl_layout_laws.specs.laws.Lists.{true_false, or_cases}
+use Rattle.vl_layout.specs.OpenJobs.{IsFitted}
 
 -- ---- the order of keys
 
