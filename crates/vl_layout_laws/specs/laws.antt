@@ -12,6 +12,7 @@ pub mod KeyOrder
 pub mod Lists
 pub mod LiveBytes
 pub mod Moves
+pub mod Numbers
 pub mod OpenJobs
 pub mod Outputs
 pub mod Planned

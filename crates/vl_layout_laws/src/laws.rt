@@ -27,7 +27,7 @@ ghost use Rattle.vl_layout.specs.Rulings.Drain.{drain_ruling};
 ghost use Rattle.vl_layout.specs.Rulings.EndPass.{end_pass_ruling};
 ghost use Rattle.vl_layout.specs.Rulings.Flush.{flush_ruling, flushed, flushed_table};
 ghost use Rattle.vl_layout.specs.Rulings.Forget.{forget_ruling};
-ghost use Rattle.vl_layout.specs.Rulings.Fresh.{drawn, fresh_ruling};
+ghost use Rattle.vl_layout.specs.Rulings.Fresh.{Drawn, drawn, fresh_ruling};
 ghost use Rattle.vl_layout.specs.Rulings.Install.{install_ruling, installed};
 ghost use Rattle.vl_layout.specs.Rulings.Keep.{keep_ruling, keeping};
 ghost use Rattle.vl_layout.specs.Rulings.Pick.{pick_ruling, with_pass};
@@ -38,7 +38,7 @@ ghost use Rattle.vl_layout.specs.Rulings.Rotate.{rotate_ruling, rotated};
 ghost use Rattle.vl_layout.specs.Rulings.Sweep.{swept, sweep_ruling, sweep_to_ruling, without_files};
 ghost use Rattle.vl_layout.specs.Rulings.View.{View};
 ghost use Rattle.vl_layout.specs.Sources.{oldest, sources, tables};
-ghost use Rattle.vl_layout.specs.Stock.{IsFooted, IsLoose, IsWellStocked, PointsDrawn, leads};
+ghost use Rattle.vl_layout.specs.Stock.{HaveRisen, IsFooted, IsLoose, IsWellStocked, PointsDrawn, leads};
 ghost use Rattle.vl_layout.specs.declared.job.Job.{Job};
 ghost use Rattle.vl_layout.specs.declared.job.Target.TheVariants.{Level, InPlace};
 ghost use Rattle.vl_layout.specs.declared.layout.Layout.{Layout};
@@ -158,4 +158,30 @@ pub fn shown_from_low_stays()
     ensures end { (logs : Logs) (l : Layout) (h : History) (ticket : ℕ) → ShowsLow logs l h → ShowsLow logs (ended ticket l) h }
     ensures begin { (logs : Logs) (l : Layout) (h : History) (ticket : ℕ) → ShowsLow logs l h → ShowsLow logs (begun l ticket (last_number h)) h }
     ensures keep { (logs : Logs) (l : Layout) (h : History) (v : ℕ) → ShowsLow logs l h → ShowsLow logs (keeping v h l) h }
+{}
+
+/// The numbers that may still be given don't fall, and what a call draws is the least of them: so no
+/// number is drawn twice.
+pub fn numbers_are_drawn_once()
+    ensures begin { (l : Layout) (h : History) → HaveRisen l (begin_ruling l h).layout }
+    ensures commit { (l : Layout) (h : History) (t : Transaction) → HaveRisen l (commit_ruling l h t).layout }
+    ensures forget { (l : Layout) (h : History) (t : Transaction) → HaveRisen l (forget_ruling l h t).layout }
+    ensures release { (l : Layout) (h : History) (v : View) → HaveRisen l (release_ruling l h v).layout }
+    ensures rotate { (l : Layout) (h : History) → HaveRisen l (rotate_ruling l h).layout }
+    ensures flush { (l : Layout) (h : History) → HaveRisen l (flush_ruling l h).layout }
+    ensures relocate { (l : Layout) (h : History) (pass : Pass) (batch : List Candidate) → HaveRisen l (relocate_ruling l h pass batch).layout }
+    ensures plan { (l : Layout) (h : History) → HaveRisen l (plan_ruling l h).layout }
+    ensures drain { (l : Layout) (h : History) (segment : ℕ) → HaveRisen l (drain_ruling l h segment).layout }
+    ensures fresh { (l : Layout) (h : History) → HaveRisen l (fresh_ruling l h).layout }
+    ensures abandon { (l : Layout) (h : History) (made : Made) → HaveRisen l (abandon_ruling l h made).layout }
+    ensures install { (l : Layout) (h : History) (job : Job) (made : Made) → HaveRisen l (install_ruling l h job made).layout }
+    ensures pick { (l : Layout) (h : History) (percent : ℕ) → HaveRisen l (pick_ruling l h percent).layout }
+    ensures end_pass { (l : Layout) (h : History) (pass : Pass) → HaveRisen l (end_pass_ruling l h pass).layout }
+    ensures sweep { (l : Layout) (h : History) → HaveRisen l (sweep_ruling l h).layout }
+    ensures sweep_to { (l : Layout) (h : History) (least : ℕ) → HaveRisen l (sweep_to_ruling l h least).layout }
+    ensures keep { (l : Layout) (h : History) (v : ℕ) → HaveRisen l (keep_ruling l h v).layout }
+    ensures rotated { (l : Layout) → ((rotated l).active.number ≡ l.next_log) × ((rotated l).next_log ≡ l.next_log + 1) }
+    ensures flushed { (l : Layout) (s : Segment) → ((flushed_table l s).number ≡ l.next_table) × ((flushed l s).next_table ≡ l.next_table + 1) }
+    ensures drawn { (l : Layout) (h : History) (n : ℕ) → (fresh_ruling l h).answer ≡ Drawn n
+        → (n ≡ l.next_table) × ((fresh_ruling l h).layout.next_table ≡ l.next_table + 1) }
 {}
