@@ -8,7 +8,7 @@ use Rattle.vl_model.specs.Entries.{is_at}
 use Rattle.vl_model.specs.History.{History, last_number}
 use Rattle.vl_model.specs.Keys.{key_cmp}
 use Rattle.vl_model.specs.declared.entry.Entry.{Entry}
-use Rattle.vl_layout.specs.Levels.{is_one}
+use Rattle.vl_layout.specs.Levels.{is_among}
 use Rattle.vl_layout.specs.Merging.{Sourced, inputs_of, outside_of}
 use Rattle.vl_layout.specs.Rulings.Plan.{sourced}
 use Rattle.vl_layout.specs.Shown.{AreOf, Fits}
@@ -66,21 +66,21 @@ IsWithout key es = AllByRecursion (λ (e : Entry). eq_by_cmp key_cmp key e.key �
 
 -- none of the tables is an input
 abbrev pub IsIdle : List ℕ → List Table → Type 0
-IsIdle inputs ts = AllByRecursion (λ (t : Table). is_one inputs t ≡ false) ts
+IsIdle inputs ts = AllByRecursion (λ (t : Table). is_among inputs t ≡ false) ts
 
 module _ (inputs : List ℕ) (key : List ℕ) where
   -- but the inputs, no table has the key
   abbrev pub IsClear : List Table → Type 0
-  IsClear ts = AllByRecursion (λ (t : Table). is_one inputs t ≡ false → IsWithout key t.entries) ts
+  IsClear ts = AllByRecursion (λ (t : Table). is_among inputs t ≡ false → IsWithout key t.entries) ts
 
   -- no input has it
   abbrev pub IsUntouched : List Table → Type 0
-  IsUntouched ts = AllByRecursion (λ (t : Table). is_one inputs t ≡ true → IsWithout key t.entries) ts
+  IsUntouched ts = AllByRecursion (λ (t : Table). is_among inputs t ≡ true → IsWithout key t.entries) ts
 
   -- behind an input that has it only inputs do
   abbrev pub IsParted : List Table → Type 0
   IsParted [] = Unit {0}
-  IsParted (t ∷ ts) = (is_one inputs t ≡ true → IsWithout key t.entries ⊎ IsClear ts) × IsParted ts
+  IsParted (t ∷ ts) = (is_among inputs t ≡ true → IsWithout key t.entries ⊎ IsClear ts) × IsParted ts
 
   pub record IsPair (first second : List Table) (deeper : List (List Table)) : Type 0 where
     pub parted : IsParted first
@@ -98,7 +98,7 @@ module _ (inputs : List ℕ) (key : List ℕ) where
 abbrev pub IsFitted : Layout → Job → Target → Type 0
 IsFitted l job (Level n) = (key : List ℕ) → IsShaped job.inputs key n l.levels
 IsFitted l job InPlace = (xs : List Table) × (t : Table) × (ys : List Table) × (tables l ≡ xs ++ t ∷ ys)
-    × (IsIdle job.inputs xs × ((is_one job.inputs t ≡ true) × IsIdle job.inputs ys))
+    × (IsIdle job.inputs xs × ((is_among job.inputs t ≡ true) × IsIdle job.inputs ys))
 
 -- ---- all of it
 

@@ -11,7 +11,7 @@ ghost use Rattle.vl_model.specs.declared.log_frame.Moved.{Moved};
 ghost use Rattle.vl_model.specs.declared.entry.Entry.{Entry};
 ghost use Rattle.vl_layout.specs.Garbage.{live_bytes, pointed_bytes};
 ghost use Rattle.vl_layout.specs.Jobs.{Made, AreLent, AreOutputs, lent_numbers};
-ghost use Rattle.vl_layout.specs.Levels.{is_one};
+ghost use Rattle.vl_layout.specs.Levels.{is_among};
 ghost use Rattle.vl_layout.specs.Logs.{LogRecord, memtable};
 ghost use Rattle.vl_layout.specs.OpenJobs.{IsOpenWell};
 ghost use Rattle.vl_layout.specs.Ruling.{ended, logged};
@@ -92,11 +92,11 @@ pub fn live_bytes_after_a_switch()
     ensures flush { (segment : ℕ) (l : Layout) (s : Segment) (level : List Table) (deeper : List (List Table)) → l.levels ≡ level ∷ deeper
         → live_bytes (tables (flushed l s)) segment ≡ pointed_bytes segment (flushed_table l s).points + live_bytes (tables l) segment }
     ensures level { (segment : ℕ) (l : Layout) (job : Job) (made : Made) (n : ℕ) → job.target ≡ Level n → n < length l.levels
-        → live_bytes (tables (installed job made l)) segment + live_bytes (filter (is_one job.inputs) (tables l)) segment
+        → live_bytes (tables (installed job made l)) segment + live_bytes (filter (is_among job.inputs) (tables l)) segment
         ≡ live_bytes made.tables segment + live_bytes (tables l) segment }
     ensures in_place { (segment : ℕ) (l : Layout) (job : Job) (made : Made) → job.target ≡ InPlace
-        → length (filter (is_one job.inputs) (tables l)) ≡ 1
-        → live_bytes (tables (installed job made l)) segment + live_bytes (filter (is_one job.inputs) (tables l)) segment
+        → length (filter (is_among job.inputs) (tables l)) ≡ 1
+        → live_bytes (tables (installed job made l)) segment + live_bytes (filter (is_among job.inputs) (tables l)) segment
         ≡ live_bytes made.tables segment + live_bytes (tables l) segment }
 {}
 

@@ -5,7 +5,7 @@ use Rattle.std.specs.List.{AllByRecursion, filter}
 use Rattle.std.specs.Ordering.{is_lt}
 use Rattle.vl_model.specs.Keys.{key_cmp}
 use Rattle.vl_model.specs.declared.entry.Entry.{Entry}
-use Rattle.vl_layout.specs.Levels.{is_one, Range, range_of, meets, given, with_next}
+use Rattle.vl_layout.specs.Levels.{is_among, Range, range_of, meets, due_inputs, with_next}
 use Rattle.vl_layout.specs.declared.table.Table.{Table}
 use Rattle.vl_layout_laws.specs.laws.Lists.{true_false}
 use Rattle.vl_layout_laws.specs.laws.KeyOrder.{IsWide}
@@ -56,28 +56,28 @@ AreBelow one key ts = AllByRecursion (λ (t : Table). one t ≡ true → AllByRe
 module _ (n : ℕ) (A B : List Table) (distinct_A : IsDistinct A) (distinct_B : IsDistinct B) (other : AreOther A B)
     (ranged_A : AllByRecursion IsRanged A) (ranged_B : AllByRecursion IsRanged B)
     (apart_A : 0 < n → IsApart A) (apart_B : IsApart B) (wide_B : AllByRecursion IsWide B)
-    (range : Range) (is : range_of (given n A) ≡ Some range) where
+    (range : Range) (is : range_of (due_inputs n A) ≡ Some range) where
   one : Table → Bool
-  one t = is_one (numbers_of (with_next (given n A) B)) t
+  one t = is_among (numbers_of (with_next (due_inputs n A) B)) t
 
   -- an input of the second level meets the range
-  inputs_meet : AllByRecursion (λ (t : Table). is_one (numbers_of (with_next (given n A) B)) t ≡ true → meets (range_of (given n A)) t ≡ true) B
+  inputs_meet : AllByRecursion (λ (t : Table). is_among (numbers_of (with_next (due_inputs n A) B)) t ≡ true → meets (range_of (due_inputs n A)) t ≡ true) B
   inputs_meet = each B (others_turned A B other) (only_one B distinct_B)
     where
       each : (ts : List Table) → AllByRecursion (λ (t : Table). AllByRecursion (λ (x : Table). x.number ≢ t.number) A) ts
           → AllByRecursion (λ (t : Table). AllByRecursion (λ (x : Table). x.number ≡ t.number → x ≡ t) B) ts
-          → AllByRecursion (λ (t : Table). is_one (numbers_of (with_next (given n A) B)) t ≡ true → meets (range_of (given n A)) t ≡ true) ts
+          → AllByRecursion (λ (t : Table). is_among (numbers_of (with_next (due_inputs n A) B)) t ≡ true → meets (range_of (due_inputs n A)) t ≡ true) ts
       each [] off uniq = tt
       each (t ∷ ts) off uniq = ((λ input. here input), each ts off.1 uniq.1)
         where
-          here : is_one (numbers_of (with_next (given n A) B)) t ≡ true → meets (range_of (given n A)) t ≡ true
+          here : is_among (numbers_of (with_next (due_inputs n A) B)) t ≡ true → meets (range_of (due_inputs n A)) t ≡ true
           here input =
-              let V : Table → Type 0 = λ x. x.number ≡ t.number → meets (range_of (given n A)) t ≡ true in
-              let left : AllByRecursion V (given n A) = weaker (λ (x : Table). x.number ≢ t.number) V (λ x apart same. absurd (apart same)) (given n A) (all_given (λ (x : Table). x.number ≢ t.number) n A off.0) in
-              let right : AllByRecursion V (filter (meets (range_of (given n A))) B) = weaker (λ (x : Table). (meets (range_of (given n A)) x ≡ true) × (x.number ≡ t.number → x ≡ t)) V
-              (λ x both same. subst (λ (y : Table). meets (range_of (given n A)) y ≡ true) (both.1 same) both.0) (filter (meets (range_of (given n A))) B)
-              (passed (λ (x : Table). x.number ≡ t.number → x ≡ t) (meets (range_of (given n A))) B uniq.0) in
-              let found = one_is t V (with_next (given n A) B) (all_both V (given n A) (filter (meets (range_of (given n A))) B) left right) input in
+              let V : Table → Type 0 = λ x. x.number ≡ t.number → meets (range_of (due_inputs n A)) t ≡ true in
+              let left : AllByRecursion V (due_inputs n A) = weaker (λ (x : Table). x.number ≢ t.number) V (λ x apart same. absurd (apart same)) (due_inputs n A) (all_given (λ (x : Table). x.number ≢ t.number) n A off.0) in
+              let right : AllByRecursion V (filter (meets (range_of (due_inputs n A))) B) = weaker (λ (x : Table). (meets (range_of (due_inputs n A)) x ≡ true) × (x.number ≡ t.number → x ≡ t)) V
+              (λ x both same. subst (λ (y : Table). meets (range_of (due_inputs n A)) y ≡ true) (both.1 same) both.0) (filter (meets (range_of (due_inputs n A))) B)
+              (passed (λ (x : Table). x.number ≡ t.number → x ≡ t) (meets (range_of (due_inputs n A))) B uniq.0) in
+              let found = one_is t V (with_next (due_inputs n A) B) (all_both V (due_inputs n A) (filter (meets (range_of (due_inputs n A))) B) left right) input in
               found.2 found.1
 
   never_lt : (a b : List ℕ) → Lt a b → Le b a → ⊥
@@ -96,46 +96,46 @@ module _ (n : ℕ) (A B : List Table) (distinct_A : IsDistinct A) (distinct_B : 
   -- all keys of inputs lie on one side of each other table of the second level
   abbrev pub IsBeside : Table → Type 0
   IsBeside u =
-      (AreAbove (λ t. is_one (numbers_of (with_next (given n A) B)) t) u.last A × AreAbove (λ t. is_one (numbers_of (with_next (given n A) B)) t) u.last B)
-      ⊎ (AreBelow (λ t. is_one (numbers_of (with_next (given n A) B)) t) u.first A × AreBelow (λ t. is_one (numbers_of (with_next (given n A) B)) t) u.first B)
+      (AreAbove (λ t. is_among (numbers_of (with_next (due_inputs n A) B)) t) u.last A × AreAbove (λ t. is_among (numbers_of (with_next (due_inputs n A) B)) t) u.last B)
+      ⊎ (AreBelow (λ t. is_among (numbers_of (with_next (due_inputs n A) B)) t) u.first A × AreBelow (λ t. is_among (numbers_of (with_next (due_inputs n A) B)) t) u.first B)
 
-  all_beside : AllByRecursion (λ (u : Table). is_one (numbers_of (with_next (given n A) B)) u ≡ false → IsBeside u) B
-  all_beside = each B (subst (λ (o : Option Range). AllByRecursion (λ (u : Table). meets o u ≡ true → is_one (numbers_of (with_next (given n A) B)) u ≡ true) B) is (met n A B distinct_A other ranged_A ranged_B apart_A apart_B))
-      (pairs_apart (λ t. is_one (numbers_of (with_next (given n A) B)) t) B apart_B) wide_B
+  all_beside : AllByRecursion (λ (u : Table). is_among (numbers_of (with_next (due_inputs n A) B)) u ≡ false → IsBeside u) B
+  all_beside = each B (subst (λ (o : Option Range). AllByRecursion (λ (u : Table). meets o u ≡ true → is_among (numbers_of (with_next (due_inputs n A) B)) u ≡ true) B) is (met n A B distinct_A other ranged_A ranged_B apart_A apart_B))
+      (pairs_apart (λ t. is_among (numbers_of (with_next (due_inputs n A) B)) t) B apart_B) wide_B
     where
       F : Table → Bool
-      F t = is_one (numbers_of (with_next (given n A) B)) t
+      F t = is_among (numbers_of (with_next (due_inputs n A) B)) t
 
-      inside : AllByRecursion (λ (t : Table). is_one (numbers_of (with_next (given n A) B)) t ≡ true → Le range.0 t.first × Le t.last range.1) A
+      inside : AllByRecursion (λ (t : Table). is_among (numbers_of (with_next (due_inputs n A) B)) t ≡ true → Le range.0 t.first × Le t.last range.1) A
       inside = within n A B distinct_A other ranged_A ranged_B apart_A apart_B range is
 
-      meet : AllByRecursion (λ (t : Table). is_one (numbers_of (with_next (given n A) B)) t ≡ true → meets (Some range) t ≡ true) B
-      meet = subst (λ (o : Option Range). AllByRecursion (λ (t : Table). is_one (numbers_of (with_next (given n A) B)) t ≡ true → meets o t ≡ true) B) is inputs_meet
+      meet : AllByRecursion (λ (t : Table). is_among (numbers_of (with_next (due_inputs n A) B)) t ≡ true → meets (Some range) t ≡ true) B
+      meet = subst (λ (o : Option Range). AllByRecursion (λ (t : Table). is_among (numbers_of (with_next (due_inputs n A) B)) t ≡ true → meets o t ≡ true) B) is inputs_meet
 
-      above_first : (key : List ℕ) → Lt key range.0 → (ts : List Table) → AllByRecursion (λ (t : Table). is_one (numbers_of (with_next (given n A) B)) t ≡ true → Le range.0 t.first × Le t.last range.1) ts → AllByRecursion IsRanged ts
-          → AreAbove (λ t. is_one (numbers_of (with_next (given n A) B)) t) key ts
+      above_first : (key : List ℕ) → Lt key range.0 → (ts : List Table) → AllByRecursion (λ (t : Table). is_among (numbers_of (with_next (due_inputs n A) B)) t ≡ true → Le range.0 t.first × Le t.last range.1) ts → AllByRecursion IsRanged ts
+          → AreAbove (λ t. is_among (numbers_of (with_next (due_inputs n A) B)) t) key ts
       above_first key low [] w r = tt
       above_first key low (t ∷ ts) w r = (
           (λ input. weaker (λ (e : Entry). Le t.first e.key × Le e.key t.last) (λ (e : Entry). Lt key e.key) (λ e at. lt_le_then key range.0 e.key low (le_then range.0 t.first e.key (w.0 input).0 at.0)) t.entries r.0),
           above_first key low ts w.1 r.1,
       )
 
-      below_first : (key : List ℕ) → Lt range.1 key → (ts : List Table) → AllByRecursion (λ (t : Table). is_one (numbers_of (with_next (given n A) B)) t ≡ true → Le range.0 t.first × Le t.last range.1) ts → AllByRecursion IsRanged ts
-          → AreBelow (λ t. is_one (numbers_of (with_next (given n A) B)) t) key ts
+      below_first : (key : List ℕ) → Lt range.1 key → (ts : List Table) → AllByRecursion (λ (t : Table). is_among (numbers_of (with_next (due_inputs n A) B)) t ≡ true → Le range.0 t.first × Le t.last range.1) ts → AllByRecursion IsRanged ts
+          → AreBelow (λ t. is_among (numbers_of (with_next (due_inputs n A) B)) t) key ts
       below_first key high [] w r = tt
       below_first key high (t ∷ ts) w r = (
           (λ input. weaker (λ (e : Entry). Le t.first e.key × Le e.key t.last) (λ (e : Entry). Lt e.key key) (λ e at. le_lt e.key range.1 key (le_then e.key t.last range.1 at.1 (w.0 input).1) high) t.entries r.0),
           below_first key high ts w.1 r.1,
       )
 
-      above_second : (u : Table) → IsWide u → is_one (numbers_of (with_next (given n A) B)) u ≡ false → Lt u.last range.0 → (ts : List Table)
-          → AllByRecursion (IsPairApart (λ t. is_one (numbers_of (with_next (given n A) B)) t) u) ts
-          → AllByRecursion (λ (t : Table). is_one (numbers_of (with_next (given n A) B)) t ≡ true → meets (Some range) t ≡ true) ts → AllByRecursion IsRanged ts
-          → AreAbove (λ t. is_one (numbers_of (with_next (given n A) B)) t) u.last ts
+      above_second : (u : Table) → IsWide u → is_among (numbers_of (with_next (due_inputs n A) B)) u ≡ false → Lt u.last range.0 → (ts : List Table)
+          → AllByRecursion (IsPairApart (λ t. is_among (numbers_of (with_next (due_inputs n A) B)) t) u) ts
+          → AllByRecursion (λ (t : Table). is_among (numbers_of (with_next (due_inputs n A) B)) t ≡ true → meets (Some range) t ≡ true) ts → AllByRecursion IsRanged ts
+          → AreAbove (λ t. is_among (numbers_of (with_next (due_inputs n A) B)) t) u.last ts
       above_second u wide out low [] pairs m r = tt
       above_second u wide out low (t ∷ ts) pairs m r = (
           (λ input. ⊎_elim
-          (λ (same : is_one (numbers_of (with_next (given n A) B)) t ≡ is_one (numbers_of (with_next (given n A) B)) u). absurd (true_false (sym input ∙ same ∙ out)))
+          (λ (same : is_among (numbers_of (with_next (due_inputs n A) B)) t ≡ is_among (numbers_of (with_next (due_inputs n A) B)) u). absurd (true_false (sym input ∙ same ∙ out)))
           (λ (apart : Lt t.last u.first ⊎ Lt u.last t.first). ⊎_elim
           (λ (before : Lt t.last u.first).
           let no = (not_first (is_lt (key_cmp t.last range.0)) (is_lt (key_cmp range.1 t.first)) (m.0 input)).0 in
@@ -146,14 +146,14 @@ module _ (n : ℕ) (A B : List Table) (distinct_A : IsDistinct A) (distinct_B : 
           above_second u wide out low ts pairs.1 m.1 r.1,
       )
 
-      below_second : (u : Table) → IsWide u → is_one (numbers_of (with_next (given n A) B)) u ≡ false → Lt range.1 u.first → (ts : List Table)
-          → AllByRecursion (IsPairApart (λ t. is_one (numbers_of (with_next (given n A) B)) t) u) ts
-          → AllByRecursion (λ (t : Table). is_one (numbers_of (with_next (given n A) B)) t ≡ true → meets (Some range) t ≡ true) ts → AllByRecursion IsRanged ts
-          → AreBelow (λ t. is_one (numbers_of (with_next (given n A) B)) t) u.first ts
+      below_second : (u : Table) → IsWide u → is_among (numbers_of (with_next (due_inputs n A) B)) u ≡ false → Lt range.1 u.first → (ts : List Table)
+          → AllByRecursion (IsPairApart (λ t. is_among (numbers_of (with_next (due_inputs n A) B)) t) u) ts
+          → AllByRecursion (λ (t : Table). is_among (numbers_of (with_next (due_inputs n A) B)) t ≡ true → meets (Some range) t ≡ true) ts → AllByRecursion IsRanged ts
+          → AreBelow (λ t. is_among (numbers_of (with_next (due_inputs n A) B)) t) u.first ts
       below_second u wide out high [] pairs m r = tt
       below_second u wide out high (t ∷ ts) pairs m r = (
           (λ input. ⊎_elim
-          (λ (same : is_one (numbers_of (with_next (given n A) B)) t ≡ is_one (numbers_of (with_next (given n A) B)) u). absurd (true_false (sym input ∙ same ∙ out)))
+          (λ (same : is_among (numbers_of (with_next (due_inputs n A) B)) t ≡ is_among (numbers_of (with_next (due_inputs n A) B)) u). absurd (true_false (sym input ∙ same ∙ out)))
           (λ (apart : Lt t.last u.first ⊎ Lt u.last t.first). ⊎_elim
           (λ (before : Lt t.last u.first). weaker (λ (e : Entry). Le t.first e.key × Le e.key t.last) (λ (e : Entry). Lt e.key u.first) (λ e at. le_lt e.key t.last u.first at.1 before) t.entries r.0)
           (λ (behind : Lt u.last t.first).
@@ -168,9 +168,9 @@ module _ (n : ℕ) (A B : List Table) (distinct_A : IsDistinct A) (distinct_B : 
       is_out true never = absurd (never refl)
       is_out false never = refl
 
-      each : (us : List Table) → AllByRecursion (λ (u : Table). meets (Some range) u ≡ true → is_one (numbers_of (with_next (given n A) B)) u ≡ true) us
-          → AllByRecursion (λ (u : Table). AllByRecursion (IsPairApart (λ t. is_one (numbers_of (with_next (given n A) B)) t) u) B) us → AllByRecursion IsWide us
-          → AllByRecursion (λ (u : Table). is_one (numbers_of (with_next (given n A) B)) u ≡ false → IsBeside u) us
+      each : (us : List Table) → AllByRecursion (λ (u : Table). meets (Some range) u ≡ true → is_among (numbers_of (with_next (due_inputs n A) B)) u ≡ true) us
+          → AllByRecursion (λ (u : Table). AllByRecursion (IsPairApart (λ t. is_among (numbers_of (with_next (due_inputs n A) B)) t) u) B) us → AllByRecursion IsWide us
+          → AllByRecursion (λ (u : Table). is_among (numbers_of (with_next (due_inputs n A) B)) u ≡ false → IsBeside u) us
       each [] m pairs wide = tt
       each (u ∷ us) m pairs wide = (
           (λ out.

@@ -11,7 +11,7 @@ use Rattle.vl_model.specs.Winners.{Logs}
 use Rattle.vl_model.specs.declared.entry.Entry.{Entry}
 use Rattle.vl_model.specs.declared.log_frame.Moved.{Moved}
 use Rattle.vl_block.specs.laws.CuttingLaws.{joined}
-use Rattle.vl_layout.specs.Levels.{is_one, in_front}
+use Rattle.vl_layout.specs.Levels.{is_among, in_front}
 use Rattle.vl_layout.specs.Merging.{Sourced, if_so, inputs_of, outside_of, is_dropped, kept_from, kept, merged_entries, outputs}
 use Rattle.vl_layout.specs.laws.OrderShows.{all-in_order}
 use Rattle.vl_layout.specs.Ruling.{pin_of, logged, ended}
@@ -218,7 +218,7 @@ module _ (l : Layout) (h : History) (job : Job) (moved : List Named) (k : IsOpen
       by InPlace fit = fit
 
   -- a table in front of level 0
-  module _ (t : Table) (other : is_one job.inputs t ≡ false) where
+  module _ (t : Table) (other : is_among job.inputs t ≡ false) where
     I : List Entry
     I = inputs_of job.base
 
@@ -254,11 +254,11 @@ module _ (l : Layout) (h : History) (job : Job) (moved : List Named) (k : IsOpen
       later next [] all = tt
       later next (n ∷ ns) all = ((let one = all.0 in omega (arith, one)), later next ns all.1)
 
-      not_one : (next : ℕ) (ns : List ℕ) (t : Table) → t.number ≡ next → AllByRecursion (λ n. n < next) ns → is_one ns t ≡ false
+      not_one : (next : ℕ) (ns : List ℕ) (t : Table) → t.number ≡ next → AllByRecursion (λ n. n < next) ns → is_among ns t ≡ false
       not_one next [] t is below = refl
       not_one next (n ∷ ns) t is below =
           let here : (n == t.number) ≡ false = let less = below.0 in grind (arith, nat_tests, is) in
-          ap (λ b. b || is_one ns t) here ∙ not_one next ns t is below.1
+          ap (λ b. b || is_among ns t) here ∙ not_one next ns t is below.1
 
       by : (target : Target) → IsFitted l job target → IsFitted (flushed l s) job target
       by (Level n) fit = λ key.
@@ -321,7 +321,7 @@ inputs_tables : (Q : Entry → Type 0) (inputs : List ℕ) (ts : List Table) →
 inputs_tables Q inputs [] all = tt
 inputs_tables Q inputs (t ∷ ts) all =
     let both = split t.entries (all_entries ts) all in
-    inputs_table Q (is_one inputs t) t.entries (marked_tables inputs ts) both.0 (inputs_tables Q inputs ts both.1)
+    inputs_table Q (is_among inputs t) t.entries (marked_tables inputs ts) both.0 (inputs_tables Q inputs ts both.1)
   where
     split : (es fs : List Entry) → AllByRecursion Q (es ++ fs) → AllByRecursion Q es × AllByRecursion Q fs
     split [] fs all = (tt, all)

@@ -7,7 +7,7 @@ use Rattle.std.specs.Ordering.{eq_by_cmp}
 use Rattle.vl_model.specs.Keys.{key_cmp}
 use Rattle.vl_model.specs.declared.entry.Entry.{Entry}
 use Rattle.vl_layout.specs.OpenJobs as spec
-use Rattle.vl_layout.specs.Levels.{is_one, without, at_level, in_key_order, is_before}
+use Rattle.vl_layout.specs.Levels.{is_among, without, at_level, in_key_order, is_before}
 use Rattle.vl_layout.specs.Merging.{Sourced, if_so}
 use Rattle.vl_layout.specs.Rulings.Plan.{marked_as}
 use Rattle.vl_layout.specs.laws.TableLaws.{kept_inputs}
@@ -125,21 +125,21 @@ module _ (keep : ℕ) (I O : List Entry) (floor : ℕ) (inputs : List ℕ) where
   abbrev pub left_level : List Place → List Table → List Entry
   left_level ps [] = []
   left_level ps (t ∷ ts) =
-      kept_of (marked_by keep I O floor ps (marked_as (is_one inputs t) t.entries)) ++ left_level (rest_of ps (marked_as (is_one inputs t) t.entries)) ts
+      kept_of (marked_by keep I O floor ps (marked_as (is_among inputs t) t.entries)) ++ left_level (rest_of ps (marked_as (is_among inputs t) t.entries)) ts
 
   abbrev pub kept_level : List Place → List Table → List Entry
   kept_level ps [] = []
   kept_level ps (t ∷ ts) =
-      kept_inputs (marked_by keep I O floor ps (marked_as (is_one inputs t) t.entries)) ++ kept_level (rest_of ps (marked_as (is_one inputs t) t.entries)) ts
+      kept_inputs (marked_by keep I O floor ps (marked_as (is_among inputs t) t.entries)) ++ kept_level (rest_of ps (marked_as (is_among inputs t) t.entries)) ts
 
   abbrev pub rest_level : List Place → List Table → List Place
   rest_level ps [] = ps
-  rest_level ps (t ∷ ts) = rest_level (rest_of ps (marked_as (is_one inputs t) t.entries)) ts
+  rest_level ps (t ∷ ts) = rest_level (rest_of ps (marked_as (is_among inputs t) t.entries)) ts
 
   pub left_is : (ps : List Place) (ts : List Table) → kept_of (marked_by keep I O floor ps (marked_tables inputs ts)) ≡ left_level ps ts
   left_is ps [] = refl
   left_is ps (t ∷ ts) =
-      let ss = marked_as (is_one inputs t) t.entries in
+      let ss = marked_as (is_among inputs t) t.entries in
       ap kept_of (marked-append ps ss (marked_tables inputs ts))
       ∙ kept_of-append (marked_by keep I O floor ps ss) (marked_by keep I O floor (rest_of ps ss) (marked_tables inputs ts))
       ∙ ap (λ xs. kept_of (marked_by keep I O floor ps ss) ++ xs) (left_is (rest_of ps ss) ts)
@@ -147,7 +147,7 @@ module _ (keep : ℕ) (I O : List Entry) (floor : ℕ) (inputs : List ℕ) where
   pub kept_is : (ps : List Place) (ts : List Table) → kept_inputs (marked_by keep I O floor ps (marked_tables inputs ts)) ≡ kept_level ps ts
   kept_is ps [] = refl
   kept_is ps (t ∷ ts) =
-      let ss = marked_as (is_one inputs t) t.entries in
+      let ss = marked_as (is_among inputs t) t.entries in
       ap kept_inputs (marked-append ps ss (marked_tables inputs ts))
       ∙ kept_inputs-append (marked_by keep I O floor ps ss) (marked_by keep I O floor (rest_of ps ss) (marked_tables inputs ts))
       ∙ ap (λ xs. kept_inputs (marked_by keep I O floor ps ss) ++ xs) (kept_is (rest_of ps ss) ts)
@@ -155,14 +155,14 @@ module _ (keep : ℕ) (I O : List Entry) (floor : ℕ) (inputs : List ℕ) where
   left-append : (ps : List Place) (ts us : List Table) → left_level ps (ts ++ us) ≡ left_level ps ts ++ left_level (rest_level ps ts) us
   left-append ps [] us = refl
   left-append ps (t ∷ ts) us =
-      let ss = marked_as (is_one inputs t) t.entries in
+      let ss = marked_as (is_among inputs t) t.entries in
       ap (λ xs. kept_of (marked_by keep I O floor ps ss) ++ xs) (left-append (rest_of ps ss) ts us)
       ∙ sym (append_assoc (kept_of (marked_by keep I O floor ps ss)) (left_level (rest_of ps ss) ts) (left_level (rest_level (rest_of ps ss) ts) us))
 
   kept-append : (ps : List Place) (ts us : List Table) → kept_level ps (ts ++ us) ≡ kept_level ps ts ++ kept_level (rest_level ps ts) us
   kept-append ps [] us = refl
   kept-append ps (t ∷ ts) us =
-      let ss = marked_as (is_one inputs t) t.entries in
+      let ss = marked_as (is_among inputs t) t.entries in
       ap (λ xs. kept_inputs (marked_by keep I O floor ps ss) ++ xs) (kept-append (rest_of ps ss) ts us)
       ∙ sym (append_assoc (kept_inputs (marked_by keep I O floor ps ss)) (kept_level (rest_of ps ss) ts) (kept_level (rest_level (rest_of ps ss) ts) us))
 
@@ -211,19 +211,19 @@ module _ (keep : ℕ) (I O : List Entry) (floor : ℕ) (inputs : List ℕ) where
 
     clear_without : (ts : List Table) → IsClear ts → IsWithout key (all_entries (without inputs ts))
     clear_without [] clear = tt
-    clear_without (t ∷ ts) clear = by (is_one inputs t) refl (clear_without ts clear.1)
+    clear_without (t ∷ ts) clear = by (is_among inputs t) refl (clear_without ts clear.1)
       where
-        by : (b : Bool) → is_one inputs t ≡ b → IsWithout key (all_entries (without inputs ts))
+        by : (b : Bool) → is_among inputs t ≡ b → IsWithout key (all_entries (without inputs ts))
             → IsWithout key (all_entries (cond (not b) (t ∷ without inputs ts) (without inputs ts)))
         by true is later = later
         by false is later = without_both key t.entries (all_entries (without inputs ts)) (clear.0 is) later
 
     untouched_kept : (ps : List Place) (ts : List Table) → IsUntouched ts → IsWithout key (kept_level ps ts)
     untouched_kept ps [] out = tt
-    untouched_kept ps (t ∷ ts) out = by (is_one inputs t) refl
+    untouched_kept ps (t ∷ ts) out = by (is_among inputs t) refl
         (λ (b : Bool). untouched_kept (rest_of ps (marked_as b t.entries)) ts out.1)
       where
-        by : (b : Bool) → is_one inputs t ≡ b
+        by : (b : Bool) → is_among inputs t ≡ b
             → ((c : Bool) → IsWithout key (kept_level (rest_of ps (marked_as c t.entries)) ts))
             → IsWithout key (kept_inputs (marked_by keep I O floor ps (marked_as b t.entries)) ++ kept_level (rest_of ps (marked_as b t.entries)) ts)
         by true is later = without_both key (kept_inputs (marked_by keep I O floor ps (marked_as true t.entries))) (kept_level (rest_of ps (marked_as true t.entries)) ts)
@@ -234,9 +234,9 @@ module _ (keep : ℕ) (I O : List Entry) (floor : ℕ) (inputs : List ℕ) where
     parted_left : (ps : List Place) (ts : List Table) → IsParted ts
         → of_key key (left_level ps ts) ≡ of_key key (all_entries (without inputs ts)) ++ of_key key (kept_level ps ts)
     parted_left ps [] parted = refl
-    parted_left ps (t ∷ ts) parted = by (is_one inputs t) refl (λ (b : Bool). parted_left (rest_of ps (marked_as b t.entries)) ts parted.1)
+    parted_left ps (t ∷ ts) parted = by (is_among inputs t) refl (λ (b : Bool). parted_left (rest_of ps (marked_as b t.entries)) ts parted.1)
       where
-        by : (b : Bool) → is_one inputs t ≡ b
+        by : (b : Bool) → is_among inputs t ≡ b
             → ((c : Bool) → of_key key (left_level (rest_of ps (marked_as c t.entries)) ts) ≡ of_key key (all_entries (without inputs ts)) ++ of_key key (kept_level (rest_of ps (marked_as c t.entries)) ts))
             → of_key key (kept_of (marked_by keep I O floor ps (marked_as b t.entries)) ++ left_level (rest_of ps (marked_as b t.entries)) ts)
               ≡ of_key key (all_entries (cond (not b) (t ∷ without inputs ts) (without inputs ts))) ++ of_key key (kept_inputs (marked_by keep I O floor ps (marked_as b t.entries)) ++ kept_level (rest_of ps (marked_as b t.entries)) ts)
@@ -431,13 +431,13 @@ module _ (keep : ℕ) (I O : List Entry) (floor : ℕ) (inputs : List ℕ) where
           }
 
       -- in place of the one input that stands among these tables
-      pub in_place_placed : (xs : List Table) (t : Table) (ys : List Table) (ps : List Place) → IsIdle xs → is_one inputs t ≡ true → IsIdle ys
+      pub in_place_placed : (xs : List Table) (t : Table) (ys : List Table) (ps : List Place) → IsIdle xs → is_among inputs t ≡ true → IsIdle ys
           → IsPlaced (left_level ps (xs ++ t ∷ ys)) (kept_level ps (xs ++ t ∷ ys)) (all_entries (xs ++ (new ++ ys)))
       in_place_placed xs t ys ps before is after =
           let qs = rest_level ps xs in
-          let rs = rest_of qs (marked_as (is_one inputs t) t.entries) in
-          let L = kept_of (marked_by keep I O floor qs (marked_as (is_one inputs t) t.entries)) in
-          let same : kept_inputs (marked_by keep I O floor qs (marked_as (is_one inputs t) t.entries)) ≡ L =
+          let rs = rest_of qs (marked_as (is_among inputs t) t.entries) in
+          let L = kept_of (marked_by keep I O floor qs (marked_as (is_among inputs t) t.entries)) in
+          let same : kept_inputs (marked_by keep I O floor qs (marked_as (is_among inputs t) t.entries)) ≡ L =
           ap (λ (b : Bool). kept_inputs (marked_by keep I O floor qs (marked_as b t.entries))) is ∙ input_left qs t.entries ∙ ap (λ (b : Bool). kept_of (marked_by keep I O floor qs (marked_as b t.entries))) (sym is) in
           let kepts : kept_level ps (xs ++ t ∷ ys) ≡ L =
           kept-append ps xs (t ∷ ys) ∙ ap (λ (es : List Entry). es ++ kept_level qs (t ∷ ys)) (idle_kept ps xs before) ∙ ap (λ (es : List Entry). es ++ kept_level rs ys) same ∙ ap (λ (es : List Entry). L ++ es) (idle_kept rs ys after) ∙ nothing_more L in

@@ -9,7 +9,7 @@ use Rattle.vl_model.specs.Keys.{key_cmp}
 use Rattle.vl_model.specs.Winners.{Logs}
 use Rattle.vl_model.specs.declared.counter.Counter.TheVariants as counter
 use Rattle.vl_model.specs.declared.entry.Entry.{Entry}
-use Rattle.vl_layout.specs.Levels.{is_one, replaced}
+use Rattle.vl_layout.specs.Levels.{is_among, replaced}
 use Rattle.vl_layout.specs.Logs.{memtable}
 use Rattle.vl_layout.specs.Merging.{Sourced, if_so, inputs_of, outside_of, is_dropped, kept_from, kept, merged_entries, outputs}
 use Rattle.vl_layout.specs.laws.OrderShows.{all-in_order, shows_gathered}
@@ -141,7 +141,7 @@ module _ (l : Layout) (job : Job) (moved : List Named) (k : IsKeptFor job moved 
   abbrev pub IsFit : Target → Type 0
   IsFit (Level n) = (key : List ℕ) → IsShaped job.keep (inputs_of job.base) (outside_of job.base) job.floor job.inputs key n l.levels
   IsFit InPlace = (xs : List Table) × (t : Table) × (ys : List Table) × (tables l ≡ xs ++ t ∷ ys)
-      × (IsIdle job.keep (inputs_of job.base) (outside_of job.base) job.floor job.inputs xs × ((is_one job.inputs t ≡ true) × IsIdle job.keep (inputs_of job.base) (outside_of job.base) job.floor job.inputs ys))
+      × (IsIdle job.keep (inputs_of job.base) (outside_of job.base) job.floor job.inputs xs × ((is_among job.inputs t ≡ true) × IsIdle job.keep (inputs_of job.base) (outside_of job.base) job.floor job.inputs ys))
 
   flat_flat : (f : Table → List Table) (levels : List (List Table))
       → flat_map (λ ts. ts) (map (flat_map f) levels) ≡ flat_map f (flat_map (λ ts. ts) levels)
@@ -153,21 +153,21 @@ module _ (l : Layout) (job : Job) (moved : List Named) (k : IsKeptFor job moved 
       flat-append g (u ∷ us) vs = ap (λ (xs : List Table). g u ++ xs) (flat-append g us vs) ∙ sym (append_assoc (g u) (flat_map g us) (flat_map g vs))
 
   swap : Table → List Table
-  swap t = if is_one job.inputs t then made.tables else t ∷ []
+  swap t = if is_among job.inputs t then made.tables else t ∷ []
 
   idle_swap : (ts : List Table) → IsIdle job.keep (inputs_of job.base) (outside_of job.base) job.floor job.inputs ts
-      → flat_map (λ t. if is_one job.inputs t then made.tables else t ∷ []) ts ≡ ts
+      → flat_map (λ t. if is_among job.inputs t then made.tables else t ∷ []) ts ≡ ts
   idle_swap [] idle = refl
-  idle_swap (t ∷ ts) idle = ap (λ (b : Bool). cond b made.tables (t ∷ []) ++ flat_map (λ u. if is_one job.inputs u then made.tables else u ∷ []) ts) idle.0 ∙ ap (λ (us : List Table). t ∷ us) (idle_swap ts idle.1)
+  idle_swap (t ∷ ts) idle = ap (λ (b : Bool). cond b made.tables (t ∷ []) ++ flat_map (λ u. if is_among job.inputs u then made.tables else u ∷ []) ts) idle.0 ∙ ap (λ (us : List Table). t ∷ us) (idle_swap ts idle.1)
 
   swapped : (xs : List Table) (t : Table) (ys : List Table)
-      → IsIdle job.keep (inputs_of job.base) (outside_of job.base) job.floor job.inputs xs → is_one job.inputs t ≡ true
+      → IsIdle job.keep (inputs_of job.base) (outside_of job.base) job.floor job.inputs xs → is_among job.inputs t ≡ true
       → IsIdle job.keep (inputs_of job.base) (outside_of job.base) job.floor job.inputs ys
-      → flat_map (λ u. if is_one job.inputs u then made.tables else u ∷ []) (xs ++ t ∷ ys) ≡ xs ++ (made.tables ++ ys)
+      → flat_map (λ u. if is_among job.inputs u then made.tables else u ∷ []) (xs ++ t ∷ ys) ≡ xs ++ (made.tables ++ ys)
   swapped [] t ys before is after =
-      ap (λ (b : Bool). cond b made.tables (t ∷ []) ++ flat_map (λ u. if is_one job.inputs u then made.tables else u ∷ []) ys) is ∙ ap (λ (us : List Table). made.tables ++ us) (idle_swap ys after)
+      ap (λ (b : Bool). cond b made.tables (t ∷ []) ++ flat_map (λ u. if is_among job.inputs u then made.tables else u ∷ []) ys) is ∙ ap (λ (us : List Table). made.tables ++ us) (idle_swap ys after)
   swapped (x ∷ xs) t ys before is after =
-      ap (λ (b : Bool). cond b made.tables (x ∷ []) ++ flat_map (λ u. if is_one job.inputs u then made.tables else u ∷ []) (xs ++ t ∷ ys)) before.0
+      ap (λ (b : Bool). cond b made.tables (x ∷ []) ++ flat_map (λ u. if is_among job.inputs u then made.tables else u ∷ []) (xs ++ t ∷ ys)) before.0
       ∙ ap (λ (us : List Table). x ∷ us) (swapped xs t ys before.1 is after)
 
   fit_placed : (target : Target) → IsFit target → (key : List ℕ)
@@ -187,8 +187,8 @@ module _ (l : Layout) (job : Job) (moved : List Named) (k : IsKeptFor job moved 
       let there : P (xs ++ t ∷ ys) (all_entries (xs ++ (made.tables ++ ys))) =
       in_place_placed job.keep I O job.floor job.inputs key made.tables (merged_entries job) (made_entries job made all) xs t ys (places [] job.base) fit.4.0 fit.4.1.0 fit.4.1.1 in
       let same : flat_map (λ ts. ts) (replaced InPlace job.inputs made.tables l.levels) ≡ xs ++ (made.tables ++ ys) =
-      flat_flat (λ u. if is_one job.inputs u then made.tables else u ∷ []) l.levels
-      ∙ ap (flat_map (λ u. if is_one job.inputs u then made.tables else u ∷ [])) fit.3
+      flat_flat (λ u. if is_among job.inputs u then made.tables else u ∷ []) l.levels
+      ∙ ap (flat_map (λ u. if is_among job.inputs u then made.tables else u ∷ [])) fit.3
       ∙ swapped xs t ys fit.4.0 fit.4.1.0 fit.4.1.1 in
       subst (λ (ts : List Table). P ts (all_entries (flat_map (λ us. us) (replaced InPlace job.inputs made.tables l.levels)))) (sym fit.3)
       (subst (λ (ts : List Table). P (xs ++ t ∷ ys) (all_entries ts)) (sym same) there)

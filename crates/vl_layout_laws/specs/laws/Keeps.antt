@@ -18,7 +18,7 @@ use Rattle.vl_model.specs.declared.log_frame.LogFrame.{LogFrame}
 use Rattle.vl_model.specs.declared.log_frame.LogFrame.TheVariants.{Relocated}
 use Rattle.vl_model.specs.declared.log_frame.Moved.{Moved}
 use Rattle.vl_layout.specs.laws.LayoutShows.{place_behind, logged_entries-more, added}
-use Rattle.vl_layout.specs.Levels.{is_one, in_front}
+use Rattle.vl_layout.specs.Levels.{is_among, in_front}
 use Rattle.vl_layout.specs.Logs.{record_entry, committed_records, relocated_records, logged_entries, memtable}
 use Rattle.vl_layout.specs.Merging.{Sourced, outside_of}
 use Rattle.vl_layout.specs.laws.OrderShows.{all-taken_in}
@@ -138,7 +138,7 @@ module _ (job : Job) (moved moved' : List Named) (es fs : List Entry) (ts : List
 
 -- the sources of the tables, each entry with whether an input has it
 abbrev pub marked_tables : List ℕ → List Table → List Sourced
-marked_tables inputs ts = flat_map (λ (t : Table). marked_as (is_one inputs t) t.entries) ts
+marked_tables inputs ts = flat_map (λ (t : Table). marked_as (is_among inputs t) t.entries) ts
 
 -- the entries of all memtables, the newest first
 abbrev pub in_memory : Layout → List Entry
@@ -291,11 +291,11 @@ all_placed outside floor moved (e ∷ es) all = (all.0, all_placed outside floor
 
 -- a number that was given before is none that is still to be given
 not_one : (next : ℕ) (numbers : List ℕ) (t : Table) → t.number ≡ next → AllByRecursion (λ n. n < next) numbers
-    → is_one numbers t ≡ false
+    → is_among numbers t ≡ false
 not_one next [] t is below = refl
 not_one next (n ∷ ns) t is below =
     let here : (n == t.number) ≡ false = let less = below.0 in grind (arith, nat_tests, is) in
-    ap (λ b. b || is_one ns t) here ∙ not_one next ns t is below.1
+    ap (λ b. b || is_among ns t) here ∙ not_one next ns t is below.1
 
 marked-append : (xs ys : List Entry) → marked_as false (xs ++ ys) ≡ marked_as false xs ++ marked_as false ys
 marked-append [] ys = refl
@@ -331,7 +331,7 @@ kept_flushed l s job moved level deeper waits are given k =
     ap (λ (es : List Entry). marked_as false es ++ T) (sym (append_assoc active front (map placed (memtable s))))
     ∙ ap (λ (ss : List Sourced). ss ++ T) (marked-append (active ++ front) (map placed (memtable s)))
     ∙ sourced_append (marked_as false (active ++ front)) (marked_as false (map placed (memtable s))) T in
-    let there : IsKeptFor job moved (marked_as false (active ++ front) ++ (marked_as (is_one inputs new) (map placed (memtable s)) ++ T)) =
+    let there : IsKeptFor job moved (marked_as false (active ++ front) ++ (marked_as (is_among inputs new) (map placed (memtable s)) ++ T)) =
     subst (λ (b : Bool). IsKeptFor job moved (marked_as false (active ++ front) ++ (marked_as b (map placed (memtable s)) ++ T))) (sym (not_one l.next_table inputs new refl given))
     (subst (IsKeptFor job moved) parts after) in
     subst (λ (levels : List (List Table)). IsKeptFor job moved (marked_as false (active ++ front) ++ marked_tables inputs (flat_map (λ ts. ts) (in_front new levels)))) (sym are) there

@@ -26,7 +26,7 @@ use Rattle.vl_layout.specs.laws.LayoutShows.{place_behind, logged_entries-more, 
 use Rattle.vl_layout.specs.Levels.{in_front}
 use Rattle.vl_layout.specs.Logs.{LogRecord, record_entry, logged_body, pointer_to, relocated_records, frame_records, frame_entries, logged_entries, memtable}
 use Rattle.vl_layout.specs.laws.OrderShows.{all-in_order}
-use Rattle.vl_layout.specs.Relocation.{Candidate, valued, found_in, has_room, taken_if, taken_from, value_lengths, is_moved, moved_of}
+use Rattle.vl_layout.specs.Relocation.{Candidate, valued, found_in, has_room, batch_with, taken_from, value_lengths, is_moved, moved_of}
 use Rattle.vl_layout.specs.Ruling.{logged}
 use Rattle.vl_layout.specs.Rulings.Flush.{flushed, flushed_table}
 use Rattle.vl_layout.specs.Rulings.Relocate.{relocated}
@@ -230,16 +230,16 @@ taken_parts base segment count bytes (r ∷ rs) =
         → ((more : ℕ) → (taken_from base segment (count + 1) (bytes + more) rs).0 ++ found_all base segment (taken_from base segment (count + 1) (bytes + more) rs).1 ≡ found_all base segment rs)
         → (taken_from base segment count bytes (r ∷ rs)).0 ++ found_all base segment (taken_from base segment count bytes (r ∷ rs)).1 ≡ found_all base segment (r ∷ rs)
     by found (inl none) is passed with_it =
-        subst (λ (f : List Candidate). (taken_if (has_room count bytes (value_lengths f)) f (taken_from base segment count bytes rs) (taken_from base segment (count + 1) (bytes + value_lengths f) rs) ([], r ∷ rs)).0
-          ++ found_all base segment (taken_if (has_room count bytes (value_lengths f)) f (taken_from base segment count bytes rs) (taken_from base segment (count + 1) (bytes + value_lengths f) rs) ([], r ∷ rs)).1 ≡ f ++ found_all base segment rs) (sym none) passed
+        subst (λ (f : List Candidate). (batch_with (has_room count bytes (value_lengths f)) f (taken_from base segment count bytes rs) (taken_from base segment (count + 1) (bytes + value_lengths f) rs) ([], r ∷ rs)).0
+          ++ found_all base segment (batch_with (has_room count bytes (value_lengths f)) f (taken_from base segment count bytes rs) (taken_from base segment (count + 1) (bytes + value_lengths f) rs) ([], r ∷ rs)).1 ≡ f ++ found_all base segment rs) (sym none) passed
     by found (inr one) is passed with_it =
-        subst (λ (f : List Candidate). (taken_if (has_room count bytes (value_lengths f)) f (taken_from base segment count bytes rs) (taken_from base segment (count + 1) (bytes + value_lengths f) rs) ([], r ∷ rs)).0
-          ++ found_all base segment (taken_if (has_room count bytes (value_lengths f)) f (taken_from base segment count bytes rs) (taken_from base segment (count + 1) (bytes + value_lengths f) rs) ([], r ∷ rs)).1 ≡ f ++ found_all base segment rs) (sym one.1)
+        subst (λ (f : List Candidate). (batch_with (has_room count bytes (value_lengths f)) f (taken_from base segment count bytes rs) (taken_from base segment (count + 1) (bytes + value_lengths f) rs) ([], r ∷ rs)).0
+          ++ found_all base segment (batch_with (has_room count bytes (value_lengths f)) f (taken_from base segment count bytes rs) (taken_from base segment (count + 1) (bytes + value_lengths f) rs) ([], r ∷ rs)).1 ≡ f ++ found_all base segment rs) (sym one.1)
         (by_room (has_room count bytes (value_lengths (one.0 ∷ []))))
       where
         by_room : (b : Bool)
-            → (taken_if b (one.0 ∷ []) (taken_from base segment count bytes rs) (taken_from base segment (count + 1) (bytes + value_lengths (one.0 ∷ [])) rs) ([], r ∷ rs)).0
-              ++ found_all base segment (taken_if b (one.0 ∷ []) (taken_from base segment count bytes rs) (taken_from base segment (count + 1) (bytes + value_lengths (one.0 ∷ [])) rs) ([], r ∷ rs)).1 ≡ (one.0 ∷ []) ++ found_all base segment rs
+            → (batch_with b (one.0 ∷ []) (taken_from base segment count bytes rs) (taken_from base segment (count + 1) (bytes + value_lengths (one.0 ∷ [])) rs) ([], r ∷ rs)).0
+              ++ found_all base segment (batch_with b (one.0 ∷ []) (taken_from base segment count bytes rs) (taken_from base segment (count + 1) (bytes + value_lengths (one.0 ∷ [])) rs) ([], r ∷ rs)).1 ≡ (one.0 ∷ []) ++ found_all base segment rs
         by_room true = ap (λ (xs : List Candidate). one.0 ∷ xs) (with_it (value_lengths (one.0 ∷ [])))
         by_room false = ap (λ (f : List Candidate). f ++ found_all base segment rs) one.1
 

@@ -12,7 +12,7 @@ use Rattle.vl_model.specs.History.{History}
 use Rattle.vl_model.specs.Keys.{key_cmp}
 use Rattle.vl_model.specs.laws.WinnerLaws.{same_key, key_tied}
 use Rattle.vl_model.specs.declared.entry.Entry.{Entry}
-use Rattle.vl_layout.specs.Levels.{is_one, level_at, lesser_key, greater_key, Range, widened, range_of, meets, lesser_table, least_table, one_of, given, with_next, inputs_at, has_point, first_into}
+use Rattle.vl_layout.specs.Levels.{is_among, level_at, lesser_key, greater_key, Range, widened, range_of, meets, lesser_table, least_table, one_or_none, due_inputs, with_next, inputs_at, has_point, first_into}
 use Rattle.vl_layout.specs.Merging.{inputs_of, outside_of}
 use Rattle.vl_layout.specs.Rulings.Plan.{job_of}
 use Rattle.vl_layout.specs.Sources.{tables, numbers_of}
@@ -146,27 +146,27 @@ others_turned xs (y ∷ ys) other = (heads xs other, others_turned xs ys (tails 
     tails [] all = tt
     tails (z ∷ zs) all = (all.0.1, tails zs all.1)
 
-not_one_of : (u : Table) (ins : List Table) → AllByRecursion (λ (t : Table). t.number ≢ u.number) ins → is_one (numbers_of ins) u ≡ false
+not_one_of : (u : Table) (ins : List Table) → AllByRecursion (λ (t : Table). t.number ≢ u.number) ins → is_among (numbers_of ins) u ≡ false
 not_one_of u [] all = refl
 not_one_of u (t ∷ ts) all =
     let here : (t.number == u.number) ≡ false = let apart = all.0 in grind (arith, nat_tests, apart) in
-    ap (λ b. b || is_one (numbers_of ts) u) here ∙ not_one_of u ts all.1
+    ap (λ b. b || is_among (numbers_of ts) u) here ∙ not_one_of u ts all.1
 
 -- a table of one of some numbers has the number of one of these
-pub one_is : (u : Table) (P : Table → Type 0) (ins : List Table) → AllByRecursion P ins → is_one (numbers_of ins) u ≡ true
+pub one_is : (u : Table) (P : Table → Type 0) (ins : List Table) → AllByRecursion P ins → is_among (numbers_of ins) u ≡ true
     → (t : Table) × (t.number ≡ u.number) × P t
 one_is u P [] all is = absurd (true_false (sym is))
 one_is u P (t ∷ ts) all is = ⊎_elim
     (λ (here : (t.number == u.number) ≡ true). let same : t.number ≡ u.number = grind (arith, nat_tests, here) in (t, same, all.0))
-    (λ (later : is_one (numbers_of ts) u ≡ true). one_is u P ts all.1 later)
-    (or_cases (t.number == u.number) (is_one (numbers_of ts) u) is)
+    (λ (later : is_among (numbers_of ts) u ≡ true). one_is u P ts all.1 later)
+    (or_cases (t.number == u.number) (is_among (numbers_of ts) u) is)
 
-one_itself : (P : Table → Type 0) (ins : List Table) → AllByRecursion (λ (t : Table). is_one (numbers_of ins) t ≡ true) ins
+one_itself : (P : Table → Type 0) (ins : List Table) → AllByRecursion (λ (t : Table). is_among (numbers_of ins) t ≡ true) ins
 one_itself P [] = tt
 one_itself P (t ∷ ts) =
     let here : (t.number == t.number) ≡ true = grind (arith, nat_tests) in
-    (ap (λ b. b || is_one (numbers_of ts) t) here,
-    all_weaker (λ (u : Table). is_one (numbers_of ts) u ≡ true) (λ (u : Table). is_one (numbers_of (t ∷ ts)) u ≡ true) (λ u is. or_right (t.number == u.number) (is_one (numbers_of ts) u) is) ts (one_itself P ts))
+    (ap (λ b. b || is_among (numbers_of ts) t) here,
+    all_weaker (λ (u : Table). is_among (numbers_of ts) u ≡ true) (λ (u : Table). is_among (numbers_of (t ∷ ts)) u ≡ true) (λ u is. or_right (t.number == u.number) (is_among (numbers_of ts) u) is) ts (one_itself P ts))
   where
     or_right : (a b : Bool) → b ≡ true → (a || b) ≡ true
     or_right true b h = refl
@@ -231,7 +231,7 @@ module _ (key : List ℕ) (keep : ℕ) (I O : List Entry) (floor : ℕ) (inputs 
       by true is = inr (clear is ts apart.0 ranged.1)
 
   -- where all are inputs
-  all_parted : (ts : List Table) → AllByRecursion (λ (t : Table). is_one inputs t ≡ true) ts → IsParted keep I O floor inputs key ts × IsClear keep I O floor inputs key ts
+  all_parted : (ts : List Table) → AllByRecursion (λ (t : Table). is_among inputs t ≡ true) ts → IsParted keep I O floor inputs key ts × IsClear keep I O floor inputs key ts
   all_parted [] all = (tt, tt)
   all_parted (t ∷ ts) all =
       let later = all_parted ts all.1 in
@@ -239,9 +239,9 @@ module _ (key : List ℕ) (keep : ℕ) (I O : List Entry) (floor : ℕ) (inputs 
 
   -- where an input of the level holds the key, no other table of it does
   input_clear : (ts : List Table) → IsApart ts → AllByRecursion IsRanged ts
-      → list_any (λ (t : Table). is_one inputs t && holds key t) ts ≡ true → IsClear keep I O floor inputs key ts
+      → list_any (λ (t : Table). is_among inputs t && holds key t) ts ≡ true → IsClear keep I O floor inputs key ts
   input_clear [] apart ranged there = tt
-  input_clear (t ∷ ts) apart ranged there = by (is_one inputs t && holds key t) refl (λ later. input_clear ts apart.1 ranged.1 later)
+  input_clear (t ∷ ts) apart ranged there = by (is_among inputs t && holds key t) refl (λ later. input_clear ts apart.1 ranged.1 later)
     where
       behind : holds key t ≡ true → (us : List Table) → AllByRecursion (λ (u : Table). is_lt (key_cmp t.last u.first) ≡ true) us → AllByRecursion IsRanged us
           → IsClear keep I O floor inputs key us
@@ -249,36 +249,36 @@ module _ (key : List ℕ) (keep : ℕ) (I O : List Entry) (floor : ℕ) (inputs 
       behind held (u ∷ us) before rs = ((λ out. without_by key u (λ there. not_both key t u ranged.0 rs.0 before.0 held there)), behind held us before.1 rs.1)
 
       never : (us : List Table) → AllByRecursion (λ (u : Table). is_lt (key_cmp t.last u.first) ≡ true) us → AllByRecursion IsRanged us
-          → list_any (λ (u : Table). is_one inputs u && holds key u) us ≡ true → holds key t ≡ true → ⊥
+          → list_any (λ (u : Table). is_among inputs u && holds key u) us ≡ true → holds key t ≡ true → ⊥
       never [] before rs there held = true_false (sym there)
       never (u ∷ us) before rs there held = ⊎_elim
-          (λ (here : (is_one inputs u && holds key u) ≡ true). not_both key t u ranged.0 rs.0 before.0 held (and_parts (is_one inputs u) (holds key u) here).1)
-          (λ (later : list_any (λ (x : Table). is_one inputs x && holds key x) us ≡ true). never us before.1 rs.1 later held)
-          (or_cases (is_one inputs u && holds key u) (list_any (λ (x : Table). is_one inputs x && holds key x) us) there)
+          (λ (here : (is_among inputs u && holds key u) ≡ true). not_both key t u ranged.0 rs.0 before.0 held (and_parts (is_among inputs u) (holds key u) here).1)
+          (λ (later : list_any (λ (x : Table). is_among inputs x && holds key x) us ≡ true). never us before.1 rs.1 later held)
+          (or_cases (is_among inputs u && holds key u) (list_any (λ (x : Table). is_among inputs x && holds key x) us) there)
 
-      by : (b : Bool) → (is_one inputs t && holds key t) ≡ b
-          → (list_any (λ (u : Table). is_one inputs u && holds key u) ts ≡ true → IsClear keep I O floor inputs key ts)
-          → (is_one inputs t ≡ false → IsWithout key t.entries) × IsClear keep I O floor inputs key ts
+      by : (b : Bool) → (is_among inputs t && holds key t) ≡ b
+          → (list_any (λ (u : Table). is_among inputs u && holds key u) ts ≡ true → IsClear keep I O floor inputs key ts)
+          → (is_among inputs t ≡ false → IsWithout key t.entries) × IsClear keep I O floor inputs key ts
       by true is later =
-          let both = and_parts (is_one inputs t) (holds key t) is in
+          let both = and_parts (is_among inputs t) (holds key t) is in
           ((λ out. absurd (true_false (sym both.0 ∙ out))), behind both.1 ts apart.0 ranged.1)
       by false is later =
-          let rest : list_any (λ (u : Table). is_one inputs u && holds key u) ts ≡ true = sym (ap (λ b. b || list_any (λ (u : Table). is_one inputs u && holds key u) ts) is) ∙ there in
+          let rest : list_any (λ (u : Table). is_among inputs u && holds key u) ts ≡ true = sym (ap (λ b. b || list_any (λ (u : Table). is_among inputs u && holds key u) ts) is) ∙ there in
           ((λ out. without_by key t (λ held. never ts apart.0 ranged.1 rest held)), later rest)
 
-  untouched_by : (ts : List Table) → list_any (λ (t : Table). is_one inputs t && holds key t) ts ≡ false → IsUntouched keep I O floor inputs key ts
+  untouched_by : (ts : List Table) → list_any (λ (t : Table). is_among inputs t && holds key t) ts ≡ false → IsUntouched keep I O floor inputs key ts
   untouched_by [] none = tt
-  untouched_by (t ∷ ts) none = by (is_one inputs t && holds key t) refl (λ later. untouched_by ts later)
+  untouched_by (t ∷ ts) none = by (is_among inputs t && holds key t) refl (λ later. untouched_by ts later)
     where
       out : (a b : Bool) → (a && b) ≡ false → a ≡ true → b ≡ false
       out true b is at = is
       out false b is at = absurd (true_false (sym at))
 
-      by : (b : Bool) → (is_one inputs t && holds key t) ≡ b
-          → (list_any (λ (u : Table). is_one inputs u && holds key u) ts ≡ false → IsUntouched keep I O floor inputs key ts)
-          → (is_one inputs t ≡ true → IsWithout key t.entries) × IsUntouched keep I O floor inputs key ts
-      by true is later = absurd (true_false (sym (ap (λ b. b || list_any (λ (u : Table). is_one inputs u && holds key u) ts) is) ∙ none))
-      by false is later = ((λ input. not_held key t.entries (out (is_one inputs t) (holds key t) is input)), later (sym (ap (λ b. b || list_any (λ (u : Table). is_one inputs u && holds key u) ts) is) ∙ none))
+      by : (b : Bool) → (is_among inputs t && holds key t) ≡ b
+          → (list_any (λ (u : Table). is_among inputs u && holds key u) ts ≡ false → IsUntouched keep I O floor inputs key ts)
+          → (is_among inputs t ≡ true → IsWithout key t.entries) × IsUntouched keep I O floor inputs key ts
+      by true is later = absurd (true_false (sym (ap (λ b. b || list_any (λ (u : Table). is_among inputs u && holds key u) ts) is) ∙ none))
+      by false is later = ((λ input. not_held key t.entries (out (is_among inputs t) (holds key t) is input)), later (sym (ap (λ b. b || list_any (λ (u : Table). is_among inputs u && holds key u) ts) is) ∙ none))
 
   -- where each input of the first level lies in a range, and each table of the second that meets it is an input
   record IsWithin (range : Range) (t : Table) : Type 0 where
@@ -286,20 +286,20 @@ module _ (key : List ℕ) (keep : ℕ) (I O : List Entry) (floor : ℕ) (inputs 
     last : Le t.last range.1
 
   range_clear : (range : Range) (ts us : List Table)
-      → AllByRecursion (λ (t : Table). is_one inputs t ≡ true → IsWithin range t) ts → AllByRecursion IsRanged ts
-      → AllByRecursion (λ (u : Table). meets (Some range) u ≡ true → is_one inputs u ≡ true) us → AllByRecursion IsRanged us
-      → list_any (λ (t : Table). is_one inputs t && holds key t) ts ≡ true → IsClear keep I O floor inputs key us
+      → AllByRecursion (λ (t : Table). is_among inputs t ≡ true → IsWithin range t) ts → AllByRecursion IsRanged ts
+      → AllByRecursion (λ (u : Table). meets (Some range) u ≡ true → is_among inputs u ≡ true) us → AllByRecursion IsRanged us
+      → list_any (λ (t : Table). is_among inputs t && holds key t) ts ≡ true → IsClear keep I O floor inputs key us
   range_clear range [] us within rt met ru there = absurd (true_false (sym there))
   range_clear range (t ∷ ts) us within rt met ru there = ⊎_elim
-      (λ (here : (is_one inputs t && holds key t) ≡ true).
-      let both = and_parts (is_one inputs t) (holds key t) here in
+      (λ (here : (is_among inputs t && holds key t) ≡ true).
+      let both = and_parts (is_among inputs t) (holds key t) here in
       let keys = held_within key t.first t.last t.entries rt.0 both.1 in
       let w = within.0 both.0 in
       each us met ru (le_then range.0 t.first key w.first keys.0) (le_then key t.last range.1 keys.1 w.last))
-      (λ (later : list_any (λ (x : Table). is_one inputs x && holds key x) ts ≡ true). range_clear range ts us within.1 rt.1 met ru later)
-      (or_cases (is_one inputs t && holds key t) (list_any (λ (x : Table). is_one inputs x && holds key x) ts) there)
+      (λ (later : list_any (λ (x : Table). is_among inputs x && holds key x) ts ≡ true). range_clear range ts us within.1 rt.1 met ru later)
+      (or_cases (is_among inputs t && holds key t) (list_any (λ (x : Table). is_among inputs x && holds key x) ts) there)
     where
-      each : (vs : List Table) → AllByRecursion (λ (u : Table). meets (Some range) u ≡ true → is_one inputs u ≡ true) vs → AllByRecursion IsRanged vs
+      each : (vs : List Table) → AllByRecursion (λ (u : Table). meets (Some range) u ≡ true → is_among inputs u ≡ true) vs → AllByRecursion IsRanged vs
           → Le range.0 key → Le key range.1 → IsClear keep I O floor inputs key vs
       each [] met ru low high = tt
       each (u ∷ vs) met ru low high = (
@@ -313,8 +313,8 @@ module _ (key : List ℕ) (keep : ℕ) (I O : List Entry) (floor : ℕ) (inputs 
 
 -- ---- the inputs of a level
 
-pub all_given : (P : Table → Type 0) (n : ℕ) (ts : List Table) → AllByRecursion P ts → AllByRecursion P (given n ts)
-all_given P n ts all = elim (n == 0) as (λ b. AllByRecursion P (cond b ts (one_of (least_table ts)))) [
+pub all_given : (P : Table → Type 0) (n : ℕ) (ts : List Table) → AllByRecursion P ts → AllByRecursion P (due_inputs n ts)
+all_given P n ts all = elim (n == 0) as (λ b. AllByRecursion P (cond b ts (one_or_none (least_table ts)))) [
   | true ↦ all
   | false ↦ (least ts all).1
 ]
@@ -327,11 +327,11 @@ all_given P n ts all = elim (n == 0) as (λ b. AllByRecursion P (cond b ts (one_
     lesser t None here other = here
     lesser t (Some u) here other = elim (nat_lt u.number t.number) as (λ b. of_one (cond b (Some u) (Some t))) [ true ↦ other | false ↦ here ]
 
-    as_list : (o : Option Table) → of_one o → AllByRecursion P (one_of o)
+    as_list : (o : Option Table) → of_one o → AllByRecursion P (one_or_none o)
     as_list None one = tt
     as_list (Some t) one = (one, tt)
 
-    least : (us : List Table) → AllByRecursion P us → of_one (least_table us) × AllByRecursion P (one_of (least_table us))
+    least : (us : List Table) → AllByRecursion P us → of_one (least_table us) × AllByRecursion P (one_or_none (least_table us))
     least [] all = (tt, tt)
     least (u ∷ us) all =
         let later = least us all.1 in
@@ -398,38 +398,38 @@ module _ (n : ℕ) (A B : List Table) (distinct_A : IsDistinct A) (other : AreOt
     (ranged_A : AllByRecursion IsRanged A) (ranged_B : AllByRecursion IsRanged B)
     (apart_A : 0 < n → IsApart A) (apart_B : IsApart B) where
   G : List Table
-  G = given n A
+  G = due_inputs n A
 
   ins : List Table
-  ins = with_next (given n A) B
+  ins = with_next (due_inputs n A) B
 
   -- what is so of all of both is so of the inputs
-  all_ins : (P : Table → Type 0) → AllByRecursion P A → AllByRecursion P B → AllByRecursion P (with_next (given n A) B)
-  all_ins P a b = all_both P (given n A) (filter (meets (range_of (given n A))) B) (all_given P n A a) (all_filtered P (meets (range_of (given n A))) B b)
+  all_ins : (P : Table → Type 0) → AllByRecursion P A → AllByRecursion P B → AllByRecursion P (with_next (due_inputs n A) B)
+  all_ins P a b = all_both P (due_inputs n A) (filter (meets (range_of (due_inputs n A))) B) (all_given P n A a) (all_filtered P (meets (range_of (due_inputs n A))) B b)
 
-  pub met : AllByRecursion (λ (u : Table). meets (range_of (given n A)) u ≡ true → is_one (numbers_of (with_next (given n A) B)) u ≡ true) B
+  pub met : AllByRecursion (λ (u : Table). meets (range_of (due_inputs n A)) u ≡ true → is_among (numbers_of (with_next (due_inputs n A) B)) u ≡ true) B
   met =
-      let all = one_itself (λ t. Unit {0}) (with_next (given n A) B) in
-      let both = all_parts (λ (u : Table). is_one (numbers_of (with_next (given n A) B)) u ≡ true) (given n A) (filter (meets (range_of (given n A))) B) all in
-      unfiltered (λ (u : Table). is_one (numbers_of (with_next (given n A) B)) u ≡ true) (meets (range_of (given n A))) B both.1
+      let all = one_itself (λ t. Unit {0}) (with_next (due_inputs n A) B) in
+      let both = all_parts (λ (u : Table). is_among (numbers_of (with_next (due_inputs n A) B)) u ≡ true) (due_inputs n A) (filter (meets (range_of (due_inputs n A))) B) all in
+      unfiltered (λ (u : Table). is_among (numbers_of (with_next (due_inputs n A) B)) u ≡ true) (meets (range_of (due_inputs n A))) B both.1
 
-  given_one : AllByRecursion (λ (u : Table). is_one (numbers_of (with_next (given n A) B)) u ≡ true) (given n A)
-  given_one = (all_parts (λ (u : Table). is_one (numbers_of (with_next (given n A) B)) u ≡ true) (given n A) (filter (meets (range_of (given n A))) B) (one_itself (λ t. Unit {0}) (with_next (given n A) B))).0
+  given_one : AllByRecursion (λ (u : Table). is_among (numbers_of (with_next (due_inputs n A) B)) u ≡ true) (due_inputs n A)
+  given_one = (all_parts (λ (u : Table). is_among (numbers_of (with_next (due_inputs n A) B)) u ≡ true) (due_inputs n A) (filter (meets (range_of (due_inputs n A))) B) (one_itself (λ t. Unit {0}) (with_next (due_inputs n A) B))).0
 
-  pub within : (range : Range) → range_of (given n A) ≡ Some range
-      → AllByRecursion (λ (t : Table). is_one (numbers_of (with_next (given n A) B)) t ≡ true → Le range.0 t.first × Le t.last range.1) A
+  pub within : (range : Range) → range_of (due_inputs n A) ≡ Some range
+      → AllByRecursion (λ (t : Table). is_among (numbers_of (with_next (due_inputs n A) B)) t ≡ true → Le range.0 t.first × Le t.last range.1) A
   within range is = each A other (only_one A distinct_A)
     where
       each : (ts : List Table) → AllByRecursion (λ (x : Table). AllByRecursion (λ (y : Table). y.number ≢ x.number) B) ts
           → AllByRecursion (λ (t : Table). AllByRecursion (λ (x : Table). x.number ≡ t.number → x ≡ t) A) ts
-          → AllByRecursion (λ (t : Table). is_one (numbers_of (with_next (given n A) B)) t ≡ true → Le range.0 t.first × Le t.last range.1) ts
+          → AllByRecursion (λ (t : Table). is_among (numbers_of (with_next (due_inputs n A) B)) t ≡ true → Le range.0 t.first × Le t.last range.1) ts
       each [] off one = tt
       each (t ∷ ts) off one = (
           (λ input.
           let W : Table → Type 0 = λ x. x.number ≡ t.number → Le range.0 t.first × Le t.last range.1 in
-          let from_given : AllByRecursion W (given n A) = two (given n A) (in_range (given n A) range is) (all_given (λ (x : Table). x.number ≡ t.number → x ≡ t) n A one.0) in
-          let from_next : AllByRecursion W (filter (meets (range_of (given n A))) B) = all_weaker (λ (y : Table). y.number ≢ t.number) W (λ y apart same. absurd (apart same)) (filter (meets (range_of (given n A))) B) (all_filtered (λ (y : Table). y.number ≢ t.number) (meets (range_of (given n A))) B off.0) in
-          let found = one_is t W (with_next (given n A) B) (all_both W (given n A) (filter (meets (range_of (given n A))) B) from_given from_next) input in
+          let from_given : AllByRecursion W (due_inputs n A) = two (due_inputs n A) (in_range (due_inputs n A) range is) (all_given (λ (x : Table). x.number ≡ t.number → x ≡ t) n A one.0) in
+          let from_next : AllByRecursion W (filter (meets (range_of (due_inputs n A))) B) = all_weaker (λ (y : Table). y.number ≢ t.number) W (λ y apart same. absurd (apart same)) (filter (meets (range_of (due_inputs n A))) B) (all_filtered (λ (y : Table). y.number ≢ t.number) (meets (range_of (due_inputs n A))) B off.0) in
+          let found = one_is t W (with_next (due_inputs n A) B) (all_both W (due_inputs n A) (filter (meets (range_of (due_inputs n A))) B) from_given from_next) input in
           found.2 found.1),
           each ts off.1 one.1,
       )
@@ -439,9 +439,9 @@ module _ (n : ℕ) (A B : List Table) (distinct_A : IsDistinct A) (other : AreOt
           two [] a b = tt
           two (x ∷ xs) a b = ((λ same. subst (λ (y : Table). Le range.0 y.first × Le y.last range.1) (b.0 same) a.0), two xs a.1 b.1)
 
-  -- where nothing is given there is no input
-  none_given : range_of (given n A) ≡ None → with_next (given n A) B ≡ []
-  none_given is = by (given n A) is
+  -- where nothing is due_inputs there is no input
+  none_given : range_of (due_inputs n A) ≡ None → with_next (due_inputs n A) B ≡ []
+  none_given is = by (due_inputs n A) is
     where
       some : (v : Table) (o : Option Range) → widened v o ≡ None → ⊥
       some v None e = cc
@@ -456,46 +456,46 @@ module _ (n : ℕ) (A B : List Table) (distinct_A : IsDistinct A) (other : AreOt
       by (x ∷ xs) empty = absurd (some x (range_of xs) empty)
 
   module _ (key : List ℕ) (keep : ℕ) (I O : List Entry) (floor : ℕ) where
-    none_untouched : (ts : List Table) → with_next (given n A) B ≡ [] → IsUntouched keep I O floor (numbers_of (with_next (given n A) B)) key ts
+    none_untouched : (ts : List Table) → with_next (due_inputs n A) B ≡ [] → IsUntouched keep I O floor (numbers_of (with_next (due_inputs n A) B)) key ts
     none_untouched [] empty = tt
-    none_untouched (t ∷ ts) empty = ((λ input. absurd (true_false (sym (sym (ap (λ (xs : List Table). is_one (numbers_of xs) t) empty) ∙ input)))), none_untouched ts empty)
+    none_untouched (t ∷ ts) empty = ((λ input. absurd (true_false (sym (sym (ap (λ (xs : List Table). is_among (numbers_of xs) t) empty) ∙ input)))), none_untouched ts empty)
 
-    first_parted : IsParted keep I O floor (numbers_of (with_next (given n A) B)) key A
+    first_parted : IsParted keep I O floor (numbers_of (with_next (due_inputs n A) B)) key A
     first_parted = by (n == 0) refl
       where
-        by : (b : Bool) → (n == 0) ≡ b → IsParted keep I O floor (numbers_of (with_next (given n A) B)) key A
-        by true is = (all_parted key keep I O floor (numbers_of (with_next (given n A) B)) A
-            (subst (AllByRecursion (λ (u : Table). is_one (numbers_of (with_next (given n A) B)) u ≡ true)) (ap (λ c. cond c A (one_of (least_table A))) is) given_one)).0
-        by false is = let some : 0 < n = grind (arith, nat_tests, is) in apart_parted key keep I O floor (numbers_of (with_next (given n A) B)) A (apart_A some) ranged_A
+        by : (b : Bool) → (n == 0) ≡ b → IsParted keep I O floor (numbers_of (with_next (due_inputs n A) B)) key A
+        by true is = (all_parted key keep I O floor (numbers_of (with_next (due_inputs n A) B)) A
+            (subst (AllByRecursion (λ (u : Table). is_among (numbers_of (with_next (due_inputs n A) B)) u ≡ true)) (ap (λ c. cond c A (one_or_none (least_table A))) is) given_one)).0
+        by false is = let some : 0 < n = grind (arith, nat_tests, is) in apart_parted key keep I O floor (numbers_of (with_next (due_inputs n A) B)) A (apart_A some) ranged_A
 
-    second_apart : (o : Option Range) → range_of (given n A) ≡ o
-        → (IsUntouched keep I O floor (numbers_of (with_next (given n A) B)) key A × IsUntouched keep I O floor (numbers_of (with_next (given n A) B)) key B)
-          ⊎ IsClear keep I O floor (numbers_of (with_next (given n A) B)) key B
+    second_apart : (o : Option Range) → range_of (due_inputs n A) ≡ o
+        → (IsUntouched keep I O floor (numbers_of (with_next (due_inputs n A) B)) key A × IsUntouched keep I O floor (numbers_of (with_next (due_inputs n A) B)) key B)
+          ⊎ IsClear keep I O floor (numbers_of (with_next (due_inputs n A) B)) key B
     second_apart None is = let empty = none_given is in inl (none_untouched A empty, none_untouched B empty)
-    second_apart (Some range) is = by_first (list_any (λ (t : Table). is_one (numbers_of (with_next (given n A) B)) t && holds key t) A) refl
+    second_apart (Some range) is = by_first (list_any (λ (t : Table). is_among (numbers_of (with_next (due_inputs n A) B)) t && holds key t) A) refl
       where
-        by_second : (b : Bool) → list_any (λ (t : Table). is_one (numbers_of (with_next (given n A) B)) t && holds key t) B ≡ b
-            → IsUntouched keep I O floor (numbers_of (with_next (given n A) B)) key A
-            → (IsUntouched keep I O floor (numbers_of (with_next (given n A) B)) key A × IsUntouched keep I O floor (numbers_of (with_next (given n A) B)) key B)
-              ⊎ IsClear keep I O floor (numbers_of (with_next (given n A) B)) key B
-        by_second true is out = inr (input_clear key keep I O floor (numbers_of (with_next (given n A) B)) B apart_B ranged_B is)
-        by_second false is out = inl (out, untouched_by key keep I O floor (numbers_of (with_next (given n A) B)) B is)
+        by_second : (b : Bool) → list_any (λ (t : Table). is_among (numbers_of (with_next (due_inputs n A) B)) t && holds key t) B ≡ b
+            → IsUntouched keep I O floor (numbers_of (with_next (due_inputs n A) B)) key A
+            → (IsUntouched keep I O floor (numbers_of (with_next (due_inputs n A) B)) key A × IsUntouched keep I O floor (numbers_of (with_next (due_inputs n A) B)) key B)
+              ⊎ IsClear keep I O floor (numbers_of (with_next (due_inputs n A) B)) key B
+        by_second true is out = inr (input_clear key keep I O floor (numbers_of (with_next (due_inputs n A) B)) B apart_B ranged_B is)
+        by_second false is out = inl (out, untouched_by key keep I O floor (numbers_of (with_next (due_inputs n A) B)) B is)
 
-        by_first : (b : Bool) → list_any (λ (t : Table). is_one (numbers_of (with_next (given n A) B)) t && holds key t) A ≡ b
-            → (IsUntouched keep I O floor (numbers_of (with_next (given n A) B)) key A × IsUntouched keep I O floor (numbers_of (with_next (given n A) B)) key B)
-              ⊎ IsClear keep I O floor (numbers_of (with_next (given n A) B)) key B
-        by_first true there = inr (range_clear key keep I O floor (numbers_of (with_next (given n A) B)) range A B
-            (all_weaker (λ (t : Table). is_one (numbers_of (with_next (given n A) B)) t ≡ true → Le range.0 t.first × Le t.last range.1)
-              (λ (t : Table). is_one (numbers_of (with_next (given n A) B)) t ≡ true → IsWithin key keep I O floor (numbers_of (with_next (given n A) B)) range t)
+        by_first : (b : Bool) → list_any (λ (t : Table). is_among (numbers_of (with_next (due_inputs n A) B)) t && holds key t) A ≡ b
+            → (IsUntouched keep I O floor (numbers_of (with_next (due_inputs n A) B)) key A × IsUntouched keep I O floor (numbers_of (with_next (due_inputs n A) B)) key B)
+              ⊎ IsClear keep I O floor (numbers_of (with_next (due_inputs n A) B)) key B
+        by_first true there = inr (range_clear key keep I O floor (numbers_of (with_next (due_inputs n A) B)) range A B
+            (all_weaker (λ (t : Table). is_among (numbers_of (with_next (due_inputs n A) B)) t ≡ true → Le range.0 t.first × Le t.last range.1)
+              (λ (t : Table). is_among (numbers_of (with_next (due_inputs n A) B)) t ≡ true → IsWithin key keep I O floor (numbers_of (with_next (due_inputs n A) B)) range t)
               (λ t w input. let both = w input in record { first = both.0; last = both.1 }) A (within range is))
             ranged_A
-            (subst (λ (o : Option Range). AllByRecursion (λ (u : Table). meets o u ≡ true → is_one (numbers_of (with_next (given n A) B)) u ≡ true) B) is met)
+            (subst (λ (o : Option Range). AllByRecursion (λ (u : Table). meets o u ≡ true → is_among (numbers_of (with_next (due_inputs n A) B)) u ≡ true) B) is met)
             ranged_B there)
-        by_first false none = by_second (list_any (λ (t : Table). is_one (numbers_of (with_next (given n A) B)) t && holds key t) B) refl (untouched_by key keep I O floor (numbers_of (with_next (given n A) B)) A none)
+        by_first false none = by_second (list_any (λ (t : Table). is_among (numbers_of (with_next (due_inputs n A) B)) t && holds key t) B) refl (untouched_by key keep I O floor (numbers_of (with_next (due_inputs n A) B)) A none)
 
-    pub pair_is : (deeper : List (List Table)) → IsIdle keep I O floor (numbers_of (with_next (given n A) B)) (flat_map (λ ts. ts) deeper)
-        → IsPair keep I O floor (numbers_of (with_next (given n A) B)) key A B deeper
-    pair_is deeper idle = record { parted = first_parted; apart = second_apart (range_of (given n A)) refl; idle = idle }
+    pub pair_is : (deeper : List (List Table)) → IsIdle keep I O floor (numbers_of (with_next (due_inputs n A) B)) (flat_map (λ ts. ts) deeper)
+        → IsPair keep I O floor (numbers_of (with_next (due_inputs n A) B)) key A B deeper
+    pair_is deeper idle = record { parted = first_parted; apart = second_apart (range_of (due_inputs n A)) refl; idle = idle }
 
 -- ---- levels before it
 
@@ -505,10 +505,10 @@ module _ (keep : ℕ) (I O : List Entry) (floor : ℕ) (inputs : List ℕ) (key 
       → IsShaped keep I O floor inputs key (length pre + 1) (pre ++ A ∷ B ∷ deeper)
   shaped_at [] A B deeper idle pair = inl (omega arith, pair)
   shaped_at (ts ∷ []) A B deeper idle pair =
-      let both = all_parts (λ (t : Table). is_one inputs t ≡ false) ts [] idle in
+      let both = all_parts (λ (t : Table). is_among inputs t ≡ false) ts [] idle in
       inr (omega arith, (both.0, inl (omega arith, pair)))
   shaped_at (ts ∷ us ∷ pre) A B deeper idle pair =
-      let both = all_parts (λ (t : Table). is_one inputs t ≡ false) ts (flat_map (λ xs. xs) (us ∷ pre)) idle in
+      let both = all_parts (λ (t : Table). is_among inputs t ≡ false) ts (flat_map (λ xs. xs) (us ∷ pre)) idle in
       let later = shaped_at (us ∷ pre) A B deeper both.1 pair in
       let same : length (us ∷ pre) + 1 ≡ length (ts ∷ us ∷ pre) + 1 - 1 = omega arith in
       inr (omega arith, (both.0, subst (λ (n : ℕ). IsShaped keep I O floor inputs key n ((us ∷ pre) ++ A ∷ B ∷ deeper)) same later))
@@ -588,19 +588,19 @@ plan_fitted l h n are within key =
     let off_D : AreOther A D = all_weaker (λ (x : Table). AllByRecursion (λ (y : Table). y.number ≢ x.number) (B ++ D)) (λ (x : Table). AllByRecursion (λ (y : Table). y.number ≢ x.number) D) (λ x all. (all_parts (λ (y : Table). y.number ≢ x.number) B D all).1) A d1.1.1 in
     let apart_A : 0 < n → IsApart A = λ some. subst IsApart c.first_is (are.apart n some) in
     let apart_B : IsApart B = subst IsApart c.second_is (are.apart (n + 1) (omega arith)) in
-    let ins = with_next (given n A) B in
+    let ins = with_next (due_inputs n A) B in
     let inputs = numbers_of ins in
-    let idle_pre : IsIdle job.keep I O job.floor inputs pre = all_weaker (λ (u : Table). AllByRecursion (λ (t : Table). t.number ≢ u.number) (A ++ (B ++ D))) (λ (u : Table). is_one inputs u ≡ false)
+    let idle_pre : IsIdle job.keep I O job.floor inputs pre = all_weaker (λ (u : Table). AllByRecursion (λ (t : Table). t.number ≢ u.number) (A ++ (B ++ D))) (λ (u : Table). is_among inputs u ≡ false)
     (λ u all.
     let x = all_parts (λ (t : Table). t.number ≢ u.number) A (B ++ D) all in
     let y = all_parts (λ (t : Table). t.number ≢ u.number) B D x.1 in
     not_one_of u ins (all_ins n A B d1.0 off r1.0 r2.0 apart_A apart_B (λ (t : Table). t.number ≢ u.number) x.0 y.0)) pre d0.1.1 in
     let turned_A = others_turned A D off_D in
     let turned_B = others_turned B D d2.1.1 in
-    let idle_D : IsIdle job.keep I O job.floor inputs D = both (λ (u : Table). is_one inputs u ≡ false) A B D turned_A turned_B (λ u a b. not_one_of u ins (all_ins n A B d1.0 off r1.0 r2.0 apart_A apart_B (λ (t : Table). t.number ≢ u.number) a b)) in
+    let idle_D : IsIdle job.keep I O job.floor inputs D = both (λ (u : Table). is_among inputs u ≡ false) A B D turned_A turned_B (λ u a b. not_one_of u ins (all_ins n A B d1.0 off r1.0 r2.0 apart_A apart_B (λ (t : Table). t.number ≢ u.number) a b)) in
     let pair = pair_is n A B d1.0 off r1.0 r2.0 apart_A apart_B key job.keep I O job.floor c.deeper idle_D in
     let shaped : IsShaped job.keep I O job.floor inputs key (length c.pre + 1) (c.pre ++ A ∷ B ∷ c.deeper) = shaped_at job.keep I O job.floor inputs key c.pre A B c.deeper idle_pre pair in
-    let same : numbers_of (inputs_at n l.levels) ≡ inputs = ap (λ (x : List Table). numbers_of (with_next (given n x) (level_at (n + 1) l.levels))) c.first_is ∙ ap (λ (y : List Table). numbers_of (with_next (given n A) y)) c.second_is in
+    let same : numbers_of (inputs_at n l.levels) ≡ inputs = ap (λ (x : List Table). numbers_of (with_next (due_inputs n x) (level_at (n + 1) l.levels))) c.first_is ∙ ap (λ (y : List Table). numbers_of (with_next (due_inputs n A) y)) c.second_is in
     subst (λ (numbers : List ℕ). IsShaped job.keep I O job.floor numbers key (n + 1) l.levels) (sym same)
     (subst (λ (levels : List (List Table)). IsShaped job.keep I O job.floor inputs key (n + 1) levels) (sym c.whole)
     (subst (λ (m : ℕ). IsShaped job.keep I O job.floor inputs key (m + 1) (c.pre ++ A ∷ B ∷ c.deeper)) c.count shaped))
@@ -642,10 +642,10 @@ drain_fitted l h segment t distinct is =
     (before s.0 d.1.1, (ap (λ b. b || false) here, after s.1 d.1.0.0)))
   where
     before : (us : List Table) → AllByRecursion (λ (x : Table). AllByRecursion (λ (y : Table). y.number ≢ x.number) (t ∷ (split_first segment (tables l) t is).1)) us
-        → AllByRecursion (λ (u : Table). is_one (t.number ∷ []) u ≡ false) us
+        → AllByRecursion (λ (u : Table). is_among (t.number ∷ []) u ≡ false) us
     before [] all = tt
     before (u ∷ us) all = (not_one_of u (t ∷ []) (all.0.0, tt), before us all.1)
 
-    after : (us : List Table) → AllByRecursion (λ (u : Table). u.number ≢ t.number) us → AllByRecursion (λ (u : Table). is_one (t.number ∷ []) u ≡ false) us
+    after : (us : List Table) → AllByRecursion (λ (u : Table). u.number ≢ t.number) us → AllByRecursion (λ (u : Table). is_among (t.number ∷ []) u ≡ false) us
     after [] all = tt
     after (u ∷ us) all = (not_one_of u (t ∷ []) ((λ same. all.0 (sym same)), tt), after us all.1)
