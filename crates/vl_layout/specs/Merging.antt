@@ -48,6 +48,7 @@ is_needless_one outside floor e =
 -- inputs has its key at a lower version
 abbrev pub is_needless : ℕ → List Entry → ℕ → Entry → Bool
 is_needless keep outside floor e = (keep == 1) && is_needless_one outside floor e
+
 -- one of the three rules drops it from the inputs
 abbrev pub is_dropped : ℕ → List Entry → List Entry → ℕ → List Entry → Entry → Bool
 is_dropped keep inputs outside floor newer e =

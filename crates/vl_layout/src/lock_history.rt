@@ -6,7 +6,10 @@ use vl_model::{Change, Key};
 #[derive(Drop)]
 pub enum LockStep {
     /// A transaction or a view began, with this ticket, that reads at this number.
-    Begun { ticket: u32, number: u64 },
+    Begun {
+        ticket: u32,
+        number: u64,
+    },
     /// The transaction with this ticket became the commit with this number and these writes, in key
     /// order.
     Put {
@@ -15,7 +18,9 @@ pub enum LockStep {
         writes: LinkedList<(Key, Change)>,
     },
     /// The transaction or view with this ticket ended without a commit.
-    Ended { ticket: u32 },
+    Ended {
+        ticket: u32,
+    },
     /// A merge was planned, and is the open job.
     Planned,
     /// The open job ended, whether its tables were put in or not.

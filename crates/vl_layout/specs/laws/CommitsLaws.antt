@@ -104,7 +104,7 @@ module _ (key : List ℕ) where
   -- the last that is known of a base is that of its map
   known : (n : ℕ) (cs : List (ℕ × Changes)) → AllByRecursion (λ (c : ℕ × Changes). T (is_sorted key_cmp c.1)) cs
       → last_in (filter (λ (c : ℕ × Changes). nat_le c.0 n) cs) key
-        ≡ last_change (map (λ (c : ℕ × Writes). c.1) (filter (λ (c : ℕ × Writes). nat_le c.0 n) (map (λ (c : ℕ × Changes). (c.0, from_sorted c.1)) cs))) key
+      ≡ last_change (map (λ (c : ℕ × Writes). c.1) (filter (λ (c : ℕ × Writes). nat_le c.0 n) (map (λ (c : ℕ × Changes). (c.0, from_sorted c.1)) cs))) key
   known n [] all = refl
   known n (c ∷ cs) all = by_test (nat_le c.0 n) (known n cs all.1)
     where
@@ -153,10 +153,10 @@ module _ (p : Commits) (proper : AreProper p) where
       ∙ last_in-append (filter (λ (c : ℕ × Changes). nat_le c.0 n) (filter (λ (c : ℕ × Changes). nat_le c.0 p.first) p.base)) (filter (λ (c : ℕ × Changes). nat_le c.0 n) (numbered (p.first + 1) p.commits)) key
       ∙ ap (λ (cs : List (ℕ × Changes)). newer (last_in cs key) (last_in (filter (λ (c : ℕ × Changes). nat_le c.0 n) (numbered (p.first + 1) p.commits)) key)) (filter-twice p.first n p.base)
       ∙ ap (λ o. newer o (last_in (filter (λ (c : ℕ × Changes). nat_le c.0 n) (numbered (p.first + 1) p.commits)) key))
-        (known key (min n p.first) p.base proper.base
-        ∙ sym (ap (λ (cs : List (ℕ × Writes)). last_change (map (λ (c : ℕ × Writes). c.1) (filter (λ (c : ℕ × Writes). nat_le c.0 (min n p.first)) cs)) key) (entries-from_sorted nat_cmp (map (λ (c : ℕ × Changes). (c.0, from_sorted c.1)) p.base) proper.numbers)))
+      (known key (min n p.first) p.base proper.base
+      ∙ sym (ap (λ (cs : List (ℕ × Writes)). last_change (map (λ (c : ℕ × Writes). c.1) (filter (λ (c : ℕ × Writes). nat_le c.0 (min n p.first)) cs)) key) (entries-from_sorted nat_cmp (map (λ (c : ℕ × Changes). (c.0, from_sorted c.1)) p.base) proper.numbers)))
       ∙ ap (newer (last_change (known_up_to (min n p.first) (history_in p).base) key))
-        (made key n (p.first + 1) p.commits proper.commits ∙ ap (λ k. last_change (take k (map from_sorted p.commits)) key) (omega arith))
+      (made key n (p.first + 1) p.commits proper.commits ∙ ap (λ k. last_change (take k (map from_sorted p.commits)) key) (omega arith))
 
   pub value_in-is : (n : ℕ) (key : List ℕ) → value_in p n key ≡ value_at (history_in p) n key
   value_in-is n key =
@@ -294,8 +294,8 @@ module _ (p : Commits) (proper : AreProper p) where
   versions_in-are key =
       numbers-append key (filter (λ (c : ℕ × Changes). nat_le c.0 p.first) p.base) (numbered (p.first + 1) p.commits)
       ∙ ap (λ ns. ns ++ map (λ (c : ℕ × Changes). c.0) (filter (λ (c : ℕ × Changes). is_some (find key_cmp key c.1)) (numbered (p.first + 1) p.commits)))
-        (named_base key p.first p.base proper.base
-        ∙ sym (ap (λ (cs : List (ℕ × Writes)). naming key (filter (λ (c : ℕ × Writes). nat_le c.0 p.first) cs)) (entries-from_sorted nat_cmp (map (λ (c : ℕ × Changes). (c.0, from_sorted c.1)) p.base) proper.numbers)))
+      (named_base key p.first p.base proper.base
+      ∙ sym (ap (λ (cs : List (ℕ × Writes)). naming key (filter (λ (c : ℕ × Writes). nat_le c.0 p.first) cs)) (entries-from_sorted nat_cmp (map (λ (c : ℕ × Changes). (c.0, from_sorted c.1)) p.base) proper.numbers)))
       ∙ ap (λ ns. naming key (filter (λ (c : ℕ × Writes). nat_le c.0 p.first) (entries (history_in p).base)) ++ ns) (named_commits key (p.first + 1) p.commits proper.commits)
       ∙ sym (naming-append key (filter (λ (c : ℕ × Writes). nat_le c.0 p.first) (entries (history_in p).base)) (numbered_maps (p.first + 1) (history_in p).commits))
 

@@ -37,8 +37,8 @@ IsPairApart one u t = (one t ≡ one u) ⊎ (Lt t.last u.first ⊎ Lt u.last t.f
 pairs_apart : (one : Table → Bool) (ts : List Table) → IsApart ts → AllByRecursion (λ (u : Table). AllByRecursion (IsPairApart one u) ts) ts
 pairs_apart one [] apart = tt
 pairs_apart one (t ∷ ts) apart = (
-    (inl refl, weaker (λ (u : Table). Lt t.last u.first) (IsPairApart one t) (λ u less. inr (inr less)) ts apart.0),
-    heads ts apart.0 (pairs_apart one ts apart.1),
+  (inl refl, weaker (λ (u : Table). Lt t.last u.first) (IsPairApart one t) (λ u less. inr (inr less)) ts apart.0),
+  heads ts apart.0 (pairs_apart one ts apart.1),
 )
   where
     heads : (us : List Table) → AllByRecursion (λ (u : Table). Lt t.last u.first) us → AllByRecursion (λ (u : Table). AllByRecursion (IsPairApart one u) ts) us
@@ -116,16 +116,16 @@ module _ (n : ℕ) (A B : List Table) (distinct_A : IsDistinct A) (distinct_B : 
           → AreAbove (λ t. is_among (numbers_of (with_next (due_inputs n A) B)) t) key ts
       above_first key low [] w r = tt
       above_first key low (t ∷ ts) w r = (
-          (λ input. weaker (λ (e : Entry). Le t.first e.key × Le e.key t.last) (λ (e : Entry). Lt key e.key) (λ e at. lt_le_then key range.0 e.key low (le_then range.0 t.first e.key (w.0 input).0 at.0)) t.entries r.0),
-          above_first key low ts w.1 r.1,
+        (λ input. weaker (λ (e : Entry). Le t.first e.key × Le e.key t.last) (λ (e : Entry). Lt key e.key) (λ e at. lt_le_then key range.0 e.key low (le_then range.0 t.first e.key (w.0 input).0 at.0)) t.entries r.0),
+        above_first key low ts w.1 r.1,
       )
 
       below_first : (key : List ℕ) → Lt range.1 key → (ts : List Table) → AllByRecursion (λ (t : Table). is_among (numbers_of (with_next (due_inputs n A) B)) t ≡ true → Le range.0 t.first × Le t.last range.1) ts → AllByRecursion IsRanged ts
           → AreBelow (λ t. is_among (numbers_of (with_next (due_inputs n A) B)) t) key ts
       below_first key high [] w r = tt
       below_first key high (t ∷ ts) w r = (
-          (λ input. weaker (λ (e : Entry). Le t.first e.key × Le e.key t.last) (λ (e : Entry). Lt e.key key) (λ e at. le_lt e.key range.1 key (le_then e.key t.last range.1 at.1 (w.0 input).1) high) t.entries r.0),
-          below_first key high ts w.1 r.1,
+        (λ input. weaker (λ (e : Entry). Le t.first e.key × Le e.key t.last) (λ (e : Entry). Lt e.key key) (λ e at. le_lt e.key range.1 key (le_then e.key t.last range.1 at.1 (w.0 input).1) high) t.entries r.0),
+        below_first key high ts w.1 r.1,
       )
 
       above_second : (u : Table) → IsWide u → is_among (numbers_of (with_next (due_inputs n A) B)) u ≡ false → Lt u.last range.0 → (ts : List Table)
@@ -134,16 +134,16 @@ module _ (n : ℕ) (A B : List Table) (distinct_A : IsDistinct A) (distinct_B : 
           → AreAbove (λ t. is_among (numbers_of (with_next (due_inputs n A) B)) t) u.last ts
       above_second u wide out low [] pairs m r = tt
       above_second u wide out low (t ∷ ts) pairs m r = (
-          (λ input. ⊎_elim
-          (λ (same : is_among (numbers_of (with_next (due_inputs n A) B)) t ≡ is_among (numbers_of (with_next (due_inputs n A) B)) u). absurd (true_false (sym input ∙ same ∙ out)))
-          (λ (apart : Lt t.last u.first ⊎ Lt u.last t.first). ⊎_elim
-          (λ (before : Lt t.last u.first).
-          let no = (not_first (is_lt (key_cmp t.last range.0)) (is_lt (key_cmp range.1 t.first)) (m.0 input)).0 in
-          absurd (true_false (sym (lt_le_then t.last u.first range.0 before (le_then u.first u.last range.0 wide (lt_le u.last range.0 low))) ∙ no)))
-          (λ (behind : Lt u.last t.first). weaker (λ (e : Entry). Le t.first e.key × Le e.key t.last) (λ (e : Entry). Lt u.last e.key) (λ e at. lt_le_then u.last t.first e.key behind at.0) t.entries r.0)
-          apart)
-          pairs.0),
-          above_second u wide out low ts pairs.1 m.1 r.1,
+        (λ input. ⊎_elim
+            (λ (same : is_among (numbers_of (with_next (due_inputs n A) B)) t ≡ is_among (numbers_of (with_next (due_inputs n A) B)) u). absurd (true_false (sym input ∙ same ∙ out)))
+            (λ (apart : Lt t.last u.first ⊎ Lt u.last t.first). ⊎_elim
+            (λ (before : Lt t.last u.first).
+            let no = (not_first (is_lt (key_cmp t.last range.0)) (is_lt (key_cmp range.1 t.first)) (m.0 input)).0 in
+            absurd (true_false (sym (lt_le_then t.last u.first range.0 before (le_then u.first u.last range.0 wide (lt_le u.last range.0 low))) ∙ no)))
+            (λ (behind : Lt u.last t.first). weaker (λ (e : Entry). Le t.first e.key × Le e.key t.last) (λ (e : Entry). Lt u.last e.key) (λ e at. lt_le_then u.last t.first e.key behind at.0) t.entries r.0)
+            apart)
+            pairs.0),
+        above_second u wide out low ts pairs.1 m.1 r.1,
       )
 
       below_second : (u : Table) → IsWide u → is_among (numbers_of (with_next (due_inputs n A) B)) u ≡ false → Lt range.1 u.first → (ts : List Table)
@@ -152,16 +152,16 @@ module _ (n : ℕ) (A B : List Table) (distinct_A : IsDistinct A) (distinct_B : 
           → AreBelow (λ t. is_among (numbers_of (with_next (due_inputs n A) B)) t) u.first ts
       below_second u wide out high [] pairs m r = tt
       below_second u wide out high (t ∷ ts) pairs m r = (
-          (λ input. ⊎_elim
-          (λ (same : is_among (numbers_of (with_next (due_inputs n A) B)) t ≡ is_among (numbers_of (with_next (due_inputs n A) B)) u). absurd (true_false (sym input ∙ same ∙ out)))
-          (λ (apart : Lt t.last u.first ⊎ Lt u.last t.first). ⊎_elim
-          (λ (before : Lt t.last u.first). weaker (λ (e : Entry). Le t.first e.key × Le e.key t.last) (λ (e : Entry). Lt e.key u.first) (λ e at. le_lt e.key t.last u.first at.1 before) t.entries r.0)
-          (λ (behind : Lt u.last t.first).
-          let no = (not_first (is_lt (key_cmp t.last range.0)) (is_lt (key_cmp range.1 t.first)) (m.0 input)).1 in
-          absurd (true_false (sym (lt_le_then range.1 u.first t.first high (le_then u.first u.last t.first wide (lt_le u.last t.first behind))) ∙ no)))
-          apart)
-          pairs.0),
-          below_second u wide out high ts pairs.1 m.1 r.1,
+        (λ input. ⊎_elim
+            (λ (same : is_among (numbers_of (with_next (due_inputs n A) B)) t ≡ is_among (numbers_of (with_next (due_inputs n A) B)) u). absurd (true_false (sym input ∙ same ∙ out)))
+            (λ (apart : Lt t.last u.first ⊎ Lt u.last t.first). ⊎_elim
+            (λ (before : Lt t.last u.first). weaker (λ (e : Entry). Le t.first e.key × Le e.key t.last) (λ (e : Entry). Lt e.key u.first) (λ e at. le_lt e.key t.last u.first at.1 before) t.entries r.0)
+            (λ (behind : Lt u.last t.first).
+            let no = (not_first (is_lt (key_cmp t.last range.0)) (is_lt (key_cmp range.1 t.first)) (m.0 input)).1 in
+            absurd (true_false (sym (lt_le_then range.1 u.first t.first high (le_then u.first u.last t.first wide (lt_le u.last t.first behind))) ∙ no)))
+            apart)
+            pairs.0),
+        below_second u wide out high ts pairs.1 m.1 r.1,
       )
 
       is_out : (b : Bool) → (b ≡ true → ⊥) → b ≡ false
@@ -173,11 +173,11 @@ module _ (n : ℕ) (A B : List Table) (distinct_A : IsDistinct A) (distinct_B : 
           → AllByRecursion (λ (u : Table). is_among (numbers_of (with_next (due_inputs n A) B)) u ≡ false → IsBeside u) us
       each [] m pairs wide = tt
       each (u ∷ us) m pairs wide = (
-          (λ out.
-          let missed : meets (Some range) u ≡ false = is_out (meets (Some range) u) (λ at. true_false (sym (m.0 at) ∙ out)) in
-          ⊎_elim
-          (λ (low : is_lt (key_cmp u.last range.0) ≡ true). inl (above_first u.last low A inside ranged_A, above_second u wide.0 out low B pairs.0 meet ranged_B))
-          (λ (high : is_lt (key_cmp range.1 u.first) ≡ true). inr (below_first u.first high A inside ranged_A, below_second u wide.0 out high B pairs.0 meet ranged_B))
-          (one_side (is_lt (key_cmp u.last range.0)) (is_lt (key_cmp range.1 u.first)) missed)),
-          each us m.1 pairs.1 wide.1,
+        (λ out.
+            let missed : meets (Some range) u ≡ false = is_out (meets (Some range) u) (λ at. true_false (sym (m.0 at) ∙ out)) in
+            ⊎_elim
+            (λ (low : is_lt (key_cmp u.last range.0) ≡ true). inl (above_first u.last low A inside ranged_A, above_second u wide.0 out low B pairs.0 meet ranged_B))
+            (λ (high : is_lt (key_cmp range.1 u.first) ≡ true). inr (below_first u.first high A inside ranged_A, below_second u wide.0 out high B pairs.0 meet ranged_B))
+            (one_side (is_lt (key_cmp u.last range.0)) (is_lt (key_cmp range.1 u.first)) missed)),
+        each us m.1 pairs.1 wide.1,
       )

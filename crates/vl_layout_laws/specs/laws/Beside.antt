@@ -72,8 +72,8 @@ still_itself newer (s ∷ ss) = by s.0 (still_itself (s.1 ∷ newer) ss)
 all_there : (es : List Entry) → AllByRecursion (λ (e : Entry). list_any (is_at e.key e.version) es ≡ true) es
 all_there [] = tt
 all_there (e ∷ es) = (
-    or_left (is_at e.key e.version e) (list_any (is_at e.key e.version) es) (is_at-itself e),
-    all_weaker (λ (f : Entry). list_any (is_at f.key f.version) es ≡ true) (λ (f : Entry). list_any (is_at f.key f.version) (e ∷ es) ≡ true)
+  or_left (is_at e.key e.version e) (list_any (is_at e.key e.version) es) (is_at-itself e),
+  all_weaker (λ (f : Entry). list_any (is_at f.key f.version) es ≡ true) (λ (f : Entry). list_any (is_at f.key f.version) (e ∷ es) ≡ true)
       (λ f is. or_right (is_at f.key f.version e) (list_any (is_at f.key f.version) es) is) es (all_there es),
 )
 
@@ -82,7 +82,7 @@ pub kept_at_first : (l : Layout) (h : History) (inputs : List Table) (target : T
 kept_at_first l h inputs target = record {
   inputs = still_itself [] (sourced l (numbers_of inputs));
   outside = all_weaker (λ (e : Entry). list_any (is_at e.key e.version) (outside_of (sourced l (numbers_of inputs))) ≡ true)
-    (IsAccounted (outside_of (sourced l (numbers_of inputs))) (floor l h) []) (λ e is. inl is) (outside_of (sourced l (numbers_of inputs))) (all_there (outside_of (sourced l (numbers_of inputs))));
+      (IsAccounted (outside_of (sourced l (numbers_of inputs))) (floor l h) []) (λ e is. inl is) (outside_of (sourced l (numbers_of inputs))) (all_there (outside_of (sourced l (numbers_of inputs))));
 }
 
 least_is_least : (last : ℕ) (xs : List Live) → (least_number last xs ≤ last) × AllByRecursion (λ (x : Live). least_number last xs ≤ x.number) xs
@@ -226,14 +226,17 @@ module _ (l : Layout) (h : History) (job : Job) (moved : List Named) (k : IsOpen
         → IsShaped job.keep (inputs_of job.base) (outside_of job.base) job.floor job.inputs key n (first ∷ deeper)
         → IsShaped job.keep (inputs_of job.base) (outside_of job.base) job.floor job.inputs key n ((t ∷ first) ∷ deeper)
     shaped_behind key n first [] shaped = absurd shaped
-    shaped_behind key n first (second ∷ deeper) (inl here) = inl (here.0, record {
-      parted = ((λ is. absurd (true_false (sym is ∙ other))), here.1.parted);
-      apart = ⊎_elim
-        (λ (u : IsUntouched job.keep (inputs_of job.base) (outside_of job.base) job.floor job.inputs key first × IsUntouched job.keep (inputs_of job.base) (outside_of job.base) job.floor job.inputs key second). inl (((λ is. absurd (true_false (sym is ∙ other))), u.0), u.1))
-        (λ (c : IsClear job.keep (inputs_of job.base) (outside_of job.base) job.floor job.inputs key second). inr c)
-        here.1.apart;
-      idle = here.1.idle;
-    })
+    shaped_behind key n first (second ∷ deeper) (inl here) = inl (
+      here.0,
+      record {
+        parted = ((λ is. absurd (true_false (sym is ∙ other))), here.1.parted);
+        apart = ⊎_elim
+            (λ (u : IsUntouched job.keep (inputs_of job.base) (outside_of job.base) job.floor job.inputs key first × IsUntouched job.keep (inputs_of job.base) (outside_of job.base) job.floor job.inputs key second). inl (((λ is. absurd (true_false (sym is ∙ other))), u.0), u.1))
+            (λ (c : IsClear job.keep (inputs_of job.base) (outside_of job.base) job.floor job.inputs key second). inr c)
+            here.1.apart;
+        idle = here.1.idle;
+      },
+    )
     shaped_behind key n first (second ∷ deeper) (inr there) = inr (there.0, ((other, there.1.0), there.1.1))
 
   pub open_flushed : (s : Segment) (level : List Table) (deeper : List (List Table))
@@ -266,11 +269,13 @@ module _ (l : Layout) (h : History) (job : Job) (moved : List Named) (k : IsOpen
           (shaped_behind (flushed_table l s) (not_one l.next_table job.inputs (flushed_table l s) refl k.given) key n level deeper
           (subst (IsShaped job.keep (inputs_of job.base) (outside_of job.base) job.floor job.inputs key n) are (fit key)))
       by InPlace fit = (
-          flushed_table l s ∷ fit.0, fit.1, fit.2,
-          ap (λ (levels : List (List Table)). flat_map (λ ts. ts) (in_front (flushed_table l s) levels)) are
-          ∙ ap (λ (levels : List (List Table)). flushed_table l s ∷ flat_map (λ ts. ts) levels) (sym are)
-          ∙ ap (λ (ts : List Table). flushed_table l s ∷ ts) fit.3,
-          ((not_one l.next_table job.inputs (flushed_table l s) refl k.given, fit.4.0), fit.4.1),
+        flushed_table l s ∷ fit.0,
+        fit.1,
+        fit.2,
+        ap (λ (levels : List (List Table)). flat_map (λ ts. ts) (in_front (flushed_table l s) levels)) are
+            ∙ ap (λ (levels : List (List Table)). flushed_table l s ∷ flat_map (λ ts. ts) levels) (sym are)
+            ∙ ap (λ (ts : List Table). flushed_table l s ∷ ts) fit.3,
+        ((not_one l.next_table job.inputs (flushed_table l s) refl k.given, fit.4.0), fit.4.1),
       )
 
 -- ---- what an install shows, from the engine's floor on

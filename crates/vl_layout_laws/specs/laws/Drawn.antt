@@ -123,20 +123,20 @@ module _ (l : Layout) (s : IsStocked l) (d : IsDrawnWhole l) where
   drawn_begun ticket number = record {
     points = d.points;
     pins_drawn = together (map (λ (x : Live). x.pin) (begun l ticket number).live) (job_pin l.job) (pass_pin l.pass)
-      (all_mapped (λ (p : Pin). AllByRecursion (IsDrawn l.next_log l.next_table) p.needs) (λ (x : Live). x.pin) (begun l ticket number).live
-      (all-put_by (λ (x : Live). x.ticket) (λ (x : Live). AllByRecursion (IsDrawn l.next_log l.next_table) x.pin.needs) (record { ticket = ticket; number = number; pin = pin_of l }) l.live mine
-      (all_unmapped (λ (p : Pin). AllByRecursion (IsDrawn l.next_log l.next_table) p.needs) (λ (x : Live). x.pin) l.live split.0.0)))
-      split.0.1 split.1;
+        (all_mapped (λ (p : Pin). AllByRecursion (IsDrawn l.next_log l.next_table) p.needs) (λ (x : Live). x.pin) (begun l ticket number).live
+        (all-put_by (λ (x : Live). x.ticket) (λ (x : Live). AllByRecursion (IsDrawn l.next_log l.next_table) x.pin.needs) (record { ticket = ticket; number = number; pin = pin_of l }) l.live mine
+        (all_unmapped (λ (p : Pin). AllByRecursion (IsDrawn l.next_log l.next_table) p.needs) (λ (x : Live). x.pin) l.live split.0.0)))
+        split.0.1 split.1;
   }
 
   pub drawn_ended : (ticket : ℕ) → IsDrawnWhole (ended ticket l)
   drawn_ended ticket = record {
     points = d.points;
     pins_drawn = together (map (λ (x : Live). x.pin) (filter (λ (x : Live). not (x.ticket == ticket)) l.live)) (job_pin l.job) (pass_pin l.pass)
-      (all_mapped (λ (p : Pin). AllByRecursion (IsDrawn l.next_log l.next_table) p.needs) (λ (x : Live). x.pin) (filter (λ (x : Live). not (x.ticket == ticket)) l.live)
-      (all_filtered (λ (x : Live). AllByRecursion (IsDrawn l.next_log l.next_table) x.pin.needs) (λ (x : Live). not (x.ticket == ticket)) l.live
-      (all_unmapped (λ (p : Pin). AllByRecursion (IsDrawn l.next_log l.next_table) p.needs) (λ (x : Live). x.pin) l.live split.0.0)))
-      split.0.1 split.1;
+        (all_mapped (λ (p : Pin). AllByRecursion (IsDrawn l.next_log l.next_table) p.needs) (λ (x : Live). x.pin) (filter (λ (x : Live). not (x.ticket == ticket)) l.live)
+        (all_filtered (λ (x : Live). AllByRecursion (IsDrawn l.next_log l.next_table) x.pin.needs) (λ (x : Live). not (x.ticket == ticket)) l.live
+        (all_unmapped (λ (p : Pin). AllByRecursion (IsDrawn l.next_log l.next_table) p.needs) (λ (x : Live). x.pin) l.live split.0.0)))
+        split.0.1 split.1;
   }
 
   pub drawn_planned : (job : Job) → IsDrawnWhole (with_job job l)
@@ -180,10 +180,10 @@ module _ (l : Layout) (s : IsStocked l) (d : IsDrawnWhole l) where
       → IsDrawnWhole (flushed l x)
   drawn_flushed x level deeper waits are = record {
     points =
-      let t = flushed_table l x in
-      let new : flat_map (λ ts. ts) (in_front t l.levels) ≡ t ∷ tables l = ap (λ (levels : List (List Table)). flat_map (λ ts. ts) (in_front t levels)) are ∙ ap (λ (levels : List (List Table)). t ∷ flat_map (λ ts. ts) levels) (sym are) in
-      subst (AllByRecursion (PointsDrawn l.next_log)) (sym new)
-      (below_points l.next_log (map placed (memtable x)) (all_placed_below l.next_log x.number (of_oldest l.frozen x waits s.logs_drawn.1) (memtable x) (own_memtable x)), d.points);
+        let t = flushed_table l x in
+        let new : flat_map (λ ts. ts) (in_front t l.levels) ≡ t ∷ tables l = ap (λ (levels : List (List Table)). flat_map (λ ts. ts) (in_front t levels)) are ∙ ap (λ (levels : List (List Table)). t ∷ flat_map (λ ts. ts) levels) (sym are) in
+        subst (AllByRecursion (PointsDrawn l.next_log)) (sym new)
+        (below_points l.next_log (map placed (memtable x)) (all_placed_below l.next_log x.number (of_oldest l.frozen x waits s.logs_drawn.1) (memtable x) (own_memtable x)), d.points);
     pins_drawn = pins_later l.next_log l.next_table l.next_log (l.next_table + 1) (omega arith) (omega arith) (pins l) d.pins_drawn;
   }
     where
@@ -199,6 +199,6 @@ module _ (l : Layout) (s : IsStocked l) (d : IsDrawnWhole l) where
       → IsDrawnWhole (switched (filter (is_among job.inputs) (tables l)) (putting l job made rest))
   drawn_put job made rest below = record {
     points = all_replaced (PointsDrawn l.next_log) job.inputs made below job.target l.levels
-      (all_weaker (PointsDrawn l.next_log) (λ (t : Table). is_among job.inputs t ≡ false → PointsDrawn l.next_log t) (λ t is out. is) (tables l) d.points);
+        (all_weaker (PointsDrawn l.next_log) (λ (t : Table). is_among job.inputs t ≡ false → PointsDrawn l.next_log t) (λ t is out. is) (tables l) d.points);
     pins_drawn = together (map (λ (x : Live). x.pin) l.live) [] (pass_pin l.pass) split.0.0 tt split.1;
   }

@@ -239,7 +239,7 @@ module _ (keep : ℕ) (I O : List Entry) (floor : ℕ) (inputs : List ℕ) where
         by : (b : Bool) → is_among inputs t ≡ b
             → ((c : Bool) → of_key key (left_level (rest_of ps (marked_as c t.entries)) ts) ≡ of_key key (all_entries (without inputs ts)) ++ of_key key (kept_level (rest_of ps (marked_as c t.entries)) ts))
             → of_key key (kept_of (marked_by keep I O floor ps (marked_as b t.entries)) ++ left_level (rest_of ps (marked_as b t.entries)) ts)
-              ≡ of_key key (all_entries (cond (not b) (t ∷ without inputs ts) (without inputs ts))) ++ of_key key (kept_inputs (marked_by keep I O floor ps (marked_as b t.entries)) ++ kept_level (rest_of ps (marked_as b t.entries)) ts)
+            ≡ of_key key (all_entries (cond (not b) (t ∷ without inputs ts) (without inputs ts))) ++ of_key key (kept_inputs (marked_by keep I O floor ps (marked_as b t.entries)) ++ kept_level (rest_of ps (marked_as b t.entries)) ts)
         by false is later =
             let rest = rest_of ps (marked_as false t.entries) in
             ap (λ (xs : List Entry). of_key key (xs ++ left_level rest ts)) (outside_left ps t.entries)
@@ -340,7 +340,7 @@ module _ (keep : ℕ) (I O : List Entry) (floor : ℕ) (inputs : List ℕ) where
           → IsPair first second deeper
           → (IsWithout key (kept_level ps (first ++ (second ++ flat_map (λ ts. ts) deeper))) → IsWithout key out)
           → IsPlaced (left_level ps (first ++ (second ++ flat_map (λ ts. ts) deeper))) (kept_level ps (first ++ (second ++ flat_map (λ ts. ts) deeper)))
-            (all_entries (without inputs first ++ (in_key_order new (without inputs second) ++ flat_map (λ ts. ts) (map (without inputs) deeper))))
+          (all_entries (without inputs first ++ (in_key_order new (without inputs second) ++ flat_map (λ ts. ts) (map (without inputs) deeper))))
       pair_placed first second deeper ps pair gone =
           let D = flat_map (λ ts. ts) deeper in
           let qs = rest_level ps first in
@@ -375,9 +375,9 @@ module _ (keep : ℕ) (I O : List Entry) (floor : ℕ) (inputs : List ℕ) where
             front = N ++ (M ++ d);
             behind = [];
             apart = lefts ∙ ap (λ (xs : List Entry). (N ++ xs) ++ ((M ++ j) ++ d)) k0 ∙ ap (λ (xs : List Entry). xs ++ ((M ++ j) ++ d)) (nothing_more N) ∙ ap (λ (xs : List Entry). N ++ ((M ++ xs) ++ d)) j0 ∙ ap (λ (xs : List Entry). N ++ (xs ++ d)) (nothing_more M)
-              ∙ sym (nothing_more (N ++ (M ++ d))) ∙ ap (λ (xs : List Entry). (N ++ (M ++ d)) ++ (xs ++ [])) (sym K0);
+                ∙ sym (nothing_more (N ++ (M ++ d))) ∙ ap (λ (xs : List Entry). (N ++ (M ++ d)) ++ (xs ++ [])) (sym K0);
             together = afters ∙ ap (λ (xs : List Entry). N ++ (xs ++ d)) (of_key_order (without inputs second) (inr out0)) ∙ ap (λ (xs : List Entry). N ++ ((xs ++ M) ++ d)) o0
-              ∙ sym (nothing_more (N ++ (M ++ d))) ∙ ap (λ (xs : List Entry). (N ++ (M ++ d)) ++ (xs ++ [])) (sym o0);
+                ∙ sym (nothing_more (N ++ (M ++ d))) ∙ ap (λ (xs : List Entry). (N ++ (M ++ d)) ++ (xs ++ [])) (sym o0);
           })
           (λ (c : IsClear second).
           let M0 : M ≡ [] = of_none key (all_entries (without inputs second)) (clear_without second c) in
@@ -401,7 +401,7 @@ module _ (keep : ℕ) (I O : List Entry) (floor : ℕ) (inputs : List ℕ) where
       pub levels_placed : (n : ℕ) (levels : List (List Table)) (ps : List Place) → IsShaped n levels
           → (IsWithout key (kept_level ps (flat_map (λ ts. ts) levels)) → IsWithout key out)
           → IsPlaced (left_level ps (flat_map (λ ts. ts) levels)) (kept_level ps (flat_map (λ ts. ts) levels))
-            (all_entries (flat_map (λ ts. ts) (at_level n (in_key_order new) (map (without inputs) levels))))
+          (all_entries (flat_map (λ ts. ts) (at_level n (in_key_order new) (map (without inputs) levels))))
       levels_placed n [] ps shaped gone = absurd shaped
       levels_placed n (first ∷ []) ps shaped gone = absurd shaped
       levels_placed n (first ∷ second ∷ deeper) ps (inl here) gone =
@@ -418,16 +418,16 @@ module _ (keep : ℕ) (I O : List Entry) (floor : ℕ) (inputs : List ℕ) where
             front = X ++ later.front;
             behind = later.behind;
             apart = ap (of_key key) (left-append ps first rest ∙ ap (λ (xs : List Entry). xs ++ left_level (rest_level ps first) rest) (idle_left ps first idle) ∙ ap (λ (qs : List Place). all_entries first ++ left_level qs rest) (idle_rest ps first idle))
-              ∙ of-append key (all_entries first) (left_level ps rest)
-              ∙ ap (λ (xs : List Entry). X ++ xs) later.apart
-              ∙ sym (append_assoc X later.front (of_key key (kept_level ps rest) ++ later.behind))
-              ∙ ap (λ (xs : List Entry). (X ++ later.front) ++ (of_key key xs ++ later.behind)) (sym same);
+                ∙ of-append key (all_entries first) (left_level ps rest)
+                ∙ ap (λ (xs : List Entry). X ++ xs) later.apart
+                ∙ sym (append_assoc X later.front (of_key key (kept_level ps rest) ++ later.behind))
+                ∙ ap (λ (xs : List Entry). (X ++ later.front) ++ (of_key key xs ++ later.behind)) (sym same);
             together = ap (λ (b : Bool). of_key key (all_entries (flat_map (λ ts. ts) (cond b (in_key_order new (without inputs first) ∷ map (without inputs) (second ∷ deeper)) (without inputs first ∷ at_level (n - 1) (in_key_order new) (map (without inputs) (second ∷ deeper))))))) not_first
-              ∙ ap (λ (xs : List Table). of_key key (all_entries (xs ++ flat_map (λ ts. ts) (at_level (n - 1) (in_key_order new) (map (without inputs) (second ∷ deeper)))))) (idle_without first idle)
-              ∙ ap (of_key key) (flat-append first (flat_map (λ ts. ts) (at_level (n - 1) (in_key_order new) (map (without inputs) (second ∷ deeper)))))
-              ∙ of-append key (all_entries first) (all_entries (flat_map (λ ts. ts) (at_level (n - 1) (in_key_order new) (map (without inputs) (second ∷ deeper)))))
-              ∙ ap (λ (xs : List Entry). X ++ xs) later.together
-              ∙ sym (append_assoc X later.front (of_key key out ++ later.behind));
+                ∙ ap (λ (xs : List Table). of_key key (all_entries (xs ++ flat_map (λ ts. ts) (at_level (n - 1) (in_key_order new) (map (without inputs) (second ∷ deeper)))))) (idle_without first idle)
+                ∙ ap (of_key key) (flat-append first (flat_map (λ ts. ts) (at_level (n - 1) (in_key_order new) (map (without inputs) (second ∷ deeper)))))
+                ∙ of-append key (all_entries first) (all_entries (flat_map (λ ts. ts) (at_level (n - 1) (in_key_order new) (map (without inputs) (second ∷ deeper)))))
+                ∙ ap (λ (xs : List Entry). X ++ xs) later.together
+                ∙ sym (append_assoc X later.front (of_key key out ++ later.behind));
           }
 
       -- in place of the one input that stands among these tables
@@ -445,10 +445,10 @@ module _ (keep : ℕ) (I O : List Entry) (floor : ℕ) (inputs : List ℕ) where
             front = of_key key (all_entries xs);
             behind = of_key key (all_entries ys);
             apart = ap (of_key key) (left-append ps xs (t ∷ ys) ∙ ap (λ (es : List Entry). es ++ left_level qs (t ∷ ys)) (idle_left ps xs before) ∙ ap (λ (es : List Entry). all_entries xs ++ (L ++ es)) (idle_left rs ys after))
-              ∙ of-append key (all_entries xs) (L ++ all_entries ys)
-              ∙ ap (λ (es : List Entry). of_key key (all_entries xs) ++ es) (of-append key L (all_entries ys))
-              ∙ ap (λ (es : List Entry). of_key key (all_entries xs) ++ (of_key key es ++ of_key key (all_entries ys))) (sym kepts);
+                ∙ of-append key (all_entries xs) (L ++ all_entries ys)
+                ∙ ap (λ (es : List Entry). of_key key (all_entries xs) ++ es) (of-append key L (all_entries ys))
+                ∙ ap (λ (es : List Entry). of_key key (all_entries xs) ++ (of_key key es ++ of_key key (all_entries ys))) (sym kepts);
             together = ap (of_key key) (flat-append xs (new ++ ys) ∙ ap (λ (es : List Entry). all_entries xs ++ es) (flat-append new ys ∙ ap (λ (es : List Entry). es ++ all_entries ys) made))
-              ∙ of-append key (all_entries xs) (out ++ all_entries ys)
-              ∙ ap (λ (es : List Entry). of_key key (all_entries xs) ++ es) (of-append key out (all_entries ys));
+                ∙ of-append key (all_entries xs) (out ++ all_entries ys)
+                ∙ ap (λ (es : List Entry). of_key key (all_entries xs) ++ es) (of-append key out (all_entries ys));
           }

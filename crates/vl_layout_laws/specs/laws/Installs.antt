@@ -118,21 +118,21 @@ module _ (l : Layout) (job : Job) (moved : List Named) (k : IsKeptFor job moved 
 
   gathers : (key : List ℕ) (after : List Entry)
       → IsPlaced job.keep (inputs_of job.base) (outside_of job.base) job.floor job.inputs key made.tables (merged_entries job) (made_entries job made all)
-        (left_level job.keep (inputs_of job.base) (outside_of job.base) job.floor job.inputs (places [] job.base) (tables l))
-        (kept_level job.keep (inputs_of job.base) (outside_of job.base) job.floor job.inputs (places [] job.base) (tables l)) after
+      (left_level job.keep (inputs_of job.base) (outside_of job.base) job.floor job.inputs (places [] job.base) (tables l))
+      (kept_level job.keep (inputs_of job.base) (outside_of job.base) job.floor job.inputs (places [] job.base) (tables l)) after
       → Gathers key (kept_of (marks_now job (sourced l job.inputs))) (kept job) (in_memory l ++ after)
   gathers key after p = record {
     front = of_key key (in_memory l) ++ p.front;
     behind = p.behind;
     apart = ap (of_key key) front_left ∙ of-append key (in_memory l) (left_level job.keep (inputs_of job.base) (outside_of job.base) job.floor job.inputs (places [] job.base) (tables l))
-      ∙ ap (λ (es : List Entry). of_key key (in_memory l) ++ es) p.apart
-      ∙ ap (λ (es : List Entry). of_key key (in_memory l) ++ (p.front ++ (of_key key es ++ p.behind))) front_kept
-      ∙ sym (append_assoc (of_key key (in_memory l)) p.front (of_key key (kept job) ++ p.behind))
-      ∙ sym (append_assoc (of_key key (in_memory l) ++ p.front) (of_key key (kept job)) p.behind);
+        ∙ ap (λ (es : List Entry). of_key key (in_memory l) ++ es) p.apart
+        ∙ ap (λ (es : List Entry). of_key key (in_memory l) ++ (p.front ++ (of_key key es ++ p.behind))) front_kept
+        ∙ sym (append_assoc (of_key key (in_memory l)) p.front (of_key key (kept job) ++ p.behind))
+        ∙ sym (append_assoc (of_key key (in_memory l) ++ p.front) (of_key key (kept job)) p.behind);
     together = of-append key (in_memory l) after
-      ∙ ap (λ (es : List Entry). of_key key (in_memory l) ++ es) p.together
-      ∙ sym (append_assoc (of_key key (in_memory l)) p.front (of_key key (merged_entries job) ++ p.behind))
-      ∙ sym (append_assoc (of_key key (in_memory l) ++ p.front) (of_key key (merged_entries job)) p.behind);
+        ∙ ap (λ (es : List Entry). of_key key (in_memory l) ++ es) p.together
+        ∙ sym (append_assoc (of_key key (in_memory l)) p.front (of_key key (merged_entries job) ++ p.behind))
+        ∙ sym (append_assoc (of_key key (in_memory l) ++ p.front) (of_key key (merged_entries job)) p.behind);
   }
 
   -- ---- shape
@@ -172,9 +172,9 @@ module _ (l : Layout) (job : Job) (moved : List Named) (k : IsKeptFor job moved 
 
   fit_placed : (target : Target) → IsFit target → (key : List ℕ)
       → IsPlaced job.keep (inputs_of job.base) (outside_of job.base) job.floor job.inputs key made.tables (merged_entries job) (made_entries job made all)
-        (left_level job.keep (inputs_of job.base) (outside_of job.base) job.floor job.inputs (places [] job.base) (tables l))
-        (kept_level job.keep (inputs_of job.base) (outside_of job.base) job.floor job.inputs (places [] job.base) (tables l))
-        (all_entries (flat_map (λ ts. ts) (replaced target job.inputs made.tables l.levels)))
+      (left_level job.keep (inputs_of job.base) (outside_of job.base) job.floor job.inputs (places [] job.base) (tables l))
+      (kept_level job.keep (inputs_of job.base) (outside_of job.base) job.floor job.inputs (places [] job.base) (tables l))
+      (all_entries (flat_map (λ ts. ts) (replaced target job.inputs made.tables l.levels)))
   fit_placed (Level n) fit key =
       levels_placed job.keep (inputs_of job.base) (outside_of job.base) job.floor job.inputs key made.tables (merged_entries job) (made_entries job made all) n l.levels (places [] job.base) (fit key) (gone_in_order key)
   fit_placed InPlace fit key =

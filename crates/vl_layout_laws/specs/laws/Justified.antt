@@ -246,7 +246,7 @@ module _ (keep : ℕ) (inputs outside now : List Entry) (floor : ℕ) (moved : L
       → AllZip IsStillBehind ps (place_if b e newer qs)
       → AllByRecursion (IsFree keep inputs outside floor moved) ps
       → IsJustified keep inputs now floor newer (head_mark keep inputs outside floor b ps e)
-        × (AllZip IsStillBehind (rest_places b ps) qs × AllByRecursion (IsFree keep inputs outside floor moved) (rest_places b ps))
+      × (AllZip IsStillBehind (rest_places b ps) qs × AllByRecursion (IsFree keep inputs outside floor moved) (rest_places b ps))
   justified_one false ps e newer qs zip free = (
     record { drops = λ dropped. absurd (true_false dropped); keeps = λ kept_now input. absurd (true_false (sym input)) },
     (zip, free),
@@ -266,9 +266,11 @@ module _ (keep : ℕ) (inputs outside now : List Entry) (floor : ℕ) (moved : L
       → AreJustified keep inputs now floor newer (marked_by keep inputs outside floor ps ss)
   justified_from newer ps [] zip free = tt
   justified_from newer ps (s ∷ ss) zip free =
-      let one = justified_one s.0 ps s.1 newer (places (s.1 ∷ newer) ss) zip free in
-      (one.0, subst (λ (e : Entry). AreJustified keep inputs now floor (e ∷ newer) (marked_by keep inputs outside floor (rest_places s.0 ps) ss)) (sym (mark_entry keep inputs outside floor s.0 ps s.1))
-      (justified_from (s.1 ∷ newer) (rest_places s.0 ps) ss one.1.0 one.1.1))
+      let one = justified_one s.0 ps s.1 newer (places (s.1 ∷ newer) ss) zip free in (
+        one.0,
+        subst (λ (e : Entry). AreJustified keep inputs now floor (e ∷ newer) (marked_by keep inputs outside floor (rest_places s.0 ps) ss)) (sym (mark_entry keep inputs outside floor s.0 ps s.1))
+            (justified_from (s.1 ∷ newer) (rest_places s.0 ps) ss one.1.0 one.1.1),
+      )
 
 -- Where nothing raced, what a kept job leaves of the sources shows what they show.
 pub marks_shown : (logs : Logs) (job : Job) (moved : List Named) (now : List Sourced) (h : History) (from : List ℕ → ℕ) (to : ℕ)

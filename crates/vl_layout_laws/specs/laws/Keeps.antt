@@ -99,9 +99,9 @@ still_then [] (q ∷ qs) rs a b = absurd a
 still_then (p ∷ ps) [] rs a b = absurd a
 still_then (p ∷ ps) (q ∷ qs) [] a b = absurd b
 still_then (p ∷ ps) (q ∷ qs) (r ∷ rs) a b = (
-    record { same = b.0.same ∙ a.0.same; covers = λ key version there. b.0.covers key version (a.0.covers key version there) },
-    still_then ps qs rs a.1 b.1,
-  )
+  record { same = b.0.same ∙ a.0.same; covers = λ key version there. b.0.covers key version (a.0.covers key version there) },
+  still_then ps qs rs a.1 b.1,
+)
 
 pub all_weaker : (P Q : Entry → Type 0) → ((e : Entry) → P e → Q e) → (es : List Entry)
     → AllByRecursion P es → AllByRecursion Q es
@@ -126,12 +126,12 @@ module _ (job : Job) (moved moved' : List Named) (es fs : List Entry) (ts : List
       let parts = all_parts (IsAccounted (outside_of job.base) job.floor moved) es (outside_of ts) before in
       record {
         inputs = subst (AllZip IsStillBehind (places [] job.base)) (sym (places-front [] fs ts))
-          (still_then (places [] job.base) (places (behind [] es) ts) (places (behind [] fs) ts)
-          (subst (AllZip IsStillBehind (places [] job.base)) (places-front [] es ts) k.inputs)
-          (still_more (behind [] es) (behind [] fs) (covers-behind es fs covers) ts));
+            (still_then (places [] job.base) (places (behind [] es) ts) (places (behind [] fs) ts)
+            (subst (AllZip IsStillBehind (places [] job.base)) (places-front [] es ts) k.inputs)
+            (still_more (behind [] es) (behind [] fs) (covers-behind es fs covers) ts));
         outside = subst (AllByRecursion (IsAccounted (outside_of job.base) job.floor moved')) (sym (outside-front fs ts))
-          (all_both (IsAccounted (outside_of job.base) job.floor moved') fs (outside_of ts) (front parts.0)
-          (all_weaker (IsAccounted (outside_of job.base) job.floor moved) (IsAccounted (outside_of job.base) job.floor moved') weaker (outside_of ts) parts.1));
+            (all_both (IsAccounted (outside_of job.base) job.floor moved') fs (outside_of ts) (front parts.0)
+            (all_weaker (IsAccounted (outside_of job.base) job.floor moved) (IsAccounted (outside_of job.base) job.floor moved') weaker (outside_of ts) parts.1));
       }
 
 -- ---- a frame more
@@ -235,9 +235,9 @@ module _ (outside : List Entry) (floor : ℕ) (segment number : ℕ) (moved : Li
   moved_accounted place (m ∷ ms) = (
     inr (inr (find-first m.key number (moves_at number ms ++ moved))),
     all_weaker (IsAccounted outside floor (moves_at number ms ++ moved)) (IsAccounted outside floor (moves_at number (m ∷ ms) ++ moved))
-      (λ e a. one_more_noted (m.key, number) (moves_at number ms) e a)
-      (map (record_entry segment) (relocated_records (place + moved_length m) ms))
-      (moved_accounted (place + moved_length m) ms),
+        (λ e a. one_more_noted (m.key, number) (moves_at number ms) e a)
+        (map (record_entry segment) (relocated_records (place + moved_length m) ms))
+        (moved_accounted (place + moved_length m) ms),
   )
 
 pub kept_relocated : (l : Layout) (records : List Moved) (job : Job) (moved : List Named)

@@ -50,9 +50,9 @@ apart_append : (new : List Table) (t : Table) (ts : List Table) → IsApart new 
     → AllByRecursion (λ (u : Table). Lt u.last t.first) new → IsApart (new ++ t ∷ ts)
 apart_append [] t ts a b wide before = b
 apart_append (w ∷ ws) t ts a b wide before = (
-    all_both (λ (u : Table). Lt w.last u.first) ws (t ∷ ts) a.0
+  all_both (λ (u : Table). Lt w.last u.first) ws (t ∷ ts) a.0
       (before.0, all_weaker (λ (u : Table). Lt t.last u.first) (λ (u : Table). Lt w.last u.first) (λ u less. lt_le_then w.last t.first u.first before.0 (le_then t.first t.last u.first wide (lt_le t.last u.first less))) ts b.0),
-    apart_append ws t ts a.1 b wide before.1,
+  apart_append ws t ts a.1 b wide before.1,
 )
 
 pub key_order_apart : (new ts : List Table) → IsApart new → IsApart ts → AllByRecursion IsWide new → AllByRecursion IsWide ts

@@ -130,7 +130,7 @@ module _ (segment last : ℕ) (es : List Entry) where
 
   any_moved : (key : List ℕ) (version : ℕ) (batch : List Candidate)
       → AllByRecursion (λ (c : Candidate). is_moved es segment last c ≡ true → (eq_by_cmp key_cmp key c.moved.key && (c.moved.version == version)) ≡ true
-        → list_any (λ (m : Moved). eq_by_cmp key_cmp key m.key && (m.version == version)) (moved_of es segment last batch) ≡ true) batch
+      → list_any (λ (m : Moved). eq_by_cmp key_cmp key m.key && (m.version == version)) (moved_of es segment last batch) ≡ true) batch
   any_moved key version [] = tt
   any_moved key version (c ∷ cs) = (first, later cs (any_moved key version cs))
     where
@@ -156,9 +156,9 @@ module _ (segment last : ℕ) (es : List Entry) where
 
       later : (xs : List Candidate)
           → AllByRecursion (λ (x : Candidate). is_moved es segment last x ≡ true → (eq_by_cmp key_cmp key x.moved.key && (x.moved.version == version)) ≡ true
-            → list_any (λ (m : Moved). eq_by_cmp key_cmp key m.key && (m.version == version)) (moved_of es segment last cs) ≡ true) xs
+          → list_any (λ (m : Moved). eq_by_cmp key_cmp key m.key && (m.version == version)) (moved_of es segment last cs) ≡ true) xs
           → AllByRecursion (λ (x : Candidate). is_moved es segment last x ≡ true → (eq_by_cmp key_cmp key x.moved.key && (x.moved.version == version)) ≡ true
-            → list_any (λ (m : Moved). eq_by_cmp key_cmp key m.key && (m.version == version)) (moved_of es segment last (c ∷ cs)) ≡ true) xs
+          → list_any (λ (m : Moved). eq_by_cmp key_cmp key m.key && (m.version == version)) (moved_of es segment last (c ∷ cs)) ≡ true) xs
       later [] all = tt
       later (x ∷ xs) all = ((λ moves at. more (all.0 moves at)), later xs all.1)
 
@@ -197,12 +197,12 @@ module _ (segment last : ℕ) (l : Layout) (batch : List Candidate) where
     where
       each : (xs : List Candidate) → AllByRecursion (λ (c : Candidate). c.moved.version ≤ last) xs
           → ((key : List ℕ) (version : ℕ) → AllByRecursion (λ (c : Candidate). is_moved (sources l) segment last c ≡ true → (eq_by_cmp key_cmp key c.moved.key && (c.moved.version == version)) ≡ true
-            → list_any (λ (m : Moved). eq_by_cmp key_cmp key m.key && (m.version == version)) (moved_of (sources l) segment last batch) ≡ true) xs)
+          → list_any (λ (m : Moved). eq_by_cmp key_cmp key m.key && (m.version == version)) (moved_of (sources l) segment last batch) ≡ true) xs)
           → AllByRecursion (IsSettled segment (sources (relocated l (moved_of (sources l) segment last batch)))) xs
       each [] low any = tt
       each (c ∷ cs) low any = (
-          one_settled c (λ moves. (any c.moved.key c.moved.version).0 moves (tied c.moved.key c.moved.version)) low.0,
-          each cs low.1 (λ key version. (any key version).1),
+        one_settled c (λ moves. (any c.moved.key c.moved.version).0 moves (tied c.moved.key c.moved.version)) low.0,
+        each cs low.1 (λ key version. (any key version).1),
       )
 
 -- ---- what a pass gives
@@ -231,15 +231,15 @@ taken_parts base segment count bytes (r ∷ rs) =
         → (taken_from base segment count bytes (r ∷ rs)).0 ++ found_all base segment (taken_from base segment count bytes (r ∷ rs)).1 ≡ found_all base segment (r ∷ rs)
     by found (inl none) is passed with_it =
         subst (λ (f : List Candidate). (batch_with (has_room count bytes (value_lengths f)) f (taken_from base segment count bytes rs) (taken_from base segment (count + 1) (bytes + value_lengths f) rs) ([], r ∷ rs)).0
-          ++ found_all base segment (batch_with (has_room count bytes (value_lengths f)) f (taken_from base segment count bytes rs) (taken_from base segment (count + 1) (bytes + value_lengths f) rs) ([], r ∷ rs)).1 ≡ f ++ found_all base segment rs) (sym none) passed
+        ++ found_all base segment (batch_with (has_room count bytes (value_lengths f)) f (taken_from base segment count bytes rs) (taken_from base segment (count + 1) (bytes + value_lengths f) rs) ([], r ∷ rs)).1 ≡ f ++ found_all base segment rs) (sym none) passed
     by found (inr one) is passed with_it =
         subst (λ (f : List Candidate). (batch_with (has_room count bytes (value_lengths f)) f (taken_from base segment count bytes rs) (taken_from base segment (count + 1) (bytes + value_lengths f) rs) ([], r ∷ rs)).0
-          ++ found_all base segment (batch_with (has_room count bytes (value_lengths f)) f (taken_from base segment count bytes rs) (taken_from base segment (count + 1) (bytes + value_lengths f) rs) ([], r ∷ rs)).1 ≡ f ++ found_all base segment rs) (sym one.1)
+        ++ found_all base segment (batch_with (has_room count bytes (value_lengths f)) f (taken_from base segment count bytes rs) (taken_from base segment (count + 1) (bytes + value_lengths f) rs) ([], r ∷ rs)).1 ≡ f ++ found_all base segment rs) (sym one.1)
         (by_room (has_room count bytes (value_lengths (one.0 ∷ []))))
       where
         by_room : (b : Bool)
             → (batch_with b (one.0 ∷ []) (taken_from base segment count bytes rs) (taken_from base segment (count + 1) (bytes + value_lengths (one.0 ∷ [])) rs) ([], r ∷ rs)).0
-              ++ found_all base segment (batch_with b (one.0 ∷ []) (taken_from base segment count bytes rs) (taken_from base segment (count + 1) (bytes + value_lengths (one.0 ∷ [])) rs) ([], r ∷ rs)).1 ≡ (one.0 ∷ []) ++ found_all base segment rs
+            ++ found_all base segment (batch_with b (one.0 ∷ []) (taken_from base segment count bytes rs) (taken_from base segment (count + 1) (bytes + value_lengths (one.0 ∷ [])) rs) ([], r ∷ rs)).1 ≡ (one.0 ∷ []) ++ found_all base segment rs
         by_room true = ap (λ (xs : List Candidate). one.0 ∷ xs) (with_it (value_lengths (one.0 ∷ [])))
         by_room false = ap (λ (f : List Candidate). f ++ found_all base segment rs) one.1
 

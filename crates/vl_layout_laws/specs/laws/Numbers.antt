@@ -207,4 +207,3 @@ module _ (l : Layout) (h : History) where
 
   pub keep_rises : (v : ℕ) → Rises l (keep_ruling l h v)
   keep_rises v = keep_unless-rises v l.halted
-

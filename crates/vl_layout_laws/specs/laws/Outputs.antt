@@ -152,11 +152,12 @@ from_well table key closed open_bytes (e ∷ es) some sorted below above rest =
     either (not (eq_by_cmp key_cmp key e.key) && nat_le full_table_bytes (closed + around open_bytes)) (table ∷ later) (if nat_le (open_bytes + entry_length e) max_block_bytes then grown else next)
     (λ closes.
     let apart : eq_by_cmp key_cmp key e.key ≡ false = not_true (eq_by_cmp key_cmp key e.key) (and_parts (not (eq_by_cmp key_cmp key e.key)) (nat_le full_table_bytes (closed + around open_bytes)) closes).0 in
-    let step : Lt key e.key = le_apart key e.key above.0 apart in
-    (subst (λ (fs : List Entry). AllByRecursion (λ (x : Entry). AllByRecursion (λ (f : Entry). Lt x.key f.key) fs) table) (sym (cut-whole (e ∷ es)))
-    (all_weaker (λ (x : Entry). Le x.key key) (λ (x : Entry). AllByRecursion (λ (f : Entry). Lt x.key f.key) (e ∷ es))
-    (λ x le. (le_lt x.key key e.key le step, all_weaker (λ (f : Entry). Le e.key f.key) (λ (f : Entry). Lt x.key f.key) (λ f up. lt_le_then x.key e.key f.key (le_lt x.key key e.key le step) up) es rest.0)) table below),
-    (some, (sorted, begun))))
+    let step : Lt key e.key = le_apart key e.key above.0 apart in (
+      subst (λ (fs : List Entry). AllByRecursion (λ (x : Entry). AllByRecursion (λ (f : Entry). Lt x.key f.key) fs) table) (sym (cut-whole (e ∷ es)))
+          (all_weaker (λ (x : Entry). Le x.key key) (λ (x : Entry). AllByRecursion (λ (f : Entry). Lt x.key f.key) (e ∷ es))
+          (λ x le. (le_lt x.key key e.key le step, all_weaker (λ (f : Entry). Le e.key f.key) (λ (f : Entry). Lt x.key f.key) (λ f up. lt_le_then x.key e.key f.key (le_lt x.key key e.key le step) up) es rest.0)) table below),
+      (some, (sorted, begun)),
+    ))
     (either' (nat_le (open_bytes + entry_length e) max_block_bytes) grown next
     (from_well (table ++ e ∷ []) e.key closed (open_bytes + entry_length e) es more longer under rest.0 rest.1)
     (from_well (table ++ e ∷ []) e.key (closed + around open_bytes) (begun_length e) es more longer under rest.0 rest.1))
@@ -201,8 +202,8 @@ pub made_ranged : (numbers : List ℕ) (ess : List (List Entry)) → IsCutWell e
 made_ranged [] ess well = tt
 made_ranged (n ∷ ns) [] well = tt
 made_ranged (n ∷ ns) (es ∷ ess) well = (
-    both_all (λ (e : Entry). Le (first_key es) e.key) (λ (e : Entry). Le e.key (last_key es)) es (from_first es well.1.1.0) (up_to_last es well.1.1.0),
-    made_ranged ns ess well.1.1.1,
+  both_all (λ (e : Entry). Le (first_key es) e.key) (λ (e : Entry). Le e.key (last_key es)) es (from_first es well.1.1.0) (up_to_last es well.1.1.0),
+  made_ranged ns ess well.1.1.1,
 )
 
 all_joined : (P : List ℕ → Type 0) (numbers : List ℕ) (ess : List (List Entry)) → IsCutWell ess → AllByRecursion (λ (f : Entry). P f.key) (joined ess)
@@ -221,8 +222,8 @@ pub made_apart : (numbers : List ℕ) (ess : List (List Entry)) → IsCutWell es
 made_apart [] ess well = tt
 made_apart (n ∷ ns) [] well = tt
 made_apart (n ∷ ns) (es ∷ ess) well = (
-    all_joined (Lt (last_key es)) ns ess well.1.1.1 (of_last (λ (k : List ℕ). AllByRecursion (λ (f : Entry). Lt k f.key) (joined ess)) es well.1.0 well.0),
-    made_apart ns ess well.1.1.1,
+  all_joined (Lt (last_key es)) ns ess well.1.1.1 (of_last (λ (k : List ℕ). AllByRecursion (λ (f : Entry). Lt k f.key) (joined ess)) es well.1.0 well.0),
+  made_apart ns ess well.1.1.1,
 )
 
 -- The outputs of a job, whatever their numbers, are ranged and apart.

@@ -164,9 +164,10 @@ one_is u P (t ∷ ts) all is = ⊎_elim
 one_itself : (P : Table → Type 0) (ins : List Table) → AllByRecursion (λ (t : Table). is_among (numbers_of ins) t ≡ true) ins
 one_itself P [] = tt
 one_itself P (t ∷ ts) =
-    let here : (t.number == t.number) ≡ true = grind (arith, nat_tests) in
-    (ap (λ b. b || is_among (numbers_of ts) t) here,
-    all_weaker (λ (u : Table). is_among (numbers_of ts) u ≡ true) (λ (u : Table). is_among (numbers_of (t ∷ ts)) u ≡ true) (λ u is. or_right (t.number == u.number) (is_among (numbers_of ts) u) is) ts (one_itself P ts))
+    let here : (t.number == t.number) ≡ true = grind (arith, nat_tests) in (
+      ap (λ b. b || is_among (numbers_of ts) t) here,
+      all_weaker (λ (u : Table). is_among (numbers_of ts) u ≡ true) (λ (u : Table). is_among (numbers_of (t ∷ ts)) u ≡ true) (λ u is. or_right (t.number == u.number) (is_among (numbers_of ts) u) is) ts (one_itself P ts),
+    )
   where
     or_right : (a b : Bool) → b ≡ true → (a || b) ≡ true
     or_right true b h = refl
@@ -303,12 +304,12 @@ module _ (key : List ℕ) (keep : ℕ) (I O : List Entry) (floor : ℕ) (inputs 
           → Le range.0 key → Le key range.1 → IsClear keep I O floor inputs key vs
       each [] met ru low high = tt
       each (u ∷ vs) met ru low high = (
-          (λ out. without_by key u (λ held.
-          let keys = held_within key u.first u.last u.entries ru.0 held in
-          let one : not (is_lt (key_cmp u.last range.0)) ≡ true = ap not (le_then range.0 key u.last low keys.1) in
-          let two : not (is_lt (key_cmp range.1 u.first)) ≡ true = ap not (le_then u.first key range.1 keys.0 high) in
-          true_false (sym (met.0 (and_from (not (is_lt (key_cmp u.last range.0))) (not (is_lt (key_cmp range.1 u.first))) one two)) ∙ out))),
-          each vs met.1 ru.1 low high,
+        (λ out. without_by key u (λ held.
+            let keys = held_within key u.first u.last u.entries ru.0 held in
+            let one : not (is_lt (key_cmp u.last range.0)) ≡ true = ap not (le_then range.0 key u.last low keys.1) in
+            let two : not (is_lt (key_cmp range.1 u.first)) ≡ true = ap not (le_then u.first key range.1 keys.0 high) in
+            true_false (sym (met.0 (and_from (not (is_lt (key_cmp u.last range.0))) (not (is_lt (key_cmp range.1 u.first))) one two)) ∙ out))),
+        each vs met.1 ru.1 low high,
       )
 
 -- ---- the inputs of a level
@@ -347,9 +348,10 @@ in_range (t ∷ ts) range is = by (range_of ts) refl is (λ r rest. in_range ts 
         → ((r : Range) → range_of ts ≡ Some r → AllByRecursion (λ (u : Table). Le r.0 u.first × Le u.last r.1) ts)
         → (Le range.0 t.first × Le t.last range.1) × AllByRecursion (λ (u : Table). Le range.0 u.first × Le u.last range.1) ts
     by None rest is later =
-        let same : (t.first, t.last) ≡ range = the_one (t.first, t.last) range (sym (ap (widened t) rest) ∙ is) in
-        (subst (λ (r : Range). Le r.0 t.first × Le t.last r.1) same (ap is_lt (key_tied t.first), ap is_lt (key_tied t.last)),
-        none ts rest)
+        let same : (t.first, t.last) ≡ range = the_one (t.first, t.last) range (sym (ap (widened t) rest) ∙ is) in (
+          subst (λ (r : Range). Le r.0 t.first × Le t.last r.1) same (ap is_lt (key_tied t.first), ap is_lt (key_tied t.last)),
+          none ts rest,
+        )
       where
         the_one : (a b : Range) → Some a ≡ Some b → a ≡ b
         the_one a b e = cc
@@ -363,10 +365,11 @@ in_range (t ∷ ts) range is = by (range_of ts) refl is (λ r rest. in_range ts 
             some v (Some r) e = cc
     by (Some r) rest is later =
         let same : (lesser_key t.first r.0, greater_key t.last r.1) ≡ range = the_one (lesser_key t.first r.0, greater_key t.last r.1) range (sym (ap (widened t) rest) ∙ is) in
-        subst (λ (w : Range). (Le w.0 t.first × Le t.last w.1) × AllByRecursion (λ (u : Table). Le w.0 u.first × Le u.last w.1) ts) same
-        ((lesser_left t.first r.0, greater_left t.last r.1),
-        all_weaker (λ (u : Table). Le r.0 u.first × Le u.last r.1) (λ (u : Table). Le (lesser_key t.first r.0) u.first × Le u.last (greater_key t.last r.1))
-        (λ u is. (le_then (lesser_key t.first r.0) r.0 u.first (lesser_right t.first r.0) is.0, le_then u.last r.1 (greater_key t.last r.1) is.1 (greater_right t.last r.1))) ts (later r rest))
+        subst (λ (w : Range). (Le w.0 t.first × Le t.last w.1) × AllByRecursion (λ (u : Table). Le w.0 u.first × Le u.last w.1) ts) same (
+          (lesser_left t.first r.0, greater_left t.last r.1),
+          all_weaker (λ (u : Table). Le r.0 u.first × Le u.last r.1) (λ (u : Table). Le (lesser_key t.first r.0) u.first × Le u.last (greater_key t.last r.1))
+              (λ u is. (le_then (lesser_key t.first r.0) r.0 u.first (lesser_right t.first r.0) is.0, le_then u.last r.1 (greater_key t.last r.1) is.1 (greater_right t.last r.1))) ts (later r rest),
+        )
       where
         the_one : (a b : Range) → Some a ≡ Some b → a ≡ b
         the_one a b e = cc
@@ -374,8 +377,8 @@ in_range (t ∷ ts) range is = by (range_of ts) refl is (λ r rest. in_range ts 
 pub only_one : (ts : List Table) → IsDistinct ts → AllByRecursion (λ (t : Table). AllByRecursion (λ (x : Table). x.number ≡ t.number → x ≡ t) ts) ts
 only_one [] d = tt
 only_one (t ∷ ts) d = (
-    ((λ same. refl), all_weaker (λ (x : Table). x.number ≢ t.number) (λ (x : Table). x.number ≡ t.number → x ≡ t) (λ x apart same. absurd (apart same)) ts d.0),
-    with_head ts d.0 (only_one ts d.1),
+  ((λ same. refl), all_weaker (λ (x : Table). x.number ≢ t.number) (λ (x : Table). x.number ≡ t.number → x ≡ t) (λ x apart same. absurd (apart same)) ts d.0),
+  with_head ts d.0 (only_one ts d.1),
 )
   where
     with_head : (us : List Table) → AllByRecursion (λ (u : Table). u.number ≢ t.number) us
@@ -425,13 +428,13 @@ module _ (n : ℕ) (A B : List Table) (distinct_A : IsDistinct A) (other : AreOt
           → AllByRecursion (λ (t : Table). is_among (numbers_of (with_next (due_inputs n A) B)) t ≡ true → Le range.0 t.first × Le t.last range.1) ts
       each [] off one = tt
       each (t ∷ ts) off one = (
-          (λ input.
-          let W : Table → Type 0 = λ x. x.number ≡ t.number → Le range.0 t.first × Le t.last range.1 in
-          let from_given : AllByRecursion W (due_inputs n A) = two (due_inputs n A) (in_range (due_inputs n A) range is) (all_given (λ (x : Table). x.number ≡ t.number → x ≡ t) n A one.0) in
-          let from_next : AllByRecursion W (filter (meets (range_of (due_inputs n A))) B) = all_weaker (λ (y : Table). y.number ≢ t.number) W (λ y apart same. absurd (apart same)) (filter (meets (range_of (due_inputs n A))) B) (all_filtered (λ (y : Table). y.number ≢ t.number) (meets (range_of (due_inputs n A))) B off.0) in
-          let found = one_is t W (with_next (due_inputs n A) B) (all_both W (due_inputs n A) (filter (meets (range_of (due_inputs n A))) B) from_given from_next) input in
-          found.2 found.1),
-          each ts off.1 one.1,
+        (λ input.
+            let W : Table → Type 0 = λ x. x.number ≡ t.number → Le range.0 t.first × Le t.last range.1 in
+            let from_given : AllByRecursion W (due_inputs n A) = two (due_inputs n A) (in_range (due_inputs n A) range is) (all_given (λ (x : Table). x.number ≡ t.number → x ≡ t) n A one.0) in
+            let from_next : AllByRecursion W (filter (meets (range_of (due_inputs n A))) B) = all_weaker (λ (y : Table). y.number ≢ t.number) W (λ y apart same. absurd (apart same)) (filter (meets (range_of (due_inputs n A))) B) (all_filtered (λ (y : Table). y.number ≢ t.number) (meets (range_of (due_inputs n A))) B off.0) in
+            let found = one_is t W (with_next (due_inputs n A) B) (all_both W (due_inputs n A) (filter (meets (range_of (due_inputs n A))) B) from_given from_next) input in
+            found.2 found.1),
+        each ts off.1 one.1,
       )
         where
           two : (xs : List Table) → AllByRecursion (λ (x : Table). Le range.0 x.first × Le x.last range.1) xs → AllByRecursion (λ (x : Table). x.number ≡ t.number → x ≡ t) xs
@@ -470,24 +473,24 @@ module _ (n : ℕ) (A B : List Table) (distinct_A : IsDistinct A) (other : AreOt
 
     second_apart : (o : Option Range) → range_of (due_inputs n A) ≡ o
         → (IsUntouched keep I O floor (numbers_of (with_next (due_inputs n A) B)) key A × IsUntouched keep I O floor (numbers_of (with_next (due_inputs n A) B)) key B)
-          ⊎ IsClear keep I O floor (numbers_of (with_next (due_inputs n A) B)) key B
+        ⊎ IsClear keep I O floor (numbers_of (with_next (due_inputs n A) B)) key B
     second_apart None is = let empty = none_given is in inl (none_untouched A empty, none_untouched B empty)
     second_apart (Some range) is = by_first (list_any (λ (t : Table). is_among (numbers_of (with_next (due_inputs n A) B)) t && holds key t) A) refl
       where
         by_second : (b : Bool) → list_any (λ (t : Table). is_among (numbers_of (with_next (due_inputs n A) B)) t && holds key t) B ≡ b
             → IsUntouched keep I O floor (numbers_of (with_next (due_inputs n A) B)) key A
             → (IsUntouched keep I O floor (numbers_of (with_next (due_inputs n A) B)) key A × IsUntouched keep I O floor (numbers_of (with_next (due_inputs n A) B)) key B)
-              ⊎ IsClear keep I O floor (numbers_of (with_next (due_inputs n A) B)) key B
+            ⊎ IsClear keep I O floor (numbers_of (with_next (due_inputs n A) B)) key B
         by_second true is out = inr (input_clear key keep I O floor (numbers_of (with_next (due_inputs n A) B)) B apart_B ranged_B is)
         by_second false is out = inl (out, untouched_by key keep I O floor (numbers_of (with_next (due_inputs n A) B)) B is)
 
         by_first : (b : Bool) → list_any (λ (t : Table). is_among (numbers_of (with_next (due_inputs n A) B)) t && holds key t) A ≡ b
             → (IsUntouched keep I O floor (numbers_of (with_next (due_inputs n A) B)) key A × IsUntouched keep I O floor (numbers_of (with_next (due_inputs n A) B)) key B)
-              ⊎ IsClear keep I O floor (numbers_of (with_next (due_inputs n A) B)) key B
+            ⊎ IsClear keep I O floor (numbers_of (with_next (due_inputs n A) B)) key B
         by_first true there = inr (range_clear key keep I O floor (numbers_of (with_next (due_inputs n A) B)) range A B
             (all_weaker (λ (t : Table). is_among (numbers_of (with_next (due_inputs n A) B)) t ≡ true → Le range.0 t.first × Le t.last range.1)
-              (λ (t : Table). is_among (numbers_of (with_next (due_inputs n A) B)) t ≡ true → IsWithin key keep I O floor (numbers_of (with_next (due_inputs n A) B)) range t)
-              (λ t w input. let both = w input in record { first = both.0; last = both.1 }) A (within range is))
+            (λ (t : Table). is_among (numbers_of (with_next (due_inputs n A) B)) t ≡ true → IsWithin key keep I O floor (numbers_of (with_next (due_inputs n A) B)) range t)
+            (λ t w input. let both = w input in record { first = both.0; last = both.1 }) A (within range is))
             ranged_A
             (subst (λ (o : Option Range). AllByRecursion (λ (u : Table). meets o u ≡ true → is_among (numbers_of (with_next (due_inputs n A) B)) u ≡ true) B) is met)
             ranged_B there)
@@ -637,9 +640,13 @@ pub drain_fitted : (l : Layout) (h : History) (segment : ℕ) (t : Table) → Is
 drain_fitted l h segment t distinct is =
     let s = split_first segment (tables l) t is in
     let d = distinct_parts s.0 (t ∷ s.1) (subst IsDistinct s.2 distinct) in
-    let here : (t.number == t.number) ≡ true = grind (arith, nat_tests) in
-    (s.0, t, s.1, s.2,
-    (before s.0 d.1.1, (ap (λ b. b || false) here, after s.1 d.1.0.0)))
+    let here : (t.number == t.number) ≡ true = grind (arith, nat_tests) in (
+      s.0,
+      t,
+      s.1,
+      s.2,
+      (before s.0 d.1.1, (ap (λ b. b || false) here, after s.1 d.1.0.0)),
+    )
   where
     before : (us : List Table) → AllByRecursion (λ (x : Table). AllByRecursion (λ (y : Table). y.number ≢ x.number) (t ∷ (split_first segment (tables l) t is).1)) us
         → AllByRecursion (λ (u : Table). is_among (t.number ∷ []) u ≡ false) us

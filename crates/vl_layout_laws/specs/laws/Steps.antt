@@ -69,10 +69,10 @@ module _ (l : Layout) (s : IsStocked l) where
     unneeded = s.unneeded;
     retired_drawn = s.retired_drawn;
     pinned = together (map (λ (x : Live). x.pin) (begun l ticket number).live) (job_pin l.job) (pass_pin l.pass)
-      (all_mapped (IsPinned l.version_number l.retired) (λ (x : Live). x.pin) (begun l ticket number).live
-      (all-put_by (λ (x : Live). x.ticket) (λ (x : Live). IsPinned l.version_number l.retired x.pin) (record { ticket = ticket; number = number; pin = pin_of l }) l.live (own_pin l s)
-      (all_unmapped (IsPinned l.version_number l.retired) (λ (x : Live). x.pin) l.live parts.0.0)))
-      parts.0.1 parts.1;
+        (all_mapped (IsPinned l.version_number l.retired) (λ (x : Live). x.pin) (begun l ticket number).live
+        (all-put_by (λ (x : Live). x.ticket) (λ (x : Live). IsPinned l.version_number l.retired x.pin) (record { ticket = ticket; number = number; pin = pin_of l }) l.live (own_pin l s)
+        (all_unmapped (IsPinned l.version_number l.retired) (λ (x : Live). x.pin) l.live parts.0.0)))
+        parts.0.1 parts.1;
     tables_drawn = s.tables_drawn;
     logs_drawn = s.logs_drawn;
     flushed_drawn = s.flushed_drawn;
@@ -85,10 +85,10 @@ module _ (l : Layout) (s : IsStocked l) where
     unneeded = s.unneeded;
     retired_drawn = s.retired_drawn;
     pinned = together (map (λ (x : Live). x.pin) (filter (λ (x : Live). not (x.ticket == ticket)) l.live)) (job_pin l.job) (pass_pin l.pass)
-      (all_mapped (IsPinned l.version_number l.retired) (λ (x : Live). x.pin) (filter (λ (x : Live). not (x.ticket == ticket)) l.live)
-      (all_filtered (λ (x : Live). IsPinned l.version_number l.retired x.pin) (λ (x : Live). not (x.ticket == ticket)) l.live
-      (all_unmapped (IsPinned l.version_number l.retired) (λ (x : Live). x.pin) l.live parts.0.0)))
-      parts.0.1 parts.1;
+        (all_mapped (IsPinned l.version_number l.retired) (λ (x : Live). x.pin) (filter (λ (x : Live). not (x.ticket == ticket)) l.live)
+        (all_filtered (λ (x : Live). IsPinned l.version_number l.retired x.pin) (λ (x : Live). not (x.ticket == ticket)) l.live
+        (all_unmapped (IsPinned l.version_number l.retired) (λ (x : Live). x.pin) l.live parts.0.0)))
+        parts.0.1 parts.1;
     tables_drawn = s.tables_drawn;
     logs_drawn = s.logs_drawn;
     flushed_drawn = s.flushed_drawn;
@@ -167,7 +167,7 @@ module _ (l : Layout) (s : IsStocked l) where
       (λ p is. record {
         old = let less = is.old in omega (arith, less);
         off = all_both (IsOff p) l.retired fresh is.off
-          (all_weaker (λ (r : Retired). r.version_number ≡ l.version_number + 1) (IsOff p) (λ r here. let less = is.old in inl (omega (arith, less, here))) fresh at);
+            (all_weaker (λ (r : Retired). r.version_number ≡ l.version_number + 1) (IsOff p) (λ r here. let less = is.old in inl (omega (arith, less, here))) fresh at);
       })
       ps all
 
@@ -184,7 +184,7 @@ stocked_relocated l s records = record {
   unneeded = s.unneeded;
   retired_drawn = s.retired_drawn;
   pinned = subst (λ (ps : List Pin). AllByRecursion (IsPinned (l.version_number + 1) l.retired) ((map (λ (x : Live). x.pin) l.live ++ ps) ++ pass_pin l.pass)) (sym (noted_pin (l.version_number + 1) records l.job))
-    (subst (λ (rs : List Retired). AllByRecursion (IsPinned (l.version_number + 1) rs) (pins l)) (nothing_more l.retired) (later_pins l s [] tt (pins l) s.pinned));
+      (subst (λ (rs : List Retired). AllByRecursion (IsPinned (l.version_number + 1) rs) (pins l)) (nothing_more l.retired) (later_pins l s [] tt (pins l) s.pinned));
   tables_drawn = s.tables_drawn;
   logs_drawn = s.logs_drawn;
   flushed_drawn = s.flushed_drawn;
@@ -205,9 +205,9 @@ pub still_unneeded : (next_log next_table : ℕ) (before now : List FileName) �
     → AllByRecursion (IsUnneeded now) rs
 still_unneeded next_log next_table before now gains [] un drawn = tt
 still_unneeded next_log next_table before now gains (r ∷ rs) un drawn = (
-    is_not (is_in r.file now) (λ there. ⊎_elim (λ (was : is_in r.file before ≡ true). true_false (sym was ∙ un.0)) (λ (new : IsDrawn next_log next_table r.file → ⊥). new drawn.0) (gains r.file there)),
-    still_unneeded next_log next_table before now gains rs un.1 drawn.1,
-  )
+  is_not (is_in r.file now) (λ there. ⊎_elim (λ (was : is_in r.file before ≡ true). true_false (sym was ∙ un.0)) (λ (new : IsDrawn next_log next_table r.file → ⊥). new drawn.0) (gains r.file there)),
+  still_unneeded next_log next_table before now gains rs un.1 drawn.1,
+)
 
 pub drawn_later : (a b c d : ℕ) → a ≤ c → b ≤ d → (f : FileName) → IsDrawn a b f → IsDrawn c d f
 drawn_later a b c d al bl (Log n) is = omega (arith, al, is)
@@ -249,10 +249,10 @@ new_log_gains next_log next_table ts ps ls f there = ⊎_elim
 pub stocked_rotated : (l : Layout) → IsStocked l → IsStocked (rotated l)
 stocked_rotated l s = record {
   unneeded = still_unneeded l.next_log l.next_table (needed l) (needed (rotated l))
-    (new_log_gains l.next_log l.next_table (map table_of (tables l)) (flat_map pointed_logs (tables l)) (map log_of (l.active ∷ l.frozen)))
-    l.retired s.unneeded s.retired_drawn;
+      (new_log_gains l.next_log l.next_table (map table_of (tables l)) (flat_map pointed_logs (tables l)) (map log_of (l.active ∷ l.frozen)))
+      l.retired s.unneeded s.retired_drawn;
   retired_drawn = all_weaker (λ (r : Retired). IsDrawn l.next_log l.next_table r.file) (λ (r : Retired). IsDrawn (l.next_log + 1) l.next_table r.file)
-    (λ r is. drawn_later l.next_log l.next_table (l.next_log + 1) l.next_table (omega arith) (omega arith) r.file is) l.retired s.retired_drawn;
+      (λ r is. drawn_later l.next_log l.next_table (l.next_log + 1) l.next_table (omega arith) (omega arith) r.file is) l.retired s.retired_drawn;
   pinned = subst (λ (rs : List Retired). AllByRecursion (IsPinned (l.version_number + 1) rs) (pins l)) (nothing_more l.retired) (later_pins l s [] tt (pins l) s.pinned);
   tables_drawn = s.tables_drawn;
   logs_drawn = (omega arith, all_weaker (λ (x : Segment). x.number < l.next_log) (λ (x : Segment). x.number < l.next_log + 1) (λ x less. omega (arith, less)) (l.active ∷ l.frozen) s.logs_drawn);
@@ -355,11 +355,11 @@ module _ (l : Layout) (s : IsStocked l) (dropped : List Table)
         unneeded = all_both (IsUnneeded (needed l)) l.retired new s.unneeded (all_weaker Q (IsUnneeded (needed l)) (λ r is. is.0) new fresh_are);
         retired_drawn = all_both (λ (r : Retired). IsDrawn l.next_log l.next_table r.file) l.retired new s.retired_drawn (all_weaker Q (λ (r : Retired). IsDrawn l.next_log l.next_table r.file) (λ r is. is.1.0) new fresh_are);
         pinned = all_weaker (λ (p : Pin). IsPinned l.version_number l.retired p × (p.version_number < l.version_number)) (IsPinned l.version_number (l.retired ++ new))
-          (λ p is. record {
-            old = is.0.old;
-            off = all_both (IsOff p) l.retired new is.0.off (all_weaker Q (IsOff p) (λ r at. let less = is.1 in let here = at.1.1 in inl (omega (arith, less, here))) new fresh_are);
-          })
-          (pins l) (both_all (IsPinned l.version_number l.retired) (λ (p : Pin). p.version_number < l.version_number) (pins l) s.pinned early);
+            (λ p is. record {
+              old = is.0.old;
+              off = all_both (IsOff p) l.retired new is.0.off (all_weaker Q (IsOff p) (λ r at. let less = is.1 in let here = at.1.1 in inl (omega (arith, less, here))) new fresh_are);
+            })
+            (pins l) (both_all (IsPinned l.version_number l.retired) (λ (p : Pin). p.version_number < l.version_number) (pins l) s.pinned early);
         tables_drawn = s.tables_drawn;
         logs_drawn = s.logs_drawn;
         flushed_drawn = all_filtered (λ (x : Segment). x.number < l.next_log) (λ (x : Segment). not (is_idle l x)) l.flushed s.flushed_drawn;

@@ -35,11 +35,13 @@ not_needed : (r : Retired) (ps : List Pin) → AllByRecursion (λ (p : Pin). IsO
     → is_held ps r ≡ false → AllByRecursion (λ (p : Pin). is_in r.file p.needs ≡ false) ps
 not_needed r [] off free = tt
 not_needed r (p ∷ ps) off free =
-    let both = or_false (nat_lt p.version_number r.version_number) (is_held ps r) free in
-    (⊎_elim
-    (λ (less : p.version_number < r.version_number). absurd (let h = both.0 in let t : nat_lt p.version_number r.version_number ≡ true = grind (arith, nat_tests) in true_false (sym t ∙ h)))
-    (λ (unneeded : is_in r.file p.needs ≡ false). unneeded)
-    off.0, not_needed r ps off.1 both.1)
+    let both = or_false (nat_lt p.version_number r.version_number) (is_held ps r) free in (
+      ⊎_elim
+          (λ (less : p.version_number < r.version_number). absurd (let h = both.0 in let t : nat_lt p.version_number r.version_number ≡ true = grind (arith, nat_tests) in true_false (sym t ∙ h)))
+          (λ (unneeded : is_in r.file p.needs ≡ false). unneeded)
+          off.0,
+      not_needed r ps off.1 both.1,
+    )
 
 not_true : (b : Bool) → not b ≡ true → b ≡ false
 not_true true h = absurd (true_false (sym h))
@@ -74,9 +76,10 @@ last_least a [] falling = (omega arith, tt)
 last_least a (s ∷ []) falling = ((let less = falling.0.0 in omega (arith, less)), (omega arith, tt))
 last_least a (s ∷ t ∷ ts) falling =
     let later = last_least s (t ∷ ts) falling.1 in
-    let same = same_last a s t ts in
-    ((let less = falling.0.0 in let first = later.0 in omega (arith, less, first, same)),
-    subst (λ (n : ℕ). AllByRecursion (λ (x : Segment). n ≤ x.number) (s ∷ t ∷ ts)) (sym same) later)
+    let same = same_last a s t ts in (
+      (let less = falling.0.0 in let first = later.0 in omega (arith, less, first, same)),
+      subst (λ (n : ℕ). AllByRecursion (λ (x : Segment). n ≤ x.number) (s ∷ t ∷ ts)) (sym same) later,
+    )
   where
     same_last : (b c x : Segment) (xs : List Segment)
         → number_or b (oldest (c ∷ x ∷ xs)) ≡ number_or c (oldest (x ∷ xs))

@@ -60,9 +60,9 @@ stocked_lent l s d =
     record {
       unneeded = all_both (IsUnneeded (needed l)) l.retired (new ∷ []) s.unneeded (not_drawn_yet l.next_log l.next_table (needed l) (needed_drawn l s d.points), tt);
       retired_drawn = all_both (λ (r : Retired). IsDrawn l.next_log (l.next_table + 1) r.file) l.retired (new ∷ [])
-        (all_weaker (λ (r : Retired). IsDrawn l.next_log l.next_table r.file) (λ (r : Retired). IsDrawn l.next_log (l.next_table + 1) r.file)
-        (λ r is. drawn_later l.next_log l.next_table l.next_log (l.next_table + 1) (omega arith) (omega arith) r.file is) l.retired s.retired_drawn)
-        (omega arith, tt);
+          (all_weaker (λ (r : Retired). IsDrawn l.next_log l.next_table r.file) (λ (r : Retired). IsDrawn l.next_log (l.next_table + 1) r.file)
+          (λ r is. drawn_later l.next_log l.next_table l.next_log (l.next_table + 1) (omega arith) (omega arith) r.file is) l.retired s.retired_drawn)
+          (omega arith, tt);
       pinned = two (pins l) s.pinned d.pins_drawn;
       tables_drawn = all_weaker (λ (t : Table). t.number < l.next_table) (λ (t : Table). t.number < l.next_table + 1) (λ t less. omega (arith, less)) (tables l) s.tables_drawn;
       logs_drawn = s.logs_drawn;
@@ -76,11 +76,11 @@ stocked_lent l s d =
         → AllByRecursion (IsPinned l.version_number (l.retired ++ retired_at 0 (TableFile l.next_table) ∷ [])) ps
     two [] a b = tt
     two (p ∷ ps) a b = (
-        record {
-          old = a.0.old;
-          off = all_both (IsOff p) l.retired (retired_at 0 (TableFile l.next_table) ∷ []) a.0.off (inr (not_drawn_yet l.next_log l.next_table p.needs b.0), tt);
-        },
-        two ps a.1 b.1,
+      record {
+        old = a.0.old;
+        off = all_both (IsOff p) l.retired (retired_at 0 (TableFile l.next_table) ∷ []) a.0.off (inr (not_drawn_yet l.next_log l.next_table p.needs b.0), tt);
+      },
+      two ps a.1 b.1,
     )
 
 -- ---- its tables are put in
@@ -101,9 +101,9 @@ still_off : (made : List Table) (before now : List FileName)
     → AllByRecursion (IsUnneeded now) rs
 still_off made before now gains [] un off = tt
 still_off made before now gains (r ∷ rs) un off = (
-    is_not (is_in r.file now) (λ there. ⊎_elim (λ (was : is_in r.file before ≡ true). true_false (sym was ∙ un.0)) (λ (new : is_in r.file (map table_of made) ≡ true). true_false (sym new ∙ off.0)) (gains r.file there)),
-    still_off made before now gains rs un.1 off.1,
-  )
+  is_not (is_in r.file now) (λ there. ⊎_elim (λ (was : is_in r.file before ≡ true). true_false (sym was ∙ un.0)) (λ (new : is_in r.file (map table_of made) ≡ true). true_false (sym new ∙ off.0)) (gains r.file there)),
+  still_off made before now gains rs un.1 off.1,
+)
 
 module _ (l : Layout) (job : Job) (made : List Table) (rest : List Retired) (k : IsStocked l)
     -- those that stay retired or lent are others than those made
@@ -221,12 +221,12 @@ module _ (l : Layout) (job : Job) (made : List Table) (rest : List Retired) (k :
         retired_drawn = rest_drawn;
         pinned = all_weaker (IsPinned l.version_number rest) (IsPinned (l.version_number + 1) rest) (λ p is. record { old = (let less = is.old in omega (arith, less)); off = is.off }) (pins (putting l job made rest)) put_free_pins;
         tables_drawn = all_replaced (λ (t : Table). t.number < l.next_table) job.inputs made given job.target l.levels
-          (all_weaker (λ (t : Table). t.number < l.next_table) (λ (t : Table). is_among job.inputs t ≡ false → t.number < l.next_table) (λ t less out. less) (tables l) k.tables_drawn);
+            (all_weaker (λ (t : Table). t.number < l.next_table) (λ (t : Table). is_among job.inputs t ≡ false → t.number < l.next_table) (λ t less out. less) (tables l) k.tables_drawn);
         logs_drawn = k.logs_drawn;
         flushed_drawn = k.flushed_drawn;
         falling = k.falling;
         footed = all_replaced IsFooted job.inputs made footed job.target l.levels
-          (all_weaker IsFooted (λ (t : Table). is_among job.inputs t ≡ false → IsFooted t) (λ t is out. is) (tables l) k.footed);
+            (all_weaker IsFooted (λ (t : Table). is_among job.inputs t ≡ false → IsFooted t) (λ t is out. is) (tables l) k.footed);
       } in
       stocked_switched (putting l job made rest) stocked (filter (is_among job.inputs) (tables l))
       (early_pins l.version_number rest (pins (putting l job made rest)) put_free_pins) put_inputs_gone

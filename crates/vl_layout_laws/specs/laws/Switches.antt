@@ -150,7 +150,7 @@ new_table_gains : (next_log next_table : ℕ) (t : Table) (ts : List Table) (a s
     → t.number ≡ next_table → t.points ≡ points_of t.entries
     → ((n : ℕ) → list_any (is_into n) t.entries ≡ true → n ≡ s.number) → oldest ss ≡ Some s
     → Gains next_log next_table ((map table_of ts ++ flat_map pointed_logs ts) ++ map log_of (a ∷ ss))
-      ((map table_of (t ∷ ts) ++ flat_map pointed_logs (t ∷ ts)) ++ map log_of (a ∷ but_oldest ss))
+    ((map table_of (t ∷ ts) ++ flat_map pointed_logs (t ∷ ts)) ++ map log_of (a ∷ but_oldest ss))
 new_table_gains next_log next_table t ts a s ss numbered are into waits f there =
     let T = map table_of ts in
     let P = flat_map pointed_logs ts in
@@ -201,10 +201,10 @@ stocked_flushed l s level deeper k waits are =
     let stocked : IsStocked (flushing l s) = record {
       unneeded = still_unneeded l.next_log l.next_table (needed l) (needed (flushing l s)) gains l.retired k.unneeded k.retired_drawn;
       retired_drawn = all_weaker (λ (r : Retired). IsDrawn l.next_log l.next_table r.file) (λ (r : Retired). IsDrawn l.next_log (l.next_table + 1) r.file)
-        (λ r is. drawn_later l.next_log l.next_table l.next_log (l.next_table + 1) (omega arith) (omega arith) r.file is) l.retired k.retired_drawn;
+          (λ r is. drawn_later l.next_log l.next_table l.next_log (l.next_table + 1) (omega arith) (omega arith) r.file is) l.retired k.retired_drawn;
       pinned = subst (λ (rs : List Retired). AllByRecursion (IsPinned (l.version_number + 1) rs) (pins l)) (nothing_more l.retired) (later_pins l k [] tt (pins l) k.pinned);
       tables_drawn = subst (AllByRecursion (λ (u : Table). u.number < l.next_table + 1)) (sym new)
-        (omega arith, all_weaker (λ (u : Table). u.number < l.next_table) (λ (u : Table). u.number < l.next_table + 1) (λ u less. omega (arith, less)) (tables l) k.tables_drawn);
+          (omega arith, all_weaker (λ (u : Table). u.number < l.next_table) (λ (u : Table). u.number < l.next_table + 1) (λ u less. omega (arith, less)) (tables l) k.tables_drawn);
       logs_drawn = (k.logs_drawn.0, all_but_oldest (λ (x : Segment). x.number < l.next_log) l.frozen k.logs_drawn.1);
       flushed_drawn = (of_oldest (λ (x : Segment). x.number < l.next_log) l.frozen s waits k.logs_drawn.1, k.flushed_drawn);
       falling = (all_but_oldest (λ (x : Segment). x.number < l.active.number) l.frozen k.falling.0, falling_but_oldest l.frozen k.falling.1);
@@ -291,7 +291,7 @@ stocked_swept l gone k = record {
   unneeded = all_filtered (IsUnneeded (needed l)) (λ (r : Retired). not (list_any (is_same r.file) gone)) l.retired k.unneeded;
   retired_drawn = all_filtered (λ (r : Retired). IsDrawn l.next_log l.next_table r.file) (λ (r : Retired). not (list_any (is_same r.file) gone)) l.retired k.retired_drawn;
   pinned = all_weaker (IsPinned l.version_number l.retired) (IsPinned l.version_number (filter (λ (r : Retired). not (list_any (is_same r.file) gone)) l.retired))
-    (λ p is. record { old = is.old; off = all_filtered (IsOff p) (λ (r : Retired). not (list_any (is_same r.file) gone)) l.retired is.off }) (pins l) k.pinned;
+      (λ p is. record { old = is.old; off = all_filtered (IsOff p) (λ (r : Retired). not (list_any (is_same r.file) gone)) l.retired is.off }) (pins l) k.pinned;
   tables_drawn = k.tables_drawn;
   logs_drawn = k.logs_drawn;
   flushed_drawn = k.flushed_drawn;

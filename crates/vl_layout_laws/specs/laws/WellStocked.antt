@@ -53,7 +53,7 @@ restocked l rs s within = record {
   unneeded = within (IsUnneeded (needed l)) s.unneeded;
   retired_drawn = within (λ (r : Retired). IsDrawn l.next_log l.next_table r.file) s.retired_drawn;
   pinned = all_weaker (IsPinned l.version_number l.retired) (IsPinned l.version_number rs)
-    (λ p is. record { old = is.old; off = within (IsOff p) is.off }) (pins l) s.pinned;
+      (λ p is. record { old = is.old; off = within (IsOff p) is.off }) (pins l) s.pinned;
   tables_drawn = s.tables_drawn;
   logs_drawn = s.logs_drawn;
   flushed_drawn = s.flushed_drawn;
@@ -208,8 +208,8 @@ module _ (l : Layout) (w : IsWellStocked l) where
       → IsWellStocked (flushed l s)
   well_flushed s level deeper waits are = record {
     stocked = restocked (flushed (with_lent l) s) (loose (lent_numbers l.job) ++ (flushed l s).retired)
-      (stocked_flushed (with_lent l) s level deeper w.stocked waits are)
-      (λ P all. subst (AllByRecursion P) (append_assoc (loose (lent_numbers l.job)) l.retired _) all);
+        (stocked_flushed (with_lent l) s level deeper w.stocked waits are)
+        (λ P all. subst (AllByRecursion P) (append_assoc (loose (lent_numbers l.job)) l.retired _) all);
     drawn = let d = drawn_flushed (with_lent l) w.stocked (up l w.drawn) s level deeper waits are in record { points = d.points; pins_drawn = d.pins_drawn };
     lent_once = w.lent_once;
     lent_apart = all_both (λ (r : Retired). IsNotLent (lent_numbers l.job) r.file) l.retired _ w.lent_apart (logs_apart (lent_numbers l.job) (l.version_number + 1) _);
@@ -220,8 +220,8 @@ module _ (l : Layout) (w : IsWellStocked l) where
   pub well_swept : (gone : List FileName) → IsWellStocked (without_files gone l)
   well_swept gone = record {
     stocked = restocked (with_lent l) (loose (lent_numbers l.job) ++ (without_files gone l).retired) w.stocked
-      (λ P all. let both = all_parts P (loose (lent_numbers l.job)) l.retired all in
-      all_both P (loose (lent_numbers l.job)) (without_files gone l).retired both.0 (all_filtered P (λ (r : Retired). not (list_any (is_same r.file) gone)) l.retired both.1));
+        (λ P all. let both = all_parts P (loose (lent_numbers l.job)) l.retired all in
+        all_both P (loose (lent_numbers l.job)) (without_files gone l).retired both.0 (all_filtered P (λ (r : Retired). not (list_any (is_same r.file) gone)) l.retired both.1));
     drawn = record { points = w.drawn.points; pins_drawn = w.drawn.pins_drawn };
     lent_once = w.lent_once;
     lent_apart = all_filtered (λ (r : Retired). IsNotLent (lent_numbers l.job) r.file) (λ (r : Retired). not (list_any (is_same r.file) gone)) l.retired w.lent_apart;
@@ -232,7 +232,7 @@ module _ (l : Layout) (w : IsWellStocked l) where
   pub well_planned : (job : Job) → IsWellStocked (with_job job l)
   well_planned job = record {
     stocked = stocked_planned (record l { retired = l.retired })
-      (restocked (with_lent l) l.retired w.stocked (λ P all. (all_parts P (loose (lent_numbers l.job)) l.retired all).1)) job;
+        (restocked (with_lent l) l.retired w.stocked (λ P all. (all_parts P (loose (lent_numbers l.job)) l.retired all).1)) job;
     drawn = let d = drawn_planned (with_lent l) w.stocked (up l w.drawn) job in record { points = d.points; pins_drawn = d.pins_drawn };
     lent_once = tt;
     lent_apart = none_lent l.retired;
@@ -297,7 +297,7 @@ module _ (l : Layout) (w : IsWellStocked l) where
       let n = l.next_table in
       record {
         stocked = rejobbed (record (lending (with_lent l)) { retired = loose (lent_numbers (lent_to n l.job)) ++ l.retired }) (lent_to n l.job) (same_pin n l.job)
-          (restocked (lending (with_lent l)) (loose (lent_numbers (lent_to n l.job)) ++ l.retired) (stocked_lent (with_lent l) w.stocked (up l w.drawn)) (one_more n l.retired l.job));
+            (restocked (lending (with_lent l)) (loose (lent_numbers (lent_to n l.job)) ++ l.retired) (stocked_lent (with_lent l) w.stocked (up l w.drawn)) (one_more n l.retired l.job));
         drawn = let d = drawn_lent (with_lent l) w.stocked (up l w.drawn) in record {
           points = d.points;
           pins_drawn = subst (λ (ps : List Pin). AllByRecursion (λ (p : Pin). AllByRecursion (IsDrawn l.next_log (n + 1)) p.needs) ((map (λ (x : Live). x.pin) l.live ++ ps) ++ pass_pin l.pass)) (sym (same_pin n l.job)) d.pins_drawn;
@@ -309,8 +309,8 @@ module _ (l : Layout) (w : IsWellStocked l) where
   pub well_job_ended : (made : Made) → AreLent (lent_numbers l.job) made → IsWellStocked (job_ended made l)
   well_job_ended made are = record {
     stocked = restocked (record (with_lent l) { job = None }) (job_ended made l).retired (stocked_freed (with_lent l) w.stocked)
-      (λ P all. let both = all_parts P (loose (lent_numbers l.job)) l.retired all in
-      all_both P l.retired (loose (numbers_of made.tables ++ made.leavings)) both.1 (of_lent P (lent_numbers l.job) (numbers_of made.tables ++ made.leavings) both.0 are.drawn));
+        (λ P all. let both = all_parts P (loose (lent_numbers l.job)) l.retired all in
+        all_both P l.retired (loose (numbers_of made.tables ++ made.leavings)) both.1 (of_lent P (lent_numbers l.job) (numbers_of made.tables ++ made.leavings) both.0 are.drawn));
     drawn = let d = drawn_freed (with_lent l) w.stocked (up l w.drawn) in record { points = d.points; pins_drawn = d.pins_drawn };
     lent_once = tt;
     lent_apart = none_lent (job_ended made l).retired;
@@ -437,16 +437,16 @@ module _ (l : Layout) (w : IsWellStocked l) where
       → IsWellStocked (installed job made l)
   well_installed job made are standing footed into below = record {
     stocked = with_gone (switched (filter (is_among job.inputs) (tables l)) (putting (with_lent l) job made.tables rest)) (gone_after l.gone (needless job)) l.keep l.since
-      (stocked_put (with_lent l) job made.tables rest w.stocked
-      (within (IsUnneeded (needed l)) w.stocked.unneeded)
-      (within (λ (r : Retired). IsDrawn l.next_log l.next_table r.file) w.stocked.retired_drawn)
-      (all_weaker (IsPinned l.version_number (loose (lent_numbers l.job) ++ l.retired)) (IsPinned l.version_number rest)
-      (λ p is. record { old = is.old; off = within (IsOff p) is.off }) (pins l) w.stocked.pinned)
-      (all_both (λ (r : Retired). is_in r.file (map table_of made.tables) ≡ false) l.retired (loose made.leavings)
-      (all_not_made l.retired w.lent_apart made.tables lent.0) (leavings_off made.tables made.leavings (distinct-later (numbers_of made.tables) made.leavings are.distinct)))
-      (given_below made.tables lent.0)
-      (all_no_input job.inputs standing made.tables lent.0)
-      footed into);
+        (stocked_put (with_lent l) job made.tables rest w.stocked
+        (within (IsUnneeded (needed l)) w.stocked.unneeded)
+        (within (λ (r : Retired). IsDrawn l.next_log l.next_table r.file) w.stocked.retired_drawn)
+        (all_weaker (IsPinned l.version_number (loose (lent_numbers l.job) ++ l.retired)) (IsPinned l.version_number rest)
+        (λ p is. record { old = is.old; off = within (IsOff p) is.off }) (pins l) w.stocked.pinned)
+        (all_both (λ (r : Retired). is_in r.file (map table_of made.tables) ≡ false) l.retired (loose made.leavings)
+        (all_not_made l.retired w.lent_apart made.tables lent.0) (leavings_off made.tables made.leavings (distinct-later (numbers_of made.tables) made.leavings are.distinct)))
+        (given_below made.tables lent.0)
+        (all_no_input job.inputs standing made.tables lent.0)
+        footed into);
     drawn = let d = drawn_put (with_lent l) w.stocked (up l w.drawn) job made.tables rest below in record { points = d.points; pins_drawn = d.pins_drawn };
     lent_once = tt;
     lent_apart = none_lent (installed job made l).retired;
