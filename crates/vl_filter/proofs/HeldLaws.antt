@@ -3,7 +3,7 @@ use Rattle.std.proofs.Common.{◌≡◌, ℕ, zero, suc, ◌+◌, ◌*◌, ◌<�
 use Rattle.std.proofs.lemmas.Bool.Decides.{nat_tests}
 use Rattle.std.specs.List.{AllByRecursion, list_any}
 use Rattle.byteorder.specs.Endian.{big_bytes}
-use Rattle.vl_frame.specs.Numbers.{one_number}
+use Rattle.vl_frame.specs.laws.NumberLaws.{one_number}
 use Rattle.vl_filter.specs.Bits.{is_set}
 use Rattle.vl_filter.specs.Filters.{are_set, has_place, has_place_below, may_hold, IsBuilt, SpellsFilter}
 use Rattle.vl_filter.specs.Places.{first_hash, second_hash, place}
