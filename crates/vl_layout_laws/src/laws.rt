@@ -17,7 +17,7 @@ ghost use Rattle.vl_layout.specs.Merging.{inputs_of};
 ghost use Rattle.vl_layout.specs.TidyLevels.{AreLevels};
 ghost use Rattle.vl_layout.specs.OpenJobs.{IsOpenWell};
 ghost use Rattle.vl_layout.specs.Ruling.{ended, logged};
-ghost use Rattle.vl_layout.specs.Shown.{AreOf, ArePlaced, IsThere, ShowsLow, ShowsRuled, low_at};
+ghost use Rattle.vl_layout.specs.Shown.{AreOf, ArePlaced, IsThere, ShowsLow};
 ghost use Rattle.vl_layout.specs.Shows.{AreUpTo};
 ghost use Rattle.vl_layout.specs.declared.file_name.FileName.{FileName};
 ghost use Rattle.vl_layout.specs.declared.job.OpenJob.{OpenJob};
@@ -143,7 +143,8 @@ pub fn an_open_job_stays_open_well()
 /// history from where it could be read before.
 pub fn an_install_shows_what_was_shown()
     ensures { (logs : Logs) (l : Layout) (h : History) (o : OpenJob) (made : Made) → l.job ≡ Some o → AreOutputs o.job made
-        → IsOpenWell l h o.job o.moved → ShowsLow logs l h → ShowsRuled logs (low_at l h) (install_ruling l h o.job made) }
+        → IsOpenWell l h o.job o.moved → ShowsLow logs l h
+        → ShowsLow logs (install_ruling l h o.job made).layout (install_ruling l h o.job made).history }
 {}
 
 /// Each key is shown from the least number at which it can be read, whatever a call answers.
