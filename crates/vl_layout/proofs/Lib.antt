@@ -1,3 +1,4 @@
 mod GarbageLaws
 mod Rows
 mod Scripts
+mod Uncovered

@@ -20,3 +20,4 @@ pub mod Stock
 pub mod Store
 pub mod Tables
 pub mod Tickets
+pub mod TidyLevels

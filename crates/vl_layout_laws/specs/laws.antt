@@ -15,6 +15,7 @@ pub mod Moves
 pub mod Numbers
 pub mod OpenJobs
 pub mod Outputs
+pub mod Pairs
 pub mod Planned
 pub mod RulingStocked
 pub mod Steps

@@ -1,5 +1,5 @@
 // Laws of what an engine keeps tidy: each is the contract of a function that does nothing.
-ghost use Rattle.std.specs.Prelude.{IsTrue, Some, ◌≡◌, ◌≤◌, ◌<◌, ◌+◌, ◌==◌, ◌++◌, ◌∷◌, ℕ, List, Option, true, length};
+ghost use Rattle.std.specs.Prelude.{IsTrue, Some, [], ◌≡◌, ◌≤◌, ◌<◌, ◌+◌, ◌==◌, ◌++◌, ◌∷◌, ℕ, List, Option, true, length};
 ghost use Rattle.std.specs.List.{AllByRecursion, filter, list_any};
 ghost use Rattle.std.specs.FinMap.{from_sorted, is_sorted};
 ghost use Rattle.vl_model.specs.Conflicts.{Named};
@@ -11,11 +11,13 @@ ghost use Rattle.vl_model.specs.declared.log_frame.Moved.{Moved};
 ghost use Rattle.vl_model.specs.declared.entry.Entry.{Entry};
 ghost use Rattle.vl_layout.specs.Garbage.{live_bytes, pointed_bytes};
 ghost use Rattle.vl_layout.specs.Jobs.{Made, AreLent, AreOutputs, lent_numbers};
-ghost use Rattle.vl_layout.specs.Levels.{is_among};
+ghost use Rattle.vl_layout.specs.Levels.{first_into, inputs_at, is_among};
 ghost use Rattle.vl_layout.specs.Logs.{LogRecord, memtable};
+ghost use Rattle.vl_layout.specs.Merging.{inputs_of};
+ghost use Rattle.vl_layout.specs.TidyLevels.{AreLevels};
 ghost use Rattle.vl_layout.specs.OpenJobs.{IsOpenWell};
 ghost use Rattle.vl_layout.specs.Ruling.{ended, logged};
-ghost use Rattle.vl_layout.specs.Shown.{ArePlaced, IsThere, ShowsLow, ShowsRuled, low_at};
+ghost use Rattle.vl_layout.specs.Shown.{AreOf, ArePlaced, IsThere, ShowsLow};
 ghost use Rattle.vl_layout.specs.Shows.{AreUpTo};
 ghost use Rattle.vl_layout.specs.declared.file_name.FileName.{FileName};
 ghost use Rattle.vl_layout.specs.declared.job.OpenJob.{OpenJob};
@@ -31,13 +33,13 @@ ghost use Rattle.vl_layout.specs.Rulings.Fresh.{Drawn, drawn, fresh_ruling};
 ghost use Rattle.vl_layout.specs.Rulings.Install.{install_ruling, installed};
 ghost use Rattle.vl_layout.specs.Rulings.Keep.{keep_ruling, keeping};
 ghost use Rattle.vl_layout.specs.Rulings.Pick.{pick_ruling, with_pass};
-ghost use Rattle.vl_layout.specs.Rulings.Plan.{plan_ruling};
+ghost use Rattle.vl_layout.specs.Rulings.Plan.{job_of, plan_ruling, sourced};
 ghost use Rattle.vl_layout.specs.Rulings.Release.{release_ruling};
 ghost use Rattle.vl_layout.specs.Rulings.Relocate.{moves_at, relocate_ruling, relocated};
 ghost use Rattle.vl_layout.specs.Rulings.Rotate.{rotate_ruling, rotated};
 ghost use Rattle.vl_layout.specs.Rulings.Sweep.{swept, sweep_ruling, sweep_to_ruling, without_files};
 ghost use Rattle.vl_layout.specs.Rulings.View.{View};
-ghost use Rattle.vl_layout.specs.Sources.{oldest, sources, tables};
+ghost use Rattle.vl_layout.specs.Sources.{numbers_of, oldest, sources, tables};
 ghost use Rattle.vl_layout.specs.Stock.{HaveRisen, IsFooted, IsLoose, IsWellStocked, PointsDrawn, leads};
 ghost use Rattle.vl_layout.specs.declared.job.Job.{Job};
 ghost use Rattle.vl_layout.specs.declared.job.Target.TheVariants.{Level, InPlace};
@@ -141,7 +143,8 @@ pub fn an_open_job_stays_open_well()
 /// history from where it could be read before.
 pub fn an_install_shows_what_was_shown()
     ensures { (logs : Logs) (l : Layout) (h : History) (o : OpenJob) (made : Made) → l.job ≡ Some o → AreOutputs o.job made
-        → IsOpenWell l h o.job o.moved → ShowsLow logs l h → ShowsRuled logs (low_at l h) (install_ruling l h o.job made) }
+        → IsOpenWell l h o.job o.moved → ShowsLow logs l h
+        → ShowsLow logs (install_ruling l h o.job made).layout (install_ruling l h o.job made).history }
 {}
 
 /// Each key is shown from the least number at which it can be read, whatever a call answers.
@@ -184,4 +187,15 @@ pub fn numbers_are_drawn_once()
     ensures flushed { (l : Layout) (s : Segment) → ((flushed_table l s).number ≡ l.next_table) × ((flushed l s).next_table ≡ l.next_table + 1) }
     ensures drawn { (l : Layout) (h : History) (n : ℕ) → (fresh_ruling l h).answer ≡ Drawn n
         → (n ≡ l.next_table) × ((fresh_ruling l h).layout.next_table ≡ l.next_table + 1) }
+{}
+
+/// A job is open well when it is planned, into a level that there is or in the place of one table.
+pub fn a_planned_job_is_open_well()
+    ensures plan { (l : Layout) (h : History) (n : ℕ) → AreLevels l.levels → n + 1 < length l.levels → 1 ≤ l.keep
+        → AllByRecursion (λ (t : Table). t.number < l.next_table) (inputs_at n l.levels)
+        → AreOf h (inputs_of (sourced l (numbers_of (inputs_at n l.levels))))
+        → IsOpenWell l h (job_of l h (inputs_at n l.levels) (Level (n + 1))) [] }
+    ensures drain { (l : Layout) (h : History) (segment : ℕ) (t : Table) → AreLevels l.levels → first_into segment (tables l) ≡ Some t → 1 ≤ l.keep
+        → t.number < l.next_table → AreOf h (inputs_of (sourced l (numbers_of (t ∷ []))))
+        → IsOpenWell l h (job_of l h (t ∷ []) InPlace) [] }
 {}

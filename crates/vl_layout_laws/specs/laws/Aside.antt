@@ -10,8 +10,10 @@ use Rattle.vl_layout.specs.declared.table.Table.{Table}
 use Rattle.vl_layout_laws.specs.laws.Lists.{true_false}
 use Rattle.vl_layout_laws.specs.laws.KeyOrder.{IsWide}
 use Rattle.vl_layout_laws.specs.laws.Outputs.{Lt, le_lt, lt_le_then, lt_le}
-use Rattle.vl_layout_laws.specs.laws.Planned.{Le, le_then, IsRanged, IsDistinct, IsApart, AreOther, others_turned, only_one, one_is, all_given, within, met}
+use Rattle.vl_layout_laws.specs.laws.Planned.{only_one, all_given, within, met}
 use Rattle.vl_layout.specs.Sources.{numbers_of}
+use Rattle.vl_layout.specs.TidyLevels.{Le, IsRanged, IsDistinct, IsApart}
+use Rattle.vl_layout_laws.specs.laws.Pairs.{le_then, AreOther, others_turned, one_is}
 
 all_both : (P : Table → Type 0) (xs ys : List Table) → AllByRecursion P xs → AllByRecursion P ys → AllByRecursion P (xs ++ ys)
 all_both P [] ys a b = b

@@ -1,7 +1,7 @@
 -- The invariant of an open job: it holds when the job is made, and each ruling beside it keeps it.
 use Rattle.std.proofs.Common.{◌≡◌, inl, inr, ⊎_elim, ℕ, ◌+◌, min, ◌≤◌, ◌<◌, Bool, true, false, cond, not, ◌&&◌, ◌||◌, List, [], ◌∷◌, ◌++◌, refl, ap, sym, ◌∙◌, subst, arith, length-append}
 use Rattle.std.proofs.lemmas.Bool.Decides.{nat_tests}
-use Rattle.std.specs.Prelude.{Some, ◌==◌}
+use Rattle.std.specs.Prelude.{Option, None, if◌then◌else◌, Some, ◌==◌}
 use Rattle.std.specs.List.{AllZip, AllByRecursion, flat_map, list_any, filter}
 use Rattle.vl_model.specs.Conflicts.{Named}
 use Rattle.vl_model.specs.History.{History, last_number, with_commit}
@@ -14,11 +14,11 @@ use Rattle.vl_block.specs.Cutting.{joined}
 use Rattle.vl_layout.specs.Levels.{is_among, in_front}
 use Rattle.vl_layout.specs.Merging.{Sourced, if_so, inputs_of, outside_of, is_dropped, kept_from, kept, merged_entries, outputs}
 use Rattle.vl_layout.specs.laws.OrderShows.{all-in_order}
-use Rattle.vl_layout.specs.Ruling.{pin_of, logged, ended}
+use Rattle.vl_layout.specs.Ruling.{Ruling, has_no_version, pin_of, logged, ended}
 use Rattle.vl_layout.specs.Rulings.Begin.{begun}
 use Rattle.vl_layout.specs.Rulings.Commit.{commit_frame}
 use Rattle.vl_layout.specs.Rulings.Flush.{flushed, flushed_table}
-use Rattle.vl_layout.specs.Rulings.Install.{install_ruling}
+use Rattle.vl_layout.specs.Rulings.Install.{InstallAnswer, install_checked, install_unless, install_ruling, moved_since, race}
 use Rattle.vl_layout.specs.Rulings.Pick.{with_pass}
 use Rattle.vl_layout.specs.Rulings.Plan.{marked_as, sourced, job_of}
 use Rattle.vl_layout.specs.Rulings.Relocate.{moves_at, relocated}
@@ -296,6 +296,29 @@ open_installs logs l h o are made all k shows =
     by : (target : Target) → IsFitted l o.job target → IsFit l o.job o.moved k.kept made all target
     by (Level n) fit = fit
     by InPlace fit = fit
+
+-- an install leaves what lives, v and since, so that each key can be read from where it could before
+module _ (logs : Logs) (l : Layout) (h : History) (job : Job) (made : Made) where
+  abbrev KeepsLow : Ruling InstallAnswer → Type 0
+  KeepsLow r = ShowsRuled logs (low_at l h) r → ShowsLow logs r.layout r.history
+
+  low_either : (b : Bool) (x y : Ruling InstallAnswer) → KeepsLow x → KeepsLow y → KeepsLow (if b then x else y)
+  low_either true x y one other = one
+  low_either false x y one other = other
+
+  low_checked : (o : Option Named) → KeepsLow (install_checked l h job made o)
+  low_checked (Some named) = λ shown. shown
+  low_checked None = low_either (has_no_version l) _ _ (λ shown. shown) (λ shown. shown)
+
+  low_unless : (halted : Option FileName) → KeepsLow (install_unless halted l h job made)
+  low_unless (Some name) = λ shown. shown
+  low_unless None = low_checked (race job (moved_since l.job))
+
+pub open_installs_low : (logs : Logs) (l : Layout) (h : History) (o : OpenJob) → l.job ≡ Some o → (made : Made) → AreOutputs o.job made
+    → IsOpenWell l h o.job o.moved → ShowsLow logs l h
+    → ShowsLow logs (install_ruling l h o.job made).layout (install_ruling l h o.job made).history
+open_installs_low logs l h o are made all k shows =
+    low_unless logs l h o.job made l.halted (open_installs logs l h o are made all k shows)
 
 -- ---- what the outputs are made of
 

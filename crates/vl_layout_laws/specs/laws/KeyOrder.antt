@@ -5,7 +5,8 @@ use Rattle.vl_layout.specs.Levels.{is_before, in_key_order}
 use Rattle.vl_layout.specs.declared.table.Table.{Table}
 use Rattle.vl_layout_laws.specs.laws.Lists.{true_false}
 use Rattle.vl_layout_laws.specs.laws.Outputs.{Lt, lt_le_then, lt_le}
-use Rattle.vl_layout_laws.specs.laws.Planned.{Le, le_then, IsApart}
+use Rattle.vl_layout.specs.TidyLevels.{Le, IsApart}
+use Rattle.vl_layout_laws.specs.laws.Pairs.{le_then}
 
 -- the table ends before all of these begin, or begins behind all of them
 abbrev pub IsAside : List Table → Table → Type 0

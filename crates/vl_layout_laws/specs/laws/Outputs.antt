@@ -19,7 +19,8 @@ use Rattle.vl_layout.specs.Jobs.{tables_made}
 use Rattle.vl_layout.specs.Tables.{full_table_bytes, tables_from, cut_into_tables}
 use Rattle.vl_layout.specs.declared.job.Job.{Job}
 use Rattle.vl_layout.specs.declared.table.Table.{Table}
-use Rattle.vl_layout_laws.specs.laws.Planned.{Le, le_then, IsRanged, IsApart}
+use Rattle.vl_layout.specs.TidyLevels.{Le, IsRanged, IsApart}
+use Rattle.vl_layout_laws.specs.laws.Pairs.{le_then}
 
 abbrev pub Lt : List ℕ → List ℕ → Type 0
 Lt a b = is_lt (key_cmp a b) ≡ true
