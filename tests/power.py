@@ -101,6 +101,7 @@ class Losses:
         self.folder = os.path.realpath(folder)
         self.disk = Disk()
         self.answered = 0
+        self.parent_synced = False  # in this run
         self.seen = set()
         self.bad = 0
 
@@ -151,12 +152,17 @@ class Losses:
                 file.named = True
             self.disk.removed = {}
             self.lose("a sync of the folder")
+        elif call == "fsync" and path and os.path.realpath(path) == os.path.dirname(self.folder):
+            self.parent_synced = True
         elif call in ("unlink", "unlinkat"):
             gone = self.name_of(unescaped(TEXT.search(given)[1]).decode())
             if gone in files:
                 self.disk.removed[gone] = files.pop(gone).synced
                 self.lose(f"the removal of {gone}")
         elif call == "write" and given.startswith("1<"):
+            if not self.parent_synced:
+                self.bad += 1
+                print("an answer was written before the folder's own name was synced", file=sys.stderr)
             for answer in unescaped(TEXT.search(given)[1]).decode().split("\n"):
                 if answer.startswith("ok "):
                     self.answered = int(answer[3:])
@@ -167,6 +173,7 @@ def main():
     program, folder, *traces = sys.argv[1:]
     losses = Losses(program, folder)
     for trace in traces:
+        losses.parent_synced = False
         with open(trace) as lines:
             for line in lines:
                 losses.follow(line)

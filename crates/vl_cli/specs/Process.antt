@@ -1,5 +1,5 @@
--- The process: the words that it was given, the folder that they name, and what a run over them came to.
-use Rattle.std.specs.Prelude.{◌≡◌, ◌≢◌, ◌⊎◌, ℕ, List, [], ◌∷◌, Option, None, Some, unwrap_or, codes}
+-- The process: the folder that its words name, and what a run over them came to.
+use Rattle.std.specs.Prelude.{◌≡◌, ◌≢◌, ◌⊎◌, ℕ, List, ◌∷◌, Some, codes}
 use Rattle.vl_disk.specs.Faults.{Rose}
 use Rattle.vl_disk.specs.declared.watched.Watched.{Ghosts}
 use Rattle.vl_io.specs.declared.sink.Sink as sink
@@ -15,31 +15,12 @@ use Rattle.vl_cli.specs.Run.{AreNotPlain, AskFor, EndsBy, StatusOfAnswers, Statu
 use Rattle.vl_cli.specs.declared.command_line.words.Command.{Command}
 use Rattle.vl_cli.specs.declared.command_line.words.Command.TheVariants.{Replay, Trial}
 
--- The words that a process was given behind its name, where they are told: None of them where one isn't text. Std tells none,
--- so that nothing is claimed of a process by this alone. But proofs can't look into it: a body has to hold for all words that
--- may have been given.
-pub given_words : {R : Type 0} → R → Option (Option (List (List ℕ)))
-given_words rt = None
-
--- The one law that looks into it, for the call that asks the process for its words.
-pub untold : {R : Type 0} (rt : R) (given : Option (List (List ℕ))) → given_words rt ≡ Some given → ⊥
-unfolding given_words
-untold rt given told = cc
-
--- the words of a command line that was given so: none where one isn't text, so that they aren't plain
-abbrev pub words_of : Option (List (List ℕ)) → List (List ℕ)
-words_of given = unwrap_or given []
-
--- these are the words that the process was given, where they are told
-abbrev pub AreGiven : {R : Type 0} → R → (words : List (List ℕ)) → Type 0
-AreGiven rt words = (given : Option (List (List ℕ))) → given_words rt ≡ Some given → words ≡ words_of given
-
 -- the folder that the second word names, and the working folder where there is none
 abbrev pub folder_of : List (List ℕ) → List ℕ
 folder_of (command ∷ folder ∷ words) = folder
 folder_of words = codes "."
 
--- a process that was given these words may end with this status: with 2 just where they aren't plain, where else there was no
+-- a process with these words may end with this status: with 2 just where they aren't plain, where else there was no
 -- memory for them, or the last line couldn't be put
 pub record MayExitWith (words : List (List ℕ)) (status : ℕ) : Type 0 where
   pub status_is : (ending : Ending) × (status ≡ status_of ending)

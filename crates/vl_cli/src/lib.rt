@@ -5,4 +5,4 @@ mod command_line;
 mod process;
 
 pub use command_line::{Ended, refuse_without_words, run};
-pub use process::{Served, serve};
+pub use process::{Served, process_words, serve};

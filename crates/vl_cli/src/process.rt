@@ -1,12 +1,13 @@
 //! The process: its words, and the folder that they name.
 
-ghost use Rattle.std.specs.Prelude.{◌≡◌, ℕ, List, Option, Some, IfNone, IfOk, IfSome, map, string_bytes};
+ghost use Rattle.std.specs.Prelude.{◌≡◌, Some, IfNone, IfOk, IfSome, map, string_bytes};
+ghost use Rattle.std.specs.Option.{ForSome};
 ghost use Rattle.std.specs.Process.{exit_status};
 ghost use Rattle.vl_replay.specs.Endings.{status_of};
 ghost use Rattle.vl_replay.specs.declared.ending.Ending.{Ending as HowEnded};
 ghost use Rattle.vl_replay.specs.declared.ending.Ending.TheVariants as endings;
 ghost use Rattle.vl_cli.specs.Run.{EndsBy};
-ghost use Rattle.vl_cli.specs.Process.{AreGiven, MayExitWith, ServedOver, folder_of, given_words, words_of};
+ghost use Rattle.vl_cli.specs.Process.{MayExitWith, ServedOver, folder_of};
 
 use crate::{Ended, refuse_without_words, run};
 use std::alloc::{AllocError, Global};
@@ -16,42 +17,41 @@ use std::{env, io};
 use vl_disk::Disk;
 use vl_io::{Sink, Source};
 
-/// How a process ended, and the disk of its run; none where there was no memory for its words.
+/// How a process ended, and the disk of its run; none where there was no memory for its words or their folder.
 pub struct Served<D> {
     pub exit: ExitCode,
     pub disk: Option<D>,
 }
 
-/// Carries out the process's command line over a source and a sink, and over the disk that is made for the folder of the
-/// second word. Where a word isn't text the words aren't plain. Where there is no memory for them, no disk is made.
-pub fn serve<R: Env + AllocGlobal, S: Source, K: Sink, D: Disk, M: FnOnce(String) -> D>(
-    rt: &R,
+/// Carries out a process's command line over a source and a sink, and over the disk that is made for the folder of the
+/// second word. Where the words found no memory (`None`) no disk is made.
+pub fn serve<S: Source, K: Sink, D: Disk, M: FnOnce(String) -> D>(
+    alloc: Global,
+    words: Option<Vec<String>>,
     source: &mut S,
     sink: &mut K,
     make_disk: M,
 ) -> Served<D>
     requires { M.IsAlwaysCallable make_disk }
 
-    // The process's words are run, over a disk that `make_disk` gave for the folder that the second of them names.
-    ensures served { IfSome result.disk (λ disk. (words : List (List ℕ)) × AreGiven rt.now words
-        × ServedOver S.Source K.Sink D.Watched
+    // All of the words are run, over a disk that `make_disk` gave for the folder that the second of them names.
+    ensures served { IfSome result.disk (λ disk. ForSome words (λ words.
+        ServedOver S.Source K.Sink D.Watched
         (λ folder made. (path : _) × (string_bytes path ≡ folder) × M.post make_disk path made)
-        words source.old source.new sink.old sink.new disk (exit_status result.exit)) }
+        (map string_bytes words.items) source.old source.new sink.old sink.new disk (exit_status result.exit))) }
     ensures no_memory { IfNone result.disk ((source.new ≡ source.old)
         × EndsBy K.Sink sink.old sink.new endings.NoMemory (exit_status result.exit)) }
 
     // So the process's exit status is one of these.
     ensures status { (ending : HowEnded) × (exit_status result.exit ≡ status_of ending) }
-    ensures exits { (given : Option (List (List ℕ))) → given_words rt.now ≡ Some given
-        → MayExitWith (words_of given) (exit_status result.exit) }
+    ensures exits { ForSome words (λ words. MayExitWith (map string_bytes words.items) (exit_status result.exit)) }
 {
-    let Ok((words, folder)) = words_and_folder(rt) else {
-        let status = refuse_without_words(sink);
-        let exit = ExitCode::from(status);
+    let Some((words, folder)) = with_folder(alloc, words) else {
+        let exit = ExitCode::from(refuse_without_words(sink));
         return Served { exit, disk: None };
     };
     let disk = make_disk(folder);
-    let Ended { status, disk } = run(rt.alloc(), words.as_slice(), source, sink, disk);
+    let Ended { status, disk } = run(alloc, words.as_slice(), source, sink, disk);
     let exit = ExitCode::from(status);
     Served {
         exit,
@@ -59,28 +59,29 @@ pub fn serve<R: Env + AllocGlobal, S: Source, K: Sink, D: Disk, M: FnOnce(String
     }
 }
 
-/// The words after the program's name, and the folder that they name.
-fn words_and_folder<R: Env + AllocGlobal>(rt: &R) -> io::Result<(Vec<String>, String)>
-    ensures words { IfOk result (λ found. AreGiven rt.now (map string_bytes found.0.items)) }
-    ensures folder { IfOk result (λ found. string_bytes found.1 ≡ folder_of (map string_bytes found.0.items)) }
-{
-    let words = words(rt)?;
-    let folder = folder_in(rt.alloc(), words.as_slice())?;
-    Ok((words, folder))
-}
-
-/// The words after the program's name; none where one isn't text. Any other error is want of memory.
-fn words<R: Env + AllocGlobal>(rt: &R) -> io::Result<Vec<String>>
-    ensures { IfOk result (λ words. AreGiven rt.now (map string_bytes words.items)) }
-{
+/// The words behind the program's name. Where one isn't text there are none, so that they aren't plain; `None` is want of
+/// memory.
+pub fn process_words<R: Env + AllocGlobal>(rt: &R) -> Option<Vec<String>> {
     match env::args(rt) {
         Ok(mut words) => {
             words.next();
-            Ok(words.collect(rt.alloc())?)
+            words.collect(rt.alloc()).ok()
         }
-        Err(error) if error.kind() == io::ErrorKind::InvalidData => Ok(Vec::new(rt.alloc())),
-        Err(error) => Err(error),
+        Err(error) if error.kind() == io::ErrorKind::InvalidData => Some(Vec::new(rt.alloc())),
+        Err(_) => None,
     }
+}
+
+/// The words with the folder that they name, where there is memory for both.
+fn with_folder(alloc: Global, words: Option<Vec<String>>) -> Option<(Vec<String>, String)>
+    ensures words { IfSome result (λ found. words ≡ Some found.0) }
+    ensures folder { IfSome result (λ found. string_bytes found.1 ≡ folder_of (map string_bytes found.0.items)) }
+{
+    let words = words?;
+    let Ok(folder) = folder_in(alloc, words.as_slice()) else {
+        return None;
+    };
+    Some((words, folder))
 }
 
 /// The folder that the second word names, and the working folder where there is none.

@@ -78,14 +78,14 @@ abbrev pub least_table : List Table → Option Table
 least_table [] = None
 least_table (t ∷ ts) = lesser_table t (least_table ts)
 
-abbrev pub one_of : Option Table → List Table
-one_of None = []
-one_of (Some t) = t ∷ []
+abbrev pub one_or_none : Option Table → List Table
+one_or_none None = []
+one_or_none (Some t) = t ∷ []
 
 -- what a level that is due gives: level 0 all its tables, a deeper one the table with the least
 -- number
-abbrev pub given : ℕ → List Table → List Table
-given level ts = if level == 0 then ts else one_of (least_table ts)
+abbrev pub due_inputs : ℕ → List Table → List Table
+due_inputs level ts = if level == 0 then ts else one_or_none (least_table ts)
 
 -- tables, and those of the next level that meet their range
 abbrev pub with_next : List Table → List Table → List Table
@@ -93,7 +93,7 @@ with_next ts next = ts ++ filter (meets (range_of ts)) next
 
 -- the inputs of a merge of this level into the next one, in the order of the sources
 abbrev pub inputs_at : ℕ → List (List Table) → List Table
-inputs_at level levels = with_next (given level (level_at level levels)) (level_at (level + 1) levels)
+inputs_at level levels = with_next (due_inputs level (level_at level levels)) (level_at (level + 1) levels)
 
 abbrev pub has_point : ℕ → Table → Bool
 has_point segment t = list_any (λ (p : Point). p.segment == segment) t.points
@@ -105,8 +105,8 @@ first_into segment (t ∷ ts) = if has_point segment t then Some t else first_in
 
 -- ---- where the outputs are put
 
-abbrev pub is_one : List ℕ → Table → Bool
-is_one numbers t = list_any (λ number. number == t.number) numbers
+abbrev pub is_among : List ℕ → Table → Bool
+is_among numbers t = list_any (λ number. number == t.number) numbers
 
 abbrev pub is_before : Table → List Table → Bool
 is_before t [] = true
@@ -118,10 +118,10 @@ in_key_order new [] = new
 in_key_order new (t ∷ ts) = if is_before t new then t ∷ in_key_order new ts else new ++ t ∷ ts
 
 abbrev pub without : List ℕ → List Table → List Table
-without numbers ts = filter (λ t. not (is_one numbers t)) ts
+without numbers ts = filter (λ t. not (is_among numbers t)) ts
 
 -- the levels with tables in the place of the inputs
 abbrev pub replaced : Target → List ℕ → List Table → List (List Table) → List (List Table)
 replaced (Level n) inputs new levels = at_level n (in_key_order new) (map (without inputs) levels)
 replaced InPlace inputs new levels =
-    map (flat_map (λ t. if is_one inputs t then new else t ∷ [])) levels
+    map (flat_map (λ t. if is_among inputs t then new else t ∷ [])) levels

@@ -7,6 +7,7 @@ pub mod LockHistory
 pub mod Logs
 pub mod Marks
 pub mod Merging
+pub mod OpenJobs
 pub mod Relocation
 pub mod Rising
 pub mod Ruling

@@ -40,18 +40,18 @@ has_room count bytes more =
 abbrev pub Taken : Type 0
 Taken = List Candidate × List LogRecord
 
-abbrev pub some_of : List Candidate → Option (List Candidate)
-some_of [] = None
-some_of (c ∷ cs) = Some (c ∷ cs)
+abbrev pub if_any : List Candidate → Option (List Candidate)
+if_any [] = None
+if_any (c ∷ cs) = Some (c ∷ cs)
 
 abbrev pub with_first : Candidate → Taken → Taken
 with_first c taken = (c ∷ taken.0, taken.1)
 
 -- a record that was found, before what is taken behind it, where it fits
-abbrev pub taken_if : Bool → List Candidate → Taken → Taken → Taken → Taken
-taken_if fits [] passed with_it before = passed
-taken_if true (c ∷ cs) passed with_it before = with_first c with_it
-taken_if false (c ∷ cs) passed with_it before = before
+abbrev pub batch_with : Bool → List Candidate → Taken → Taken → Taken → Taken
+batch_with fits [] passed with_it before = passed
+batch_with true (c ∷ cs) passed with_it before = with_first c with_it
+batch_with false (c ∷ cs) passed with_it before = before
 
 abbrev pub value_lengths : List Candidate → ℕ
 value_lengths cs = sum_by (λ (c : Candidate). length c.moved.value) cs
@@ -62,14 +62,14 @@ taken_from base segment count bytes [] = ([], [])
 taken_from base segment count bytes (r ∷ rs) =
     let found = found_in base segment r in
     let more = value_lengths found in
-    taken_if (has_room count bytes more) found (taken_from base segment count bytes rs) (taken_from base segment (count + 1) (bytes + more) rs) ([], r ∷ rs)
+    batch_with (has_room count bytes more) found (taken_from base segment count bytes rs) (taken_from base segment (count + 1) (bytes + more) rs) ([], r ∷ rs)
 
 -- the next batch of a pass, which is the longest that the limits allow, and the pass behind it;
 -- none where none is left
 abbrev pub next_batch : Pass → Option (List Candidate) × Pass
 next_batch pass =
     let taken = taken_from pass.base pass.segment 0 0 pass.left in
-    (some_of taken.0, record { segment = pass.segment; base = pass.base; left = taken.1 })
+    (if_any taken.0, record { segment = pass.segment; base = pass.base; left = taken.1 })
 
 -- what still wins exactly from inside the segment, and is of a commit that was made
 abbrev pub is_moved : List Entry → ℕ → ℕ → Candidate → Bool

@@ -6,7 +6,7 @@ use Rattle.vl_layout.specs.declared.segment.Segment.{Segment}
 use Rattle.vl_layout.specs.declared.table.Table.{Table}
 
 -- what an opening found or made
-pub record Found : Type 0 where
+pub record AtStart : Type 0 where
   pub active : Segment
   -- the logs with frames from head on, the newest first, and the other ones that stay
   pub frozen : List Segment
@@ -20,7 +20,7 @@ pub record Found : Type 0 where
   pub gone : ℕ
 
 -- with nothing live, open, retired or failed
-abbrev pub layout_at_start : ℕ → Found → Layout
+abbrev pub layout_at_start : ℕ → AtStart → Layout
 layout_at_start room found = record {
   active = found.active;
   frozen = found.frozen;

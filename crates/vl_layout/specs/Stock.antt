@@ -116,6 +116,11 @@ pub record IsWellStocked (l : Layout) : Type 0 where
   pub lent_once : AreDistinct (lent_numbers l.job)
   pub lent_apart : AllByRecursion (λ (r : Retired). IsNotLent (lent_numbers l.job) r.file) l.retired
 
+-- the numbers that logs and tables may still be given don't fall
+pub record HaveRisen (before now : Layout) : Type 0 where
+  pub log : before.next_log ≤ now.next_log
+  pub table : before.next_table ≤ now.next_table
+
 -- ---- what is removed
 
 -- a file that is needed by no source, and by no pin

@@ -1,9 +1,21 @@
 -- Laws of what an engine keeps tidy, by matter, which proofs in other crates cite.
+pub mod Aside
+pub mod Beside
 pub mod CutAgain
 pub mod Drawn
 pub mod Files
+pub mod Gathered
+pub mod Installs
+pub mod Justified
+pub mod Keeps
+pub mod KeyOrder
+pub mod Lists
 pub mod LiveBytes
 pub mod Moves
+pub mod Numbers
+pub mod OpenJobs
+pub mod Outputs
+pub mod Planned
 pub mod RulingStocked
 pub mod Steps
 pub mod Stock

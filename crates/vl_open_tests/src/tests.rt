@@ -87,13 +87,6 @@ const THIRD_LOG_BYTES: [u8; 50] = [
 /// The header of log 2.
 const SECOND_LOG_HEADER: [u8; 16] = [0x56, 0x4c, 0x4f, 0x47, 0, 0, 0, 1, 0, 0, 0, 2, 0, 0, 0, 0];
 
-/// A manifest whose covered number is the greatest of a commit, 9,223,372,036,854,775,806.
-const LAST_COMMIT_MANIFEST: [u8; 55] = [
-    0x56, 0x4d, 0x41, 0x4e, 0, 0, 0, 1, 0, 0, 0, 1, 0, 0, 0, 0, 6, 0, 0, 0, 0x1a, 0, 0, 0, 2, 3, 0,
-    0, 0, 1, 0x7f, 0xff, 0xff, 0xff, 0xff, 0xff, 0xff, 0xfe, 4, 0, 0, 0, 1, 0, 0, 0, 1, 0x4c, 0x35,
-    0x28, 0x27, 0xd1, 0x5a, 0x33, 0xeb,
-];
-
 /// The manifest of a new store, in format 2.
 const NEWER_MANIFEST: [u8; 55] = [
     0x56, 0x4d, 0x41, 0x4e, 0, 0, 0, 2, 0, 0, 0, 1, 0, 0, 0, 0, 6, 0, 0, 0, 0x1a, 0, 0, 0, 2, 3, 0,
@@ -161,59 +154,6 @@ fn holds(disk: &MemDisk, name: Name, bytes: &[u8]) -> bool {
 }
 
 #[test]
-fn commits_are_written_to_the_disk(rt: HostRuntime) -> Result<(), Fail> {
-    // The last call that is listed doesn't come: opening makes six changing calls, and a commit two.
-    let cases: [(&str, &[u64], &str, &[u8]); 2] = [
-        ("", &[7], "", &LOG_BYTES[..16]),
-        (
-            "begin a\nset a 61 01\ncommit a\nview b\nget b 61\n",
-            &[9],
-            "ok 0\nok\nok 1\nok 1\nvalue 01\n",
-            &LOG_BYTES,
-        ),
-    ];
-    for (input, failing, answers, log) in cases {
-        let empty = MemDisk::new(
-            rt.alloc(),
-            Vec::from_slice(rt.alloc(), failing)?,
-            Vec::new(rt.alloc()),
-        );
-        let first = plain(input, answers, 0);
-        let (status, printed, disk) = outcome_over(rt.alloc(), &first, empty)?;
-        assert_eq!(rt; printed.as_slice(), first.printed.as_bytes());
-        assert_eq!(rt; status, first.status);
-        assert!(rt; holds(&disk, Name::Manifest(1), &MANIFEST_BYTES));
-        assert!(rt; holds(&disk, Name::Log(1), log));
-    }
-    Ok(())
-}
-
-#[test]
-fn faults_of_the_disk_end_a_run(rt: HostRuntime) -> Result<(), Fail> {
-    // Each call of opening fails in turn, and then the append and the sync of the commit's frame.
-    for call in 1..=8 {
-        let printed = if call <= 6 {
-            "disk fault\n"
-        } else {
-            "ok 0\nok\ndisk fault\n"
-        };
-        let case = plain("begin a\nset a 61 01\ncommit a\n", printed, 3);
-        let disk = MemDisk::new(rt.alloc(), [call].to_vec(rt.alloc())?, Vec::new(rt.alloc()));
-        let (status, printed, disk) = outcome_over(rt.alloc(), &case, disk)?;
-        assert_eq!(rt; printed.as_slice(), case.printed.as_bytes(), "call {call}");
-        assert_eq!(rt; status, case.status, "call {call}");
-        // An append that fails has taken nothing; before a sync that fails the frame was taken.
-        if call == 7 {
-            assert!(rt; holds(&disk, Name::Log(1), &LOG_BYTES[..16]));
-        }
-        if call == 8 {
-            assert!(rt; holds(&disk, Name::Log(1), &LOG_BYTES));
-        }
-    }
-    Ok(())
-}
-
-#[test]
 fn a_store_is_opened_again(rt: HostRuntime) -> Result<(), Fail> {
     let mut disk = MemDisk::new(rt.alloc(), Vec::new(rt.alloc()), Vec::new(rt.alloc()));
     let runs = [
@@ -278,26 +218,6 @@ fn a_torn_end_is_cut(rt: HostRuntime) -> Result<(), Fail> {
     assert_eq!(rt; status, second.status);
     assert!(rt; holds(&disk, Name::Log(1), &LOG_BYTES));
     assert!(rt; disk.bytes(Name::Log(2)).is_none());
-    Ok(())
-}
-
-#[test]
-fn the_greatest_commit_number_is_the_last(rt: HostRuntime) -> Result<(), Fail> {
-    let alloc = rt.alloc();
-    let files = with(
-        alloc,
-        Vec::new(alloc),
-        Name::Manifest(1),
-        &LAST_COMMIT_MANIFEST,
-    )?;
-    let case = plain(
-        "begin a\nset a 61 01\ncommit a\n",
-        "ok 9223372036854775806\nok\nexhausted commit\n",
-        0,
-    );
-    let (status, printed, _) = outcome_over(alloc, &case, started(alloc, files, &[])?)?;
-    assert_eq!(rt; printed.as_slice(), case.printed.as_bytes());
-    assert_eq!(rt; status, case.status);
     Ok(())
 }
 
@@ -412,41 +332,5 @@ fn a_store_is_opened_again_after_faults(rt: HostRuntime) -> Result<(), Fail> {
             assert_eq!(rt; status, again.status, "call {call}");
         }
     }
-    Ok(())
-}
-
-#[test]
-fn a_store_is_made_again_after_faults(rt: HostRuntime) -> Result<(), Fail> {
-    let alloc = rt.alloc();
-    for call in 1..=6 {
-        let disk = MemDisk::new(alloc, [call].to_vec(alloc)?, Vec::new(alloc));
-        let (status, printed, disk) = outcome_over(alloc, &plain("", "disk fault\n", 3), disk)?;
-        assert_eq!(rt;
-            printed.as_slice(),
-            b"disk fault\n".as_slice(),
-            "call {call}"
-        );
-        assert_eq!(rt; status, 3, "call {call}");
-
-        let again = plain("begin a\nset a 61 01\ncommit a\n", "ok 0\nok\nok 1\n", 0);
-        let (status, printed, _) = outcome_over(alloc, &again, disk)?;
-        assert_eq!(rt; printed.as_slice(), again.printed.as_bytes(), "call {call}");
-        assert_eq!(rt; status, again.status, "call {call}");
-    }
-    Ok(())
-}
-
-#[test]
-fn a_disk_that_is_not_read_is_not_changed(rt: HostRuntime) -> Result<(), Fail> {
-    let alloc = rt.alloc();
-    // The first call that changes nothing lists the files.
-    let files = store(alloc, &MANIFEST_BYTES, &LOG_BYTES)?;
-    let disk = MemDisk::started(alloc, files, Vec::new(alloc), [1].to_vec(alloc)?)?;
-    let (status, printed, disk) = outcome_over(alloc, &plain("", "disk fault\n", 3), disk)?;
-    assert_eq!(rt; printed.as_slice(), b"disk fault\n".as_slice());
-    assert_eq!(rt; status, 3);
-    assert!(rt; holds(&disk, Name::Manifest(1), &MANIFEST_BYTES));
-    assert!(rt; holds(&disk, Name::Log(1), &LOG_BYTES));
-    assert!(rt; disk.bytes(Name::Manifest(2)).is_none());
     Ok(())
 }

@@ -1,13 +1,12 @@
 -- Lists of entries, and the own entries of sessions.
+use Rattle.std.specs.List.{filter}
 use Rattle.std.specs.Prelude.{◌≡◌, ◌≢◌, ℕ, ◌<◌, ◌==◌, if◌then◌else◌, List, [], ◌∷◌, ◌++◌, Option, Some, None, length, nat_le}
 use Rattle.vl_turn.specs.declared.view.Own.{Own}
 
 module _ {E : Type 0} where
   -- the entries of one session, in their order
   abbrev pub entries_by : (E → ℕ) → ℕ → List E → List E
-  entries_by by number [] = []
-  entries_by by number (e ∷ es) =
-      if by e == number then e ∷ entries_by by number es else entries_by by number es
+  entries_by by number es = filter (λ e. by e == number) es
 
   -- each entry is of one of the first `count` sessions
   abbrev pub AreNumbered : (E → ℕ) → ℕ → List E → Type 0

@@ -9,7 +9,7 @@ use Rattle.vl_model.specs.declared.counter.Counter.{Counter}
 use Rattle.vl_model.specs.declared.counter.Counter.TheVariants as counter
 use Rattle.vl_model.specs.declared.entry.Entry.{Entry}
 use Rattle.vl_layout.specs.Jobs.{Made, loose, job_ended}
-use Rattle.vl_layout.specs.Levels.{is_one, replaced}
+use Rattle.vl_layout.specs.Levels.{is_among, replaced}
 use Rattle.vl_layout.specs.Merging.{needless, gone_after}
 use Rattle.vl_layout.specs.Sources.{tables}
 use Rattle.vl_layout.specs.Ruling.{Ruling, leaving, switched, has_no_version}
@@ -58,7 +58,7 @@ put_in job made l = record l {
 }
 
 abbrev pub installed : Job → Made → Layout → Layout
-installed job made l = switched (filter (is_one job.inputs) (tables l)) (put_in job made l)
+installed job made l = switched (filter (is_among job.inputs) (tables l)) (put_in job made l)
 
 -- what is left where the switch fails, but for the halt
 abbrev pub install_lost : Made → Layout → Layout

@@ -3,7 +3,7 @@ use Rattle.std.specs.Prelude.{ℕ, ◌+◌, Bool, false, List, [], ◌∷◌, �
 use Rattle.std.specs.List.{flat_map}
 use Rattle.vl_model.specs.History.{History}
 use Rattle.vl_model.specs.declared.entry.Entry.{Entry}
-use Rattle.vl_layout.specs.Levels.{due_from, inputs_at, is_one}
+use Rattle.vl_layout.specs.Levels.{due_from, inputs_at, is_among}
 use Rattle.vl_layout.specs.Logs.{memtable}
 use Rattle.vl_layout.specs.Merging.{Sourced}
 use Rattle.vl_layout.specs.Sources.{tables, floor, numbers_of}
@@ -22,7 +22,7 @@ marked_as input es = map (λ e. (input, e)) es
 abbrev pub sourced : Layout → List ℕ → List Sourced
 sourced l inputs =
     marked_as false (flat_map memtable (l.active ∷ l.frozen))
-    ++ flat_map (λ (t : Table). marked_as (is_one inputs t) t.entries) (tables l)
+    ++ flat_map (λ (t : Table). marked_as (is_among inputs t) t.entries) (tables l)
 
 -- the merge of these tables
 abbrev pub job_of : Layout → History → List Table → Target → Job

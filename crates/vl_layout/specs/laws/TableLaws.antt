@@ -6,7 +6,7 @@ use Rattle.std.specs.List.{flat_map}
 use Rattle.std.specs.Ordering.{eq_by_cmp}
 use Rattle.vl_model.specs.Keys.{key_cmp}
 use Rattle.vl_model.specs.declared.entry.Entry.{Entry}
-use Rattle.vl_layout.specs.Levels.{is_one}
+use Rattle.vl_layout.specs.Levels.{is_among}
 use Rattle.vl_layout.specs.Logs.{memtable}
 use Rattle.vl_layout.specs.Merging.{Sourced, if_so, inputs_of as sourced_inputs, outside_of as sourced_outside, is_dropped, kept_from, kept}
 use Rattle.vl_layout.specs.Rulings.Plan.{marked_as, sourced}
@@ -67,18 +67,18 @@ plain-marked input [] = refl
 plain-marked input (e ∷ es) = ap (λ xs. e ∷ xs) (plain-marked input es)
 
 plain-tables : (inputs : List ℕ) (ts : List Table)
-    → plain (flat_map (λ (t : Table). marked_as (is_one inputs t) t.entries) ts) ≡ flat_map table_entries ts
+    → plain (flat_map (λ (t : Table). marked_as (is_among inputs t) t.entries) ts) ≡ flat_map table_entries ts
 plain-tables inputs [] = refl
 plain-tables inputs (t ∷ ts) =
-    plain-append (marked_as (is_one inputs t) t.entries) (flat_map (λ (u : Table). marked_as (is_one inputs u) u.entries) ts)
-    ∙ ap (λ xs. xs ++ plain (flat_map (λ (u : Table). marked_as (is_one inputs u) u.entries) ts)) (plain-marked (is_one inputs t) t.entries)
+    plain-append (marked_as (is_among inputs t) t.entries) (flat_map (λ (u : Table). marked_as (is_among inputs u) u.entries) ts)
+    ∙ ap (λ xs. xs ++ plain (flat_map (λ (u : Table). marked_as (is_among inputs u) u.entries) ts)) (plain-marked (is_among inputs t) t.entries)
     ∙ ap (λ xs. t.entries ++ xs) (plain-tables inputs ts)
 
 -- what a job begins with are the sources
 pub plain-sourced : (l : Layout) (inputs : List ℕ) → plain (sourced l inputs) ≡ sources l
 plain-sourced l inputs =
-    plain-append (marked_as false (flat_map memtable (l.active ∷ l.frozen))) (flat_map (λ (t : Table). marked_as (is_one inputs t) t.entries) (tables l))
-    ∙ ap (λ xs. xs ++ plain (flat_map (λ (t : Table). marked_as (is_one inputs t) t.entries) (tables l))) (plain-marked false (flat_map memtable (l.active ∷ l.frozen)))
+    plain-append (marked_as false (flat_map memtable (l.active ∷ l.frozen))) (flat_map (λ (t : Table). marked_as (is_among inputs t) t.entries) (tables l))
+    ∙ ap (λ xs. xs ++ plain (flat_map (λ (t : Table). marked_as (is_among inputs t) t.entries) (tables l))) (plain-marked false (flat_map memtable (l.active ∷ l.frozen)))
     ∙ ap (λ xs. flat_map memtable (l.active ∷ l.frozen) ++ xs) (plain-tables inputs (tables l))
     ∙ append_assoc (memtable l.active) (flat_map memtable l.frozen) (flat_map table_entries (tables l))
 

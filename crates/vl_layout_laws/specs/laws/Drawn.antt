@@ -15,7 +15,7 @@ use Rattle.vl_model.specs.declared.log_frame.Moved.{Moved}
 use Rattle.vl_block.specs.Cutting.{points_of}
 use Rattle.vl_block.specs.declared.laid_point.LaidPoint.{LaidPoint as Point}
 use Rattle.vl_layout.specs.laws.RisingLaws.{all-put_by}
-use Rattle.vl_layout.specs.Levels.{is_one, in_front}
+use Rattle.vl_layout.specs.Levels.{is_among, in_front}
 use Rattle.vl_layout.specs.Logs.{memtable}
 use Rattle.vl_layout.specs.Ruling.{logged, ended, pin_of, switched}
 use Rattle.vl_layout.specs.Rulings.Begin.{begun}
@@ -196,9 +196,9 @@ module _ (l : Layout) (s : IsStocked l) (d : IsDrawnWhole l) where
       of_oldest (t ∷ u ∷ us) y is all = of_oldest (u ∷ us) y is all.1
 
   pub drawn_put : (job : Job) (made : List Table) (rest : List Retired) → AllByRecursion (PointsDrawn l.next_log) made
-      → IsDrawnWhole (switched (filter (is_one job.inputs) (tables l)) (putting l job made rest))
+      → IsDrawnWhole (switched (filter (is_among job.inputs) (tables l)) (putting l job made rest))
   drawn_put job made rest below = record {
     points = all_replaced (PointsDrawn l.next_log) job.inputs made below job.target l.levels
-        (all_weaker (PointsDrawn l.next_log) (λ (t : Table). is_one job.inputs t ≡ false → PointsDrawn l.next_log t) (λ t is out. is) (tables l) d.points);
+        (all_weaker (PointsDrawn l.next_log) (λ (t : Table). is_among job.inputs t ≡ false → PointsDrawn l.next_log t) (λ t is out. is) (tables l) d.points);
     pins_drawn = together (map (λ (x : Live). x.pin) l.live) [] (pass_pin l.pass) split.0.0 tt split.1;
   }

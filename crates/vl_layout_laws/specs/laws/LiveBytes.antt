@@ -13,7 +13,7 @@ use Rattle.vl_model.specs.declared.log_frame.Moved.{Moved}
 use Rattle.vl_block.specs.Cutting.{pointed}
 use Rattle.vl_block.specs.declared.laid_point.LaidPoint.{LaidPoint as Point}
 use Rattle.vl_layout.specs.Garbage.{pointed_bytes, live_bytes, discard, is_worth, is_better}
-use Rattle.vl_layout.specs.Levels.{is_one, in_front, replaced, without, at_level, in_key_order, is_before}
+use Rattle.vl_layout.specs.Levels.{is_among, in_front, replaced, without, at_level, in_key_order, is_before}
 use Rattle.vl_layout.specs.Ruling.{logged}
 use Rattle.vl_layout.specs.Rulings.Flush.{flushed, flushed_table}
 use Rattle.vl_layout.specs.Rulings.Install.{installed}
@@ -67,32 +67,32 @@ module _ (segment : ℕ) where
         ]
 
     live-without : (ts : List Table)
-        → live_bytes (without inputs ts) segment + live_bytes (filter (is_one inputs) ts) segment ≡ live_bytes ts segment
+        → live_bytes (without inputs ts) segment + live_bytes (filter (is_among inputs) ts) segment ≡ live_bytes ts segment
     live-without [] = refl
     live-without (t ∷ ts) =
         let later = live-without ts in
         let whole = live-cons t ts in
-        elim (is_one inputs t) as (λ b. live_bytes (cond (not b) (t ∷ without inputs ts) (without inputs ts)) segment + live_bytes (cond b (t ∷ filter (is_one inputs) ts) (filter (is_one inputs) ts)) segment ≡ live_bytes (t ∷ ts) segment) [
-          | true ↦ (let a = live-cons t (filter (is_one inputs) ts) in omega (arith, later, whole, a))
+        elim (is_among inputs t) as (λ b. live_bytes (cond (not b) (t ∷ without inputs ts) (without inputs ts)) segment + live_bytes (cond b (t ∷ filter (is_among inputs) ts) (filter (is_among inputs) ts)) segment ≡ live_bytes (t ∷ ts) segment) [
+          | true ↦ (let a = live-cons t (filter (is_among inputs) ts) in omega (arith, later, whole, a))
           | false ↦ (let a = live-cons t (without inputs ts) in omega (arith, later, whole, a))
         ]
 
-    filter-append : (ts us : List Table) → filter (is_one inputs) (ts ++ us) ≡ filter (is_one inputs) ts ++ filter (is_one inputs) us
+    filter-append : (ts us : List Table) → filter (is_among inputs) (ts ++ us) ≡ filter (is_among inputs) ts ++ filter (is_among inputs) us
     filter-append [] us = refl
-    filter-append (t ∷ ts) us = elim (is_one inputs t) as (λ b. cond b (t ∷ filter (is_one inputs) (ts ++ us)) (filter (is_one inputs) (ts ++ us)) ≡ cond b (t ∷ filter (is_one inputs) ts) (filter (is_one inputs) ts) ++ filter (is_one inputs) us) [
+    filter-append (t ∷ ts) us = elim (is_among inputs t) as (λ b. cond b (t ∷ filter (is_among inputs) (ts ++ us)) (filter (is_among inputs) (ts ++ us)) ≡ cond b (t ∷ filter (is_among inputs) ts) (filter (is_among inputs) ts) ++ filter (is_among inputs) us) [
       | true ↦ ap (λ xs. t ∷ xs) (filter-append ts us)
       | false ↦ filter-append ts us
     ]
 
     live-levels_without : (levels : List (List Table))
-        → live_bytes (flat_map (λ ts. ts) (map (without inputs) levels)) segment + live_bytes (filter (is_one inputs) (flat_map (λ ts. ts) levels)) segment ≡ live_bytes (flat_map (λ ts. ts) levels) segment
+        → live_bytes (flat_map (λ ts. ts) (map (without inputs) levels)) segment + live_bytes (filter (is_among inputs) (flat_map (λ ts. ts) levels)) segment ≡ live_bytes (flat_map (λ ts. ts) levels) segment
     live-levels_without [] = refl
     live-levels_without (ts ∷ deeper) =
         let later = live-levels_without deeper in
         let here = live-without ts in
         let a = live-append (without inputs ts) (flat_map (λ xs. xs) (map (without inputs) deeper)) in
         let b = live-append ts (flat_map (λ xs. xs) deeper) in
-        let c = live-append (filter (is_one inputs) ts) (filter (is_one inputs) (flat_map (λ xs. xs) deeper)) in
+        let c = live-append (filter (is_among inputs) ts) (filter (is_among inputs) (flat_map (λ xs. xs) deeper)) in
         let d = ap (λ (xs : List Table). live_bytes xs segment) (filter-append ts (flat_map (λ xs. xs) deeper)) in
         omega (arith, later, here, a, b, c, d)
 
@@ -121,19 +121,19 @@ module _ (segment : ℕ) where
 
     -- in place of each input all new tables stand: so of one input it is right, and of several not
     live-in_place : (ts : List Table)
-        → live_bytes (flat_map (λ t. cond (is_one inputs t) new (t ∷ [])) ts) segment + live_bytes (filter (is_one inputs) ts) segment ≡ length (filter (is_one inputs) ts) * live_bytes new segment + live_bytes ts segment
+        → live_bytes (flat_map (λ t. cond (is_among inputs t) new (t ∷ [])) ts) segment + live_bytes (filter (is_among inputs) ts) segment ≡ length (filter (is_among inputs) ts) * live_bytes new segment + live_bytes ts segment
     live-in_place [] = nothing
     live-in_place (t ∷ ts) =
         let later = live-in_place ts in
         let whole = live-cons t ts in
-        elim (is_one inputs t) as (λ b. live_bytes (cond b new (t ∷ []) ++ flat_map (λ u. cond (is_one inputs u) new (u ∷ [])) ts) segment + live_bytes (cond b (t ∷ filter (is_one inputs) ts) (filter (is_one inputs) ts)) segment ≡ length (cond b (t ∷ filter (is_one inputs) ts) (filter (is_one inputs) ts)) * live_bytes new segment + live_bytes (t ∷ ts) segment) [
+        elim (is_among inputs t) as (λ b. live_bytes (cond b new (t ∷ []) ++ flat_map (λ u. cond (is_among inputs u) new (u ∷ [])) ts) segment + live_bytes (cond b (t ∷ filter (is_among inputs) ts) (filter (is_among inputs) ts)) segment ≡ length (cond b (t ∷ filter (is_among inputs) ts) (filter (is_among inputs) ts)) * live_bytes new segment + live_bytes (t ∷ ts) segment) [
           | true ↦ (
-              let a = live-append new (flat_map (λ u. cond (is_one inputs u) new (u ∷ [])) ts) in
-              let b = live-cons t (filter (is_one inputs) ts) in
-              let c : (length (filter (is_one inputs) ts) + 1) * live_bytes new segment ≡ length (filter (is_one inputs) ts) * live_bytes new segment + live_bytes new segment = omega arith in
+              let a = live-append new (flat_map (λ u. cond (is_among inputs u) new (u ∷ [])) ts) in
+              let b = live-cons t (filter (is_among inputs) ts) in
+              let c : (length (filter (is_among inputs) ts) + 1) * live_bytes new segment ≡ length (filter (is_among inputs) ts) * live_bytes new segment + live_bytes new segment = omega arith in
               omega (arith, later, whole, a, b, c))
           | false ↦ (
-              let a = live-cons t (flat_map (λ u. cond (is_one inputs u) new (u ∷ [])) ts) in
+              let a = live-cons t (flat_map (λ u. cond (is_among inputs u) new (u ∷ [])) ts) in
               omega (arith, later, whole, a))
         ]
 
@@ -145,25 +145,25 @@ module _ (segment : ℕ) where
     times_more m n k = omega arith
 
     live-levels_in_place : (levels : List (List Table))
-        → live_bytes (flat_map (λ ts. ts) (map (flat_map (λ t. cond (is_one inputs t) new (t ∷ []))) levels)) segment + live_bytes (filter (is_one inputs) (flat_map (λ ts. ts) levels)) segment
-        ≡ length (filter (is_one inputs) (flat_map (λ ts. ts) levels)) * live_bytes new segment + live_bytes (flat_map (λ ts. ts) levels) segment
+        → live_bytes (flat_map (λ ts. ts) (map (flat_map (λ t. cond (is_among inputs t) new (t ∷ []))) levels)) segment + live_bytes (filter (is_among inputs) (flat_map (λ ts. ts) levels)) segment
+        ≡ length (filter (is_among inputs) (flat_map (λ ts. ts) levels)) * live_bytes new segment + live_bytes (flat_map (λ ts. ts) levels) segment
     live-levels_in_place [] = nothing
     live-levels_in_place (ts ∷ deeper) =
-        let F = filter (is_one inputs) ts in
-        let G = filter (is_one inputs) (flat_map (λ xs. xs) deeper) in
+        let F = filter (is_among inputs) ts in
+        let G = filter (is_among inputs) (flat_map (λ xs. xs) deeper) in
         let later = live-levels_in_place deeper in
         let here = live-in_place ts in
-        let a = live-append (flat_map (λ t. cond (is_one inputs t) new (t ∷ [])) ts) (flat_map (λ xs. xs) (map (flat_map (λ t. cond (is_one inputs t) new (t ∷ []))) deeper)) in
+        let a = live-append (flat_map (λ t. cond (is_among inputs t) new (t ∷ [])) ts) (flat_map (λ xs. xs) (map (flat_map (λ t. cond (is_among inputs t) new (t ∷ []))) deeper)) in
         let b = live-append ts (flat_map (λ xs. xs) deeper) in
         let c = live-append F G in
         let d = ap (λ (xs : List Table). live_bytes xs segment) (filter-append ts (flat_map (λ xs. xs) deeper)) in
-        let e : length (filter (is_one inputs) (ts ++ flat_map (λ xs. xs) deeper)) ≡ length F + length G = ap (λ (xs : List Table). length xs) (filter-append ts (flat_map (λ xs. xs) deeper)) ∙ length-append' F G in
-        let f : length (filter (is_one inputs) (ts ++ flat_map (λ xs. xs) deeper)) * live_bytes new segment ≡ length F * live_bytes new segment + length G * live_bytes new segment = ap (λ (n : ℕ). n * live_bytes new segment) e ∙ times_more (length F) (length G) (live_bytes new segment) in
+        let e : length (filter (is_among inputs) (ts ++ flat_map (λ xs. xs) deeper)) ≡ length F + length G = ap (λ (xs : List Table). length xs) (filter-append ts (flat_map (λ xs. xs) deeper)) ∙ length-append' F G in
+        let f : length (filter (is_among inputs) (ts ++ flat_map (λ xs. xs) deeper)) * live_bytes new segment ≡ length F * live_bytes new segment + length G * live_bytes new segment = ap (λ (n : ℕ). n * live_bytes new segment) e ∙ times_more (length F) (length G) (live_bytes new segment) in
         omega (arith, later, here, a, b, c, d, f)
 
   -- What a switch of a merge adds and drops: for a level that there is, or for one input that stands once.
   pub live-installed_level : (l : Layout) (job : Job) (made : Made) (n : ℕ) → job.target ≡ Level n → n < length l.levels
-      → live_bytes (tables (installed job made l)) segment + live_bytes (filter (is_one job.inputs) (tables l)) segment
+      → live_bytes (tables (installed job made l)) segment + live_bytes (filter (is_among job.inputs) (tables l)) segment
       ≡ live_bytes (made.tables) segment + live_bytes (tables l) segment
   live-installed_level l job made n is within =
       let new = made.tables in
@@ -178,14 +178,14 @@ module _ (segment : ℕ) where
       length-map f (x ∷ xs) = let later = length-map f xs in omega (arith, later)
 
   pub live-installed_in_place : (l : Layout) (job : Job) (made : Made) → job.target ≡ InPlace
-      → length (filter (is_one job.inputs) (tables l)) ≡ 1
-      → live_bytes (tables (installed job made l)) segment + live_bytes (filter (is_one job.inputs) (tables l)) segment
+      → length (filter (is_among job.inputs) (tables l)) ≡ 1
+      → live_bytes (tables (installed job made l)) segment + live_bytes (filter (is_among job.inputs) (tables l)) segment
       ≡ live_bytes (made.tables) segment + live_bytes (tables l) segment
   live-installed_in_place l job made is one =
       let new = made.tables in
       let same = ap (λ target. live_bytes (flat_map (λ ts. ts) (replaced target job.inputs new l.levels)) segment) is in
       let b = live-levels_in_place job.inputs new l.levels in
-      let c : length (filter (is_one job.inputs) (tables l)) * live_bytes new segment ≡ live_bytes new segment = ap (λ (n : ℕ). n * live_bytes new segment) one ∙ omega arith in
+      let c : length (filter (is_among job.inputs) (tables l)) * live_bytes new segment ≡ live_bytes new segment = ap (λ (n : ℕ). n * live_bytes new segment) one ∙ omega arith in
       omega (arith, same, b, c)
 
   -- nothing else changes them

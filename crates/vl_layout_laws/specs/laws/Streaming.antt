@@ -4,7 +4,7 @@ use Rattle.std.proofs.lemmas.Bool.Decides.{nat_tests}
 use Rattle.std.specs.Prelude.{None, ◌==◌}
 use Rattle.std.specs.List.{AllByRecursion, flat_map, list_any, filter}
 use Rattle.vl_block.specs.declared.laid_point.LaidPoint.{LaidPoint as Point}
-use Rattle.vl_layout.specs.Levels.{is_one, replaced}
+use Rattle.vl_layout.specs.Levels.{is_among, replaced}
 use Rattle.vl_layout.specs.Ruling.{retired_at, switched}
 use Rattle.vl_layout.specs.Rulings.Sweep.{is_same, pins, job_pin, pass_pin}
 use Rattle.vl_layout.specs.Sources.{needed, tables, log_of, table_of, pointed_logs}
@@ -113,7 +113,7 @@ module _ (l : Layout) (job : Job) (made : List Table) (rest : List Retired) (k :
     (off : AllByRecursion (λ (r : Retired). is_in r.file (map table_of made) ≡ false) rest)
     (given : AllByRecursion (λ (t : Table). t.number < l.next_table) made)
     -- and no input is one of them
-    (apart : AllByRecursion (λ (t : Table). is_one job.inputs t ≡ false) made)
+    (apart : AllByRecursion (λ (t : Table). is_among job.inputs t ≡ false) made)
     (footed : AllByRecursion IsFooted made)
     (into : (n : ℕ) → AllByRecursion (λ (t : Table). leads n t.points ≡ true → list_any (λ (u : Table). leads n u.points) (tables l) ≡ true) made) where
   after : List Table
@@ -129,7 +129,7 @@ module _ (l : Layout) (job : Job) (made : List Table) (rest : List Retired) (k :
       (all_weaker (λ (t : Table). is_same f (table_of t) ≡ true → list_any (λ (u : Table). is_same f (table_of u)) made ≡ true) Q
       (λ t is at. inr (any-map (is_same f) table_of made ∙ is at)) made (seen (λ (u : Table). is_same f (table_of u)) made))
       job.target l.levels
-      (all_weaker (λ (t : Table). is_same f (table_of t) ≡ true → list_any (λ (u : Table). is_same f (table_of u)) (tables l) ≡ true) (λ (t : Table). is_one job.inputs t ≡ false → Q t)
+      (all_weaker (λ (t : Table). is_same f (table_of t) ≡ true → list_any (λ (u : Table). is_same f (table_of u)) (tables l) ≡ true) (λ (t : Table). is_among job.inputs t ≡ false → Q t)
       (λ t is out at. inl (in_tables f (map table_of (tables l)) (flat_map pointed_logs (tables l)) (map log_of (l.active ∷ l.frozen)) (any-map (is_same f) table_of (tables l) ∙ is at)))
       (tables l) (seen (λ (u : Table). is_same f (table_of u)) (tables l))))
       (sym (any-map (is_same f) table_of (tables (putting l job made rest))) ∙ there) in
@@ -141,7 +141,7 @@ module _ (l : Layout) (job : Job) (made : List Table) (rest : List Retired) (k :
       let Q : Table → Type 0 = λ t. leads n t.points ≡ true → list_any (λ (u : Table). leads n u.points) (tables l) ≡ true in
       let found = picked Q (λ (t : Table). leads n t.points) (tables (putting l job made rest))
       (all_replaced Q job.inputs made (into n) job.target l.levels
-      (all_weaker Q (λ (t : Table). is_one job.inputs t ≡ false → Q t) (λ t is out. is) (tables l) (seen (λ (t : Table). leads n t.points) (tables l))))
+      (all_weaker Q (λ (t : Table). is_among job.inputs t ≡ false → Q t) (λ t is out. is) (tables l) (seen (λ (t : Table). leads n t.points) (tables l))))
       there in
       found.2 found.1
 
@@ -184,9 +184,9 @@ module _ (l : Layout) (job : Job) (made : List Table) (rest : List Retired) (k :
       all_both (IsPinned l.version_number rest) (map (λ (x : Live). x.pin) l.live ++ []) (pass_pin l.pass)
       (all_both (IsPinned l.version_number rest) (map (λ (x : Live). x.pin) l.live) [] inner.0 tt) outer.1
 
-  put_inputs_gone : AllByRecursion (λ (t : Table). (is_in (table_of t) (needed (putting l job made rest)) ≡ false) × (t.number < l.next_table)) (filter (is_one job.inputs) (tables l))
+  put_inputs_gone : AllByRecursion (λ (t : Table). (is_in (table_of t) (needed (putting l job made rest)) ≡ false) × (t.number < l.next_table)) (filter (is_among job.inputs) (tables l))
   put_inputs_gone =
-      all_passed (λ (t : Table). t.number < l.next_table) (λ (t : Table). (is_in (table_of t) (needed (putting l job made rest)) ≡ false) × (t.number < l.next_table)) (is_one job.inputs)
+      all_passed (λ (t : Table). t.number < l.next_table) (λ (t : Table). (is_in (table_of t) (needed (putting l job made rest)) ≡ false) × (t.number < l.next_table)) (is_among job.inputs)
       (λ t drawn input. (gone t input, drawn))
       (tables l) k.tables_drawn
     where
@@ -194,19 +194,19 @@ module _ (l : Layout) (job : Job) (made : List Table) (rest : List Retired) (k :
       no_log n [] = refl
       no_log n (s ∷ ss) = no_log n ss
 
-      same_number : (t u : Table) → t.number ≡ u.number → is_one job.inputs t ≡ is_one job.inputs u
+      same_number : (t u : Table) → t.number ≡ u.number → is_among job.inputs t ≡ is_among job.inputs u
       same_number t u same = ap (λ (n : ℕ). list_any (λ number. number == n) job.inputs) same
 
-      gone : (t : Table) → is_one job.inputs t ≡ true → is_in (table_of t) (needed (putting l job made rest)) ≡ false
+      gone : (t : Table) → is_among job.inputs t ≡ true → is_in (table_of t) (needed (putting l job made rest)) ≡ false
       gone t input =
           not_in (table_of t) (map table_of (tables (putting l job made rest))) (flat_map pointed_logs (tables (putting l job made rest))) (map log_of (l.active ∷ l.frozen))
           (is_not (is_in (table_of t) (map table_of (tables (putting l job made rest)))) (λ there.
           let Q : Table → Type 0 = λ u. (t.number == u.number) ≡ true → ⊥ in
           let found = picked Q (λ (u : Table). is_same (table_of t) (table_of u)) (tables (putting l job made rest))
           (all_replaced Q job.inputs made
-          (all_weaker (λ (u : Table). is_one job.inputs u ≡ false) Q (λ u out at. let e : t.number ≡ u.number = grind (arith, nat_tests, at) in true_false (sym input ∙ same_number t u e ∙ out)) made apart)
+          (all_weaker (λ (u : Table). is_among job.inputs u ≡ false) Q (λ u out at. let e : t.number ≡ u.number = grind (arith, nat_tests, at) in true_false (sym input ∙ same_number t u e ∙ out)) made apart)
           job.target l.levels
-          (all_weaker (λ (u : Table). Unit {0}) (λ (u : Table). is_one job.inputs u ≡ false → Q u)
+          (all_weaker (λ (u : Table). Unit {0}) (λ (u : Table). is_among job.inputs u ≡ false → Q u)
           (λ u any out at. let e : t.number ≡ u.number = grind (arith, nat_tests, at) in true_false (sym input ∙ same_number t u e ∙ out))
           (tables l) (everything (tables l))))
           (sym (any-map (is_same (table_of t)) table_of (tables (putting l job made rest))) ∙ there) in
@@ -214,19 +214,19 @@ module _ (l : Layout) (job : Job) (made : List Table) (rest : List Retired) (k :
           (no_pointed_table t.number (tables (putting l job made rest))) (no_log t.number (l.active ∷ l.frozen))
 
   -- The switch of a job whose tables were made beside it.
-  pub stocked_put : IsStocked (switched (filter (is_one job.inputs) (tables l)) (putting l job made rest))
+  pub stocked_put : IsStocked (switched (filter (is_among job.inputs) (tables l)) (putting l job made rest))
   stocked_put =
       let stocked : IsStocked (putting l job made rest) = record {
         unneeded = still_off made (needed l) (needed (putting l job made rest)) put_gains rest rest_unneeded off;
         retired_drawn = rest_drawn;
         pinned = all_weaker (IsPinned l.version_number rest) (IsPinned (l.version_number + 1) rest) (λ p is. record { old = (let less = is.old in omega (arith, less)); off = is.off }) (pins (putting l job made rest)) put_free_pins;
         tables_drawn = all_replaced (λ (t : Table). t.number < l.next_table) job.inputs made given job.target l.levels
-            (all_weaker (λ (t : Table). t.number < l.next_table) (λ (t : Table). is_one job.inputs t ≡ false → t.number < l.next_table) (λ t less out. less) (tables l) k.tables_drawn);
+            (all_weaker (λ (t : Table). t.number < l.next_table) (λ (t : Table). is_among job.inputs t ≡ false → t.number < l.next_table) (λ t less out. less) (tables l) k.tables_drawn);
         logs_drawn = k.logs_drawn;
         flushed_drawn = k.flushed_drawn;
         falling = k.falling;
         footed = all_replaced IsFooted job.inputs made footed job.target l.levels
-            (all_weaker IsFooted (λ (t : Table). is_one job.inputs t ≡ false → IsFooted t) (λ t is out. is) (tables l) k.footed);
+            (all_weaker IsFooted (λ (t : Table). is_among job.inputs t ≡ false → IsFooted t) (λ t is out. is) (tables l) k.footed);
       } in
-      stocked_switched (putting l job made rest) stocked (filter (is_one job.inputs) (tables l))
+      stocked_switched (putting l job made rest) stocked (filter (is_among job.inputs) (tables l))
       (early_pins l.version_number rest (pins (putting l job made rest)) put_free_pins) put_inputs_gone

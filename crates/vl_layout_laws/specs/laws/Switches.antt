@@ -17,7 +17,7 @@ use Rattle.vl_model.specs.declared.pointer.Pointer.{Pointer}
 use Rattle.vl_block.specs.Cutting.{points_of}
 use Rattle.vl_block.specs.Cutting.{joined}
 use Rattle.vl_block.specs.declared.laid_point.LaidPoint.{LaidPoint as Point}
-use Rattle.vl_layout.specs.Levels.{is_one, in_front, replaced, without, at_level, in_key_order, is_before}
+use Rattle.vl_layout.specs.Levels.{is_among, in_front, replaced, without, at_level, in_key_order, is_before}
 use Rattle.vl_layout.specs.Logs.{LogRecord, record_entry, logged_body, pointer_to, frame_entries, frame_records, logged_entries, memtable}
 use Rattle.vl_layout.specs.laws.OrderShows.{all-in_order}
 use Rattle.vl_layout.specs.Rulings.Flush.{flushed, flushed_table}
@@ -216,10 +216,10 @@ stocked_flushed l s level deeper k waits are =
 
 module _ (P : Table → Type 0) (inputs : List ℕ) (new : List Table) (made : AllByRecursion P new) where
   abbrev pub Stays : Table → Type 0
-  Stays t = is_one inputs t ≡ false → P t
+  Stays t = is_among inputs t ≡ false → P t
 
-  all_without : (ts : List Table) → AllByRecursion (λ (t : Table). is_one inputs t ≡ false → P t) ts → AllByRecursion P (without inputs ts)
-  all_without ts all = all_passed (λ (t : Table). is_one inputs t ≡ false → P t) P (λ t. not (is_one inputs t)) (λ t stays is. stays (not_true (is_one inputs t) is)) ts all
+  all_without : (ts : List Table) → AllByRecursion (λ (t : Table). is_among inputs t ≡ false → P t) ts → AllByRecursion P (without inputs ts)
+  all_without ts all = all_passed (λ (t : Table). is_among inputs t ≡ false → P t) P (λ t. not (is_among inputs t)) (λ t stays is. stays (not_true (is_among inputs t) is)) ts all
     where
       not_true : (b : Bool) → not b ≡ true → b ≡ false
       not_true true h = absurd (true_false (sym h))
@@ -243,34 +243,34 @@ module _ (P : Table → Type 0) (inputs : List ℕ) (new : List Table) (made : A
       ]
 
   all_levels_without : (levels : List (List Table))
-      → AllByRecursion (λ (t : Table). is_one inputs t ≡ false → P t) (flat_map (λ ts. ts) levels)
+      → AllByRecursion (λ (t : Table). is_among inputs t ≡ false → P t) (flat_map (λ ts. ts) levels)
       → AllByRecursion P (flat_map (λ ts. ts) (map (without inputs) levels))
   all_levels_without [] all = tt
   all_levels_without (ts ∷ deeper) all =
-      let both = all_parts (λ (t : Table). is_one inputs t ≡ false → P t) ts (flat_map (λ xs. xs) deeper) all in
+      let both = all_parts (λ (t : Table). is_among inputs t ≡ false → P t) ts (flat_map (λ xs. xs) deeper) all in
       all_both P (without inputs ts) (flat_map (λ xs. xs) (map (without inputs) deeper)) (all_without ts both.0) (all_levels_without deeper both.1)
 
-  all_swapped : (ts : List Table) → AllByRecursion (λ (t : Table). is_one inputs t ≡ false → P t) ts
-      → AllByRecursion P (flat_map (λ t. cond (is_one inputs t) new (t ∷ [])) ts)
+  all_swapped : (ts : List Table) → AllByRecursion (λ (t : Table). is_among inputs t ≡ false → P t) ts
+      → AllByRecursion P (flat_map (λ t. cond (is_among inputs t) new (t ∷ [])) ts)
   all_swapped [] all = tt
-  all_swapped (t ∷ ts) all = all_both P (cond (is_one inputs t) new (t ∷ [])) (flat_map (λ u. cond (is_one inputs u) new (u ∷ [])) ts)
-      (one (is_one inputs t) refl) (all_swapped ts all.1)
+  all_swapped (t ∷ ts) all = all_both P (cond (is_among inputs t) new (t ∷ [])) (flat_map (λ u. cond (is_among inputs u) new (u ∷ [])) ts)
+      (one (is_among inputs t) refl) (all_swapped ts all.1)
     where
-      one : (b : Bool) → is_one inputs t ≡ b → AllByRecursion P (cond b new (t ∷ []))
+      one : (b : Bool) → is_among inputs t ≡ b → AllByRecursion P (cond b new (t ∷ []))
       one true is = made
       one false is = (all.0 is, tt)
 
   all_in_place : (levels : List (List Table))
-      → AllByRecursion (λ (t : Table). is_one inputs t ≡ false → P t) (flat_map (λ ts. ts) levels)
-      → AllByRecursion P (flat_map (λ ts. ts) (map (flat_map (λ t. cond (is_one inputs t) new (t ∷ []))) levels))
+      → AllByRecursion (λ (t : Table). is_among inputs t ≡ false → P t) (flat_map (λ ts. ts) levels)
+      → AllByRecursion P (flat_map (λ ts. ts) (map (flat_map (λ t. cond (is_among inputs t) new (t ∷ []))) levels))
   all_in_place [] all = tt
   all_in_place (ts ∷ deeper) all =
-      let both = all_parts (λ (t : Table). is_one inputs t ≡ false → P t) ts (flat_map (λ xs. xs) deeper) all in
-      all_both P (flat_map (λ t. cond (is_one inputs t) new (t ∷ [])) ts) (flat_map (λ xs. xs) (map (flat_map (λ t. cond (is_one inputs t) new (t ∷ []))) deeper)) (all_swapped ts both.0) (all_in_place deeper both.1)
+      let both = all_parts (λ (t : Table). is_among inputs t ≡ false → P t) ts (flat_map (λ xs. xs) deeper) all in
+      all_both P (flat_map (λ t. cond (is_among inputs t) new (t ∷ [])) ts) (flat_map (λ xs. xs) (map (flat_map (λ t. cond (is_among inputs t) new (t ∷ []))) deeper)) (all_swapped ts both.0) (all_in_place deeper both.1)
 
   -- what is so of the new tables and of all that isn't an input is so of what stands afterwards
   pub all_replaced : (target : Target) (levels : List (List Table))
-      → AllByRecursion (λ (t : Table). is_one inputs t ≡ false → P t) (flat_map (λ ts. ts) levels)
+      → AllByRecursion (λ (t : Table). is_among inputs t ≡ false → P t) (flat_map (λ ts. ts) levels)
       → AllByRecursion P (flat_map (λ ts. ts) (replaced target inputs new levels))
   all_replaced (Level n) levels all = all_at_level n (map (without inputs) levels) (all_levels_without levels all)
   all_replaced InPlace levels all = all_in_place levels all

@@ -9,7 +9,7 @@ use Rattle.vl_model.specs.Numbers.{has}
 use Rattle.vl_model.specs.declared.log_frame.LogFrame.{LogFrame}
 use Rattle.vl_model.specs.declared.log_frame.Moved.{Moved}
 use Rattle.vl_layout.specs.Jobs.{Made, loose, lent_numbers, job_ended, AreDistinct, AreLent}
-use Rattle.vl_layout.specs.Levels.{is_one}
+use Rattle.vl_layout.specs.Levels.{is_among}
 use Rattle.vl_layout.specs.Merging.{needless, gone_after}
 use Rattle.vl_layout.specs.Ruling.{logged, ended, retired_at, switched}
 use Rattle.vl_layout.specs.Rulings.Begin.{begun}
@@ -333,9 +333,9 @@ module _ (l : Layout) (w : IsWellStocked l) where
       front true at none = absurd (false≢true (sym none ∙ in_tables (TableFile n) (map table_of (tables l)) (flat_map pointed_logs (tables l)) (map log_of (l.active ∷ l.frozen)) at))
       front false at none = at
 
-  no_input : (inputs : List ℕ) → AreStanding inputs → (t : Table) → has t.number (lent_numbers l.job) ≡ true → is_one inputs t ≡ false
+  no_input : (inputs : List ℕ) → AreStanding inputs → (t : Table) → has t.number (lent_numbers l.job) ≡ true → is_among inputs t ≡ false
   no_input [] standing t lent = refl
-  no_input (n ∷ ns) standing t lent = or_false (n == t.number) (is_one ns t) (apart (n == t.number) refl) (no_input ns standing.1 t lent)
+  no_input (n ∷ ns) standing t lent = or_false (n == t.number) (is_among ns t) (apart (n == t.number) refl) (no_input ns standing.1 t lent)
     where
       apart : (b : Bool) → (n == t.number) ≡ b → (n == t.number) ≡ false
       apart true is =
@@ -344,7 +344,7 @@ module _ (l : Layout) (w : IsWellStocked l) where
       apart false is = is
 
   all_no_input : (inputs : List ℕ) → AreStanding inputs → (ts : List Table) → AllByRecursion (λ n. has n (lent_numbers l.job) ≡ true) (numbers_of ts)
-      → AllByRecursion (λ (t : Table). is_one inputs t ≡ false) ts
+      → AllByRecursion (λ (t : Table). is_among inputs t ≡ false) ts
   all_no_input inputs standing [] lent = tt
   all_no_input inputs standing (t ∷ ts) lent = (no_input inputs standing t lent.0, all_no_input inputs standing ts lent.1)
 
@@ -436,7 +436,7 @@ module _ (l : Layout) (w : IsWellStocked l) where
       → AllByRecursion (PointsDrawn l.next_log) made.tables
       → IsWellStocked (installed job made l)
   well_installed job made are standing footed into below = record {
-    stocked = with_gone (switched (filter (is_one job.inputs) (tables l)) (putting (with_lent l) job made.tables rest)) (gone_after l.gone (needless job)) l.keep l.since
+    stocked = with_gone (switched (filter (is_among job.inputs) (tables l)) (putting (with_lent l) job made.tables rest)) (gone_after l.gone (needless job)) l.keep l.since
         (stocked_put (with_lent l) job made.tables rest w.stocked
         (within (IsUnneeded (needed l)) w.stocked.unneeded)
         (within (λ (r : Retired). IsDrawn l.next_log l.next_table r.file) w.stocked.retired_drawn)

@@ -7,7 +7,7 @@ use Rattle.std.proofs.lemmas.Bool.Decides.{not_from_Decides}
 use Rattle.std.proofs.lemmas.Slice.Eq.{bytes_eq-Decides}
 use Rattle.std.proofs.lemmas.List.{drop_at, take_at, take-append-drop}
 use Rattle.vl_frame.specs.Header.{header_bytes}
-use Rattle.vl_frame.specs.laws.HeaderLaws.{header_has_format, length-header_bytes, one_format}
+use Rattle.vl_frame.specs.laws.HeaderLaws.{length-header_bytes, one_format}
 use Rattle.vl_frame.specs.Begins.{placed}
 use Rattle.vl_frame.specs.laws.BeginLaws.{one_begins, reads_past}
 use Rattle.vl_frame.specs.laws.RunLaws.{one_reading, reads_whole, there_or_not}

@@ -1,12 +1,12 @@
 -- What the definition of a repairing says: how many calls it makes, and that it ends with what it makes of the disk.
 use Rattle.std.specs.Prelude.{◌≡◌, ◌⊎◌, ℕ, ◌+◌, ◌==◌, Bool, true, false, List, [], ◌∷◌, length, Option, None, Some, if◌then◌else◌, refl}
-use Rattle.std.proofs.Common.{ap, inl, inr, subst, sym, ◌∙◌, ⊎_elim}
+use Rattle.std.proofs.Common.{ap, inl, inr, ◌∙◌, ⊎_elim}
 use Rattle.vl_disk.specs.Crash.{Image}
 use Rattle.vl_disk.specs.DiskState.{DiskState, without}
 use Rattle.vl_disk.specs.MadeFile.{durable}
 use Rattle.vl_disk.specs.declared.name.Name.{Name}
 use Rattle.vl_recover.specs.opening.Answers.{Finds, calls_to_open}
-use Rattle.vl_recover.specs.repairing.Repairing.{Cut, Headed, IsPlan, Kept, LastLog, NoLast, Plan, Rewritten, WhileLast, WhileLog, WhileRepairing, WhileStrays, at_last, at_log, at_manifest, at_strays, behind_last, behind_log, behind_strays, calls_of_plan, calls_to_repair, last_of, repaired, repairing_of, with_last, with_log, with_manifest}
+use Rattle.vl_recover.specs.repairing.Repairing.{Cut, Headed, IsPlan, Kept, LastLog, NoLast, Plan, Rewritten, WhileLast, WhileLog, WhileStrays, behind_last, behind_log, behind_strays, calls_of_plan, calls_to_repair, last_of, repairing_of}
 use Rattle.vl_recover.specs.opening.Plans.{calls_of_last, calls_to_make, log_made, new_state}
 use Rattle.vl_recover.specs.opening.Walk.{StandingLog, content_end}
 

@@ -2,17 +2,14 @@
 use Rattle.std.specs.Prelude.{◌≡◌, ℕ, Bool, true, false, if◌then◌else◌, List, [], ◌∷◌, ◌++◌, map, Option, None, Some, Result, Ok, Err, refl}
 use Rattle.std.proofs.Common.{sym, ap, subst, ◌∙◌}
 use Rattle.std.proofs.lemmas.List.{append-nil}
-use Rattle.vl_disk.specs.Crash.{Image, MayLeave}
-use Rattle.vl_disk.specs.DiskState.{DiskState}
+use Rattle.vl_disk.specs.Crash.{Image}
 use Rattle.vl_layout.specs.Logs.{log_length, new_segment}
 use Rattle.vl_layout.specs.declared.segment.Segment.{Segment}
 use Rattle.vl_recover.specs.crash.Alike.{ShowsAs}
 use Rattle.vl_recover.specs.laws.crash.AlikeLaws.{walk_more, whole_log}
 use Rattle.vl_recover.specs.opening.Answers.{Finds, and_made, as_segment, logs_then}
-use Rattle.vl_recover.specs.crash.Held.{HoldsStore}
-use Rattle.vl_recover.specs.laws.opening.HeldLaws.{held_opens}
 use Rattle.vl_recover.specs.crash.Held.{GoOn, log_as_held, opening_held}
-use Rattle.vl_recover.specs.opening.Opening.{Opening, Opens}
+use Rattle.vl_recover.specs.opening.Opening.{Opening}
 use Rattle.vl_recover.specs.laws.opening.OpeningLaws.{IsOpened, one_standing, opened}
 use Rattle.vl_recover.specs.opening.Plans.{log_made, new_state}
 use Rattle.vl_recover.specs.laws.repairing.StageLaws.{err_ok, ok_apart, ok_same, ok_with}

@@ -8,9 +8,9 @@ use Rattle.vl_replay.specs.Endings.{OnlyByDisk, TheSink, TheSource, culprit_of, 
 use Rattle.vl_replay.specs.Halts.{HaltsByDisk}
 use Rattle.vl_replay.specs.declared.ending.Ending.{Ending}
 use Rattle.vl_replay.specs.declared.ending.Ending.TheVariants.{AnswerCut, BadLine, BadWords, Complete, NoMemory, Refused}
-use Rattle.vl_replay.proofs.Ends.{answer_cut, finished, finish_counts, before_weaker, at_fault, ends_as, fault_as, fault_counts, fault_line, fault_stops, or_cut, otherwise_as}
-use Rattle.vl_replay.proofs.Texts.{halts, of_ok, ends_cut, ends_bad, ends_out, ends_fault}
-use Rattle.vl_replay.proofs.ReadingOn.{ends_for, ends_otherwise, finishes_otherwise}
+use Rattle.vl_replay.proofs.Runs.Ends.{answer_cut, finished, finish_counts, before_weaker, at_fault, ends_as, fault_as, fault_counts, fault_line, fault_stops, or_cut, otherwise_as}
+use Rattle.vl_replay.proofs.Runs.Texts.{halts, of_ok, ends_cut, ends_bad, ends_out, ends_fault}
+use Rattle.vl_replay.proofs.Runs.ReadingOn.{ends_for, ends_otherwise, finishes_otherwise}
 use Rattle.vl_replay.proofs.answering.answer.Goals as goal
 
 pub returns-in-Ok-clause-printed : goal.returns-in-Ok-clause-printed

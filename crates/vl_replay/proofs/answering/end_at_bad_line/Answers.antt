@@ -4,8 +4,8 @@ use Rattle.std.specs.Fmt.{decimal}
 use Rattle.vl_replay.specs.Endings.{Evidence, bad_line, no_memory_line}
 use Rattle.vl_replay.specs.Steps.{Finishes}
 use Rattle.vl_replay.specs.declared.ending.Ending.TheVariants.{BadLine, NoMemory}
-use Rattle.vl_replay.proofs.Ends.{finished, finish_counts, line_leaves_disk, bad_line_stops, bad_line_text}
-use Rattle.vl_replay.proofs.ReadingOn.{finishes_badly, finishes_otherwise}
+use Rattle.vl_replay.proofs.Runs.Ends.{finished, finish_counts, line_leaves_disk, bad_line_stops, bad_line_text}
+use Rattle.vl_replay.proofs.Runs.ReadingOn.{finishes_badly, finishes_otherwise}
 use Rattle.vl_replay.proofs.answering.end_at_bad_line.Goals as goal
 
 pub returns-in-Ok-clause-printed : goal.returns-in-Ok-clause-printed

@@ -5,9 +5,9 @@ use Rattle.vl_script.specs.Script.{text_of}
 use Rattle.vl_replay.specs.Exchanges.{exchanged}
 use Rattle.vl_replay.specs.Sequential.{state_after}
 use Rattle.vl_replay.specs.declared.fails.Halt.TheVariants as why
-use Rattle.vl_replay.proofs.Ends.{exchange_at-answered}
-use Rattle.vl_replay.proofs.Halting.{by_disk_still, out_not_by_disk}
-use Rattle.vl_replay.proofs.Texts.{carries_nothing, carries_bad, carries_line, kept_without_number, of_ok, ok_not_err, ok_not_out, same_halt}
+use Rattle.vl_replay.proofs.Runs.Ends.{exchange_at-answered}
+use Rattle.vl_replay.proofs.Disk.Halting.{by_disk_still, out_not_by_disk}
+use Rattle.vl_replay.proofs.Runs.Texts.{carries_nothing, carries_bad, carries_line, kept_without_number, of_ok, ok_not_err, ok_not_out, same_halt}
 use Rattle.vl_replay.proofs.answering.execute_line.Goals as goal
 
 pub returns-clause-answers : goal.returns-clause-answers

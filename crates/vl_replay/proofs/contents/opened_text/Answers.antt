@@ -3,7 +3,7 @@ use Rattle.std.specs.Prelude.{IfOk}
 use Rattle.vl_replay.specs.Text.{contents_text}
 use Rattle.vl_model.specs.History.{contents_at}
 use Rattle.vl_model.specs.Keys.{Row}
-use Rattle.vl_replay.proofs.OpenedText.{winners_have}
+use Rattle.vl_replay.proofs.Openings.OpenedText.{winners_have}
 use Rattle.vl_replay.proofs.contents.opened_text.Goals as goal
 
 pub returns : goal.returns

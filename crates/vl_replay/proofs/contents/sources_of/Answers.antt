@@ -2,7 +2,7 @@ use Rattle.std.proofs.Common.{◌≡◌, ℕ, ◌+◌, ◌-◌, List, drop, arit
 use Rattle.vl_recover.specs.declared.parts.FrozenLog.{FrozenLog}
 use Rattle.vl_replay.specs.Contents.{GiveEntries}
 use Rattle.vl_replay.specs.Opened.{entries_in}
-use Rattle.vl_replay.proofs.OpenedText.{give_next}
+use Rattle.vl_replay.proofs.Openings.OpenedText.{give_next}
 use Rattle.vl_replay.proofs.contents.sources_of.Goals as goal
 
 pub loop-left-preserved : goal.loop-left-preserved

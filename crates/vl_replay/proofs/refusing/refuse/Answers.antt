@@ -1,7 +1,7 @@
 use Rattle.std.proofs.Common.{◌∙◌, subst, List, ℕ}
 use Rattle.vl_replay.specs.Steps.{Finishes}
 use Rattle.vl_replay.specs.declared.ending.Ending.TheVariants.{Refused}
-use Rattle.vl_replay.proofs.Refusals.{refused_so}
+use Rattle.vl_replay.proofs.Runs.Refusals.{refused_so}
 use Rattle.vl_replay.proofs.refusing.refuse.Goals as goal
 
 pub returns-in-Ok : goal.returns-in-Ok

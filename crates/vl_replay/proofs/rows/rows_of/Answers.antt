@@ -7,7 +7,7 @@ use Rattle.vl_model.specs.declared.entry.Entry.{Entry}
 use Rattle.vl_model.specs.declared.way.Way.TheVariants.{Up}
 use Rattle.vl_merge.specs.Merging.{merged}
 use Rattle.vl_merge.specs.Visible.{visible}
-use Rattle.vl_replay.proofs.Rising.{rows-entries}
+use Rattle.vl_replay.proofs.Openings.Rising.{rows-entries}
 use Rattle.vl_replay.proofs.rows.rows_of.Goals as goal
 
 pub returns : goal.returns

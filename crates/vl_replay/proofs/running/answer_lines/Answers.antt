@@ -8,11 +8,11 @@ use Rattle.vl_replay.specs.Runs.{script_of, outside}
 use Rattle.vl_replay.specs.Steps.{kept}
 use Rattle.vl_replay.specs.Stored.{IsStored, Shown}
 use Rattle.vl_replay.specs.declared.ending.Ending.TheVariants.{NoMemory}
-use Rattle.vl_replay.proofs.Ends.{finished, line_leaves_disk, otherwise_as}
-use Rattle.vl_replay.proofs.Logged.{shown_stays, stored_exactly}
-use Rattle.vl_replay.proofs.ReadingOn.{finished_incomplete, read_nothing, reads_nothing}
-use Rattle.vl_replay.proofs.Stepping.{step_apart}
-use Rattle.vl_replay.proofs.UnderWay.{UnderWay, begun, further, over}
+use Rattle.vl_replay.proofs.Runs.Ends.{finished, line_leaves_disk, otherwise_as}
+use Rattle.vl_replay.proofs.Disk.Logged.{shown_stays, stored_exactly}
+use Rattle.vl_replay.proofs.Runs.ReadingOn.{finished_incomplete, read_nothing, reads_nothing}
+use Rattle.vl_replay.proofs.Runs.Stepping.{step_apart}
+use Rattle.vl_replay.proofs.Runs.UnderWay.{UnderWay, begun, further, over}
 use Rattle.vl_replay.proofs.running.answer_lines.Goals as goal
 
 pub returns-in_default-clause-runs : goal.returns-in_default-clause-runs

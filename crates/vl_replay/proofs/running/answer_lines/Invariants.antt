@@ -5,7 +5,7 @@ use Rattle.vl_replay.specs.Runs.{script_of, outside}
 use Rattle.vl_replay.specs.Sequential.{State}
 use Rattle.vl_replay.specs.Steps.{kept}
 use Rattle.vl_replay.specs.Stored.{IsStored, Shown}
-use Rattle.vl_replay.proofs.UnderWay.{UnderWay}
+use Rattle.vl_replay.proofs.Runs.UnderWay.{UnderWay}
 use Rattle.vl_replay.proofs.running.answer_lines.Given as goal
 
 abbrev pub invariant-lines : goal.invariant-lines

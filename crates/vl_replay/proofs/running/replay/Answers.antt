@@ -14,10 +14,10 @@ use Rattle.vl_replay.specs.Runs.{script_of, outside}
 use Rattle.vl_replay.specs.Start.{IsDurable}
 use Rattle.vl_replay.specs.Stored.{IsStored, Shown}
 use Rattle.std.specs.Prelude.{Some, true, false}
-use Rattle.vl_replay.proofs.Logged.{shown_stays, stored_exactly}
-use Rattle.vl_replay.proofs.OpenedRuns.{ends_opened, ends_refused, refused, refused_nothing, refused_as, refused_line, not_for_words, not_silent, out_of_memory, counts_sink, counts_source, counts_disk}
-use Rattle.vl_replay.proofs.ReadingOn.{unopened_reads_nothing}
-use Rattle.vl_replay.proofs.Refusals.{fault_for, fault_of, first_for, no_fault, opened_not_refused, refused_for, refused_or_first}
+use Rattle.vl_replay.proofs.Disk.Logged.{shown_stays, stored_exactly}
+use Rattle.vl_replay.proofs.Runs.OpenedRuns.{ends_opened, ends_refused, refused, refused_nothing, refused_as, refused_line, not_for_words, not_silent, out_of_memory, counts_sink, counts_source, counts_disk}
+use Rattle.vl_replay.proofs.Runs.ReadingOn.{unopened_reads_nothing}
+use Rattle.vl_replay.proofs.Runs.Refusals.{fault_for, fault_of, first_for, no_fault, opened_not_refused, refused_for, refused_or_first}
 use Rattle.vl_replay.proofs.running.replay.Goals as goal
 
 pub returns-in-Ok-clause-runs : goal.returns-in-Ok-clause-runs

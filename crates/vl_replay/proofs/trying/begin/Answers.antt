@@ -2,7 +2,7 @@ use Rattle.std.proofs.Common.{◌∙◌}
 use Rattle.std.specs.FinMap.{empty}
 use Rattle.vl_disk.specs.DiskState.{empty_disk}
 use Rattle.vl_replay.specs.Trial.{begun}
-use Rattle.vl_replay.proofs.Reopening.{bare_read, counts_small, durable, made_to_stop, opened, starts, stopped}
+use Rattle.vl_replay.proofs.Trials.Reopening.{bare_read, counts_small, durable, made_to_stop, opened, starts, stopped}
 use Rattle.vl_replay.proofs.trying.begin.Goals as goal
 
 pub returns-clause-opened : goal.returns-clause-opened

@@ -6,8 +6,8 @@ use Rattle.vl_mem.specs.CrashImage.{crash_image}
 use Rattle.vl_replay.specs.declared.ending.Ending.TheVariants.{Complete}
 use Rattle.vl_replay.specs.Steps.{Finishes}
 use Rattle.vl_recover.specs.laws.opening.ReadImage.{read_image}
-use Rattle.vl_replay.proofs.Reopening.{again_starts, memory_line, never_failed, only_memory, text_is}
-use Rattle.vl_replay.proofs.TrialEnds.{not_by_disk}
+use Rattle.vl_replay.proofs.Trials.Reopening.{again_starts, memory_line, never_failed, only_memory, text_is}
+use Rattle.vl_replay.proofs.Trials.TrialEnds.{not_by_disk}
 use Rattle.vl_replay.proofs.trying.reopen.Goals as goal
 
 pub returns-in-Ok-opened_text-clause-reopens : goal.returns-in-Ok-opened_text-clause-reopens

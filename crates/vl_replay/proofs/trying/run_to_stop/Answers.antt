@@ -2,9 +2,9 @@ use Rattle.std.proofs.Common.{◌≡◌, arith, true, false, sym, ◌∙◌}
 use Rattle.vl_replay.specs.Runs.{outside}
 use Rattle.vl_replay.specs.Trial.{begun}
 use Rattle.vl_replay.specs.Trying.{trial_of}
-use Rattle.vl_replay.proofs.Reopening.{memory_line}
-use Rattle.vl_replay.proofs.TrialEnds.{comes_nowhere, stopped_opening, stops_by_fault, stops_by_memory}
-use Rattle.vl_replay.proofs.TrialRun.{comes}
+use Rattle.vl_replay.proofs.Trials.Reopening.{memory_line}
+use Rattle.vl_replay.proofs.Trials.TrialEnds.{comes_nowhere, stopped_opening, stops_by_fault, stops_by_memory}
+use Rattle.vl_replay.proofs.Trials.TrialRun.{comes}
 use Rattle.vl_replay.proofs.trying.run_to_stop.Goals as goal
 
 not_both : true ≡ false → ⊥

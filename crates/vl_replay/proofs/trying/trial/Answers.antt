@@ -6,7 +6,7 @@ use Rattle.vl_replay.specs.Trying.{ComesTo, ReopensAs, trial_of}
 use Rattle.vl_model.specs.History.{last_number}
 use Rattle.vl_replay.specs.declared.ending.Ending.{Ending}
 use Rattle.vl_replay.specs.declared.ending.Ending.TheVariants.{ReadFault}
-use Rattle.vl_replay.proofs.TrialEnds.{ends_reopened, ends_so, ends_source}
+use Rattle.vl_replay.proofs.Trials.TrialEnds.{ends_reopened, ends_so, ends_source}
 use Rattle.vl_replay.proofs.trying.trial.Goals as goal
 
 not_both : true ≡ false → ⊥

@@ -1,7 +1,7 @@
 use Rattle.std.proofs.Common.{arith, sym, ap, ◌∙◌, ◌++◌, length, length-append}
-use Rattle.vl_replay.proofs.Ends.{keeps_up_within}
+use Rattle.vl_replay.proofs.Runs.Ends.{keeps_up_within}
 use Rattle.std.proofs.lemmas.Bool.{eqb-false}
-use Rattle.vl_replay.proofs.Lines.{read_to_end, read_all, more_given, unended-append, too_long, last_line_read}
+use Rattle.vl_replay.proofs.Runs.Lines.{read_to_end, read_all, more_given, unended-append, too_long, last_line_read}
 use Rattle.vl_replay.proofs.input.lines.read_line.Goals as goal
 
 pub returns-then-branch-clause-line : goal.returns-then-branch-clause-line

@@ -2,8 +2,8 @@ use Rattle.std.proofs.Common.{◌≡◌, sym, subst, ◌∙◌, refl, arith}
 use Rattle.vl_recover.specs.crash.Meanwhile.{IsRepaired}
 use Rattle.vl_recover.specs.laws.opening.OneFinding.{opened_not}
 use Rattle.vl_recover.specs.crash.Starts.{MayOpen}
-use Rattle.vl_replay.proofs.Recovering.{opened_store, opened_stored, refused_not}
-use Rattle.vl_replay.proofs.Starting.{at_most, opening_goes}
+use Rattle.vl_replay.proofs.Openings.Recovering.{opened_store, opened_stored, refused_not}
+use Rattle.vl_replay.proofs.Openings.Starting.{at_most, opening_goes}
 use Rattle.vl_replay.proofs.replayer.Replayer.new.Goals as goal
 
 pub returns-in-Err-clause-through : goal.returns-in-Err-clause-through

@@ -4,7 +4,7 @@ use Rattle.vl_model.specs.laws.WinnerLaws.{winner-append}
 use Rattle.vl_model.specs.Winners.{winner, newest_of}
 use Rattle.vl_memtable.specs.Contents.{Contents}
 use Rattle.vl_replay.specs.Opened.{any_number, entries_in}
-use Rattle.vl_replay.proofs.Starting.{entries_in-last, take_next}
+use Rattle.vl_replay.proofs.Openings.Starting.{entries_in-last, take_next}
 use Rattle.vl_replay.proofs.replayer.frozen.newest_in.Goals as goal
 
 pub loop-log-preserved : goal.loop-log-preserved

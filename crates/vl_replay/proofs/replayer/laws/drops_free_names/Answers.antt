@@ -1,7 +1,7 @@
 use Rattle.std.proofs.Common.{ap, ◌∙◌}
 use Rattle.std.specs.FinMap.{get}
 use Rattle.vl_replay.specs.Sequential.{Outcome}
-use Rattle.vl_replay.proofs.Pending.{drops, free_after}
+use Rattle.vl_replay.proofs.Store.Pending.{drops, free_after}
 use Rattle.vl_replay.proofs.replayer.laws.drops_free_names.Goals as goal
 
 pub returns : goal.returns

@@ -1,5 +1,5 @@
 use Rattle.std.specs.FinMap.{get}
-use Rattle.vl_replay.proofs.Noting.{refused_read, own_read_any, noted_read}
+use Rattle.vl_replay.proofs.Store.Noting.{refused_read, own_read_any, noted_read}
 use Rattle.vl_replay.proofs.replayer.laws.reads_are_noted.Goals as goal
 
 pub returns-clause-noted : goal.returns-clause-noted

@@ -1,6 +1,6 @@
 use Rattle.std.specs.FinMap.{get}
 use Rattle.vl_model.specs.declared.change.Change.TheVariants.{Set as Put, Delete}
-use Rattle.vl_replay.proofs.Pending.{refused_write, reads_write}
+use Rattle.vl_replay.proofs.Store.Pending.{refused_write, reads_write}
 use Rattle.vl_replay.proofs.replayer.laws.writes_are_read_back.Goals as goal
 
 pub returns-clause-set : goal.returns-clause-set

@@ -3,7 +3,7 @@ use Rattle.std.specs.Prelude.{IfOk, IfErr, OnOk, OnErr}
 use Rattle.vl_txn.specs.Refusals.{IsWritten}
 use Rattle.vl_replay.specs.Represents.{write_answer, writes_after}
 use Rattle.vl_replay.specs.declared.fails.Halt.TheVariants.{NoMemory}
-use Rattle.vl_replay.proofs.Writing.{answered, left_after, kept, halted}
+use Rattle.vl_replay.proofs.Store.Writing.{answered, left_after, kept, halted}
 use Rattle.vl_replay.proofs.replayer.store.write.Goals as goal
 
 pub returns-clause-answer : goal.returns-clause-answer

@@ -1,5 +1,5 @@
 use Rattle.vl_disk.specs.declared.name.Name.TheVariants as names
-use Rattle.vl_replay.proofs.Appending.{sync_stops, tells_all, tells_part}
+use Rattle.vl_replay.proofs.Disk.Appending.{sync_stops, tells_all, tells_part}
 use Rattle.vl_replay.proofs.replayer.writing.append_durably.Goals as goal
 
 pub returns-in_err-append-clause-tells : goal.returns-in_err-append-clause-tells

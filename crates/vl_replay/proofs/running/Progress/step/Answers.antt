@@ -7,10 +7,10 @@ use Rattle.vl_replay.specs.Steps.{kept, Steps}
 use Rattle.vl_replay.specs.Stored.{IsStored, Shown}
 use Rattle.vl_replay.specs.declared.ending.Ending.TheVariants.{NoMemory, ReadFault}
 use Rattle.vl_replay.specs.declared.input.lines.Next.TheVariants.{Line as WholeLine, LastLine, TooLong, End}
-use Rattle.vl_replay.proofs.Ends.{too_long_is_bad, finished, finish_counts, line_leaves_disk, ended_lines-none}
-use Rattle.vl_replay.proofs.Logged.{shown_stays, stored_exactly}
-use Rattle.vl_replay.proofs.ReadingOn.{ends_at_long, finishes_otherwise, reads_all, reads_end, reads_last, reads_line}
-use Rattle.vl_replay.proofs.Stepping.{reads_script, still_keeps_up, next_line, next_last, step_line, step_last, step_apart, step_end}
+use Rattle.vl_replay.proofs.Runs.Ends.{too_long_is_bad, finished, finish_counts, line_leaves_disk, ended_lines-none}
+use Rattle.vl_replay.proofs.Disk.Logged.{shown_stays, stored_exactly}
+use Rattle.vl_replay.proofs.Runs.ReadingOn.{ends_at_long, finishes_otherwise, reads_all, reads_end, reads_last, reads_line}
+use Rattle.vl_replay.proofs.Runs.Stepping.{reads_script, still_keeps_up, next_line, next_last, step_line, step_last, step_apart, step_end}
 use Rattle.vl_replay.proofs.running.Progress.step.Goals as goal
 
 pub returns-in-Ok-Line-clause-runs : goal.returns-in-Ok-Line-clause-runs

@@ -1,5 +1,5 @@
 use Rattle.std.proofs.Common.{◌≡◌, ◌+◌, ◌-◌, ℕ, List, ◌∷◌, ◌++◌, take, drop, arith, sym, ◌∙◌, ap, subst, length-take}
-use Rattle.vl_replay.proofs.Lines.{IsSplit, split_at, no_split, drop-window, empty_window}
+use Rattle.vl_replay.proofs.Runs.Lines.{IsSplit, split_at, no_split, drop-window, empty_window}
 use Rattle.vl_replay.specs.Input.{HasNoLineEnd}
 use Rattle.vl_replay.proofs.input.buffer.Buffer.take_line.Goals as goal
 

@@ -6,7 +6,7 @@ use Rattle.std.proofs.lemmas.Bool.{cond-true}
 use Rattle.std.proofs.lemmas.List.Sums.{prefix_len-le-length}
 use Rattle.vl_model.specs.History.{newer}
 use Rattle.vl_replay.specs.Memtable.{is_ordered, is_before, newest}
-use Rattle.vl_replay.proofs.MemtableEntries.{applied, IsUpTo, inserted, is_ordered-inserted, newest-applied, up_to_applied}
+use Rattle.vl_replay.proofs.Store.MemtableEntries.{applied, IsUpTo, inserted, is_ordered-inserted, newest-applied, up_to_applied}
 use Rattle.vl_replay.proofs.replayer.memtable.Memtable.apply.Goals as goal
 
 ended : {X : Type 0} (xs : List X) → length xs ≡ 0 → xs ≡ []

@@ -2,7 +2,7 @@ use Rattle.std.proofs.Common.{◌≡◌, ◌+◌, ◌≤◌, vec_len, length}
 use Rattle.std.specs.Vec.{vec_capacity}
 use Rattle.std.specs.Vec.Iter.{into_iter_items}
 use Rattle.std.specs.FinMap.{entries}
-use Rattle.vl_replay.proofs.MemtableEntries.{applied}
+use Rattle.vl_replay.proofs.Store.MemtableEntries.{applied}
 use Rattle.vl_replay.proofs.replayer.memtable.Memtable.apply.Given as goal
 
 abbrev pub invariant-loop-key : goal.invariant-loop-key

@@ -1,7 +1,7 @@
 use Rattle.std.proofs.Common.{◌≡◌, true, false, sym, ap, ◌∙◌}
 use Rattle.std.specs.Option.{option_copied}
 use Rattle.std.specs.Str.{bytes_eq}
-use Rattle.vl_replay.proofs.MemtableEntries.{newest-item, change_of, change_of-same, change_of-other}
+use Rattle.vl_replay.proofs.Store.MemtableEntries.{newest-item, change_of, change_of-same, change_of-other}
 use Rattle.vl_replay.proofs.replayer.memtable.Memtable.get.Goals as goal
 use Rattle.vl_replay.proofs.replayer.memtable.Memtable.get.Goals.{in_default-via-in-Some+else-eq, in_default-via-in_default}
 

@@ -3,8 +3,8 @@ use Rattle.std.specs.List.{prefix_len}
 use Rattle.std.proofs.lemmas.List.Sorted.{IsPartitionPoint-from_clause}
 use Rattle.vl_replay.specs.Memtable.{is_before}
 use Rattle.vl_replay.specs.declared.replayer.entry.Entry.{Entry}
-use Rattle.vl_replay.proofs.Places.{IsParted, partitioned, prefix_len-point}
-use Rattle.vl_replay.proofs.MemtableEntries.{is_ordered-parted}
+use Rattle.vl_replay.proofs.Store.Places.{IsParted, partitioned, prefix_len-point}
+use Rattle.vl_replay.proofs.Store.MemtableEntries.{is_ordered-parted}
 use Rattle.vl_replay.proofs.replayer.memtable.Memtable.place.Goals as goal
 
 pub returns : goal.returns

@@ -5,8 +5,8 @@ use Rattle.vl_replay.specs.Sequential.{Outcome, without_handle}
 use Rattle.vl_replay.specs.Represents.{IsOutcome}
 use Rattle.vl_replay.specs.Durable.{LeadsTo}
 use Rattle.vl_replay.specs.Stored.{IsStored, Shown}
-use Rattle.vl_replay.proofs.Commits.{carries_kept}
-use Rattle.vl_replay.proofs.Outcomes.{kept_nothing, kept_without}
+use Rattle.vl_replay.proofs.Disk.Commits.{carries_kept}
+use Rattle.vl_replay.proofs.Store.Outcomes.{kept_nothing, kept_without}
 use Rattle.vl_replay.proofs.replayer.store.Store.commit.Goals as goal
 
 pub returns-in-Refuse-clause-carries : goal.returns-in-Refuse-clause-carries

@@ -4,8 +4,8 @@ use Rattle.vl_model.specs.Limits.{max_room}
 use Rattle.vl_replay.specs.Sequential.{committed}
 use Rattle.vl_replay.specs.Represents.{handle_named}
 use Rattle.vl_replay.specs.declared.replayer.handle.Handle.TheVariants.{View}
-use Rattle.vl_replay.proofs.States.{unnamed, named}
-use Rattle.vl_replay.proofs.Deciding.{decides_empty, decides_exhausted, decides_full, decides_write, can_commit}
+use Rattle.vl_replay.proofs.Store.States.{unnamed, named}
+use Rattle.vl_replay.proofs.Store.Deciding.{decides_empty, decides_exhausted, decides_full, decides_write, can_commit}
 use Rattle.vl_replay.proofs.replayer.store.Store.decide.Goals as goal
 
 pub returns-in_default-clause-decides : goal.returns-in_default-clause-decides

@@ -1,7 +1,7 @@
 use Rattle.std.proofs.Common.{◌≡◌, ap, ◌∙◌, sym}
 use Rattle.std.specs.Option.{option_copied}
 use Rattle.vl_replay.specs.Represents.{handle_named}
-use Rattle.vl_replay.proofs.States.{gives_dropped, gives_unknown_dropped}
+use Rattle.vl_replay.proofs.Store.States.{gives_dropped, gives_unknown_dropped}
 use Rattle.vl_replay.proofs.replayer.store.Store.end.Goals as goal
 
 pub returns-else-is_some-clause-answer : goal.returns-else-is_some-clause-answer

@@ -8,7 +8,7 @@ use Rattle.vl_replay.specs.Opened.{opened_value}
 use Rattle.vl_replay.specs.Sequential.{read, found}
 use Rattle.vl_replay.specs.Represents.{handle_named}
 use Rattle.vl_replay.specs.declared.replayer.handle.Handle.TheVariants.{Transaction, View}
-use Rattle.vl_replay.proofs.States.{unnamed, named, gives_as, gives_if_ok, read_invalid, read_view, read_own, read_noted}
+use Rattle.vl_replay.proofs.Store.States.{unnamed, named, gives_as, gives_if_ok, read_invalid, read_view, read_own, read_noted}
 use Rattle.vl_replay.proofs.replayer.store.Store.get.Goals as goal
 
 pub returns-in_default-clause-answer : goal.returns-in_default-clause-answer

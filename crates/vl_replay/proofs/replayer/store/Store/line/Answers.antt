@@ -6,9 +6,9 @@ use Rattle.vl_script.specs.declared.line.Line.{Line}
 use Rattle.vl_replay.specs.Sequential.{OpenTransaction, OpenView, state_after}
 use Rattle.vl_replay.specs.Durable.{LeadsTo}
 use Rattle.vl_replay.specs.Stored.{IsStored, Shown}
-use Rattle.vl_replay.proofs.Outcomes.{kept_opened, kept_read, kept_written, kept_dropped}
-use Rattle.vl_replay.proofs.Commits.{carries_kept}
-use Rattle.vl_replay.proofs.Halting.{not_by_disk}
+use Rattle.vl_replay.proofs.Store.Outcomes.{kept_opened, kept_read, kept_written, kept_dropped}
+use Rattle.vl_replay.proofs.Disk.Commits.{carries_kept}
+use Rattle.vl_replay.proofs.Disk.Halting.{not_by_disk}
 use Rattle.vl_replay.proofs.replayer.store.Store.line.Goals as goal
 
 pub returns-in-Begin-clause-carries : goal.returns-in-Begin-clause-carries

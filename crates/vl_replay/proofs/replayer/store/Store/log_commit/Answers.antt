@@ -10,11 +10,11 @@ use Rattle.vl_seglog.specs.declared.active.ActiveLog.{ActiveLog}
 use Rattle.vl_replay.specs.Writing.{StopsWriting, WhileWriting, written}
 use Rattle.vl_replay.specs.Represents.{IsOutcome}
 use Rattle.vl_replay.specs.Sequential.{after_commit}
-use Rattle.vl_replay.proofs.Betweens.{extends_one}
-use Rattle.vl_replay.proofs.Commits.{is_commit, frame_staged, carries_no_memory, carries_failed, carries_commit}
-use Rattle.vl_replay.proofs.Halting.{out_not_by_disk}
-use Rattle.vl_replay.proofs.Deciding.{open_is, same_writes, log_after, gives_commit}
-use Rattle.vl_replay.proofs.States.{Takes}
+use Rattle.vl_replay.proofs.Disk.Betweens.{extends_one}
+use Rattle.vl_replay.proofs.Disk.Commits.{is_commit, frame_staged, carries_no_memory, carries_failed, carries_commit}
+use Rattle.vl_replay.proofs.Disk.Halting.{out_not_by_disk}
+use Rattle.vl_replay.proofs.Store.Deciding.{open_is, same_writes, log_after, gives_commit}
+use Rattle.vl_replay.proofs.Store.States.{Takes}
 use Rattle.vl_replay.proofs.replayer.store.Store.log_commit.Goals as goal
 
 pub stage_commit-requires : goal.stage_commit-requires

@@ -1,6 +1,6 @@
 use Rattle.std.proofs.Common.{sym, ap, arith}
 use Rattle.std.specs.Prelude.{length}
-use Rattle.vl_replay.proofs.Starting.{shows_opened}
+use Rattle.vl_replay.proofs.Openings.Starting.{shows_opened}
 use Rattle.vl_replay.proofs.replayer.store.Store.new.Goals as goal
 
 pub returns-clause-store : goal.returns-clause-store

@@ -1,7 +1,7 @@
 use Rattle.std.proofs.Common.{◌≡◌, ap, ◌∙◌, sym}
 use Rattle.std.specs.Option.{option_copied}
 use Rattle.vl_replay.specs.Represents.{handle_named}
-use Rattle.vl_replay.proofs.States.{gives_taken, gives_full, gives_open}
+use Rattle.vl_replay.proofs.Store.States.{gives_taken, gives_full, gives_open}
 use Rattle.vl_replay.proofs.replayer.store.Store.open.Goals as goal
 
 pub returns-then-is_some-clause-answer : goal.returns-then-is_some-clause-answer

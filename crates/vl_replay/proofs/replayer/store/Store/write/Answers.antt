@@ -4,7 +4,7 @@ use Rattle.std.specs.Str.{bytes_eq}
 use Rattle.vl_replay.specs.Sequential.{written}
 use Rattle.vl_replay.specs.Represents.{IsOpen, Represents, IsOutcome}
 use Rattle.vl_script.specs.declared.answer.Answer.TheVariants.{Unknown}
-use Rattle.vl_replay.proofs.States.{IsInUse, held_in_use, other_in_use, none_in_use, gives_as, stands_kept, gives_write}
+use Rattle.vl_replay.proofs.Store.States.{IsInUse, held_in_use, other_in_use, none_in_use, gives_as, stands_kept, gives_write}
 use Rattle.vl_replay.proofs.replayer.store.Store.write.Goals as goal
 use Rattle.vl_replay.proofs.replayer.store.Store.write.Goals.{in_default-via-in-Some+else-is_named, in_default-via-in_default}
 

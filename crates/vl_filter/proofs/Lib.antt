@@ -1,0 +1,5 @@
+mod BitLaws
+mod BuildLaws
+mod HeldLaws
+mod PlaceLaws
+mod WorkedRow

@@ -1,0 +1,5 @@
+use Rattle.vl_filter.proofs.HeldLaws.{holds_all}
+use Rattle.vl_filter.proofs.laws.built_filters_hold_their_keys.Goals as goal
+
+pub returns : goal.returns
+returns c = holds_all

@@ -1,0 +1,43 @@
+ghost use Rattle.std.specs.Prelude.{◌≡◌, ◌≤◌, ◌<◌, ◌*◌, ◌^◌, List, ℕ, length, IfNone, IfSome};
+ghost use Rattle.vl_filter.specs.Filters.{SpellsFilter, may_hold};
+
+use crate::bits::is_set;
+use crate::places::Hashes;
+use vl_frame::take_u32;
+
+/// A filter where it lies in the body of a frame.
+#[derive(Clone, Copy)]
+pub struct Filter<'a> {
+    bytes: &'a [u8],
+    ghost some: { 8 ≤ length bytes.now },
+    ghost fits: { 8 * length bytes.now < 2 ^ 32 },
+}
+
+/// The filter that a body spells to its last byte; none where it spells none.
+pub fn read(body: &[u8]) -> Option<Filter<'_>>
+    ensures found { IfSome result (λ filter. SpellsFilter body.now filter.bytes.now) }
+    ensures none { IfNone result ((bytes : List ℕ) → SpellsFilter body.now bytes → ⊥) }
+{
+    let (bits, bytes) = take_u32(body)?;
+    if bits >= 64 && bits % 8 == 0 && bytes.len() == (bits / 8) as usize {
+        Some(Filter { bytes })
+    } else {
+        None
+    }
+}
+
+impl Filter<'_> {
+    /// Whether a key may be among those that the filter was built of: false exactly where one of its seven bits is 0.
+    pub fn may_hold(&self, key: &[u8]) -> bool
+        ensures { result ≡ may_hold self.now.bytes.now key.now }
+    {
+        let hashes = Hashes::of(key);
+        let bits = self.bytes.len() as u64 * 8;
+        for index in 0..7 {
+            if !is_set(self.bytes, hashes.place(bits, index)) {
+                return false;
+            }
+        }
+        true
+    }
+}

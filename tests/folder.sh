@@ -1,0 +1,86 @@
+#!/usr/bin/env bash
+# Runs the program over folders in odd states, and with calls of the system that fail. It wants strace. No gate calls this.
+set -eu
+home="$(cd "$(dirname "${BASH_SOURCE[0]}")/.." && pwd)"
+program="${1:-$home/crates/vl_prog/out/vl_prog}"
+top="$(mktemp -d)"
+trap 'rm -rf "$top"' EXIT
+
+# Builds the program where it is missing or old. Without words it only prints its usage line.
+[ "$#" -gt 0 ] || "$home/vlstore" >"$top/usage" || [ "$?" -eq 2 ]
+
+commit='begin t\nset t 01 02\ncommit t\n'
+
+# The greatest number in the answers, which is that of the last commit that was answered.
+answered() {
+  { echo 0; sed -n 's/^ok //p' "$top/out"; } | sort -n | tail -n 1
+}
+
+# Whether the store in folder $1 shows $2 commits or one more.
+shows() {
+  local shown
+  shown="$(printf 'view v\n' | "$program" replay "$1" | sed -n 's/^ok //p')"
+  [ "$shown" -eq "$2" ] || [ "$shown" -eq "$(($2 + 1))" ]
+}
+
+# Whether the program, over folder $2 and with the k-th call $3 failing by $4, says so on its standard error in one line
+# that has the text $5, ends with status 3 and leaves a store with the commits that it answered.
+fails_at() {
+  local call="$1" folder="$2" inject="$3" text="$4" status=0
+  printf "$commit$commit" | strace -f -o "$top/trace" -e "trace=$call" -e "inject=$call:$inject" "$program" replay "$folder" \
+    >"$top/out" 2>"$top/err" || status="$?"
+  [ "$status" -ne 0 ] && [ "$(wc -l <"$top/err")" -eq 1 ] && grep -q "$text" "$top/err" &&
+    shows "$folder" "$(answered)"
+}
+
+check() {
+  if "${@:2}"; then echo "ok: $1"; else
+    echo "failed: $1" >&2
+    cat "$top/err" >&2 || true
+    exit 1
+  fi
+}
+
+check 'a full disk is told as such' fails_at pwrite64 "$top/full" error=ENOSPC:when=4 'No space left on device'
+check 'a failed sync halts' fails_at fdatasync "$top/lost" error=EIO:when=4 'Input/output error'
+check 'a failed sync of the folder halts' fails_at fsync "$top/names" error=EIO:when=4 'Input/output error'
+
+streams_apart() {
+  printf "$commit" | "$program" replay "$top/streams" >&- 2>&- || true
+  "$program" replay "$top/streams" <&- >"$top/out" 2>&- || true
+  printf "$commit" | "$program" replay "$top/streams" >"$top/out" && shows "$top/streams" "$(answered)"
+}
+check 'what is printed lands in no file where streams are closed' streams_apart
+
+in_use() {
+  local status=0
+  printf "$commit" | "$program" replay "$top/used" >"$top/out"
+  mkfifo "$top/lines"
+  "$program" replay "$top/used" <"$top/lines" >"$top/first" &
+  exec 3>"$top/lines"
+  printf 'view v\n' >&3
+  while [ ! -s "$top/first" ]; do sleep 0.1; done
+  "$program" replay "$top/used" </dev/null >"$top/out" 2>"$top/err" || status="$?"
+  exec 3>&-
+  wait
+  [ "$status" -ne 0 ] && grep -q 'in use' "$top/err" && [ "$(wc -l <"$top/err")" -eq 1 ]
+}
+check 'a folder in use is told as such' in_use
+
+# A name of the store's that is a folder or a link: each try fails alike and makes nothing.
+leaves_alone() {
+  local before after
+  before="$(ls -R "$1")"
+  for _ in 1 2 3; do
+    if "$program" replay "$1" </dev/null >"$top/out" 2>"$top/err"; then return 1; fi
+    grep -q 'no plain file' "$top/err" || return 1
+  done
+  after="$(ls -R "$1")"
+  [ "$before" = "$after" ]
+}
+mkdir -p "$top/folder/0000000001.vlog" "$top/link"
+echo theirs >"$top/theirs"
+ln -s "$top/theirs" "$top/link/0000000001.vlog"
+check 'a folder under a name of the store is left alone' leaves_alone "$top/folder"
+check 'a link under a name of the store is left alone' leaves_alone "$top/link"
+check 'what the link leads to is too' grep -qx theirs "$top/theirs"
