@@ -44,6 +44,8 @@ pub struct Folder<R: Files<File = File>> {
     handle: Option<Arc<File, Global>>,
     names: Names,
     slots: Vec<Slot>,
+    // so many files were opened since those that needn't stay open were closed
+    opened: usize,
     pool: Option<Arc<Pool, Global>>,
 }
 
@@ -56,6 +58,7 @@ impl<R: Files<File = File>> Folder<R> {
             handle: None,
             names: Names::New,
             slots: Vec::new(alloc),
+            opened: 0,
             pool: None,
         }
     }
@@ -135,16 +138,17 @@ impl<R: Files<File = File>> Folder<R> {
     }
 
     /// Closes the files that needn't stay open, where many are open, so that a store may have more files than a process
-    /// may have open.
+    /// may have open. One more is opened next.
     fn close_idle(&mut self)
         ensures { vec_len self.new.slots ≡ vec_len self.old.slots }
     {
-        if self.slots.iter().filter(|slot| slot.is_open()).count() < MOST_OPEN {
-            return;
+        if self.opened >= MOST_OPEN {
+            for slot in self.slots.iter_mut() {
+                slot.close_if_idle();
+            }
+            self.opened = 0;
         }
-        for slot in self.slots.iter_mut() {
-            slot.close_if_idle();
-        }
+        self.opened = self.opened.saturating_add(1);
     }
 
     /// The names of the store's files in the folder, which is made where it is missing. Each must be of a plain file.

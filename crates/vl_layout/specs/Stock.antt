@@ -6,7 +6,7 @@ use Rattle.vl_model.specs.declared.entry.Entry.{Entry}
 use Rattle.vl_model.specs.declared.entry.Body.{Body}
 use Rattle.vl_model.specs.declared.entry.Body.TheVariants.{Inline, Gone, Far, Logged}
 use Rattle.vl_block.specs.Cutting.{points_of}
-use Rattle.vl_block.specs.declared.laid_point.LaidPoint.{LaidPoint as Point}
+use Rattle.vl_block.specs.declared.points.Point.{Point}
 use Rattle.vl_layout.specs.Jobs.{AreDistinct, lent_numbers, loose}
 use Rattle.vl_layout.specs.Rulings.Sweep.{is_same, pins}
 use Rattle.vl_layout.specs.Sources.{needed, tables}

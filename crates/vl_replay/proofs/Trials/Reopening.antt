@@ -73,8 +73,8 @@ module _ (stop : ℕ) (disk : MemDisk) (told : told_by disk ≡ Some empty_disk)
   pub counts_small : (changes_of disk).listed.calls ≤ 2 ^ 64 - 1
   counts_small = omega (arith, none)
 
-  pub opened : {Held Reader : Type 0} {watched : _} {held : _} {cloned : _} {read : _}
-      (r : Result (Replayer MemDisk Held Reader watched held cloned read) (OpenFail MemDisk))
+  pub opened : {Held Reader Writer : Type 0} {watched : _} {held : _} {cloned : _} {read : _} {write : _}
+      (r : Result (Replayer MemDisk Held Reader Writer watched held cloned read write) (OpenFail MemDisk))
       → HasCause (faults_of disk) (faults_of (disk_behind r)) (IsFault (why_of r))
       → HoldsThroughout memory.ghosts disk (disk_behind r) (IsMeanwhile empty empty_disk)
       → IfOk r (λ replayer. Represents replayer.store begun) → IfOk r (λ replayer. HoldsState memory.ghosts IsStored begun replayer.disk)
@@ -92,8 +92,8 @@ module _ (stop : ℕ) (disk : MemDisk) (told : told_by disk ≡ Some empty_disk)
       }
   opened (Err fail) cause meanwhile stands holds = tt
 
-  pub stopped : {Held Reader : Type 0} {watched : _} {held : _} {cloned : _} {read : _}
-      (r : Result (Replayer MemDisk Held Reader watched held cloned read) (OpenFail MemDisk))
+  pub stopped : {Held Reader Writer : Type 0} {watched : _} {held : _} {cloned : _} {read : _} {write : _}
+      (r : Result (Replayer MemDisk Held Reader Writer watched held cloned read write) (OpenFail MemDisk))
       → HasCause (faults_of disk) (faults_of (disk_behind r)) (IsFault (why_of r))
       → HoldsThroughout memory.ghosts disk (disk_behind r) (IsMeanwhile empty empty_disk)
       → AnswersOpening empty (why_of r) → (changes_of (disk_behind r)).listed.calls ≤ begun.calls
