@@ -1,5 +1,5 @@
 -- Laws of merging part by part: what a tree that was just made gives is what a merge of its sources gives.
-use Rattle.std.proofs.Common.{◌≡◌, ℕ, zero, suc, ◌+◌, ◌*◌, ◌-◌, ◌/◌, ◌^◌, ◌≤◌, max, Bool, true, false, cond, List, [], ◌∷◌, ◌++◌, map, refl, ap, sym, ◌∙◌, subst, arith, Option, Some, None, Box, Global}
+use Rattle.std.proofs.Common.{◌≡◌, ℕ, zero, suc, ◌+◌, ◌*◌, ◌-◌, ◌/◌, ◌^◌, ◌≤◌, max, Bool, true, false, cond, List, [], ◌∷◌, ◌++◌, map, refl, ap, sym, ◌∙◌, subst, arith, Option, Some, None, Box, Global, inl, inr}
 use Rattle.std.proofs.lemmas.List.{map-append, append_assoc, length-append}
 use Rattle.std.proofs.lemmas.List.Sums.{sum_by-append}
 use Rattle.std.specs.List.{sum_by}
@@ -10,10 +10,10 @@ use Rattle.vl_model.specs.declared.way.Way.{Way}
 use Rattle.vl_merge.specs.Merging.{place, merged, IsAlong}
 use Rattle.vl_model.specs.Order.{way_cmp}
 use Rattle.vl_merge.proofs.MergeLaws.{way_total, not_after, along-merged, place-later, place-here, merged-first}
-use Rattle.vl_merge.specs.MergeOf.{is_along, end_to_end, merge_of, pair_of}
+use Rattle.vl_merge.specs.MergeOf.{OneMayFail, is_along, end_to_end, merge_of, pair_of}
 use Rattle.vl_merge.proofs.TreeLaws.{along-is, pair-join, behind_more}
 use Rattle.vl_merge.specs.ReadAhead.{left_of, budget_of}
-use Rattle.vl_merge.specs.Trees.{tree_left, tree_budget, tree_faults}
+use Rattle.vl_merge.specs.Trees.{MayFailIn, tree_left, tree_budget}
 use Rattle.vl_merge.specs.Built.{leaves, height, IsUnread, TakesOff}
 use Rattle.vl_merge.specs.declared.lookahead.Lookahead.TheVariants.{Unread}
 use Rattle.vl_merge.specs.declared.tree.Tree.{Tree, Nothing, Source, Two'}
@@ -106,6 +106,17 @@ merge_of-append way ls ms = by (end_to_end way ls) (end_to_end way ms) ∙ sym (
         pair-join way (merged way es) (merged way fs) (along-is way (merged way es) (along-merged way es)) (along-is way (merged way fs) (along-merged way fs))
         ∙ ap Some (merged-front way es (merged way fs) ∙ merged-back way es fs)
 
+-- ---- faults of sources
+
+module _ {C F : Type 0} (may_fail : C → F → Type 0) (fault : F) where
+  fails-newer : (newer older : List C) → OneMayFail may_fail newer fault → OneMayFail may_fail (newer ++ older) fault
+  fails-newer [] older fails = absurd fails
+  fails-newer (c ∷ cs) older fails = elim fails [ inl f ↦ inl f | inr f ↦ inr (fails-newer cs older f) ]
+
+  fails-older : (newer older : List C) → OneMayFail may_fail older fault → OneMayFail may_fail (newer ++ older) fault
+  fails-older [] older fails = fails
+  fails-older (c ∷ cs) older fails = inr (fails-older cs older fails)
+
 -- ---- a tree that was just made
 
 module _ {C : Type 0} where
@@ -130,13 +141,15 @@ module _ {C : Type 0} where
       ∙ ap (λ n. sum_by budget (leaves newer) + n) (budget-planted budget older unread.3)
       ∙ sym (sum_by-append budget (leaves newer) (leaves older))
 
-  pub faults-planted : (faults : C → ℕ) (tree : Tree C) → tree_faults faults tree ≡ sum_by faults (leaves tree)
-  faults-planted faults Nothing = refl
-  faults-planted faults (Source c) = omega arith
-  faults-planted faults (Two' p newer first q older second) =
-      ap (λ n. n + tree_faults faults older) (faults-planted faults newer)
-      ∙ ap (λ n. sum_by faults (leaves newer) + n) (faults-planted faults older)
-      ∙ sym (sum_by-append faults (leaves newer) (leaves older))
+  -- its fault is one of its sources'
+  pub fails-planted : {F : Type 0} (may_fail : C → F → Type 0) (tree : Tree C) (fault : F) → MayFailIn may_fail tree fault
+      → OneMayFail may_fail (leaves tree) fault
+  fails-planted may_fail Nothing fault fails = fails
+  fails-planted may_fail (Source c) fault fails = inl fails
+  fails-planted may_fail (Two' p newer first q older second) fault fails = elim fails [
+    | inl f ↦ fails-newer may_fail fault (leaves newer) (leaves older) (fails-planted may_fail newer fault f)
+    | inr f ↦ fails-older may_fail fault (leaves newer) (leaves older) (fails-planted may_fail older fault f)
+  ]
 
 -- ---- making one
 

@@ -1,5 +1,5 @@
 -- Laws of a merge's steps: the head that comes first is the first of the merged entries.
-use Rattle.std.proofs.Common.{◌≡◌, Bool, true, false, cond, not, ◌&&◌, List, [], ◌∷◌, ◌++◌, map, refl, ap, sym, ◌∙◌, subst, append-nil, Option, Some, None}
+use Rattle.std.proofs.Common.{◌≡◌, Bool, true, false, cond, not, ◌&&◌, List, [], ◌∷◌, ◌++◌, map, refl, ap, sym, ◌∙◌, subst, append-nil, Option, Some, None, ◌⊎◌, inl, inr}
 use Rattle.std.specs.List.{AllByRecursion, flat_map}
 use Rattle.std.specs.Option.{option_map}
 use Rattle.std.specs.Ordering.{is_gt}
@@ -12,8 +12,10 @@ use Rattle.vl_model.specs.Order.{way_cmp}
 use Rattle.vl_merge.proofs.MergeLaws.{way_total, first-all, merged-first}
 use Rattle.vl_merge.specs.MergeOf.{is_first, is_along, end_to_end, merge_of, pair_of}
 use Rattle.vl_merge.specs.ReadAhead.{left_of, IsKnown, entry_of, taken, takes_older}
+use Rattle.vl_merge.specs.Trees.{MayFailIn}
 use Rattle.vl_merge.specs.declared.lookahead.Lookahead.{Lookahead}
 use Rattle.vl_merge.specs.declared.lookahead.Lookahead.TheVariants.{Unread, Next, End}
+use Rattle.vl_merge.specs.declared.tree.Tree.{Tree}
 
 -- ---- tests of order
 
@@ -256,6 +258,18 @@ module _ (way : Way) (newer_old older_old newer older : Option (List Entry)) (fi
 -- what a whole has, from its two parts
 pub halves : {A B : Type 0} (of_two : A → A → B) (a b c d : A) (whole : B) → a ≡ c → b ≡ d → whole ≡ of_two c d → of_two a b ≡ whole
 halves of_two a b c d whole first second is = ap (λ x. of_two x b) first ∙ ap (of_two c) second ∙ sym is
+
+-- what may fail in a whole, from its two parts
+module _ {C F : Type 0} (may_fail : C → F → Type 0) (newer older a b : Tree C) (first : newer ≡ a) (second : older ≡ b) (fault : F) where
+  pub fails-halves : MayFailIn may_fail newer fault ⊎ MayFailIn may_fail older fault → MayFailIn may_fail a fault ⊎ MayFailIn may_fail b fault
+  fails-halves (inl fails) = inl (subst (λ t. MayFailIn may_fail t fault) first fails)
+  fails-halves (inr fails) = inr (subst (λ t. MayFailIn may_fail t fault) second fails)
+
+  pub keeps-halves : (now_newer now_older : Tree C) → (MayFailIn may_fail now_newer fault → MayFailIn may_fail newer fault)
+      → (MayFailIn may_fail now_older fault → MayFailIn may_fail older fault)
+      → MayFailIn may_fail now_newer fault ⊎ MayFailIn may_fail now_older fault → MayFailIn may_fail a fault ⊎ MayFailIn may_fail b fault
+  keeps-halves now_newer now_older keeps_newer keeps_older (inl fails) = fails-halves (inl (keeps_newer fails))
+  keeps-halves now_newer now_older keeps_newer keeps_older (inr fails) = fails-halves (inr (keeps_older fails))
 
 -- ---- sources that are all told, each as the way goes
 

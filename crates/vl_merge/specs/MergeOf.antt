@@ -1,5 +1,5 @@
 -- What a merge gives, from what its sources have left, where that is told.
-use Rattle.std.specs.Prelude.{Bool, true, not, ◌&&◌, if◌then◌else◌, List, [], ◌∷◌, ◌++◌, Option, Some, None}
+use Rattle.std.specs.Prelude.{◌⊎◌, Bool, true, not, ◌&&◌, if◌then◌else◌, List, [], ◌∷◌, ◌++◌, Option, Some, None}
 use Rattle.std.specs.Option.{option_map}
 use Rattle.std.specs.Ordering.{is_gt}
 use Rattle.vl_model.specs.declared.entry.Entry.{Entry}
@@ -29,3 +29,8 @@ merge_of way lefts = option_map (merged way) (end_to_end way lefts)
 -- of two sources, the newer one first
 abbrev pub pair_of : Way → Option (List Entry) → Option (List Entry) → Option (List Entry)
 pair_of way newer older = merge_of way (newer ∷ older ∷ [])
+
+-- the fault is one of some of these sources, from what a fault of each may be
+abbrev pub OneMayFail : {C F : Type 0} → (C → F → Type 0) → List C → F → Type 0
+OneMayFail may_fail [] fault = ⊥
+OneMayFail may_fail (c ∷ cs) fault = may_fail c fault ⊎ OneMayFail may_fail cs fault

@@ -1,5 +1,5 @@
 -- What a tree of sources stands for.
-use Rattle.std.specs.Prelude.{ℕ, ◌+◌, List, [], ◌∷◌, Option, Some}
+use Rattle.std.specs.Prelude.{ℕ, ◌+◌, ◌⊎◌, List, [], ◌∷◌, Option, Some}
 use Rattle.vl_model.specs.declared.entry.Entry.{Entry}
 use Rattle.vl_model.specs.declared.way.Way.{Way}
 use Rattle.vl_merge.specs.MergeOf.{merge_of, pair_of}
@@ -21,11 +21,11 @@ module _ {C : Type 0} where
   tree_budget budget (Two' p newer first q older second) =
       budget_of first (tree_budget budget newer) + budget_of second (tree_budget budget older)
 
-  abbrev pub tree_faults : (C → ℕ) → Tree C → ℕ
-  tree_faults faults Nothing = 0
-  tree_faults faults (Source c) = faults c
-  tree_faults faults (Two' p newer first q older second) =
-      tree_faults faults newer + tree_faults faults older
+  -- a fault of a tree of sources is one of theirs, from what a fault of each may be
+  abbrev pub MayFailIn : {F : Type 0} → (C → F → Type 0) → Tree C → F → Type 0
+  MayFailIn may_fail Nothing fault = ⊥
+  MayFailIn may_fail (Source c) fault = may_fail c fault
+  MayFailIn may_fail (Two' p newer first q older second) fault = MayFailIn may_fail newer fault ⊎ MayFailIn may_fail older fault
 
   -- what is left of a half of a tree, with its head
   abbrev pub half_left : (C → Option (List Entry)) → Way → Lookahead → Tree C → Option (List Entry)

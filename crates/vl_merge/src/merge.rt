@@ -2,8 +2,8 @@ ghost use Rattle.std.specs.Prelude.{◌≡◌, true, map, IfOk};
 ghost use Rattle.std.specs.List.{sum_by};
 ghost use Rattle.std.specs.Option.{ForSome};
 ghost use Rattle.vl_merge.specs.Grouped.{is_grouped};
-ghost use Rattle.vl_merge.specs.MergeOf.{merge_of};
-ghost use Rattle.vl_merge.specs.Trees.{tree_left, tree_budget, tree_faults};
+ghost use Rattle.vl_merge.specs.MergeOf.{OneMayFail, merge_of};
+ghost use Rattle.vl_merge.specs.Trees.{MayFailIn, tree_left, tree_budget};
 
 use crate::build::build_tree;
 use crate::tree::Tree;
@@ -21,16 +21,20 @@ pub struct Merge<C> {
 impl<C: Cursor + Drop> Cursor for Merge<C> {
     type Fault = C::Fault;
 
+    type Reader = C::Reader;
+
     ghost left = { λ m. tree_left (λ c. C.left c) m.way m.sources };
 
     ghost budget = { λ m. tree_budget (λ c. C.budget c) m.sources };
 
-    ghost faults = { λ m. tree_faults (λ c. C.faults c) m.sources };
+    ghost faults = { λ r. C.faults r };
 
     ghost is_read_fault = { λ f. C.is_read_fault f };
 
-    fn next(&mut self) -> Result<Option<Entry>, C::Fault> {
-        self.sources.next(self.way)
+    ghost may_fail = { λ m f. MayFailIn (λ c f. C.may_fail c f) m.sources f };
+
+    fn next(&mut self, reader: &mut C::Reader) -> Result<Option<Entry>, C::Fault> {
+        self.sources.next(self.way, reader)
     }
 }
 
@@ -41,8 +45,10 @@ impl<C: Cursor + Drop> Merge<C> {
             ⟦<Merge<C> as Cursor>⟧.left merge ≡ merge_of way (map (λ c. C.left c) sources.items)) }
         ensures budget { IfOk result (λ merge.
             ⟦<Merge<C> as Cursor>⟧.budget merge ≡ sum_by (λ c. C.budget c) sources.items) }
-        ensures faults { IfOk result (λ merge.
-            ⟦<Merge<C> as Cursor>⟧.faults merge ≡ sum_by (λ c. C.faults c) sources.items) }
+
+        // Its fault is one of its sources'.
+        ensures may_fail { IfOk result (λ merge. (fault : C.Fault)
+            → ⟦<Merge<C> as Cursor>⟧.may_fail merge fault → OneMayFail (λ c f. C.may_fail c f) sources.items fault) }
     {
         Ok(Merge {
             sources: build_tree(sources)?,

@@ -1,7 +1,7 @@
-ghost use Rattle.std.specs.Prelude.{◌≡◌, ◌≤◌, ◌+◌, OnOk, OnErr, IfOk, IfErr, MatchResult};
-ghost use Rattle.vl_model.specs.Cursors.{Gives, Keeps, Spends, HasRisen};
+ghost use Rattle.std.specs.Prelude.{◌≡◌, ◌≤◌, ◌⊎◌, OnOk, OnErr, IfOk, IfErr, MatchResult};
+ghost use Rattle.vl_model.specs.Cursors.{Gives, Keeps, Spends, IsCounted};
 ghost use Rattle.vl_merge.specs.ReadAhead.{IsKnown};
-ghost use Rattle.vl_merge.specs.Trees.{tree_left, tree_budget, tree_faults, half_left, half_budget, two_left, two_budget};
+ghost use Rattle.vl_merge.specs.Trees.{MayFailIn, tree_left, tree_budget, half_left, half_budget, two_left, two_budget};
 
 use crate::lookahead::{Lookahead, takes_older};
 use vl_model::{Cursor, Entry, Way};
@@ -18,7 +18,7 @@ pub enum Tree<C> {
 impl<C: Cursor + Drop> Tree<C> {
     // The next entry of all sources.
     #[cycle(next)]
-    pub fn next(&mut self, way: Way) -> Result<Option<Entry>, C::Fault>
+    pub fn next(&mut self, way: Way, reader: &mut C::Reader) -> Result<Option<Entry>, C::Fault>
         ensures given { IfOk result (λ next. Gives (tree_left (λ c. C.left c) way self.old)
             (tree_left (λ c. C.left c) way self.new) next) }
         ensures kept { OnErr result (Keeps (tree_left (λ c. C.left c) way self.old)
@@ -26,15 +26,17 @@ impl<C: Cursor + Drop> Tree<C> {
         ensures spends { MatchResult result
             (Spends (tree_budget (λ c. C.budget c) self.old) (tree_budget (λ c. C.budget c) self.new))
             (λ _. tree_budget (λ c. C.budget c) self.new ≤ tree_budget (λ c. C.budget c) self.old) }
-        ensures counts { tree_faults (λ c. C.faults c) self.old ≤ tree_faults (λ c. C.faults c) self.new }
-        ensures failed { IfErr result (λ fault. HasRisen (C.is_read_fault fault)
-            (tree_faults (λ c. C.faults c) self.old) (tree_faults (λ c. C.faults c) self.new)) }
+        ensures cause { MatchResult result (λ _. C.faults reader.new ≡ C.faults reader.old)
+            (λ fault. IsCounted (C.is_read_fault fault) (C.faults reader.old) (C.faults reader.new)) }
+        ensures may_fail { IfErr result (λ fault. MayFailIn (λ c f. C.may_fail c f) self.old fault) }
+        ensures keeps { (fault : C.Fault) → MayFailIn (λ c f. C.may_fail c f) self.new fault
+            → MayFailIn (λ c f. C.may_fail c f) self.old fault }
     {
         match self {
             Tree::Nothing => Ok(None),
-            Tree::Source(cursor) => cursor.next(),
+            Tree::Source(cursor) => cursor.next(reader),
             Tree::Two(newer, first, older, second) => {
-                next_of_two(newer, first, older, second, way)
+                next_of_two(newer, first, older, second, way, reader)
             }
         }
     }
@@ -48,6 +50,7 @@ fn next_of_two<C: Cursor + Drop>(
     older: &mut Tree<C>,
     second: &mut Lookahead,
     way: Way,
+    reader: &mut C::Reader,
 ) -> Result<Option<Entry>, C::Fault>
     ensures given { IfOk result (λ next. Gives
         (two_left (λ c. C.left c) way newer.old first.old older.old second.old)
@@ -60,14 +63,17 @@ fn next_of_two<C: Cursor + Drop>(
         (two_budget (λ c. C.budget c) newer.new first.new older.new second.new))
         (λ _. two_budget (λ c. C.budget c) newer.new first.new older.new second.new
         ≤ two_budget (λ c. C.budget c) newer.old first.old older.old second.old) }
-    ensures counts { tree_faults (λ c. C.faults c) newer.old + tree_faults (λ c. C.faults c) older.old
-        ≤ tree_faults (λ c. C.faults c) newer.new + tree_faults (λ c. C.faults c) older.new }
-    ensures failed { IfErr result (λ fault. HasRisen (C.is_read_fault fault)
-        (tree_faults (λ c. C.faults c) newer.old + tree_faults (λ c. C.faults c) older.old)
-        (tree_faults (λ c. C.faults c) newer.new + tree_faults (λ c. C.faults c) older.new)) }
+    ensures cause { MatchResult result (λ _. C.faults reader.new ≡ C.faults reader.old)
+        (λ fault. IsCounted (C.is_read_fault fault) (C.faults reader.old) (C.faults reader.new)) }
+    ensures may_fail { IfErr result (λ fault. MayFailIn (λ c f. C.may_fail c f) newer.old fault
+        ⊎ MayFailIn (λ c f. C.may_fail c f) older.old fault) }
+    ensures keeps_newer { (fault : C.Fault) → MayFailIn (λ c f. C.may_fail c f) newer.new fault
+        → MayFailIn (λ c f. C.may_fail c f) newer.old fault }
+    ensures keeps_older { (fault : C.Fault) → MayFailIn (λ c f. C.may_fail c f) older.new fault
+        → MayFailIn (λ c f. C.may_fail c f) older.old fault }
 {
-    look(newer, first, way)?;
-    look(older, second, way)?;
+    look(newer, first, way, reader)?;
+    look(older, second, way, reader)?;
     if takes_older(way, first, second) {
         Ok(second.take())
     } else {
@@ -81,18 +87,21 @@ fn look<C: Cursor + Drop>(
     half: &mut Tree<C>,
     head: &mut Lookahead,
     way: Way,
+    reader: &mut C::Reader,
 ) -> Result<(), C::Fault>
     ensures kept { Keeps (half_left (λ c. C.left c) way head.old half.old)
         (half_left (λ c. C.left c) way head.new half.new) }
     ensures read { OnOk result (IsKnown head.new) }
     ensures spends { half_budget (λ c. C.budget c) head.new half.new
         ≤ half_budget (λ c. C.budget c) head.old half.old }
-    ensures counts { tree_faults (λ c. C.faults c) half.old ≤ tree_faults (λ c. C.faults c) half.new }
-    ensures failed { IfErr result (λ fault. HasRisen (C.is_read_fault fault)
-        (tree_faults (λ c. C.faults c) half.old) (tree_faults (λ c. C.faults c) half.new)) }
+    ensures cause { MatchResult result (λ _. C.faults reader.new ≡ C.faults reader.old)
+        (λ fault. IsCounted (C.is_read_fault fault) (C.faults reader.old) (C.faults reader.new)) }
+    ensures may_fail { IfErr result (λ fault. MayFailIn (λ c f. C.may_fail c f) half.old fault) }
+    ensures keeps { (fault : C.Fault) → MayFailIn (λ c f. C.may_fail c f) half.new fault
+        → MayFailIn (λ c f. C.may_fail c f) half.old fault }
 {
     if let Lookahead::Unread = head {
-        *head = match half.next(way)? {
+        *head = match half.next(way, reader)? {
             Some(entry) => Lookahead::Next(entry),
             None => Lookahead::End,
         };

@@ -1,6 +1,6 @@
 ghost use Rattle.std.specs.Prelude.{◌≡◌, ◌≤◌, OnErr, IfOk, IfErr, MatchResult};
 ghost use Rattle.std.specs.Option.{option_map};
-ghost use Rattle.vl_model.specs.Cursors.{Gives, Keeps, Spends, HasRisen};
+ghost use Rattle.vl_model.specs.Cursors.{Gives, Keeps, Spends, IsCounted};
 ghost use Rattle.vl_merge.specs.Held.{visible_left, held_budget};
 ghost use Rattle.vl_merge.specs.Visible.{visible};
 
@@ -20,16 +20,20 @@ pub struct Visible<C> {
 impl<C: Cursor + Drop> Cursor for Visible<C> {
     type Fault = C::Fault;
 
+    type Reader = C::Reader;
+
     ghost left = { λ v. visible_left v.number v.held (⟦<Merge<C> as Cursor>⟧.left v.merge) };
 
     ghost budget = { λ v. held_budget v.held (⟦<Merge<C> as Cursor>⟧.budget v.merge) };
 
-    ghost faults = { λ v. ⟦<Merge<C> as Cursor>⟧.faults v.merge };
+    ghost faults = { λ r. C.faults r };
 
     ghost is_read_fault = { λ f. C.is_read_fault f };
 
-    fn next(&mut self) -> Result<Option<Entry>, C::Fault> {
-        next_visible(&mut self.merge, &mut self.held, self.number)
+    ghost may_fail = { λ v f. ⟦<Merge<C> as Cursor>⟧.may_fail v.merge f };
+
+    fn next(&mut self, reader: &mut C::Reader) -> Result<Option<Entry>, C::Fault> {
+        next_visible(&mut self.merge, &mut self.held, self.number, reader)
     }
 }
 
@@ -39,7 +43,8 @@ impl<C: Cursor + Drop> Visible<C> {
         ensures left { ⟦<Visible<C> as Cursor>⟧.left result
             ≡ option_map (visible number) (⟦<Merge<C> as Cursor>⟧.left merge) }
         ensures budget { ⟦<Visible<C> as Cursor>⟧.budget result ≡ ⟦<Merge<C> as Cursor>⟧.budget merge }
-        ensures faults { ⟦<Visible<C> as Cursor>⟧.faults result ≡ ⟦<Merge<C> as Cursor>⟧.faults merge }
+        ensures may_fail { (fault : C.Fault) → ⟦<Visible<C> as Cursor>⟧.may_fail result fault
+            → ⟦<Merge<C> as Cursor>⟧.may_fail merge fault }
     {
         merge.keys_stand_together();
         Visible {
@@ -55,6 +60,7 @@ fn next_visible<M: Cursor>(
     merge: &mut M,
     held: &mut Option<Entry>,
     number: u64,
+    reader: &mut M::Reader,
 ) -> Result<Option<Entry>, M::Fault>
     ensures given { IfOk result (λ next. Gives (visible_left number held.old (M.left merge.old))
         (visible_left number held.new (M.left merge.new)) next) }
@@ -63,11 +69,12 @@ fn next_visible<M: Cursor>(
     ensures spends { MatchResult result
         (Spends (held_budget held.old (M.budget merge.old)) (held_budget held.new (M.budget merge.new)))
         (λ _. held_budget held.new (M.budget merge.new) ≤ held_budget held.old (M.budget merge.old)) }
-    ensures counts { M.faults merge.old ≤ M.faults merge.new }
-    ensures failed { IfErr result (λ fault.
-        HasRisen (M.is_read_fault fault) (M.faults merge.old) (M.faults merge.new)) }
+    ensures cause { MatchResult result (λ _. M.faults reader.new ≡ M.faults reader.old)
+        (λ fault. IsCounted (M.is_read_fault fault) (M.faults reader.old) (M.faults reader.new)) }
+    ensures may_fail { IfErr result (λ fault. M.may_fail merge.old fault) }
+    ensures keeps { (fault : M.Fault) → M.may_fail merge.new fault → M.may_fail merge.old fault }
 {
-    while let Some(entry) = merge.next()? {
+    while let Some(entry) = merge.next(reader)? {
         let winner = pass(held, entry, number);
         if winner.is_some() {
             return Ok(winner);

@@ -1,5 +1,5 @@
 -- What a cursor gives, and that a failed read is counted.
-use Rattle.std.specs.Prelude.{◌≡◌, ℕ, ◌+◌, ◌-◌, ◌^◌, ◌≤◌, ◌<◌, min, Bool, true, List, [], ◌∷◌, Option, Some, None}
+use Rattle.std.specs.Prelude.{◌≡◌, ℕ, ◌+◌, ◌-◌, ◌^◌, ◌≤◌, ◌<◌, min, Bool, true, false, List, [], ◌∷◌, Option, Some, None}
 use Rattle.std.specs.Option.{ForSome}
 use Rattle.vl_model.specs.declared.entry.Entry.{Entry}
 
@@ -18,7 +18,12 @@ abbrev pub Spends : ℕ → ℕ → Option Entry → Type 0
 Spends before now None = now ≤ before
 Spends before now (Some entry) = now < before
 
--- where there was a fault, the count of faults has risen; at its type's end it stands still, and
--- counts as risen
-abbrev pub HasRisen : Bool → ℕ → ℕ → Type 0
-HasRisen fault before now = fault ≡ true → min (before + 1) (2 ^ 64 - 1) ≤ now
+-- a fault was counted between these two readings of one count; a count at its type's end counts as risen
+pub record HasRisen (before now : ℕ) : Type 0 where
+  pub later : before ≤ now
+  pub rose : min (before + 1) (2 ^ 64 - 1) ≤ now
+
+-- of a call that failed: where it says that reading did, that was counted, and nothing was otherwise
+abbrev pub IsCounted : Bool → ℕ → ℕ → Type 0
+IsCounted true before now = HasRisen before now
+IsCounted false before now = now ≡ before

@@ -29,14 +29,14 @@ pub fn rows_of(
 }
 
 // The rows of the entries that are left.
-fn rows_left<C: Cursor<Fault = AllocError>>(
+fn rows_left<C: Cursor<Fault = AllocError, Reader = ()>>(
     alloc: Global,
     entries: &mut C,
 ) -> Result<Vec<(Key, Value)>, AllocError>
     ensures { ForSome (C.left entries.old) (λ left. IfOk result (λ rows. rows.items ≡ rows_in left)) }
 {
     let mut rows = Vec::new(alloc);
-    while let Some(entry) = entries.next()? {
+    while let Some(entry) = entries.next(&mut ())? {
         push_row(&mut rows, entry)?;
     }
     Ok(rows)

@@ -30,6 +30,8 @@ impl Cursor for RunCursor {
 
     type Fault = AllocError;
 
+    type Reader = ();
+
     ghost left = { λ c. Some c };
 
     ghost budget = { λ c. length c };
@@ -38,7 +40,9 @@ impl Cursor for RunCursor {
 
     ghost is_read_fault = { λ _. false };
 
-    fn next(&mut self) -> Result<Option<Entry>, AllocError> {
+    ghost may_fail = { λ _ _. Unit {0} };
+
+    fn next(&mut self, _: &mut ()) -> Result<Option<Entry>, AllocError> {
         let entries = self.run.as_slice();
         if self.given >= entries.len() {
             return Ok(None);

@@ -1,10 +1,11 @@
-use Rattle.std.proofs.Common.{◌≤◌, IfErr, MatchResult, ◌+◌, ap, sym, ◌∙◌, subst}
-use Rattle.std.proofs.lemmas.Result.{IfOk-weaker}
-use Rattle.vl_model.specs.Cursors.{Spends, HasRisen}
+use Rattle.std.proofs.Common.{◌≤◌, MatchResult, ◌+◌, ap, sym, ◌∙◌, subst}
+use Rattle.std.proofs.lemmas.Result.{IfOk-weaker, IfErr-weaker}
+use Rattle.vl_model.specs.Cursors.{Spends}
 use Rattle.vl_merge.specs.MergeOf.{pair_of}
-use Rattle.vl_merge.specs.Trees.{tree_left, tree_budget, tree_faults, half_left, half_budget}
-use Rattle.vl_merge.proofs.TreeLaws.{source_given, gives_same, gives_older, gives_newer, halves}
+use Rattle.vl_merge.specs.Trees.{MayFailIn, tree_left, tree_budget, half_left, half_budget}
+use Rattle.vl_merge.proofs.TreeLaws.{source_given, gives_same, gives_older, gives_newer, halves, fails-halves, keeps-halves}
 use Rattle.vl_merge.proofs.tree.+next.Goals as goal
+use Rattle.vl_merge.proofs.tree.+next.Goals.{look-in-Unread+in_ok-entry+in-Next+in-Inline-1, look-in-Unread+in_ok-entry+in-Next+in-Logged-1, look-in-Unread+in_ok-entry+in-Next+in-Gone-1, look-in-Unread+in_ok-entry+in-Unread-1, look-in_default}
 
 pub Tree::next-returns-in-Source-clause-given : goal.Tree::next-returns-in-Source-clause-given
 Tree::next-returns-in-Source-clause-given g t c =
@@ -26,19 +27,30 @@ Tree::next-returns-in-Two-clause-spends g t c =
     (halves (λ newer older. half_budget (λ k. g.C.Cursor.budget k) c.in-Two.first newer + half_budget (λ k. g.C.Cursor.budget k) c.in-Two.second older) c.deref_mut.result.now c.deref_mut-in-Two.result.now c.in-Two.newer.value c.in-Two.older.value (budget c.args.self.now)
     c.deref_mut.ensures.value c.deref_mut-in-Two.ensures.value (ap budget c.in-Two.is)) c.next_of_two.ensures.spends
 
-pub Tree::next-returns-in-Two-clause-counts : goal.Tree::next-returns-in-Two-clause-counts
-Tree::next-returns-in-Two-clause-counts g t c =
-    let faults = tree_faults (λ k. g.C.Cursor.faults k) in
-    subst (λ n. n ≤ faults c.next_of_two.new.newer + faults c.next_of_two.new.older)
-    (halves (λ newer older. faults newer + faults older) c.deref_mut.result.now c.deref_mut-in-Two.result.now c.in-Two.newer.value c.in-Two.older.value (faults c.args.self.now)
-    c.deref_mut.ensures.value c.deref_mut-in-Two.ensures.value (ap faults c.in-Two.is)) c.next_of_two.ensures.counts
+pub Tree::next-returns-in-Two-clause-may_fail : goal.Tree::next-returns-in-Two-clause-may_fail
+Tree::next-returns-in-Two-clause-may_fail g t c =
+    let may_fail = g.C.Cursor.may_fail in
+    IfErr-weaker c.next_of_two.result _ _ (λ fault fails. subst (λ tree. MayFailIn may_fail tree fault) (sym c.in-Two.is)
+    (fails-halves may_fail c.deref_mut.result.now c.deref_mut-in-Two.result.now c.in-Two.newer.value c.in-Two.older.value
+    c.deref_mut.ensures.value c.deref_mut-in-Two.ensures.value fault fails)) c.next_of_two.ensures.may_fail
 
-pub Tree::next-returns-in-Two-clause-failed : goal.Tree::next-returns-in-Two-clause-failed
-Tree::next-returns-in-Two-clause-failed g t c =
-    let faults = tree_faults (λ k. g.C.Cursor.faults k) in
-    subst (λ n. IfErr c.next_of_two.result (λ fault. HasRisen (g.C.Cursor.is_read_fault fault) n (faults c.next_of_two.new.newer + faults c.next_of_two.new.older)))
-    (halves (λ newer older. faults newer + faults older) c.deref_mut.result.now c.deref_mut-in-Two.result.now c.in-Two.newer.value c.in-Two.older.value (faults c.args.self.now)
-    c.deref_mut.ensures.value c.deref_mut-in-Two.ensures.value (ap faults c.in-Two.is)) c.next_of_two.ensures.failed
+pub Tree::next-returns-in-Two-clause-keeps : goal.Tree::next-returns-in-Two-clause-keeps
+Tree::next-returns-in-Two-clause-keeps g t c fault now =
+    let may_fail = g.C.Cursor.may_fail in
+    subst (λ tree. MayFailIn may_fail tree fault) (sym c.in-Two.is)
+    (keeps-halves may_fail c.deref_mut.result.now c.deref_mut-in-Two.result.now c.in-Two.newer.value c.in-Two.older.value
+    c.deref_mut.ensures.value c.deref_mut-in-Two.ensures.value fault c.next_of_two.new.newer c.next_of_two.new.older
+    (c.next_of_two.ensures.keeps_newer fault) (c.next_of_two.ensures.keeps_older fault) now)
+
+pub look-returns-clause-keeps : goal.look-returns-clause-keeps
+look-returns-clause-keeps g t c fault now =
+    elim c.match-head.branch [
+      | look-in-Unread+in_ok-entry+in-Next+in-Inline-1 w ↦ w.next.ensures.keeps fault (subst (λ tree. MayFailIn g.C.Cursor.may_fail tree fault) w.half-is now)
+      | look-in-Unread+in_ok-entry+in-Next+in-Logged-1 w ↦ w.next.ensures.keeps fault (subst (λ tree. MayFailIn g.C.Cursor.may_fail tree fault) w.half-is now)
+      | look-in-Unread+in_ok-entry+in-Next+in-Gone-1 w ↦ w.next.ensures.keeps fault (subst (λ tree. MayFailIn g.C.Cursor.may_fail tree fault) w.half-is now)
+      | look-in-Unread+in_ok-entry+in-Unread-1 w ↦ w.next.ensures.keeps fault (subst (λ tree. MayFailIn g.C.Cursor.may_fail tree fault) w.half-is now)
+      | look-in_default w ↦ subst (λ tree. MayFailIn g.C.Cursor.may_fail tree fault) w.half-is now
+    ]
 
 pub next_of_two-returns-then-takes_older-clause-given : goal.next_of_two-returns-then-takes_older-clause-given
 next_of_two-returns-then-takes_older-clause-given g t c =

@@ -18,7 +18,8 @@ loop-entry-preserved g c = record {
   spends =
       step_spends c.loop-entry.held c.pass-winner.new.held c.in_ok-entry.field-0 c.in-Some.entry _ (g.M.Cursor.budget c.loop-entry.merge) (g.M.Cursor.budget c.next.new.self)
       c.in-Some.is c.in_ok-entry.ensures.spends c.loop-entry.invariant.spends;
-  counts = let before = c.loop-entry.invariant.counts in let now = c.next.ensures.counts in omega arith;
+  steady = c.in_ok-entry.ensures.cause ∙ c.loop-entry.invariant.steady;
+  fails = λ fault now. c.loop-entry.invariant.fails fault (c.next.ensures.keeps fault now);
 }
 
 pub returns-clause-given : goal.returns-clause-given

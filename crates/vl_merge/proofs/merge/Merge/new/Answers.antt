@@ -1,7 +1,7 @@
-use Rattle.std.proofs.Common.{map, ap, ◌∙◌}
+use Rattle.std.proofs.Common.{map, ap, ◌∙◌, subst}
 use Rattle.std.specs.List.{sum_by}
-use Rattle.vl_merge.specs.MergeOf.{merge_of}
-use Rattle.vl_merge.proofs.BuildLaws.{left-planted, budget-planted, faults-planted}
+use Rattle.vl_merge.specs.MergeOf.{OneMayFail, merge_of}
+use Rattle.vl_merge.proofs.BuildLaws.{left-planted, budget-planted, fails-planted}
 use Rattle.vl_merge.proofs.merge.Merge.new.Goals as goal
 
 pub returns-clause-left : goal.returns-clause-left
@@ -15,7 +15,8 @@ returns-clause-budget g c =
     let budget = g.C.Cursor.budget in
     budget-planted budget c.in_ok-build_tree.field-0 c.in_ok-build_tree.ensures.unread ∙ ap (sum_by budget) c.in_ok-build_tree.ensures.leaves
 
-pub returns-clause-faults : goal.returns-clause-faults
-returns-clause-faults g c =
-    let faults = g.C.Cursor.faults in
-    faults-planted faults c.in_ok-build_tree.field-0 ∙ ap (sum_by faults) c.in_ok-build_tree.ensures.leaves
+pub returns-clause-may_fail : goal.returns-clause-may_fail
+returns-clause-may_fail g c = λ fault fails.
+    let may_fail = g.C.Cursor.may_fail in
+    subst (λ cs. OneMayFail may_fail cs fault) c.in_ok-build_tree.ensures.leaves
+    (fails-planted may_fail c.in_ok-build_tree.field-0 fault fails)

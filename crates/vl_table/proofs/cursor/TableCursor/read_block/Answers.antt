@@ -15,7 +15,7 @@ returns-in_err-read-clause-answers g c =
     let t = c.args.self.now.table.now in
     let block = c.index-blocks-place_on.result in
     let p = err_from_is_err_and c.from_residual.result c.from_residual.ensures.1 in
-    subst (λ (r : Result (Unit {0}) TableFault). Answers (g.R.Reader.faults c.args.self.now.reader) (g.R.Reader.faults c.read_entries.new.reader) t.number (g.H.HeldFile.bytes t.held)
+    subst (λ (r : Result (Unit {0}) TableFault). Answers (g.R.Reader.faults c.args.reader.now) (g.R.Reader.faults c.read_entries.new.reader) t.number (g.H.HeldFile.bytes t.held)
     (λ bytes (done : Unit {0}). Unit {0}) (λ bytes damage. IsBadBlock t bytes damage) r) (sym (p.1 ∙ ap Err p.2))
     (block_fails g.H.HeldFile.bytes t c.number.result c.held.result.now _ _ _ c.place_on.result block c.in_err-read.field-0.0 c.number.ensures c.held.ensures
     (omega (arith, c.place_on.ensures.within, ap length c.blocks-blocks.ensures))

@@ -7,7 +7,7 @@ abbrev pub invariant-steps : goal.invariant-steps
 invariant-steps g l = record {
   left : Keeps (cursor_left g.H.HeldFile.bytes l.fn.self) (cursor_left g.H.HeldFile.bytes l.self);
   budget : cursor_budget l.self ≤ cursor_budget l.fn.self;
-  steady : g.R.Reader.faults l.self.reader ≡ g.R.Reader.faults l.fn.self.reader;
+  steady : g.R.Reader.faults l.reader ≡ g.R.Reader.faults l.initial.reader;
   table : l.self.table.now ≡ l.fn.self.table.now;
 }
 
