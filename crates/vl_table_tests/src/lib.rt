@@ -8,4 +8,9 @@ mod disk;
 #[cfg(test)]
 mod levels;
 #[cfg(test)]
+mod merging;
+mod source;
+#[cfg(test)]
 mod tables;
+
+pub use source::Source;
