@@ -10,7 +10,7 @@ use Rattle.vl_model.specs.Entries.{is_at}
 use Rattle.vl_model.specs.Winners.{Logs}
 use Rattle.vl_model.specs.declared.entry.Entry.{Entry}
 use Rattle.vl_model.specs.declared.log_frame.Moved.{Moved}
-use Rattle.vl_block.specs.Cutting.{joined}
+use Rattle.vl_block.specs.laws.CuttingLaws.{joined}
 use Rattle.vl_layout.specs.Levels.{is_among, in_front}
 use Rattle.vl_layout.specs.Merging.{Sourced, if_so, inputs_of, outside_of, is_dropped, kept_from, kept, merged_entries, outputs}
 use Rattle.vl_layout.specs.laws.OrderShows.{all-in_order}
@@ -53,12 +53,9 @@ use Rattle.vl_model.specs.laws.VersionLaws.{versions-stay}
 use Rattle.vl_model.specs.laws.HistoryLaws.{with_commit-extends}
 use Rattle.vl_model.specs.declared.change.Change.{Change}
 use Rattle.std.specs.FinMap.{from_sorted}
-use Rattle.vl_layout.specs.OpenJobs.{place_if, places, Covers, IsStillBehind, IsAccounted, IsKeptFor, IsFitted, IsOpenWell}
+use Rattle.vl_layout.specs.OpenJobs.{place_if, places, IsStillBehind, IsAccounted, IsKeptFor, IsFitted, IsOpenWell}
 
 -- ---- when it is made
-
-covers_itself : (newer : List Entry) → Covers newer newer
-covers_itself newer key version there = there
 
 still_itself : (newer : List Entry) (ss : List Sourced) → AllZip IsStillBehind (places newer ss) (places newer ss)
 still_itself newer [] = tt

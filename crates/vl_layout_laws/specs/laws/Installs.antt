@@ -85,9 +85,6 @@ module _ (l : Layout) (job : Job) (moved : List Named) (k : IsKeptFor job moved 
   abbrev pub left_tables : List Entry
   left_tables = left_level job.keep (inputs_of job.base) (outside_of job.base) job.floor job.inputs (places [] job.base) (tables l)
 
-  abbrev pub kept_tables : List Entry
-  kept_tables = kept_level job.keep (inputs_of job.base) (outside_of job.base) job.floor job.inputs (places [] job.base) (tables l)
-
   front_left : kept_of (marks_now job (sourced l job.inputs)) ≡ in_memory l ++ left_level job.keep (inputs_of job.base) (outside_of job.base) job.floor job.inputs (places [] job.base) (tables l)
   front_left =
       let I = inputs_of job.base in

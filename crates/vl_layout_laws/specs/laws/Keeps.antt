@@ -112,9 +112,6 @@ module _ (job : Job) (moved moved' : List Named) (es fs : List Entry) (ts : List
   Then : Entry → Type 0
   Then = IsAccounted (outside_of job.base) job.floor moved
 
-  Now : Entry → Type 0
-  Now = IsAccounted (outside_of job.base) job.floor moved'
-
   -- other entries in front of the tables, of which each key and version that stood there does
   kept_again : IsKeptFor job moved (marked_as false es ++ ts) → Covers es fs
       → ((e : Entry) → IsAccounted (outside_of job.base) job.floor moved e → IsAccounted (outside_of job.base) job.floor moved' e)

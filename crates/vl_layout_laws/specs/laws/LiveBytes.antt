@@ -11,7 +11,7 @@ use Rattle.vl_model.specs.Entries.{by_order}
 use Rattle.vl_model.specs.declared.log_frame.LogFrame.{LogFrame}
 use Rattle.vl_model.specs.declared.log_frame.Moved.{Moved}
 use Rattle.vl_block.specs.Cutting.{pointed}
-use Rattle.vl_block.specs.declared.points.Point.{Point}
+use Rattle.vl_block.specs.declared.laid_point.LaidPoint.{LaidPoint as Point}
 use Rattle.vl_layout.specs.Garbage.{pointed_bytes, live_bytes, discard, is_worth, is_better}
 use Rattle.vl_layout.specs.Levels.{is_among, in_front, replaced, without, at_level, in_key_order, is_before}
 use Rattle.vl_layout.specs.Ruling.{logged}
@@ -38,13 +38,6 @@ module _ (segment : ℕ) where
   live-append [] us = omega arith
   live-append (t ∷ ts) us =
       let a = live-cons t (ts ++ us) in let b = live-cons t ts in let c = live-append ts us in omega (arith, a, b, c)
-
-  all_levels : List (List Table) → ℕ
-  all_levels levels = live_bytes (flat_map (λ ts. ts) levels) segment
-
-  live-levels : (ts : List Table) (deeper : List (List Table))
-      → live_bytes (flat_map (λ xs. xs) (ts ∷ deeper)) segment ≡ live_bytes ts segment + live_bytes (flat_map (λ xs. xs) deeper) segment
-  live-levels ts deeper = live-append ts (flat_map (λ xs. xs) deeper)
 
   -- ---- a flush
 

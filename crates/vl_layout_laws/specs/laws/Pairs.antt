@@ -1,28 +1,22 @@
 -- Tables by their keys and numbers, and the inputs that a pair of levels gives.
-use Rattle.std.proofs.Common.{◌≡◌, ◌≢◌, ◌⊎◌, inl, inr, ⊎_elim, ℕ, ◌+◌, ◌-◌, ◌≤◌, ◌<◌, Bool, true, false, cond, not, ◌&&◌, ◌||◌, List, [], ◌∷◌, ◌++◌, map, refl, ap, sym, ◌∙◌, subst, arith, length}
+use Rattle.std.proofs.Common.{◌≡◌, ◌≢◌, ◌⊎◌, inl, inr, ⊎_elim, ℕ, Bool, true, false, cond, not, ◌&&◌, ◌||◌, List, [], ◌∷◌, ◌++◌, refl, ap, sym, ◌∙◌, subst, arith}
 use Rattle.std.proofs.lemmas.Bool.{and_parts, and_from}
 use Rattle.std.proofs.lemmas.Bool.Decides.{nat_tests}
-use Rattle.std.specs.Prelude.{Option, Some, None, ◌==◌, nat_lt}
-use Rattle.std.specs.List.{AllByRecursion, flat_map, list_any, filter}
+use Rattle.std.specs.Prelude.{Some, ◌==◌}
+use Rattle.std.specs.List.{AllByRecursion, list_any, filter}
 use Rattle.std.specs.Cmp.Lexicographic.{nat_list_cmp_total}
 use Rattle.std.specs.Ordering.{eq_by_cmp, is_lt, ordering_reverse}
 use Rattle.std.specs.declared.cmp.Ordering.{Ordering}
 use Rattle.std.specs.declared.cmp.Ordering.TheVariants.{Less, Equal, Greater}
-use Rattle.vl_model.specs.History.{History}
 use Rattle.vl_model.specs.Keys.{key_cmp}
 use Rattle.vl_model.specs.laws.WinnerLaws.{same_key, key_tied}
 use Rattle.vl_model.specs.declared.entry.Entry.{Entry}
-use Rattle.vl_layout.specs.Levels.{is_among, level_at, lesser_key, greater_key, Range, widened, range_of, meets, lesser_table, least_table, one_or_none, due_inputs, with_next, inputs_at, has_point, first_into}
-use Rattle.vl_layout.specs.Merging.{inputs_of, outside_of}
-use Rattle.vl_layout.specs.Rulings.Plan.{job_of}
-use Rattle.vl_layout.specs.Sources.{tables, numbers_of}
-use Rattle.vl_layout.specs.declared.job.Target.TheVariants.{Level, InPlace}
-use Rattle.vl_layout.specs.declared.layout.Layout.{Layout}
-use Rattle.vl_layout.specs.TidyLevels.{Le, IsRanged, IsDistinct, IsApart, AreLevels}
+use Rattle.vl_layout.specs.Levels.{is_among, lesser_key, greater_key, Range, meets}
+use Rattle.vl_layout.specs.Sources.{numbers_of}
+use Rattle.vl_layout.specs.TidyLevels.{Le, IsRanged, IsDistinct, IsApart}
 use Rattle.vl_layout.specs.declared.table.Table.{Table}
-use Rattle.vl_layout_laws.specs.laws.Gathered.{IsWithout, IsIdle, IsShaped, IsPair, IsClear, IsUntouched, IsParted}
+use Rattle.vl_layout_laws.specs.laws.Gathered.{IsWithout, IsClear, IsUntouched, IsParted}
 use Rattle.vl_layout_laws.specs.laws.Lists.{true_false, or_cases}
-use Rattle.vl_layout.specs.OpenJobs.{IsFitted}
 
 -- ---- the order of keys
 

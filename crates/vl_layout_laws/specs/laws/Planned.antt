@@ -1,16 +1,11 @@
 -- Where levels don't overlap, and no number stands twice, the inputs of a plan and of a drain stand as an install wants them.
 use Rattle.std.proofs.Common.{◌≡◌, ◌≢◌, ◌⊎◌, inl, inr, ⊎_elim, ℕ, ◌+◌, ◌-◌, ◌≤◌, ◌<◌, Bool, true, false, cond, not, ◌&&◌, ◌||◌, List, [], ◌∷◌, ◌++◌, map, refl, ap, sym, ◌∙◌, subst, arith, length}
-use Rattle.std.proofs.lemmas.Bool.{and_parts, and_from}
 use Rattle.std.proofs.lemmas.Bool.Decides.{nat_tests}
 use Rattle.std.specs.Prelude.{Option, Some, None, ◌==◌, nat_lt}
 use Rattle.std.specs.List.{AllByRecursion, flat_map, list_any, filter}
-use Rattle.std.specs.Cmp.Lexicographic.{nat_list_cmp_total}
-use Rattle.std.specs.Ordering.{eq_by_cmp, is_lt, ordering_reverse}
-use Rattle.std.specs.declared.cmp.Ordering.{Ordering}
-use Rattle.std.specs.declared.cmp.Ordering.TheVariants.{Less, Equal, Greater}
+use Rattle.std.specs.Ordering.{is_lt}
 use Rattle.vl_model.specs.History.{History}
-use Rattle.vl_model.specs.Keys.{key_cmp}
-use Rattle.vl_model.specs.laws.WinnerLaws.{same_key, key_tied}
+use Rattle.vl_model.specs.laws.WinnerLaws.{key_tied}
 use Rattle.vl_model.specs.declared.entry.Entry.{Entry}
 use Rattle.vl_layout.specs.Levels.{is_among, level_at, lesser_key, greater_key, Range, widened, range_of, meets, lesser_table, least_table, one_or_none, due_inputs, with_next, inputs_at, has_point, first_into}
 use Rattle.vl_layout.specs.Merging.{inputs_of, outside_of}
@@ -20,8 +15,8 @@ use Rattle.vl_layout.specs.declared.job.Target.TheVariants.{Level, InPlace}
 use Rattle.vl_layout.specs.declared.layout.Layout.{Layout}
 use Rattle.vl_layout.specs.TidyLevels.{Le, IsRanged, IsDistinct, IsApart, AreLevels}
 use Rattle.vl_layout.specs.declared.table.Table.{Table}
-use Rattle.vl_layout_laws.specs.laws.Gathered.{IsWithout, IsIdle, IsShaped, IsPair, IsClear, IsUntouched, IsParted}
-use Rattle.vl_layout_laws.specs.laws.Lists.{true_false, or_cases}
+use Rattle.vl_layout_laws.specs.laws.Gathered.{IsIdle, IsShaped, IsPair, IsClear, IsUntouched, IsParted}
+use Rattle.vl_layout_laws.specs.laws.Lists.{true_false}
 use Rattle.vl_layout.specs.OpenJobs.{IsFitted}
 use Rattle.vl_layout_laws.specs.laws.Pairs.{IsWithin, le_then, lesser_left, lesser_right, greater_left, greater_right, distinct_parts, AreOther, others_turned, not_one_of, one_is, one_itself, holds, all_parts, all_both, all_weaker, all_filtered, apart_parted, all_parted, input_clear, untouched_by, range_clear}
 

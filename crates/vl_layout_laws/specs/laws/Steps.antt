@@ -9,7 +9,7 @@ use Rattle.std.specs.declared.cmp.Ordering.TheVariants.{Less, Equal, Greater}
 use Rattle.vl_model.specs.Entries.{by_order}
 use Rattle.vl_model.specs.declared.log_frame.LogFrame.{LogFrame}
 use Rattle.vl_model.specs.declared.log_frame.Moved.{Moved}
-use Rattle.vl_block.specs.declared.points.Point.{Point}
+use Rattle.vl_block.specs.declared.laid_point.LaidPoint.{LaidPoint as Point}
 use Rattle.vl_layout.specs.Garbage.{live_bytes}
 use Rattle.vl_layout.specs.laws.RisingLaws.{all-put_by}
 use Rattle.vl_layout.specs.Ruling.{logged, ended, pin_of, is_idle, retired_at, switched}
@@ -42,9 +42,6 @@ own_pin l s = record {
   old = omega arith;
   off = all_weaker (IsUnneeded (needed l)) (IsOff (pin_of l)) (λ r is. inr is) l.retired s.unneeded;
 }
-
-live_pins : Layout → List Pin
-live_pins l = map (λ (x : Live). x.pin) l.live
 
 module _ (l : Layout) (s : IsStocked l) where
   P : Pin → Type 0
@@ -311,10 +308,6 @@ all_put P s (t ∷ ts) here all = elim (nat_cmp s.number t.number) as (λ r. All
 all_rising : (P : Segment → Type 0) (ss : List Segment) → AllByRecursion P ss → AllByRecursion P (rising ss)
 all_rising P [] all = tt
 all_rising P (s ∷ ss) all = all_put P s (rising ss) all.0 (all_rising P ss all.1)
-
--- what a switch drops isn't needed behind it
-IsDroppable : Layout → Table → Type 0
-IsDroppable l t = (is_in (table_of t) (needed l) ≡ false) × (t.number < l.next_table)
 
 both_all : {X : Type 0} (P Q : X → Type 0) (xs : List X) → AllByRecursion P xs → AllByRecursion Q xs
     → AllByRecursion (λ (x : X). P x × Q x) xs

@@ -43,10 +43,6 @@ use Rattle.vl_layout_laws.specs.laws.Switches.{stocked_flushed}
 
 -- ---- other retired files, another job
 
--- what is so of all of the others is so of these
-abbrev Within : List Retired → List Retired → Type 1
-Within rs others = (P : Retired → Type 0) → AllByRecursion P others → AllByRecursion P rs
-
 pub restocked : (l : Layout) (rs : List Retired) → IsStocked l
     → ((P : Retired → Type 0) → AllByRecursion P l.retired → AllByRecursion P rs) → IsStocked (record l { retired = rs })
 restocked l rs s within = record {
