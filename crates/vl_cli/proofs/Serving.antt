@@ -1,12 +1,14 @@
 -- What statuses a process may end with.
-use Rattle.std.proofs.Common.{◌≡◌, ◌≢◌, ⊎_elim, inl, inr, ◌⊎◌, ℕ, List, ◌∙◌, ap, arith}
+use Rattle.std.proofs.Common.{◌≡◌, ◌≢◌, ⊎_elim, inl, inr, ◌⊎◌, ℕ, List, ◌∙◌, ap, subst, arith}
 use Rattle.vl_disk.specs.Faults.{Rose}
+use Rattle.vl_disk.specs.declared.watched.Watched.{Ghosts}
 use Rattle.vl_io.specs.declared.sink.Sink as sink
+use Rattle.vl_io.specs.declared.source.Source as source
 use Rattle.vl_replay.specs.Endings.{status_of}
 use Rattle.vl_replay.specs.Runs.{IsFront}
 use Rattle.vl_replay.specs.declared.ending.Ending.{Ending}
 use Rattle.vl_replay.specs.declared.ending.Ending.TheVariants.{BadWords, NoMemory, WriteFault}
-use Rattle.vl_cli.specs.Process.{MayExitWith}
+use Rattle.vl_cli.specs.Process.{MayExitWith, ServedOver}
 use Rattle.vl_cli.specs.Run.{AreNotPlain, AskFor, EndsBy}
 use Rattle.vl_cli.specs.declared.command_line.words.Command.{Command}
 
@@ -48,3 +50,10 @@ unserved_exits g old new words status ends = record {
 
     seven_or : status ≡ 7 → status ≡ 2 → ⊥
     seven_or seven two = omega arith
+
+-- a run over words is one over the same words
+pub over_same : {S K D : Type 0} {s : source.Ghosts S} {k : sink.Ghosts K} {g : Ghosts D} {IsMade : List ℕ → D → Type 0}
+    {words other : List (List ℕ)} {from from' : S} {to to' : K} {left : D} {status : ℕ} → words ≡ other
+    → ServedOver s k g IsMade words from from' to to' left status → ServedOver s k g IsMade other from from' to to' left status
+over_same {S} {K} {D} {s} {k} {g} {IsMade} {words} {other} {from} {from'} {to} {to'} {left} {status} same served =
+    subst (λ (w : List (List ℕ)). ServedOver s k g IsMade w from from' to to' left status) same served

@@ -34,11 +34,12 @@ pub fn serve<S: Source, K: Sink, D: Disk, M: FnOnce(String) -> D>(
 ) -> Served<D>
     requires { M.IsAlwaysCallable make_disk }
 
-    // All of the words are run, over a disk that `make_disk` gave for the folder that the second of them names.
-    ensures served { IfSome result.disk (λ disk. ForSome words (λ words.
-        ServedOver S.Source K.Sink D.Watched
+    // Where there is a disk there were words. All of them are run, over a disk that `make_disk` gave for the folder that the
+    // second of them names.
+    ensures served { IfSome result.disk (λ disk. (given : _) × (words ≡ Some given)
+        × ServedOver S.Source K.Sink D.Watched
         (λ folder made. (path : _) × (string_bytes path ≡ folder) × M.post make_disk path made)
-        (map string_bytes words.items) source.old source.new sink.old sink.new disk (exit_status result.exit))) }
+        (map string_bytes given.items) source.old source.new sink.old sink.new disk (exit_status result.exit)) }
     ensures no_memory { IfNone result.disk ((source.new ≡ source.old)
         × EndsBy K.Sink sink.old sink.new endings.NoMemory (exit_status result.exit)) }
 
