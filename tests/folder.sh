@@ -48,7 +48,15 @@ check 'a failed sync of the folder halts' fails_at fsync "$top/names" error=EIO:
 streams_apart() {
   printf "$commit" | "$program" replay "$top/streams" >&- 2>&- || true
   "$program" replay "$top/streams" <&- >"$top/out" 2>&- || true
-  printf "$commit" | "$program" replay "$top/streams" >"$top/out" && shows "$top/streams" "$(answered)"
+  printf "$commit" | "$program" replay "$top/streams" >"$top/out" && shows "$top/streams" "$(answered)" || return 1
+  # What is told of a failed call goes to no stream, and into no file.
+  local sync
+  for sync in 1 2 3; do
+    printf "$commit" | strace -f -o "$top/trace" -e trace=fdatasync -e "inject=fdatasync:error=EIO:when=$sync" \
+      "$program" replay "$top/apart$sync" >&- 2>&- || true
+    ! grep -rqs 'vlstore: ' "$top/apart$sync" &&
+      printf 'view v\n' | "$program" replay "$top/apart$sync" >"$top/out" 2>"$top/err" || return 1
+  done
 }
 check 'what is printed lands in no file where streams are closed' streams_apart
 
@@ -84,3 +92,12 @@ ln -s "$top/theirs" "$top/link/0000000001.vlog"
 check 'a folder under a name of the store is left alone' leaves_alone "$top/folder"
 check 'a link under a name of the store is left alone' leaves_alone "$top/link"
 check 'what the link leads to is too' grep -qx theirs "$top/theirs"
+
+# A file of the store that can't be looked at: the system's reason is told, at the file.
+unseen() {
+  printf "$commit" | "$program" replay "$top/unseen" >"$top/out"
+  strace -o "$top/trace" -P "$top/unseen/0000000001.vlog" -e inject=statx,lstat,newfstatat:error=EIO:when=1 \
+    "$program" replay "$top/unseen" </dev/null >"$top/out" 2>"$top/err" && return 1
+  grep -q '0000000001.vlog: Input/output error' "$top/err"
+}
+check 'why a file is not seen is told' unseen

@@ -65,14 +65,14 @@ def images(disk):
     for standing in (True, False):
         for back in (True, False):
             for choice in range(8):
-                image = {}
-                if back:
-                    image.update(disk.removed)
-                for name, file in disk.files.items():
-                    if file.named or standing:
-                        ways = torn(file)
-                        image[name] = ways[min(choice, len(ways) - 1)] if name in unsynced else ways[0]
-                yield image
+                for tearing in (unsynced, unsynced[-1:]):
+                    image = {}
+                    if back:
+                        image.update(disk.removed)
+                    for name, file in disk.files.items():
+                        if file.named or standing:
+                            image[name] = torn(file)[choice] if name in tearing else file.data
+                    yield image
 
 
 def shown_by(program, image, keys):

@@ -1,4 +1,4 @@
-use std::fs::File;
+use std::fs::{File, OpenOptions};
 use std::io::Read;
 use std::os::unix::fs::symlink;
 use std::rt::{Env, Files};
@@ -302,6 +302,85 @@ fn many_files_are_held_over_few_that_are_open(rt: HostRuntime) -> Result<(), Fai
     Ok(())
 }
 
+/// So many files are held, let go and removed.
+const REMOVED: u32 = 200;
+
+// A file that was removed has no room on the disk any more, once nothing holds it.
+#[test]
+fn files_that_were_removed_are_closed(rt: HostRuntime) -> Result<(), Fail> {
+    let alloc = rt.alloc();
+    let path = missing_folder(&rt, process::id(rt.process()))?;
+    let mut disk = FolderDisk::new(&rt, alloc, path.clone()?);
+    disk.list(alloc)?;
+    let before = open_files(&rt)?;
+    for number in 1..=REMOVED {
+        let name = Name::Table(number);
+        disk.ready(name, 4)?;
+        make_file(&mut disk, name, &number.to_be_bytes())?;
+        drop(disk.hold(name)?);
+        drop(disk.hold(name)?);
+    }
+    for number in 1..=REMOVED {
+        disk.remove(Name::Table(number))?;
+    }
+    assert_eq!(rt; open_files(&rt)?, before);
+    // One that is held is closed when it isn't.
+    disk.ready(LOG, 1)?;
+    make_file(&mut disk, LOG, b"a")?;
+    let held = disk.hold(LOG)?;
+    let copy = held.clone()?;
+    disk.remove(LOG)?;
+    drop(held);
+    let mut one = [0; 1];
+    disk.reader(alloc)?.read(&copy, 0, &mut one)?;
+    assert_eq!(rt; &one, b"a");
+    drop(copy);
+    assert_eq!(rt; open_files(&rt)?, before);
+    fs::remove_dir_all(&rt, path)?;
+    Ok(())
+}
+
+// A new file of a name is another one than a file that was held by it.
+#[test]
+fn a_held_file_is_read_beside_a_new_one_of_its_name(rt: HostRuntime) -> Result<(), Fail> {
+    let alloc = rt.alloc();
+    let path = missing_folder(&rt, process::id(rt.process()))?;
+    let mut disk = FolderDisk::new(&rt, alloc, path.clone()?);
+    disk.list(alloc)?;
+    disk.ready(LOG, 1)?;
+    make_file(&mut disk, LOG, b"a")?;
+    let first = disk.hold(LOG)?;
+    disk.remove(LOG)?;
+    disk.ready(LOG, 1)?;
+    make_file(&mut disk, LOG, b"b")?;
+    let second = disk.hold(LOG)?;
+    disk.remove(LOG)?;
+    let mut reader = disk.reader(alloc)?;
+    let mut one = [0; 1];
+    reader.read(&first, 0, &mut one)?;
+    assert_eq!(rt; &one, b"a");
+    reader.read(&second, 0, &mut one)?;
+    assert_eq!(rt; &one, b"b");
+    fs::remove_dir_all(&rt, path)?;
+    Ok(())
+}
+
+/// Makes a file as long as the system lets it be, but for one byte, and says how long that is.
+fn fill_up(file: &File) -> io::Result<u64> {
+    let (mut fits, mut too_long) = (0u64, 1u64 << 63);
+    for _ in 0..64 {
+        let middle = fits + (too_long - fits) / 2;
+        if file.set_len(middle).is_ok() {
+            fits = middle;
+        } else {
+            too_long = middle;
+        }
+    }
+    let end = fits - 1;
+    file.set_len(end)?;
+    Ok(end)
+}
+
 // The file is as long as the system lets it be, but for one byte.
 #[test]
 fn a_piece_that_is_taken_in_part_is_a_fault(rt: HostRuntime) -> Result<(), Fail> {
@@ -310,17 +389,7 @@ fn a_piece_that_is_taken_in_part_is_a_fault(rt: HostRuntime) -> Result<(), Fail>
     let mut disk = FolderDisk::new(&rt, alloc, path.clone()?);
     disk.list(alloc)?;
     let long = File::create(&rt, format!(in alloc; "{path}/0000000001.vlog")?)?;
-    let (mut fits, mut too_long) = (0u64, 1u64 << 63);
-    for _ in 0..64 {
-        let middle = fits + (too_long - fits) / 2;
-        if long.set_len(middle).is_ok() {
-            fits = middle;
-        } else {
-            too_long = middle;
-        }
-    }
-    let end = fits - 1;
-    long.set_len(end)?;
+    let end = fill_up(&long)?;
     disk.ready(LOG, 3)?;
     assert_eq!(rt; disk.size(LOG)?, end);
     assert_eq!(rt; disk.append(LOG, b"abc"), Err(Failed));
@@ -329,6 +398,26 @@ fn a_piece_that_is_taken_in_part_is_a_fault(rt: HostRuntime) -> Result<(), Fail>
     disk.cut(LOG, 0)?;
     disk.append(LOG, b"d")?;
     assert_eq!(rt; disk.size(LOG)?, 1);
+    fs::remove_dir_all(&rt, path)?;
+    Ok(())
+}
+
+// As above, of a file that a writer has.
+#[test]
+fn a_writers_piece_that_is_taken_in_part_is_a_fault(rt: HostRuntime) -> Result<(), Fail> {
+    let alloc = rt.alloc();
+    let path = missing_folder(&rt, process::id(rt.process()))?;
+    let mut disk = FolderDisk::new(&rt, alloc, path.clone()?);
+    disk.list(alloc)?;
+    disk.ready(LOG, 3)?;
+    disk.create(LOG)?;
+    let mut writer = disk.lend(LOG)?;
+    let file = format!(in alloc; "{path}/0000000001.vlog")?;
+    let long = OpenOptions::new().write(true).open(&rt, &file)?;
+    fill_up(&long)?;
+    assert_eq!(rt; writer.append(b"abc"), Err(DiskFail::Failed));
+    disk.adopt(writer);
+    assert_eq!(rt; disk.size(LOG)?, long.metadata()?.len());
     fs::remove_dir_all(&rt, path)?;
     Ok(())
 }

@@ -6,8 +6,8 @@ use crate::file_name::named;
 use crate::folder_error::FolderError;
 use crate::held::Shared;
 use crate::identity::Identity;
+use crate::lent::Lent;
 use crate::making::make_folder;
-use crate::named::Named;
 use crate::open_file::OpenFile;
 use crate::opening::plain_file;
 use crate::pool::Pool;
@@ -17,6 +17,7 @@ use std::fs::{File, TryLockError};
 use std::io::Read;
 use std::rt::Files;
 use std::sync::Arc;
+use std::sync::atomic::{AtomicBool, Ordering};
 use vl_disk::Name;
 
 /// The bytes of names that are read at a time.
@@ -25,13 +26,14 @@ const NAMES: usize = 4096;
 /// So many files stay open that needn't.
 const MOST_OPEN: usize = 64;
 
-/// Whether the names that stand in the folder are durable.
-#[derive(Clone, Copy)]
-enum Names {
-    Durable,
-    New,
-    // A sync of the folder failed, so that no later one tells anything.
-    Lost,
+/// The folder once it was opened, and what is shared of it.
+#[derive(Drop)]
+struct Entered {
+    // locked
+    handle: File,
+    pool: Arc<Pool, Global>,
+    // a sync of the folder failed, at the disk or at a writer, so that no later one tells anything
+    names_lost: Arc<AtomicBool, Global>,
 }
 
 /// A folder, of which each call makes calls of the system.
@@ -40,13 +42,13 @@ pub struct Folder<R: Files<File = File>> {
     rt: R,
     alloc: Global,
     path: String,
-    // the folder itself, locked, once a call has opened it
-    handle: Option<Arc<File, Global>>,
-    names: Names,
+    // once a call has opened the folder
+    entered: Option<Entered>,
+    // whether the names that stand in the folder are durable
+    names_durable: bool,
     slots: Vec<Slot>,
     // so many files were opened since those that needn't stay open were closed
     opened: usize,
-    pool: Option<Arc<Pool, Global>>,
 }
 
 impl<R: Files<File = File>> Folder<R> {
@@ -55,11 +57,10 @@ impl<R: Files<File = File>> Folder<R> {
             rt,
             alloc,
             path,
-            handle: None,
-            names: Names::New,
+            entered: None,
+            names_durable: false,
             slots: Vec::new(alloc),
             opened: 0,
-            pool: None,
         }
     }
 
@@ -69,7 +70,7 @@ impl<R: Files<File = File>> Folder<R> {
 
     /// Opens the folder and locks it, so that another disk over it is refused. The names that stand are made durable.
     fn enter(&mut self) -> Result<(), FolderError> {
-        if self.handle.is_some() {
+        if self.entered.is_some() {
             return Ok(());
         }
         let handle = File::open(&self.rt, self.path.as_str())?;
@@ -78,17 +79,25 @@ impl<R: Files<File = File>> Folder<R> {
             Err(TryLockError::WouldBlock) => return Err(FolderError::InUse),
             Err(TryLockError::Error(error)) => return Err(FolderError::System(error)),
         }
-        self.pool = Some(Arc::new(self.alloc, Pool::new(self.alloc))?);
-        self.handle = Some(Arc::new(self.alloc, handle)?);
+        self.entered = Some(Entered {
+            handle,
+            pool: Arc::new(self.alloc, Pool::new(self.alloc))?,
+            names_lost: Arc::new(self.alloc, AtomicBool::new(false))?,
+        });
         self.sync_names()
+    }
+
+    /// The folder, where it was opened.
+    fn entered(&self) -> Result<&Entered, FolderError> {
+        match &self.entered {
+            Some(entered) => Ok(entered),
+            None => Err(FolderError::Moved),
+        }
     }
 
     /// Whether the path still leads to the folder that was opened.
     fn look_again(&self) -> Result<(), FolderError> {
-        let Some(handle) = &self.handle else {
-            return Err(FolderError::Moved);
-        };
-        let opened = Identity::of(&handle.metadata()?);
+        let opened = Identity::of(&self.entered()?.handle.metadata()?);
         match self.rt.metadata(self.path.as_str()) {
             Ok(found) if Identity::of(&found) == opened => Ok(()),
             _ => Err(FolderError::Moved),
@@ -98,16 +107,9 @@ impl<R: Files<File = File>> Folder<R> {
     fn sync_names(&mut self) -> Result<(), FolderError>
         ensures { self.new.slots ≡ self.old.slots }
     {
-        match (self.names, &self.handle) {
-            (Names::Durable, _) => Ok(()),
-            (Names::New, Some(handle)) => {
-                self.names = Names::Lost;
-                handle.sync_all()?;
-                self.names = Names::Durable;
-                Ok(())
-            }
-            _ => Err(FolderError::Lost),
-        }
+        let durable = self.names_durable;
+        self.names_durable = self.entered()?.sync_names(durable)?;
+        Ok(())
     }
 
     /// Where the slot of this name is.
@@ -155,7 +157,7 @@ impl<R: Files<File = File>> Folder<R> {
     pub fn list(&mut self, alloc: Global) -> Result<Vec<Name>, FolderError>
         ensures { IfOk result (λ names. All IsNumbered names.items) }
     {
-        if self.handle.is_none() {
+        if self.entered.is_none() {
             make_folder(&self.rt, alloc, self.path.as_str())?;
         }
         self.enter()?;
@@ -163,8 +165,10 @@ impl<R: Files<File = File>> Folder<R> {
         let names = self.read_names(alloc)?;
         for name in &names {
             let at = self.slot(*name)?;
-            if plain_file(&self.rt, self.slots[at].path()).is_err() {
-                return Err(FolderError::NoFileAt(*name));
+            match plain_file(&self.rt, self.slots[at].path()) {
+                Ok(_) => {}
+                Err(FolderError::System(error)) => return Err(FolderError::SystemAt(*name, error)),
+                Err(_) => return Err(FolderError::NoFileAt(*name)),
             }
         }
         Ok(names)
@@ -208,9 +212,7 @@ impl<R: Files<File = File>> Folder<R> {
         self.enter()?;
         self.look_again()?;
         let at = self.slot(name)?;
-        if let Names::Durable = self.names {
-            self.names = Names::New;
-        }
+        self.names_durable = false;
         self.close_idle();
         self.slots[at].create(&self.rt, self.alloc)
     }
@@ -243,8 +245,8 @@ impl<R: Files<File = File>> Folder<R> {
         if self.slots[at].is_held() {
             at = self.open(name)?;
         }
-        if let Some(pool) = &self.pool {
-            self.slots[at].remove(&self.rt, pool)?;
+        if let Some(entered) = &self.entered {
+            self.slots[at].remove(&self.rt, &entered.pool)?;
         }
         self.slots.swap_remove(at);
         Ok(())
@@ -253,8 +255,8 @@ impl<R: Files<File = File>> Folder<R> {
     /// Shares a file, and says how long it is.
     pub fn hold(&mut self, name: Name) -> Result<(u64, Shared), FolderError> {
         let at = self.open(name)?;
-        match &self.pool {
-            Some(pool) => self.slots[at].hold(pool),
+        match &self.entered {
+            Some(entered) => self.slots[at].hold(&entered.pool),
             None => Err(FolderError::Moved),
         }
     }
@@ -262,35 +264,61 @@ impl<R: Files<File = File>> Folder<R> {
     /// The file, its name and the folder, for a writer.
     pub fn lend(&mut self, name: Name) -> Result<Lent, FolderError> {
         let at = self.open(name)?;
-        let Some(handle) = &self.handle else {
-            return Err(FolderError::Moved);
-        };
-        let folder = handle.clone()?;
+        let (folder, names_lost) = self.folder_again()?;
         let (named, file) = self.slots[at].lend()?;
         Ok(Lent {
             named,
             file,
             folder,
+            names_lost,
         })
     }
 
-    /// The file comes back from its writer. Where a sync of the folder failed there, it counts here too.
-    pub fn adopt(&mut self, name: Name, file: OpenFile, names_lost: bool) {
-        if names_lost {
-            self.names = Names::Lost;
-        }
+    /// The folder, opened anew for a writer, and whether a sync of it failed, which is shared.
+    fn folder_again(&self) -> Result<(File, Arc<AtomicBool, Global>), FolderError> {
+        let entered = self.entered()?;
+        let folder = entered.open_again(&self.rt, self.path.as_str())?;
+        Ok((folder, entered.names_lost.clone()?))
+    }
+
+    /// The file comes back from its writer.
+    pub fn adopt(&mut self, name: Name, file: OpenFile) {
         if let Some(at) = self.slots.iter().position(|slot| slot.is_of(name)) {
             self.slots[at].adopt(file);
         }
     }
 }
 
-/// What a writer gets.
-#[derive(Drop)]
-pub struct Lent {
-    pub named: Arc<Named, Global>,
-    pub file: OpenFile,
-    pub folder: Arc<File, Global>,
+impl Entered {
+    /// Makes the names that stand in the folder durable, where they aren't. Where that fails they are lost.
+    fn sync_names(&self, durable: bool) -> Result<bool, FolderError> {
+        self.refuse_lost()?;
+        if !durable {
+            let synced = self.handle.sync_all();
+            if synced.is_err() {
+                self.names_lost.store(true, Ordering::SeqCst);
+            }
+            synced?;
+        }
+        Ok(true)
+    }
+
+    fn refuse_lost(&self) -> Result<(), FolderError> {
+        if self.names_lost.load(Ordering::SeqCst) {
+            return Err(FolderError::Lost);
+        }
+        Ok(())
+    }
+
+    /// The folder, opened anew, for a writer.
+    fn open_again<R: Files<File = File>>(&self, rt: &R, path: &str) -> Result<File, FolderError> {
+        self.refuse_lost()?;
+        let folder = File::open(rt, path)?;
+        if Identity::of(&folder.metadata()?) != Identity::of(&self.handle.metadata()?) {
+            return Err(FolderError::Moved);
+        }
+        Ok(folder)
+    }
 }
 
 /// Adds the names of a store's files, out of names that each end with a zero.

@@ -2,7 +2,7 @@ ghost use Rattle.std.specs.Prelude.{◌≡◌, ◌↔◌, IsErr, IfOk, None, Som
 ghost use Rattle.vl_disk.specs.Faults.{HasCause, one_more};
 
 use crate::file_name::path_of;
-use crate::folder::{Folder, Lent};
+use crate::folder::Folder;
 use crate::folder_error::{FolderError, tell};
 use crate::folder_reader::FolderReader;
 use crate::held::FolderHeld;
@@ -125,6 +125,10 @@ impl<R: Files<File = File> + Eprint + Copy> Disk for FolderDisk<R> {
                 self.count(Some(name), &FolderError::NoFile);
                 Err(DiskFail::Failed)
             }
+            Err(FolderError::SystemAt(name, error)) => {
+                self.count(Some(name), &FolderError::System(error));
+                Err(DiskFail::Failed)
+            }
             Err(error) => {
                 self.count(None, &error);
                 Err(DiskFail::Failed)
@@ -184,17 +188,13 @@ impl<R: Files<File = File> + Eprint + Copy> Disk for FolderDisk<R> {
 
     fn lend(&mut self, name: Name) -> Result<FolderWriter<R>, Failed> {
         let lent = self.folder.lend(name);
-        let Lent {
-            named,
-            file,
-            folder,
-        } = self.answer(name, lent)?;
-        Ok(FolderWriter::new(self.rt, name, named, file, folder))
+        let lent = self.answer(name, lent)?;
+        Ok(FolderWriter::new(self.rt, name, lent))
     }
 
     fn adopt(&mut self, writer: FolderWriter<R>) {
-        let (name, file, names_lost) = writer.into_parts();
-        self.folder.adopt(name, file, names_lost);
+        let (name, file) = writer.into_parts();
+        self.folder.adopt(name, file);
     }
 
     fn reader(&self, alloc: Global) -> Result<FolderReader<R>, NoMemory> {

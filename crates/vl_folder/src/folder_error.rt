@@ -17,6 +17,8 @@ pub enum FolderError {
     NoFile,
     #[error("a file of it is no plain file")]
     NoFileAt(Name),
+    #[error("{1}")]
+    SystemAt(Name, io::Error),
     #[error("it isn't the file that it was")]
     Replaced,
     #[error("an earlier sync of it failed")]

@@ -49,18 +49,46 @@ impl FolderHeld {
         out: &mut [u8],
     ) -> Result<(), FolderError> {
         let shared = &self.shared;
+        if let Some(file) = shared.named.removed(shared.identity) {
+            return Ok(file.read_exact_at(out, place)?);
+        }
         if let Some(file) = shared.pool.find(shared.identity) {
             return Ok(file.read_exact_at(out, place)?);
         }
-        let file = open_file(rt, self.path())?;
-        if Identity::of(&file.metadata()?) != shared.identity {
-            return Err(FolderError::Replaced);
-        }
+        let file = match shared.open(rt) {
+            Ok(file) => file,
+            Err(error) => {
+                // It may have been removed meanwhile.
+                let Some(file) = shared.named.removed(shared.identity) else {
+                    return Err(error);
+                };
+                return Ok(file.read_exact_at(out, place)?);
+            }
+        };
         file.read_exact_at(out, place)?;
         if let Ok(file) = Arc::new(alloc, file) {
-            shared.pool.keep(shared.identity, file);
+            shared.keep_open(file);
         }
         Ok(())
+    }
+}
+
+impl Shared {
+    /// Opens the file by its name.
+    fn open<R: Files<File = File>>(&self, rt: &R) -> Result<File, FolderError> {
+        let file = open_file(rt, self.named.path.as_str())?;
+        if Identity::of(&file.metadata()?) != self.identity {
+            return Err(FolderError::Replaced);
+        }
+        Ok(file)
+    }
+
+    /// Has the pool keep the file open, unless it was removed.
+    pub fn keep_open(&self, file: Arc<File, Global>) {
+        self.pool.keep(self.identity, file, &self.named);
+        if self.named.is_gone() {
+            self.pool.close_removed();
+        }
     }
 }
 

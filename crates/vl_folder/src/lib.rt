@@ -8,6 +8,7 @@ mod folder_error;
 mod folder_reader;
 mod held;
 mod identity;
+mod lent;
 mod making;
 mod named;
 mod open_file;

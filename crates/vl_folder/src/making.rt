@@ -14,23 +14,26 @@ pub fn make_folder<R: Files<File = File>>(rt: &R, alloc: Global, path: &str) -> 
         if let Some((parent, rest)) = path.split_at_checked(end)
             && rest.starts_with('/')
         {
-            make_one(rt, parent)?;
+            make_one(rt, alloc, parent)?;
         }
     }
-    make_one(rt, path)
+    make_one(rt, alloc, path)
 }
 
 fn is_folder(rt: &impl Files, path: &str) -> bool {
     rt.metadata(path).is_ok_and(|found| found.is_dir())
 }
 
-/// Makes a folder where it is missing, and its name durable in the folder that it lies in.
-fn make_one<R: Files<File = File>>(rt: &R, path: &str) -> io::Result<()> {
+/// Makes a folder where it is missing, and its name durable in the folder that it lies in. So is that one's own name first:
+/// an earlier run may have been stopped once it had made it.
+fn make_one<R: Files<File = File>>(rt: &R, alloc: Global, path: &str) -> io::Result<()> {
     if is_folder(rt, path) {
         return Ok(());
     }
+    let parent = parent_of(path);
+    sync_name(rt, alloc, parent)?;
     rt.create_dir(path)?;
-    File::open(rt, parent_of(path))?.sync_all()
+    File::open(rt, parent)?.sync_all()
 }
 
 /// Makes the name of a folder that stands durable. Where the folder that it lies in may not be read, that is left to who

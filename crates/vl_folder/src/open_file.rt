@@ -47,6 +47,7 @@ impl OpenFile {
     }
 
     pub fn size(&mut self) -> Result<u64, FolderError> {
+        self.file()?;
         if let Some(end) = self.end {
             return Ok(end);
         }

@@ -1,6 +1,7 @@
 // One file of a folder, as the disk knows it.
 use crate::folder_error::FolderError;
 use crate::held::Shared;
+use crate::identity::Identity;
 use crate::named::Named;
 use crate::open_file::OpenFile;
 use crate::opening::{make_file, open_file, plain_file};
@@ -17,7 +18,8 @@ pub struct Slot {
     named: Arc<Named, Global>,
     name: Name,
     file: Option<OpenFile>,
-    lent: bool,
+    // the file that a writer has
+    lent: Option<Identity>,
 }
 
 impl Slot {
@@ -26,7 +28,7 @@ impl Slot {
             named: Arc::new(alloc, Named::new(alloc, folder, name)?)?,
             name,
             file: None,
-            lent: false,
+            lent: None,
         })
     }
 
@@ -48,8 +50,13 @@ impl Slot {
         rt: &R,
         alloc: Global,
     ) -> Result<(), FolderError> {
-        let file = make_file(rt, self.named.path.as_str())?;
-        self.file = Some(OpenFile::new(alloc, file)?);
+        let file = OpenFile::new(alloc, make_file(rt, self.named.path.as_str())?)?;
+        if self.is_held() {
+            // An earlier file of this name is.
+            self.named = Arc::new(alloc, self.named.again(alloc)?)?;
+        }
+        self.file = Some(file);
+        self.lent = None;
         Ok(())
     }
 
@@ -59,7 +66,7 @@ impl Slot {
         rt: &R,
         alloc: Global,
     ) -> Result<(), FolderError> {
-        if self.lent {
+        if self.lent.is_some() {
             return Err(FolderError::Lent);
         }
         let file = open_file(rt, self.named.path.as_str())?;
@@ -111,21 +118,23 @@ impl Slot {
         }
     }
 
-    /// Removes the file. Where something holds it, it stays open until nothing does.
-    pub fn remove<R: Files<File = File>>(
-        &mut self,
-        rt: &R,
-        pool: &Pool,
-    ) -> Result<(), FolderError> {
+    /// Removes the file. Where something holds it, it must be open, and stays so until nothing does.
+    pub fn remove<R: Files<File = File>>(&self, rt: &R, pool: &Pool) -> Result<(), FolderError> {
         plain_file(rt, self.named.path.as_str())?;
-        if let Some(file) = &self.file {
-            if Arc::strong_count(&self.named) > 1 {
-                pool.keep_removed(file.identity(), file.share()?, self.named.clone()?)?;
-            } else {
-                pool.close(file.identity());
-            }
+        if self.is_held() {
+            self.keep_removed()?;
         }
-        Ok(rt.remove_file(self.named.path.as_str())?)
+        rt.remove_file(self.named.path.as_str())?;
+        self.named.set_gone();
+        pool.close_removed();
+        Ok(())
+    }
+
+    fn keep_removed(&self) -> Result<(), FolderError> {
+        match &self.file {
+            Some(file) => self.named.keep_removed(file.identity(), file.share()?),
+            None => Ok(()),
+        }
     }
 
     /// Whether something holds the file, so that it must be open when it is removed.
@@ -139,12 +148,12 @@ impl Slot {
         let Some(file) = &self.file else {
             return Err(FolderError::Lent);
         };
-        pool.keep(file.identity(), file.share()?);
         let shared = Shared {
             named: self.named.clone()?,
             identity: file.identity(),
             pool: pool.clone()?,
         };
+        shared.keep_open(file.share()?);
         Ok((len, shared))
     }
 
@@ -153,17 +162,19 @@ impl Slot {
         let named = self.named.clone()?;
         match self.file.take() {
             Some(file) => {
-                self.lent = true;
+                self.lent = Some(file.identity());
                 Ok((named, file))
             }
             None => Err(FolderError::Lent),
         }
     }
 
-    /// The file comes back from its writer.
+    /// The file comes back from its writer. Another one than was lent is closed.
     pub fn adopt(&mut self, file: OpenFile) {
-        self.file = Some(file);
-        self.lent = false;
+        if self.lent == Some(file.identity()) {
+            self.file = Some(file);
+            self.lent = None;
+        }
     }
 
     /// Closes a file that needn't stay open.
