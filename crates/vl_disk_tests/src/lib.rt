@@ -1,8 +1,6 @@
-//! Tests of the outside: disks in memory and in a folder, sources and sinks.
+//! Tests of the outside in memory and over std: disks, sources and sinks.
 #![tactic(auto)]
 
-#[cfg(test)]
-mod folders;
 #[cfg(test)]
 mod memory;
 #[cfg(test)]

@@ -100,42 +100,6 @@ fn bytes_go_from_reader_to_writer(rt: HostRuntime) -> Result<(), Fail> {
 }
 
 #[test]
-fn a_listed_call_gives_nothing(rt: HostRuntime) -> Result<(), Fail> {
-    let mut source = SliceSource::new(b"abc", vec![in rt.alloc(); 2]?);
-    let mut out = [0u8; 2];
-    assert_eq!(rt; source.next(&mut out), Ok(2));
-    assert_eq!(rt; out, [b'a', b'b']);
-    assert_eq!(rt; source.next(&mut out), Err(Failed));
-    assert_eq!(rt; source.next(&mut out), Ok(1));
-    assert_eq!(rt; out, [b'c', b'b']);
-    assert_eq!(rt; source.next(&mut out), Ok(0));
-    Ok(())
-}
-
-#[test]
-fn a_listed_call_takes_nothing(rt: HostRuntime) -> Result<(), Fail> {
-    let alloc = rt.alloc();
-    let mut sink = VecSink::new(alloc, 4, vec![in alloc; 2]?)?;
-    assert_eq!(rt; sink.put(b"ab"), Ok(()));
-    assert_eq!(rt; sink.put(b"cd"), Err(Failed));
-    assert_eq!(rt; sink.bytes(), b"ab".as_slice());
-    assert_eq!(rt; sink.put(b"cd"), Ok(()));
-    assert_eq!(rt; sink.bytes(), b"abcd".as_slice());
-    Ok(())
-}
-
-#[test]
-fn a_piece_past_the_room_is_refused(rt: HostRuntime) -> Result<(), Fail> {
-    let alloc = rt.alloc();
-    let mut sink = VecSink::new(alloc, 3, Vec::new(alloc))?;
-    assert_eq!(rt; sink.put(b"ab"), Ok(()));
-    assert_eq!(rt; sink.put(b"cd"), Err(Failed));
-    assert_eq!(rt; sink.put(b"c"), Ok(()));
-    assert_eq!(rt; sink.bytes(), b"abc".as_slice());
-    Ok(())
-}
-
-#[test]
 fn a_failed_read_is_told_once(rt: HostRuntime) -> Result<(), Fail> {
     let mut source = StdSource::new(Flickering { calls: 0 });
     let mut out = [0u8; 2];
