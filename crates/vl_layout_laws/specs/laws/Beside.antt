@@ -10,7 +10,7 @@ use Rattle.vl_model.specs.Entries.{is_at}
 use Rattle.vl_model.specs.Winners.{Logs}
 use Rattle.vl_model.specs.declared.entry.Entry.{Entry}
 use Rattle.vl_model.specs.declared.log_frame.Moved.{Moved}
-use Rattle.vl_block.specs.laws.CuttingLaws.{joined}
+use Rattle.vl_block.specs.Cutting.{joined}
 use Rattle.vl_layout.specs.Levels.{is_among, in_front}
 use Rattle.vl_layout.specs.Merging.{Sourced, if_so, inputs_of, outside_of, is_dropped, kept_from, kept, merged_entries, outputs}
 use Rattle.vl_layout.specs.laws.OrderShows.{all-in_order}

@@ -6,7 +6,7 @@ use Rattle.std.specs.Ordering.{eq_by_cmp}
 use Rattle.vl_model.specs.Keys.{key_cmp}
 use Rattle.vl_model.specs.declared.entry.Entry.{Entry}
 use Rattle.vl_block.specs.Cutting.{around, begun_length, entry_length, max_block_bytes}
-use Rattle.vl_block.specs.laws.CuttingLaws.{joined}
+use Rattle.vl_block.specs.Cutting.{joined}
 use Rattle.vl_layout.specs.laws.TableLaws.{cut-whole}
 use Rattle.vl_layout.specs.Tables.{full_table_bytes, tables_from, cut_into_tables}
 

@@ -13,7 +13,7 @@ use Rattle.vl_model.specs.declared.entry.Body.TheVariants.{Inline, Gone, Far, Lo
 use Rattle.vl_model.specs.declared.log_frame.LogFrame.{LogFrame}
 use Rattle.vl_model.specs.declared.log_frame.Moved.{Moved}
 use Rattle.vl_block.specs.Cutting.{points_of}
-use Rattle.vl_block.specs.declared.laid_point.LaidPoint.{LaidPoint as Point}
+use Rattle.vl_block.specs.declared.points.Point.{Point}
 use Rattle.vl_layout.specs.laws.RisingLaws.{all-put_by}
 use Rattle.vl_layout.specs.Levels.{is_among, in_front}
 use Rattle.vl_layout.specs.Logs.{memtable}

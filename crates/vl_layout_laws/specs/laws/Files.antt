@@ -12,7 +12,7 @@ use Rattle.vl_model.specs.declared.entry.Entry.{Entry}
 use Rattle.vl_model.specs.declared.entry.Body.{Body}
 use Rattle.vl_model.specs.declared.entry.Body.TheVariants.{Inline, Gone, Far, Logged}
 use Rattle.vl_block.specs.Cutting.{pointed, with_point, points_of}
-use Rattle.vl_block.specs.declared.laid_point.LaidPoint.{LaidPoint as Point}
+use Rattle.vl_block.specs.declared.points.Point.{Point}
 use Rattle.vl_layout.specs.Garbage.{pointed_bytes, live_bytes}
 use Rattle.vl_layout.specs.Rulings.Sweep.{is_same}
 use Rattle.vl_layout.specs.declared.file_name.FileName.{FileName}

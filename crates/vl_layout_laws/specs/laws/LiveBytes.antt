@@ -11,7 +11,7 @@ use Rattle.vl_model.specs.Entries.{by_order}
 use Rattle.vl_model.specs.declared.log_frame.LogFrame.{LogFrame}
 use Rattle.vl_model.specs.declared.log_frame.Moved.{Moved}
 use Rattle.vl_block.specs.Cutting.{pointed}
-use Rattle.vl_block.specs.declared.laid_point.LaidPoint.{LaidPoint as Point}
+use Rattle.vl_block.specs.declared.points.Point.{Point}
 use Rattle.vl_layout.specs.Garbage.{pointed_bytes, live_bytes, discard, is_worth, is_better}
 use Rattle.vl_layout.specs.Levels.{is_among, in_front, replaced, without, at_level, in_key_order, is_before}
 use Rattle.vl_layout.specs.Ruling.{logged}

@@ -21,7 +21,8 @@ use Rattle.vl_model.specs.declared.log_frame.LogFrame.{LogFrame}
 use Rattle.vl_model.specs.declared.log_frame.LogFrame.TheVariants.{Relocated}
 use Rattle.vl_model.specs.declared.log_frame.Moved.{Moved}
 use Rattle.vl_model.specs.declared.pointer.Pointer.{Pointer}
-use Rattle.vl_run.specs.laws.Exact.{first_of, exact-append, exact-in_order}
+use Rattle.vl_run.specs.laws.Exact.{exact-append, exact-in_order}
+use Rattle.vl_run.specs.Lookups.{or_else}
 use Rattle.vl_layout.specs.laws.LayoutShows.{place_behind, logged_entries-more, added}
 use Rattle.vl_layout.specs.Levels.{in_front}
 use Rattle.vl_layout.specs.Logs.{LogRecord, record_entry, logged_body, pointer_to, relocated_records, frame_records, frame_entries, logged_entries, memtable}
@@ -92,17 +93,17 @@ outside_records segment number (r ∷ rs) = (outside_record segment r.change (po
 
 -- what is found behind a frame more is found in it, or was found before
 pub exact_logged : (key : List ℕ) (version : ℕ) (l : Layout) (f : LogFrame)
-    → exact (sources (logged f l)) key version ≡ first_of (exact (added l f) key version) (exact (sources l) key version)
+    → exact (sources (logged f l)) key version ≡ or_else (exact (added l f) key version) (exact (sources l) key version)
 exact_logged key version l f =
     let old = logged_entries l.active.number 16 l.active.frames in
     let B = exact (behind_active l) key version in
     exact-append key version (memtable (logged f l).active) (behind_active l)
-    ∙ ap (λ (es : List Entry). first_of (exact (in_order es) key version) B) (logged_entries-more l.active.number 16 l.active.frames f)
-    ∙ ap (λ (o : Option Entry). first_of o B) (exact-in_order key version (added l f ++ old) ∙ exact-append key version (added l f) old ∙ ap (first_of (exact (added l f) key version)) (sym (exact-in_order key version old)))
+    ∙ ap (λ (es : List Entry). or_else (exact (in_order es) key version) B) (logged_entries-more l.active.number 16 l.active.frames f)
+    ∙ ap (λ (o : Option Entry). or_else o B) (exact-in_order key version (added l f ++ old) ∙ exact-append key version (added l f) old ∙ ap (or_else (exact (added l f) key version)) (sym (exact-in_order key version old)))
     ∙ assoc (exact (added l f) key version) (exact (in_order old) key version) B
-    ∙ ap (first_of (exact (added l f) key version)) (sym (exact-append key version (memtable l.active) (behind_active l)))
+    ∙ ap (or_else (exact (added l f) key version)) (sym (exact-append key version (memtable l.active) (behind_active l)))
   where
-    assoc : (a b c : Option Entry) → first_of (first_of a b) c ≡ first_of a (first_of b c)
+    assoc : (a b c : Option Entry) → or_else (or_else a b) c ≡ or_else a (or_else b c)
     assoc None b c = refl
     assoc (Some e) b c = refl
 
@@ -111,12 +112,12 @@ shrinks_logged segment l f key version place wins =
     by_found (exact (added l f) key version) refl (sym (ap (leads_to segment place) (exact_logged key version l f)) ∙ wins)
   where
     by_found : (o : Option Entry) → exact (added l f) key version ≡ o
-        → leads_to segment place (first_of (exact (added l f) key version) (exact (sources l) key version)) ≡ true
+        → leads_to segment place (or_else (exact (added l f) key version) (exact (sources l) key version)) ≡ true
         → wins_exactly (sources l) segment key version place ≡ true
-    by_found None is wins = sym (ap (λ o. leads_to segment place (first_of o (exact (sources l) key version))) is) ∙ wins
+    by_found None is wins = sym (ap (λ o. leads_to segment place (or_else o (exact (sources l) key version))) is) ∙ wins
     by_found (Some e) is wins =
         let out = found_one key version (IsOutside segment) (added l f) (outside_records segment l.active.number (frame_records (place_behind 16 l.active.frames) f)) (Some e) is e refl in
-        absurd (true_false (sym wins ∙ ap (λ o. leads_to segment place (first_of o (exact (sources l) key version))) is ∙ out place))
+        absurd (true_false (sym wins ∙ ap (λ o. leads_to segment place (or_else o (exact (sources l) key version))) is ∙ out place))
 
 pub shrinks_rotated : (segment : ℕ) (l : Layout) → Shrinks segment (sources l) (sources (rotated l))
 shrinks_rotated segment l key version place wins = sym (ap (λ (es : List Entry). wins_exactly es segment key version place) (Rattle.vl_layout.specs.laws.LayoutShows.sources-rotated l)) ∙ wins
@@ -188,7 +189,7 @@ module _ (segment last : ℕ) (l : Layout) (batch : List Candidate) where
       let there = any_recorded segment last (sources l) c.moved.key c.moved.version l.active.number (place_behind 16 l.active.frames + 9) (moved_of (sources l) segment last batch) ∙ added_if moves in
       let found = is_found c.moved.key c.moved.version (added l f) there in
       let out = found_one c.moved.key c.moved.version (IsOutside segment) (added l f) (outside_records segment l.active.number (frame_records (place_behind 16 l.active.frames) f)) (Some found.0) found.1 found.0 refl in
-      true_false (sym wins ∙ ap (leads_to segment c.place) (exact_logged c.moved.key c.moved.version l f) ∙ ap (λ o. leads_to segment c.place (first_of o (exact (sources l) c.moved.key c.moved.version))) found.1 ∙ out c.place))
+      true_false (sym wins ∙ ap (leads_to segment c.place) (exact_logged c.moved.key c.moved.version l f) ∙ ap (λ o. leads_to segment c.place (or_else o (exact (sources l) c.moved.key c.moved.version))) found.1 ∙ out c.place))
 
   -- Right behind a relocation no record of its batch wins exactly from inside the log.
   pub batch_settled : AllByRecursion (λ (c : Candidate). c.moved.version ≤ last) batch
@@ -336,12 +337,12 @@ frozen_parts (t ∷ u ∷ us) s is =
 placed_shrinks : (segment number : ℕ) → number ≢ segment → (front es back : List Entry) → AllByRecursion (λ (e : Entry). IsOwnAt number e.body) es
     → Shrinks segment (front ++ (es ++ back)) (front ++ (map placed es ++ back))
 placed_shrinks segment number apart front es back own key version place wins =
-    ap (leads_to segment place) (exact-append key version front (es ++ back) ∙ ap (first_of (exact front key version)) (exact-append key version es back))
-    ∙ by (exact front key version) (exact es key version) refl (sym (ap (leads_to segment place) (exact-append key version front (map placed es ++ back) ∙ ap (first_of (exact front key version)) (exact-append key version (map placed es) back ∙ ap (λ o. first_of o (exact back key version)) (exact-placed key version es)))) ∙ wins)
+    ap (leads_to segment place) (exact-append key version front (es ++ back) ∙ ap (or_else (exact front key version)) (exact-append key version es back))
+    ∙ by (exact front key version) (exact es key version) refl (sym (ap (leads_to segment place) (exact-append key version front (map placed es ++ back) ∙ ap (or_else (exact front key version)) (exact-append key version (map placed es) back ∙ ap (λ o. or_else o (exact back key version)) (exact-placed key version es)))) ∙ wins)
   where
     by : (f m : Option Entry) → exact es key version ≡ m
-        → leads_to segment place (first_of f (first_of (option_map placed m) (exact back key version))) ≡ true
-        → leads_to segment place (first_of f (first_of m (exact back key version))) ≡ true
+        → leads_to segment place (or_else f (or_else (option_map placed m) (exact back key version))) ≡ true
+        → leads_to segment place (or_else f (or_else m (exact back key version))) ≡ true
     by (Some e) m is won = won
     by None None is won = won
     by None (Some e) is won =

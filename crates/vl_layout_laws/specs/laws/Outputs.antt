@@ -12,7 +12,7 @@ use Rattle.vl_model.specs.Entries.{entry_cmp, by_order, put, in_order}
 use Rattle.vl_model.specs.laws.WinnerLaws.{key_tied}
 use Rattle.vl_model.specs.declared.entry.Entry.{Entry}
 use Rattle.vl_block.specs.Cutting.{around, begun_length, entry_length, first_key, last_key, max_block_bytes}
-use Rattle.vl_block.specs.laws.CuttingLaws.{joined}
+use Rattle.vl_block.specs.Cutting.{joined}
 use Rattle.vl_layout.specs.laws.TableLaws.{cut-whole}
 use Rattle.vl_layout.specs.Merging.{kept, merged_entries, outputs}
 use Rattle.vl_layout.specs.Jobs.{tables_made}

@@ -9,7 +9,7 @@ use Rattle.std.specs.declared.cmp.Ordering.TheVariants.{Less, Equal, Greater}
 use Rattle.vl_model.specs.Entries.{by_order}
 use Rattle.vl_model.specs.declared.log_frame.LogFrame.{LogFrame}
 use Rattle.vl_model.specs.declared.log_frame.Moved.{Moved}
-use Rattle.vl_block.specs.declared.laid_point.LaidPoint.{LaidPoint as Point}
+use Rattle.vl_block.specs.declared.points.Point.{Point}
 use Rattle.vl_layout.specs.Garbage.{live_bytes}
 use Rattle.vl_layout.specs.laws.RisingLaws.{all-put_by}
 use Rattle.vl_layout.specs.Ruling.{logged, ended, pin_of, is_idle, retired_at, switched}

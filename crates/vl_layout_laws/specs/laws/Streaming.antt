@@ -3,7 +3,7 @@ use Rattle.std.proofs.Common.{◌≡◌, ◌⊎◌, inl, inr, ⊎_elim, ℕ, ◌
 use Rattle.std.proofs.lemmas.Bool.Decides.{nat_tests}
 use Rattle.std.specs.Prelude.{None, ◌==◌}
 use Rattle.std.specs.List.{AllByRecursion, flat_map, list_any, filter}
-use Rattle.vl_block.specs.declared.laid_point.LaidPoint.{LaidPoint as Point}
+use Rattle.vl_block.specs.declared.points.Point.{Point}
 use Rattle.vl_layout.specs.Levels.{is_among, replaced}
 use Rattle.vl_layout.specs.Ruling.{retired_at, switched}
 use Rattle.vl_layout.specs.Rulings.Sweep.{is_same, pins, job_pin, pass_pin}

@@ -15,8 +15,8 @@ use Rattle.vl_model.specs.declared.entry.Body.TheVariants.{Inline, Gone, Far, Lo
 use Rattle.vl_model.specs.declared.log_frame.LogFrame.{LogFrame}
 use Rattle.vl_model.specs.declared.pointer.Pointer.{Pointer}
 use Rattle.vl_block.specs.Cutting.{points_of}
-use Rattle.vl_block.specs.laws.CuttingLaws.{joined}
-use Rattle.vl_block.specs.declared.laid_point.LaidPoint.{LaidPoint as Point}
+use Rattle.vl_block.specs.Cutting.{joined}
+use Rattle.vl_block.specs.declared.points.Point.{Point}
 use Rattle.vl_layout.specs.Levels.{is_among, in_front, replaced, without, at_level, in_key_order, is_before}
 use Rattle.vl_layout.specs.Logs.{LogRecord, record_entry, logged_body, pointer_to, frame_entries, frame_records, logged_entries, memtable}
 use Rattle.vl_layout.specs.laws.OrderShows.{all-in_order}
