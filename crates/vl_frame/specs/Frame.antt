@@ -5,7 +5,7 @@ use Rattle.sha2.specs.Sha256.{sha256}
 use Rattle.vl_frame.specs.declared.kinds.FileKind.{FileKind}
 use Rattle.vl_frame.specs.declared.kinds.FileKind.TheVariants.{Log, Table, Manifest}
 use Rattle.vl_frame.specs.declared.kinds.FrameKind.{FrameKind}
-use Rattle.vl_frame.specs.declared.kinds.FrameKind.TheVariants.{Commit, Move, Block, Index, Footer, Edits}
+use Rattle.vl_frame.specs.declared.kinds.FrameKind.TheVariants.{Commit, Move, Block, Index, Footer, Edits, Filter}
 
 -- the number that stands for a file's kind where a check is taken
 abbrev pub file_code : FileKind → ℕ
@@ -21,6 +21,7 @@ frame_code Block = 3
 frame_code Index = 4
 frame_code Footer = 5
 frame_code Edits = 6
+frame_code Filter = 9
 
 -- the kind of file that frames of a kind stand in
 abbrev pub file_of : FrameKind → FileKind
@@ -30,6 +31,7 @@ file_of Block = Table
 file_of Index = Table
 file_of Footer = Table
 file_of Edits = Manifest
+file_of Filter = Table
 
 -- where a frame stands: its file's kind and number, and its place in the file
 abbrev pub place_bytes : FileKind → ℕ → ℕ → List ℕ

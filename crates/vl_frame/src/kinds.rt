@@ -29,6 +29,8 @@ pub enum FrameKind {
     Footer,
     /// Changes to the set of files, in a manifest.
     Edits,
+    /// Bits by which keys are known that a table hasn't got.
+    Filter,
 }
 
 impl FileKind {
@@ -62,7 +64,9 @@ impl FrameKind {
     {
         match self {
             FrameKind::Commit | FrameKind::Move => FileKind::Log,
-            FrameKind::Block | FrameKind::Index | FrameKind::Footer => FileKind::Table,
+            FrameKind::Block | FrameKind::Index | FrameKind::Footer | FrameKind::Filter => {
+                FileKind::Table
+            }
             FrameKind::Edits => FileKind::Manifest,
         }
     }
@@ -85,6 +89,7 @@ impl FrameKind {
             FrameKind::Index => 4,
             FrameKind::Footer => 5,
             FrameKind::Edits => 6,
+            FrameKind::Filter => 9,
         }
     }
 
@@ -100,6 +105,7 @@ impl FrameKind {
             4 => Some(FrameKind::Index),
             5 => Some(FrameKind::Footer),
             6 => Some(FrameKind::Edits),
+            9 => Some(FrameKind::Filter),
             _ => None,
         }
     }

@@ -10,7 +10,7 @@ use Rattle.std.specs.Cmp.{IsTotalOrder, tied_itself}
 use Rattle.std.specs.FinMap.{find, IsAntisymmetric}
 use Rattle.std.specs.FinMap.Entries.{is_sorted, below_all}
 use Rattle.std.proofs.lemmas.List.{reverse-append}
-use Rattle.vl_model.specs.Keys.{Row}
+use Rattle.vl_model.specs.Keys.{Stored, Row}
 use Rattle.vl_model.specs.Reads.{last_key}
 
 pub first_part : (a b : Bool) → T (a && b) → T a
@@ -41,7 +41,7 @@ turned_less Greater is = absurd cc
 some_same : (x y : List ℕ) → Some x ≡ Some y → x ≡ y
 some_same x y is = cc
 
-abbrev or_else : Option (List ℕ) → Option (List ℕ) → Option (List ℕ)
+abbrev or_else : Option Stored → Option Stored → Option Stored
 or_else (Some v) other = Some v
 or_else None other = other
 
@@ -139,7 +139,7 @@ module _ (R : List ℕ → List ℕ → Ordering) (o : IsTotalOrder R) (exact : 
   same_front (suc n) (e ∷ es) [] last rising_es rising_fs full is agree =
       absurd (none_some e.1 (sym (agree e.0 (first_up_to e (take n es) last (below_taken e.0 n es (first_part (below_all R e.0 es) (is_sorted R es) rising_es)) is)) ∙ found_first e es))
     where
-      none_some : (v : List ℕ) → None ≡ Some v → ⊥
+      none_some : (v : Stored) → None ≡ Some v → ⊥
       none_some v h = cc
   same_front (suc n) (e ∷ es) (f ∷ fs) last rising_es rising_fs full is agree =
       by_order (R e.0 f.0) refl (λ agrees. behind_first n e es fs last full is (λ rest_full rest_is. same_front n es fs last later_es later_fs rest_full rest_is agrees))
@@ -159,10 +159,10 @@ module _ (R : List ℕ → List ℕ → Ordering) (o : IsTotalOrder R) (exact : 
       first_up : is_gt (R e.0 last) ≡ false
       first_up = first_up_to e (take n es) last (below_taken e.0 n es below_es) is
 
-      none_some : (v : List ℕ) → None ≡ Some v → ⊥
+      none_some : (v : Stored) → None ≡ Some v → ⊥
       none_some v h = cc
 
-      same_value : (v w : List ℕ) → Some v ≡ Some w → v ≡ w
+      same_value : (v w : Stored) → Some v ≡ Some w → v ≡ w
       same_value v w h = cc
 
       by_order : (r : Ordering) → R e.0 f.0 ≡ r
@@ -266,7 +266,7 @@ module _ (R : List ℕ → List ℕ → Ordering) (o : IsTotalOrder R) (exact : 
       gone : eq_by_cmp R q e.0 ≡ true → find R q es ≡ None
       gone is = ap (λ k. find R k es) (exact q e.0 (tied (R q e.0) is)) ∙ none_below R o exact e.0 es (first_part (below_all R e.0 es) (is_sorted R es) rising)
 
-      none_left : (o : Option (List ℕ)) → or_else o None ≡ o
+      none_left : (o : Option Stored) → or_else o None ≡ o
       none_left None = refl
       none_left (Some v) = refl
 

@@ -1,14 +1,14 @@
 -- The limits of a store, each as a number. The constants of the code are equal to them, which is a
 -- law of this crate.
-use Rattle.std.specs.Prelude.{ℕ, ◌-◌, ◌^◌}
+use Rattle.std.specs.Prelude.{ℕ, ◌-◌, ◌^◌, nat_le, if◌then◌else◌}
 
 -- a key has at least one byte, and at most so many
 abbrev pub max_key_bytes : ℕ
 max_key_bytes = 4096
 
--- a value may be empty
-abbrev pub max_value_bytes : ℕ
-max_value_bytes = 1048576
+-- the longest value in a log of a format; a value may be empty
+abbrev pub max_value_bytes : ℕ → ℕ
+max_value_bytes format = if nat_le format 1 then 1048576 else 8388608
 
 -- the longest value that stands beside its key in a table; a longer one stands in a log alone
 abbrev pub max_inline_bytes : ℕ
@@ -20,7 +20,7 @@ max_transaction_keys = 4096
 
 -- how many bytes these keys and their values may have together
 abbrev pub max_transaction_bytes : ℕ
-max_transaction_bytes = 4194304
+max_transaction_bytes = 16777216
 
 -- how many transactions and views may be live at once
 abbrev pub max_live : ℕ

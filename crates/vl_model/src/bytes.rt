@@ -15,9 +15,6 @@ pub struct Bytes {
 /// the left.
 pub type Key = Bytes;
 
-/// A value: at most [`MAX_VALUE_BYTES`](crate::MAX_VALUE_BYTES) bytes.
-pub type Value = Bytes;
-
 impl Model for Bytes {
     ghost use Rattle.std.specs.Prelude.{List, ℕ};
     ghost use Rattle.std.specs.Arc.{arc_slice_items};

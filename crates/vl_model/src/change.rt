@@ -1,5 +1,5 @@
 ghost use Rattle.std.specs.Prelude.{◌≡◌, length};
-ghost use Rattle.vl_model.specs.Keys.{value_bytes};
+ghost use Rattle.vl_model.specs.Keys.{value_bytes, value_tag};
 
 use crate::Value;
 
@@ -17,6 +17,16 @@ impl Change {
     {
         match self {
             Change::Set(value) => value.len(),
+            Change::Delete => 0,
+        }
+    }
+
+    /// The tag of its value. A deletion has 0.
+    pub fn tag(&self) -> u8
+        ensures { result ≡ value_tag self.now }
+    {
+        match self {
+            Change::Set(value) => value.tag,
             Change::Delete => 0,
         }
     }

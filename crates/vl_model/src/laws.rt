@@ -5,12 +5,14 @@ ghost use Rattle.std.specs.FinMap.{get, find, is_sorted};
 ghost use Rattle.std.specs.Ordering.{eq_by_cmp};
 ghost use Rattle.vl_model.specs.Conflicts.{overwritten, is_overwritten, passing, first_conflict};
 ghost use Rattle.vl_model.specs.Entries.{in_order};
+ghost use Rattle.vl_model.specs.Formats.{log_format, manifest_format, table_format};
 ghost use Rattle.vl_model.specs.Keys.{Pairs, Writes, key_cmp};
 ghost use Rattle.vl_model.specs.Placement.{placed, is_placed, IsLogged};
 ghost use Rattle.vl_model.specs.Reads.{Read, IsExplained};
 ghost use Rattle.vl_model.specs.Winners.{winner, newest_of};
 ghost use Rattle.vl_model.specs.declared.entry.Entry.{Entry};
 ghost use Rattle.vl_model.specs.Limits.{max_key_bytes, max_value_bytes, max_inline_bytes, max_transaction_keys, max_transaction_bytes, max_live, min_room, max_room, max_level, max_batch_records, max_batch_bytes, max_commit_number, max_file_number, max_version_number, max_sessions};
+ghost use Rattle.vl_model.specs.declared.formats.TheConstants.{LOG_FORMAT, MANIFEST_FORMAT, TABLE_FORMAT};
 ghost use Rattle.vl_model.specs.declared.limits.TheConstants.{MAX_KEY_BYTES, MAX_VALUE_BYTES, MAX_INLINE_BYTES, MAX_TRANSACTION_KEYS, MAX_TRANSACTION_BYTES, MAX_LIVE, MIN_ROOM, MAX_ROOM, MAX_LEVEL, MAX_BATCH_RECORDS, MAX_BATCH_BYTES, MAX_COMMIT_NUMBER, MAX_FILE_NUMBER, MAX_VERSION_NUMBER, MAX_SESSIONS};
 ghost use Rattle.vl_model.specs.History.{standing_at, History, past_value, Extends, last_naming, value_at, contents_at, last_number, with_commit, value_left};
 
@@ -82,15 +84,18 @@ pub fn winners_of_a_key()
         → winner (in_order es) key n ≡ winner es key n }
 {}
 
-/// What a flush makes of a memtable's entries may stand in a table.
+/// What a flush makes of the entries of a log of any format may stand in a table; and what may stand there
+/// over a log of any format, may by the first.
 pub fn placed_entries_may_stand_in_tables()
-    ensures { (e : Entry) → IsLogged e → is_placed (placed e) ≡ true }
+    ensures flushed { (format : ℕ) (e : Entry) → IsLogged format e → is_placed format (placed e) ≡ true }
+    ensures weakest { (format : ℕ) (e : Entry) → is_placed format e ≡ true → is_placed 1 e ≡ true }
 {}
 
 /// The constants are the limits that the definitions have.
 pub fn constants_are_the_limits()
     ensures key { MAX_KEY_BYTES ≡ max_key_bytes }
-    ensures value { MAX_VALUE_BYTES ≡ max_value_bytes }
+    ensures value { MAX_VALUE_BYTES ≡ max_value_bytes log_format }
+    ensures formats { (LOG_FORMAT ≡ log_format) × (TABLE_FORMAT ≡ table_format) × (MANIFEST_FORMAT ≡ manifest_format) }
     ensures inline { MAX_INLINE_BYTES ≡ max_inline_bytes }
     ensures transaction { (MAX_TRANSACTION_KEYS ≡ max_transaction_keys) × (MAX_TRANSACTION_BYTES ≡ max_transaction_bytes) }
     ensures live { MAX_LIVE ≡ max_live }

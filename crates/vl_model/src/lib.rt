@@ -7,6 +7,7 @@ mod change;
 mod counter;
 mod cursor;
 mod entry;
+mod formats;
 mod laws;
 mod lengths;
 mod limits;
@@ -15,30 +16,34 @@ mod newest;
 mod order;
 mod pointer;
 mod span;
+mod value;
 mod way;
 
-pub use bytes::{Bytes, Key, Value};
+pub use bytes::{Bytes, Key};
 pub use change::Change;
 pub use counter::Counter;
 pub use cursor::Cursor;
 pub use entry::{Body, Entry};
+pub use formats::{LOG_FORMAT, MANIFEST_FORMAT, TABLE_FORMAT};
 pub use laws::{
     a_base_that_stands_at_a_number, constants_are_the_limits, contents_agree_with_values,
     overwritten_keys_are_read_and_named_later, placed_entries_may_stand_in_tables,
     reads_without_conflict_stay_explained, value_after_one_more_commit, value_without_commits,
     values_stay, winners_of_a_key, winners_of_parts,
 };
-pub use lengths::{is_key_len, is_value_len};
+pub use lengths::{is_key_len, is_value_len, max_value_len};
 pub use limits::{
     MAX_BATCH_BYTES, MAX_BATCH_RECORDS, MAX_COMMIT_NUMBER, MAX_FILE_NUMBER, MAX_INLINE_BYTES,
     MAX_KEY_BYTES, MAX_LEVEL, MAX_LIVE, MAX_ROOM, MAX_SESSIONS, MAX_TRANSACTION_BYTES,
-    MAX_TRANSACTION_KEYS, MAX_VALUE_BYTES, MAX_VERSION_NUMBER, MIN_ROOM,
+    MAX_TRANSACTION_KEYS, MAX_VALUE_BYTES, MAX_VALUE_BYTES_BEFORE_TAGS, MAX_VERSION_NUMBER,
+    MIN_ROOM,
 };
 pub use log_frame::{LogFrame, Moved};
 pub use newest::{newest_of, newest_ref};
 pub use order::{Place, entry_order, place_order};
 pub use pointer::Pointer;
 pub use span::Span;
+pub use value::Value;
 pub use way::Way;
 
 #[cfg(test)]

@@ -2,7 +2,10 @@
 pub const MAX_KEY_BYTES: usize = 4096;
 
 /// The longest value, in bytes. A value may be empty.
-pub const MAX_VALUE_BYTES: usize = 1_048_576;
+pub const MAX_VALUE_BYTES: usize = 8_388_608;
+
+/// The longest value in logs of format 1, which are still read, in bytes.
+pub const MAX_VALUE_BYTES_BEFORE_TAGS: usize = 1_048_576;
 
 /// The longest value that stands beside its key in a table, in bytes. A longer one stands in a log
 /// alone.
@@ -12,7 +15,7 @@ pub const MAX_INLINE_BYTES: usize = 64;
 pub const MAX_TRANSACTION_KEYS: usize = 4096;
 
 /// How many bytes the written keys of one transaction and their values may have together.
-pub const MAX_TRANSACTION_BYTES: usize = 4_194_304;
+pub const MAX_TRANSACTION_BYTES: usize = 16_777_216;
 
 /// How many transactions and views may be live at once.
 pub const MAX_LIVE: u32 = 1024;
