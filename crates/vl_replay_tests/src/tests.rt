@@ -29,7 +29,7 @@ const RUNS: &str = "\
     replay .|||begin t;del t 61;commit t;begin t;del t 61;set t 61 02;get t 61;|ok 0;ok;ok 1;ok 1;ok;ok;value 02;|0\n\
     replay .|||begin a;drop a;get a 61;view a;drop a;begin a;drop b;|ok 0;ok;unknown a;ok 0;ok;ok 0;unknown b;|0\n\
     replay .|||begin a;set a *4096* 01;get a *4096*;del a *4096*;set a *4097* 01;get a *4097*;del a *4097*;|ok 0;ok;value 01;ok;invalid;invalid;invalid;|0\n\
-    replay .|||begin a;set a 61 *1048577*;set a 61 *1048576*;set a 62 *1048576*;set a 63 *1048576*;set a 64 *1048572*;del a 65;set a 64 01;del a 65;|ok 0;invalid;ok;ok;ok;ok;toobig;ok;ok;|0\n\
+    replay .|||begin a;set a 61 *8388609*;set a 61 *8388608*;set a 62 *8388605*;del a 63;del a 64;set a 62 01;del a 64;|ok 0;invalid;ok;ok;ok;toobig;ok;ok;|0\n\
     replay .|3||begin a;get a 61|ok 0;none;|0\n\
     replay .|2||begin a;get a 61|ok 0;read fault;|6\n\
     replay .||2|begin a;get a 61;|ok 0;|7\n\

@@ -15,7 +15,7 @@ use Rattle.vl_script.specs.declared.answer.Answer.TheVariants.{Done, Number, Fou
 
 -- the longest line, in bytes without its end
 abbrev pub longest_line : ℕ
-longest_line = 4300000
+longest_line = 17000000
 
 -- the longest name, in bytes
 abbrev pub longest_ident : ℕ
@@ -99,7 +99,7 @@ counter_text Version = codes "version"
 abbrev pub answer_text : Answer → List ℕ
 answer_text Done = codes "ok"
 answer_text (Number number) = codes "ok " ++ decimal number
-answer_text (Found value) = codes "value " ++ bytes_text value
+answer_text (Found value) = codes "value " ++ bytes_text value.bytes
 answer_text NoValue = codes "none"
 answer_text (Taken name) = codes "taken " ++ name
 answer_text (Unknown name) = codes "unknown " ++ name

@@ -20,7 +20,9 @@ pub fn print_answer(alloc: Global, text: &mut Vec<u8>, answer: &Answer) -> Resul
     match answer {
         Answer::Done => print_line(text, b"ok", b""),
         Answer::Number { number } => print_number(text, b"ok ", *number),
-        Answer::Found { value } => print_line(text, b"value ", encode(alloc, value)?.as_bytes()),
+        Answer::Found { value } => {
+            print_line(text, b"value ", encode(alloc, &value.bytes)?.as_bytes())
+        },
         Answer::NoValue => print_line(text, b"none", b""),
         Answer::Taken { name } => print_line(text, b"taken ", name.as_slice()),
         Answer::Unknown { name } => print_line(text, b"unknown ", name.as_slice()),
