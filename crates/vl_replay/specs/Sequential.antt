@@ -2,7 +2,8 @@
 -- Nothing here knows of memtables or tables. Of the log and the disk it counts only bytes and changing calls.
 use Rattle.std.specs.Prelude.{◌+◌, ℕ, Bool, not, ◌&&◌, ◌==◌, nat_le, if◌then◌else◌, List, [], ◌∷◌, ◌++◌, length, Option, Some, None}
 use Rattle.std.specs.FinMap.{FinMap, get, insert, remove, contains_key, len, empty}
-use Rattle.vl_model.specs.Keys.{Stored, Writes, key_cmp, value_bytes, is_key_length, is_value_length}
+use Rattle.vl_model.specs.Formats.{log_format}
+use Rattle.vl_model.specs.Keys.{Stored, Writes, key_cmp, value_bytes, is_key_length, is_value_length, untagged}
 use Rattle.vl_model.specs.History.{History, last_number, with_commit, value_at, value_left}
 use Rattle.vl_model.specs.Reads.{Read, KeyRead}
 use Rattle.vl_model.specs.declared.change.Change.{Change}
@@ -78,7 +79,7 @@ read s name key (Some (OpenTransaction number reads writes)) =
 -- a key and what is written to it are within their limits
 abbrev pub is_lawful_write : List ℕ → Change → Bool
 is_lawful_write key change =
-    is_key_length (length key) && is_value_length (length (value_bytes change))
+    is_key_length (length key) && is_value_length log_format (length (value_bytes change))
 
 -- set and del: one write in the place of an earlier one of its key
 abbrev pub written : State → List ℕ → List ℕ → Change → Option Handle → Outcome
@@ -123,7 +124,7 @@ abbrev pub outcome : State → Line → Outcome
 outcome s (Begin name) = opened s name (OpenTransaction (last_number s.history) [] empty)
 outcome s (View name) = opened s name (OpenView (last_number s.history))
 outcome s (Get name key) = read s name key (get s.handles name)
-outcome s (Set name key value) = written s name key (Put value) (get s.handles name)
+outcome s (Set name key value) = written s name key (Put (untagged value)) (get s.handles name)
 outcome s (DeleteLine name key) = written s name key Delete (get s.handles name)
 outcome s (Commit name) = committed s name (get s.handles name)
 outcome s (Drop name) = dropped s name (get s.handles name)

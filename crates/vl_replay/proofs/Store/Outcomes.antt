@@ -3,7 +3,7 @@ use Rattle.std.proofs.Common.{◌≡◌, ◌+◌, ◌⊎◌, ◌==◌, not, ℕ,
 use Rattle.std.specs.FinMap.{get, insert, contains_key, len, empty}
 use Rattle.std.specs.Prelude.{Option, Some, None, nat_le}
 use Rattle.vl_model.specs.History.{Extends, last_number, value_at, with_commit}
-use Rattle.vl_model.specs.Keys.{Writes, is_key_length}
+use Rattle.vl_model.specs.Keys.{Writes, is_key_length, untagged}
 use Rattle.vl_model.specs.Limits.{max_commit_number, max_room}
 use Rattle.vl_model.specs.Reads.{Read}
 use Rattle.vl_model.specs.declared.change.Change.{Change}
@@ -88,7 +88,7 @@ line_adds : (s : State) (line : Line) → Keeps s (state_after s line) ⊎ ((wri
 line_adds s (Begin name) = inl (kept_opened s name (OpenTransaction (last_number s.history) [] empty))
 line_adds s (View name) = inl (kept_opened s name (OpenView (last_number s.history)))
 line_adds s (Get name key) = inl (kept_read s name key (get s.handles name))
-line_adds s (Set name key value) = inl (kept_written s name key (Put value) (get s.handles name))
+line_adds s (Set name key value) = inl (kept_written s name key (Put (untagged value)) (get s.handles name))
 line_adds s (DeleteLine name key) = inl (kept_written s name key Delete (get s.handles name))
 line_adds s (Drop name) = inl (kept_dropped s name (get s.handles name))
 line_adds s (CommitLine name) = committed_adds s name (get s.handles name)

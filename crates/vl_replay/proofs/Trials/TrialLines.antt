@@ -4,6 +4,7 @@ use Rattle.std.specs.Prelude.{Option, nat_le, ◌==◌}
 use Rattle.std.specs.FinMap.{get, len}
 use Rattle.std.specs.List.{AllByRecursion, slice_get}
 use Rattle.std.proofs.lemmas.Bool.Decides.{nat_tests}
+use Rattle.vl_model.specs.Keys.{untagged}
 use Rattle.vl_model.specs.History.{last_number}
 use Rattle.vl_model.specs.Limits.{max_commit_number, max_room}
 use Rattle.vl_model.specs.declared.counter.Counter.TheVariants.{Commit as CommitNumber}
@@ -138,7 +139,7 @@ line_files : (s : State) (line : Line) → (state_after s line).files ≡ s.file
 line_files s (Begin name) = (kept_opened s name (OpenTransaction (last_number s.history) [] _)).files
 line_files s (View name) = (kept_opened s name (OpenView (last_number s.history))).files
 line_files s (Get name key) = (kept_read s name key (get s.handles name)).files
-line_files s (Set name key value) = (kept_written s name key (Put value) (get s.handles name)).files
+line_files s (Set name key value) = (kept_written s name key (Put (untagged value)) (get s.handles name)).files
 line_files s (DeleteLine name key) = (kept_written s name key Delete (get s.handles name)).files
 line_files s (CommitLine name) = committed_files s name (get s.handles name)
 line_files s (Drop name) = (kept_dropped s name (get s.handles name)).files

@@ -8,7 +8,7 @@ use Rattle.std.specs.Option.{option_map}
 use Rattle.std.specs.FinMap.{FinMap, get, insert, remove, len, empty, contains_key, get-insert, get-remove, len-insert, len-remove, len-empty, empty_of_len, get-empty}
 use Rattle.std.specs.Cmp.Lexicographic.{nat_list_cmp_total}
 use Rattle.std.specs.Ordering.{eq_by_cmp}
-use Rattle.vl_model.specs.Keys.{Writes, key_cmp, is_key_length}
+use Rattle.vl_model.specs.Keys.{Writes, key_cmp, is_key_length, untagged}
 use Rattle.vl_model.specs.History.{History, last_number, with_commit, value_at, commits_up_to}
 use Rattle.vl_model.specs.Reads.{Read, KeyRead, RangeRead, IsExplained, IsExplainedRead}
 use Rattle.vl_model.specs.declared.change.Change.{Change}
@@ -150,7 +150,7 @@ pub state_after-sound : (s : State) (line : Line) → IsSound s → IsSound (sta
 state_after-sound s (Begin name) sound = opened-sound s name (OpenTransaction (last_number s.history) [] empty) sound (tt, refl)
 state_after-sound s (View name) sound = opened-sound s name (OpenView (last_number s.history)) sound refl
 state_after-sound s (Get name key) sound = read-sound s name key (get s.handles name) sound refl
-state_after-sound s (Set name key value) sound = written-sound s name key (Put value) (get s.handles name) sound refl
+state_after-sound s (Set name key value) sound = written-sound s name key (Put (untagged value)) (get s.handles name) sound refl
 state_after-sound s (DeleteLine name key) sound = written-sound s name key Delete (get s.handles name) sound refl
 state_after-sound s (Commit name) sound = committed-sound s name (get s.handles name) sound refl
 state_after-sound s (Drop name) sound = dropped-sound s name (get s.handles name) sound

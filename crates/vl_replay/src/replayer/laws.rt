@@ -1,7 +1,7 @@
 // Laws of the sequential store: each is the contract of a function that does nothing.
 ghost use Rattle.std.specs.Prelude.{◌≡◌, ◌≢◌, ◌++◌, ◌∷◌, [], ℕ, List, length, Some, None, true, false};
 ghost use Rattle.std.specs.FinMap.{get};
-ghost use Rattle.vl_model.specs.Keys.{Writes, is_key_length};
+ghost use Rattle.vl_model.specs.Keys.{Writes, is_key_length, untagged};
 ghost use Rattle.vl_model.specs.History.{value_at};
 ghost use Rattle.vl_model.specs.Reads.{Read, KeyRead};
 ghost use Rattle.vl_model.specs.declared.change.Change.{Change};
@@ -28,7 +28,7 @@ pub fn writes_are_read_back()
     ensures set { (s : State) (name key value : List ℕ) (number : ℕ) (reads : List Read) (writes : Writes)
         → get s.handles name ≡ Some (OpenTransaction number reads writes)
         → answer_to s (SetLine name key value) ≡ Done
-        → answer_to (state_after s (SetLine name key value)) (GetLine name key) ≡ Found value }
+        → answer_to (state_after s (SetLine name key value)) (GetLine name key) ≡ Found (untagged value) }
     ensures deletion { (s : State) (name key : List ℕ) (number : ℕ) (reads : List Read) (writes : Writes)
         → get s.handles name ≡ Some (OpenTransaction number reads writes)
         → answer_to s (DeleteLine name key) ≡ Done

@@ -79,7 +79,13 @@ impl Store {
             Line::Begin { name } => Ok(self.begin(name)),
             Line::View { name } => Ok(self.view(name)),
             Line::Get { name, key } => self.get(name, key),
-            Line::Set { name, key, value } => self.write(name, key, Change::Set(value)),
+            Line::Set { name, key, value } => {
+                let value = Value {
+                    bytes: value,
+                    tag: 0,
+                };
+                self.write(name, key, Change::Set(value))
+            }
             Line::Delete { name, key } => self.write(name, key, Change::Delete),
             Line::Commit { name } => self.commit(disk, name),
             Line::Drop { name } => Ok(self.end(name)),
@@ -355,7 +361,7 @@ fn make(writes: &mut Writes, key: &[u8], change: &Change) -> Result<(), SetFail>
     ensures { IsWritten writes.old key.now change.now writes.new result }
 {
     match change {
-        Change::Set(value) => writes.set(key, value.as_slice()),
+        Change::Set(value) => writes.set(key, value.as_slice(), value.tag),
         Change::Delete => writes.delete(key),
     }
 }
