@@ -358,7 +358,7 @@ fn old_store(alloc: Global, log: &[u8], is_second: bool) -> Result<Vec<(Name, Ve
 fn shown(alloc: Global, disk: MemDisk) -> Result<(u8, Vec<u8>, MemDisk), Fail> {
     outcome_over(
         alloc,
-        &plain("view v\nget v 61\nget v 62\nget v 63\n", "", 0),
+        &plain("view v\ngetb v 61\ngetb v 62\ngetb v 63\n", "", 0),
         disk,
     )
 }
@@ -370,13 +370,23 @@ fn a_store_of_format_1_shows_the_same_whenever_its_opening_stops(
     let alloc = rt.alloc();
     // The first log, whether there is a second, how many changing calls an opening makes, and what the keys have.
     let stores: [(&[u8], bool, u64, &str); 4] = [
-        (&OLD_LOG, false, 8, "ok 2\nnone\nA\nvalue -\n"),
-        (&OLD_LOG[..160], false, 9, "ok 1\nvalue 01\nA\nnone\n"),
+        (&OLD_LOG, false, 8, "ok 2\nnone\nA\nvalue - byte 0\n"),
+        (
+            &OLD_LOG[..160],
+            false,
+            9,
+            "ok 1\nvalue 01 byte 0\nA\nnone\n",
+        ),
         (&OLD_LOG[..100], false, 7, "ok 0\nnone\nnone\nnone\n"),
-        (&OLD_LOG, true, 8, "ok 3\nvalue 02\nA\nvalue -\n"),
+        (
+            &OLD_LOG,
+            true,
+            8,
+            "ok 3\nvalue 02 byte 0\nA\nvalue - byte 0\n",
+        ),
     ];
     let long =
-        "value aaaaaaaaaaaaaaaaaaaaaaaaaaaaaaaaaaaaaaaaaaaaaaaaaaaaaaaaaaaaaaaaaaaaaaaaaaaaaaaaaaaaaaaaaaaaaaaaaaaaaaaaaaaaaaaaaaaaaaaaaaaaaaaaaa";
+        "value aaaaaaaaaaaaaaaaaaaaaaaaaaaaaaaaaaaaaaaaaaaaaaaaaaaaaaaaaaaaaaaaaaaaaaaaaaaaaaaaaaaaaaaaaaaaaaaaaaaaaaaaaaaaaaaaaaaaaaaaaaaaaaaaaa byte 0";
     for (log, is_second, calls, rows) in stores {
         let wanted = rows.replace(alloc, "A", long)?;
         for stop in 0..=calls {

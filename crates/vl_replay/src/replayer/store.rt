@@ -8,7 +8,7 @@ ghost use Rattle.vl_disk.specs.Disk.{Stands};
 ghost use Rattle.vl_disk.specs.Faults.{HasCause};
 ghost use Rattle.vl_model.specs.History.{last_number, value_left};
 ghost use Rattle.vl_model.specs.Keys.{Writes};
-ghost use Rattle.vl_replay.specs.Sequential.{State, answer_to, state_after, opened, read, written, committed, bytes_in_log, after_commit, dropped, found};
+ghost use Rattle.vl_replay.specs.Sequential.{State, answer_to, state_after, opened, read, read_tagged, with_tag, written, committed, bytes_in_log, after_commit, dropped, found};
 ghost use Rattle.vl_replay.specs.Sequential as sequential;
 ghost use Rattle.vl_replay.specs.Represents.{Represents, IsOutcome, StandsFor, HasOpen, HasWritesToCommit, Decides, handle_named, write_answer, writes_after, answer_of};
 ghost use Rattle.vl_replay.specs.Durable.{CarriesOut};
@@ -86,6 +86,16 @@ impl Store {
                 };
                 self.write(name, key, Change::Set(value))
             }
+            Line::SetTagged {
+                name,
+                key,
+                value,
+                tag,
+            } => {
+                let value = Value { bytes: value, tag };
+                self.write(name, key, Change::Set(value))
+            }
+            Line::GetTagged { name, key } => self.get_tagged(name, key),
             Line::Delete { name, key } => self.write(name, key, Change::Delete),
             Line::Commit { name } => self.commit(disk, name),
             Line::Drop { name } => Ok(self.end(name)),
@@ -147,6 +157,15 @@ impl Store {
                 None => self.read(key.as_slice(), *number),
             },
         }
+    }
+
+    // As `get`, with the value's tag.
+    fn get_tagged(&self, name: Ident, key: Key) -> Result<Answer, Halt>
+        ensures answer { (s : State) → Represents self.now s
+            → IfOk result (λ answer. IsOutcome answer self.now (read_tagged (read s name key (get s.handles name)))) }
+        ensures halt { IfErr result (λ halt. halt ≡ Halt.NoMemory) }
+    {
+        Ok(with_tag(self.get(name, key)?))
     }
 
     // The value that a key has at a number: what the newest commit up to it left, else what the logs that were opened have.
@@ -299,6 +318,16 @@ impl Store {
             Some(held) if held.is_named(name) => Some(&held.handle),
             _ => None,
         }
+    }
+}
+
+// A read's answer with its value's tag.
+fn with_tag(answer: Answer) -> Answer
+    ensures { result ≡ with_tag answer }
+{
+    match answer {
+        Answer::Found { value } => Answer::FoundTagged { value },
+        other => other,
     }
 }
 
