@@ -126,7 +126,12 @@ fn write_moved(out: &mut Vec<u8>, moved: &Moved) -> Result<(), AllocError>
     ensures { OnOk result (out.new.items ≡ out.old.items ++ moved_bytes log_format moved.now) }
 {
     out.extend_from_slice(&u64_bytes(moved.version))?;
-    write_record(out, moved.key.as_slice(), Some(moved.value.as_slice()), moved.value.tag)
+    write_record(
+        out,
+        moved.key.as_slice(),
+        Some(moved.value.as_slice()),
+        moved.value.tag,
+    )
 }
 
 fn u32_bytes(number: u32) -> [u8; 4]

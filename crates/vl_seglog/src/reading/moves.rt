@@ -101,7 +101,14 @@ fn take_moved(
     let Some((version, rest)) = take_u64(bytes) else {
         return Ok(None);
     };
-    let Some((record, after)) = take_record(alloc, format, rest, log, place + VERSION_BYTES, version)?
+    let Some((record, after)) = take_record(
+        alloc,
+        format,
+        rest,
+        log,
+        place + VERSION_BYTES,
+        version,
+    )?
     else {
         return Ok(None);
     };

@@ -23,7 +23,7 @@ pub fn write_record(
     // With room enough it succeeds, and room is never lost.
     ensures succeeds { HasWidths key.now (change_of (option_copied value.entry) tag)
         → vec_len out.old + record_length log_format key.now (change_of (option_copied value.entry) tag)
-            ≤ vec_capacity out.old → IsOk result }
+        ≤ vec_capacity out.old → IsOk result }
     ensures capacity { vec_capacity out.old ≤ vec_capacity out.new }
 {
     match value {
@@ -33,7 +33,13 @@ pub fn write_record(
 }
 
 // Writes all of it or nothing: the room is made first.
-fn write_parts(out: &mut Vec<u8>, flag: u8, tag: u8, key: &[u8], value: &[u8]) -> Result<(), AllocError>
+fn write_parts(
+    out: &mut Vec<u8>,
+    flag: u8,
+    tag: u8,
+    key: &[u8],
+    value: &[u8],
+) -> Result<(), AllocError>
     ensures ok { OnOk result (out.new.items ≡ out.old.items
         ++ (head_bytes log_format flag tag (length key.now) (length value.now) ++ key.now ++ value.now)) }
     ensures widths { OnOk result ((length key.now < 2 ^ 16) × (length value.now < 2 ^ 32)) }
