@@ -1,15 +1,22 @@
--- A log's header that wasn't found.
-use Rattle.std.proofs.Common.{ℕ, ◌<◌, ◌≤◌, ◌^◌, List, ◌++◌, drop, sym, ap, ◌∙◌, arith}
-use Rattle.std.proofs.lemmas.List.{take-append-drop}
+-- A log's header that was found, or wasn't.
+use Rattle.std.proofs.Common.{ℕ, ◌<◌, ◌≤◌, ◌^◌, List, [], ◌++◌, take, drop, refl, sym, ap, ◌∙◌, arith}
+use Rattle.std.proofs.lemmas.List.{take-append-drop, take_at}
+use Rattle.std.specs.Prelude.{None, Some}
 use Rattle.vl_frame.specs.Header.{IsHeader}
 use Rattle.vl_frame.specs.declared.kinds.FileKind.TheVariants as files
-use Rattle.vl_seglog.specs.LogReading.{HasHeader}
+use Rattle.vl_model.specs.Formats.{log_format}
+use Rattle.vl_seglog.specs.Frames.{log_header}
+use Rattle.vl_seglog.specs.LogReading.{HasHeader, IsLogFormat, SaysFormat}
 
-pub no_header : (number : ℕ) (bytes : List ℕ) → number < 2 ^ 32 → ((format : ℕ) → 1 ≤ format → format ≤ 1 → IsHeader files.Log format number bytes → ⊥) → HasHeader number bytes → ⊥
-no_header number bytes fits none has =
-    none 1 (omega arith) (omega arith) (record {
-      format_fits = omega arith;
+pub no_header : (number : ℕ) (bytes : List ℕ) → number < 2 ^ 32 → ((format : ℕ) → 1 ≤ format → format ≤ log_format → IsHeader files.Log format number bytes → ⊥) → SaysFormat None number bytes
+no_header number bytes fits none format is has =
+    none format is.least is.greatest (record {
+      format_fits = omega (arith, is.greatest);
       number_fits = fits;
       rest = drop 16 bytes;
       spelled = sym (take-append-drop 16 bytes) ∙ ap (λ (front : List ℕ). front ++ drop 16 bytes) has;
     })
+
+pub says_format : (format number : ℕ) (bytes : List ℕ) → IsHeader files.Log format number bytes → 1 ≤ format → format ≤ log_format → SaysFormat (Some format) number bytes
+says_format format number bytes header least greatest =
+    (record { least = least; greatest = greatest }, ap (take 16) header.spelled ∙ take_at (log_header format number) header.rest 16 refl)

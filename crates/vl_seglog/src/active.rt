@@ -4,6 +4,7 @@ ghost use Rattle.vl_disk.specs.declared.name.Name.TheVariants as names;
 ghost use Rattle.vl_disk.specs.Calls.{Appends, ChangesNothing, Syncs};
 ghost use Rattle.vl_disk.specs.Disk.{Stands};
 ghost use Rattle.vl_disk.specs.Spare.{CanAppend, SameSpare, SameSpareElsewhere};
+ghost use Rattle.vl_model.specs.Formats.{log_format};
 ghost use Rattle.vl_model.specs.declared.log_frame.LogFrame.TheVariants.{Committed, Relocated};
 ghost use Rattle.vl_seglog.specs.Bodies.{IsFrame};
 ghost use Rattle.vl_seglog.specs.Staging.{IsStaged, IsStagedFor};
@@ -14,7 +15,7 @@ use std::alloc::Global;
 use vl_disk::{Disk, Failed, Name, NoMemory};
 use vl_model::{Change, Key, Moved};
 
-/// The log that frames are appended to. Its file is made, and opened, by others.
+/// The log that frames are appended to, in the format that is written. Its file is made, and opened, by others.
 #[derive(Debug, Drop)]
 pub struct ActiveLog {
     /// Of its file, which is the segment of its records' pointers too.
@@ -44,7 +45,7 @@ impl ActiveLog {
         number: u64,
         writes: &[(Key, Change)],
     ) -> Result<Staged, NoMemory>
-        requires { IsFrame (Committed number writes.now) }
+        requires { IsFrame log_format (Committed number writes.now) }
         ensures staged { IfOk result (IsStaged self.now.number self.now.length (Committed number writes.now)) }
         ensures staged_for { IfOk result (IsStagedFor self.now) }
         ensures room { IfOk result (λ staged.
@@ -65,7 +66,7 @@ impl ActiveLog {
         disk: &mut D,
         records: &[Moved],
     ) -> Result<Staged, NoMemory>
-        requires { IsFrame (Relocated records.now) }
+        requires { IsFrame log_format (Relocated records.now) }
         ensures staged { IfOk result (IsStaged self.now.number self.now.length (Relocated records.now)) }
         ensures staged_for { IfOk result (IsStagedFor self.now) }
         ensures room { IfOk result (λ staged.
