@@ -3,3 +3,7 @@ pub mod CurrentLaws
 pub mod EditLaws
 pub mod ManifestLaws
 pub mod StateLaws
+pub mod SwitchLaws
+pub mod TableLists
+pub mod TornRuns
+pub mod WholeLaws

@@ -12,16 +12,22 @@ mod manifest_log;
 mod newer;
 mod reading;
 mod saying;
+mod staged;
 mod state;
+mod switching;
+mod table_list;
+
 mod version_builder;
 mod writing;
 
 pub use edit::Edit;
 pub use fails::{IoFail, StateFail};
 pub use format::MANIFEST_FORMAT;
-pub use levels::Levels;
+pub use levels::{LEVELS, Levels};
 pub use manifest_log::ManifestLog;
 pub use newer::newer_format;
 pub use reading::read_edits;
+pub use staged::StagedEdits;
 pub use state::ManifestState;
+pub use table_list::TableList;
 pub use writing::write_edits;

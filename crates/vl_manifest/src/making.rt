@@ -5,6 +5,7 @@ ghost use Rattle.std.specs.Option.{ForSome};
 ghost use Rattle.vl_disk.specs.declared.name.Name.TheVariants as names;
 ghost use Rattle.vl_disk.specs.Disk.{IsFree};
 ghost use Rattle.vl_disk.specs.Name.{IsNumbered};
+ghost use Rattle.vl_manifest.specs.Formats.{manifest_format};
 ghost use Rattle.vl_manifest.specs.Making.{MakesManifest, new_manifest};
 ghost use Rattle.vl_manifest.specs.Manifest.{ReadsManifest};
 
@@ -45,7 +46,7 @@ impl ManifestLog {
 
 fn manifest_bytes(alloc: Global, number: u32, edits: &[Edit]) -> Result<Vec<u8>, AllocError>
     ensures bytes { IfOk result (λ bytes. bytes.items ≡ new_manifest number edits.now) }
-    ensures reads { OnOk result (ReadsManifest number (new_manifest number edits.now) (edits.now ∷ [])) }
+    ensures reads { OnOk result (ReadsManifest manifest_format number (new_manifest number edits.now) (edits.now ∷ [])) }
 {
     let mut bytes = Vec::new(alloc);
     bytes.extend_from_slice(&file_header(FileKind::Manifest, MANIFEST_FORMAT, number))?;

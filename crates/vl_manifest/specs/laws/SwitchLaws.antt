@@ -1,0 +1,1 @@
+-- What a crash leaves of a manifest that is switched.
