@@ -1,17 +1,15 @@
 -- What the definitions of records and pointers say: how long they are, and that one of each at most stands at the front of some bytes.
 use Rattle.std.proofs.Common.{◌≡◌, ◌<◌, ◌≤◌, ℕ, ◌+◌, cond, Bool, List, [], ◌∷◌, ◌++◌, true, false, length, drop, get_or, refl, ap, sym, ◌∙◌, arith, append_assoc, length-append}
 use Rattle.std.proofs.lemmas.Bool.Decides.{nat_tests}
-use Rattle.std.specs.Prelude.{nat_le, if◌then◌else◌}
+use Rattle.std.specs.Prelude.{nat_le}
 use Rattle.byteorder.specs.Endian.{big_bytes}
 use Rattle.vl_frame.specs.laws.NumberLaws.{one_number, same_front}
-use Rattle.vl_model.specs.Formats.{record_head, tag_kept}
+use Rattle.vl_model.specs.Formats.{record_head}
 use Rattle.vl_model.specs.Frames.{record_length}
 use Rattle.vl_model.specs.Keys.{is_key_length, is_value_length, tagged, untagged, value_bytes, value_tag}
-use Rattle.vl_model.specs.Limits.{max_value_bytes}
 use Rattle.vl_model.specs.declared.change.Change.{Change}
 use Rattle.vl_model.specs.declared.change.Change.TheVariants.{Set, Delete}
 use Rattle.vl_model.specs.declared.pointer.Pointer.{Pointer}
-use Rattle.vl_model.specs.declared.value.Value.{Value}
 use Rattle.vl_seglog.specs.Pointer.{IsPointerSpelled, pointer_bytes}
 use Rattle.vl_seglog.specs.Record.{HasWidths, IsApart, IsRecord, IsSpelled, IsTag, flag_of, head_bytes, record_bytes, tag_bytes}
 

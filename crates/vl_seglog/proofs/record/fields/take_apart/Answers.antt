@@ -1,4 +1,4 @@
-use Rattle.vl_seglog.proofs.RecordParts.{is_apart, no_tag}
+use Rattle.vl_seglog.proofs.RecordParts.{is_apart}
 use Rattle.vl_seglog.proofs.record.fields.take_apart.Goals as goal
 
 pub returns-clause-found : goal.returns-clause-found
