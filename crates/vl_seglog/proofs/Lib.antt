@@ -1,5 +1,7 @@
+pub mod AnswerSteps
 pub mod Bodies
 pub mod Following
+pub mod Found
 pub mod Framing
 pub mod Headless
 pub mod Moving
@@ -11,5 +13,5 @@ pub mod RecordParts
 pub mod Records
 pub mod Runs
 pub mod Staging
-mod StoredLaws
+pub mod StoredLaws
 mod Worked
