@@ -68,7 +68,3 @@ gives_some format bytes p key tag n key_lawful value_lawful kept sized within fr
         parts = parts;
       };
     })
-
--- what was read is as long as was asked for
-pub read_so : (out bytes : List ℕ) (place n m : ℕ) → out ≡ bytes_at place n bytes → n ≡ m → out ≡ bytes_at place m bytes
-read_so out bytes place n m read same = read ∙ ap (λ (k : ℕ). bytes_at place k bytes) same

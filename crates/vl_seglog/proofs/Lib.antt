@@ -1,5 +1,6 @@
 pub mod AnswerSteps
 pub mod Bodies
+pub mod Cut
 pub mod Following
 pub mod Found
 pub mod Framing
@@ -12,6 +13,7 @@ pub mod Pointers
 pub mod RecordParts
 pub mod Records
 pub mod Runs
+pub mod Scanning
 pub mod Staging
 pub mod StoredLaws
 mod Worked

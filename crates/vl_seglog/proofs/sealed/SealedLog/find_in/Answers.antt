@@ -3,7 +3,8 @@ use Rattle.vl_disk.specs.DiskState.{bytes_at}
 use Rattle.vl_model.specs.Formats.{record_head}
 use Rattle.vl_model.specs.Keys.{tagged}
 use Rattle.vl_seglog.proofs.AnswerSteps.{then_gives, then_refuses}
-use Rattle.vl_seglog.proofs.Found.{gives_none, gives_some, leads_front, read_so}
+use Rattle.vl_seglog.proofs.Cut.{read_so}
+use Rattle.vl_seglog.proofs.Found.{gives_none, gives_some, leads_front}
 use Rattle.vl_seglog.proofs.sealed.SealedLog.find_in.Goals as goal
 
 -- another head or another key stands there
