@@ -17,7 +17,7 @@ ghost use Rattle.vl_seglog.specs.Reading.{frame_of, reading_end, reading_of};
 
 use crate::frame::Frame;
 use crate::lengths::LOG_HEADER_BYTES;
-use crate::reading::next::read_next;
+pub use next::read_next;
 use std::alloc::{AllocError, Global};
 use vl_frame::{FileKind, read_header};
 use vl_model::LOG_FORMAT;
