@@ -13,7 +13,7 @@ use Rattle.vl_disk.specs.Moments.{Elapses, While, passes_then, past_of}
 use Rattle.vl_disk.specs.Spare.{SameSpareElsewhere}
 use Rattle.vl_manifest.specs.declared.edit.Edit.{Edit}
 use Rattle.vl_manifest.specs.declared.fails.IoFail.TheVariants.{Disk}
-use Rattle.vl_manifest.specs.Formats.{manifest_format}
+use Rattle.vl_model.specs.Formats.{manifest_format}
 use Rattle.vl_manifest.specs.Making.{MakesManifest, new_manifest}
 use Rattle.vl_manifest.specs.Manifest.{ReadsManifest}
 

@@ -1,9 +1,5 @@
--- The formats of manifests, as numbers.
+-- The edits that formats of manifests have came with these.
 use Rattle.std.specs.Prelude.{ℕ}
-
--- the format in which manifests are written, which is also the greatest that is read; the first is 1
-abbrev pub manifest_format : ℕ
-manifest_format = 4
 
 -- the first format whose frames may have Keep edits
 abbrev pub keep_format : ℕ

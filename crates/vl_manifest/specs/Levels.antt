@@ -1,5 +1,5 @@
 -- The tables of a store, level by level.
-use Rattle.std.specs.Prelude.{◌==◌, ◌≤◌, ℕ, Bool, not, nat_le, if◌then◌else◌, zero, suc, List, [], ◌∷◌, ◌++◌, length, map, Option, None, Some}
+use Rattle.std.specs.Prelude.{◌==◌, ℕ, Bool, not, nat_le, if◌then◌else◌, zero, suc, List, [], ◌∷◌, ◌++◌, length, map, Option, None, Some}
 use Rattle.std.specs.List.{filter, insert, list_any}
 use Rattle.std.specs.Option.{option_map}
 

@@ -9,3 +9,4 @@ pub mod Manifest
 pub mod Reading
 pub mod States
 pub mod Switching
+pub mod Tables

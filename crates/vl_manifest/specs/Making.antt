@@ -14,7 +14,7 @@ use Rattle.vl_manifest.specs.declared.edit.Edit.{Edit}
 use Rattle.vl_manifest.specs.declared.fails.IoFail.{IoFail}
 use Rattle.vl_manifest.specs.declared.fails.IoFail.TheVariants.{Disk, NoMemory}
 use Rattle.vl_manifest.specs.declared.manifest_log.ManifestLog.{ManifestLog}
-use Rattle.vl_manifest.specs.Formats.{manifest_format}
+use Rattle.vl_model.specs.Formats.{manifest_format}
 use Rattle.vl_manifest.specs.Manifest.{ReadsManifest, manifest_bytes}
 
 -- the bytes of the manifest with this number whose first frame says these edits, and which has no other

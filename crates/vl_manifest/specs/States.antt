@@ -185,3 +185,11 @@ last_edits s = Head s.head s.covered ∷ Next s.next_log s.next_table ∷ (keep_
 -- The whole state as a first frame: an Add for each table, Head, Next, and Keep and Gone where they are needed.
 abbrev pub whole_edits : ManifestState → List Edit
 whole_edits s = adds_from 0 s.levels ++ last_edits s
+
+-- ---- the switch of a flush
+
+-- its table in front of level 0, the next log that isn't flushed with the number that tables cover then, and the
+-- least numbers that may still be given
+abbrev pub flush_edits : ℕ → ℕ → ℕ → ℕ → ℕ → List Edit
+flush_edits table head covered next_log next_table =
+    Add 0 0 table ∷ Head head covered ∷ Next next_log next_table ∷ []

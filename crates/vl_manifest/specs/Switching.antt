@@ -1,5 +1,6 @@
 -- A switch of a manifest: what is staged for it, and what it makes of the disk.
 use Rattle.std.specs.Prelude.{◌≡◌, ◌⊎◌, ◌+◌, ◌<◌, ◌≤◌, ◌^◌, ℕ, List, [], ◌∷◌, ◌++◌, length, Some, Result, OnErr}
+use Rattle.std.specs.List.{AllByRecursion}
 use Rattle.std.specs.Option.{ForSome}
 use Rattle.std.specs.FinMap.{get}
 use Rattle.vl_disk.specs.Chance.{NoChanceOne}
@@ -8,7 +9,6 @@ use Rattle.vl_disk.specs.Disk.{IsChangedBy, Stands}
 use Rattle.vl_disk.specs.DiskState.{DiskState, appended, settled, synced}
 use Rattle.vl_disk.specs.Performs.{Performs}
 use Rattle.vl_disk.specs.Spare.{UsesAppend}
-use Rattle.vl_disk.specs.declared.name.Name.{Name}
 use Rattle.vl_disk.specs.declared.name.Name.TheVariants.{Manifest}
 use Rattle.vl_disk.specs.declared.watched.Watched.{Ghosts}
 use Rattle.vl_frame.specs.Begins.{SpellsAt}
@@ -16,7 +16,7 @@ use Rattle.vl_frame.specs.Runs.{HasFrame, item_frame}
 use Rattle.vl_manifest.specs.declared.edit.Edit.{Edit}
 use Rattle.vl_manifest.specs.declared.manifest_log.ManifestLog.{ManifestLog}
 use Rattle.vl_manifest.specs.declared.staged.StagedEdits.{StagedEdits}
-use Rattle.vl_manifest.specs.Formats.{manifest_format}
+use Rattle.vl_model.specs.Formats.{manifest_format}
 use Rattle.vl_manifest.specs.Grammar.{edits_grammar}
 use Rattle.vl_manifest.specs.Manifest.{ReadsManifest, manifest_bytes}
 
@@ -55,9 +55,11 @@ pub record Switches {D T E : Type 0} (g : Ghosts D) (number : ℕ) (piece : List
 
 -- ---- what a crash leaves
 
--- the manifest with this number that has these frames is durable
-abbrev pub HoldsFrames : ℕ → List (List Edit) → DiskState → Type 0
-HoldsFrames number frames disk = get disk.standing (Manifest number) ≡ Some (settled (manifest_bytes number frames))
+-- The manifest is durable, and has these frames, each as it is written.
+pub record HasFrames (log : ManifestLog) (frames : List (List Edit)) (disk : DiskState) : Type 0 where
+  pub length_is : log.length ≡ length (manifest_bytes log.number frames)
+  pub each : AllByRecursion (HasFrame (edits_grammar manifest_format)) frames
+  pub durable : get disk.standing (Manifest log.number) ≡ Some (settled (manifest_bytes log.number frames))
 
 -- No bytes that were torn from the manifest spell a frame by chance.
 abbrev pub NoChanceFrame : ℕ → DiskState → Image → Type 0
@@ -65,8 +67,8 @@ NoChanceFrame number disk image =
     NoChanceOne (λ name. SpellsAt (edits_grammar manifest_format) number) (Manifest number)
     (last_file (get disk.standing (Manifest number)) (get disk.removed (Manifest number))) (get image (Manifest number))
 
--- Whatever a crash leaves, without a chance match, has the manifest, which reads as these frames, or as these and one
--- of these edits.
+-- Whatever a crash leaves of the disk without a chance match has the manifest, and this reads as these frames, or as
+-- these and a frame of these edits.
 abbrev pub LeavesFrames : ℕ → List (List Edit) → List Edit → DiskState → Type 0
 LeavesFrames number frames edits disk =
     (image : Image) → MayLeave disk image → NoChanceFrame number disk image

@@ -16,13 +16,12 @@ mod staged;
 mod state;
 mod switching;
 mod table_list;
-
+mod tables;
 mod version_builder;
 mod writing;
 
 pub use edit::Edit;
 pub use fails::{IoFail, StateFail};
-pub use format::MANIFEST_FORMAT;
 pub use levels::{LEVELS, Levels};
 pub use manifest_log::ManifestLog;
 pub use newer::newer_format;

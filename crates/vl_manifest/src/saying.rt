@@ -5,16 +5,16 @@ ghost use Rattle.vl_manifest.specs.Manifest.{HasHeader, HasNoHeader, IsReadable}
 ghost use Rattle.vl_manifest.specs.Reading.{AnswersSo, GoesOnSo};
 
 use crate::fails::StateFail;
-use crate::format::MANIFEST_FORMAT;
 use crate::frames::behind_header;
 use crate::manifest_log::ManifestLog;
 use crate::reading::read_edits;
 use crate::state::ManifestState;
 use std::alloc::{AllocError, Global};
 use vl_frame::{FileKind, HEADER_BYTES, read_header};
+use vl_model::MANIFEST_FORMAT;
 
 // Where a manifest's first frame stands, in bytes.
-const FIRST_FRAME: u64 = HEADER_BYTES as u64;
+pub(crate) const FIRST_FRAME: u64 = HEADER_BYTES as u64;
 
 impl ManifestLog {
     /// Whether the bytes are those of the manifest with this number, as far as its header and its first frame go. Of
@@ -51,7 +51,7 @@ impl ManifestLog {
 }
 
 // The format in a manifest's header, which is right.
-fn format_of(bytes: &[u8], number: u32) -> Option<u32>
+pub(crate) fn format_of(bytes: &[u8], number: u32) -> Option<u32>
     ensures found { IfSome result (λ format. HasHeader format number bytes.now) }
     ensures none { IfNone result (HasNoHeader number bytes.now) }
     ensures long { IfSome result (λ _. HEADER_BYTES ≤ length bytes.now) }

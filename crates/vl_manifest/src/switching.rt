@@ -1,12 +1,15 @@
 //! A switch: one more frame of a manifest, appended and synced.
 
-ghost use Rattle.std.specs.Prelude.{◌≡◌, ◌+◌, ◌-◌, ◌^◌, length, min, IfOk, OnErr, OnOk};
+ghost use Rattle.std.specs.Prelude.{◌≡◌, ◌+◌, ◌-◌, ◌^◌, ◌++◌, ◌∷◌, [], List, length, min, Some, IfOk, OnErr, OnOk};
 ghost use Rattle.std.specs.Option.{ForSome};
 ghost use Rattle.vl_disk.specs.declared.name.Name.TheVariants as names;
 ghost use Rattle.vl_disk.specs.Calls.{ChangesNothing};
 ghost use Rattle.vl_disk.specs.Disk.{Stands};
+ghost use Rattle.vl_disk.specs.DiskState.{DiskState};
+ghost use Rattle.vl_disk.specs.Moments.{HoldsThroughout};
 ghost use Rattle.vl_disk.specs.Spare.{CanAppend, SameSpare, SameSpareElsewhere};
-ghost use Rattle.vl_manifest.specs.Switching.{IsStaged, IsStagedFor, Switches};
+ghost use Rattle.vl_manifest.specs.declared.edit.Edit.{Edit};
+ghost use Rattle.vl_manifest.specs.Switching.{HasFrames, IsStaged, IsStagedFor, LeavesFrames, Switches};
 
 use crate::edit::Edit;
 use crate::manifest_log::ManifestLog;
@@ -48,6 +51,16 @@ impl ManifestLog {
         ensures number { self.new.number ≡ self.old.number }
         ensures longer { OnOk result (self.new.length ≡ min (self.old.length + length staged.now.frame.items) (2 ^ 64 - 1)) }
         ensures kept { OnErr result (self.new.length ≡ self.old.length) }
+
+        // Whatever a crash leaves, at each moment, reads as the frames before, or as these and the new one.
+        ensures leaves { (frames : List (List Edit)) (edits : List Edit) (state : DiskState) → D.told disk.old ≡ Some state
+            → HasFrames self.old frames state → IsStaged self.old.number self.old.length edits staged.now
+            → HoldsThroughout D.Watched disk.old disk.new (LeavesFrames self.old.number frames edits) }
+
+        // Afterwards it is these and the new one.
+        ensures has { (frames : List (List Edit)) (edits : List Edit) → ForSome (D.told disk.old) (HasFrames self.old frames)
+            → IsStaged self.old.number self.old.length edits staged.now
+            → OnOk result (ForSome (D.told disk.new) (HasFrames self.new (frames ++ edits ∷ []))) }
     {
         append_and_sync(disk, self.number, &staged.frame)?;
         self.length = self.length.saturating_add(staged.frame.len() as u64);

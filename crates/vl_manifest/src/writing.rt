@@ -5,7 +5,7 @@ ghost use Rattle.vl_frame.specs.Frame.{frame_length};
 ghost use Rattle.vl_frame.specs.Runs.{item_frame};
 ghost use Rattle.vl_manifest.specs.Grammar.{edits_grammar};
 ghost use Rattle.vl_manifest.specs.Edits as spelling;
-ghost use Rattle.vl_manifest.specs.Formats.{manifest_format};
+ghost use Rattle.vl_model.specs.Formats.{manifest_format};
 ghost use Rattle.vl_manifest.specs.declared.edit.Edit.TheVariants as kinds;
 ghost use Rattle.byteorder.specs.Endian.{big_bytes};
 

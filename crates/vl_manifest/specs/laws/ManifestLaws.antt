@@ -1,20 +1,19 @@
 -- What the definition of a manifest says: its bytes say one thing, and a manifest that is made says its state.
-use Rattle.std.specs.Prelude.{◌≡◌, ◌⊎◌, ◌+◌, ◌<◌, ◌≤◌, ◌^◌, ℕ, List, [], ◌∷◌, ◌++◌, drop, length, take, Option, None, Some, Result, Ok, Err, refl}
+use Rattle.std.specs.Prelude.{◌≡◌, ◌+◌, ◌<◌, ◌^◌, ℕ, List, [], ◌∷◌, ◌++◌, drop, length, take, Option, None, Some, Result, Ok, Err, refl}
 use Rattle.std.specs.List.{AllByRecursion}
-use Rattle.std.proofs.Common.{sym, ap, subst, ◌∙◌, inl, inr, ⊎_elim, arith}
-use Rattle.std.proofs.lemmas.List.{drop_at, take_at, take-append-drop}
-use Rattle.vl_frame.specs.Header.{header_bytes}
+use Rattle.std.proofs.Common.{sym, ap, subst, ◌∙◌, ⊎_elim, arith}
+use Rattle.std.proofs.lemmas.List.{drop_at, take-append-drop}
 use Rattle.vl_frame.specs.laws.HeaderLaws.{length-header_bytes, one_format, one_header}
 use Rattle.vl_frame.specs.Begins.{BeginsAs, placed}
 use Rattle.vl_frame.specs.laws.BeginLaws.{one_begins, reads_past}
-use Rattle.vl_frame.specs.laws.RunLaws.{one_reading, reads_whole, there_or_not}
-use Rattle.vl_frame.specs.Runs.{HasFrame, ReadsAs, StandsAt, StandsNone, item_frame, run_bytes}
+use Rattle.vl_frame.specs.laws.RunLaws.{one_reading, reads_whole}
+use Rattle.vl_frame.specs.Runs.{HasFrame, ReadsAs, StandsNone, item_frame, run_bytes}
 use Rattle.vl_frame.specs.declared.kinds.FileKind.TheVariants as files
 use Rattle.vl_manifest.specs.declared.edit.Edit.{Edit}
 use Rattle.vl_manifest.specs.declared.state.ManifestState.{ManifestState}
-use Rattle.vl_manifest.specs.Formats.{manifest_format}
+use Rattle.vl_model.specs.Formats.{manifest_format}
 use Rattle.vl_manifest.specs.Grammar.{edits_grammar}
-use Rattle.vl_manifest.specs.Manifest.{HasHeader, HasNoHeader, IsDamaged, IsNewer, IsReadable, ManifestSays, ReadsManifest, SaysState, manifest_bytes, manifest_header, no_frame, no_header, not_applied, state_of}
+use Rattle.vl_manifest.specs.Manifest.{HasHeader, IsDamaged, IsNewer, IsReadable, ManifestSays, ReadsManifest, SaysState, manifest_bytes, manifest_header, no_frame, no_header, not_applied, state_of}
 use Rattle.vl_manifest.specs.laws.StateLaws.{IsInRange, read_in_range, read_made, state_in_range}
 use Rattle.vl_manifest.specs.laws.WholeLaws.{whole_says}
 use Rattle.vl_manifest.specs.States.{first_state, manifest_state, next_state, read_in, state_behind, state_then, whole_edits}

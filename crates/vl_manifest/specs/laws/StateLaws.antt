@@ -1,5 +1,5 @@
 -- What edits can make: states whose numbers are in range, and in which each table stands once.
-use Rattle.std.specs.Prelude.{◌≡◌, ◌+◌, ◌==◌, ◌≤◌, ℕ, Bool, true, false, ◌&&◌, not, nat_le, if◌then◌else◌, List, [], ◌∷◌, ◌++◌, length, Option, None, Some, Result, Ok, Err, IfSome, refl}
+use Rattle.std.specs.Prelude.{◌≡◌, ◌+◌, ◌≤◌, ℕ, Bool, true, false, ◌&&◌, not, nat_le, if◌then◌else◌, List, [], ◌∷◌, length, Option, None, Some, Result, Ok, Err, IfSome, refl}
 use Rattle.std.specs.List.{AllByRecursion}
 use Rattle.std.specs.Option.{option_map}
 use Rattle.std.proofs.Common.{sym, ap, subst, ◌∙◌, arith}
@@ -11,7 +11,7 @@ use Rattle.vl_manifest.specs.declared.edit.Edit.{Edit}
 use Rattle.vl_manifest.specs.declared.edit.Edit.TheVariants.{Add, Drop, Gone, Head, Keep, Next}
 use Rattle.vl_manifest.specs.declared.state.ManifestState.{ManifestState}
 use Rattle.vl_manifest.specs.Formats.{gone_format}
-use Rattle.vl_manifest.specs.Levels.{all_tables, is_in, is_other, no_tables, put_at, taken_out}
+use Rattle.vl_manifest.specs.Levels.{all_tables, is_in, is_other, put_at, taken_out}
 use Rattle.vl_manifest.specs.States.{all_applied, applied, are_next, as_draft, as_read, finish, first_draft, first_state, given_if, is_file_number, is_gone, is_head, is_keep, is_next_number, manifest_state, max_keep, next_state, opened_state, read_in, state_behind, state_then, then_applied, with_both, with_levels}
 use Rattle.vl_manifest.specs.laws.TableLists.{AreOnce, all-filter, all-more, once-filter, once_more, put_is, taken_out-count, taken_out-tables}
 

@@ -1,9 +1,9 @@
 -- What the definitions of a store's tables say: each table stands once, whatever is put in and taken out.
-use Rattle.std.specs.Prelude.{◌≡◌, ◌+◌, ◌==◌, ◌≤◌, ℕ, Bool, true, false, ◌||◌, not, nat_le, if◌then◌else◌, List, [], ◌∷◌, ◌++◌, length, take, drop, map, zero, suc, Option, None, Some, refl}
-use Rattle.std.specs.List.{AllByRecursion, filter, insert, list_any}
+use Rattle.std.specs.Prelude.{◌≡◌, ◌==◌, ◌≤◌, ℕ, Bool, true, false, ◌||◌, nat_le, if◌then◌else◌, List, [], ◌∷◌, ◌++◌, length, take, drop, map, zero, suc, Option, None, Some, refl}
+use Rattle.std.specs.List.{AllByRecursion, filter, insert}
 use Rattle.std.specs.Option.{option_map}
-use Rattle.std.proofs.Common.{sym, ap, subst, ◌∙◌, arith, append_assoc, append-nil, length-append}
-use Rattle.std.proofs.lemmas.Bool.{cases_Bool, leb-true, le-leb}
+use Rattle.std.proofs.Common.{sym, ap, ◌∙◌, arith, append_assoc, append-nil}
+use Rattle.std.proofs.lemmas.Bool.{le-leb}
 use Rattle.std.proofs.lemmas.Bool.Decides.{nat_tests}
 use Rattle.std.proofs.lemmas.List.{take-append-drop, take_at, drop_at}
 use Rattle.std.proofs.lemmas.List.Elements.{filter-append}
@@ -82,9 +82,10 @@ pub once_more : (xs : List ℕ) (t : ℕ) (ys : List ℕ) → AreOnce (xs ++ ys)
 once_more [] t ys once new = (new, once)
 once_more (x ∷ xs) t ys once new =
     let apart = none_either (x == t) (is_in t (xs ++ ys)) new in
-    let parts = is_in-parts x xs ys once.0 in
-    (is_in-append x xs (t ∷ ys) parts.0 (none_both (t == x) (is_in x ys) (turned x t apart.0) parts.1),
-    once_more xs t ys once.1 apart.1)
+    let parts = is_in-parts x xs ys once.0 in (
+      is_in-append x xs (t ∷ ys) parts.0 (none_both (t == x) (is_in x ys) (turned x t apart.0) parts.1),
+      once_more xs t ys once.1 apart.1,
+    )
 
 -- ---- a table that is put in
 

@@ -2,12 +2,12 @@
 use Rattle.std.specs.Prelude.{◌≡◌, ◌⊎◌, ◌≤◌, ℕ, ◌+◌, ◌-◌, List, [], ◌∷◌, ◌++◌, length, take, drop, refl, Any, slice_index_or}
 use Rattle.std.specs.List.{AllByRecursion}
 use Rattle.std.proofs.Common.{sym, ap, subst, ◌∙◌, arith, append_assoc, length-append, inl, inr, ⊎_elim}
-use Rattle.std.proofs.lemmas.List.{drop_all, drop_at, length-take, take-append-drop, take-take, take_at}
+use Rattle.std.proofs.lemmas.List.{drop_all, drop_at, length-take, take-append-drop, take_at}
 use Rattle.vl_disk.specs.Chance.{HasOnlyHandedOver, StandsIn, WasHandedOver, torn_from}
 use Rattle.vl_disk.specs.Crash.{Agrees}
 use Rattle.vl_disk.specs.DiskState.{File, lengthened, settled}
 use Rattle.vl_frame.specs.Begins.{SpellsAt}
-use Rattle.vl_frame.specs.laws.RunLaws.{frame_is_some, none_at_end, one_front, reads_behind, reads_more, reads_whole, there_or_not}
+use Rattle.vl_frame.specs.laws.RunLaws.{frame_is_some, one_front, reads_behind, reads_more, reads_whole, there_or_not}
 use Rattle.vl_frame.specs.Runs.{Grammar, HasFrame, ReadsAs, StandsAt, StandsNone, item_frame, run_bytes}
 
 one_due : {X : Type 0} (P : X → Type 0) (x : X) → Any P (x ∷ []) → P x

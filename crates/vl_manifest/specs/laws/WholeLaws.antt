@@ -1,16 +1,16 @@
 -- A state is said by its whole edits.
-use Rattle.std.specs.Prelude.{◌≡◌, ◌+◌, ◌==◌, ◌≤◌, ℕ, Bool, true, false, ◌&&◌, not, nat_le, if◌then◌else◌, List, [], ◌∷◌, ◌++◌, length, Option, None, Some, refl}
+use Rattle.std.specs.Prelude.{◌≡◌, ◌+◌, ◌==◌, ◌≤◌, ℕ, Bool, true, false, ◌&&◌, not, if◌then◌else◌, List, [], ◌∷◌, ◌++◌, length, None, Some, refl}
 use Rattle.std.specs.List.{AllByRecursion}
 use Rattle.std.specs.Option.{option_map}
 use Rattle.std.proofs.Common.{sym, ap, subst, ◌∙◌, arith, append_assoc, append-nil, length-append}
-use Rattle.std.proofs.lemmas.Bool.{and_from, cases_Bool}
+use Rattle.std.proofs.lemmas.Bool.{and_from}
 use Rattle.std.proofs.lemmas.Bool.Decides.{nat_tests}
 use Rattle.vl_manifest.specs.declared.version_builder.VersionBuilder.{VersionBuilder}
 use Rattle.vl_manifest.specs.declared.edit.Edit.{Edit}
-use Rattle.vl_manifest.specs.declared.edit.Edit.TheVariants.{Add, Drop, Gone, Head, Keep, Next}
+use Rattle.vl_manifest.specs.declared.edit.Edit.TheVariants.{Add, Gone, Head, Keep, Next}
 use Rattle.vl_manifest.specs.declared.state.ManifestState.{ManifestState}
 use Rattle.vl_manifest.specs.Levels.{all_tables, is_in, no_tables, put_at}
-use Rattle.vl_manifest.specs.States.{adds_from, all_applied, applied, are_next, finish, first_draft, first_state, given_if, gone_edits, is_file_number, is_gone, is_head, is_keep, keep_edits, last_edits, level_adds, then_applied, whole_edits, with_levels}
+use Rattle.vl_manifest.specs.States.{adds_from, all_applied, applied, finish, first_draft, first_state, given_if, gone_edits, is_file_number, keep_edits, last_edits, level_adds, then_applied, whole_edits, with_levels}
 use Rattle.vl_manifest.specs.laws.StateLaws.{IsInRange, gone_passes, head_passes, keep_passes, nexts_pass}
 use Rattle.vl_manifest.specs.laws.TableLists.{AreOnce, all-parts, all_tables-append, all_tables-blank, blank, once_behind, put_at-end}
 

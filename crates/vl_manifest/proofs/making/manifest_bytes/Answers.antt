@@ -1,6 +1,6 @@
 use Rattle.std.proofs.Common.{[], ◌∷◌, arith}
 use Rattle.vl_frame.specs.Runs.{HasFrame}
-use Rattle.vl_manifest.specs.Formats.{manifest_format}
+use Rattle.vl_model.specs.Formats.{manifest_format}
 use Rattle.vl_manifest.specs.Grammar.{edits_grammar}
 use Rattle.vl_manifest.specs.laws.ManifestLaws.{manifest_reads}
 use Rattle.vl_manifest.proofs.making.manifest_bytes.Goals as goal

@@ -3,7 +3,7 @@ use Rattle.vl_frame.specs.Runs.{item_frame}
 use Rattle.vl_frame.specs.declared.kinds.FrameKind.TheVariants as kinds
 use Rattle.vl_frame.specs.laws.Laws.{length-frame_bytes}
 use Rattle.vl_manifest.specs.Edits.{edits_body}
-use Rattle.vl_manifest.specs.Formats.{manifest_format}
+use Rattle.vl_model.specs.Formats.{manifest_format}
 use Rattle.vl_manifest.specs.Grammar.{edits_grammar}
 use Rattle.vl_manifest.proofs.switching.staged_edits.Goals as goal
 

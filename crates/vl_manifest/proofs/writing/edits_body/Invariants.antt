@@ -1,7 +1,7 @@
 use Rattle.std.proofs.Common.{◌≡◌, ◌++◌, drop}
 use Rattle.std.specs.List.{AllByRecursion}
 use Rattle.vl_manifest.specs.Edits as spelling
-use Rattle.vl_manifest.specs.Formats.{manifest_format}
+use Rattle.vl_model.specs.Formats.{manifest_format}
 use Rattle.vl_manifest.proofs.writing.edits_body.Given as goal
 
 -- the edits that are still to be written stand behind what was written, and only they may still not fit

@@ -1,7 +1,3 @@
-use Rattle.std.proofs.Common.{refl, subst, ℕ, drop}
-use Rattle.vl_frame.specs.Runs.{StandsNone}
-use Rattle.vl_manifest.specs.Grammar.{edits_grammar}
-use Rattle.vl_manifest.specs.laws.ManifestLaws.{one_manifest_format}
 use Rattle.vl_manifest.proofs.Said.{false_true}
 use Rattle.vl_manifest.proofs.manifest_log.ManifestLog.is_readable.Goals as goal
 
