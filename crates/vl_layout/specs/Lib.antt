@@ -1,3 +1,4 @@
+pub mod AtAnswer
 pub mod Decides
 pub mod Garbage
 pub mod Jobs

@@ -1,5 +1,5 @@
 -- Lines that begin, read, write and end a transaction or a view.
-use Rattle.std.specs.Prelude.{ℕ, ◌+◌, Bool, ◌&&◌, ◌||◌, not, nat_le, nat_lt, if◌then◌else◌, List, [], ◌∷◌, ◌++◌, length, Option, Some, None}
+use Rattle.std.specs.Prelude.{ℕ, ◌+◌, Bool, ◌&&◌, not, nat_le, if◌then◌else◌, List, [], ◌∷◌, ◌++◌, length, Option, Some, None}
 use Rattle.std.specs.List.{sum_by}
 use Rattle.std.specs.FinMap.{find, put, from_sorted}
 use Rattle.vl_model.specs.History.{value_left}
@@ -8,22 +8,18 @@ use Rattle.vl_model.specs.Limits.{max_key_bytes, max_transaction_keys, max_trans
 use Rattle.vl_model.specs.Reads.{Scan, KeyRead, RangeRead, scanned}
 use Rattle.vl_model.specs.declared.change.Change.{Change}
 use Rattle.vl_model.specs.declared.way.Way.{Way}
+use Rattle.vl_layout.specs.AtAnswer as at
+use Rattle.vl_layout.specs.AtAnswer.{Beginning, AtAnswer, EmptyKey, KeyTooLong, Ahead, Found, beginning_of}
 use Rattle.vl_layout.specs.Ruling.{Ruling}
 use Rattle.vl_layout.specs.Rulings.Begin as begin
 use Rattle.vl_layout.specs.Rulings.Begin.{BeginAnswer, begin_ruling}
 use Rattle.vl_layout.specs.Rulings.Commit as commit
 use Rattle.vl_layout.specs.Rulings.Commit.{Transaction, CommitAnswer, commit_unless}
-use Rattle.vl_layout.specs.Sources.{floor}
-use Rattle.vl_layout.specs.Store.Commits.{Changes, history_in, with_changes, value_in, rows_in, low_in, conflict_in}
+use Rattle.vl_layout.specs.Store.Commits.{Changes, history_in, with_changes, value_in, rows_in, at_answer_in, conflict_in}
 use Rattle.vl_layout.specs.Store.Lines.{Name, Answer, Done, Number, Value, NoValue, Dropped, Rows, Taken, Unknown, ReadOnly, Invalid, TooBig, TooMany, Nothing, Conflict, Full, Exhausted, Halted}
-use Rattle.vl_layout.specs.Store.Things.{Beginning, Thing, ATransaction, AView, AJob, APass, State, Step, only, with_thing, without_thing}
-use Rattle.vl_layout.specs.declared.layout.Layout.{Layout}
+use Rattle.vl_layout.specs.Store.Things.{Thing, ATransaction, AView, AJob, APass, State, Step, only, with_thing, without_thing}
 
 -- ---- begin and view
-
--- the floor counts the number at which it reads itself
-abbrev pub beginning : Layout → State → Beginning
-beginning l s = record { floor = floor l (history_in s.commits); keep = l.keep; since = l.since }
 
 abbrev pub begun_by : State → Name → (ℕ → ℕ → Thing) → Ruling BeginAnswer → BeginAnswer → Step
 begun_by s name thing r begin.TooMany = only TooMany s
@@ -41,7 +37,7 @@ abbrev pub begin_as : State → Name → (Beginning → ℕ → ℕ → Thing) �
 begin_as s name thing (Some other) = only (Taken name) s
 begin_as s name thing None =
     let r = begin_ruling s.layout (history_in s.commits) in
-    begun_by s name (thing (beginning r.layout s)) r r.answer
+    begun_by s name (thing (beginning_of r.layout (history_in s.commits))) r r.answer
 
 -- ---- reads
 
@@ -70,12 +66,16 @@ get_by s name key (Some (AView v b)) =
 get_by s name key (Some (ATransaction t b)) =
     if is_key_length (length key) then get_own s name t b key (find key_cmp key t.writes) else only Invalid s
 
--- at an older number, past own writes
+abbrev pub told_at : AtAnswer → Answer
+told_at EmptyKey = Invalid
+told_at KeyTooLong = Invalid
+told_at (Ahead number) = Invalid
+told_at (at.Dropped least) = Dropped least
+told_at (Found value) = answer_of value
+
+-- at an older number
 abbrev pub get_old : State → List ℕ → ℕ → ℕ → Beginning → Step
-get_old s key n number b =
-    if not (is_key_length (length key)) || nat_lt number n then only Invalid s
-    else (if nat_lt n (low_in s.commits b.floor b.keep b.since key) then only (Dropped (low_in s.commits b.floor b.keep b.since key)) s
-    else only (answer_of (value_in s.commits n key)) s)
+get_old s key n number b = only (told_at (at_answer_in s.commits b number key n)) s
 
 abbrev pub get_at_by : State → Name → List ℕ → ℕ → Option Thing → Step
 get_at_by s name key n None = only (Unknown name) s
