@@ -79,7 +79,7 @@ all_put P e (f ∷ fs) here all = elim (entry_cmp e f) as (λ r. AllByRecursion 
   | Greater ↦ (all.0, all_put P e fs here all.1)
 ]
 
-all_weaker : (P Q : Entry → Type 0) → ((e : Entry) → P e → Q e) → (es : List Entry) → AllByRecursion P es → AllByRecursion Q es
+pub all_weaker : (P Q : Entry → Type 0) → ((e : Entry) → P e → Q e) → (es : List Entry) → AllByRecursion P es → AllByRecursion Q es
 all_weaker P Q f [] all = tt
 all_weaker P Q f (e ∷ es) all = (f e all.0, all_weaker P Q f es all.1)
 
@@ -108,7 +108,7 @@ sorted_put e (f ∷ fs) sorted = by (entry_cmp e f) refl (sorted_put e fs sorted
     by Greater is later =
         (all_put (λ (g : Entry). Le f.key g.key) e fs (key_down e f (key_cmp e.key f.key) (nat_cmp f.version e.version) refl is) sorted.0, later)
 
-sorted_in_order : (es : List Entry) → IsSorted (in_order es)
+pub sorted_in_order : (es : List Entry) → IsSorted (in_order es)
 sorted_in_order [] = tt
 sorted_in_order (e ∷ es) = sorted_put e (in_order es) (sorted_in_order es)
 
@@ -171,27 +171,27 @@ from_well table key closed open_bytes (e ∷ es) some sorted below above rest =
     either' true x y one other = one
     either' false x y one other = other
 
-cut_well : (es : List Entry) → IsSorted es → IsCutWell (cut_into_tables es)
+pub cut_well : (es : List Entry) → IsSorted es → IsCutWell (cut_into_tables es)
 cut_well [] sorted = tt
 cut_well (e ∷ es) sorted = from_well (e ∷ []) e.key 0 (begun_length e) es (omega arith) (tt, tt) (ap is_lt (key_tied e.key), tt) sorted.0 sorted.1
 
 -- ---- the tables
 
-of_first : (P : List ℕ → Type 0) (es : List Entry) → 1 ≤ length es → AllByRecursion (λ (e : Entry). P e.key) es → P (first_key es)
+pub of_first : (P : List ℕ → Type 0) (es : List Entry) → 1 ≤ length es → AllByRecursion (λ (e : Entry). P e.key) es → P (first_key es)
 of_first P [] some all = absurd (omega (arith, some))
 of_first P (e ∷ es) some all = all.0
 
-of_last : (P : List ℕ → Type 0) (es : List Entry) → 1 ≤ length es → AllByRecursion (λ (e : Entry). P e.key) es → P (last_key es)
+pub of_last : (P : List ℕ → Type 0) (es : List Entry) → 1 ≤ length es → AllByRecursion (λ (e : Entry). P e.key) es → P (last_key es)
 of_last P [] some all = absurd (omega (arith, some))
 of_last P (e ∷ []) some all = all.0
 of_last P (e ∷ f ∷ fs) some all = of_last P (f ∷ fs) (omega arith) all.1
 
-up_to_last : (es : List Entry) → IsSorted es → AllByRecursion (λ (e : Entry). Le e.key (last_key es)) es
+pub up_to_last : (es : List Entry) → IsSorted es → AllByRecursion (λ (e : Entry). Le e.key (last_key es)) es
 up_to_last [] sorted = tt
 up_to_last (e ∷ []) sorted = (ap is_lt (key_tied e.key), tt)
 up_to_last (e ∷ f ∷ fs) sorted = (of_last (Le e.key) (f ∷ fs) (omega arith) sorted.0, up_to_last (f ∷ fs) sorted.1)
 
-from_first : (es : List Entry) → IsSorted es → AllByRecursion (λ (e : Entry). Le (first_key es) e.key) es
+pub from_first : (es : List Entry) → IsSorted es → AllByRecursion (λ (e : Entry). Le (first_key es) e.key) es
 from_first [] sorted = tt
 from_first (e ∷ es) sorted = (ap is_lt (key_tied e.key), sorted.0)
 

@@ -22,6 +22,7 @@ use Rattle.vl_layout.specs.Rulings.Rotate.{rotate_of, rotate_unless, rotate_ruli
 use Rattle.vl_layout.specs.Rulings.Sweep.{pins, is_held, is_up_to, swept, sweep_unless}
 use Rattle.vl_layout.specs.Sources.{oldest, sources, tables}
 use Rattle.vl_layout.specs.Stock.{leads, IsFooted, PointsDrawn, with_lent, IsWellStocked, IsLoose}
+use Rattle.vl_layout.specs.TidyLevels.{IsDistinct}
 use Rattle.vl_layout.specs.declared.file_name.FileName.{FileName}
 use Rattle.vl_layout.specs.declared.file_name.Retired.{Retired}
 use Rattle.vl_layout.specs.declared.job.Job.{Job}
@@ -160,10 +161,10 @@ module _ (l : Layout) (h : History) (w : IsWellStocked l) where
       (standing : AllByRecursion (λ (n : ℕ). list_any (λ (t : Table). n == t.number) (tables l) ≡ true) job.inputs)
       (footed : AllByRecursion IsFooted made.tables)
       (into : (n : ℕ) → AllByRecursion (λ (t : Table). leads n t.points ≡ true → list_any (λ (u : Table). leads n u.points) (tables l) ≡ true) made.tables)
-      (below : AllByRecursion (PointsDrawn l.next_log) made.tables) where
+      (below : AllByRecursion (PointsDrawn l.next_log) made.tables) (distinct : IsDistinct (tables l)) where
     install_checked-well : (o : Option Named) → LeavesWell (install_checked l h job made o)
     install_checked-well (Some named) = well_job_ended l w made are
-    install_checked-well None = either (has_no_version l) _ _ (well_job_ended l w made are) (well_installed l w job made are standing footed into below)
+    install_checked-well None = either (has_no_version l) _ _ (well_job_ended l w made are) (well_installed l w job made are standing footed into below distinct)
 
     install_unless-well : (halted : Option FileName) → LeavesWell (install_unless halted l h job made)
     install_unless-well (Some name) = well_job_ended l w made are

@@ -107,7 +107,7 @@ pointed_into (Manifest n) t are there = absurd (never t.points there)
     never [] there = true_false (sym there)
     never (p ∷ ps) there = never ps there
 
-oldest_in : (f : FileName) (ss : List Segment) (s : Segment) → oldest ss ≡ Some s → is_same f (log_of s) ≡ true
+pub oldest_in : (f : FileName) (ss : List Segment) (s : Segment) → oldest ss ≡ Some s → is_same f (log_of s) ≡ true
     → is_in f (map log_of ss) ≡ true
 oldest_in f [] s is same = absurd cc
 oldest_in f (t ∷ []) s is same = or_left (is_same f (log_of t)) false (ap (λ (x : Segment). is_same f (log_of x)) (the_one t s is) ∙ same)
@@ -228,7 +228,7 @@ module _ (P : Table → Type 0) (inputs : List ℕ) (new : List Table) (made : A
     | false ↦ all_both P new (t ∷ ts) made all
   ]
 
-  all_at_level : (n : ℕ) (levels : List (List Table)) → AllByRecursion P (flat_map (λ ts. ts) levels)
+  pub all_at_level : (n : ℕ) (levels : List (List Table)) → AllByRecursion P (flat_map (λ ts. ts) levels)
       → AllByRecursion P (flat_map (λ ts. ts) (at_level n (in_key_order new) levels))
   all_at_level n [] all = tt
   all_at_level n (ts ∷ deeper) all =
@@ -246,7 +246,7 @@ module _ (P : Table → Type 0) (inputs : List ℕ) (new : List Table) (made : A
       let both = all_parts (λ (t : Table). is_among inputs t ≡ false → P t) ts (flat_map (λ xs. xs) deeper) all in
       all_both P (without inputs ts) (flat_map (λ xs. xs) (map (without inputs) deeper)) (all_without ts both.0) (all_levels_without deeper both.1)
 
-  all_swapped : (ts : List Table) → AllByRecursion (λ (t : Table). is_among inputs t ≡ false → P t) ts
+  pub all_swapped : (ts : List Table) → AllByRecursion (λ (t : Table). is_among inputs t ≡ false → P t) ts
       → AllByRecursion P (flat_map (λ t. cond (is_among inputs t) new (t ∷ [])) ts)
   all_swapped [] all = tt
   all_swapped (t ∷ ts) all = all_both P (cond (is_among inputs t) new (t ∷ [])) (flat_map (λ u. cond (is_among inputs u) new (u ∷ [])) ts)
