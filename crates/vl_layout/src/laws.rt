@@ -121,7 +121,7 @@ pub fn best_has_the_greatest_share()
 
 /// Blocks hold all entries of their table, and tables all of their merge, in order.
 pub fn cutting_keeps_all_entries()
-    ensures blocks { (es : List Entry) → joined (blocks es) ≡ es }
+    ensures blocks { (format : ℕ) (es : List Entry) → joined (blocks format es) ≡ es }
     ensures tables { (es : List Entry) → joined (cut_into_tables es) ≡ es }
 {}
 
