@@ -30,6 +30,7 @@ use Rattle.vl_layout_laws.specs.laws.Justified.{same_inputs}
 use Rattle.vl_layout_laws.specs.laws.Outputs.{IsCutWell, IsSorted, Lt, cut_well, from_first, of_first, of_last, outputs_apart, sorted_in_order}
 use Rattle.vl_layout_laws.specs.laws.Roomy.{sourced_inputs}
 use Rattle.vl_layout_laws.specs.laws.Switches.{each_of}
+use Rattle.vl_model.specs.Formats.{table_format}
 
 -- ---- of the entries of all
 
@@ -37,7 +38,7 @@ pub all_tables : (Q : Entry → Type 0) (ts : List Table) → AllByRecursion (λ
 all_tables Q [] all = tt
 all_tables Q (t ∷ ts) all = all_both Q t.entries (all_entries ts) all.0 (all_tables Q ts all.1)
 
-pub all_made : (P : List Entry → Type 0) (Q : Table → Type 0) → ((n : ℕ) (es : List Entry) → P es → Q (new_table n es))
+pub all_made : (P : List Entry → Type 0) (Q : Table → Type 0) → ((n : ℕ) (es : List Entry) → P es → Q (new_table table_format n es))
     → (ns : List ℕ) (ess : List (List Entry)) → AllByRecursion P ess → AllByRecursion Q (tables_made ns ess)
 all_made P Q gives [] ess all = tt
 all_made P Q gives (n ∷ ns) [] all = tt

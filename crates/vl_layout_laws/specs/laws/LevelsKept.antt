@@ -162,7 +162,7 @@ levels_flushed l s are drawn = by l.levels are drawn
     t = flushed_table l s
 
     sorted : IsSorted (map placed (memtable s))
-    sorted = keys_placed (memtable s) (sorted_in_order (logged_entries s.number 16 s.frames))
+    sorted = keys_placed (memtable s) (sorted_in_order (logged_entries s.format s.number 16 s.frames))
 
     ranged : IsRanged (flushed_table l s)
     ranged = both_all (λ (e : Entry). Le (first_key (map placed (memtable s))) e.key) (λ (e : Entry). Le e.key (last_key (map placed (memtable s)))) (map placed (memtable s)) (from_first (map placed (memtable s)) sorted) (up_to_last (map placed (memtable s)) sorted)

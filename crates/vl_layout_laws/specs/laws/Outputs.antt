@@ -21,6 +21,7 @@ use Rattle.vl_layout.specs.declared.job.Job.{Job}
 use Rattle.vl_layout.specs.declared.table.Table.{Table}
 use Rattle.vl_layout.specs.TidyLevels.{Le, IsRanged, IsApart}
 use Rattle.vl_layout_laws.specs.laws.Pairs.{le_then}
+use Rattle.vl_model.specs.Formats.{table_format}
 
 abbrev pub Lt : List ℕ → List ℕ → Type 0
 Lt a b = is_lt (key_cmp a b) ≡ true
@@ -142,15 +143,15 @@ from_well : (table : List Entry) (key : List ℕ) (closed open_bytes : ℕ) (es 
     → IsCutWell (tables_from table key closed open_bytes es)
 from_well table key closed open_bytes [] some sorted below above rest = (nothing_behind table, (some, (sorted, tt)))
 from_well table key closed open_bytes (e ∷ es) some sorted below above rest =
-    let begun = from_well (e ∷ []) e.key 0 (begun_length e) es (omega arith) (tt, tt) (ap is_lt (key_tied e.key), tt) rest.0 rest.1 in
+    let begun = from_well (e ∷ []) e.key 0 (begun_length table_format e) es (omega arith) (tt, tt) (ap is_lt (key_tied e.key), tt) rest.0 rest.1 in
     let lower : AllByRecursion (λ (x : Entry). Le x.key e.key) table = all_weaker (λ (x : Entry). Le x.key key) (λ (x : Entry). Le x.key e.key) (λ x le. le_then x.key key e.key le above.0) table below in
     let more : 1 ≤ length (table ++ e ∷ []) = omega (arith, some, Rattle.std.proofs.Common.length-append table (e ∷ [])) in
     let under : AllByRecursion (λ (x : Entry). Le x.key e.key) (table ++ e ∷ []) = all_both (λ (x : Entry). Le x.key e.key) table (e ∷ []) lower (ap is_lt (key_tied e.key), tt) in
     let longer = sorted_more table e sorted lower in
-    let grown : List (List Entry) = tables_from (table ++ e ∷ []) e.key closed (open_bytes + entry_length e) es in
-    let next : List (List Entry) = tables_from (table ++ e ∷ []) e.key (closed + around open_bytes) (begun_length e) es in
-    let later : List (List Entry) = tables_from (e ∷ []) e.key 0 (begun_length e) es in
-    either (not (eq_by_cmp key_cmp key e.key) && nat_le full_table_bytes (closed + around open_bytes)) (table ∷ later) (if nat_le (open_bytes + entry_length e) max_block_bytes then grown else next)
+    let grown : List (List Entry) = tables_from (table ++ e ∷ []) e.key closed (open_bytes + entry_length table_format e) es in
+    let next : List (List Entry) = tables_from (table ++ e ∷ []) e.key (closed + around open_bytes) (begun_length table_format e) es in
+    let later : List (List Entry) = tables_from (e ∷ []) e.key 0 (begun_length table_format e) es in
+    either (not (eq_by_cmp key_cmp key e.key) && nat_le full_table_bytes (closed + around open_bytes)) (table ∷ later) (if nat_le (open_bytes + entry_length table_format e) max_block_bytes then grown else next)
     (λ closes.
     let apart : eq_by_cmp key_cmp key e.key ≡ false = not_true (eq_by_cmp key_cmp key e.key) (and_parts (not (eq_by_cmp key_cmp key e.key)) (nat_le full_table_bytes (closed + around open_bytes)) closes).0 in
     let step : Lt key e.key = le_apart key e.key above.0 apart in (
@@ -159,9 +160,9 @@ from_well table key closed open_bytes (e ∷ es) some sorted below above rest =
           (λ x le. (le_lt x.key key e.key le step, all_weaker (λ (f : Entry). Le e.key f.key) (λ (f : Entry). Lt x.key f.key) (λ f up. lt_le_then x.key e.key f.key (le_lt x.key key e.key le step) up) es rest.0)) table below),
       (some, (sorted, begun)),
     ))
-    (either' (nat_le (open_bytes + entry_length e) max_block_bytes) grown next
-    (from_well (table ++ e ∷ []) e.key closed (open_bytes + entry_length e) es more longer under rest.0 rest.1)
-    (from_well (table ++ e ∷ []) e.key (closed + around open_bytes) (begun_length e) es more longer under rest.0 rest.1))
+    (either' (nat_le (open_bytes + entry_length table_format e) max_block_bytes) grown next
+    (from_well (table ++ e ∷ []) e.key closed (open_bytes + entry_length table_format e) es more longer under rest.0 rest.1)
+    (from_well (table ++ e ∷ []) e.key (closed + around open_bytes) (begun_length table_format e) es more longer under rest.0 rest.1))
   where
     not_true : (b : Bool) → not b ≡ true → b ≡ false
     not_true true h = absurd cc
@@ -173,7 +174,7 @@ from_well table key closed open_bytes (e ∷ es) some sorted below above rest =
 
 pub cut_well : (es : List Entry) → IsSorted es → IsCutWell (cut_into_tables es)
 cut_well [] sorted = tt
-cut_well (e ∷ es) sorted = from_well (e ∷ []) e.key 0 (begun_length e) es (omega arith) (tt, tt) (ap is_lt (key_tied e.key), tt) sorted.0 sorted.1
+cut_well (e ∷ es) sorted = from_well (e ∷ []) e.key 0 (begun_length table_format e) es (omega arith) (tt, tt) (ap is_lt (key_tied e.key), tt) sorted.0 sorted.1
 
 -- ---- the tables
 

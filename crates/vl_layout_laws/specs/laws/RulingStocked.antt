@@ -64,7 +64,7 @@ module _ (l : Layout) (h : History) (w : IsWellStocked l) where
   checked_well : (t : Transaction) (conflict : Option Named) → LeavesWell (commit_checked l h t conflict)
   checked_well t (Some named) = well_ended l w t.ticket
   checked_well t None =
-      either (nat_le (l.active.length + frame_length (commit_frame h t.writes)) l.room) (committed l h t) _ (well_logged (ended t.ticket l) (well_ended l w t.ticket) (commit_frame h t.writes)) w
+      either (nat_le (l.active.length + frame_length l.active.format (commit_frame h t.writes)) l.room) (committed l h t) _ (well_logged (ended t.ticket l) (well_ended l w t.ticket) (commit_frame h t.writes)) w
 
   running_well : (t : Transaction) (conflict : Option Named) → LeavesWell (commit_running l h t conflict)
   running_well t conflict =
@@ -114,7 +114,7 @@ module _ (l : Layout) (h : History) (w : IsWellStocked l) where
   relocate_of-well [] = w
   relocate_of-well (m ∷ ms) =
       either (has_no_version l) _ _ w
-      (either (nat_le (l.active.length + frame_length (Relocated (m ∷ ms))) l.room) _ _ (well_relocated l w (m ∷ ms)) w)
+      (either (nat_le (l.active.length + frame_length l.active.format (Relocated (m ∷ ms))) l.room) _ _ (well_relocated l w (m ∷ ms)) w)
 
   relocate_unless-well : (pass : Pass) (batch : List Candidate) (halted : Option FileName) → LeavesWell (relocate_unless halted l h pass batch)
   relocate_unless-well pass batch (Some name) = w
