@@ -21,4 +21,5 @@ pub mod Stock
 pub mod Store
 pub mod Tables
 pub mod Tickets
+pub mod Tidy
 pub mod TidyLevels

@@ -28,4 +28,7 @@ pub mod Steps
 pub mod Stock
 pub mod Streaming
 pub mod Switches
+pub mod TidyLogs
+pub mod TidyRulings
+pub mod TidySteps
 pub mod WellStocked

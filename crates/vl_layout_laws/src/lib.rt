@@ -2,6 +2,7 @@
 #![tactic(auto)]
 
 mod laws;
+mod tidy;
 
 pub use laws::{
     a_moved_batch_wins_no_more, a_planned_job_is_open_well, a_sweep_removes_what_nothing_needs,
@@ -9,3 +10,4 @@ pub use laws::{
     files_stay_tidy, jobs_leave_files_tidy, levels_stay_tidy, live_bytes_after_a_switch, numbers_are_drawn_once,
     shown_from_low_stays,
 };
+pub use tidy::an_engine_stays_tidy;

@@ -38,7 +38,7 @@ distinct_tables (t ∷ ts) more distinct = (off ts distinct.0, distinct_tables t
 
 module _ (l : Layout) (h : History) (o : OpenJob) (is : l.job ≡ Some o) (made : Made)
     (w : IsWellStocked l) (are : AreLevels l.levels) (k : IsOpenWell l h o.job o.moved) (all : AreOutputs o.job made) (lent : AreLent o.lent made) where
-  lent_here : AreLent (lent_numbers l.job) made
+  pub lent_here : AreLent (lent_numbers l.job) made
   lent_here = subst (λ (job : Option OpenJob). AreLent (lent_numbers job) made) (sym is) lent
 
   pub install_stocked : IsWellStocked (install_ruling l h o.job made).layout
@@ -48,11 +48,11 @@ module _ (l : Layout) (h : History) (o : OpenJob) (is : l.job ≡ Some o) (made 
       (made_below l h o.job o.moved k made all w.stocked.footed w.drawn.points)
       are.distinct
 
-  distinct_made : IsDistinct made.tables
+  pub distinct_made : IsDistinct made.tables
   distinct_made = distinct_tables made.tables made.leavings lent.distinct
 
   -- what was lent is no table yet
-  other_made : AreOther made.tables (tables l)
+  pub other_made : AreOther made.tables (tables l)
   other_made = each made.tables (all_parts (λ n. has n (lent_numbers l.job) ≡ true) (numbers_of made.tables) made.leavings lent_here.drawn).0
     where
       each : (ts : List Table) → AllByRecursion (λ n. has n (lent_numbers l.job) ≡ true) (numbers_of ts) → AllByRecursion (λ (x : Table). AllByRecursion (λ (y : Table). y.number ≢ x.number) (tables l)) ts

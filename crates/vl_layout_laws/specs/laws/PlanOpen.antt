@@ -112,7 +112,7 @@ module _ (l : Layout) (h : History) (are : AreLevels l.levels) (drawn : AllByRec
       (stand l (inputs_at n l.levels) (all_inputs (λ (t : Table). list_any (λ (u : Table). t.number == u.number) (tables l) ≡ true) l n (standing_all (tables l))))
       (plan_fitted l h n are within) (plan_roomy l h n are within) some (base_of (numbers_of (inputs_at n l.levels))))
 
-  plan_of-well : (o : Option ℕ) → due_from 0 l.levels ≡ o → (job : Job) → (plan_of l h o).answer ≡ Some job → IsOpenWell (plan_of l h o).layout h job []
+  pub plan_of-well : (o : Option ℕ) → due_from 0 l.levels ≡ o → (job : Job) → (plan_of l h o).answer ≡ Some job → IsOpenWell (plan_of l h o).layout h job []
   plan_of-well None is job answer = absurd cc
   plan_of-well (Some n) is job answer =
       let same : job_of l h (inputs_at n l.levels) (Level (n + 1)) ≡ job = cc in
@@ -132,7 +132,7 @@ module _ (l : Layout) (h : History) (are : AreLevels l.levels) (drawn : AllByRec
       (one_into (λ (u : Table). list_any (λ (v : Table). u.number == v.number) (tables l) ≡ true) segment (tables l) t (standing_all (tables l)) is, tt)
       (drain_fitted l h segment t are.distinct is) tt some (base_of (numbers_of (t ∷ []))))
 
-  drain_of-well : (segment : ℕ) (o : Option Table) → first_into segment (tables l) ≡ o → (job : Job) → (drain_of l h o).answer ≡ Some job → IsOpenWell (drain_of l h o).layout h job []
+  pub drain_of-well : (segment : ℕ) (o : Option Table) → first_into segment (tables l) ≡ o → (job : Job) → (drain_of l h o).answer ≡ Some job → IsOpenWell (drain_of l h o).layout h job []
   drain_of-well segment None is job answer = absurd cc
   drain_of-well segment (Some t) is job answer =
       let same : job_of l h (t ∷ []) InPlace ≡ job = cc in
