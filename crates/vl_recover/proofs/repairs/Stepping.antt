@@ -27,13 +27,13 @@ log_none {T = T} {E = E} g disk log x is =
 
 -- the new log's making
 pub log_made_at : {D A : Type 0} (g : Ghosts D) (old new : D) (log : Option ℕ) (number : ℕ) (bytes : List ℕ) (outcome : Result A Failed) (result : Result A Name)
-    → log ≡ Some number → bytes ≡ log_header number → result ≡ at_file (Log number) outcome
+    → log ≡ Some number → bytes ≡ log_header log_format number → result ≡ at_file (Log number) outcome
     → Makes g (Log number) bytes old new outcome → MakesLog g log old new result
 log_made_at {A = A} g old new log number bytes outcome result some header is makes =
     subst (λ (l : Option ℕ). MakesLog g l old new result) (sym some)
     (subst (λ (r : Result A Name). MakesLog g (Some number) old new r) (sym is)
-    (performs_at g (made (Log number) (log_header number)) (WhileMaking (Log number) (log_header number)) 3 old new (Log number) outcome
-    (make_performs g old new (Log number) (log_header number) outcome
+    (performs_at g (made (Log number) (log_header log_format number)) (WhileMaking (Log number) (log_header log_format number)) 3 old new (Log number) outcome
+    (make_performs g old new (Log number) (log_header log_format number) outcome
     (subst (λ (b : List ℕ). Makes g (Log number) b old new outcome) header makes))))
 
 -- a fault has the name of the file
