@@ -71,10 +71,7 @@ fn with_said(entries: Vec<Entry>, said: Said) -> Result<Vec<Entry>, AllocError>
 }
 
 // With the entries of these records, the last one's first.
-fn with_records(
-    entries: Vec<Entry>,
-    records: Vec<ReadRecord>,
-) -> Result<Vec<Entry>, AllocError>
+fn with_records(entries: Vec<Entry>, records: Vec<ReadRecord>) -> Result<Vec<Entry>, AllocError>
     ensures { IfOk result (λ all. all.items ≡ entries.items ++ reverse (map entry_of records.items)) }
 {
     let mut all = entries;

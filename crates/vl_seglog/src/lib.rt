@@ -26,7 +26,7 @@ pub use fault::LogFault;
 pub use frame::{Commit, Frame, ReadRecord, Said};
 pub use lengths::LOG_HEADER_BYTES;
 pub use pointer::{POINTER_BYTES, pointer_bytes, read_pointer};
-pub use reading::{LogRead, read_log};
+pub use reading::{LogRead, header_format, read_log, read_next};
 pub use record::{RECORD_HEAD_BYTES, RecordRef, read_record, write_record};
 pub use sealed::{Filled, SealedLog};
 pub use staged::Staged;

@@ -1,6 +1,7 @@
 //! Reading a log.
 
 mod commit;
+mod heading;
 mod moves;
 mod next;
 mod once;
@@ -17,6 +18,7 @@ ghost use Rattle.vl_seglog.specs.Reading.{frame_of, reading_end, reading_of};
 
 use crate::frame::Frame;
 use crate::lengths::LOG_HEADER_BYTES;
+pub use heading::header_format;
 pub use next::read_next;
 use std::alloc::{AllocError, Global};
 use vl_frame::{FileKind, read_header};

@@ -1,11 +1,11 @@
 -- What stands behind a log's header is read frame by frame.
-use Rattle.std.proofs.Common.{◌≡◌, ℕ, ◌+◌, ◌-◌, ◌<◌, ◌^◌, Bool, true, false, List, [], ◌∷◌, ◌++◌, length, map, reverse, refl, sym, ap, subst, ◌∙◌, arith, append_assoc}
+use Rattle.std.proofs.Common.{◌≡◌, ℕ, ◌+◌, ◌-◌, ◌<◌, ◌^◌, true, List, [], ◌∷◌, ◌++◌, length, map, reverse, refl, sym, ap, ◌∙◌, arith, append_assoc}
 use Rattle.std.specs.Prelude.{Result, Ok, Err}
 use Rattle.std.specs.List.{sum_by}
 use Rattle.std.proofs.lemmas.List.{append-nil, map-append, reverse-append}
 use Rattle.std.proofs.lemmas.List.Sums.{sum_by-cons}
 use Rattle.vl_frame.specs.laws.RunLaws.{UnderWay, begins, ends, goes_on, shorter}
-use Rattle.vl_frame.specs.Runs.{StandsAt, StandsNone, item_frame}
+use Rattle.vl_frame.specs.Runs.{StandsAt, StandsNone}
 use Rattle.vl_layout.specs.Logs.{frame_entries, logged_entries}
 use Rattle.vl_model.specs.Frames.{frame_length}
 use Rattle.vl_model.specs.declared.entry.Entry.{Entry}
@@ -53,19 +53,19 @@ counted-more format n place (g ∷ fs) f =
     let there : after + sum_by (frame_length format) fs ≡ place + sum_by (frame_length format) (g ∷ fs) =
     omega (arith, sum_by-cons (frame_length format) g fs) in
     by (counted_frame n place g) (λ m. counted-more format m after fs f
-        ∙ ap (λ (p : ℕ). counted_frame_on (counted format m after fs) p f) there)
+    ∙ ap (λ (p : ℕ). counted_frame_on (counted format m after fs) p f) there)
   where
     by : (w : Result ℕ ℕ)
         → ((m : ℕ) → counted format m (place + frame_length format g) (fs ++ f ∷ [])
-            ≡ counted_frame_on (counted format m (place + frame_length format g) fs) (place + sum_by (frame_length format) (g ∷ fs)) f)
+        ≡ counted_frame_on (counted format m (place + frame_length format g) fs) (place + sum_by (frame_length format) (g ∷ fs)) f)
         → on_ok (λ m. counted format m (place + frame_length format g) (fs ++ f ∷ [])) w
-            ≡ counted_frame_on (on_ok (λ m. counted format m (place + frame_length format g) fs) w) (place + sum_by (frame_length format) (g ∷ fs)) f
+        ≡ counted_frame_on (on_ok (λ m. counted format m (place + frame_length format g) fs) w) (place + sum_by (frame_length format) (g ∷ fs)) f
     by (Ok m) rest = rest m
     by (Err p) rest = refl
 
 logged-more : (format log place : ℕ) (fs : List LogFrame) (f : LogFrame)
     → logged_entries format log place (fs ++ f ∷ [])
-        ≡ frame_entries format log (place + sum_by (frame_length format) fs) f ++ logged_entries format log place fs
+    ≡ frame_entries format log (place + sum_by (frame_length format) fs) f ++ logged_entries format log place fs
 logged-more format log place [] f =
     let here : place ≡ place + 0 = omega arith in
     ap (λ (p : ℕ). frame_entries format log p f) here

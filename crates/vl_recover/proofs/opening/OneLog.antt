@@ -1,6 +1,6 @@
 -- One log that was read.
-use Rattle.std.proofs.Common.{◌≡◌, ℕ, ◌+◌, ◌-◌, ◌<◌, ◌≤◌, Bool, true, false, List, [], ◌∷◌, ◌++◌, length, map, take, drop, reverse, refl, sym, ap, subst, ◌∙◌, arith, ⊎_elim}
-use Rattle.std.specs.Prelude.{min, Option, None, Some, Result, Ok, Err, ◌==◌, ◌&&◌, is_some}
+use Rattle.std.proofs.Common.{◌≡◌, ℕ, ◌-◌, ◌<◌, ◌≤◌, true, false, List, [], ◌∷◌, ◌++◌, length, map, take, drop, reverse, refl, sym, ap, subst, ◌∙◌, arith, ⊎_elim}
+use Rattle.std.specs.Prelude.{min, Option, None, Some, ◌==◌}
 use Rattle.std.specs.FinMap.{get}
 use Rattle.std.proofs.lemmas.Bool.{cases_lt, true≢false}
 use Rattle.std.proofs.lemmas.Bool.Decides.{nat_tests}
@@ -15,13 +15,12 @@ use Rattle.vl_model.specs.Entries.{in_order}
 use Rattle.vl_model.specs.declared.entry.Entry.{Entry}
 use Rattle.vl_model.specs.declared.log_frame.LogFrame.{LogFrame}
 use Rattle.vl_recover.specs.declared.found.Content.{Content}
-use Rattle.vl_recover.specs.declared.found.DamagePlace.{DamagePlace}
 use Rattle.vl_recover.specs.declared.found.LogFound.{LogFound}
 use Rattle.vl_recover.specs.opening.Answers.{HeldLog, held_log}
 use Rattle.vl_recover.specs.opening.LogsSoFar.{FindsLog}
 use Rattle.vl_recover.specs.opening.ReadLogs.{HasNothing, IsContent, IsReadAs, held_content, standing_log}
 use Rattle.vl_recover.specs.opening.Walk.{filled, format_of, has_some}
-use Rattle.vl_seglog.specs.LogReading.{LogReading, ReadsLog, SaysFormat, end_of}
+use Rattle.vl_seglog.specs.LogReading.{LogReading, SaysFormat, end_of}
 use Rattle.vl_seglog.specs.laws.LogReadingLaws.{reads_no_header}
 
 -- ---- its bytes
@@ -115,7 +114,7 @@ module _ (before : ℕ) (log : LogFound) (reading : LogReading) (is : IsReadAs b
           → log.content.entries.items ≡ reverse (logged_entries (format_of header) log.number 16 frames)
           → (header ≡ None → frames ≡ []) → has_some frames ≡ true
           → held_content log.number log.content ∷ []
-              ≡ map held_log (filled (record { number = log.number; length = log.length; reading = record { header = header; frames = frames; whole = false } } ∷ []))
+          ≡ map held_log (filled (record { number = log.number; length = log.length; reading = record { header = header; frames = frames; whole = false } } ∷ []))
       by header [] end entries headless none = absurd (true≢false (sym none))
       by None (f ∷ fs) end entries headless any = absurd (no_cons f fs (headless refl))
         where

@@ -89,7 +89,7 @@ HaveSame es fs = IsRising es → IsRising fs → FindSame es fs → es ≡ fs
 joined : (e f : Entry) (es fs : List Entry) → e ≡ f → HaveSame es fs → HaveSame (e ∷ es) (f ∷ fs)
 joined e f es fs at tails = subst (λ (g : Entry). HaveSame (e ∷ es) (g ∷ fs)) at
     (λ up also same. ap (λ l. e ∷ l) (tails up.1 also.1
-        (λ key version. exact-behind_both key version e es fs up.0 also.0 (same key version))))
+    (λ key version. exact-behind_both key version e es fs up.0 also.0 (same key version))))
 
 same_front : (e f : Entry) (es fs : List Entry) → HaveSame es fs → HaveSame (e ∷ es) (f ∷ fs)
 same_front e f es fs tails up also same = by (entry_cmp e f) refl
@@ -97,14 +97,14 @@ same_front e f es fs tails up also same = by (entry_cmp e f) refl
     by : (r : Ordering) → entry_cmp e f ≡ r → e ∷ es ≡ f ∷ fs
     by Less is =
         absurd (none_is e (sym (exact-head e es) ∙ same e.key e.version
-            ∙ exact-behind e.key e.version (f ∷ fs) (is, before-all e f fs is also.0)))
+        ∙ exact-behind e.key e.version (f ∷ fs) (is, before-all e f fs is also.0)))
     by Greater is =
         let less = turned e f Greater is in
         absurd (none_is f (sym (exact-head f fs) ∙ sym (same f.key f.version)
-            ∙ exact-behind f.key f.version (e ∷ es) (less, before-all f e es less up.0)))
+        ∙ exact-behind f.key f.version (e ∷ es) (less, before-all f e es less up.0)))
     by Equal is =
         let here = some_is e f (sym (exact-head e es) ∙ same e.key e.version
-            ∙ ap (λ b. cond b (Some f) (exact fs e.key e.version)) (is_at-tied e.key e.version f ∙ ap is_eq is)) in
+        ∙ ap (λ b. cond b (Some f) (exact fs e.key e.version)) (is_at-tied e.key e.version f ∙ ap is_eq is)) in
         joined e f es fs here tails up also same
 
 same_entries : (es fs : List Entry) → HaveSame es fs
@@ -135,7 +135,7 @@ module _ (key : List ℕ) (version : ℕ) where
           → exact (dedup_from is_same f es) key version ≡ exact (f ∷ es) key version
           → (r : Ordering) → entry_cmp f e ≡ r
           → exact (cond (is_eq (entry_cmp f e)) (dedup_from is_same e es) (e ∷ dedup_from is_same f es)) key version
-              ≡ exact (e ∷ f ∷ es) key version
+          ≡ exact (e ∷ f ∷ es) key version
       by one other Less is =
           ap (λ r. exact (cond (is_eq r) (dedup_from is_same e es) (e ∷ dedup_from is_same f es)) key version) is
           ∙ ap (cond (is_at key version e) (Some e)) other
@@ -180,8 +180,8 @@ module _ (key : List ℕ) (version : ℕ) where
       by : first_of (filter (ties (λ x y. is_lt (entry_cmp x y)) (place_of key version)) es) ≡ exact es key version → (b : Bool)
           → ties (λ x y. is_lt (entry_cmp x y)) (place_of key version) e ≡ b
           → first_of (cond (ties (λ x y. is_lt (entry_cmp x y)) (place_of key version) e)
-              (e ∷ filter (ties (λ x y. is_lt (entry_cmp x y)) (place_of key version)) es)
-              (filter (ties (λ x y. is_lt (entry_cmp x y)) (place_of key version)) es)) ≡ cond b (Some e) (exact es key version)
+          (e ∷ filter (ties (λ x y. is_lt (entry_cmp x y)) (place_of key version)) es)
+          (filter (ties (λ x y. is_lt (entry_cmp x y)) (place_of key version)) es)) ≡ cond b (Some e) (exact es key version)
       by later true is =
           ap (λ b. first_of (cond b (e ∷ filter (ties (λ x y. is_lt (entry_cmp x y)) (place_of key version)) es) (filter (ties (λ x y. is_lt (entry_cmp x y)) (place_of key version)) es))) is
       by later false is =
@@ -203,6 +203,6 @@ sorted-in_order es sorted up stable =
     (rises (sorted_once sorted) (IsStrictlySortedBy-dedup entry_total (λ x y. refl) sorted up))
     (rising-in_order es)
     (λ key version.
-        exact-dedup key version sorted ∙ sym (exact-ties key version sorted)
-        ∙ ap (first_of key version) (stable (place_of key version))
-        ∙ exact-ties key version es ∙ sym (exact-in_order key version es))
+    exact-dedup key version sorted ∙ sym (exact-ties key version sorted)
+    ∙ ap (first_of key version) (stable (place_of key version))
+    ∙ exact-ties key version es ∙ sym (exact-in_order key version es))

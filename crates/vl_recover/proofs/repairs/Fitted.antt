@@ -6,13 +6,12 @@ use Rattle.std.specs.FinMap.{get}
 use Rattle.vl_disk.specs.Changes.{changed_elsewhere, changed_there}
 use Rattle.vl_disk.specs.Crash.{Image}
 use Rattle.vl_disk.specs.Disk.{IsFree, IsInside, Stands}
-use Rattle.vl_disk.specs.DiskState.{DiskState, File, cut_to, file_at, lengthened, new_file, settled, shortened, synced_file, with_file, without}
+use Rattle.vl_disk.specs.DiskState.{DiskState, File, cut_to, lengthened, new_file, settled, shortened, synced_file, with_file, without}
 use Rattle.vl_disk.specs.MadeFile.{made}
 use Rattle.vl_disk.specs.laws.NameMap.{get_inserted, get_inserted_other, get_removed_other, same_or_other}
 use Rattle.vl_disk.specs.Started.{IsRead}
 use Rattle.vl_disk.specs.declared.name.Name.{Name}
 use Rattle.vl_disk.specs.declared.name.Name.TheVariants.{Log, Manifest}
-use Rattle.vl_layout.specs.Logs.{log_length}
 use Rattle.vl_manifest.specs.declared.state.ManifestState.{ManifestState}
 use Rattle.vl_model.specs.declared.log_frame.LogFrame.{LogFrame}
 use Rattle.vl_recover.specs.opening.Answers.{Finds}

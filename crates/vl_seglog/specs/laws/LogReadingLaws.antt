@@ -30,7 +30,7 @@ one_header_format number bytes format other p q one two =
     let both : big_bytes 4 format ++ (big_bytes 4 number ++ big_bytes 4 0) ≡ big_bytes 4 other ++ (big_bytes 4 number ++ big_bytes 4 0) = ap (drop 4) (sym one ∙ two) in
     (one_number 4 format other _ _ (format_fits format p) (format_fits other q) both).0
 
-one_format : (number : ℕ) (bytes : List ℕ) (header other : Option ℕ) → SaysFormat header number bytes → SaysFormat other number bytes → header ≡ other
+pub one_format : (number : ℕ) (bytes : List ℕ) (header other : Option ℕ) → SaysFormat header number bytes → SaysFormat other number bytes → header ≡ other
 one_format number bytes (Some a) (Some b) p q = ap Some (one_header_format number bytes a b p.0 q.0 p.1 q.1)
 one_format number bytes (Some a) None p q = absurd (q a p.0 p.1)
 one_format number bytes None (Some b) p q = absurd (p b q.0 q.1)

@@ -1,4 +1,4 @@
-use Rattle.std.proofs.Common.{◌++◌, ◌∷◌, [], List, ap, ◌∙◌}
+use Rattle.std.proofs.Common.{◌++◌, ◌∷◌, [], ap, ◌∙◌}
 use Rattle.vl_model.specs.declared.entry.Entry.{Entry}
 use Rattle.vl_recover.proofs.opening.Contents.{one_put}
 use Rattle.vl_recover.proofs.content.with_records.Goals as goal

@@ -1,10 +1,6 @@
-use Rattle.std.proofs.Common.{◌≡◌, Bool, Option, ap, map, ◌∙◌}
+use Rattle.std.proofs.Common.{◌≡◌, Option, ap, map, ◌∙◌}
 use Rattle.std.specs.Prelude.{ℕ, Some}
-use Rattle.vl_recover.specs.declared.found.LastLog.{LastLog}
-use Rattle.vl_recover.specs.declared.parts.FrozenLog.{FrozenLog}
-use Rattle.vl_recover.specs.opening.Finding.{last_log}
 use Rattle.vl_recover.specs.opening.LogsSoFar.{number_before}
-use Rattle.vl_recover.specs.opening.ReadLogs.{standing_log}
 use Rattle.vl_recover.specs.opening.Results.{frozen_log}
 use Rattle.vl_recover.specs.opening.Walk.{keeps_header}
 use Rattle.vl_recover.proofs.opening.OneLog.{frozen_with, frozen_without}

@@ -1,4 +1,4 @@
-use Rattle.std.proofs.Common.{◌≡◌, ◌∙◌, rules}
+use Rattle.std.proofs.Common.{◌∙◌, rules}
 use Rattle.std.specs.Ordering.{is_lt}
 use Rattle.std.proofs.lemmas.Fn.{dedup_same}
 use Rattle.std.proofs.lemmas.List.Sorted.{answers_always, ranks_by}
@@ -14,5 +14,5 @@ returns c =
     let compares = answers_always _ _ _ (λ f a r g h. search rules) in
     dedup_same _ is_same _ (λ x y b f' x' y' k. search rules) _ _ c.dedup_by.ensures.filtered
     ∙ sorted-in_order _ _
-        (c.in_ok-sort_by.ensures.sorted (λ x y. is_lt (entry_cmp x y)) weak compares)
-        (c.sort_by.ensures.stable (λ x y. is_lt (entry_cmp x y)) weak compares)
+    (c.in_ok-sort_by.ensures.sorted (λ x y. is_lt (entry_cmp x y)) weak compares)
+    (c.sort_by.ensures.stable (λ x y. is_lt (entry_cmp x y)) weak compares)

@@ -3,10 +3,10 @@ use Rattle.std.specs.Prelude.{Bool, ◌≡◌, ◌≢◌, ◌⊎◌, ◌≤◌, 
 use Rattle.std.specs.FinMap.{get}
 use Rattle.std.specs.List.{AllByRecursion, sum_by}
 use Rattle.std.specs.Option.{option_map}
-use Rattle.std.proofs.Common.{sym, ap, subst, ◌∙◌, append_assoc, arith, inl, inr, ⊎_elim}
+use Rattle.std.proofs.Common.{sym, ap, subst, ◌∙◌, arith, inl, inr, ⊎_elim}
 use Rattle.std.proofs.lemmas.Bool.{true≢false}
 use Rattle.std.proofs.lemmas.Bool.Decides.{nat_tests}
-use Rattle.std.proofs.lemmas.List.{map-append, take_all, take_at}
+use Rattle.std.proofs.lemmas.List.{map-append, take_all}
 use Rattle.std.proofs.lemmas.List.Sums.{sum_by-cons}
 use Rattle.vl_disk.specs.Changes.{SameElsewhere, changed_elsewhere, changed_there}
 use Rattle.vl_disk.specs.Chance.{none_by_chance}
@@ -16,7 +16,7 @@ use Rattle.vl_disk.specs.laws.Lawful.{appended_lawful, synced_lawful}
 use Rattle.vl_disk.specs.laws.NameMap.{same_or_other}
 use Rattle.vl_disk.specs.declared.name.Name.{Name}
 use Rattle.vl_disk.specs.declared.name.Name.TheVariants.{Log, Manifest}
-use Rattle.vl_frame.specs.Runs.{HasFrame, run_bytes}
+use Rattle.vl_frame.specs.Runs.{HasFrame}
 use Rattle.vl_layout.specs.Logs.{log_length, new_segment}
 use Rattle.vl_layout.specs.declared.segment.Segment.{Segment}
 use Rattle.vl_manifest.specs.declared.state.ManifestState.{ManifestState}
@@ -39,8 +39,8 @@ use Rattle.vl_recover.specs.crash.Starts.{AllMayStand, MayOpen, MayStand}
 use Rattle.vl_recover.specs.opening.Stages.{on_ok}
 use Rattle.vl_recover.specs.laws.crash.TornFrames.{due_as_read, frame_behind, headed_front, torn_log, torn_says}
 use Rattle.vl_recover.specs.opening.Walk.{LogDamage, StandingLog, counted, counted_behind, counted_frame, counted_whole, filled, in_log, walked, walked_on, with_frames}
-use Rattle.vl_seglog.specs.laws.FrameLaws.{length-log_header, log_bytes-more}
-use Rattle.vl_seglog.specs.Frames.{frames_grammar, log_bytes, log_header}
+use Rattle.vl_seglog.specs.laws.FrameLaws.{log_bytes-more}
+use Rattle.vl_seglog.specs.Frames.{frames_grammar, log_bytes}
 use Rattle.vl_model.specs.Formats.{log_format}
 use Rattle.vl_seglog.specs.LogReading.{HasHeader, IsLogFormat, LogReading, ReadsLog}
 use Rattle.vl_seglog.specs.laws.LogReadingLaws.{SaysFrames, reads_written}

@@ -221,12 +221,15 @@ said_format number bytes = ⊎_elim
     (λ (first : HasHeader 1 number bytes). (Some 1, (record { least = omega arith; greatest = omega arith }, first)))
     (λ (not_first : HasHeader 1 number bytes → ⊥). ⊎_elim
     (λ (second : HasHeader 2 number bytes). (Some 2, (record { least = omega arith; greatest = omega arith }, second)))
-    (λ (not_second : HasHeader 2 number bytes → ⊥). (None, λ format is has. ⊎_elim
-    (λ (low : format < 2). let one : format ≡ 1 = (let least = is.least in omega (arith, low, least)) in
-    not_first (subst (λ (n : ℕ). HasHeader n number bytes) one has))
-    (λ (high : 2 ≤ format). let two : format ≡ 2 = (let most = is.greatest in omega (arith, high, most)) in
-    not_second (subst (λ (n : ℕ). HasHeader n number bytes) two has))
-    (cases_lt format 2)))
+    (λ (not_second : HasHeader 2 number bytes → ⊥). (
+      None,
+      λ format is has. ⊎_elim
+          (λ (low : format < 2). let one : format ≡ 1 = (let least = is.least in omega (arith, low, least)) in
+          not_first (subst (λ (n : ℕ). HasHeader n number bytes) one has))
+          (λ (high : 2 ≤ format). let two : format ≡ 2 = (let most = is.greatest in omega (arith, high, most)) in
+          not_second (subst (λ (n : ℕ). HasHeader n number bytes) two has))
+          (cases_lt format 2),
+    ))
     (header_or_not 2 number bytes))
     (header_or_not 1 number bytes)
 
@@ -419,17 +422,17 @@ module _ (number len : ℕ) (file : File) where
     is_read,
     header_longer format bytes header,
     (
-    item,
-    rest ++ drop len bytes,
-    record {
-      lawful = stands.lawful;
-      short = stands.short;
-      spelled = ap (drop at) (sym (take-append-drop len bytes))
-          ∙ drop-append-le at (take len bytes) (drop len bytes) within
-          ∙ ap (λ (b : List ℕ). b ++ drop len bytes) stands.spelled
-          ∙ append_assoc (item_frame (frames_grammar format) number at item) rest (drop len bytes);
-    },
-    is,
+      item,
+      rest ++ drop len bytes,
+      record {
+        lawful = stands.lawful;
+        short = stands.short;
+        spelled = ap (drop at) (sym (take-append-drop len bytes))
+            ∙ drop-append-le at (take len bytes) (drop len bytes) within
+            ∙ ap (λ (b : List ℕ). b ++ drop len bytes) stands.spelled
+            ∙ append_assoc (item_frame (frames_grammar format) number at item) rest (drop len bytes);
+      },
+      is,
     ),
   )
     where

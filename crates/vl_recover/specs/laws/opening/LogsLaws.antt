@@ -1,5 +1,5 @@
 -- The logs from head on as they stand on a disk, before and after the last one is repaired.
-use Rattle.std.specs.Prelude.{◌≡◌, ◌≢◌, ◌⊎◌, ℕ, ◌+◌, ◌≤◌, ◌<◌, ◌==◌, Bool, List, [], ◌∷◌, length, map, Option, None, Some, Result, Ok, Err, if◌then◌else◌, false, true, refl}
+use Rattle.std.specs.Prelude.{◌≡◌, ◌≢◌, ◌⊎◌, ℕ, ◌+◌, ◌≤◌, ◌<◌, ◌==◌, Bool, List, [], ◌∷◌, length, Option, None, Some, Result, Ok, Err, if◌then◌else◌, false, true, refl}
 use Rattle.std.specs.FinMap.{get}
 use Rattle.std.specs.Option.{option_map}
 use Rattle.std.proofs.Common.{ap, arith, inl, inr, subst, sym, ◌∙◌, ⊎_elim}
@@ -10,14 +10,13 @@ use Rattle.vl_disk.specs.DiskState.{DiskState, File, IsLawful, lengthened, settl
 use Rattle.vl_disk.specs.Started.{IsRead}
 use Rattle.vl_disk.specs.declared.name.Name.{Name}
 use Rattle.vl_disk.specs.declared.name.Name.TheVariants.{Log}
-use Rattle.vl_layout.specs.Logs.{log_length}
 use Rattle.vl_manifest.specs.declared.state.ManifestState.{ManifestState}
 use Rattle.vl_recover.specs.laws.crash.AlikeLaws.{LastIsWhole, log_same}
 use Rattle.vl_recover.specs.opening.Answers.{as_segments}
 use Rattle.vl_recover.specs.crash.Held.{HoldsLogs, IsNowhere}
 use Rattle.vl_recover.specs.laws.opening.HeldLaws.{left_nowhere, left_settled}
 use Rattle.vl_recover.specs.laws.opening.LeadsLaws.{nowhere_kept, settled_kept}
-use Rattle.vl_recover.specs.laws.repairing.LastLaws.{IsLastWritten, IsWritten, LastStands, RepairsLast, whole_bytes, wrong_header}
+use Rattle.vl_recover.specs.laws.repairing.LastLaws.{IsLastWritten, IsWritten, LastStands, RepairsLast, whole_bytes}
 use Rattle.vl_recover.specs.repairing.Repairing.{Cut, Headed, Kept, LastLog, Rewritten, behind_last, headed, last_of, repairing_of}
 use Rattle.vl_recover.specs.laws.crash.OneName.{elsewhere_then}
 use Rattle.vl_recover.specs.opening.Opening.{IsNextLog, StandingLogs}
