@@ -1,11 +1,15 @@
 -- A manifest's frames are searched for the first that names a table.
 use Rattle.std.proofs.Common.{◌≡◌, ℕ, ◌+◌, List, [], ◌∷◌, length, refl, ap, subst, ◌∙◌}
-use Rattle.std.specs.Prelude.{true, false, Bool, Option, None, Some, if◌then◌else◌}
+use Rattle.std.specs.Prelude.{true, false, Bool, Option, None, Some, Result, Ok, Err, if◌then◌else◌}
 use Rattle.vl_frame.specs.Begins.{placed}
 use Rattle.vl_frame.specs.Runs.{StandsAt, StandsNone, item_frame}
 use Rattle.vl_manifest.specs.declared.edit.Edit.{Edit}
 use Rattle.vl_manifest.specs.Grammar.{edits_grammar}
-use Rattle.vl_manifest.specs.Tables.{NamesBehind, first_of_tables, names_tables}
+use Rattle.vl_manifest.specs.declared.fails.StateFail.{StateFail}
+use Rattle.vl_manifest.specs.declared.fails.StateFail.TheVariants.{Damaged, NoMemory}
+use Rattle.vl_manifest.specs.declared.state.ManifestState.{ManifestState}
+use Rattle.vl_manifest.specs.Reading.{AnswersSo}
+use Rattle.vl_manifest.specs.Tables.{AnswersWithoutTables, NamesBehind, NamesFirst, first_of_both, first_of_tables, names_tables}
 
 -- behind a frame that names no table
 names_on : (format number at : ℕ) (rest : List ℕ) (edits : List Edit) (after : List ℕ) (place : Option ℕ)
@@ -48,3 +52,13 @@ pub names_here : (format number : ℕ) (whole : List ℕ) (at : ℕ) (rest : Lis
     → names_tables edits ≡ true → NamesBehind format number 16 whole (Some at)
 names_here format number whole at rest edits after so_far stands some =
     so_far.completes (Some at) (edits ∷ [], (after, stands, tt), ap (λ (b : Bool). if b then Some at else None) some)
+
+-- what a store is told that can't open tables
+pub told_first : (number : ℕ) (bytes : List ℕ) (first : Option ℕ) (read : Result ManifestState StateFail)
+    → NamesFirst number bytes first → AnswersSo number bytes read → AnswersWithoutTables number bytes (first_of_both first read)
+told_first number bytes None (Ok state) names says = record { says = says; bare = names }
+told_first number bytes None (Err NoMemory) names says = tt
+told_first number bytes None (Err (Damaged place)) names says = (None, Err place, names, says, refl)
+told_first number bytes (Some place) (Ok state) names says = (Some place, Ok state, names, says, refl)
+told_first number bytes (Some place) (Err NoMemory) names says = tt
+told_first number bytes (Some place) (Err (Damaged other)) names says = (Some place, Err other, names, says, refl)

@@ -2,6 +2,7 @@
 pub mod CurrentLaws
 pub mod EditLaws
 pub mod FlushLaws
+pub mod MadeLaws
 pub mod ManifestLaws
 pub mod StateLaws
 pub mod SwitchLaws

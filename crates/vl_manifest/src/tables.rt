@@ -4,10 +4,12 @@ ghost use Rattle.std.specs.Prelude.{◌≡◌, IfOk};
 ghost use Rattle.vl_manifest.specs.Tables as spec;
 
 use crate::edit::Edit;
+use crate::fails::StateFail;
 use crate::frames::behind_header;
 use crate::manifest_log::ManifestLog;
 use crate::reading::read_edits;
 use crate::saying::{FIRST_FRAME, format_of};
+use crate::state::ManifestState;
 use std::alloc::{AllocError, Global};
 
 impl ManifestLog {
@@ -25,6 +27,38 @@ impl ManifestLog {
         };
         let place = first_behind(alloc, behind_header(bytes), format, number)?;
         Ok(place)
+    }
+
+    /// The state that the frames of the manifest with this number make, or the place of the first damage, for a store that
+    /// can't open tables: a frame that adds or drops one is damaged too.
+    pub fn read_without_tables(
+        alloc: Global,
+        bytes: &[u8],
+        number: u32,
+    ) -> Result<ManifestState, StateFail>
+        ensures { spec.AnswersWithoutTables number bytes.now result }
+    {
+        let first = ManifestLog::first_of_tables(alloc, bytes, number)?;
+        first_of_both(first, ManifestLog::read(alloc, bytes, number))
+    }
+}
+
+// The answer, by the first frame that names a table and by what was read otherwise.
+fn first_of_both(
+    first: Option<u64>,
+    read: Result<ManifestState, StateFail>,
+) -> Result<ManifestState, StateFail>
+    ensures { result ≡ spec.first_of_both first read }
+{
+    let Some(place) = first else {
+        return read;
+    };
+    match read {
+        Ok(_) => Err(StateFail::Damaged { place }),
+        Err(StateFail::NoMemory) => Err(StateFail::NoMemory),
+        Err(StateFail::Damaged { place: other }) => Err(StateFail::Damaged {
+            place: place.min(other),
+        }),
     }
 }
 
