@@ -12,7 +12,7 @@ use Rattle.vl_model.specs.declared.pointer.Pointer.{Pointer}
 use Rattle.vl_seglog.specs.Record.{IsTag, head_bytes, record_bytes}
 use Rattle.vl_seglog.specs.Stored.{LeadsTo, stored_at}
 use Rattle.vl_seglog.specs.laws.RecordLaws.{least_record, length-head_bytes, length-record_bytes}
-use Rattle.vl_seglog.proofs.StoredLaws.{leads_stored, stored_leads}
+use Rattle.vl_seglog.specs.laws.StoredLaws.{leads_stored, stored_leads}
 
 none_or : (found : Option Stored) → ((value : Stored) → found ≡ Some value → ⊥) → found ≡ None
 none_or None other = refl
