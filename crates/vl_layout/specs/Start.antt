@@ -1,5 +1,6 @@
 -- The layout that an opening leaves. Only here are all of its parts written.
 use Rattle.std.specs.Prelude.{ℕ, List, [], ◌∷◌, None}
+use Rattle.vl_model.specs.Formats.{log_format}
 use Rattle.vl_layout.specs.Logs.{new_segment}
 use Rattle.vl_layout.specs.declared.layout.Layout.{Layout}
 use Rattle.vl_layout.specs.declared.segment.Segment.{Segment}
@@ -48,7 +49,7 @@ no_tables = [] ∷ [] ∷ [] ∷ [] ∷ [] ∷ [] ∷ [] ∷ []
 -- of a new store
 abbrev pub fresh_layout : ℕ → Layout
 fresh_layout room = layout_at_start room (record {
-  active = new_segment 1 [];
+  active = new_segment log_format 1 [];
   frozen = [];
   others = [];
   levels = no_tables;

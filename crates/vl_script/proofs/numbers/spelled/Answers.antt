@@ -1,6 +1,6 @@
 use Rattle.std.proofs.Common.{◌≡◌, ◌<◌, ⊎_elim, inl, inr, ◌∙◌, sym, true, false, arith}
-use Rattle.vl_cli.proofs.Numbers.{no_number, other_number, this_number}
-use Rattle.vl_cli.proofs.command_line.words.number.Goals as goal
+use Rattle.vl_script.proofs.Spelling.{no_number, other_number, this_number}
+use Rattle.vl_script.proofs.numbers.spelled.Goals as goal
 
 pub returns-in_err-number : goal.returns-in_err-number
 returns-in_err-number c =
