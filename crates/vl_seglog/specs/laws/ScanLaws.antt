@@ -1,6 +1,6 @@
 -- What the definition of a log's scan says: from place 16 on, each time from where the last frame ended, it gives the log's frames in their order, and finds
 -- no damage before their end.
-use Rattle.std.specs.Prelude.{◌≡◌, ℕ, ◌+◌, ◌==◌, List, [], ◌∷◌, ◌++◌, Bool, true, false, length, drop, refl, Option, Some, None}
+use Rattle.std.specs.Prelude.{◌≡◌, ℕ, ◌+◌, ◌==◌, List, [], ◌∷◌, ◌++◌, false, length, drop, refl, Option, Some, None}
 use Rattle.std.specs.List.{sum_by}
 use Rattle.std.proofs.Common.{sym, ap, subst, ◌∙◌, length-append, arith}
 use Rattle.std.proofs.Math.Seq.{drop-drop}
@@ -8,7 +8,7 @@ use Rattle.std.proofs.lemmas.Bool.Decides.{nat_tests}
 use Rattle.std.proofs.lemmas.List.{append-nil, drop_at, length-drop}
 use Rattle.std.proofs.lemmas.List.Sums.{sum_by-cons}
 use Rattle.vl_frame.specs.laws.RunLaws as runs
-use Rattle.vl_frame.specs.Runs.{ReadsAs, StandsAt, item_frame}
+use Rattle.vl_frame.specs.Runs.{ReadsAs, item_frame}
 use Rattle.vl_model.specs.Frames.{frame_length}
 use Rattle.vl_model.specs.declared.log_frame.LogFrame.{LogFrame}
 use Rattle.vl_seglog.specs.Frames.{frames_end, frames_grammar}
@@ -17,7 +17,6 @@ use Rattle.vl_seglog.specs.Reading.{frame_of}
 use Rattle.vl_seglog.specs.Sealed.{IsFound, IsTorn}
 use Rattle.vl_seglog.specs.declared.frame.Frame.{Frame}
 use Rattle.vl_seglog.specs.laws.FrameLaws.{length-item_frame}
-use Rattle.vl_seglog.specs.laws.LogReadingLaws.{frames_within}
 
 -- the first of these is found, and nothing where there are none
 abbrev pub IsFirst : List LogFrame → Option Frame → Type 0

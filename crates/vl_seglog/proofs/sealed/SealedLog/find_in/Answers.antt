@@ -1,4 +1,4 @@
-use Rattle.std.proofs.Common.{◌≡◌, ◌+◌, ℕ, Some, length, refl, sym, ap, ◌∙◌, arith}
+use Rattle.std.proofs.Common.{◌+◌, ℕ, Some, length, refl, sym, ap, ◌∙◌, arith}
 use Rattle.vl_disk.specs.DiskState.{bytes_at}
 use Rattle.vl_model.specs.Formats.{record_head}
 use Rattle.vl_model.specs.Keys.{tagged}

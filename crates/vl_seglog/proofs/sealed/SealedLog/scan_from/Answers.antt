@@ -1,4 +1,4 @@
-use Rattle.std.proofs.Common.{◌≡◌, ℕ, List, Some, refl, sym, subst, ◌∙◌, length, arith}
+use Rattle.std.proofs.Common.{◌≡◌, Some, refl, sym, subst, ◌∙◌, length, arith}
 use Rattle.vl_disk.specs.DiskState.{bytes_at}
 use Rattle.vl_seglog.proofs.AnswerSteps.{and_then, then_gives, then_refuses}
 use Rattle.vl_seglog.proofs.Cut.{cut_from}
