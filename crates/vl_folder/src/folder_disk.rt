@@ -118,22 +118,19 @@ impl<R: Files<File = File> + Eprint + Copy> Disk for FolderDisk<R> {
     ghost counts_past = { λ _ _ past. absurd past };
 
     fn list(&mut self, alloc: Global) -> Result<Vec<Name>, DiskFail> {
-        match self.folder.list(alloc) {
-            Ok(names) => Ok(names),
-            Err(FolderError::NoMemory) => Err(DiskFail::NoMemory),
-            Err(FolderError::NoFileAt(name)) => {
-                self.count(Some(name), &FolderError::NoFile);
-                Err(DiskFail::Failed)
-            }
-            Err(FolderError::SystemAt(name, error)) => {
-                self.count(Some(name), &FolderError::System(error));
-                Err(DiskFail::Failed)
-            }
+        let names = match self.folder.list(alloc) {
+            Ok(names) => names,
+            Err(FolderError::NoMemory) => return Err(DiskFail::NoMemory),
             Err(error) => {
                 self.count(None, &error);
-                Err(DiskFail::Failed)
+                return Err(DiskFail::Failed);
             }
+        };
+        if let Err((name, error)) = self.folder.look_at(&names) {
+            self.count(Some(name), &error);
+            return Err(DiskFail::Failed);
         }
+        Ok(names)
     }
 
     fn size(&mut self, name: Name) -> Result<u64, Failed> {

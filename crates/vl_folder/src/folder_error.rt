@@ -3,7 +3,6 @@ use std::alloc::{AllocError, AllocFailed};
 use std::io;
 use std::io::Eprint;
 use thiserror::Error;
-use vl_disk::Name;
 
 #[derive(Debug, Drop, Error)]
 pub enum FolderError {
@@ -15,10 +14,6 @@ pub enum FolderError {
     Moved,
     #[error("it is no plain file")]
     NoFile,
-    #[error("a file of it is no plain file")]
-    NoFileAt(Name),
-    #[error("{1}")]
-    SystemAt(Name, io::Error),
     #[error("it isn't the file that it was")]
     Replaced,
     #[error("an earlier sync of it failed")]
