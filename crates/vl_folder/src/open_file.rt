@@ -76,7 +76,7 @@ impl OpenFile {
 
     pub fn cut(&mut self, len: u64) -> Result<(), FolderError> {
         if len > self.size()? {
-            return Err(FolderError::System(io::Error::from(ErrorKind::InvalidInput)));
+            return Err(FolderError::from(io::Error::from(ErrorKind::InvalidInput)));
         }
         let cut = self.file()?.set_len(len);
         self.changed(match cut {

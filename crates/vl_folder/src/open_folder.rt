@@ -63,7 +63,7 @@ impl OpenFolder {
         match self.handle.try_lock() {
             Ok(()) => Ok(()),
             Err(TryLockError::WouldBlock) => Err(FolderError::InUse),
-            Err(TryLockError::Error(error)) => Err(FolderError::System(error)),
+            Err(TryLockError::Error(error)) => Err(FolderError::from(error)),
         }
     }
 
@@ -85,7 +85,7 @@ impl OpenFolder {
         if !self.durable {
             if let Err(error) = self.handle.sync_all() {
                 self.lost.store(true, Ordering::SeqCst);
-                return Err(FolderError::System(error));
+                return Err(FolderError::from(error));
             }
             self.durable = true;
         }
