@@ -1,5 +1,6 @@
 use crate::setting::{
-    LOG, TABLE, disk_over, four_of, has_bytes, has_only, has_two, inside, is_long, made_disk, make_four, over, write,
+    LOG, TABLE, disk_over, four_of, has_bytes, has_only, has_two, inside, is_long, made_disk,
+    make_four, over, write,
 };
 use std::os::unix::fs::symlink;
 use std::test::Fail;
@@ -45,10 +46,12 @@ fn holds(rt: &HostRuntime, path: &str) -> Result<bool, Fail> {
     may_be_shared(&first);
     may_be_sent(&reader);
     let copy = first.clone()?;
-    Ok(copy.len() == 4
-        && four_of(&mut reader, &copy) == Some(1)
-        && four_of(&mut reader, &second) == Some(2)
-        && disk.list(rt.alloc())?.is_empty())
+    Ok(
+        copy.len() == 4
+            && four_of(&mut reader, &copy) == Some(1)
+            && four_of(&mut reader, &second) == Some(2)
+            && disk.list(rt.alloc())?.is_empty(),
+    )
 }
 
 #[test]

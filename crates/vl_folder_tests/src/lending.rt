@@ -1,7 +1,7 @@
 use crate::setting::{LOG, TABLE, has_bytes, inside, is_long, made_disk, make_four, over};
 use std::fs::{File, OpenOptions};
-use std::test::Fail;
 use std::io;
+use std::test::Fail;
 use vl_disk::{Disk, HeldFile, Writer};
 
 fn may_be_sent<T: Send>(_sent: &T) {}

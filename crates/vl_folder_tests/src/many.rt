@@ -1,4 +1,4 @@
-use crate::setting::{LOG, Folder, four_of, made_disk, make_four, over};
+use crate::setting::{Folder, LOG, four_of, made_disk, make_four, over};
 use std::io::Read;
 use std::rt::Files;
 use std::test::Fail;

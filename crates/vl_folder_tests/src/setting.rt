@@ -67,12 +67,7 @@ pub fn write(rt: &HostRuntime, folder: &str, name: &str, bytes: &[u8]) -> Result
 }
 
 /// Whether a file of a folder has these bytes.
-pub fn has_bytes(
-    rt: &HostRuntime,
-    folder: &str,
-    name: &str,
-    bytes: &[u8],
-) -> Result<bool, Fail> {
+pub fn has_bytes(rt: &HostRuntime, folder: &str, name: &str, bytes: &[u8]) -> Result<bool, Fail> {
     let found = fs::read(rt, inside(rt, folder, name)?)?;
     Ok(found.as_slice() == bytes)
 }
@@ -101,10 +96,7 @@ pub fn make_four(disk: &mut Folder<'_>, name: Name, number: u32) -> Result<(), F
 }
 
 /// The number that the first four bytes of a held file spell, if they can be read.
-pub fn four_of(
-    reader: &mut FolderReader<&HostRuntime>,
-    held: &FolderHeld,
-) -> Option<u32> {
+pub fn four_of(reader: &mut FolderReader<&HostRuntime>, held: &FolderHeld) -> Option<u32> {
     if held.len() < 4 {
         return None;
     }

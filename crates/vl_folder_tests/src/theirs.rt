@@ -72,9 +72,11 @@ fn leaves_a_link(rt: &HostRuntime, path: &str) -> Result<bool, Fail> {
     write(rt, path, "theirs", b"theirs")?;
     symlink(rt, "theirs", &inside(rt, path, "0000000001.vlog")?)?;
     let refused = refuses_what_stands(rt, path)?;
-    Ok(refused
-        && has_bytes(rt, path, "theirs", b"theirs")?
-        && has_bytes(rt, path, "0000000001.vlog", b"theirs")?)
+    Ok(
+        refused
+            && has_bytes(rt, path, "theirs", b"theirs")?
+            && has_bytes(rt, path, "0000000001.vlog", b"theirs")?,
+    )
 }
 
 #[test]
@@ -115,10 +117,12 @@ fn misses_its_folder(rt: &HostRuntime, top: &str) -> Result<bool, Fail> {
     make_four(&mut disk, LOG, 1)?;
     let moved = refuses_moved(rt, top, &mut disk)?;
     let replaced = refuses_replaced(rt, top, &mut disk)?;
-    Ok(moved
-        && replaced
-        && has_bytes(rt, top, "store/0000000001.vlog", b"theirs")?
-        && has_bytes(rt, top, "moved/0000000001.vlog", &[0, 0, 0, 1])?)
+    Ok(
+        moved
+            && replaced
+            && has_bytes(rt, top, "store/0000000001.vlog", b"theirs")?
+            && has_bytes(rt, top, "moved/0000000001.vlog", &[0, 0, 0, 1])?,
+    )
 }
 
 #[test]
