@@ -68,9 +68,9 @@ layout_at_start room found = record {
 abbrev pub no_tables : List (List Table)
 no_tables = [] ∷ [] ∷ [] ∷ [] ∷ [] ∷ [] ∷ [] ∷ []
 
--- of a new store
-abbrev pub fresh_layout : ℕ → Layout
-fresh_layout room = layout_at_start room (record {
+-- an opening found nothing, and made the first log
+abbrev pub nothing_found : Recovered
+nothing_found = record {
   levels = no_tables;
   logs = [];
   below = [];
@@ -81,7 +81,11 @@ fresh_layout room = layout_at_start room (record {
   keep = 1;
   since = 0;
   gone = 0;
-})
+}
+
+-- of a new store
+abbrev pub fresh_layout : ℕ → Layout
+fresh_layout room = layout_at_start room nothing_found
 
 -- ---- what is so of what an opening found
 

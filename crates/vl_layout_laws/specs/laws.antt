@@ -24,6 +24,7 @@ pub mod PlanOpen
 pub mod Planned
 pub mod Roomy
 pub mod RulingStocked
+pub mod Starting
 pub mod Steps
 pub mod Stock
 pub mod Streaming

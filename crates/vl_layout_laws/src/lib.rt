@@ -10,4 +10,4 @@ pub use laws::{
     files_stay_tidy, jobs_leave_files_tidy, levels_stay_tidy, live_bytes_after_a_switch, numbers_are_drawn_once,
     shown_from_low_stays,
 };
-pub use tidy::an_engine_stays_tidy;
+pub use tidy::{a_start_is_tidy, an_engine_stays_tidy};
