@@ -13,7 +13,7 @@ use Rattle.vl_layout.specs.Start.{layout_at_start}
 use Rattle.vl_layout.specs.Tables.{new_table}
 use Rattle.vl_layout.specs.Sources.{tables}
 use Rattle.vl_layout.specs.Store.Lines.{Line, Begin, View, Get, GetTagged, GetAt, Set, SetTagged, Delete, Scan, Commit, Drop, Rotate, Flush, Plan, Drain, Install, Pick, Batch, Move, Sweep, Stats, Keep, Answer, Done, Number, Value, ValueTagged, NoValue, Dropped, Rows, Taken, Unknown, ReadOnly, Invalid, TooMany, Nothing, Conflict, Full, Raced, Rejected, NoRewrite, Found, End, Moved, Removed, Segments}
-use Rattle.vl_layout.specs.Store.Dispatch.{answers, answers_until, new_store, state_behind}
+use Rattle.vl_layout.specs.Store.Dispatch.{answers, answers_until, calls_of, new_store, state_behind}
 use Rattle.vl_layout.specs.Store.Things.{State}
 use Rattle.vl_layout.specs.declared.live.Live.{Live}
 use Rattle.vl_layout.specs.declared.segment.SegmentStat.{SegmentStat}
@@ -194,7 +194,15 @@ pinned : answers store (first_version ++ View o ∷ moved_once ++ Drop g ∷ Swe
     ≡ first_answers ++ Number 1 ∷ Number 1 ∷ Found 1 ∷ Moved 1 ∷ Done ∷ Removed 0 ∷ Number 0 ∷ Done ∷ Removed 0 ∷ Value long ∷ Done ∷ Removed 2 ∷ []
 pinned = refl
 
--- the move's append is the seventeenth call that changes files, its sync the next
+-- behind the six calls of an opening; the move's append is the seventeenth call that changes files, its sync the next
+calls_made : calls_of store (first_version ++ moved_once) ≡ 0 ∷ 0 ∷ 2 ∷ 3 ∷ 5 ∷ 0 ∷ 0 ∷ 2 ∷ []
+calls_made = refl
+
+-- and with a merge, two removals, and a second rotation and flush thirty are made
+calls_to_the_end : calls_of (state_behind store (first_version ++ moved_once)) (Drop g ∷ Sweep ∷ Drain j 1 ∷ Install j ∷ Sweep ∷ View v ∷ Get v k1 ∷ Rotate ∷ Flush ∷ [])
+    ≡ 0 ∷ 0 ∷ 0 ∷ 2 ∷ 2 ∷ 0 ∷ 0 ∷ 3 ∷ 5 ∷ []
+calls_to_the_end = refl
+
 stopped_in_a_move : map (λ (stop : ℕ). length (answers_until stop 6 store (first_version ++ moved_once))) (16 ∷ 17 ∷ 18 ∷ []) ≡ 7 ∷ 7 ∷ 8 ∷ []
 stopped_in_a_move = refl
 
@@ -211,6 +219,11 @@ picked_once = refl
 full_log : answers (new_store 100) (sets k1 n1 ++ sets k1 n1 ++ sets k1 n1 ++ Rotate ∷ Commit t ∷ [])
     ≡ Number 0 ∷ Done ∷ Number 1 ∷ Number 1 ∷ Done ∷ Number 2 ∷ Number 2 ∷ Done ∷ Full 86 35 ∷ Number 1 ∷ Number 3 ∷ []
 full_log = refl
+
+-- ---- one long write
+
+one_write_told : answers store (sets (1 ∷ 0xbf ∷ []) (replicate 123 1) ++ Stats ∷ []) ≡ Number 0 ∷ Done ∷ Number 1 ∷ Segments (stat 1 158 0 ∷ []) ∷ []
+one_write_told = refl
 
 -- ---- own writes in a scan
 

@@ -73,8 +73,8 @@ pub fn jobs_leave_files_tidy()
     ensures plan { (l : Layout) (h : History) → IsWellStocked l → IsWellStocked (plan_ruling l h).layout }
     ensures drain { (l : Layout) (h : History) (segment : ℕ) → IsWellStocked l → IsWellStocked (drain_ruling l h segment).layout }
     ensures fresh { (l : Layout) (h : History) → IsWellStocked l → IsWellStocked (fresh_ruling l h).layout }
-    ensures abandon { (l : Layout) (h : History) (made : Made) → AreLent (lent_numbers l.job) made → IsWellStocked l
-        → IsWellStocked (abandon_ruling l h made).layout }
+    ensures abandon { (l : Layout) (h : History) (job : Job) (made : Made) → AreLent (lent_numbers l.job) made → IsWellStocked l
+        → IsWellStocked (abandon_ruling l h job made).layout }
     ensures install { (l : Layout) (h : History) (o : OpenJob) (made : Made) → l.job ≡ Some o → AreLent o.lent made → AreOutputs o.job made
         → IsOpenWell l h o.job o.moved → AreLevels l.levels → IsWellStocked l → IsWellStocked (install_ruling l h o.job made).layout }
 {}
@@ -180,7 +180,7 @@ pub fn numbers_are_drawn_once()
     ensures plan { (l : Layout) (h : History) → HaveRisen l (plan_ruling l h).layout }
     ensures drain { (l : Layout) (h : History) (segment : ℕ) → HaveRisen l (drain_ruling l h segment).layout }
     ensures fresh { (l : Layout) (h : History) → HaveRisen l (fresh_ruling l h).layout }
-    ensures abandon { (l : Layout) (h : History) (made : Made) → HaveRisen l (abandon_ruling l h made).layout }
+    ensures abandon { (l : Layout) (h : History) (job : Job) (made : Made) → HaveRisen l (abandon_ruling l h job made).layout }
     ensures install { (l : Layout) (h : History) (job : Job) (made : Made) → HaveRisen l (install_ruling l h job made).layout }
     ensures pick { (l : Layout) (h : History) (percent : ℕ) → HaveRisen l (pick_ruling l h percent).layout }
     ensures end_pass { (l : Layout) (h : History) (pass : Pass) → HaveRisen l (end_pass_ruling l h pass).layout }

@@ -30,6 +30,7 @@ ghost use Rattle.vl_layout.specs.Sources.{oldest};
 ghost use Rattle.vl_layout.specs.Start.{IsWellRecovered, Recovered, fresh_layout, layout_at_start};
 ghost use Rattle.vl_layout.specs.Stock.{IsWellStocked};
 ghost use Rattle.vl_layout.specs.Tidy.{IsRuledTidy, IsTidy};
+ghost use Rattle.vl_layout.specs.declared.job.Job.{Job};
 ghost use Rattle.vl_layout.specs.declared.job.OpenJob.{OpenJob};
 ghost use Rattle.vl_layout.specs.declared.layout.Layout.{Layout};
 ghost use Rattle.vl_layout.specs.declared.segment.Segment.{Segment};
@@ -51,8 +52,8 @@ pub fn an_engine_stays_tidy()
     ensures plan { (logs : Logs) (l : Layout) (h : History) → IsTidy logs l h → IsRuledTidy logs (plan_ruling l h) }
     ensures drain { (logs : Logs) (l : Layout) (h : History) (segment : ℕ) → IsTidy logs l h → IsRuledTidy logs (drain_ruling l h segment) }
     ensures fresh { (logs : Logs) (l : Layout) (h : History) → IsTidy logs l h → IsRuledTidy logs (fresh_ruling l h) }
-    ensures abandon { (logs : Logs) (l : Layout) (h : History) (made : Made) → AreLent (lent_numbers l.job) made → IsTidy logs l h
-        → IsRuledTidy logs (abandon_ruling l h made) }
+    ensures abandon { (logs : Logs) (l : Layout) (h : History) (job : Job) (made : Made) → AreLent (lent_numbers l.job) made → IsTidy logs l h
+        → IsRuledTidy logs (abandon_ruling l h job made) }
     ensures install { (logs : Logs) (l : Layout) (h : History) (o : OpenJob) (made : Made) → l.job ≡ Some o → AreLent o.lent made → AreOutputs o.job made
         → IsTidy logs l h → IsRuledTidy logs (install_ruling l h o.job made) }
     ensures pick { (logs : Logs) (l : Layout) (h : History) (percent : ℕ) → IsTidy logs l h → IsRuledTidy logs (pick_ruling l h percent) }

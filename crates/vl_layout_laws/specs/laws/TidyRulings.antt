@@ -50,6 +50,7 @@ use Rattle.vl_layout.specs.Tickets.{free_ticket, tickets_of}
 use Rattle.vl_layout.specs.Tidy.{IsPlacedIn, IsTidy, IsTrueLog, IsTrueTable, sealed}
 use Rattle.vl_layout.specs.TidyLevels.{AreLevels}
 use Rattle.vl_layout.specs.declared.file_name.FileName.{FileName}
+use Rattle.vl_layout.specs.declared.job.Job.{Job}
 use Rattle.vl_layout.specs.declared.job.OpenJob.{OpenJob}
 use Rattle.vl_layout.specs.declared.job.OpenPass.{OpenPass}
 use Rattle.vl_layout.specs.declared.job.Target.TheVariants.{Level, InPlace}
@@ -207,8 +208,8 @@ module _ (logs : Logs) (l : Layout) (h : History) (t : IsTidy logs l h) where
   pub fresh_tidy : StaysTidy (fresh_ruling l h)
   fresh_tidy = fresh_unless-tidy l.halted
 
-  pub abandon_tidy : (made : Made) → AreLent (lent_numbers l.job) made → StaysTidy (abandon_ruling l h made)
-  abandon_tidy made are = tidy_job_ended logs l h t made are
+  pub abandon_tidy : (job : Job) (made : Made) → AreLent (lent_numbers l.job) made → StaysTidy (abandon_ruling l h job made)
+  abandon_tidy job made are = tidy_job_ended logs l h t made are
 
   module _ (o : OpenJob) (is : l.job ≡ Some o) (made : Made) (all : AreOutputs o.job made) (lent : AreLent o.lent made) where
     k : IsOpenWell l h o.job o.moved
