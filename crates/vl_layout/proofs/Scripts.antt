@@ -1,5 +1,5 @@
 -- Worked scripts, which hold by computing: what each line is answered.
-use Rattle.std.proofs.Common.{◌≡◌, ℕ, zero, suc, ◌+◌, List, [], ◌∷◌, ◌++◌, map, length, refl}
+use Rattle.std.proofs.Common.{◌≡◌, ℕ, List, [], ◌∷◌, ◌++◌, map, length, refl}
 use Rattle.std.specs.Prelude.{replicate}
 use Rattle.vl_model.specs.Keys.{tagged, untagged}
 use Rattle.vl_model.specs.Placement.{placed}
@@ -8,14 +8,12 @@ use Rattle.vl_model.specs.declared.log_frame.LogFrame.{LogFrame}
 use Rattle.vl_model.specs.declared.log_frame.LogFrame.TheVariants.{Committed}
 use Rattle.vl_model.specs.declared.way.Way.TheVariants.{Up, Down}
 use Rattle.vl_layout.specs.Logs.{memtable, new_segment}
-use Rattle.vl_layout.specs.Ruling.{pin_of}
 use Rattle.vl_layout.specs.Start.{layout_at_start}
 use Rattle.vl_layout.specs.Tables.{new_table}
 use Rattle.vl_layout.specs.Sources.{tables}
-use Rattle.vl_layout.specs.Store.Lines.{Line, Begin, View, Get, GetTagged, GetAt, Set, SetTagged, Delete, Scan, Commit, Drop, Rotate, Flush, Plan, Drain, Install, Pick, Batch, Move, Sweep, Stats, Keep, Answer, Done, Number, Value, ValueTagged, NoValue, Dropped, Rows, Taken, Unknown, ReadOnly, Invalid, TooMany, Nothing, Conflict, Full, Raced, Rejected, NoRewrite, Found, End, Moved, Removed, Segments}
+use Rattle.vl_layout.specs.Store.Lines.{Line, Begin, View, Get, GetTagged, GetAt, Set, SetTagged, Delete, Scan, Commit, Drop, Rotate, Flush, Plan, Drain, Install, Pick, Batch, Move, Sweep, Stats, Keep, Answer, Done, Number, Value, ValueTagged, NoValue, Dropped, Rows, Taken, Unknown, ReadOnly, Invalid, Nothing, Conflict, Full, Raced, Rejected, NoRewrite, Found, End, Moved, Removed, Segments}
 use Rattle.vl_layout.specs.Store.Dispatch.{answers, answers_until, calls_of, new_store, state_behind}
 use Rattle.vl_layout.specs.Store.Things.{State}
-use Rattle.vl_layout.specs.declared.live.Live.{Live}
 use Rattle.vl_layout.specs.declared.segment.SegmentStat.{SegmentStat}
 use Rattle.vl_layout.specs.declared.table.Table.{Table}
 
@@ -295,16 +293,3 @@ one_is_kept = refl
 kept_by_a_merge : answers store (Keep 2 ∷ four ++ Plan j ∷ Install j ∷ View v ∷ GetAt v k1 1 ∷ Get v k1 ∷ Keep 0 ∷ [])
     ≡ Done ∷ first_answers ++ three_answers ++ Number 4 ∷ Done ∷ Number 4 ∷ Value long ∷ NoValue ∷ Invalid ∷ []
 kept_by_a_merge = refl
-
--- ---- as many as may live
-
--- so many that live, of which the first has this ticket
-abbrev living : ℕ → ℕ → List Live
-living ticket zero = []
-living ticket (suc count) = record { ticket = ticket; number = 0; pin = pin_of store.layout } ∷ living (ticket + 1) count
-
-abbrev crowded : ℕ → State
-crowded count = record store { layout = record store.layout { live = living 0 count } }
-
-as_many_as_live : (answers (crowded 1023) (View v ∷ View w ∷ []) ≡ Number 0 ∷ TooMany ∷ []) × (answers (crowded 1024) (View v ∷ []) ≡ TooMany ∷ [])
-as_many_as_live = (refl, refl)

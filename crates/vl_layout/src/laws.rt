@@ -9,7 +9,10 @@ ghost use Rattle.vl_model.specs.Winners.{Logs, resolved};
 ghost use Rattle.vl_model.specs.declared.entry.Entry.{Entry};
 ghost use Rattle.vl_layout.specs.AtAnswer.{Beginning, at_answer};
 ghost use Rattle.vl_layout.specs.Garbage.{far_bytes, pointed_bytes, best_of, is_better as is_better_than};
-ghost use Rattle.vl_layout.specs.Logs.{memtable};
+ghost use Rattle.vl_layout.specs.Logs.{frame_entries, frame_records, logged_entries, memtable, records};
+ghost use Rattle.vl_layout.specs.Ruling.{logged};
+ghost use Rattle.vl_layout.specs.Tidy.{IsTrueLog};
+ghost use Rattle.vl_model.specs.declared.log_frame.LogFrame.{LogFrame};
 ghost use Rattle.vl_layout.specs.Merging.{Sourced, inputs_of};
 ghost use Rattle.vl_model.specs.Versions.{low};
 ghost use Rattle.vl_layout.specs.Relocation.{Pass, Candidate};
@@ -123,6 +126,16 @@ pub fn best_has_the_greatest_share()
 pub fn cutting_keeps_all_entries()
     ensures blocks { (format : ℕ) (es : List Entry) → joined (blocks format es) ≡ es }
     ensures tables { (es : List Entry) → joined (cut_into_tables es) ≡ es }
+{}
+
+/// A frame more, of a commit or a relocation, stands where its log ended before: its records lie there,
+/// and their entries lead there.
+pub fn a_frame_stands_at_its_logs_end()
+    ensures records { (l : Layout) (f : LogFrame) → IsTrueLog l.active
+        → records (logged f l).active ≡ records l.active ++ frame_records l.active.format l.active.length f }
+    ensures entries { (l : Layout) (f : LogFrame) → IsTrueLog l.active
+        → logged_entries l.active.format l.active.number 16 (logged f l).active.frames
+        ≡ frame_entries l.active.format l.active.number l.active.length f ++ logged_entries l.active.format l.active.number 16 l.active.frames }
 {}
 
 /// Plain lists of commits give the values, rows, least numbers and conflicts of the history that they

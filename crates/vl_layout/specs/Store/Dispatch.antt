@@ -65,7 +65,13 @@ step_by s r = record { answer = step_told r.answer; state = record s { layout = 
 abbrev pub made_of : Job → List ℕ → Made
 made_of job numbers = record { tables = tables_made numbers (outputs job); leavings = [] }
 
--- A job draws a number for each table, and fills it. Where one is refused it ends, and its name is free.
+-- by what drawing a number answers; where it is refused the job ends, and its name is free
+abbrev pub filled : State → Layout → Made → ℕ → Step → FreshAnswer → Step
+filled s l made calls more (fresh.Drawn n) = more
+filled s l made calls more (fresh.Halted file) = record { answer = Halted file; state = record s { layout = job_ended made l }; calls = calls }
+filled s l made calls more (fresh.Exhausted c) = record { answer = Exhausted c; state = record s { layout = job_ended made l }; calls = calls }
+
+-- a job draws a number for each table, and fills it
 abbrev pub fill : State → Name → Job → Layout → List (List Entry) → List ℕ → ℕ → Step
 fill s name job l [] numbers calls = record {
   answer = Number (length (kept job));
@@ -73,12 +79,9 @@ fill s name job l [] numbers calls = record {
   calls = calls;
 }
 fill s name job l (es ∷ output) numbers calls =
-    filled (fill s name job (fresh_ruling l (history_in s.commits)).layout output (numbers ++ l.next_table ∷ []) (calls + 1)) (fresh_ruling l (history_in s.commits)).answer
-  where
-    filled : Step → FreshAnswer → Step
-    filled more (fresh.Drawn n) = more
-    filled more (fresh.Halted file) = record { answer = Halted file; state = record s { layout = job_ended (made_of job numbers) l }; calls = calls }
-    filled more (fresh.Exhausted c) = record { answer = Exhausted c; state = record s { layout = job_ended (made_of job numbers) l }; calls = calls }
+    filled s l (made_of job numbers) calls
+    (fill s name job (fresh_ruling l (history_in s.commits)).layout output (numbers ++ l.next_table ∷ []) (calls + 1))
+    (fresh_ruling l (history_in s.commits)).answer
 
 abbrev pub planned_by : State → Name → Ruling (Option Job) → Option Job → Step
 planned_by s name r None = only Idle s
