@@ -1,8 +1,7 @@
 -- As many views as may live, begun one by one by a script, and one more.
-use Rattle.std.proofs.Common.{◌≡◌, ℕ, zero, suc, ◌+◌, ◌≤◌, ◌<◌, min, Bool, true, false, cond, not, List, [], ◌∷◌, ◌++◌, length, refl, ap, sym, ◌∙◌, subst, arith}
+use Rattle.std.proofs.Common.{◌≡◌, ℕ, zero, suc, ◌+◌, ◌≤◌, ◌<◌, Bool, true, false, cond, not, List, [], ◌∷◌, ◌++◌, length, refl, ap, sym, ◌∙◌, arith}
 use Rattle.std.proofs.lemmas.Bool.Decides.{nat_tests}
 use Rattle.std.specs.Prelude.{Option, Some, None, ◌==◌, nat_le, nat_lt, if◌then◌else◌}
-use Rattle.std.specs.List.{AllByRecursion, filter}
 use Rattle.std.specs.Ordering.{eq_by_cmp}
 use Rattle.vl_model.specs.Keys.{key_cmp}
 use Rattle.vl_model.specs.Limits.{max_live}
@@ -19,7 +18,7 @@ use Rattle.vl_layout.specs.Store.Dispatch.{answers, new_store, step_of}
 use Rattle.vl_layout.specs.Store.Lines.{Answer, Line, Name, Number, TooMany, View}
 use Rattle.vl_layout.specs.Store.Reading.{a_view, begin_as, begun_by}
 use Rattle.vl_layout.specs.Store.Things.{AView, State, Step, Thing, thing_in, without_name}
-use Rattle.vl_layout.specs.Tickets.{Ticket, free_from, tickets_of}
+use Rattle.vl_layout.specs.Tickets.{free_from, tickets_of}
 use Rattle.vl_layout.specs.declared.live.Live.{Live}
 
 abbrev store : State

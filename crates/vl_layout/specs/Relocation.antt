@@ -1,5 +1,5 @@
 -- What a pass over a segment finds, and what a relocation moves of it.
-use Rattle.std.specs.Prelude.{ℕ, ◌+◌, ◌==◌, Bool, true, false, ◌&&◌, ◌||◌, nat_le, nat_lt, if◌then◌else◌, List, [], ◌∷◌, map, length, Option, Some, None}
+use Rattle.std.specs.Prelude.{ℕ, ◌+◌, ◌==◌, Bool, true, false, ◌&&◌, ◌||◌, nat_le, nat_lt, if◌then◌else◌, List, [], ◌∷◌, map, Option, Some, None}
 use Rattle.std.specs.List.{filter, sum_by}
 use Rattle.vl_model.specs.Keys.{value_length}
 use Rattle.vl_model.specs.Limits.{max_batch_records, max_batch_bytes}

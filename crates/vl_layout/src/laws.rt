@@ -1,5 +1,5 @@
 // Laws of the definitions: each is the contract of a function that does nothing.
-ghost use Rattle.std.specs.Prelude.{IsTrue, ◌≡◌, ◌≤◌, ◌<◌, ◌++◌, ◌∷◌, [], ℕ, List, Some, None, false};
+ghost use Rattle.std.specs.Prelude.{IsTrue, ◌≡◌, ◌≤◌, ◌<◌, ◌++◌, ◌∷◌, [], ℕ, List, Some, false};
 ghost use Rattle.std.specs.FinMap.{entries, is_sorted};
 ghost use Rattle.std.specs.List.{AllZip, AllByRecursion};
 ghost use Rattle.vl_model.specs.Entries.{in_order};

@@ -32,4 +32,5 @@ pub mod Switches
 pub mod TidyLogs
 pub mod TidyRulings
 pub mod TidySteps
+pub mod WellInstalled
 pub mod WellStocked

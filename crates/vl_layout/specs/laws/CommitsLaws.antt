@@ -1,25 +1,25 @@
 -- A history as plain lists has the values, contents, versions and conflicts of the history that it is.
-use Rattle.std.proofs.Common.{◌≡◌, ℕ, zero, suc, ◌+◌, ◌-◌, ◌≤◌, ◌<◌, Bool, true, false, cond, not, List, [], ◌∷◌, ◌++◌, map, length, take, refl, ap, sym, ◌∙◌, subst, arith}
+use Rattle.std.proofs.Common.{◌≡◌, ℕ, zero, suc, ◌+◌, ◌-◌, ◌≤◌, ◌<◌, Bool, true, false, cond, not, List, [], ◌∷◌, ◌++◌, map, take, refl, ap, sym, ◌∙◌, arith}
 use Rattle.std.proofs.lemmas.Bool.{false≢true}
 use Rattle.std.proofs.lemmas.Bool.Decides.{nat_tests}
 use Rattle.std.specs.Prelude.{T, min, nat_le, is_some, Option, Some, None, ◌&&◌}
 use Rattle.std.specs.declared.cmp.Ordering.TheVariants.{Equal}
 use Rattle.std.specs.Cmp.Lexicographic.{nat_list_cmp_total}
 use Rattle.std.specs.List.{AllByRecursion, filter}
-use Rattle.std.specs.Ordering.{eq_by_cmp, is_eq, is_lt, nat_cmp}
-use Rattle.std.specs.FinMap.{FinMap, empty, entries, entries_sorted, find, from_sorted, get, get-entries, get-from_sorted, entries-from_sorted, nat_cmp-IsAntisymmetric, slice_cmp-IsAntisymmetric}
-use Rattle.std.specs.FinMap.Entries.{is_sorted, below_all, put, is_sorted-put, is_sorted-where_key, find-put, find-where_key, same_entries}
-use Rattle.vl_model.specs.Conflicts.{Named, last_named, named_from, is_overwritten, first_of, first_conflict}
-use Rattle.vl_model.specs.History.{History, Past, contents_at, commits_up_to, known_up_to, last_change, newer, past_value, value_at, value_left}
-use Rattle.vl_model.specs.Keys.{Stored, Row, Writes, key_cmp}
-use Rattle.vl_model.specs.Reads.{Read, row_written, rows_written}
+use Rattle.std.specs.Ordering.{eq_by_cmp, is_eq, nat_cmp}
+use Rattle.std.specs.FinMap.{entries, entries_sorted, find, from_sorted, get, get-entries, get-from_sorted, entries-from_sorted}
+use Rattle.std.specs.FinMap.Entries.{is_sorted, is_sorted-put, is_sorted-where_key, find-put, find-where_key, same_entries}
+use Rattle.vl_model.specs.Conflicts.{named_from, is_overwritten, first_of, first_conflict}
+use Rattle.vl_model.specs.History.{contents_at, commits_up_to, known_up_to, last_change, newer, value_at, value_left}
+use Rattle.vl_model.specs.Keys.{Row, Writes, key_cmp}
+use Rattle.vl_model.specs.Reads.{Read, rows_written}
 use Rattle.vl_model.specs.declared.change.Change.{Change}
 use Rattle.vl_model.specs.declared.change.Change.TheVariants.{Set, Delete}
 use Rattle.vl_model.specs.Numbers.{low_of}
 use Rattle.vl_model.specs.Versions.{naming, versions, low, numbered}
 use Rattle.vl_model.specs.laws.HistoryLaws.{get-contents_at, value_left-newer}
 use Rattle.vl_model.specs.laws.WinnerLaws.{key_exact, key_tied, same_key}
-use Rattle.vl_layout.specs.Store.Commits.{Changes, Commits, history_in, numbered_changes, all_changes, changes_up_to, last_in, value_in, rows_after, rows_in, conflict_in, known_versions, low_in, AreProper}
+use Rattle.vl_layout.specs.Store.Commits.{Changes, Commits, history_in, numbered_changes, changes_up_to, last_in, value_in, rows_after, rows_in, conflict_in, known_versions, low_in, AreProper}
 
 first_part : (a b : Bool) → T (a && b) → T a
 first_part true b both = tt

@@ -1,6 +1,6 @@
 -- Each line of a script leaves a store proper.
-use Rattle.std.proofs.Common.{◌≡◌, ℕ, ◌+◌, Bool, true, false, cond, not, ◌&&◌, List, [], ◌∷◌, ◌++◌, length, refl, ap, sym, ◌∙◌, subst}
-use Rattle.std.specs.Prelude.{Option, Some, None, T, ◌==◌, nat_le, if◌then◌else◌}
+use Rattle.std.proofs.Common.{◌≡◌, ℕ, ◌+◌, Bool, true, false, cond, not, ◌&&◌, List, [], ◌∷◌, ◌++◌, length, refl, subst}
+use Rattle.std.specs.Prelude.{Option, Some, None, T, if◌then◌else◌}
 use Rattle.std.proofs.lemmas.Cmp.{nat_list_cmp_total}
 use Rattle.std.specs.FinMap.{find, is_sorted, put}
 use Rattle.std.specs.FinMap.Entries.{is_sorted-put}
@@ -8,7 +8,6 @@ use Rattle.std.specs.List.{AllByRecursion, filter}
 use Rattle.std.specs.Ordering.{eq_by_cmp}
 use Rattle.vl_model.specs.Formats.{log_format}
 use Rattle.vl_model.specs.Keys.{Stored, key_cmp, is_key_length, is_value_length, tagged, untagged, value_bytes}
-use Rattle.vl_model.specs.Limits.{max_live}
 use Rattle.vl_model.specs.declared.change.Change.{Change}
 use Rattle.vl_model.specs.declared.change.Change.TheVariants as change
 use Rattle.vl_model.specs.declared.entry.Entry.{Entry}
@@ -30,12 +29,12 @@ use Rattle.vl_layout.specs.Rulings.Pick.{PickAnswer, pick_ruling}
 use Rattle.vl_layout.specs.Rulings.Plan.{plan_ruling}
 use Rattle.vl_layout.specs.Rulings.Relocate as relocate
 use Rattle.vl_layout.specs.Rulings.Relocate.{MoveAnswer, relocate_ruling}
-use Rattle.vl_layout.specs.Store.Commits.{AreProper, Changes, Commits, history_in, with_changes}
+use Rattle.vl_layout.specs.Store.Commits.{Changes, history_in}
 use Rattle.vl_layout.specs.Store.Dispatch.{batch_by, drop_by, fill, filled, found_by, install_by, made_of, move_by, moved_by, pick_as, picked_by, plan_as, planned_by, step_of}
 use Rattle.vl_layout.specs.Store.Lines.{Answer, Name, Line, Begin, View, Get, GetTagged, GetAt, Set, SetTagged, Delete, Scan, Commit, Drop, Rotate, Flush, Plan, Drain, Install, Pick, Batch, Move, Sweep, Stats, Keep}
 use Rattle.vl_layout.specs.Store.Proper.{AreNamedOnce, HasRisingWrites, IsProper}
 use Rattle.vl_layout.specs.Store.Reading.{a_transaction, a_view, answer_of, answer_with_tag, begin_as, begun_by, commit_by, committed_by, get_at_by, get_by, get_own, ruled, is_small_enough, scan_by, write_by}
-use Rattle.vl_layout.specs.Store.Things.{Thing, ATransaction, AView, AJob, APass, State, Step, named, thing_in, with_thing, without_name, without_thing}
+use Rattle.vl_layout.specs.Store.Things.{Thing, ATransaction, AView, AJob, APass, State, Step, thing_in, with_thing, without_name, without_thing}
 use Rattle.vl_layout.specs.declared.job.Job.{Job}
 use Rattle.vl_layout.specs.declared.layout.Layout.{Layout}
 

@@ -46,7 +46,8 @@ use Rattle.vl_layout.specs.Rulings.Sweep.{sweep_ruling, sweep_to_ruling}
 use Rattle.vl_layout.specs.Rulings.View.{View}
 use Rattle.vl_layout.specs.declared.job.OpenPass.{OpenPass}
 use Rattle.vl_layout.specs.declared.segment.SegmentStat.{SegmentStat}
-use Rattle.vl_layout_laws.specs.laws.WellStocked.{well_begun, well_ended, well_picked, well_pass_ended, well_logged, well_keeping, well_rotated, well_relocated, well_flushed, well_swept, well_planned, well_drawn, well_job_ended, well_installed}
+use Rattle.vl_layout_laws.specs.laws.WellInstalled.{well_installed}
+use Rattle.vl_layout_laws.specs.laws.WellStocked.{well_begun, well_ended, well_picked, well_pass_ended, well_logged, well_keeping, well_rotated, well_relocated, well_flushed, well_swept, well_planned, well_drawn, well_job_ended}
 
 abbrev pub LeavesWell : {A : Type 0} → Ruling A → Type 0
 LeavesWell r = IsWellStocked r.layout

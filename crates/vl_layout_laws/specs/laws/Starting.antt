@@ -1,7 +1,7 @@
 -- What is kept tidy of a new store, and of its files by an opening.
 use Rattle.std.proofs.Common.{◌≡◌, ℕ, zero, suc, ◌+◌, ◌-◌, ◌<◌, max, min, Bool, true, false, cond, not, List, [], ◌∷◌, ◌++◌, take, refl, ap, sym, ◌∙◌, subst, arith}
-use Rattle.std.specs.Prelude.{Some, None, Option, ◌==◌}
-use Rattle.std.specs.List.{AllByRecursion, filter, flat_map}
+use Rattle.std.specs.Prelude.{Some, None, ◌==◌}
+use Rattle.std.specs.List.{AllByRecursion, filter}
 use Rattle.vl_model.specs.History.{last_change, no_history, past_value, value_at, value_left}
 use Rattle.vl_model.specs.Keys.{Writes}
 use Rattle.vl_model.specs.laws.HistoryLaws.{past_value-empty}
@@ -48,8 +48,10 @@ start_stocked room found is = record {
     tables_drawn = is.tables;
     logs_drawn = (omega arith, all_newest Drawn (filter has_frames found.logs) (all_filtered Drawn has_frames found.logs drawn));
     flushed_drawn = all_both Drawn (filter (λ s. not (has_frames s)) found.logs) found.below (all_filtered Drawn (λ s. not (has_frames s)) found.logs drawn) is.below;
-    falling = (all_newest (λ (s : Segment). s.number < found.active) (filter has_frames found.logs) (all_filtered (λ (s : Segment). s.number < found.active) has_frames found.logs is.before),
-      falling_newest (filter has_frames found.logs) (rising_filtered has_frames found.logs is.rising));
+    falling = (
+      all_newest (λ (s : Segment). s.number < found.active) (filter has_frames found.logs) (all_filtered (λ (s : Segment). s.number < found.active) has_frames found.logs is.before),
+      falling_newest (filter has_frames found.logs) (rising_filtered has_frames found.logs is.rising),
+    );
     footed = is.footed;
   };
   drawn = record { points = is.points; pins_drawn = tt };

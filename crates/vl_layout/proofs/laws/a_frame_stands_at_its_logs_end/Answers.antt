@@ -1,6 +1,6 @@
 use Rattle.std.proofs.Common.{ap, sym, ◌∙◌, ◌++◌}
 use Rattle.vl_layout.specs.Logs.{frame_entries, frame_records, logged_entries, records}
-use Rattle.vl_layout.specs.laws.LayoutShows.{logged_entries-more, place_behind, place_behind-is, records_from-more}
+use Rattle.vl_layout.specs.laws.LayoutShows.{logged_entries-more, place_behind-is, records_from-more}
 use Rattle.vl_layout.proofs.laws.a_frame_stands_at_its_logs_end.Goals as goal
 
 pub returns-clause-records : goal.returns-clause-records
