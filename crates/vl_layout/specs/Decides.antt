@@ -18,6 +18,9 @@ pub record Effects : Type 0 where
   pub calls : ℕ
   pub gone : List FileName
 
+abbrev pub effects_of : {A : Type 0} → Ruling A → Effects
+effects_of r = record { calls = r.calls; gone = r.gone }
+
 abbrev pub no_effects : Effects
 no_effects = record { calls = 0; gone = [] }
 
@@ -32,13 +35,16 @@ pub record Otherwise : Type 0 where
 abbrev pub as_before : Layout → Layout → Otherwise
 as_before l lost = record { short = l; effects = no_effects; lost = lost }
 
--- An answer is that of the ruling, and leaves and did what it leaves and does; a failed call, which comes only where the
--- engine isn't halted already, halts what is left then; damage leaves all as before. `stands` says of a
--- history and a layout that the engine stands for them after the call.
+-- An answer is that of the ruling, and the call left and did what the ruling says; a failed call, which
+-- comes only where the engine isn't halted already, halts what is left then; damage leaves all as before.
+-- `stands` says of a history and a layout that the engine stands for them after the call.
 pub record Decides {A : Type 0} (stands : History → Layout → Type 0) (h : History) (l : Layout)
     (ruling : Ruling A) (otherwise : Otherwise) (outcome : Outcome A) (effects : Effects) : Type 0 where
-  pub answered : (a : A) → outcome ≡ Answered a → (a ≡ ruling.answer) × stands ruling.history ruling.layout
-  pub did : (a : A) → outcome ≡ Answered a → effects ≡ record { calls = ruling.calls; gone = ruling.gone }
+  pub answered : (a : A) → outcome ≡ Answered a
+      → (a ≡ ruling.answer) × stands ruling.history ruling.layout
+  pub did : (a : A) → outcome ≡ Answered a → effects ≡ effects_of ruling
   pub no_memory : outcome ≡ NoMemory → stands h otherwise.short × (effects ≡ otherwise.effects)
-  pub failed : (name : FileName) → outcome ≡ Failed name → (l.halted ≡ None) × stands h (halted_at name otherwise.lost)
-  pub damaged : (name : FileName) (place : ℕ) → outcome ≡ Damaged name place → stands h l × (effects ≡ no_effects)
+  pub failed : (name : FileName) → outcome ≡ Failed name
+      → (l.halted ≡ None) × stands h (halted_at name otherwise.lost)
+  pub damaged : (name : FileName) (place : ℕ) → outcome ≡ Damaged name place
+      → stands h l × (effects ≡ no_effects)

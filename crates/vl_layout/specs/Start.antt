@@ -92,12 +92,15 @@ fresh_layout room = layout_at_start room nothing_found
 abbrev pub number_of_log : Segment → ℕ
 number_of_log s = s.number
 
+abbrev pub tables_found : Recovered → List Table
+tables_found found = flat_map (λ ts. ts) found.levels
+
 -- its logs rise up to the active one; tables have true footers, and numbers below the next ones, as the
 -- logs below head and those that points tell have
 pub record IsWellRecovered (found : Recovered) : Type 0 where
   pub rising : IsRising number_of_log found.logs
   pub before : AllByRecursion (λ (s : Segment). s.number < found.active) found.logs
   pub below : AllByRecursion (λ (s : Segment). s.number < max found.next_log (found.active + 1)) found.below
-  pub tables : AllByRecursion (λ (t : Table). t.number < found.next_table) (flat_map (λ ts. ts) found.levels)
-  pub footed : AllByRecursion IsFooted (flat_map (λ ts. ts) found.levels)
-  pub points : AllByRecursion (PointsDrawn (max found.next_log (found.active + 1))) (flat_map (λ ts. ts) found.levels)
+  pub tables : AllByRecursion (λ (t : Table). t.number < found.next_table) (tables_found found)
+  pub footed : AllByRecursion IsFooted (tables_found found)
+  pub points : AllByRecursion (PointsDrawn (max found.next_log (found.active + 1))) (tables_found found)
