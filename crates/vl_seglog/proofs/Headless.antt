@@ -1,12 +1,12 @@
 -- A log's header that was found, or wasn't.
-use Rattle.std.proofs.Common.{ℕ, ◌<◌, ◌≤◌, ◌^◌, List, [], ◌++◌, take, drop, refl, sym, ap, ◌∙◌, arith}
+use Rattle.std.proofs.Common.{ℕ, ◌<◌, ◌≤◌, ◌^◌, List, ◌++◌, take, drop, refl, sym, ap, ◌∙◌, arith}
 use Rattle.std.proofs.lemmas.List.{take-append-drop, take_at}
 use Rattle.std.specs.Prelude.{IfNone, IfSome, Option, None, Some}
 use Rattle.vl_frame.specs.Header.{IsHeader}
 use Rattle.vl_frame.specs.declared.kinds.FileKind.TheVariants as files
 use Rattle.vl_model.specs.Formats.{log_format}
 use Rattle.vl_seglog.specs.Frames.{log_header}
-use Rattle.vl_seglog.specs.LogReading.{HasHeader, IsLogFormat, SaysFormat}
+use Rattle.vl_seglog.specs.LogReading.{SaysFormat}
 
 pub no_header : (number : ℕ) (bytes : List ℕ) → number < 2 ^ 32 → ((format : ℕ) → 1 ≤ format → format ≤ log_format → IsHeader files.Log format number bytes → ⊥) → SaysFormat None number bytes
 no_header number bytes fits none format is has =

@@ -11,19 +11,23 @@
 #![tactic(auto)]
 
 mod active;
+mod fault;
 mod frame;
 mod lengths;
 mod pointer;
 mod reading;
 mod record;
+mod sealed;
 mod staged;
 mod write;
 
 pub use active::ActiveLog;
+pub use fault::LogFault;
 pub use frame::{Commit, Frame, ReadRecord, Said};
 pub use lengths::LOG_HEADER_BYTES;
 pub use pointer::{POINTER_BYTES, pointer_bytes, read_pointer};
 pub use reading::{LogRead, header_format, read_log, read_next};
 pub use record::{RECORD_HEAD_BYTES, RecordRef, read_record, write_record};
+pub use sealed::{Filled, SealedLog};
 pub use staged::Staged;
 pub use write::{commit_length, log_header, write_commit, write_move};

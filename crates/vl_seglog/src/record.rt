@@ -6,6 +6,7 @@ mod head;
 mod read;
 mod write;
 
-pub use head::{RECORD_HEAD_BYTES, record_head_bytes};
+pub use fields::take_head;
+pub use head::{RECORD_HEAD_BYTES, VALUE_FLAG, record_head_bytes};
 pub use read::{RecordRef, read_record};
 pub use write::write_record;

@@ -13,7 +13,7 @@ use Rattle.vl_model.specs.Formats.{log_format}
 use Rattle.vl_model.specs.declared.log_frame.LogFrame.{LogFrame}
 use Rattle.vl_seglog.specs.laws.FrameLaws.{length-log_bytes, length-run_bytes}
 use Rattle.vl_seglog.specs.Frames.{frames_end, frames_grammar, log_bytes, log_header}
-use Rattle.vl_seglog.specs.LogReading.{AreBehind, HasHeader, IsLogFormat, LogReading, ReadsLog, SaysFormat, end_of, is_whole}
+use Rattle.vl_seglog.specs.LogReading.{AreBehind, HasHeader, IsLogFormat, LogReading, ReadsLog, SaysFormat, is_whole}
 
 -- ---- formats
 

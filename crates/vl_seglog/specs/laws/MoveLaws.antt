@@ -8,7 +8,6 @@ use Rattle.vl_model.specs.Keys.{value_bytes, value_tag}
 use Rattle.vl_model.specs.declared.change.Change.{Change}
 use Rattle.vl_model.specs.declared.change.Change.TheVariants.{Set}
 use Rattle.vl_model.specs.declared.log_frame.Moved.{Moved}
-use Rattle.vl_model.specs.declared.value.Value.{Value}
 use Rattle.vl_seglog.specs.Moves.{IsMoved, moved_bytes}
 use Rattle.vl_seglog.specs.Record.{record_bytes}
 use Rattle.vl_seglog.specs.laws.RecordLaws.{length-record_bytes, one_write}

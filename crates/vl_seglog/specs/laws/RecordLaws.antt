@@ -1,17 +1,15 @@
 -- What the definitions of records and pointers say: how long they are, and that one of each at most stands at the front of some bytes.
-use Rattle.std.proofs.Common.{◌≡◌, ◌<◌, ◌≤◌, ℕ, ◌+◌, cond, Bool, List, [], ◌∷◌, ◌++◌, true, false, length, drop, get_or, refl, ap, sym, ◌∙◌, arith, append_assoc, length-append}
+use Rattle.std.proofs.Common.{◌≡◌, ◌<◌, ◌≤◌, ◌^◌, ℕ, ◌+◌, cond, Bool, List, [], ◌∷◌, ◌++◌, true, false, length, drop, get_or, refl, ap, sym, ◌∙◌, arith, append_assoc, length-append}
 use Rattle.std.proofs.lemmas.Bool.Decides.{nat_tests}
-use Rattle.std.specs.Prelude.{nat_le, if◌then◌else◌}
+use Rattle.std.specs.Prelude.{nat_le}
 use Rattle.byteorder.specs.Endian.{big_bytes}
 use Rattle.vl_frame.specs.laws.NumberLaws.{one_number, same_front}
-use Rattle.vl_model.specs.Formats.{record_head, tag_kept}
+use Rattle.vl_model.specs.Formats.{record_head}
 use Rattle.vl_model.specs.Frames.{record_length}
 use Rattle.vl_model.specs.Keys.{is_key_length, is_value_length, tagged, untagged, value_bytes, value_tag}
-use Rattle.vl_model.specs.Limits.{max_value_bytes}
 use Rattle.vl_model.specs.declared.change.Change.{Change}
 use Rattle.vl_model.specs.declared.change.Change.TheVariants.{Set, Delete}
 use Rattle.vl_model.specs.declared.pointer.Pointer.{Pointer}
-use Rattle.vl_model.specs.declared.value.Value.{Value}
 use Rattle.vl_seglog.specs.Pointer.{IsPointerSpelled, pointer_bytes}
 use Rattle.vl_seglog.specs.Record.{HasWidths, IsApart, IsRecord, IsSpelled, IsTag, flag_of, head_bytes, record_bytes, tag_bytes}
 
@@ -81,6 +79,27 @@ one_tag format a b x y kept other_kept e = by (nat_le format 1) kept other_kept 
     by true zero other e = (sym zero ∙ other, e)
     by false zero other e = (ap (λ (l : List ℕ). get_or l 0 0) e, ap (drop 1) e)
 
+-- a head and what follows it, part by part
+pub head_grouped : (format flag tag k v : ℕ) (rest : List ℕ) → head_bytes format flag tag k v ++ rest ≡ flag ∷ (tag_bytes format tag ++ (big_bytes 2 k ++ (big_bytes 4 v ++ rest)))
+head_grouped format flag tag k v rest = ap (λ (l : List ℕ). flag ∷ l) (append_assoc (tag_bytes format tag) (big_bytes 2 k ++ big_bytes 4 v) rest)
+
+-- two heads at the front of the same bytes are the same
+pub record SameHead (flag other_flag tag other_tag k other_k v other_v : ℕ) (rest other_rest : List ℕ) : Type 0 where
+  pub flag_is : flag ≡ other_flag
+  pub tag_is : tag ≡ other_tag
+  pub key_length_is : k ≡ other_k
+  pub value_length_is : v ≡ other_v
+  pub rest_is : rest ≡ other_rest
+
+pub one_head : (format flag other_flag tag other_tag k other_k v other_v : ℕ) (rest other_rest : List ℕ) → IsTag format tag → IsTag format other_tag → k < 2 ^ 16 → other_k < 2 ^ 16 → v < 2 ^ 32 → other_v < 2 ^ 32
+    → head_bytes format flag tag k v ++ rest ≡ head_bytes format other_flag other_tag other_k other_v ++ other_rest → SameHead flag other_flag tag other_tag k other_k v other_v rest other_rest
+one_head format flag other_flag tag other_tag k other_k v other_v rest other_rest kept other_kept k_fits other_k_fits v_fits other_v_fits e =
+    let both = sym (head_grouped format flag tag k v rest) ∙ e ∙ head_grouped format other_flag other_tag other_k other_v other_rest in
+    let tags = one_tag format tag other_tag _ _ kept other_kept (ap (drop 1) both) in
+    let a = one_number 2 k other_k _ _ k_fits other_k_fits tags.1 in
+    let b = one_number 4 v other_v _ _ v_fits other_v_fits a.1 in
+    record { flag_is = ap (λ (l : List ℕ). get_or l 0 0) both; tag_is = tags.0; key_length_is = a.0; value_length_is = b.0; rest_is = b.1 }
+
 -- two cuts of the same bytes are the same
 pub record SameParts (flag other_flag tag other_tag : ℕ) (key other_key value other_value rest other_rest : List ℕ) : Type 0 where
   pub flag_is : flag ≡ other_flag
@@ -89,14 +108,11 @@ pub record SameParts (flag other_flag tag other_tag : ℕ) (key other_key value 
   pub value_is : value ≡ other_value
   pub rest_is : rest ≡ other_rest
 
--- what comes apart, with its parts one behind the other
-pub grouped : (format flag tag : ℕ) (key value rest : List ℕ) → (head_bytes format flag tag (length key) (length value) ++ key ++ value) ++ rest
-    ≡ flag ∷ (tag_bytes format tag ++ (big_bytes 2 (length key) ++ (big_bytes 4 (length value) ++ (key ++ (value ++ rest)))))
+-- what comes apart: a head, a key, a value and the rest
+pub grouped : (format flag tag : ℕ) (key value rest : List ℕ) → (head_bytes format flag tag (length key) (length value) ++ key ++ value) ++ rest ≡ head_bytes format flag tag (length key) (length value) ++ (key ++ (value ++ rest))
 grouped format flag tag key value rest =
-    let numbers = big_bytes 2 (length key) ++ big_bytes 4 (length value) in
     let head = head_bytes format flag tag (length key) (length value) in
     append_assoc (head ++ key) value rest ∙ append_assoc head key (value ++ rest)
-    ∙ ap (λ (l : List ℕ). flag ∷ l) (append_assoc (tag_bytes format tag) numbers (key ++ (value ++ rest)))
 
 -- Bytes come apart into a flag, a tag, a key and a value in one way.
 pub one_apart : (format : ℕ) (bytes : List ℕ) (flag other_flag tag other_tag : ℕ) (key other_key value other_value : List ℕ)
@@ -104,12 +120,10 @@ pub one_apart : (format : ℕ) (bytes : List ℕ) (flag other_flag tag other_tag
     → SameParts flag other_flag tag other_tag key other_key value other_value one.rest other.rest
 one_apart format bytes flag other_flag tag other_tag key other_key value other_value one other =
     let both = sym (grouped format flag tag key value one.rest) ∙ sym one.spelled ∙ other.spelled ∙ grouped format other_flag other_tag other_key other_value other.rest in
-    let tags = one_tag format tag other_tag _ _ one.tag_kept other.tag_kept (ap (drop 1) both) in
-    let a = one_number 2 (length key) (length other_key) _ _ one.key_fits other.key_fits tags.1 in
-    let b = one_number 4 (length value) (length other_value) _ _ one.value_fits other.value_fits a.1 in
-    let keys = same_front key other_key (value ++ one.rest) (other_value ++ other.rest) a.0 b.1 in
-    let values = same_front value other_value one.rest other.rest b.0 keys.1 in
-    record { flag_is = ap (λ (l : List ℕ). get_or l 0 0) both; tag_is = tags.0; key_is = keys.0; value_is = values.0; rest_is = values.1 }
+    let heads = one_head format flag other_flag tag other_tag _ _ _ _ _ _ one.tag_kept other.tag_kept one.key_fits other.key_fits one.value_fits other.value_fits both in
+    let keys = same_front key other_key (value ++ one.rest) (other_value ++ other.rest) heads.key_length_is heads.rest_is in
+    let values = same_front value other_value one.rest other.rest heads.value_length_is keys.1 in
+    record { flag_is = heads.flag_is; tag_is = heads.tag_is; key_is = keys.0; value_is = values.0; rest_is = values.1 }
 
 -- A record that stands comes apart into its flag, its tag, its key and its value.
 pub spelled_apart : (format : ℕ) (bytes key : List ℕ) (change : Change) → IsSpelled format bytes key change → IsApart format bytes (flag_of change) (value_tag change) key (value_bytes change)

@@ -1,9 +1,9 @@
-ghost use Rattle.std.specs.Prelude.{◌≡◌, ◌+◌, ◌++◌, ◌<◌, ℕ, List, length, IfNone, IfSome};
+ghost use Rattle.std.specs.Prelude.{◌≡◌, ◌+◌, ◌++◌, ◌<◌, ◌^◌, ℕ, List, length, IfNone, IfSome};
 ghost use Rattle.std.specs.Option.{option_copied};
 ghost use Rattle.vl_model.specs.Formats.{record_head};
 ghost use Rattle.vl_model.specs.Keys.{value_bytes, value_tag};
 ghost use Rattle.vl_model.specs.declared.change.Change.{Change};
-ghost use Rattle.vl_seglog.specs.Record.{IsApart, IsTag, change_of, flag_of, tag_bytes};
+ghost use Rattle.vl_seglog.specs.Record.{IsApart, IsTag, change_of, flag_of, head_bytes, tag_bytes};
 
 use crate::record::head::{DELETION_FLAG, VALUE_FLAG};
 use vl_frame::{take_bytes, take_u8, take_u16, take_u32};
@@ -44,18 +44,47 @@ pub fn take_apart(format: u32, bytes: &[u8]) -> Option<RecordFields<'_>>
     ensures none { IfNone result
         ((flag tag : ℕ) (key value : List ℕ) → IsApart format bytes.now flag tag key value → ⊥) }
 {
+    let (head, rest) = take_head(format, bytes)?;
+    let (key, rest) = take_bytes(rest, head.key_length as usize)?;
+    let (value, _) = take_bytes(rest, head.value_length as usize)?;
+    Some(RecordFields {
+        flag: head.flag,
+        tag: head.tag,
+        key,
+        value,
+    })
+}
+
+/// What stands before a record's key, whatever it is.
+#[derive(Clone, Copy)]
+pub struct RecordHead {
+    pub flag: u8,
+    /// 0 in format 1, which has none.
+    pub tag: u8,
+    pub key_length: u16,
+    pub value_length: u32,
+}
+
+/// The head at the front of the bytes, which are those of a log of this format, and the bytes behind it; none where there
+/// are fewer.
+pub fn take_head(format: u32, bytes: &[u8]) -> Option<(RecordHead, &[u8])>
+    ensures found { IfSome result (λ r. bytes.now
+        ≡ head_bytes format r.0.flag r.0.tag r.0.key_length r.0.value_length ++ r.1.now) }
+    ensures kept { IfSome result (λ r. IsTag format r.0.tag) }
+    ensures fits { IfSome result (λ r. (r.0.key_length < 2 ^ 16) × (r.0.value_length < 2 ^ 32)) }
+    ensures none { IfNone result (length bytes.now < record_head format) }
+{
     let (flag, rest) = take_u8(bytes)?;
     let (tag, rest) = take_tag(format, rest)?;
     let (key_length, rest) = take_u16(rest)?;
     let (value_length, rest) = take_u32(rest)?;
-    let (key, rest) = take_bytes(rest, key_length as usize)?;
-    let (value, _) = take_bytes(rest, value_length as usize)?;
-    Some(RecordFields {
+    let head = RecordHead {
         flag,
         tag,
-        key,
-        value,
-    })
+        key_length,
+        value_length,
+    };
+    Some((head, rest))
 }
 
 // The tag at the front, and the bytes behind it. In format 1 there is none, and 0 is read.

@@ -1,13 +1,16 @@
-use Rattle.std.proofs.Common.{◌≡◌, ◌*◌, ◌||◌, ℕ, arith, length, subst}
+use Rattle.std.proofs.Common.{◌≡◌, ◌*◌, ◌||◌, ℕ, arith, get_or, length, subst}
 use Rattle.vl_filter.specs.Bits.{is_set}
-use Rattle.vl_filter.specs.Filters.{has_place}
-use Rattle.vl_filter.proofs.PlaceLaws.{more_key}
+use Rattle.vl_filter.specs.Places.{has_place}
+use Rattle.vl_filter.proofs.PlaceLaws.{more_key_at}
 use Rattle.vl_filter.proofs.building.mark_all.Goals as goal
 
-pub loop-key-preserved : goal.loop-key-preserved
-loop-key-preserved c = λ p.
-    let marked : is_set c.mark.new.bytes p ≡ (has_place (8 * length c.args.bytes.now) c.key-item.result p || is_set c.loop-key.bytes p) =
-    subst (λ k. is_set c.mark.new.bytes p ≡ (has_place (8 * length c.args.bytes.now) k p || is_set c.loop-key.bytes p)) c.as_slice.ensures
-    (subst (λ (n : ℕ). is_set c.mark.new.bytes p ≡ (has_place (8 * n) c.as_slice.result.now p || is_set c.loop-key.bytes p)) c.loop-key.auto.bytes (c.mark.ensures p)) in
-    more_key (8 * length c.args.bytes.now) c.args.keys.now c.loop-key.key-index c.key-item.result p (is_set c.mark.new.bytes p) (is_set c.loop-key.bytes p) (is_set c.args.bytes.now p)
-    (let within = c.loop-key-test.true in omega arith) c.key-item.is marked (c.loop-key.invariant p)
+pub loop-hashes-preserved : goal.loop-hashes-preserved
+loop-hashes-preserved c = record {
+  fits = λ k. omega (arith, c.type_inv.bytes k);
+  marked = λ p.
+      more_key_at (8 * length c.args.bytes.now) c.args.keys.now c.loop-hashes.hashes-index (record { first = 0; second = 0 }) p
+      (is_set c.mark.new.bytes p) (is_set c.loop-hashes.bytes p) (is_set c.args.bytes.now p)
+      (let within = c.loop-hashes-test.true in omega arith)
+      (subst (λ (n : ℕ). is_set c.mark.new.bytes p ≡ (has_place (8 * n) (get_or c.args.keys.now c.loop-hashes.hashes-index (record { first = 0; second = 0 })) p || is_set c.loop-hashes.bytes p)) c.loop-hashes.auto.bytes (c.mark.ensures p))
+      (c.loop-hashes.invariant.marked p);
+}

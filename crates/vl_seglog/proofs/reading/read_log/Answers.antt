@@ -1,5 +1,5 @@
 use Rattle.vl_seglog.specs.laws.LogReadingLaws.{reads_no_header}
-use Rattle.vl_seglog.proofs.Headless.{no_header, says_format}
+use Rattle.vl_seglog.proofs.Headless.{no_header}
 use Rattle.vl_seglog.proofs.reading.read_log.Goals as goal
 
 pub returns-in_default-clause-reads : goal.returns-in_default-clause-reads
