@@ -224,7 +224,6 @@ module _ {D T U E F : Type 0} (g : Ghosts D) (after later : DiskState → DiskSt
       counted (Ok y) is = is ∙ ap (after_calls m) first.calls ∙ sym (calls_then m n (g.calls old))
       counted (Err f) is = tt
 
-
 -- ---- at which file a run failed
 
 -- one run on a file
