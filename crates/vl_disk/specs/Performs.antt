@@ -1,9 +1,10 @@
 -- A run of changing calls, of which one that fails is the last: what it makes of a disk, and what the disk may be meanwhile.
-use Rattle.std.specs.Prelude.{◌≡◌, ℕ, ◌≤◌, Option, Some, Result, IsErr, OnErr, OnOk}
+use Rattle.std.specs.Prelude.{◌≡◌, ℕ, ◌+◌, ◌≤◌, List, ◌∷◌, ◌++◌, length, replicate, Option, Some, Result, IsErr, OnErr, OnOk}
 use Rattle.vl_disk.specs.Disk.{IsChangedBy}
 use Rattle.vl_disk.specs.DiskState.{DiskState}
 use Rattle.vl_disk.specs.Faults.{HasCause, after_calls}
 use Rattle.vl_disk.specs.Moments.{Elapses}
+use Rattle.vl_disk.specs.declared.name.Name.{Name}
 use Rattle.vl_disk.specs.declared.watched.Watched.{Ghosts}
 
 -- what tells goes on telling
@@ -11,9 +12,9 @@ abbrev pub GoesOnTelling : Option DiskState → Option DiskState → Type 0
 GoesOnTelling old new =
     (state : DiskState) → old ≡ Some state → (now : DiskState) × (new ≡ Some now)
 
--- some of so many changing calls were made, or all
-abbrev pub MakesSome : (count before now : ℕ) → Type 0
-MakesSome count before now = (n : ℕ) × (n ≤ count) × (now ≡ after_calls n before)
+-- some of so many changing calls were made, or all, the last of which failed
+abbrev pub StopsAmong : (count before now : ℕ) → Type 0
+StopsAmong count before now = (n : ℕ) × (1 ≤ n) × (n ≤ count) × (now ≡ after_calls n before)
 
 -- A run, by what it makes of a disk, what the disk may be meanwhile, and the count of its calls.
 pub record Performs {D T E : Type 0} (g : Ghosts D) (after : DiskState → DiskState)
@@ -23,7 +24,20 @@ pub record Performs {D T E : Type 0} (g : Ghosts D) (after : DiskState → DiskS
   -- after just so many changing calls
   pub calls : OnOk result (g.calls new ≡ after_calls count (g.calls old))
   -- where it failed, after some of them
-  pub stops : OnErr result (MakesSome count (g.calls old) (g.calls new))
+  pub stops : OnErr result (StopsAmong count (g.calls old) (g.calls new))
   pub tells : GoesOnTelling (g.told old) (g.told new)
   pub time : Elapses g old new during
   pub cause : HasCause (g.faults old) (g.faults new) (IsErr result)
+
+-- ---- at which file a run failed
+
+-- so many calls on one file
+abbrev pub calls_on : ℕ → Name → List Name
+calls_on count name = replicate count name
+
+-- Of calls on these files, one after the other, the last that was made failed, and is on this file.
+pub record FailedAt (files : List Name) (before now : ℕ) (name : Name) : Type 0 where
+  pub front : List Name
+  pub back : List Name
+  pub files_are : files ≡ front ++ name ∷ back
+  pub calls : now ≡ after_calls (length front + 1) before

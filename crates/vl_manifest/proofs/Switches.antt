@@ -1,5 +1,5 @@
 -- The two calls of a switch.
-use Rattle.std.proofs.Common.{◌≡◌, ◌<◌, ◌+◌, ◌-◌, ◌^◌, ◌++◌, ◌∷◌, [], min, ℕ, List, length, length-append, inl, refl, ap, subst, sym, ◌∙◌, arith}
+use Rattle.std.proofs.Common.{◌≡◌, ◌<◌, ◌+◌, ◌-◌, ◌^◌, ◌++◌, ◌∷◌, [], min, ℕ, List, length, length-append, inl, inr, refl, ap, subst, sym, ◌∙◌, arith}
 use Rattle.std.specs.Prelude.{false, true, Option, Some, Result, Ok, Err, IsErr}
 use Rattle.std.specs.List.{AllByRecursion}
 use Rattle.std.specs.Option.{ForSome}
@@ -41,6 +41,7 @@ module _ {D X E : Type 0} (g : Ghosts D) (number : ℕ) (piece : List ℕ) (old 
     performs = performs_stop g old one (behind number piece) (WhileAppending (Manifest number) piece) (WhileSwitching number piece) 1 2 (λ disk now is. inl is)
         (switched number piece) e (Err f) refl (omega arith) (append_performs {T = X} g old one (Manifest number) piece (Err e) call);
     failed = call.failed;
+    clean = λ cleanly. inl (call.clean cleanly);
     stands = call.stands;
     spare = call.spare;
   }
@@ -52,6 +53,7 @@ module _ {D X E : Type 0} (g : Ghosts D) (number : ℕ) (piece : List ℕ) (old 
     performs = performs_then g (behind number piece) (synced (Manifest number)) (WhileAppending (Manifest number) piece) (WhileSyncing (Manifest number)) 1 1 old one new x result
         (append_performs {E = E} g old one (Manifest number) piece (Ok x) appends) (sync_performs g one new (Manifest number) result call);
     failed = on_err_weaker result (λ (same : g.told new ≡ g.told one). (length piece, omega arith, same ∙ appends.appended)) call.failed;
+    clean = λ cleanly. on_err_weaker result (λ (same : g.told new ≡ g.told one). inr (same ∙ appends.appended)) call.failed;
     stands = call.stands;
     spare = record {
       change = ap (λ (s : Spare). s.change) (call.spare (Manifest number)) ∙ appends.spare.change;

@@ -1,5 +1,5 @@
 -- A switch of a manifest: what is staged for it, and what it makes of the disk.
-use Rattle.std.specs.Prelude.{◌≡◌, ◌⊎◌, ◌+◌, ◌<◌, ◌≤◌, ◌^◌, ℕ, List, [], ◌∷◌, ◌++◌, length, Some, Result, OnErr}
+use Rattle.std.specs.Prelude.{◌≡◌, ◌⊎◌, ◌+◌, ◌<◌, ◌≤◌, ◌^◌, ℕ, List, [], ◌∷◌, ◌++◌, length, Some, Result, IsTrue, OnErr}
 use Rattle.std.specs.List.{AllByRecursion}
 use Rattle.std.specs.Option.{ForSome}
 use Rattle.std.specs.FinMap.{get}
@@ -50,6 +50,9 @@ pub record Switches {D T E : Type 0} (g : Ghosts D) (number : ℕ) (piece : List
   -- where one failed the file has taken some first bytes of the piece, which is unsynced
   pub failed : OnErr result ((taken : ℕ) × (taken ≤ length piece)
       × IsChangedBy (appended (Manifest number) piece taken) (g.told old) (g.told new))
+  -- and on a disk that fails cleanly none of it, or all
+  pub clean : IsTrue g.fails_cleanly → OnErr result (IsChangedBy (appended (Manifest number) piece 0) (g.told old) (g.told new)
+      ⊎ IsChangedBy (appended (Manifest number) piece (length piece)) (g.told old) (g.told new))
   pub stands : ForSome (g.told new) (Stands (Manifest number))
   pub spare : UsesAppend (Manifest number) (g.spare old) (g.spare new)
 

@@ -21,12 +21,12 @@ pub enum Edit {
         log: u32,
         table: u32,
     },
-    /// So many of the newest versions of each key are kept, and those above `since`.
+    /// How many versions of a key are kept, and the last commit when this number was last raised.
     Keep {
         versions: u8,
         since: u64,
     },
-    /// The greatest version of a deletion that was dropped for good.
+    /// No deletion of a greater version was dropped for good.
     Gone {
         number: u64,
     },

@@ -17,11 +17,11 @@ pub struct ManifestState {
     pub next_log: u32,
     /// The least number that a table may still be given.
     pub next_table: u32,
-    /// How many of the newest versions of each key merges keep, from 1 to 16.
+    /// How many versions of a key merges keep, from 1 to 16.
     pub keep: u8,
-    /// Of the versions that are kept, those above this commit are whole.
+    /// The last commit when this number was last raised, 0 where it never was: older versions may be missing.
     pub since: u64,
-    /// The greatest version of a deletion that was dropped for good; 0 where none was.
+    /// No deletion of a greater version was dropped for good.
     pub gone: u64,
 }
 

@@ -13,13 +13,9 @@ use crate::state::ManifestState;
 use std::alloc::{AllocError, Global};
 
 impl ManifestLog {
-    /// The place of the first frame that adds or drops a table, in bytes; none where none does. A store that can't open
-    /// tables is damaged there.
-    pub fn first_of_tables(
-        alloc: Global,
-        bytes: &[u8],
-        number: u32,
-    ) -> Result<Option<u64>, AllocError>
+    // The place of the first frame that adds or drops a table, in bytes; none where none does. To a store that can't open
+    // tables the manifest is damaged there, if it isn't before.
+    fn first_of_tables(alloc: Global, bytes: &[u8], number: u32) -> Result<Option<u64>, AllocError>
         ensures { IfOk result (spec.NamesFirst number bytes.now) }
     {
         let Some(format) = format_of(bytes, number) else {

@@ -14,9 +14,9 @@ use byteorder::{BigEndian, ByteOrder};
 use std::alloc::{AllocError, Global};
 use vl_frame::{FrameKind, write_frame};
 
-/// Appends the frame of these edits, which is to stand at the place `at` of the manifest with this number, in the
-/// format that is written. Want of
-/// memory is the answer too where there are more edits than can be counted, or the frame is longer than one may be.
+/// Appends the frame of these edits, in the format that is written, which is to stand at the place `at` of the manifest
+/// with this number. Want of memory is the answer too where there are more edits than can be counted, or the frame is
+/// longer than one may be.
 pub fn write_edits(
     alloc: Global,
     out: &mut Vec<u8>,

@@ -51,7 +51,7 @@ pub fn current_state<D: Disk>(
         newest = newest_with(newest, &bytes, number);
         above = number;
     }
-    without_current(greatest, newest)
+    without_current(alloc, greatest, newest)
 }
 
 // What the manifest with this number and these bytes says, which is the current one.
@@ -59,7 +59,7 @@ fn read_state(alloc: Global, bytes: &[u8], number: u32) -> Result<ManifestState,
     ensures says { AnswersStage (Says (Led number bytes.now)) result }
     ensures no_fault { IsFault result → ⊥ }
 {
-    match ManifestLog::read(alloc, bytes, number) {
+    match ManifestLog::read_without_tables(alloc, bytes, number) {
         Ok(state) => Ok(state),
         Err(StateFail::NoMemory) => Err(OpenError::NoMemory),
         Err(StateFail::Damaged { place }) => Err(OpenError::Damaged {
@@ -81,6 +81,7 @@ fn newest_with(newest: Option<u32>, bytes: &[u8], number: u32) -> Option<u32>
 
 // Where no manifest is current, a disk without logs and tables is a store that has nothing yet.
 fn without_current(
+    alloc: Global,
     greatest: GreatestNumbers,
     newest: Option<u32>,
 ) -> Result<ManifestState, OpenError>
@@ -88,7 +89,7 @@ fn without_current(
     ensures no_fault { IsFault result → ⊥ }
 {
     if greatest.log == 0 && greatest.table == 0 {
-        return Ok(ManifestState::fresh());
+        return Ok(ManifestState::fresh(alloc));
     }
     match newest {
         Some(format) => Err(OpenError::NewerFormat(format)),

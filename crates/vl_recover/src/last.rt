@@ -3,12 +3,13 @@
 ghost use Rattle.std.specs.Prelude.{◌≡◌, IfErr, IsTrue};
 ghost use Rattle.std.specs.Option.{ForSome};
 ghost use Rattle.vl_disk.specs.Disk.{IsInside, Stands};
+ghost use Rattle.vl_disk.specs.Performs.{FailedAt};
 ghost use Rattle.vl_disk.specs.Spare.{CanAppend, IsReady, SameSpareElsewhere};
 ghost use Rattle.vl_disk.specs.declared.name.Name.TheVariants.{Log};
-ghost use Rattle.vl_recover.specs.repairing.Fitting.{CanRepair, IsReadyToRepair, IsLastFile, SameSpareBeside};
+ghost use Rattle.vl_recover.specs.repairing.Fitting.{CanRepair, IsReadyToRepair, SameSpareBeside};
 ghost use Rattle.vl_recover.specs.repairing.Repairing as repairing;
 ghost use Rattle.vl_recover.specs.repairing.PlanViews.{at_file, step_of};
-ghost use Rattle.vl_recover.specs.repairing.Steps.{RepairsLast};
+ghost use Rattle.vl_recover.specs.repairing.Steps.{RepairsLast, last_files};
 
 use crate::plan::LastStep;
 use vl_disk::{Disk, Failed, Name};
@@ -19,7 +20,7 @@ pub(crate) fn repair_last<D: Disk>(disk: &mut D, last: LastStep) -> Result<(), N
     requires stands { ForSome (D.told disk.old) (CanRepair (step_of last)) }
     requires ready { IsReadyToRepair (step_of last) (D.spare disk.old) }
     ensures repaired { RepairsLast D.Watched (step_of last) disk.old disk.new result }
-    ensures at { IfErr result (IsLastFile (step_of last)) }
+    ensures at { IfErr result (FailedAt (last_files (step_of last)) (D.calls disk.old) (D.calls disk.new)) }
     ensures spare { SameSpareBeside (step_of last) (D.spare disk.old) (D.spare disk.new) }
 {
     match last {

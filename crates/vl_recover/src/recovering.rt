@@ -70,9 +70,9 @@ pub fn recover<D: Disk>(alloc: Global, disk: D, room: u64) -> Result<Parts<D>, O
     ensures tells { (state : DiskState) → D.told disk ≡ Some state
         → (now : DiskState) × (D.told (disk_of result) ≡ Some now) }
 
-    // A fault is counted, and named by the file at which it came.
+    // A fault is counted, and named by the file at which it came: while the store is repaired, that of the call that failed.
     ensures at { (state : DiskState) (read : Image) → D.told disk ≡ Some state → IsRead read state
-        → FaultsAt read state (recovery_of result) }
+        → FaultsAt read state (D.calls disk) (D.calls (disk_of result)) (recovery_of result) }
     ensures cause { HasCause (D.faults disk) (D.faults (disk_of result)) (HasFailed (recovery_of result)) }
     ensures room { IfOk result (λ parts. parts.room ≡ room) }
 

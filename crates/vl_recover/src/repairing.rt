@@ -1,10 +1,11 @@
 //! Repairing a store by its plan.
 
-ghost use Rattle.std.specs.Prelude.{◌≡◌, Contains, IfErr};
+ghost use Rattle.std.specs.Prelude.{IfErr};
 ghost use Rattle.std.specs.Option.{ForSome};
-ghost use Rattle.vl_recover.specs.repairing.Fitting.{CanMake, CanRemove, Fits, FitsBehind, HasNumbers, IsReadyFor, IsReadyToMake, IsFileOf, IsNewLog, IsNumberedLog};
+ghost use Rattle.vl_disk.specs.Performs.{FailedAt};
+ghost use Rattle.vl_recover.specs.repairing.Fitting.{CanMake, CanRemove, Fits, FitsBehind, HasNumbers, IsReadyFor, IsReadyToMake, IsNumberedLog};
 ghost use Rattle.vl_recover.specs.repairing.PlanViews.{plan_view};
-ghost use Rattle.vl_recover.specs.repairing.Steps.{MakesLog, Repairs, RepairsBehind, RemovesAll};
+ghost use Rattle.vl_recover.specs.repairing.Steps.{MakesLog, Repairs, RepairsBehind, RemovesAll, files_behind, log_files};
 
 use crate::last::{at, repair_last};
 use crate::plan::RepairingPlan;
@@ -39,7 +40,7 @@ fn repair_behind<D: Disk>(disk: &mut D, plan: &RepairingPlan) -> Result<(), Name
     requires numbers { HasNumbers (plan_view plan.now) }
     requires ready { IsReadyFor (plan_view plan.now) (D.spare disk.old) }
     ensures repaired { RepairsBehind D.Watched (plan_view plan.now) disk.old disk.new result }
-    ensures at { IfErr result (IsFileOf (plan_view plan.now)) }
+    ensures at { IfErr result (FailedAt (files_behind (plan_view plan.now)) (D.calls disk.old) (D.calls disk.new)) }
 {
     repair_last(disk, plan.last)?;
     make_log(disk, plan.log)?;
@@ -52,7 +53,7 @@ fn make_log<D: Disk>(disk: &mut D, log: Option<u32>) -> Result<(), Name>
     requires free { ForSome (D.told disk.old) (CanMake log) }
     requires ready { IsReadyToMake log (D.spare disk.old) }
     ensures made { MakesLog D.Watched log disk.old disk.new result }
-    ensures at { IfErr result (IsNewLog log) }
+    ensures at { IfErr result (FailedAt (log_files log) (D.calls disk.old) (D.calls disk.new)) }
 {
     match log {
         None => Ok(()),
@@ -67,7 +68,7 @@ fn make_log<D: Disk>(disk: &mut D, log: Option<u32>) -> Result<(), Name>
 fn remove_all<D: Disk>(disk: &mut D, names: &[Name]) -> Result<(), Name>
     requires { ForSome (D.told disk.old) (CanRemove names.now) }
     ensures removed { RemovesAll D.Watched names.now disk.old disk.new result }
-    ensures at { IfErr result (Contains names.now) }
+    ensures at { IfErr result (FailedAt names.now (D.calls disk.old) (D.calls disk.new)) }
 {
     for name in names {
         at(*name, disk.remove(*name))?;

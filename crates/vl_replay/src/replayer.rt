@@ -86,7 +86,7 @@ impl<D: Disk> Replayer<D> {
 
         // A fault is named by the file at which it came.
         ensures at { (state : DiskState) (read : Image) → D.told disk ≡ Some state → IsRead read state
-            → IfErr result (λ fail. FaultsAt read state (recovery_by fail.why)) }
+            → IfErr result (λ fail. FaultsAt read state (D.calls disk) (D.calls (disk_behind result)) (recovery_by fail.why)) }
 
         // And a store may be opened on the disk again, whatever is answered.
         ensures again { (state now : DiskState) → D.told disk ≡ Some state → MayOpen state

@@ -1,5 +1,5 @@
 -- Each call is a run of changing calls, and one run behind another is one.
-use Rattle.std.proofs.Common.{◌≡◌, ◌⊎◌, ⊎_elim, inl, inr, ℕ, ◌+◌, List, length, refl, sym, ap, subst, ◌∙◌, arith}
+use Rattle.std.proofs.Common.{◌≡◌, ◌⊎◌, ⊎_elim, inl, inr, ℕ, ◌+◌, List, [], ◌∷◌, ◌++◌, length, append_assoc, length-append, refl, sym, ap, subst, ◌∙◌, arith}
 use Rattle.std.specs.Prelude.{zero, suc, true, false, Option, None, Some, Result, Ok, Err, IsErr, OnErr, OnOk, ◌≤◌}
 use Rattle.std.specs.Option.{option_map}
 use Rattle.vl_disk.specs.Calls.{Appends, Cuts, Removes, Syncs}
@@ -9,7 +9,7 @@ use Rattle.vl_disk.specs.DiskState.{DiskState, appended, cut_to, synced, without
 use Rattle.vl_disk.specs.Faults.{HasCause, after_calls, one_more}
 use Rattle.vl_disk.specs.MadeFile.{Makes, TellsPart, WhileMaking, made}
 use Rattle.vl_disk.specs.Moments.{While, passes_none, passes_then, passes_weaker, past_of}
-use Rattle.vl_disk.specs.Performs.{GoesOnTelling, MakesSome, Performs}
+use Rattle.vl_disk.specs.Performs.{FailedAt, GoesOnTelling, Performs, StopsAmong, calls_on}
 use Rattle.vl_disk.specs.declared.name.Name.{Name}
 use Rattle.vl_disk.specs.declared.watched.Watched.{Ghosts}
 
@@ -52,7 +52,7 @@ module _ {D T E : Type 0} (g : Ghosts D) (old new : D) where
   cut_performs name len (Err e) call = record {
     done = tt;
     calls = tt;
-    stops = (1, omega arith, call.as_call.calls);
+    stops = (1, omega arith, omega arith, call.as_call.calls);
     tells = changed_tells (cut_to name len call.failed.0) (g.told old) (g.told new) call.failed.3;
     time = call.as_call.time;
     cause = call.as_call.cause;
@@ -71,7 +71,7 @@ module _ {D T E : Type 0} (g : Ghosts D) (old new : D) where
   append_performs name piece (Err e) call = record {
     done = tt;
     calls = tt;
-    stops = (1, omega arith, call.as_call.calls);
+    stops = (1, omega arith, omega arith, call.as_call.calls);
     tells = changed_tells (appended name piece call.failed.0) (g.told old) (g.told new) call.failed.2;
     time = call.as_call.time;
     cause = call.as_call.cause;
@@ -96,7 +96,7 @@ module _ {D T E : Type 0} (g : Ghosts D) (old new : D) where
   sync_performs name (Err e) call = record {
     done = tt;
     calls = tt;
-    stops = (1, omega arith, call.as_call.calls);
+    stops = (1, omega arith, omega arith, call.as_call.calls);
     tells = same_tells (g.told old) (g.told new) call.failed;
     time = call.as_call.time;
     cause = call.as_call.cause;
@@ -115,7 +115,7 @@ module _ {D T E : Type 0} (g : Ghosts D) (old new : D) where
   remove_performs name (Err e) call = record {
     done = tt;
     calls = tt;
-    stops = (1, omega arith, call.as_call.calls);
+    stops = (1, omega arith, omega arith, call.as_call.calls);
     tells = ⊎_elim
         (λ (same : g.told new ≡ g.told old). same_tells (g.told old) (g.told new) same)
         (λ (gone : IsChangedBy (without name) (g.told old) (g.told new)). changed_tells (without name) (g.told old) (g.told new) gone)
@@ -138,7 +138,7 @@ module _ {D T E : Type 0} (g : Ghosts D) (old new : D) where
   make_performs name bytes (Err e) call = record {
     done = tt;
     calls = tt;
-    stops = (call.stops.0, call.stops.2, call.stops.3);
+    stops = (call.stops.0, call.stops.1, call.stops.2, call.stops.3);
     tells = part_tells name bytes (g.told old) (g.told new) call.failed;
     time = call.time;
     cause = call.cause;
@@ -167,7 +167,7 @@ module _ {D T E : Type 0} (g : Ghosts D) (old new : D) where
     performs_as result same step = record {
       done = step.done;
       calls = subst (λ (k : ℕ). OnOk result (g.calls new ≡ after_calls k (g.calls old))) same step.calls;
-      stops = subst (λ (k : ℕ). OnErr result (MakesSome k (g.calls old) (g.calls new))) same step.stops;
+      stops = subst (λ (k : ℕ). OnErr result (StopsAmong k (g.calls old) (g.calls new))) same step.stops;
       tells = step.tells;
       time = passes_weaker (past_of g old) (past_of g new)
           (While (g.told old) during) (While (g.told old) meanwhile) step.time
@@ -182,7 +182,7 @@ module _ {D T E : Type 0} (g : Ghosts D) (old new : D) where
     performs_stop later e (Err f) failed less step = record {
       done = tt;
       calls = tt;
-      stops = (step.stops.0, omega (arith, less, step.stops.1), step.stops.2);
+      stops = (step.stops.0, step.stops.1, omega (arith, less, step.stops.2), step.stops.3);
       tells = step.tells;
       time = passes_weaker (past_of g old) (past_of g new)
           (While (g.told old) during) (While (g.told old) meanwhile) step.time
@@ -216,11 +216,50 @@ module _ {D T U E F : Type 0} (g : Ghosts D) (after later : DiskState → DiskSt
       both (Ok y) changed = changed ∙ ap (option_map later) first.done ∙ one (g.told old)
       both (Err f) changed = tt
 
-      some : (r : Result U F) → OnErr r (MakesSome m (g.calls mid) (g.calls new)) → OnErr r (MakesSome (m + n) (g.calls old) (g.calls new))
+      some : (r : Result U F) → OnErr r (StopsAmong m (g.calls mid) (g.calls new)) → OnErr r (StopsAmong (m + n) (g.calls old) (g.calls new))
       some (Ok y) is = tt
-      some (Err f) is = (is.0 + n, omega (arith, is.1), is.2 ∙ ap (after_calls is.0) first.calls ∙ sym (calls_then is.0 n (g.calls old)))
+      some (Err f) is = (is.0 + n, omega (arith, is.1), omega (arith, is.2), is.3 ∙ ap (after_calls is.0) first.calls ∙ sym (calls_then is.0 n (g.calls old)))
 
       counted : (r : Result U F) → OnOk r (g.calls new ≡ after_calls m (g.calls mid)) → OnOk r (g.calls new ≡ after_calls (m + n) (g.calls old))
       counted (Ok y) is = is ∙ ap (after_calls m) first.calls ∙ sym (calls_then m n (g.calls old))
       counted (Err f) is = tt
 
+-- ---- at which file a run failed
+
+-- one run on a file
+pub failed_on : (count : ℕ) (name : Name) (before now : ℕ) → StopsAmong count before now → FailedAt (calls_on count name) before now name
+failed_on zero name before now (n, some, within, calls) = absurd (omega (arith, some, within))
+failed_on (suc count) name before now (suc zero, some, within, calls) =
+    record { front = []; back = calls_on count name; files_are = refl; calls = calls }
+failed_on (suc count) name before now (suc (suc n), some, within, calls) =
+    let rest = failed_on count name before (after_calls (suc n) before) (suc n, omega arith, omega (arith, within), refl) in
+    record {
+      front = name ∷ rest.front;
+      back = rest.back;
+      files_are = ap (λ (l : List Name). name ∷ l) rest.files_are;
+      calls = calls ∙ ap one_more rest.calls ∙ ap (λ (k : ℕ). after_calls k before)
+          (let e : suc (length rest.front + 1) ≡ length (name ∷ rest.front) + 1 = omega arith in e);
+    }
+failed_on (suc count) name before now (zero, some, within, calls) = absurd (omega (arith, some))
+
+-- before other calls
+pub failed_before : (files more : List Name) (before now : ℕ) (name : Name) → FailedAt files before now name
+    → FailedAt (files ++ more) before now name
+failed_before files more before now name failed = record {
+  front = failed.front;
+  back = failed.back ++ more;
+  files_are = ap (λ (l : List Name). l ++ more) failed.files_are ∙ append_assoc failed.front (name ∷ failed.back) more;
+  calls = failed.calls;
+}
+
+-- and behind others that passed
+pub failed_behind : (passed files : List Name) (before mid now : ℕ) (name : Name) → mid ≡ after_calls (length passed) before
+    → FailedAt files mid now name → FailedAt (passed ++ files) before now name
+failed_behind passed files before mid now name made failed = record {
+  front = passed ++ failed.front;
+  back = failed.back;
+  files_are = ap (λ (l : List Name). passed ++ l) failed.files_are ∙ sym (append_assoc passed failed.front (name ∷ failed.back));
+  calls = failed.calls ∙ ap (after_calls (length failed.front + 1)) made ∙ sym (calls_then (length failed.front + 1) (length passed) before)
+      ∙ ap (λ (n : ℕ). after_calls n before)
+      (let e : length failed.front + 1 + length passed ≡ length (passed ++ failed.front) + 1 = omega (arith, length-append passed failed.front) in e);
+}

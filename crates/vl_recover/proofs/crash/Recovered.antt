@@ -74,22 +74,26 @@ refused_fine NoMemory refused failed = failed
 refused_fine (Faulted name) refused failed = refused
 
 -- where the disk failed while it was read
-pub read_faults : (read : Image) (told : Option DiskState) (state : DiskState) → told ≡ Some state → (why : OpenError) → IsFaultAt told why → FaultsAt read state (recovery_by why)
-read_faults read told state is why.NotAStore at = tt
-read_faults read told state is (why.NewerFormat format) at = tt
-read_faults read told state is (why.Damaged name place) at = tt
-read_faults read told state is (why.Exhausted counter) at = tt
-read_faults read told state is why.NoMemory at = tt
-read_faults read told state is (why.Disk name) at = ⊎_elim
-    (λ (stands : ForSome told (Stands name)). at_read (stands state is))
-    (λ (listing : name ≡ no_file). at_list listing)
+pub read_faults : (read : Image) (told : Option DiskState) (state : DiskState) (before now : ℕ) → told ≡ Some state → now ≡ before
+    → (why : OpenError) → IsFaultAt told why → FaultsAt read state before now (recovery_by why)
+read_faults read told state before now is same why.NotAStore at = tt
+read_faults read told state before now is same (why.NewerFormat format) at = tt
+read_faults read told state before now is same (why.Damaged name place) at = tt
+read_faults read told state before now is same (why.Exhausted counter) at = tt
+read_faults read told state before now is same why.NoMemory at = tt
+read_faults read told state before now is same (why.Disk name) at = ⊎_elim
+    (λ (stands : ForSome told (Stands name)). at_read (stands state is) same)
+    (λ (listing : name ≡ no_file). at_list listing same)
     at
 
 -- and while it was repaired
-pub repaired_faults : (read : Image) (state : DiskState) (prepared : Prepared) → IsPrepared read prepared → (result : Result ManifestLog IoFail) (name : Name)
-    → result ≡ Err (Disk name) → IfErr result (IsFailAt (plan_view prepared.plan)) → IsFaultName read state name
-repaired_faults read state prepared is result name failed at =
-    at_repaired (repairing_of read prepared is) (subst (λ (r : Result ManifestLog IoFail). IfErr r (IsFailAt (plan_view prepared.plan))) failed at)
+pub repaired_faults : (read : Image) (state : DiskState) (before begun now : ℕ) → begun ≡ before → (prepared : Prepared) → IsPrepared read prepared
+    → (result : Result ManifestLog IoFail) (name : Name) → result ≡ Err (Disk name)
+    → IfErr result (IsFailAt (plan_view prepared.plan) begun now) → IsFaultName read state before now name
+repaired_faults read state before begun now same prepared is result name failed at =
+    at_repaired (repairing_of read prepared is)
+    (subst (λ (n : ℕ). IsFailAt (plan_view prepared.plan) n now (Disk name)) same
+    (subst (λ (r : Result ManifestLog IoFail). IfErr r (IsFailAt (plan_view prepared.plan) begun now)) failed at))
 
 -- nothing was changed
 module _ {D : Type 0} (g : Ghosts D) (only_now : (disk : D) (state other : DiskState) → g.told disk ≡ Some state → g.states_since disk (g.moment disk) other → other ≡ state)

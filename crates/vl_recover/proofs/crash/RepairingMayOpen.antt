@@ -14,8 +14,8 @@ use Rattle.vl_disk.specs.Started.{IsRead}
 use Rattle.vl_disk.specs.declared.name.Name.{Name}
 use Rattle.vl_disk.specs.declared.name.Name.TheVariants.{Log, Manifest}
 use Rattle.vl_manifest.specs.Current.{StandsReadable}
-use Rattle.vl_manifest.specs.Manifest.{IsReadable, SaysState}
-use Rattle.vl_manifest.specs.laws.ManifestLaws.{whole_manifest}
+use Rattle.vl_manifest.specs.Manifest.{IsReadable}
+use Rattle.vl_manifest.specs.laws.MadeLaws.{SaysAsRead, bare_manifest}
 use Rattle.vl_manifest.specs.declared.state.ManifestState.{ManifestState}
 use Rattle.vl_recover.specs.crash.Alike.{IsLeft, SameState}
 use Rattle.vl_recover.specs.laws.crash.AlikeLaws.{log_manifest, manifest_same, state_back, state_then}
@@ -28,7 +28,7 @@ use Rattle.vl_recover.proofs.crash.RepairingAgain.{GoesWell, StandsWell, below_w
 use Rattle.vl_recover.proofs.repairs.RepairingLaws.{last_ends, log_ends}
 use Rattle.vl_recover.specs.laws.repairing.RepairingOpens.{first, first_stand, fits, last, log_free, piece, plan, s, second, third, third_spare}
 use Rattle.vl_recover.specs.laws.repairing.RepairingStages.{held_settled}
-use Rattle.vl_recover.specs.laws.repairing.RepairingStart.{Begins, all_say, free_unread, manifests_nowhere, new_range}
+use Rattle.vl_recover.specs.laws.repairing.RepairingStart.{Begins, all_say, free_unread, manifests_nowhere, new_bare, new_range}
 use Rattle.vl_recover.specs.laws.crash.OneName.{IsLeftOne, IsPart, Making, done, left_before, left_elsewhere, left_one, left_there, made_elsewhere, made_there, making, may_miss, torn, waits}
 use Rattle.vl_recover.specs.opening.Opening.{Opening, Opens, Refusal}
 use Rattle.vl_recover.specs.laws.opening.OpeningLaws.{opened, single_opening, some_none, some_same}
@@ -84,7 +84,7 @@ module _ {read : Image} (found : Finds read) (start : DiskState) (begins : Begin
     leads = record {
       bytes = new_piece;
       stands = stands;
-      says = whole_manifest n new_s (fits found start begins strays) (new_range found start begins);
+      says = bare_manifest new_s (new_bare found start begins) n (new_range found start begins) (fits found start begins strays);
       above = λ m less. nowhere_kept (Manifest n) start now same (Manifest m)
           (λ e. omega (arith, less, manifest_same m n e))
           (manifests_nowhere found start begins m (omega (arith, less)));
@@ -98,9 +98,9 @@ module _ {read : Image} (found : Finds read) (start : DiskState) (begins : Begin
   module _ (now : DiskState) (lawful_now : IsLawful now) (file : File) (part : IsPart new_piece file)
       (stands : get now.standing (Manifest n) ≡ Some file) (same : SameElsewhere (Manifest n) start now) where
     torn_by : (bytes : List ℕ) (image : Image) → get image (Manifest n) ≡ Some bytes
-        → (IsReadable n bytes → ⊥) ⊎ SaysState n bytes new_s → IsTorn n new_s image
+        → (IsReadable n bytes → ⊥) ⊎ SaysAsRead n bytes new_s → IsTorn n new_s image
     torn_by bytes image is either = ⊎_elim (λ (not : IsReadable n bytes → ⊥). unread bytes is not)
-        (λ (said : SaysState n bytes new_s). says bytes is said) either
+        (λ (said : SaysAsRead n bytes new_s). says bytes is said) either
 
     -- what is left says the state,
     left_says : (image : Image) (o : Opening) → IsLeft now image → Opens image (Ok o)
@@ -125,7 +125,7 @@ module _ {read : Image} (found : Finds read) (start : DiskState) (begins : Begin
         by : (there : Option (List ℕ)) → get image (Manifest n) ≡ there → IsTorn n new_s image
         by None is = missing is
         by (Some bytes) is = torn_by bytes image is (torn_manifest n new_s (fits found start begins strays)
-            (new_range found start begins) file part bytes
+            (new_range found start begins) (new_bare found start begins) file part bytes
             (subst (λ (x : Option (List ℕ)). IsLeftOne (Manifest n) (Some file)
             (get now.removed (Manifest n)) x) is
             (subst (λ (x : Option File). IsLeftOne (Manifest n) x (get now.removed (Manifest n))
@@ -137,7 +137,7 @@ module _ {read : Image} (found : Finds read) (start : DiskState) (begins : Begin
     read_says image o is_read = torn_says n new_s image before (left_elsewhere (Manifest n) None image)
         (left_there (Manifest n) None image) said above
         (torn_by file.bytes image there (torn_manifest n new_s (fits found start begins strays)
-        (new_range found start begins) file part file.bytes
+        (new_range found start begins) (new_bare found start begins) file part file.bytes
         (part_no_chance (Manifest n) new_piece file part))) o
       where
         before : Image
@@ -165,7 +165,7 @@ module _ {read : Image} (found : Finds read) (start : DiskState) (begins : Begin
             (single_opening read (Ok found.opening) (Ok p) found.opens
             (subst (λ (i : Image). Opens i (Ok p)) is_before opens)) in
             subst (λ (x : Opening). SameState new_s x.state) alike
-            (record { levels = refl; head = refl; covered = refl })
+            (record { levels = refl; head = refl; covered = refl; keep = refl; since = refl })
 
         above : (m : ℕ) (bytes : List ℕ) → StandsReadable (remove image (Manifest n)) m bytes → m ≤ n
         above m bytes r = ⊎_elim

@@ -14,11 +14,15 @@ use Rattle.vl_frame.specs.laws.RunLaws.{frame_is_some}
 use Rattle.vl_frame.specs.Runs.{item_frame}
 use Rattle.vl_manifest.specs.Current.{StandsReadable}
 use Rattle.vl_manifest.specs.Grammar.{edits_grammar}
-use Rattle.vl_manifest.specs.Manifest.{IsReadable, SaysState}
+use Rattle.vl_manifest.specs.Manifest.{IsReadable}
+use Rattle.vl_manifest.specs.States.{as_read}
+use Rattle.vl_manifest.specs.laws.MadeLaws.{SaysAsRead}
+use Rattle.vl_manifest.specs.laws.TableLaws.{bare_told}
+use Rattle.vl_model.specs.Formats.{manifest_format}
 use Rattle.vl_manifest.specs.laws.ManifestLaws.{says_readable}
 use Rattle.vl_manifest.specs.declared.state.ManifestState.{ManifestState}
 use Rattle.vl_recover.specs.crash.Alike.{OpensLike, SameState, Spells}
-use Rattle.vl_recover.specs.laws.crash.AlikeLaws.{SameBut, lead_over, led_anew, like_lead, log_manifest, same_state, state_then}
+use Rattle.vl_recover.specs.laws.crash.AlikeLaws.{SameBut, lead_over, led_anew, like_lead, log_manifest, read_same, state_back, state_then}
 use Rattle.vl_recover.specs.laws.repairing.RepairingSteps.{table_manifest}
 use Rattle.vl_recover.specs.opening.Opening.{Heading, Led, Opening, Opens, Refusal, Says}
 use Rattle.vl_recover.specs.laws.opening.OpeningLaws.{one_heading, opened, single_says, some_none, some_same}
@@ -55,8 +59,8 @@ spelled_in (Log number) taken at piece frame (format, is_read, header, (item, re
 spelled_in (Table number) taken at piece frame spelled = absurd spelled
 spelled_in (Manifest number) taken at piece frame (item, rest, stands, is) =
     subst (λ (f : List ℕ). take (length f) (drop at piece) ≡ f) (sym is)
-    (front_in taken at piece (item_frame edits_grammar number at item) rest stands.spelled
-    (frame_is_some edits_grammar number at item))
+    (front_in taken at piece (item_frame (edits_grammar manifest_format) number at item) rest stands.spelled
+    (frame_is_some (edits_grammar manifest_format) number at item))
 
 -- A file that is being made has no frame by chance as it is read.
 pub part_no_chance : (name : Name) (piece : List ℕ) (file : File) → IsPart piece file
@@ -89,7 +93,7 @@ pub data IsTorn (number : ℕ) (s : ManifestState) (image : Image) : Type 0 wher
   missing : get image (Manifest number) ≡ None → IsTorn number s image
   unread : (bytes : List ℕ) → get image (Manifest number) ≡ Some bytes → (IsReadable number bytes → ⊥)
       → IsTorn number s image
-  says : (bytes : List ℕ) → get image (Manifest number) ≡ Some bytes → SaysState number bytes s
+  says : (bytes : List ℕ) → get image (Manifest number) ≡ Some bytes → SaysAsRead number bytes s
       → IsTorn number s image
 
 -- Then the image says this state, where it opens, if so does one without it.
@@ -109,17 +113,20 @@ module _ (number : ℕ) (s : ManifestState) (image before : Image)
       let (p, opens_before, shows) = like o opens in
       state_then s p.state o.state (said p opens_before) shows.state
 
-  by_itself : (bytes : List ℕ) → get image (Manifest number) ≡ Some bytes → SaysState number bytes s
+  by_itself : (bytes : List ℕ) → get image (Manifest number) ≡ Some bytes → SaysAsRead number bytes s
       → (o : Opening) → Opens image (Ok o) → SameState s o.state
   by_itself bytes stands says_s o opens =
       let led = led_anew image before number bytes same
-      (record { stands = stands; readable = says_readable number bytes s says_s }) above in
+      (record { stands = stands; readable = says_readable number bytes here says_s.says.says }) above in
       let is = opened image o opens in
       let heading = one_heading image is.heading (Led number bytes) is.by.headed led in
       let says_o = subst (λ (h : Heading). Says h (Ok o.state)) heading is.by.says in
-      let equal : s ≡ o.state = ok_same {E = Refusal} s o.state
-      (single_says (Led number bytes) (Ok s) (Ok o.state) (Ok s, says_s, refl) says_o) in
-      subst (SameState s) equal (same_state s)
+      let equal : here ≡ o.state = ok_same {E = Refusal} here o.state
+      (single_says (Led number bytes) (Ok here) (Ok o.state) (Ok here, bare_told number bytes here says_s.says, refl) says_o) in
+      subst (SameState s) equal (state_back here s (read_same says_s.format s))
+    where
+      here : ManifestState
+      here = as_read says_s.format s
 
   pub torn_says : IsTorn number s image → (o : Opening) → Opens image (Ok o) → SameState s o.state
   torn_says (missing none) = not_read (λ bytes r. some_none bytes (sym r.stands ∙ none))

@@ -1,6 +1,6 @@
 -- A store is repaired, stage by stage.
-use Rattle.std.proofs.Common.{◌≡◌, ◌⊎◌, ⊎_elim, inl, inr, ◌+◌, List, length, refl, sym, ap, subst, arith}
-use Rattle.std.specs.Prelude.{true, false, Result, Ok, Err, IfErr, IsErr, IsErrAnd, Contains}
+use Rattle.std.proofs.Common.{◌≡◌, ◌⊎◌, ⊎_elim, inl, inr, ℕ, ◌+◌, List, ◌++◌, length, refl, sym, ap, subst, ◌∙◌, arith}
+use Rattle.std.specs.Prelude.{true, false, Result, Ok, Err, IfErr, IsErr, IsErrAnd}
 use Rattle.std.specs.Option.{ForSome}
 use Rattle.vl_disk.specs.DiskState.{DiskState}
 use Rattle.vl_disk.specs.MadeFile.{WhileMaking}
@@ -14,13 +14,16 @@ use Rattle.vl_manifest.specs.declared.edit.Edit.{Edit}
 use Rattle.vl_manifest.specs.declared.fails.IoFail.{IoFail}
 use Rattle.vl_manifest.specs.declared.fails.IoFail.TheVariants as fails
 use Rattle.vl_manifest.specs.declared.manifest_log.ManifestLog.{ManifestLog}
-use Rattle.vl_recover.specs.repairing.Fitting.{Fits, FitsBehind, IsFileOf, is_manifest, is_stray}
+use Rattle.vl_recover.specs.repairing.Fitting.{Fits, FitsBehind}
 use Rattle.vl_recover.specs.repairing.Repairing.{Plan, WhileLast, WhileLog, WhileRepairing, WhileStrays, at_last, at_log, at_manifest, at_strays, behind_last, behind_log, behind_strays, calls_of_plan, calls_to_repair, repaired, with_manifest}
 use Rattle.vl_recover.specs.repairing.PlanViews.{plan_view}
 use Rattle.vl_recover.specs.opening.Plans.{calls_to_make}
-use Rattle.vl_recover.specs.repairing.Steps.{MakesLog, Repairs, RepairsBehind, RepairsLast, Performs, RemovesAll, WhileBehind, behind_manifest, calls_behind}
+use Rattle.vl_disk.specs.Faults.{after_calls}
+use Rattle.vl_disk.specs.Performs.{FailedAt, Performs, calls_on}
+use Rattle.vl_recover.specs.repairing.Steps.{MakesLog, Repairs, RepairsBehind, RepairsLast, RemovesAll, WhileBehind, behind_manifest, calls_behind, files_behind, last_files, log_files}
+use Rattle.vl_recover.proofs.repairs.Stepping.{err_weaker, last_count, log_count, named_on}
 use Rattle.vl_recover.specs.declared.plan.RepairingPlan.{RepairingPlan}
-use Rattle.vl_recover.proofs.repairs.Stepping.{changed_tells, part_tells, performs_as, performs_stop, performs_then, same_tells}
+use Rattle.vl_disk.specs.laws.Performing.{changed_tells, failed_before, failed_behind, failed_on, part_tells, performs_as, performs_stop, performs_then, same_tells}
 
 false_true : false ≡ true → ⊥
 false_true e = cc
@@ -59,10 +62,50 @@ module _ {D : Type 0} (g : Ghosts D) (plan : Plan) where
       (subst (λ (r : Result U F). MakesLog g plan.log mid end r) then log)
       (subst (λ (ns : List Name). RemovesAll g ns end new result) same strays)))
 
--- a stray is a file of the plan
-pub strays_at : (plan : Plan) (names : List Name) (result : Result Unit Name) → names ≡ plan.strays → IfErr result (Contains names) → IfErr result (IsFileOf plan)
-strays_at plan names (Ok u) same at = tt
-strays_at plan names (Err name) same at = is_stray (subst (λ (ns : List Name). Contains ns name) same at)
+-- ---- at which file the disk failed
+
+module _ {D : Type 0} (g : Ghosts D) (plan : Plan) (old mid : D) where
+  -- at the last log
+  pub last_failed : (last : Result Unit Name) (e : Name) (result : Result Unit Name) → last ≡ Err e → IsErr result → IsErrAnd result (λ f. f ≡ e)
+      → IfErr last (FailedAt (last_files plan.last) (g.calls old) (g.calls mid))
+      → IfErr result (FailedAt (files_behind plan) (g.calls old) (g.calls mid))
+  last_failed last e result is stopped same at =
+      named_on last e result (FailedAt (last_files plan.last) (g.calls old) (g.calls mid)) (FailedAt (files_behind plan) (g.calls old) (g.calls mid))
+      is stopped same (λ name. failed_before (last_files plan.last) (log_files plan.log ++ plan.strays) (g.calls old) (g.calls mid) name) at
+
+  -- the last log was repaired
+  module _ (end : D) (last : Result Unit Name) (u : Unit {0}) where
+    last_calls : last ≡ Ok u → RepairsLast g plan.last old mid last → g.calls mid ≡ after_calls (length (last_files plan.last)) (g.calls old)
+    last_calls is repairs =
+        (subst (λ (r : Result Unit Name). RepairsLast g plan.last old mid r) is repairs).calls
+        ∙ ap (λ (n : ℕ). after_calls n (g.calls old)) (last_count plan.last)
+
+    -- at the new log
+    pub log_failed : (log : Result Unit Name) (e : Name) (result : Result Unit Name) → last ≡ Ok u → log ≡ Err e → IsErr result
+        → IsErrAnd result (λ f. f ≡ e) → RepairsLast g plan.last old mid last
+        → IfErr log (FailedAt (log_files plan.log) (g.calls mid) (g.calls end))
+        → IfErr result (FailedAt (files_behind plan) (g.calls old) (g.calls end))
+    log_failed log e result went is stopped same repairs at =
+        named_on log e result (FailedAt (log_files plan.log) (g.calls mid) (g.calls end)) (FailedAt (files_behind plan) (g.calls old) (g.calls end))
+        is stopped same (λ name failed. failed_behind (last_files plan.last) (log_files plan.log ++ plan.strays) (g.calls old) (g.calls mid) (g.calls end) name
+        (last_calls went repairs) (failed_before (log_files plan.log) plan.strays (g.calls mid) (g.calls end) name failed)) at
+
+    -- at a stray
+    module _ (new : D) where
+      pub strays_failed : (log : Result Unit Name) (v : Unit {0}) (names : List Name) (result : Result Unit Name) → last ≡ Ok u → log ≡ Ok v
+          → names ≡ plan.strays → RepairsLast g plan.last old mid last → MakesLog g plan.log mid end log
+          → IfErr result (FailedAt names (g.calls end) (g.calls new))
+          → IfErr result (FailedAt (files_behind plan) (g.calls old) (g.calls new))
+      strays_failed log v names result went made same repairs makes at =
+          err_weaker result (FailedAt names (g.calls end) (g.calls new)) (FailedAt (files_behind plan) (g.calls old) (g.calls new))
+          (λ name failed. failed_behind (last_files plan.last) (log_files plan.log ++ plan.strays) (g.calls old) (g.calls mid) (g.calls new) name
+          (last_calls went repairs)
+          (failed_behind (log_files plan.log) plan.strays (g.calls mid) (g.calls end) (g.calls new) name log_calls
+          (subst (λ (ns : List Name). FailedAt ns (g.calls end) (g.calls new) name) same failed))) at
+        where
+          log_calls : g.calls end ≡ after_calls (length (log_files plan.log)) (g.calls mid)
+          log_calls = (subst (λ (r : Result Unit Name). MakesLog g plan.log mid end r) made makes).calls
+              ∙ ap (λ (n : ℕ). after_calls n (g.calls mid)) (log_count plan.log)
 
 -- ---- with the new manifest
 
@@ -109,7 +152,9 @@ module _ {D : Type 0} (g : Ghosts D) (plan : RepairingPlan) (edits : List Edit) 
         done = tt;
         calls = tt;
         stops = (makes.answer.stops.0, omega (arith, makes.answer.stops.2), makes.answer.stops.3);
-        at = is_manifest makes.answer.name_is;
+        at = failed_before (calls_on 3 (Manifest plan.manifest)) (files_behind view) (g.calls old) (g.calls mid) name
+            (subst (FailedAt (calls_on 3 (Manifest plan.manifest)) (g.calls old) (g.calls mid)) (sym makes.answer.name_is)
+            (failed_on 3 (Manifest plan.manifest) (g.calls old) (g.calls mid) makes.answer.stops));
         no_memory = λ e. absurd (disk_room name e);
         tells = part_tells (Manifest plan.manifest) view.piece (g.told old) (g.told mid) makes.answer.part;
         time = passes_weaker (past_of g old) (past_of g mid)
@@ -177,15 +222,16 @@ module _ {D : Type 0} (g : Ghosts D) (plan : RepairingPlan) (edits : List Edit) 
           ok_err l e is = cc
 
       -- the disk failed
-      pub repairing_fails : (name : Name) → IsFileOf view name → RepairsBehind {T = Unit {0}} g view mid new (Err name) → Repairs g view old new (Err (fails.Disk name))
+      pub repairing_fails : (name : Name) → FailedAt (files_behind view) (g.calls mid) (g.calls new) name → RepairsBehind {T = Unit {0}} g view mid new (Err name) → Repairs g view old new (Err (fails.Disk name))
       repairing_fails name at behind =
           let step = both (Err name) behind in
           record {
             manifest = tt;
             done = tt;
             calls = tt;
-            stops = step.stops;
-            at = at;
+            stops = (step.stops.0, step.stops.2, step.stops.3);
+            at = failed_behind (calls_on 3 (Manifest plan.manifest)) (files_behind view) (g.calls old) (g.calls mid) (g.calls new) name
+                done_so.answer.calls at;
             no_memory = λ e. absurd (disk_room name e);
             tells = step.tells;
             time = step.time;

@@ -1,6 +1,24 @@
--- Steps of a repairing, each said of what it does to the plan.
-use Rattle.std.proofs.Common.{◌≡◌, List, subst, sym}
+-- Steps of a repairing, said of what it is to do.
+use Rattle.std.proofs.Common.{◌≡◌, ℕ, List, length, refl, sym, subst}
 use Rattle.std.specs.Prelude.{true, false, Option, None, Some, Result, Ok, Err, IfErr, IsErr, IsErrAnd}
+use Rattle.vl_disk.specs.DiskState.{DiskState}
+use Rattle.vl_disk.specs.MadeFile.{Makes, WhileMaking, made}
+use Rattle.vl_disk.specs.Performs.{FailedAt, Performs, calls_on}
+use Rattle.vl_disk.specs.declared.errors.Failed.{Failed}
+use Rattle.vl_disk.specs.declared.name.Name.{Name}
+use Rattle.vl_disk.specs.declared.name.Name.TheVariants.{Log}
+use Rattle.vl_disk.specs.declared.watched.Watched.{Ghosts}
+use Rattle.vl_disk.specs.laws.Performing.{failed_on, make_performs, nothing_performed}
+use Rattle.vl_recover.specs.opening.Plans.{calls_to_make}
+use Rattle.vl_recover.specs.repairing.Repairing.{Cut, Headed, Kept, LastLog, NoLast, Rewritten, WhileLast, WhileLog, behind_last, calls_to_repair}
+use Rattle.vl_recover.specs.repairing.PlanViews.{at_file}
+use Rattle.vl_model.specs.Formats.{log_format}
+use Rattle.vl_recover.specs.repairing.Steps.{MakesLog, RepairsLast, last_files, log_files}
+use Rattle.vl_seglog.specs.Frames.{log_header}
+
+false_true : false ≡ true → ⊥
+false_true e = cc
+
 -- with the file's name where it failed
 pub performs_at : {D A : Type 0} (g : Ghosts D) (after : DiskState → DiskState) (during : DiskState → DiskState → Type 0) (n : ℕ) (old new : D)
     (name : Name) (result : Result A Failed) → Performs g after during n old new result → Performs g after during n old new (at_file name result)
@@ -49,3 +67,31 @@ pub named_on : {T A E : Type 0} (first : Result T E) (e : E) (result : Result A 
     → ((f : E) → P f → Q f) → IfErr first P → IfErr result Q
 named_on first e (Ok a) P Q is failed same onto here = absurd (false_true failed)
 named_on {T = T} {E = E} first e (Err f) P Q is failed same onto here = onto f (subst P (sym same) (subst (λ (r : Result T E). IfErr r P) is here))
+
+-- a run of calls on one file, where it failed
+pub failed_at : {D A : Type 0} (g : Ghosts D) (after : DiskState → DiskState) (during : DiskState → DiskState → Type 0) (n : ℕ) (old new : D)
+    (name : Name) (outcome : Result A Failed) (result : Result A Name) → result ≡ at_file name outcome
+    → Performs g after during n old new outcome → IfErr result (FailedAt (calls_on n name) (g.calls old) (g.calls new))
+failed_at {A = A} g after during n old new name outcome result is step =
+    subst (λ (r : Result A Name). IfErr r (FailedAt (calls_on n name) (g.calls old) (g.calls new))) (sym is) (by outcome step)
+  where
+    by : (o : Result A Failed) → Performs g after during n old new o → IfErr (at_file name o) (FailedAt (calls_on n name) (g.calls old) (g.calls new))
+    by (Ok a) step = tt
+    by (Err e) step = failed_on n name (g.calls old) (g.calls new) step.stops
+
+-- what is so of the name where it failed
+pub err_weaker : {A E : Type 0} (result : Result A E) (P Q : E → Type 0) → ((e : E) → P e → Q e) → IfErr result P → IfErr result Q
+err_weaker (Ok a) P Q onto here = tt
+err_weaker (Err e) P Q onto here = onto e here
+
+-- so many calls are made of the last log
+pub last_count : (last : LastLog) → calls_to_repair last ≡ length (last_files last)
+last_count NoLast = refl
+last_count (Kept log) = refl
+last_count (Cut log len) = refl
+last_count (Rewritten log) = refl
+last_count (Headed log) = refl
+
+pub log_count : (log : Option ℕ) → calls_to_make log ≡ length (log_files log)
+log_count None = refl
+log_count (Some log) = refl

@@ -9,15 +9,19 @@ use Rattle.vl_disk.specs.declared.name.Name.TheVariants.{Log, Table, Manifest}
 use Rattle.vl_frame.specs.Begins.{SpellsAt}
 use Rattle.vl_manifest.specs.Grammar.{edits_grammar}
 use Rattle.vl_manifest.specs.declared.state.ManifestState.{ManifestState}
+use Rattle.vl_model.specs.Formats.{manifest_format}
 use Rattle.vl_seglog.specs.Frames.{frames_grammar}
 use Rattle.vl_seglog.specs.LogReading.{HasHeader, IsLogFormat}
 use Rattle.vl_recover.specs.opening.Opening.{Opening, Opens}
 
--- two manifests say the same, but for the numbers that may still be given
+-- Two manifests say the same, but for the numbers that may still be given. Neither is `gone` among it: where a crash tears
+-- the new manifest's header into one of an older format, its covered number is read for it.
 pub record SameState (a b : ManifestState) : Type 0 where
   pub levels : a.levels ≡ b.levels
   pub head : a.head ≡ b.head
   pub covered : a.covered ≡ b.covered
+  pub keep : a.keep ≡ b.keep
+  pub since : a.since ≡ b.since
 
 -- so do two openings, which have the same logs and the same last commit
 pub record ShowsAs (a b : Opening) : Type 0 where
@@ -39,7 +43,7 @@ SpellsLogged number bytes at frame = (format : ℕ) × IsLogFormat format × Has
 abbrev pub Spells : Name → List ℕ → ℕ → List ℕ → Type 0
 Spells (Log number) bytes at frame = SpellsLogged number bytes at frame
 Spells (Table number) bytes at frame = ⊥
-Spells (Manifest number) bytes at frame = SpellsAt edits_grammar number bytes at frame
+Spells (Manifest number) bytes at frame = SpellsAt (edits_grammar manifest_format) number bytes at frame
 
 -- the image may be left by a crash, and no torn bytes of it spell a frame by chance
 pub record IsLeft (disk : DiskState) (image : Image) : Type 0 where

@@ -6,7 +6,7 @@ use Rattle.vl_disk.specs.DiskState.{DiskState, File, settled}
 use Rattle.vl_disk.specs.declared.name.Name.{Name}
 use Rattle.vl_disk.specs.declared.name.Name.TheVariants.{Log, Manifest}
 use Rattle.vl_layout.specs.declared.segment.Segment.{Segment}
-use Rattle.vl_manifest.specs.Manifest.{ManifestSays}
+use Rattle.vl_manifest.specs.Tables.{SaysBareState}
 use Rattle.vl_manifest.specs.declared.state.ManifestState.{ManifestState}
 use Rattle.vl_frame.specs.Runs.{HasFrame}
 use Rattle.vl_recover.specs.opening.Opening.{Opening}
@@ -28,7 +28,7 @@ pub record HoldsManifest (state : ManifestState) (disk : DiskState) : Type 0 whe
   pub number : ℕ
   pub bytes : List ℕ
   pub stands : IsSettled disk (Manifest number) bytes
-  pub says : ManifestSays number bytes (Ok state)
+  pub says : SaysBareState number bytes state
   pub above : (m : ℕ) → number < m → IsNowhere disk (Manifest m)
 
 -- from a number on stand just these logs, rising, each durable with its frames and nothing else, and none other was removed

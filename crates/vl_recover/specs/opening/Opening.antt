@@ -6,7 +6,7 @@ use Rattle.vl_disk.specs.declared.name.Name.{Name}
 use Rattle.vl_disk.specs.declared.name.Name.TheVariants.{Log, Table, Manifest}
 use Rattle.vl_layout.specs.declared.segment.Segment.{Segment}
 use Rattle.vl_manifest.specs.Current.{IsCurrent, IsNewest, NoneCurrent, StandsNewer}
-use Rattle.vl_manifest.specs.Manifest.{ManifestSays}
+use Rattle.vl_manifest.specs.Tables.{SaysWithoutTables}
 use Rattle.vl_manifest.specs.States.{fresh_state}
 use Rattle.vl_manifest.specs.declared.state.ManifestState.{ManifestState}
 use Rattle.vl_seglog.specs.LogReading.{ReadsLog}
@@ -54,7 +54,7 @@ IsHeaded image (Led n bytes) = IsCurrent image n bytes
 IsHeaded image Headless = IsHeadless image × NoneNewer image
 IsHeaded image (Newest format) = IsHeadless image × IsNewest image format
 
--- ---- the first stage: what the current manifest says
+-- ---- the first stage: what the current manifest says to a store that can't open tables
 
 abbrev pub of_manifest : ℕ → Result ManifestState ℕ → Result ManifestState Refusal
 of_manifest n (Ok state) = Ok state
@@ -64,7 +64,7 @@ of_manifest n (Err place) = Err (Damaged (Manifest n) place)
 abbrev pub Says : Heading → Result ManifestState Refusal → Type 0
 Says Bare r = r ≡ Ok fresh_state
 Says (Led n bytes) r =
-    (said : Result ManifestState ℕ) × ManifestSays n bytes said × (r ≡ of_manifest n said)
+    (said : Result ManifestState ℕ) × SaysWithoutTables n bytes said × (r ≡ of_manifest n said)
 Says Headless r = r ≡ Err NotAStore
 Says (Newest format) r = r ≡ Err (NewerFormat format)
 

@@ -1,5 +1,5 @@
 -- When a plan of repairing fits a disk: what must stand and be free, and the room that its calls want.
-use Rattle.std.specs.Prelude.{◌≡◌, ◌≢◌, ℕ, List, [], ◌∷◌, Option, None, Some, IsTrue, Contains}
+use Rattle.std.specs.Prelude.{◌≡◌, ◌≢◌, ℕ, List, [], ◌∷◌, Option, None, Some, IsTrue}
 use Rattle.vl_disk.specs.Disk.{IsFree, IsInside, Stands}
 use Rattle.vl_disk.specs.DiskState.{DiskState, without}
 use Rattle.vl_disk.specs.Name.{IsNumbered}
@@ -92,23 +92,3 @@ IsOtherLog (Some log) name = name ≢ Log log
 -- the room of all files but the new log is as it was
 abbrev pub SameSpareBesideLog : Option ℕ → (Name → Spare) → (Name → Spare) → Type 0
 SameSpareBesideLog log old new = (name : Name) → IsOtherLog log name → new name ≡ old name
-
--- ---- the files that a plan works on
-
-abbrev pub IsLastFile : LastLog → Name → Type 0
-IsLastFile NoLast name = ⊥
-IsLastFile (Kept log) name = name ≡ Log log
-IsLastFile (Cut log len) name = name ≡ Log log
-IsLastFile (Rewritten log) name = name ≡ Log log
-IsLastFile (Headed log) name = name ≡ Log log
-
-abbrev pub IsNewLog : Option ℕ → Name → Type 0
-IsNewLog None name = ⊥
-IsNewLog (Some log) name = name ≡ Log log
-
--- this is one of them: the new manifest, the last log, the new log or a stray
-pub data IsFileOf (plan : Plan) (name : Name) : Type 0 where
-  is_manifest : name ≡ Manifest plan.manifest → IsFileOf plan name
-  is_last : IsLastFile plan.last name → IsFileOf plan name
-  is_log : IsNewLog plan.log name → IsFileOf plan name
-  is_stray : Contains plan.strays name → IsFileOf plan name

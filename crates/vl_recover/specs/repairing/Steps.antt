@@ -1,41 +1,20 @@
--- What a step of a repairing does: some changing calls, one behind the other, of which one that fails is the last.
-use Rattle.std.specs.Prelude.{◌≡◌, ◌⊎◌, ℕ, ◌+◌, length, ◌≤◌, List, Option, Some, Result, Err, IfErr, IfOk, OnOk, OnErr, IsErr}
+-- What each step of a repairing does.
+use Rattle.std.specs.Prelude.{◌≡◌, ◌⊎◌, ℕ, ◌+◌, length, ◌≤◌, List, [], ◌++◌, Option, None, Some, Result, Err, IfErr, IfOk, OnOk, OnErr}
 use Rattle.vl_disk.specs.Calls.{ChangesNothing}
 use Rattle.vl_disk.specs.Disk.{IsChangedBy}
 use Rattle.vl_disk.specs.DiskState.{DiskState}
 use Rattle.vl_disk.specs.Faults.{HasCause, after_calls}
 use Rattle.vl_disk.specs.Moments.{Elapses}
+use Rattle.vl_disk.specs.Performs.{FailedAt, GoesOnTelling, Performs, calls_on}
 use Rattle.vl_disk.specs.declared.name.Name.{Name}
+use Rattle.vl_disk.specs.declared.name.Name.TheVariants.{Log, Manifest}
 use Rattle.vl_disk.specs.declared.watched.Watched.{Ghosts}
 use Rattle.vl_manifest.specs.Making.{HasFailed}
 use Rattle.vl_manifest.specs.declared.fails.IoFail.{IoFail}
 use Rattle.vl_manifest.specs.declared.fails.IoFail.TheVariants.{Disk, NoMemory}
 use Rattle.vl_manifest.specs.declared.manifest_log.ManifestLog.{ManifestLog}
-use Rattle.vl_recover.specs.repairing.Fitting.{IsFileOf}
-use Rattle.vl_recover.specs.repairing.Repairing.{LastLog, Plan, WhileLast, WhileLog, WhileRepairing, WhileStrays, behind_last, behind_log, behind_strays, calls_of_plan, calls_to_repair, repaired}
+use Rattle.vl_recover.specs.repairing.Repairing.{Cut, Headed, Kept, LastLog, NoLast, Plan, Rewritten, WhileLast, WhileLog, WhileRepairing, WhileStrays, behind_last, behind_log, behind_strays, calls_of_plan, calls_to_repair, repaired}
 use Rattle.vl_recover.specs.opening.Plans.{calls_to_make}
-
--- what tells goes on telling
-abbrev pub GoesOnTelling : Option DiskState → Option DiskState → Type 0
-GoesOnTelling old new =
-    (state : DiskState) → old ≡ Some state → (now : DiskState) × (new ≡ Some now)
-
--- some of so many changing calls were made, or all
-abbrev pub MakesSome : (count before now : ℕ) → Type 0
-MakesSome count before now = (n : ℕ) × (n ≤ count) × (now ≡ after_calls n before)
-
--- A step, by what it makes of a disk, what the disk may be meanwhile, and the count of its calls.
-pub record Performs {D T E : Type 0} (g : Ghosts D) (after : DiskState → DiskState)
-    (during : DiskState → DiskState → Type 0) (count : ℕ) (old new : D) (result : Result T E) : Type 0 where
-  -- without a failure the disk is as the step makes it,
-  pub done : OnOk result (IsChangedBy after (g.told old) (g.told new))
-  -- after just so many changing calls
-  pub calls : OnOk result (g.calls new ≡ after_calls count (g.calls old))
-  -- where it failed, after some of them
-  pub stops : OnErr result (MakesSome count (g.calls old) (g.calls new))
-  pub tells : GoesOnTelling (g.told old) (g.told new)
-  pub time : Elapses g old new during
-  pub cause : HasCause (g.faults old) (g.faults new) (IsErr result)
 
 -- the last log is repaired and made durable
 abbrev pub RepairsLast : {D T E : Type 0} → Ghosts D → LastLog → D → D → Result T E → Type 0
@@ -51,6 +30,25 @@ MakesLog g log old new result =
 abbrev pub RemovesAll : {D T E : Type 0} → Ghosts D → List Name → D → D → Result T E → Type 0
 RemovesAll g names old new result =
     Performs g (behind_strays names) (WhileStrays names) (length names) old new result
+
+-- ---- the file of each changing call, in their order
+
+abbrev pub last_files : LastLog → List Name
+last_files NoLast = []
+last_files (Kept log) = calls_on 1 (Log log)
+last_files (Cut log len) = calls_on 2 (Log log)
+last_files (Rewritten log) = calls_on 3 (Log log)
+last_files (Headed log) = calls_on 2 (Log log)
+
+abbrev pub log_files : Option ℕ → List Name
+log_files None = []
+log_files (Some log) = calls_on 3 (Log log)
+
+abbrev pub files_behind : Plan → List Name
+files_behind plan = last_files plan.last ++ (log_files plan.log ++ plan.strays)
+
+abbrev pub files_of : Plan → List Name
+files_of plan = calls_on 3 (Manifest plan.manifest) ++ files_behind plan
 
 -- ---- all of a plan
 
@@ -71,9 +69,14 @@ abbrev pub RepairsBehind : {D T E : Type 0} → Ghosts D → Plan → D → D �
 RepairsBehind g plan old new result =
     Performs g (behind_manifest plan) (WhileBehind plan) (calls_behind plan) old new result
 
-abbrev pub IsFailAt : Plan → IoFail → Type 0
-IsFailAt plan NoMemory = Unit {0}
-IsFailAt plan (Disk name) = IsFileOf plan name
+-- by the counts of changing calls before and now the last one failed, and is on the file that is named
+abbrev pub IsFailAt : Plan → (before now : ℕ) → IoFail → Type 0
+IsFailAt plan before now NoMemory = Unit {0}
+IsFailAt plan before now (Disk name) = FailedAt (files_of plan) before now name
+
+-- some of so many changing calls were made, or all, or none
+abbrev pub MakesSome : (count before now : ℕ) → Type 0
+MakesSome count before now = (n : ℕ) × (n ≤ count) × (now ≡ after_calls n before)
 
 -- A store is repaired by a plan.
 pub record Repairs {D : Type 0} (g : Ghosts D) (plan : Plan) (old new : D)
@@ -82,8 +85,8 @@ pub record Repairs {D : Type 0} (g : Ghosts D) (plan : Plan) (old new : D)
   pub done : OnOk result (IsChangedBy (repaired plan) (g.told old) (g.told new))
   pub calls : OnOk result (g.calls new ≡ after_calls (calls_of_plan plan) (g.calls old))
   pub stops : OnErr result (MakesSome (calls_of_plan plan) (g.calls old) (g.calls new))
-  -- where the disk failed, it was at a file of the plan; for want of memory it does nothing
-  pub at : IfErr result (IsFailAt plan)
+  -- where the disk failed, the file of the call that did is named; for want of memory it does nothing
+  pub at : IfErr result (IsFailAt plan (g.calls old) (g.calls new))
   pub no_memory : result ≡ Err NoMemory → ChangesNothing g old new ⊥
   pub tells : GoesOnTelling (g.told old) (g.told new)
   pub time : Elapses g old new (WhileRepairing plan)

@@ -3,7 +3,7 @@ use Rattle.vl_disk.specs.Crash.{WhileAppending, WhileSyncing}
 use Rattle.vl_disk.specs.DiskState.{synced}
 use Rattle.vl_disk.specs.declared.name.Name.TheVariants.{Log}
 use Rattle.vl_recover.specs.repairing.Repairing.{Headed, WhileLast, behind_last, headed}
-use Rattle.vl_recover.proofs.repairs.Stepping.{append_as, performs_stop, performs_then, sync_performs}
+use Rattle.vl_disk.specs.laws.Performing.{append_as, performs_stop, performs_then, sync_performs}
 use Rattle.vl_model.specs.Formats.{log_format}
 use Rattle.vl_seglog.specs.Frames.{log_header}
 use Rattle.vl_recover.proofs.last.head.Goals as goal

@@ -1,10 +1,11 @@
-use Rattle.std.proofs.Common.{ap, refl, subst}
+use Rattle.std.proofs.Common.{ap, subst}
 use Rattle.std.specs.Option.{ForSome}
 use Rattle.vl_disk.specs.declared.name.Name.TheVariants.{Log}
 use Rattle.vl_recover.specs.repairing.Fitting.{CanRepair}
 use Rattle.vl_recover.specs.repairing.Repairing.{Kept, LastLog}
 use Rattle.vl_recover.specs.repairing.PlanViews.{step_of}
-use Rattle.vl_recover.proofs.repairs.Stepping.{last_at, last_none, named_at, sync_performs}
+use Rattle.vl_disk.specs.laws.Performing.{sync_performs}
+use Rattle.vl_recover.proofs.repairs.Stepping.{failed_at, last_at, last_none}
 use Rattle.vl_recover.proofs.last.repair_last.Goals as goal
 
 pub sync-requires : goal.sync-requires
@@ -32,13 +33,18 @@ returns-in-Keep-clause-repaired g c =
     (sync_performs g.D.Watched _ _ (Log c.in-Keep.number) c.sync.result c.sync.ensures)
 
 pub returns-in-Keep-clause-at : goal.returns-in-Keep-clause-at
-returns-in-Keep-clause-at g c = rw c.in-Keep.is (named_at (Log c.in-Keep.number) c.sync.result c.at.result _ c.at.ensures refl)
+returns-in-Keep-clause-at g c = rw c.in-Keep.is
+    (failed_at g.D.Watched _ _ 1 _ _ (Log c.in-Keep.number) c.sync.result c.at.result c.at.ensures
+    (sync_performs g.D.Watched _ _ (Log c.in-Keep.number) c.sync.result c.sync.ensures))
 
 pub returns-in-Cut-clause-at : goal.returns-in-Cut-clause-at
-returns-in-Cut-clause-at g c = rw c.in-Cut.is (named_at (Log c.in-Cut.number) c.cut.result c.at-in-Cut.result _ c.at-in-Cut.ensures refl)
+returns-in-Cut-clause-at g c = rw c.in-Cut.is
+    (failed_at g.D.Watched _ _ 2 _ _ (Log c.in-Cut.number) c.cut.result c.at-in-Cut.result c.at-in-Cut.ensures c.cut.ensures.repaired)
 
 pub returns-in-Rewrite-clause-at : goal.returns-in-Rewrite-clause-at
-returns-in-Rewrite-clause-at g c = rw c.in-Rewrite.is (named_at (Log c.in-Rewrite.number) c.rewrite.result c.at-in-Rewrite.result _ c.at-in-Rewrite.ensures refl)
+returns-in-Rewrite-clause-at g c = rw c.in-Rewrite.is
+    (failed_at g.D.Watched _ _ 3 _ _ (Log c.in-Rewrite.number) c.rewrite.result c.at-in-Rewrite.result c.at-in-Rewrite.ensures c.rewrite.ensures.repaired)
 
 pub returns-in-Head-clause-at : goal.returns-in-Head-clause-at
-returns-in-Head-clause-at g c = rw c.in-Head.is (named_at (Log c.in-Head.number) c.head.result c.at-in-Head.result _ c.at-in-Head.ensures refl)
+returns-in-Head-clause-at g c = rw c.in-Head.is
+    (failed_at g.D.Watched _ _ 2 _ _ (Log c.in-Head.number) c.head.result c.at-in-Head.result c.at-in-Head.ensures c.head.ensures.repaired)

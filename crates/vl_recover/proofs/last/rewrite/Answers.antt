@@ -3,7 +3,7 @@ use Rattle.vl_disk.specs.Crash.{WhileCutting}
 use Rattle.vl_disk.specs.DiskState.{cut_to}
 use Rattle.vl_disk.specs.declared.name.Name.TheVariants.{Log}
 use Rattle.vl_recover.specs.repairing.Repairing.{Headed, Rewritten, WhileLast, behind_last}
-use Rattle.vl_recover.proofs.repairs.Stepping.{cut_performs, performs_stop, performs_then}
+use Rattle.vl_disk.specs.laws.Performing.{cut_performs, performs_stop, performs_then}
 use Rattle.vl_recover.proofs.last.rewrite.Goals as goal
 
 pub returns-in_err-cut-clause-repaired : goal.returns-in_err-cut-clause-repaired

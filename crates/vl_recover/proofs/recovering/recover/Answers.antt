@@ -144,12 +144,14 @@ returns-in-Ok-repair-clause-stands g c =
 
 -- where it failed
 pub returns-in-Err-clause-at : goal.returns-in-Err-clause-at
-returns-in-Err-clause-at g c state read told is_read = read_faults read (g.D.Watched.told c.args.disk) state told c.in-Err.why c.in-Err.ensures.at
+returns-in-Err-clause-at g c state read told is_read =
+    read_faults read (g.D.Watched.told c.args.disk) state _ _ told c.in-Err.ensures.no_change.calls c.in-Err.why c.in-Err.ensures.at
 
 pub returns-clause-at : goal.returns-clause-at
 returns-clause-at g c state read told is_read =
     let failed = rw c.in-Err-Disk.field-0-is at c.in-Err-Disk.is in
-    repaired_faults read state c.in-Ok.prepared (c.in-Ok.ensures.answer state read told is_read) c.repair.result c.in-Err-Disk.name failed c.repair.ensures.at
+    repaired_faults read state _ _ _ c.in-Ok.ensures.no_change.calls c.in-Ok.prepared (c.in-Ok.ensures.answer state read told is_read) c.repair.result
+    c.in-Err-Disk.name failed c.repair.ensures.at
 
 -- and how many calls it had made
 pub returns-in-Err-clause-stopped : goal.returns-in-Err-clause-stopped

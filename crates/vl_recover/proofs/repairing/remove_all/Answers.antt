@@ -1,9 +1,5 @@
-use Rattle.std.proofs.lemmas.List.Elements.{Contains-get_or}
-use Rattle.std.specs.Prelude.{Contains}
-use Rattle.vl_disk.specs.declared.name.Name.TheVariants.{Log}
-use Rattle.vl_recover.proofs.repairs.Stepping.{named_at, named_on}
 use Rattle.std.proofs.Common.{arith}
-use Rattle.vl_recover.proofs.repairs.Removals.{can_here, can_next, left_from, none_left, removing_ends, removing_goes_on, removing_stops}
+use Rattle.vl_recover.proofs.repairs.Removals.{can_here, can_next, left_from, none_left, removing_ends, removing_failed, removing_goes_on, removing_stops}
 use Rattle.vl_recover.proofs.repairing.remove_all.Goals as goal
 
 pub remove-requires : goal.remove-requires
@@ -26,7 +22,5 @@ returns-clause-removed g c = removing_ends g.D.Watched _ _ _ _ (none_left c.args
 
 pub returns-in_err-at-clause-at : goal.returns-in_err-at-clause-at
 returns-in_err-at-clause-at g c =
-    named_on c.at.result c.in_err-at.field-0.0 c.from_residual.result (Contains c.args.names.now) (Contains c.args.names.now)
-    c.in_err-at.was c.from_residual.ensures.0 c.from_residual.ensures.1 (λ name here. here)
-    (named_at _ c.remove.result c.at.result (Contains c.args.names.now) c.at.ensures
-    (Contains-get_or c.args.names.now c.loop-name.name-index (Log 0) (omega arith)))
+    removing_failed g.D.Watched _ _ _ _ _ _ _ (left_from c.args.names.now c.loop-name.name-index (omega arith)) c.loop-name.invariant.so_far c.at.result
+    c.remove.result _ c.from_residual.result c.at.ensures c.in_err-at.was c.from_residual.ensures.0 c.from_residual.ensures.1 c.remove.ensures

@@ -1,5 +1,5 @@
 -- Opening depends on what leads an image and on its logs from head on.
-use Rattle.std.specs.Prelude.{◌≡◌, ◌≢◌, ◌⊎◌, ◌≤◌, ◌<◌, ℕ, ◌+◌, List, [], ◌∷◌, length, None, Some, Result, Ok, Err, refl, true}
+use Rattle.std.specs.Prelude.{◌≡◌, ◌≢◌, ◌⊎◌, ◌≤◌, ◌<◌, ℕ, ◌+◌, if◌then◌else◌, List, [], ◌∷◌, length, None, Some, Result, Ok, Err, refl, true, Bool, false, nat_le}
 use Rattle.std.specs.FinMap.{get}
 use Rattle.std.proofs.Common.{sym, ap, subst, ◌∙◌, arith, ⊎_elim}
 use Rattle.std.proofs.lemmas.Bool.{cases_eq}
@@ -8,7 +8,10 @@ use Rattle.vl_disk.specs.laws.NameMap.{same_or_other}
 use Rattle.vl_disk.specs.declared.name.Name.{Name}
 use Rattle.vl_disk.specs.declared.name.Name.TheVariants.{Log, Table, Manifest}
 use Rattle.vl_manifest.specs.Current.{IsCurrent, StandsReadable}
-use Rattle.vl_manifest.specs.Manifest.{SaysState}
+use Rattle.vl_manifest.specs.Formats.{gone_format}
+use Rattle.vl_manifest.specs.States.{as_read}
+use Rattle.vl_manifest.specs.Tables.{SaysBareState}
+use Rattle.vl_manifest.specs.laws.TableLaws.{bare_told}
 use Rattle.vl_manifest.specs.declared.state.ManifestState.{ManifestState}
 use Rattle.vl_model.specs.declared.log_frame.LogFrame.{LogFrame}
 use Rattle.vl_recover.specs.crash.Alike.{OpensLike, SameState, ShowsAs}
@@ -23,14 +26,33 @@ use Rattle.vl_recover.specs.opening.Walk.{StandingLog, counted_behind, counted_w
 -- ---- states and images that are alike
 
 pub same_state : (s : ManifestState) → SameState s s
-same_state s = record { levels = refl; head = refl; covered = refl }
+same_state s = record { levels = refl; head = refl; covered = refl; keep = refl; since = refl }
 
 pub state_back : (a b : ManifestState) → SameState a b → SameState b a
-state_back a b same = record { levels = sym same.levels; head = sym same.head; covered = sym same.covered }
+state_back a b same = record {
+  levels = sym same.levels;
+  head = sym same.head;
+  covered = sym same.covered;
+  keep = sym same.keep;
+  since = sym same.since;
+}
 
 pub state_then : (a b c : ManifestState) → SameState a b → SameState b c → SameState a c
-state_then a b c p q =
-    record { levels = p.levels ∙ q.levels; head = p.head ∙ q.head; covered = p.covered ∙ q.covered }
+state_then a b c p q = record {
+  levels = p.levels ∙ q.levels;
+  head = p.head ∙ q.head;
+  covered = p.covered ∙ q.covered;
+  keep = p.keep ∙ q.keep;
+  since = p.since ∙ q.since;
+}
+
+-- what a format reads of a state is the same
+pub read_same : (format : ℕ) (s : ManifestState) → SameState (as_read format s) s
+read_same format s = by (nat_le gone_format format)
+  where
+    by : (b : Bool) → SameState (if b then s else record s { gone = s.covered }) s
+    by true = same_state s
+    by false = record { levels = refl; head = refl; covered = refl; keep = refl; since = refl }
 
 pub shows_same : (o : Opening) → ShowsAs o o
 shows_same o = record { state = same_state o.state; logs = refl; number = refl }
@@ -448,7 +470,7 @@ module _ (image other : Image) where
       }
 
   -- An image whose current manifest says what the other's said opens like it, where the logs are the same.
-  pub like_new : (n : ℕ) (bytes : List ℕ) (s : ManifestState) → SaysState n bytes s → IsCurrent image n bytes
+  pub like_new : (n : ℕ) (bytes : List ℕ) (s : ManifestState) → SaysBareState n bytes s → IsCurrent image n bytes
       → ((o : Opening) → IsOpened other o → SameState s o.state)
       → ((m : ℕ) → get image (Log m) ≡ get other (Log m)) → OpensLike image other
   like_new n bytes s says now same logs = like_by image other (λ o is. by o is (same o is))
@@ -461,7 +483,7 @@ module _ (image other : Image) where
         same = as_o;
         by = record {
           headed = now;
-          says = (Ok s, says, refl);
+          says = (Ok s, bare_told n bytes s says, refl);
           standing = subst (λ (k : ℕ). StandingLogs image k is.standing) (sym as_o.head)
               (standing_kept image other o.state.head is.standing (λ m from. logs m) is.by.standing);
           walk = ap (λ (k : ℕ). walked k is.standing) as_o.covered ∙ is.by.walk;

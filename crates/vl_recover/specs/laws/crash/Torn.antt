@@ -13,14 +13,14 @@ use Rattle.vl_frame.specs.laws.RunLaws.{frame_is_some, none_at_end, one_front}
 use Rattle.vl_frame.specs.Runs.{StandsAt, StandsNone, item_frame}
 use Rattle.vl_frame.specs.declared.kinds.FileKind.TheVariants as files
 use Rattle.vl_manifest.specs.Grammar.{edits_grammar}
-use Rattle.vl_manifest.specs.Manifest.{IsReadable, SaysState, manifest_bytes, manifest_header}
-use Rattle.vl_manifest.specs.laws.ManifestLaws.{made_or_not, whole_has_frame}
+use Rattle.vl_manifest.specs.Levels.{no_tables}
+use Rattle.vl_manifest.specs.Manifest.{IsReadable, manifest_bytes, manifest_header}
+use Rattle.vl_manifest.specs.laws.MadeLaws.{SaysAsRead, bare_has_frame, made_or_not}
 use Rattle.vl_manifest.specs.laws.StateLaws.{IsInRange}
 use Rattle.vl_manifest.specs.States.{whole_edits}
 use Rattle.vl_manifest.specs.declared.edit.Edit.{Edit}
-use Rattle.vl_manifest.specs.declared.format.TheConstants.{MANIFEST_FORMAT}
 use Rattle.vl_manifest.specs.declared.state.ManifestState.{ManifestState}
-use Rattle.vl_model.specs.Formats.{log_format}
+use Rattle.vl_model.specs.Formats.{log_format, manifest_format}
 use Rattle.vl_recover.specs.laws.opening.ContentLaws.{SameContent, none_each, same_each}
 use Rattle.vl_recover.specs.crash.Alike.{Spells}
 use Rattle.vl_recover.specs.laws.crash.OneName.{IsPart, part_empty, part_some}
@@ -74,7 +74,7 @@ spelled_some (Log number) bytes at frame (format, is_read, header, (item, rest, 
     omega (arith, frame_is_some (frames_grammar format) number at item, ap length is)
 spelled_some (Table number) bytes at frame spelled = absurd spelled
 spelled_some (Manifest number) bytes at frame (item, rest, stands, is) =
-    omega (arith, frame_is_some edits_grammar number at item, ap length is)
+    omega (arith, frame_is_some (edits_grammar manifest_format) number at item, ap length is)
 
 none_spelled : (name : Name) (bytes : List ℕ) (at : ℕ) (frame : List ℕ) → length bytes ≤ at
     → Spells name bytes at frame → ⊥
@@ -83,8 +83,8 @@ none_spelled (Log number) bytes at frame end (format, is_read, header, (item, re
     (λ (b : List ℕ). StandsAt (frames_grammar format) number at b item rest) (drop_all at bytes end) stands)
 none_spelled (Table number) bytes at frame end spelled = spelled
 none_spelled (Manifest number) bytes at frame end (item, rest, stands, is) =
-    none_at_end edits_grammar number at item rest (subst
-    (λ (b : List ℕ). StandsAt edits_grammar number at b item rest) (drop_all at bytes end) stands)
+    none_at_end (edits_grammar manifest_format) number at item rest (subst
+    (λ (b : List ℕ). StandsAt (edits_grammar manifest_format) number at b item rest) (drop_all at bytes end) stands)
 
 -- Bytes that end where they may be torn have no frame by chance.
 pub ended_no_chance : (name : Name) (file : File) (bytes : List ℕ) → length bytes ≤ torn_from file
@@ -132,22 +132,22 @@ part_frames name piece file part bytes only =
 
 -- ---- the new manifest
 
-module _ (number : ℕ) (s : ManifestState) (fits : number < 2 ^ 32) (range : IsInRange s) where
+module _ (number : ℕ) (s : ManifestState) (fits : number < 2 ^ 32) (range : IsInRange s) (bare : s.levels ≡ no_tables) where
   abbrev new_manifest : List ℕ
   new_manifest = manifest_bytes number (whole_edits s ∷ [])
 
   abbrev whole : List ℕ
-  whole = item_frame edits_grammar number 16 (whole_edits s)
+  whole = item_frame (edits_grammar manifest_format) number 16 (whole_edits s)
 
   behind_header : drop 16 new_manifest ≡ whole
   behind_header = drop_at (manifest_header number) (whole ++ []) 16
-      (length-header_bytes files.Manifest MANIFEST_FORMAT number) ∙ append-nil whole
+      (length-header_bytes files.Manifest manifest_format number) ∙ append-nil whole
 
-  -- What is left of a new manifest that isn't durable can't be read, or says its state.
+  -- What is left of a new manifest that isn't durable can't be read, or says its state, as it is read in some format.
   pub torn_manifest : (file : File) → IsPart new_manifest file → (bytes : List ℕ)
       → NoChanceOne Spells (Manifest number) (Some file) (Some bytes)
-      → (IsReadable number bytes → ⊥) ⊎ SaysState number bytes s
-  torn_manifest file part bytes chance = made_or_not number s bytes fits range torn
+      → (IsReadable number bytes → ⊥) ⊎ SaysAsRead number bytes s
+  torn_manifest file part bytes chance = made_or_not number s bare bytes fits range torn
     where
       frames : ((frame : List ℕ) → Spells (Manifest number) bytes 16 frame
           → take (length frame) (drop 16 new_manifest) ≡ frame)
@@ -157,52 +157,52 @@ module _ (number : ℕ) (s : ManifestState) (fits : number < 2 ^ 32) (range : Is
       frames = part_frames (Manifest number) new_manifest file part bytes
           (chance tt (part_loose new_manifest file part))
 
-      torn : (edits : List Edit) (rest : List ℕ) → StandsAt edits_grammar number 16 (drop 16 bytes) edits rest
-          → (take (length (item_frame edits_grammar number 16 edits)) whole
-          ≡ item_frame edits_grammar number 16 edits)
-          × StandsNone edits_grammar number (16 + length (item_frame edits_grammar number 16 edits)) rest
+      torn : (edits : List Edit) (rest : List ℕ) → StandsAt (edits_grammar manifest_format) number 16 (drop 16 bytes) edits rest
+          → (take (length (item_frame (edits_grammar manifest_format) number 16 edits)) whole
+          ≡ item_frame (edits_grammar manifest_format) number 16 edits)
+          × StandsNone (edits_grammar manifest_format) number (16 + length (item_frame (edits_grammar manifest_format) number 16 edits)) rest
       torn edits rest stands = (front, none)
         where
           frame : List ℕ
-          frame = item_frame edits_grammar number 16 edits
+          frame = item_frame (edits_grammar manifest_format) number 16 edits
 
-          front : take (length (item_frame edits_grammar number 16 edits)) whole
-              ≡ item_frame edits_grammar number 16 edits
-          front = ap (take (length (item_frame edits_grammar number 16 edits))) (sym behind_header)
-              ∙ frames.0 (item_frame edits_grammar number 16 edits) (edits, rest, stands, refl)
+          front : take (length (item_frame (edits_grammar manifest_format) number 16 edits)) whole
+              ≡ item_frame (edits_grammar manifest_format) number 16 edits
+          front = ap (take (length (item_frame (edits_grammar manifest_format) number 16 edits))) (sym behind_header)
+              ∙ frames.0 (item_frame (edits_grammar manifest_format) number 16 edits) (edits, rest, stands, refl)
 
           same : edits ≡ whole_edits s
-          same = one_front edits_grammar number 16 (whole_edits s) edits (whole_has_frame s range)
+          same = one_front (edits_grammar manifest_format) number 16 (whole_edits s) edits (bare_has_frame s bare range)
               (record { lawful = stands.lawful; short = stands.short }) front
 
           at : ℕ
-          at = 16 + length (item_frame edits_grammar number 16 edits)
+          at = 16 + length (item_frame (edits_grammar manifest_format) number 16 edits)
 
-          behind : drop (16 + length (item_frame edits_grammar number 16 edits)) bytes ≡ rest
-          behind = sym (drop-drop (length (item_frame edits_grammar number 16 edits)) 16 bytes)
-              ∙ ap (drop (length (item_frame edits_grammar number 16 edits))) stands.spelled
-              ∙ drop_at (item_frame edits_grammar number 16 edits) rest
-              (length (item_frame edits_grammar number 16 edits)) refl
+          behind : drop (16 + length (item_frame (edits_grammar manifest_format) number 16 edits)) bytes ≡ rest
+          behind = sym (drop-drop (length (item_frame (edits_grammar manifest_format) number 16 edits)) 16 bytes)
+              ∙ ap (drop (length (item_frame (edits_grammar manifest_format) number 16 edits))) stands.spelled
+              ∙ drop_at (item_frame (edits_grammar manifest_format) number 16 edits) rest
+              (length (item_frame (edits_grammar manifest_format) number 16 edits)) refl
 
-          past : drop (16 + length (item_frame edits_grammar number 16 edits)) new_manifest ≡ []
-          past = sym (drop-drop (length (item_frame edits_grammar number 16 edits)) 16 new_manifest)
-              ∙ ap (drop (length (item_frame edits_grammar number 16 edits))) (behind_header
-              ∙ ap (item_frame edits_grammar number 16) (sym same))
-              ∙ drop_all (length (item_frame edits_grammar number 16 edits))
-              (item_frame edits_grammar number 16 edits) (omega arith)
+          past : drop (16 + length (item_frame (edits_grammar manifest_format) number 16 edits)) new_manifest ≡ []
+          past = sym (drop-drop (length (item_frame (edits_grammar manifest_format) number 16 edits)) 16 new_manifest)
+              ∙ ap (drop (length (item_frame (edits_grammar manifest_format) number 16 edits))) (behind_header
+              ∙ ap (item_frame (edits_grammar manifest_format) number 16) (sym same))
+              ∙ drop_all (length (item_frame (edits_grammar manifest_format) number 16 edits))
+              (item_frame (edits_grammar manifest_format) number 16 edits) (omega arith)
 
-          none : StandsNone edits_grammar number (16 + length (item_frame edits_grammar number 16 edits)) rest
+          none : StandsNone (edits_grammar manifest_format) number (16 + length (item_frame (edits_grammar manifest_format) number 16 edits)) rest
           none more after next =
-              let place = 16 + length (item_frame edits_grammar number 16 edits) in
-              let other = item_frame edits_grammar number place more in
-              let spelled : StandsAt edits_grammar number place (drop place bytes) more after =
-              subst (λ (b : List ℕ). StandsAt edits_grammar number place b more after)
+              let place = 16 + length (item_frame (edits_grammar manifest_format) number 16 edits) in
+              let other = item_frame (edits_grammar manifest_format) number place more in
+              let spelled : StandsAt (edits_grammar manifest_format) number place (drop place bytes) more after =
+              subst (λ (b : List ℕ). StandsAt (edits_grammar manifest_format) number place b more after)
               (sym behind) next in
-              let handed = frames.1 (item_frame edits_grammar number 16 edits) other
+              let handed = frames.1 (item_frame (edits_grammar manifest_format) number 16 edits) other
               (edits, rest, stands, refl) (more, after, spelled, refl) in
               let empty : other ≡ [] = sym handed ∙ ap (take (length other)) past
               ∙ take_all (length other) [] zero-le in
-              omega (arith, frame_is_some edits_grammar number place more, ap length empty)
+              omega (arith, frame_is_some (edits_grammar manifest_format) number place more, ap length empty)
 
 -- ---- logs
 

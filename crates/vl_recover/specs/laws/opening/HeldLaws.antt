@@ -14,6 +14,7 @@ use Rattle.vl_disk.specs.declared.name.Name.TheVariants.{Log, Manifest}
 use Rattle.vl_layout.specs.declared.segment.Segment.{Segment}
 use Rattle.vl_manifest.specs.Current.{IsCurrent, StandsReadable}
 use Rattle.vl_manifest.specs.laws.ManifestLaws.{says_readable}
+use Rattle.vl_manifest.specs.laws.TableLaws.{bare_told}
 use Rattle.vl_manifest.specs.declared.state.ManifestState.{ManifestState}
 use Rattle.vl_recover.specs.crash.Alike.{SameState}
 use Rattle.vl_recover.specs.laws.crash.AlikeLaws.{same_state}
@@ -57,7 +58,7 @@ module _ (state : ManifestState) (disk : DiskState) (holds : HoldsManifest state
   held_current image may = record {
     here = record {
       stands = left_settled disk image (Manifest holds.number) holds.bytes holds.stands may;
-      readable = says_readable holds.number holds.bytes state holds.says;
+      readable = says_readable holds.number holds.bytes state holds.says.says;
     };
     greatest = λ other bytes r. not_above other bytes r (cases_lt holds.number other);
   }
@@ -71,7 +72,7 @@ module _ (state : ManifestState) (disk : DiskState) (holds : HoldsManifest state
           either
 
   pub held_says : Says (Led holds.number holds.bytes) (Ok state)
-  held_says = (Ok state, holds.says, refl)
+  held_says = (Ok state, bare_told holds.number holds.bytes state holds.says, refl)
 
   -- Whatever is left opens with its state, if it opens.
   pub held_state : (image : Image) (o : Opening) → MayLeave disk image → Opens image (Ok o) → o.state ≡ state

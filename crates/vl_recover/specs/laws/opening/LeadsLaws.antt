@@ -13,7 +13,8 @@ use Rattle.vl_disk.specs.declared.name.Name.TheVariants.{Log, Manifest}
 use Rattle.vl_layout.specs.Logs.{new_segment}
 use Rattle.vl_layout.specs.declared.segment.Segment.{Segment}
 use Rattle.vl_manifest.specs.Current.{IsCurrent}
-use Rattle.vl_manifest.specs.Manifest.{SaysState}
+use Rattle.vl_manifest.specs.Tables.{SaysBareState}
+use Rattle.vl_manifest.specs.laws.TableLaws.{bare_told}
 use Rattle.vl_manifest.specs.declared.state.ManifestState.{ManifestState}
 use Rattle.vl_recover.specs.crash.Alike.{OpensLike}
 use Rattle.vl_recover.specs.laws.crash.AlikeLaws.{Alike, SameBut, SameLog, agree_opens, both, like_logs, log_same, neither, shows_same}
@@ -49,7 +50,7 @@ settled_kept name old now same other bytes apart stands = same.standing other ap
 pub record Leads (number : ℕ) (state : ManifestState) (disk : DiskState) : Type 0 where
   pub bytes : List ℕ
   pub stands : IsSettled disk (Manifest number) bytes
-  pub says : SaysState number bytes state
+  pub says : SaysBareState number bytes state
   pub above : (m : ℕ) → number < m → IsNowhere disk (Manifest m)
 
 pub leads_holds : (number : ℕ) (state : ManifestState) (disk : DiskState) → Leads number state disk
@@ -106,13 +107,13 @@ current_kept number name image other bytes same apart current = record {
 
 -- Where it leads both images, what counts is that their logs from head on are alike.
 pub led_like : (number : ℕ) (bytes : List ℕ) (state : ManifestState) (image other : Image)
-    → SaysState number bytes state
+    → SaysBareState number bytes state
     → IsCurrent other number bytes → IsCurrent image number bytes
     → ((logs : List StandingLog) → StandingLogs other state.head logs → Alike image state.head logs)
     → OpensLike image other
 led_like number bytes state image other says was now alike = like_logs image other number bytes was now
     (λ s logs said standing. by s logs (ok_same s state
-    (single_says (Led number bytes) (Ok s) (Ok state) said (Ok state, says, refl))) standing)
+    (single_says (Led number bytes) (Ok s) (Ok state) said (Ok state, bare_told number bytes state says, refl))) standing)
   where
     by : (s : ManifestState) (logs : List StandingLog) → s ≡ state → StandingLogs other s.head logs
         → Alike image s.head logs
@@ -126,7 +127,7 @@ same_log image other m (Some bytes) is same = both bytes bytes (same ∙ is) is 
 
 -- or that they are the same.
 pub led_same : (number : ℕ) (bytes : List ℕ) (state : ManifestState) (image other : Image)
-    → SaysState number bytes state
+    → SaysBareState number bytes state
     → IsCurrent other number bytes → IsCurrent image number bytes
     → ((m : ℕ) → state.head ≤ m → get image (Log m) ≡ get other (Log m)) → OpensLike image other
 led_same number bytes state image other says was now logs o opens = (
@@ -135,7 +136,7 @@ led_same number bytes state image other says was now logs o opens = (
       (get other (Log m)) refl
       (logs m (subst (λ (x : ManifestState). x.head ≤ m)
       (ok_same s state (single_says (Led number bytes) (Ok s) (Ok state) said
-      (Ok state, says, refl))) from)))
+      (Ok state, bare_told number bytes state says, refl))) from)))
       (Ok o) opens,
   shows_same o,
 )

@@ -6,7 +6,7 @@ use Rattle.vl_disk.specs.Crash.{Image}
 use Rattle.vl_disk.specs.declared.name.Name.TheVariants.{Log, Table}
 use Rattle.vl_layout.specs.declared.segment.Segment.{Segment}
 use Rattle.vl_manifest.specs.laws.CurrentLaws as manifests
-use Rattle.vl_manifest.specs.laws.ManifestLaws.{one_saying}
+use Rattle.vl_manifest.specs.laws.TableLaws.{one_without_tables}
 use Rattle.vl_manifest.specs.declared.state.ManifestState.{ManifestState}
 use Rattle.vl_seglog.specs.LogReading.{ReadsLog}
 use Rattle.vl_seglog.specs.laws.LogReadingLaws.{one_log_reading}
@@ -61,7 +61,7 @@ one_heading image (Newest a) (Newest b) p q = ap Newest (manifests.one_newest im
 pub single_says : (h : Heading) → IsSingle (Says h)
 single_says Bare r s p q = p ∙ sym q
 single_says (Led n bytes) r s (a, says, p) (b, says_too, q) =
-    p ∙ ap (of_manifest n) (one_saying n bytes a b says says_too) ∙ sym q
+    p ∙ ap (of_manifest n) (one_without_tables n bytes a b says says_too) ∙ sym q
 single_says Headless r s p q = p ∙ sym q
 single_says (Newest format) r s p q = p ∙ sym q
 

@@ -12,7 +12,7 @@ use Rattle.vl_disk.specs.Started.{IsRead}
 use Rattle.vl_disk.specs.declared.name.Name.{Name}
 use Rattle.vl_disk.specs.declared.name.Name.TheVariants.{Log, Manifest, Table}
 use Rattle.vl_manifest.specs.Manifest.{manifest_bytes}
-use Rattle.vl_manifest.specs.laws.ManifestLaws.{whole_manifest}
+use Rattle.vl_manifest.specs.laws.MadeLaws.{bare_manifest}
 use Rattle.vl_manifest.specs.States.{whole_edits}
 use Rattle.vl_manifest.specs.declared.state.ManifestState.{ManifestState}
 use Rattle.vl_recover.specs.crash.Alike.{OpensAsOf}
@@ -24,7 +24,7 @@ use Rattle.vl_recover.specs.laws.opening.LeadsLaws.{Leads, leads_holds, nowhere_
 use Rattle.vl_recover.specs.laws.opening.LogsLaws.{MayRepair, StandUpTo, last_kept, last_stands, stand_kept, stand_read, the_last, written_held, written_whole}
 use Rattle.vl_recover.specs.repairing.Repairing.{IsPlan, Plan, WhileRepairing, at_last, at_log, at_manifest, at_strays, repaired, plan_of, with_last, with_log, with_manifest}
 use Rattle.vl_recover.specs.laws.repairing.RepairingStages.{IsBelow, IsFreeFrom, held_settled, settled_is, LastStage, LogStage, SameBelow, below_then, last_stage, log_stage, made_free, spare_below, still_stands}
-use Rattle.vl_recover.specs.laws.repairing.RepairingStart.{Begins, all_say, found_walk, free_unread, log_below, manifest_fits, manifests_nowhere, new_range, some_file}
+use Rattle.vl_recover.specs.laws.repairing.RepairingStart.{Begins, all_say, found_walk, free_unread, log_below, manifest_fits, manifests_nowhere, new_bare, new_range, some_file}
 use Rattle.vl_recover.specs.laws.repairing.RepairingSteps.{manifest_step, table_manifest}
 use Rattle.vl_recover.specs.laws.crash.OneName.{as_of_then, made_elsewhere, made_there}
 use Rattle.vl_recover.specs.laws.opening.OpeningLaws.{some_none}
@@ -70,14 +70,14 @@ module _ {read : Image} (found : Finds read) (start : DiskState) (begins : Begin
   fits = (let below = manifest_fits found start begins in omega (arith, below))
 
   manifest_law : (now : DiskState) → WhileMaking (Manifest number) piece start now → OpensAsOf start now
-  manifest_law now during = manifest_step number s fits (new_range found start begins) start now
+  manifest_law now during = manifest_step number s fits (new_range found start begins) (new_bare found start begins) start now
       (manifests_nowhere found start begins number (omega arith)).free (all_say found start begins) during
 
   pub first_leads : Leads number s first
   first_leads = record {
     bytes = piece;
     stands = made_there (Manifest number) piece start;
-    says = whole_manifest number s fits (new_range found start begins);
+    says = bare_manifest s (new_bare found start begins) number (new_range found start begins) fits;
     above = λ m less. nowhere_kept (Manifest number) start first
         (made_elsewhere (Manifest number) piece start) (Manifest m)
         (λ e. omega (arith, less, manifest_same m number e))

@@ -12,8 +12,10 @@ use Rattle.vl_disk.specs.Name.{file_number}
 use Rattle.vl_disk.specs.Started.{IsRead}
 use Rattle.vl_disk.specs.declared.name.Name.{Name}
 use Rattle.vl_disk.specs.declared.name.Name.TheVariants.{Log, Manifest, Table}
-use Rattle.vl_manifest.specs.Manifest.{ManifestSays}
+use Rattle.vl_manifest.specs.Levels.{no_tables}
+use Rattle.vl_manifest.specs.Tables.{SaysWithoutTables}
 use Rattle.vl_manifest.specs.laws.ManifestLaws.{says_in_range}
+use Rattle.vl_manifest.specs.laws.TableLaws.{bare_levels, told_bare}
 use Rattle.vl_manifest.specs.laws.StateLaws.{IsInRange, opened_in_range}
 use Rattle.vl_manifest.specs.States.{fresh_state}
 use Rattle.vl_manifest.specs.declared.state.ManifestState.{ManifestState}
@@ -36,7 +38,7 @@ use Rattle.vl_recover.specs.opening.Walk.{walked}
 
 fresh_range : IsInRange fresh_state
 fresh_range = record {
-  levels = refl;
+  tables = record { seven = refl; once = tt; numbers = tt };
   head_first = omega arith;
   head_last = omega arith;
   covered = omega arith;
@@ -44,19 +46,36 @@ fresh_range = record {
   log_last = omega arith;
   table_first = omega arith;
   table_last = omega arith;
+  keep_first = omega arith;
+  keep_last = omega arith;
+  since = omega arith;
+  gone = omega arith;
 }
 
 says_range : (heading : Heading) (s : ManifestState) → Says heading (Ok s) → IsInRange s
 says_range Bare s says = subst IsInRange (sym (ok_same {E = Refusal} s fresh_state says)) fresh_range
 says_range (Led number bytes) s (said, manifest, is) = by said manifest is
   where
-    by : (said : Result ManifestState ℕ) → ManifestSays number bytes said → Ok s ≡ of_manifest number said
+    by : (said : Result ManifestState ℕ) → SaysWithoutTables number bytes said → Ok s ≡ of_manifest number said
         → IsInRange s
     by (Ok t) manifest is = subst IsInRange (sym (ok_same {E = Refusal} s t is))
-        (says_in_range number bytes t manifest)
+        (says_in_range number bytes t (told_bare number bytes t manifest).says)
     by (Err place) manifest is = absurd (no_state s _ is)
 says_range Headless s says = absurd (no_state s NotAStore says)
 says_range (Newest format) s says = absurd (no_state s (NewerFormat format) says)
+
+-- and has no tables
+says_bare : (heading : Heading) (s : ManifestState) → Says heading (Ok s) → s.levels ≡ no_tables
+says_bare Bare s says = ap (λ (t : ManifestState). t.levels) (ok_same {E = Refusal} s fresh_state says)
+says_bare (Led number bytes) s (said, manifest, is) = by said manifest is
+  where
+    by : (said : Result ManifestState ℕ) → SaysWithoutTables number bytes said → Ok s ≡ of_manifest number said
+        → s.levels ≡ no_tables
+    by (Ok t) manifest is = ap (λ (u : ManifestState). u.levels) (ok_same {E = Refusal} s t is)
+        ∙ bare_levels number bytes t (told_bare number bytes t manifest)
+    by (Err place) manifest is = absurd (no_state s _ is)
+says_bare Headless s says = absurd (no_state s NotAStore says)
+says_bare (Newest format) s says = absurd (no_state s (NewerFormat format) says)
 
 -- ---- numbers that stand
 
@@ -141,6 +160,10 @@ module _ {read : Image} (found : Finds read) (start : DiskState) (begins : Begin
       (λ n. refl) begins.lawful found.are_greatest.table)
       (says_range opened_read.heading state opened_read.by.says)
 
+  -- it names no tables,
+  pub new_bare : (new_state found.greatest found.opening.state).levels ≡ no_tables
+  new_bare = says_bare opened_read.heading state opened_read.by.says
+
   -- and its number is one that a manifest may have.
   pub manifest_fits : found.greatest.manifest + 1 ≤ max_file_number
   manifest_fits =
@@ -173,7 +196,13 @@ module _ {read : Image} (found : Finds read) (start : DiskState) (begins : Begin
     same = λ image o left is.
         (let same = begins.may.says read image found.opening o begins.is_read found.opens left
         (is_opened image o is) in
-        record { levels = same.levels; head = same.head; covered = same.covered });
+        record {
+          levels = same.levels;
+          head = same.head;
+          covered = same.covered;
+          keep = same.keep;
+          since = same.since;
+        });
     above = λ image m bytes left r. ⊎_elim
         (λ (less : found.greatest.manifest < m). absurd
         (some_none bytes (sym r.stands ∙ left_nowhere start image (Manifest m)

@@ -15,13 +15,17 @@ use Rattle.vl_disk.specs.laws.NameMap.{get_removed}
 use Rattle.vl_disk.specs.declared.name.Name.{Name}
 use Rattle.vl_disk.specs.declared.name.Name.TheVariants.{Log, Manifest, Table}
 use Rattle.vl_manifest.specs.Current.{StandsReadable}
-use Rattle.vl_manifest.specs.Manifest.{IsReadable, SaysState, manifest_bytes}
-use Rattle.vl_manifest.specs.laws.ManifestLaws.{says_readable, whole_manifest}
+use Rattle.vl_manifest.specs.Levels.{no_tables}
+use Rattle.vl_manifest.specs.Manifest.{IsReadable, manifest_bytes}
+use Rattle.vl_manifest.specs.laws.MadeLaws.{SaysAsRead, bare_manifest}
+use Rattle.vl_model.specs.Formats.{manifest_format}
+use Rattle.vl_manifest.specs.States.{as_read}
+use Rattle.vl_manifest.specs.laws.ManifestLaws.{says_readable}
 use Rattle.vl_manifest.specs.laws.StateLaws.{IsInRange}
 use Rattle.vl_manifest.specs.States.{whole_edits}
 use Rattle.vl_manifest.specs.declared.state.ManifestState.{ManifestState}
 use Rattle.vl_recover.specs.crash.Alike.{IsLeft, OpensAsOf, OpensLike, SameState, Spells}
-use Rattle.vl_recover.specs.laws.crash.AlikeLaws.{LastIsWhole, SameBut, last_alike, lead_over, led_anew, like_lead, like_new, log_manifest, one_more}
+use Rattle.vl_recover.specs.laws.crash.AlikeLaws.{LastIsWhole, SameBut, last_alike, lead_over, led_anew, like_lead, like_new, log_manifest, one_more, read_same, state_then}
 use Rattle.vl_recover.specs.laws.opening.ContentLaws.{SameContent, none_each, same_each}
 use Rattle.vl_recover.specs.crash.Held.{IsNowhere}
 use Rattle.vl_recover.specs.laws.opening.HeldLaws.{left_nowhere}
@@ -69,7 +73,7 @@ pub record AllSay (disk : DiskState) (number : ℕ) (s : ManifestState) : Type 0
   pub above : (image : Image) (m : ℕ) (bytes : List ℕ) → IsLeft disk image → StandsReadable image m bytes
       → m ≤ number
 
-module _ (number : ℕ) (s : ManifestState) (fits : number < 2 ^ 32) (range : IsInRange s)
+module _ (number : ℕ) (s : ManifestState) (fits : number < 2 ^ 32) (range : IsInRange s) (bare : s.levels ≡ no_tables)
     (old now : DiskState) (free : get old.standing (Manifest number) ≡ None) (all : AllSay old number s) where
   abbrev name : Name
   name = Manifest number
@@ -88,15 +92,15 @@ module _ (number : ℕ) (s : ManifestState) (fits : number < 2 ^ 32) (range : Is
         (lead_over image before number same not (λ bytes r. some_none bytes (sym r.stands ∙ gone)))
         same_logs (λ m. same (Table m) (table_manifest m number))
 
-    reads : (bytes : List ℕ) → get image (Manifest number) ≡ Some bytes → SaysState number bytes s
+    reads : (bytes : List ℕ) → get image (Manifest number) ≡ Some bytes → SaysAsRead number bytes s
         → IsLeft old before → OpensLike image before
-    reads bytes is says low = like_new image before number bytes s says
+    reads bytes is said low = like_new image before number bytes (as_read said.format s) said.says
         (led_anew image before number bytes same (record {
           stands = is;
           readable =
-              says_readable number bytes s says;
+              says_readable number bytes (as_read said.format s) said.says.says;
         }) (λ m others r. all.above before m others low r))
-        (λ o opened. all.same before o low opened) same_logs
+        (λ o opened. state_then (as_read said.format s) s o.state (read_same said.format s) (all.same before o low opened)) same_logs
 
   -- before it nothing stood there
   missing : IsLeftOne (Manifest number) (get old.standing (Manifest number))
@@ -128,8 +132,8 @@ module _ (number : ℕ) (s : ManifestState) (fits : number < 2 ^ 32) (range : Is
                 (λ (not : IsReadable number bytes → ⊥). unread image before same gone
                 (λ others r. not (subst (IsReadable number)
                 (some_same others bytes (sym r.stands ∙ is)) r.readable)))
-                (λ (says : SaysState number bytes s). reads image before same gone bytes is says low)
-                (torn_manifest number s fits range file part bytes one.no_chance);
+                (λ (says : SaysAsRead number bytes s). reads image before same gone bytes is says low)
+                (torn_manifest number s fits range bare file part bytes one.no_chance);
           }
       by (done stands elsewhere) = one_name (Manifest number) old now elsewhere (λ left one. record {
         was = None;
@@ -137,7 +141,7 @@ module _ (number : ℕ) (s : ManifestState) (fits : number < 2 ^ 32) (range : Is
         like = λ image before low same is gone. reads image before same gone piece
             (is ∙ settled_left piece (get now.removed (Manifest number)) left
             (standing_left (Manifest number) now (Some (settled piece)) left stands one).may)
-            (whole_manifest number s fits range) low;
+            (record { format = manifest_format; says = bare_manifest s bare number range fits }) low;
       })
 
 -- ---- the last log is changed
