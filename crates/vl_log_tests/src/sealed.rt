@@ -28,11 +28,7 @@ const OLD_LOG: [u8; 50] = [
 ];
 
 // The log of these bytes, and a reader.
-fn sealed(
-    alloc: Global,
-    format: u32,
-    bytes: &[u8],
-) -> Result<(SealedLog<MemHeld>, MemReader), Fail>
+fn sealed(alloc: Global, format: u32, bytes: &[u8]) -> Result<(SealedLog<MemHeld>, MemReader), Fail>
     ensures { IfOk result (λ r. r.0.number ≡ 1) }
 {
     let name = Name::Log(1);

@@ -1,18 +1,15 @@
 -- The pointers that a frame was staged or read with lead to its records.
-use Rattle.std.specs.Prelude.{◌≡◌, ℕ, ◌+◌, List, [], ◌∷◌, ◌++◌, drop, map, Option, Some}
+use Rattle.std.specs.Prelude.{◌≡◌, ℕ, ◌+◌, List, [], ◌∷◌, ◌++◌, drop, map, Some}
 use Rattle.std.specs.List.{AllByRecursion}
 use Rattle.std.proofs.Common.{arith, refl, sym, ap, subst, ◌∙◌}
-use Rattle.vl_frame.specs.Runs.{StandsAt}
 use Rattle.vl_model.specs.Formats.{log_format}
-use Rattle.vl_model.specs.Frames.{frame_length, moved_length, record_length}
+use Rattle.vl_model.specs.Frames.{frame_length, record_length}
 use Rattle.vl_model.specs.declared.change.Change.{Change}
-use Rattle.vl_model.specs.declared.change.Change.TheVariants.{Set}
 use Rattle.vl_model.specs.declared.log_frame.LogFrame.{LogFrame}
 use Rattle.vl_model.specs.declared.pointer.Pointer.{Pointer}
-use Rattle.vl_seglog.specs.Frames.{frames_grammar}
 use Rattle.vl_seglog.specs.LogReading.{ReadsLog}
 use Rattle.vl_seglog.specs.Placed.{AreFramesFrom, AreMovedFrom, AreRecordsFrom, IsFrameAt, RecordsLie, read_pointers, records_of}
-use Rattle.vl_seglog.specs.Reading.{frame_of, moved_of, reading_of, said_of, value_of, write_of}
+use Rattle.vl_seglog.specs.Reading.{frame_of, moved_of, reading_of, said_of, write_of}
 use Rattle.vl_seglog.specs.Sealed.{IsFound}
 use Rattle.vl_seglog.specs.Staging.{IsStaged}
 use Rattle.vl_seglog.specs.Stored.{AllLead, LeadToAll, frame_pointers, frame_writes, moved_pointers, pointer_at, pointers_from}

@@ -18,10 +18,10 @@ use Rattle.vl_seglog.specs.declared.sealed.Filled.TheVariants.{Here, Small}
 -- The pointer may lead to a value's record: in a log of this format, whose file has so many bytes, a key of so many
 -- bytes and a value of some lawful length have a record of the pointer's length, and all of it lies in the file.
 pub record MayLead (format size : ℕ) (p : Pointer) (key_length : ℕ) : Type 0 where
-  pub value_length : ℕ
+  pub value_len : ℕ
   pub key_lawful : is_key_length key_length ≡ true
-  pub value_lawful : is_value_length format value_length ≡ true
-  pub whole : p.length ≡ record_head format + key_length + value_length
+  pub value_lawful : is_value_length format value_len ≡ true
+  pub whole : p.length ≡ record_head format + key_length + value_len
   pub inside : p.place + p.length ≤ size
 
 -- ---- a value in the caller's bytes

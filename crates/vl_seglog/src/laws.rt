@@ -29,7 +29,7 @@ pub fn pointers_lead_to_their_records()
         → ReadsLog number bytes (reading_of read) → read.header ≡ Some format
         → AreFramesFrom format number 16 read.frames.items
         → AllByRecursion (λ (f : Frame). LeadToAll format number bytes (read_pointers f) (frame_writes (frame_of f)))
-            read.frames.items }
+        read.frames.items }
     ensures scanned { (format number place : ℕ) (bytes : List ℕ) (f : Frame)
         → IsFound format number place bytes (Some f) → IsFrameAt format number place f
         → LeadToAll format number bytes (read_pointers f) (frame_writes (frame_of f)) }
