@@ -1,5 +1,7 @@
 //! Logs that are appended to no more, by their bytes: the values that pointers lead to, and the frames one by one.
 
+ghost use Rattle.std.specs.Prelude.{◌≡◌, IfOk};
+
 use std::alloc::Global;
 use std::test::Fail;
 use vl_disk::{Disk, Name, make_file};
@@ -26,11 +28,9 @@ const OLD_LOG: [u8; 50] = [
 ];
 
 // The log of these bytes, and a reader.
-fn sealed(
-    alloc: Global,
-    format: u32,
-    bytes: &[u8],
-) -> Result<(SealedLog<MemHeld>, MemReader), Fail> {
+fn sealed(alloc: Global, format: u32, bytes: &[u8]) -> Result<(SealedLog<MemHeld>, MemReader), Fail>
+    ensures { IfOk result (λ r. r.0.number ≡ 1) }
+{
     let name = Name::Log(1);
     let mut disk = MemDisk::new(alloc, Vec::new(alloc), Vec::new(alloc));
     disk.ready(name, bytes.len() as u64)?;
@@ -45,7 +45,9 @@ fn sealed(
     Ok((log, reader))
 }
 
-fn at(place: u64, length: u32) -> Pointer {
+fn at(place: u64, length: u32) -> Pointer
+    ensures { result.segment ≡ 1 }
+{
     Pointer {
         segment: 1,
         place,
@@ -118,7 +120,9 @@ fn damage_at(
     reader: &mut MemReader,
     pointer: Pointer,
     key: &[u8],
-) -> Option<u64> {
+) -> Option<u64>
+    requires { pointer.segment ≡ log.now.number }
+{
     match log.read_at(alloc, reader, pointer, key) {
         Err(LogFault::Damaged { place, .. }) => Some(place),
         _ => None,

@@ -10,6 +10,7 @@ pub mod Options
 pub mod Order
 pub mod Placing
 pub mod Pointers
+pub mod PointersRead
 pub mod RecordParts
 pub mod Records
 pub mod Runs

@@ -1,7 +1,8 @@
 -- Where the frames and the records lie that were read from a log.
-use Rattle.std.specs.Prelude.{◌≡◌, ℕ, ◌+◌, List, [], ◌∷◌}
+use Rattle.std.specs.Prelude.{◌≡◌, ℕ, ◌+◌, List, [], ◌∷◌, map}
 use Rattle.vl_model.specs.Frames.{frame_length, record_length}
 use Rattle.vl_model.specs.declared.change.Change.TheVariants.{Set}
+use Rattle.vl_model.specs.declared.pointer.Pointer.{Pointer}
 use Rattle.vl_seglog.specs.declared.frame.Commit.{Commit as ReadCommit}
 use Rattle.vl_seglog.specs.declared.frame.Frame.{Frame}
 use Rattle.vl_seglog.specs.declared.frame.ReadRecord.{ReadRecord}
@@ -48,6 +49,15 @@ abbrev pub AreMovedFrom : ℕ → ℕ → ℕ → List ReadRecord → Type 0
 AreMovedFrom format log place records = Follow (LiesMovedAt format log) (moved_size format) place records
 
 -- ---- frames
+
+-- the records of a frame that was read, in their order
+abbrev pub records_of : Said → List ReadRecord
+records_of (says.Commit c) = c.records.items
+records_of (says.Moves records) = records.items
+
+-- the pointers that it was read with, one for each record
+abbrev pub read_pointers : Frame → List Pointer
+read_pointers f = map (λ r. r.pointer) (records_of f.said)
 
 -- the records of the frame whose body begins at a place
 abbrev pub RecordsLie : ℕ → ℕ → ℕ → Said → Type 0

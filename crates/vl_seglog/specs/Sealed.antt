@@ -1,15 +1,28 @@
 -- What is answered of a log that is appended to no more.
-use Rattle.std.specs.Prelude.{◌≡◌, ◌<◌, ◌≤◌, ℕ, List, ◌++◌, length, drop, Option, Some, None}
+use Rattle.std.specs.Prelude.{◌≡◌, ◌+◌, ◌<◌, ◌≤◌, ℕ, List, ◌++◌, length, drop, true, Option, Some, None}
 use Rattle.vl_frame.specs.Frame.{IsSpelled, frame_length}
 use Rattle.vl_frame.specs.declared.kinds.FileKind.TheVariants as files
 use Rattle.vl_frame.specs.declared.kinds.FrameKind.{FrameKind}
 use Rattle.vl_frame.specs.Runs.{StandsAt, StandsNone}
-use Rattle.vl_model.specs.Keys.{Stored, value_length}
+use Rattle.vl_model.specs.Formats.{record_head}
+use Rattle.vl_model.specs.Keys.{Stored, is_key_length, is_value_length, value_length}
+use Rattle.vl_model.specs.declared.pointer.Pointer.{Pointer}
 use Rattle.vl_seglog.specs.Frames.{frames_grammar}
 use Rattle.vl_seglog.specs.Reading.{frame_of}
 use Rattle.vl_seglog.specs.declared.frame.Frame.{Frame}
 use Rattle.vl_seglog.specs.declared.sealed.Filled.{Filled}
 use Rattle.vl_seglog.specs.declared.sealed.Filled.TheVariants.{Here, Small}
+
+-- ---- what is known before anything is read
+
+-- The pointer may lead to a value's record: in a log of this format, whose file has so many bytes, a key of so many
+-- bytes and a value of some lawful length have a record of the pointer's length, and all of it lies in the file.
+pub record MayLead (format size : ℕ) (p : Pointer) (key_length : ℕ) : Type 0 where
+  pub value_len : ℕ
+  pub key_lawful : is_key_length key_length ≡ true
+  pub value_lawful : is_value_length format value_len ≡ true
+  pub whole : p.length ≡ record_head format + key_length + value_len
+  pub inside : p.place + p.length ≤ size
 
 -- ---- a value in the caller's bytes
 

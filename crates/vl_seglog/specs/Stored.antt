@@ -86,7 +86,8 @@ value_in format bytes key_length =
     tagged (drop (record_head format + key_length) bytes) (tag_kept format (get_or bytes 1 0))
 
 -- The value that the pointer leads to in the bytes of its log, which has this format: that of the record at its
--- place, if this is one of the key, no deletion, and has the pointer's length.
+-- place, if this is one of the key, no deletion, and has the pointer's length. Whether the log is the pointer's
+-- segment is not asked here: who reads finds the log by it.
 abbrev pub stored_at : ℕ → List ℕ → Pointer → List ℕ → Option Stored
 stored_at format bytes p key =
     let value = value_in format (take p.length (drop p.place bytes)) (length key) in

@@ -13,6 +13,7 @@
 mod active;
 mod fault;
 mod frame;
+mod laws;
 mod lengths;
 mod pointer;
 mod reading;
@@ -24,6 +25,7 @@ mod write;
 pub use active::ActiveLog;
 pub use fault::LogFault;
 pub use frame::{Commit, Frame, ReadRecord, Said};
+pub use laws::{pointers_lead_to_their_records, values_are_found_by_their_pointers};
 pub use lengths::LOG_HEADER_BYTES;
 pub use pointer::{POINTER_BYTES, pointer_bytes, read_pointer};
 pub use reading::{LogRead, header_format, read_log, read_next};

@@ -5,12 +5,13 @@ mod fill;
 mod front;
 mod scan;
 
-ghost use Rattle.std.specs.Prelude.{◌≡◌, ◌+◌, ◌<◌, ◌≤◌, ◌^◌, length, true, IfOk, IsErrOf, None, Some};
+ghost use Rattle.std.specs.Prelude.{◌≡◌, ◌+◌, ◌<◌, ◌≤◌, ◌^◌, length, true, Err, IfOk, IsErrOf, None, Some};
 ghost use Rattle.vl_disk.specs.DiskState.{bytes_at};
+ghost use Rattle.vl_disk.specs.declared.name.Name.TheVariants as names;
 ghost use Rattle.vl_model.specs.Formats.{record_head};
 ghost use Rattle.vl_model.specs.Keys.{is_key_length, is_value_length, tagged};
 ghost use Rattle.vl_seglog.specs.Answers.{Answers};
-ghost use Rattle.vl_seglog.specs.Sealed.{IsFilled};
+ghost use Rattle.vl_seglog.specs.Sealed.{IsFilled, MayLead};
 ghost use Rattle.vl_seglog.specs.Stored.{stored_at};
 ghost use Rattle.vl_seglog.specs.declared.fault.LogFault.TheVariants as why;
 
@@ -53,7 +54,7 @@ impl<H: HeldFile> SealedLog<H> {
     /// The value that a pointer leads to, whose record is one of this key. It is read at its place alone: first the
     /// record's head and key, then the value into memory of its own. No check sum is computed. Where the pointer leads to
     /// no such value its place is damaged; where it leads out of the file, or its length is none of the key's, nothing is
-    /// read for that.
+    /// read for that. The log that has the pointer's segment as its number is the caller's to find.
     pub fn read_at<R: Reader<Held = H>>(
         &self,
         alloc: Global,
@@ -61,10 +62,13 @@ impl<H: HeldFile> SealedLog<H> {
         pointer: Pointer,
         key: &[u8],
     ) -> Result<Value, LogFault>
-        ensures { Answers (R.faults reader.old) (R.faults reader.new) self.now.number (H.bytes self.now.held)
+        requires { pointer.segment ≡ self.now.number }
+        ensures answers { Answers (R.faults reader.old) (R.faults reader.new) self.now.number (H.bytes self.now.held)
             (λ bytes value. stored_at self.now.format bytes pointer key.now ≡ Some value)
             (λ bytes place. (stored_at self.now.format bytes pointer key.now ≡ None)
             × (place ≡ pointer.place)) result }
+        ensures refused { (MayLead self.now.format (H.size self.now.held) pointer (length key.now) → ⊥)
+            → (reader.new ≡ reader.old) × (result ≡ Err (why.Damaged (names.Log self.now.number) pointer.place)) }
     {
         let lying = self.find(reader, pointer, key)?;
         let mut bytes = Vec::new(alloc);
@@ -82,10 +86,13 @@ impl<H: HeldFile> SealedLog<H> {
         key: &[u8],
         out: &mut [u8],
     ) -> Result<Filled, LogFault>
+        requires { pointer.segment ≡ self.now.number }
         ensures answers { Answers (R.faults reader.old) (R.faults reader.new) self.now.number (H.bytes self.now.held)
             (λ bytes filled. IsFilled (stored_at self.now.format bytes pointer key.now) out.old out.new filled)
             (λ bytes place. (stored_at self.now.format bytes pointer key.now ≡ None)
             × (place ≡ pointer.place)) result }
+        ensures refused { (MayLead self.now.format (H.size self.now.held) pointer (length key.now) → ⊥)
+            → (reader.new ≡ reader.old) × (result ≡ Err (why.Damaged (names.Log self.now.number) pointer.place)) }
         ensures no_memory { IsErrOf result why.NoMemory → ⊥ }
     {
         let lying = self.find(reader, pointer, key)?;
@@ -115,6 +122,8 @@ impl<H: HeldFile> SealedLog<H> {
             (λ bytes place. (stored_at self.now.format bytes pointer key.now ≡ None)
             × (place ≡ pointer.place)) result }
         ensures inside { IfOk result (λ lying. lying.place + lying.length ≤ H.size self.now.held) }
+        ensures refused { (MayLead self.now.format (H.size self.now.held) pointer (length key.now) → ⊥)
+            → (reader.new ≡ reader.old) × (result ≡ Err (why.Damaged (names.Log self.now.number) pointer.place)) }
         ensures no_memory { IsErrOf result why.NoMemory → ⊥ }
     {
         let Some(length) = length_of_value(self.format, pointer, key) else {

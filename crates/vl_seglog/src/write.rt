@@ -33,7 +33,8 @@ pub fn commit_length(records: usize, bytes: usize) -> u64
 }
 
 /// Appends the frame of a commit that is to stand at the place `at` of the log with the number `file`. Want of memory
-/// is the answer too where it has more records than can be counted, or is longer than a frame may be.
+/// is the answer too where it has more records than can be counted, or is longer than a frame may be. That the
+/// commit is a lawful one is the caller's to see to: others are written too.
 pub fn write_commit(
     alloc: Global,
     out: &mut Vec<u8>,
@@ -89,7 +90,8 @@ fn write_change(out: &mut Vec<u8>, key: &Key, change: &Change) -> Result<(), All
 }
 
 /// Appends the frame of a relocation that is to stand at the place `at` of the log with the number `file`. Want of
-/// memory is the answer too where it has more records than can be counted, or is longer than a frame may be.
+/// memory is the answer too where it has more records than can be counted, or is longer than a frame may be. That it is
+/// a lawful one is the caller's to see to here too.
 pub fn write_move(
     alloc: Global,
     out: &mut Vec<u8>,

@@ -1,6 +1,7 @@
 ghost use Rattle.std.specs.Prelude.{◌≡◌, ℕ, List, IfNone, IfSome};
 ghost use Rattle.std.specs.Option.{option_copied};
 ghost use Rattle.vl_model.specs.Frames.{record_length};
+ghost use Rattle.vl_model.specs.Keys.{value_tag};
 ghost use Rattle.vl_seglog.specs.Record.{change_of, IsSpelled};
 ghost use Rattle.vl_model.specs.declared.change.Change.{Change};
 
@@ -24,6 +25,7 @@ pub struct RecordRef<'a> {
 pub fn read_record(format: u32, bytes: &[u8]) -> Option<RecordRef<'_>>
     ensures found { IfSome result (λ r.
         IsSpelled format bytes.now r.key.now (change_of (option_copied r.value) r.tag)) }
+    ensures tag { IfSome result (λ r. r.tag ≡ value_tag (change_of (option_copied r.value) r.tag)) }
     ensures length { IfSome result (λ r.
         r.length ≡ record_length format r.key.now (change_of (option_copied r.value) r.tag)) }
     ensures none { IfNone result

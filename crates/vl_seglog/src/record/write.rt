@@ -9,6 +9,7 @@ use std::alloc::AllocError;
 
 /// Appends the one spelling of a record in the logs that are written: the key's value with its tag, or where there is
 /// none its deletion, whose tag doesn't count. Want of memory is the answer too where a length has no room in its bytes.
+/// That the key and the value are lawful is the caller's to see to: others are written too.
 pub fn write_record(
     out: &mut Vec<u8>,
     key: &[u8],

@@ -1,4 +1,4 @@
-ghost use Rattle.std.specs.Prelude.{◌≡◌, ◌+◌, ◌<◌, ◌≤◌, ◌^◌, ◌∷◌, ℕ, IfOk, IfSome};
+ghost use Rattle.std.specs.Prelude.{◌≡◌, ◌+◌, ◌<◌, ◌≤◌, ◌^◌, ◌∷◌, ℕ, IfOk, IfSome, None, Ok};
 ghost use Rattle.byteorder.specs.Endian.{big_bytes};
 ghost use Rattle.vl_seglog.specs.Answers.{Answers};
 ghost use Rattle.vl_seglog.specs.Placed.{IsFrameAt};
@@ -15,9 +15,9 @@ use vl_disk::{HeldFile, Reader};
 use vl_frame::{FRAME_BYTES, HEAD_BYTES};
 
 impl<H: HeldFile> SealedLog<H> {
-    /// The frame that stands at a place, with the places of its records; the next one stands behind it. None where the
-    /// file ends there. From place 16 on these are the log's frames in their order. Of the file this frame alone is in
-    /// memory. Where bytes stand, and no frame, the place is damaged.
+    /// The frame that stands at a place, with the places of its records; the next one stands behind it. None at the
+    /// file's end and past it, where nothing is read. From place 16 on these are the log's frames in their order. Of the
+    /// file this frame alone is in memory. Where bytes stand, and no frame, the place is damaged.
     pub fn scan_from<R: Reader<Held = H>>(
         &self,
         alloc: Global,
@@ -27,6 +27,7 @@ impl<H: HeldFile> SealedLog<H> {
         ensures answers { Answers (R.faults reader.old) (R.faults reader.new) self.now.number (H.bytes self.now.held)
             (λ bytes found. IsFound self.now.format self.now.number place bytes found)
             (λ bytes at. IsTorn self.now.format self.now.number place bytes × (at ≡ place)) result }
+        ensures past { H.size self.now.held ≤ place → (reader.new ≡ reader.old) × (result ≡ Ok None) }
         ensures place { IfOk result (λ found. IfSome found (IsFrameAt self.now.format self.now.number place)) }
     {
         if place >= self.held.len() {

@@ -5,8 +5,8 @@ use Rattle.vl_seglog.proofs.Cut.{cut_from}
 use Rattle.vl_disk.specs.DiskState.{bytes_at}
 use Rattle.vl_seglog.proofs.sealed.SealedLog.read_at.Goals as goal
 
-pub returns : goal.returns
-returns g c =
+pub returns-clause-answers : goal.returns-clause-answers
+returns-clause-answers g c =
     let lying = c.in_ok-lying.lying in
     and_then _ _ _ c.args.self.now.number _ _ (λ bytes value. value ≡ tagged (bytes_at lying.place lying.length bytes) lying.tag) _ _ (λ bytes damage. ⊥) _ c.in_ok-lying.lying _
     (λ bytes told found value is. found ∙ ap Some (sym is))
