@@ -1,15 +1,18 @@
--- How the entries of a table are spelled, and which may stand there.
-use Rattle.std.specs.Prelude.{◌≡◌, ◌<◌, ◌≤◌, ◌^◌, ℕ, true, List, [], ◌∷◌, ◌++◌, length}
+-- How the entries of a table of each format are spelled, and which may stand there.
+use Rattle.std.specs.Prelude.{◌≡◌, ◌<◌, ◌≤◌, ◌^◌, ℕ, true, false, if◌then◌else◌, List, [], ◌∷◌, ◌++◌, length}
 use Rattle.byteorder.specs.Endian.{big_bytes}
 use Rattle.vl_model.specs.Keys.{is_key_length}
 use Rattle.vl_model.specs.Limits.{max_inline_bytes}
+use Rattle.vl_model.specs.declared.bytes.Value.{Value}
 use Rattle.vl_model.specs.declared.entry.Entry.{Entry}
 use Rattle.vl_model.specs.declared.entry.Body.{Body}
 use Rattle.vl_model.specs.declared.entry.Body.TheVariants.{Inline, Gone, Far, Logged}
 use Rattle.vl_model.specs.declared.pointer.Pointer.{Pointer}
+use Rattle.vl_block.specs.Formats.{has_tags}
 use Rattle.vl_block.specs.declared.entry_ref.EntryRef.{EntryRef}
 use Rattle.vl_block.specs.declared.entry_ref.BodyRef.{BodyRef}
 use Rattle.vl_block.specs.declared.entry_ref.BodyRef.TheVariants as refs
+use Rattle.vl_block.specs.declared.entry_ref.ValueRef.{ValueRef}
 
 -- ---- keys and pointers
 
@@ -27,36 +30,55 @@ pub record IsPointer (p : Pointer) : Type 0 where
   pub place : p.place < 2 ^ 64
   pub length : p.length < 2 ^ 32
 
+-- ---- values beside their keys
+
+-- a value's user byte, where the format has them
+abbrev pub tag_bytes : ℕ → ℕ → List ℕ
+tag_bytes format tag = if has_tags format then tag ∷ [] else []
+
+-- the user byte, and the value behind its length
+abbrev pub inline_bytes : ℕ → Value → List ℕ
+inline_bytes format value = tag_bytes format value.tag ++ length value.bytes ∷ value.bytes
+
+-- at most 64 bytes; the user byte is one, and 0 where the format has none
+pub record IsInline (format : ℕ) (value : Value) : Type 0 where
+  pub short : length value.bytes ≤ max_inline_bytes
+  pub tag : value.tag < 2 ^ 8
+  pub untagged : has_tags format ≡ false → value.tag ≡ 0
+
 -- ---- entries
 
--- The body's kind, and behind it a value's length and bytes, nothing, or a pointer. No lawful entry has a body of kind 3.
-abbrev pub body_bytes : Body → List ℕ
-body_bytes (Inline value) = 0 ∷ length value ∷ value
-body_bytes Gone = 1 ∷ []
-body_bytes (Far pointer) = 2 ∷ pointer_bytes pointer
-body_bytes (Logged value pointer) = 3 ∷ []
+-- The body's kind, and behind it a value, nothing, or a pointer. No lawful entry has a body of kind 3.
+abbrev pub body_bytes : ℕ → Body → List ℕ
+body_bytes format (Inline value) = 0 ∷ inline_bytes format value
+body_bytes format Gone = 1 ∷ []
+body_bytes format (Far pointer) = 2 ∷ pointer_bytes pointer
+body_bytes format (Logged value pointer) = 3 ∷ []
 
 -- the key, the version and the body
-abbrev pub entry_bytes : Entry → List ℕ
-entry_bytes e = key_bytes e.key ++ (big_bytes 8 e.version ++ body_bytes e.body)
+abbrev pub entry_bytes : ℕ → Entry → List ℕ
+entry_bytes format e = key_bytes e.key ++ (big_bytes 8 e.version ++ body_bytes format e.body)
 
--- a body that a table may have: a value of at most 64 bytes, a deletion, or a pointer whose numbers fit their bytes
-abbrev pub IsBody : Body → Type 0
-IsBody (Inline value) = length value ≤ max_inline_bytes
-IsBody Gone = Unit {0}
-IsBody (Far pointer) = IsPointer pointer
-IsBody (Logged value pointer) = ⊥
+-- a body that a table may have: a short value, a deletion, or a pointer whose numbers fit their bytes
+abbrev pub IsBody : ℕ → Body → Type 0
+IsBody format (Inline value) = IsInline format value
+IsBody format Gone = Unit {0}
+IsBody format (Far pointer) = IsPointer pointer
+IsBody format (Logged value pointer) = ⊥
 
 -- an entry that a table may have
-pub record IsEntry (e : Entry) : Type 0 where
+pub record IsEntry (format : ℕ) (e : Entry) : Type 0 where
   pub key : is_key_length (length e.key) ≡ true
   pub version : e.version < 2 ^ 64
-  pub body : IsBody e.body
+  pub body : IsBody format e.body
 
 -- ---- where they lie in memory
 
+abbrev pub value_of : ValueRef → Value
+value_of r = record { bytes = r.bytes.now; tag = r.tag }
+
 abbrev pub body_of : BodyRef → Body
-body_of (refs.Inline value) = Inline value.now
+body_of (refs.Inline value) = Inline (value_of value)
 body_of refs.Gone = Gone
 body_of (refs.Far pointer) = Far pointer
 

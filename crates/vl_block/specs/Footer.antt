@@ -1,12 +1,14 @@
 -- What the footer of a table spells: where the index stands, and what the entries are, taken together.
-use Rattle.std.specs.Prelude.{◌≡◌, ◌<◌, ◌^◌, ℕ, true, List, ◌++◌, length}
+use Rattle.std.specs.Prelude.{◌≡◌, ◌<◌, ◌^◌, ℕ, Bool, true, false, Option, Some, None, List, [], ◌++◌, length}
 use Rattle.byteorder.specs.Endian.{big_bytes}
 use Rattle.vl_frame.specs.laws.NumberLaws.{one_number}
 use Rattle.vl_model.specs.Keys.{is_key_length}
 use Rattle.vl_block.specs.declared.points.Point.{Point}
 use Rattle.vl_block.specs.declared.footer.Footer.{Footer}
 use Rattle.vl_block.specs.declared.footer_head.FooterHead.{FooterHead}
+use Rattle.vl_block.specs.declared.footer_head.FramePlace.{FramePlace}
 use Rattle.vl_block.specs.Entries.{key_bytes}
+use Rattle.vl_block.specs.Formats.{has_filter}
 use Rattle.vl_block.specs.Lists.{Spelling, counted_bytes, AreLawful}
 
 -- ---- points
@@ -35,6 +37,7 @@ points = record { bytes = point_bytes; lawful = IsPoint; before = λ p q. p.segm
 
 -- what stands before the points
 pub record Head : Type 0 where
+  pub filter : Option FramePlace
   pub index_place : ℕ
   pub index_length : ℕ
   pub count : ℕ
@@ -42,13 +45,27 @@ pub record Head : Type 0 where
   pub first : List ℕ
   pub last : List ℕ
 
--- The place and length of the index's frame, the count of entries, their greatest version, the first and the last key.
+-- the place and length of a frame, where there is one
+abbrev pub frame_place_bytes : Option FramePlace → List ℕ
+frame_place_bytes None = []
+frame_place_bytes (Some p) = big_bytes 8 p.place ++ big_bytes 4 p.length
+
+-- The place and length of the filter's frame, where there is one, and of the index's frame, the count of entries, their
+-- greatest version, the first and the last key.
 abbrev pub head_bytes : Head → List ℕ
 head_bytes h =
-    big_bytes 8 h.index_place ++ (big_bytes 4 h.index_length ++ (big_bytes 8 h.count ++ (big_bytes 8 h.greatest
-    ++ (key_bytes h.first ++ key_bytes h.last))))
+    frame_place_bytes h.filter ++ (big_bytes 8 h.index_place ++ (big_bytes 4 h.index_length ++ (big_bytes 8 h.count
+    ++ (big_bytes 8 h.greatest ++ (key_bytes h.first ++ key_bytes h.last)))))
 
-pub record IsHead (h : Head) : Type 0 where
+-- a frame's place where there is to be one, and else none
+abbrev pub IsFramePlace : Bool → Option FramePlace → Type 0
+IsFramePlace true None = ⊥
+IsFramePlace true (Some p) = (p.place < 2 ^ 64) × (p.length < 2 ^ 32)
+IsFramePlace false None = Unit {0}
+IsFramePlace false (Some p) = ⊥
+
+pub record IsHead (format : ℕ) (h : Head) : Type 0 where
+  pub filter : IsFramePlace (has_filter format) h.filter
   pub index_place : h.index_place < 2 ^ 64
   pub index_length : h.index_length < 2 ^ 32
   pub count : h.count < 2 ^ 64
@@ -64,9 +81,9 @@ pub record Foot : Type 0 where
 abbrev pub footer_body : Foot → List ℕ
 footer_body f = head_bytes f.head ++ counted_bytes points f.points
 
--- the body is a footer's, which says this
-pub record SpellsFooter (body : List ℕ) (f : Foot) : Type 0 where
-  pub head : IsHead f.head
+-- the body is a footer's in this format, which says this
+pub record SpellsFooter (format : ℕ) (body : List ℕ) (f : Foot) : Type 0 where
+  pub head : IsHead format f.head
   pub points : AreLawful points f.points
   pub spelled : body ≡ footer_body f
 
@@ -74,6 +91,7 @@ pub record SpellsFooter (body : List ℕ) (f : Foot) : Type 0 where
 
 abbrev pub head_of : FooterHead → Head
 head_of h = record {
+  filter = h.filter;
   index_place = h.index_place;
   index_length = h.index_length;
   count = h.count;
@@ -85,6 +103,7 @@ head_of h = record {
 abbrev pub foot_of : Footer → Foot
 foot_of f = record {
   head = record {
+    filter = f.filter;
     index_place = f.index_place;
     index_length = f.index_length;
     count = f.count;

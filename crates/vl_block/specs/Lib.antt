@@ -3,6 +3,7 @@ pub mod Bytes
 pub mod Cutting
 pub mod Entries
 pub mod Footer
+pub mod Formats
 pub mod Index
 pub mod laws
 pub mod Lists

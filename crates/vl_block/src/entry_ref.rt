@@ -1,13 +1,20 @@
 ghost use Rattle.std.specs.Prelude.{◌≡◌, IfOk};
-ghost use Rattle.vl_block.specs.Entries.{body_of, entry_of};
+ghost use Rattle.vl_block.specs.Entries.{body_of, entry_of, value_of};
 
 use std::alloc::{AllocError, Global};
-use vl_model::{Body, Bytes, Entry, Place, Pointer};
+use vl_model::{Body, Bytes, Entry, Place, Pointer, Value};
+
+/// A value and its user byte where they lie in a block.
+#[derive(Clone, Copy, Debug)]
+pub struct ValueRef<'a> {
+    pub bytes: &'a [u8],
+    pub tag: u8,
+}
 
 /// A body where it lies in a block.
 #[derive(Clone, Copy, Debug)]
 pub enum BodyRef<'a> {
-    Inline(&'a [u8]),
+    Inline(ValueRef<'a>),
     Gone,
     Far(Pointer),
 }
@@ -20,12 +27,22 @@ pub struct EntryRef<'a> {
     pub body: BodyRef<'a>,
 }
 
+impl ValueRef<'_> {
+    /// The value with bytes of its own.
+    pub fn to_value(&self, alloc: Global) -> Result<Value, AllocError>
+        ensures { IfOk result (λ value. value ≡ value_of self.now) }
+    {
+        Value::copy_of(alloc, self.bytes, self.tag)
+    }
+}
+
 impl BodyRef<'_> {
-    fn to_body(&self, alloc: Global) -> Result<Body, AllocError>
+    /// The body with a value of its own.
+    pub fn to_body(&self, alloc: Global) -> Result<Body, AllocError>
         ensures { IfOk result (λ body. body ≡ body_of self.now) }
     {
         Ok(match self {
-            BodyRef::Inline(value) => Body::Inline(Bytes::copy_of(alloc, value)?),
+            BodyRef::Inline(value) => Body::Inline(value.to_value(alloc)?),
             BodyRef::Gone => Body::Gone,
             BodyRef::Far(pointer) => Body::Far(*pointer),
         })

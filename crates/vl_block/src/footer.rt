@@ -4,15 +4,16 @@ ghost use Rattle.std.specs.Prelude.{◌≡◌, IfOk, IfNone, IfSome};
 ghost use Rattle.vl_block.specs.Footer.{Foot, SpellsFooter, foot_of, head_of};
 ghost use Rattle.vl_block.specs.declared.footer_head.FooterHead.{FooterHead};
 
-use crate::footer_head::{FooterHead, take_head};
+use crate::footer_head::{FooterHead, FramePlace, take_head};
 use crate::points::{Point, read_points};
 use std::alloc::{AllocError, Global};
 use vl_model::{Bytes, Key};
 
-/// What a table's footer says: where the index's frame stands and how long it is, how many entries there are, the greatest
+/// What a table's footer says: where the filter's frame stands, if there is one, where the index's frame stands and how long it is, how many entries there are, the greatest
 /// version among them, the first and the last key, and the segments that they lead into, rising.
 #[derive(Drop)]
 pub struct Footer {
+    pub filter: Option<FramePlace>,
     pub index_place: u64,
     pub index_length: u32,
     pub count: u64,
@@ -23,11 +24,11 @@ pub struct Footer {
 }
 
 /// What the body of a footer's frame says, or None where it isn't a footer's.
-pub fn read_footer(alloc: Global, body: &[u8]) -> Result<Option<Footer>, AllocError>
-    ensures found { IfOk result (λ read. IfSome read (λ footer. SpellsFooter body.now (foot_of footer))) }
-    ensures none { IfOk result (λ read. IfNone read ((foot : Foot) → SpellsFooter body.now foot → ⊥)) }
+pub fn read_footer(alloc: Global, format: u32, body: &[u8]) -> Result<Option<Footer>, AllocError>
+    ensures found { IfOk result (λ read. IfSome read (λ footer. SpellsFooter format body.now (foot_of footer))) }
+    ensures none { IfOk result (λ read. IfNone read ((foot : Foot) → SpellsFooter format body.now foot → ⊥)) }
 {
-    let Some((head, rest)) = take_head(body) else {
+    let Some((head, rest)) = take_head(format, body) else {
         return Ok(None);
     };
     match read_points(alloc, rest)? {
@@ -40,6 +41,7 @@ fn footer_with(alloc: Global, head: &FooterHead, points: Vec<Point>) -> Result<F
     ensures { IfOk result (λ footer. foot_of footer ≡ record { head = head_of head.now; points = points.items }) }
 {
     Ok(Footer {
+        filter: head.filter,
         index_place: head.index_place,
         index_length: head.index_length,
         count: head.count,

@@ -18,10 +18,10 @@ mod points;
 mod taking;
 
 pub use block::{block_entries, is_block, read_block};
-pub use entry_ref::{BodyRef, EntryRef};
+pub use entry_ref::{BodyRef, EntryRef, ValueRef};
 pub use footer::{Footer, read_footer};
-pub use footer_head::FooterHead;
-pub use format::TABLE_FORMAT;
+pub use footer_head::{FooterHead, FramePlace};
+pub use format::{TABLE_FORMAT, has_filter, has_tags};
 pub use index::{BlockPlace, read_index};
 pub use points::Point;
 pub use taking::{FAR, GONE, INLINE, take_entry};

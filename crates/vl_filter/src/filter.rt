@@ -2,8 +2,8 @@ ghost use Rattle.std.specs.Prelude.{◌≡◌, ◌≤◌, ◌<◌, ◌*◌, ◌^
 ghost use Rattle.vl_filter.specs.Filters.{SpellsFilter, may_hold};
 
 use crate::bits::is_set;
-use crate::places::Hashes;
-use vl_frame::take_u32;
+use crate::hashes::Hashes;
+use byteorder::{BigEndian, ByteOrder};
 
 /// A filter where it lies in the body of a frame.
 #[derive(Clone, Copy)]
@@ -18,7 +18,11 @@ pub fn read(body: &[u8]) -> Option<Filter<'_>>
     ensures found { IfSome result (λ filter. SpellsFilter body.now filter.bytes.now) }
     ensures none { IfNone result ((bytes : List ℕ) → SpellsFilter body.now bytes → ⊥) }
 {
-    let (bits, bytes) = take_u32(body)?;
+    if body.len() < 4 {
+        return None;
+    }
+    let (front, bytes) = body.split_at(4);
+    let bits = BigEndian::read_u32(front);
     if bits >= 64 && bits % 8 == 0 && bytes.len() == (bits / 8) as usize {
         Some(Filter { bytes })
     } else {

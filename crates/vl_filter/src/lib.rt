@@ -8,23 +8,25 @@
 mod bits;
 mod building;
 mod filter;
+mod hashes;
 mod laws;
-mod places;
 
-pub use building::build;
+pub use building::{build, bytes_for};
 pub use filter::{Filter, read};
-pub use laws::{a_worked_filter, built_filters_hold_their_keys, filters_are_read_in_one_way};
+pub use hashes::Hashes;
+pub use laws::{
+    a_worked_filter, built_filters_hold_their_keys, filters_are_read_in_one_way,
+    filters_have_the_bits_of_their_keys,
+};
 
 #[cfg(test)]
 mod tests {
     use super::*;
     use std::test::Fail;
-    use vl_model::Key;
 
     #[test]
     fn the_filter_of_one_key_has_its_bytes(rt: HostRuntime) -> Result<(), Fail> {
-        let keys = [Key::copy_of(rt.alloc(), b"abc")?];
-        let body = build(rt.alloc(), &keys)?;
+        let body = build(rt.alloc(), &[Hashes::of(b"abc")])?;
         let expected = [0, 0, 0, 64, 0x00, 0x20, 0x08, 0x02, 0x00, 0x04, 0x41, 0x10];
         assert_eq!(rt; body.as_slice(), expected.as_slice());
         let filter = read(&body).ok_or("none")?;

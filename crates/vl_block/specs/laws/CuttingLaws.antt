@@ -14,18 +14,18 @@ by_test : (P : List Entry) (b : Bool) (x y : List (List Entry)) → joined x ≡
 by_test P true x y one other = one
 by_test P false x y one other = other
 
-blocks_from-whole : (open_block : List Entry) (bytes : ℕ) (es : List Entry)
-    → joined (blocks_from open_block bytes es) ≡ open_block ++ es
-blocks_from-whole open_block bytes [] = refl
-blocks_from-whole open_block bytes (e ∷ es) =
-    by_test (open_block ++ e ∷ es) (nat_le (bytes + entry_length e) max_block_bytes)
-    (blocks_from (open_block ++ e ∷ []) (bytes + entry_length e) es) (open_block ∷ blocks_from (e ∷ []) (begun_length e) es)
-    (blocks_from-whole (open_block ++ e ∷ []) (bytes + entry_length e) es ∙ one_more open_block e es)
-    (ap (λ xs. open_block ++ xs) (blocks_from-whole (e ∷ []) (begun_length e) es))
+blocks_from-whole : (format : ℕ) (open_block : List Entry) (bytes : ℕ) (es : List Entry)
+    → joined (blocks_from format open_block bytes es) ≡ open_block ++ es
+blocks_from-whole format open_block bytes [] = refl
+blocks_from-whole format open_block bytes (e ∷ es) =
+    by_test (open_block ++ e ∷ es) (nat_le (bytes + entry_length format e) max_block_bytes)
+    (blocks_from format (open_block ++ e ∷ []) (bytes + entry_length format e) es) (open_block ∷ blocks_from format (e ∷ []) (begun_length format e) es)
+    (blocks_from-whole format (open_block ++ e ∷ []) (bytes + entry_length format e) es ∙ one_more open_block e es)
+    (ap (λ xs. open_block ++ xs) (blocks_from-whole format (e ∷ []) (begun_length format e) es))
 
-pub blocks-whole : (es : List Entry) → joined (blocks es) ≡ es
-blocks-whole [] = refl
-blocks-whole (e ∷ es) = blocks_from-whole (e ∷ []) (begun_length e) es
+pub blocks-whole : (format : ℕ) (es : List Entry) → joined (blocks format es) ≡ es
+blocks-whole format [] = refl
+blocks-whole format (e ∷ es) = blocks_from-whole format (e ∷ []) (begun_length format e) es
 
 -- ---- no block is empty
 
@@ -34,15 +34,15 @@ by_test-some : (t : Bool) (x y : List (List Entry)) → AllByRecursion (λ b. 1 
 by_test-some true x y one other = one
 by_test-some false x y one other = other
 
-blocks_from-some : (open_block : List Entry) (bytes : ℕ) (es : List Entry) → 1 ≤ length open_block
-    → AllByRecursion (λ b. 1 ≤ length b) (blocks_from open_block bytes es)
-blocks_from-some open_block bytes [] some = (some, tt)
-blocks_from-some open_block bytes (e ∷ es) some =
-    by_test-some (nat_le (bytes + entry_length e) max_block_bytes)
-    (blocks_from (open_block ++ e ∷ []) (bytes + entry_length e) es) (open_block ∷ blocks_from (e ∷ []) (begun_length e) es)
-    (blocks_from-some (open_block ++ e ∷ []) (bytes + entry_length e) es (omega (arith, length-append open_block (e ∷ []))))
-    (some, blocks_from-some (e ∷ []) (begun_length e) es (omega arith))
+blocks_from-some : (format : ℕ) (open_block : List Entry) (bytes : ℕ) (es : List Entry) → 1 ≤ length open_block
+    → AllByRecursion (λ b. 1 ≤ length b) (blocks_from format open_block bytes es)
+blocks_from-some format open_block bytes [] some = (some, tt)
+blocks_from-some format open_block bytes (e ∷ es) some =
+    by_test-some (nat_le (bytes + entry_length format e) max_block_bytes)
+    (blocks_from format (open_block ++ e ∷ []) (bytes + entry_length format e) es) (open_block ∷ blocks_from format (e ∷ []) (begun_length format e) es)
+    (blocks_from-some format (open_block ++ e ∷ []) (bytes + entry_length format e) es (omega (arith, length-append open_block (e ∷ []))))
+    (some, blocks_from-some format (e ∷ []) (begun_length format e) es (omega arith))
 
-pub blocks-some : (es : List Entry) → AllByRecursion (λ b. 1 ≤ length b) (blocks es)
-blocks-some [] = tt
-blocks-some (e ∷ es) = blocks_from-some (e ∷ []) (begun_length e) es (omega arith)
+pub blocks-some : (format : ℕ) (es : List Entry) → AllByRecursion (λ b. 1 ≤ length b) (blocks format es)
+blocks-some format [] = tt
+blocks-some format (e ∷ es) = blocks_from-some format (e ∷ []) (begun_length format e) es (omega arith)

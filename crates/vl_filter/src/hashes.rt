@@ -1,14 +1,13 @@
-//! Where the bits of a key stand.
+//! What a filter knows of a key, and where the key's bits stand.
 
 ghost use Rattle.std.specs.Prelude.{◌≡◌, ◌<◌};
-ghost use Rattle.sha2.specs.Sha256.{sha256};
-ghost use Rattle.vl_filter.specs.Places.{first_hash, second_hash, place};
+ghost use Rattle.vl_filter.specs.Places.{hashes_of, place};
 
 use byteorder::{BigEndian, ByteOrder};
 use sha2::{Digest, Sha256};
 
-// The two hashes of a key.
-#[derive(Clone, Copy)]
+/// The two hashes of a key. They are all that a filter is built of.
+#[derive(Clone, Copy, Debug, PartialEq, Eq)]
 pub struct Hashes {
     pub first: u64,
     pub second: u64,
@@ -16,8 +15,7 @@ pub struct Hashes {
 
 impl Hashes {
     pub fn of(key: &[u8]) -> Self
-        ensures first { result.first ≡ first_hash key.now }
-        ensures second { result.second ≡ second_hash key.now }
+        ensures { result ≡ hashes_of key.now }
     {
         let digest = Sha256::digest(key);
         Hashes {
@@ -27,9 +25,9 @@ impl Hashes {
     }
 
     // The place of the bit with this index among so many bits.
-    pub fn place(self, bits: u64, index: u64) -> u64
+    pub(crate) fn place(self, bits: u64, index: u64) -> u64
         requires { 0 < bits }
-        ensures is { result ≡ place bits self.first self.second index }
+        ensures is { result ≡ place bits self index }
         ensures within { result < bits }
     {
         self.first.wrapping_add(index.wrapping_mul(self.second)) % bits
