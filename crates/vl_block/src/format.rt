@@ -3,9 +3,6 @@
 ghost use Rattle.std.specs.Prelude.{◌≡◌};
 ghost use Rattle.vl_block.specs.Formats as formats;
 
-/// The format that tables are written in, which is the greatest that is read.
-pub const TABLE_FORMAT: u32 = 3;
-
 /// Whether tables of a format have user bytes beside short values.
 pub fn has_tags(format: u32) -> bool
     ensures { result ≡ formats.has_tags format }

@@ -5,7 +5,7 @@ ghost use Rattle.vl_model.specs.declared.entry.Entry.{Entry};
 ghost use Rattle.vl_model.specs.declared.entry.Body.{Body};
 ghost use Rattle.vl_block.specs.Formats as formats;
 ghost use Rattle.vl_block.specs.Entries.{IsBody, IsEntry, IsInline, body_bytes, body_of, entry_bytes, entry_of, inline_bytes, tag_bytes, value_of};
-ghost use Rattle.vl_model.specs.declared.bytes.Value.{Value};
+ghost use Rattle.vl_model.specs.declared.value.Value.{Value};
 
 use crate::entry_ref::{BodyRef, EntryRef, ValueRef};
 use crate::format::has_tags;

@@ -1,5 +1,6 @@
 mod BitLaws
 mod BuildLaws
 mod HeldLaws
+mod MarkedLaws
 mod PlaceLaws
 mod WorkedRow

@@ -9,7 +9,7 @@ use Rattle.vl_model.specs.declared.entry.Entry.{Entry}
 use Rattle.vl_model.specs.declared.entry.Body.{Body}
 use Rattle.vl_model.specs.declared.entry.Body.TheVariants.{Inline, Gone, Far, Logged}
 use Rattle.vl_model.specs.declared.pointer.Pointer.{Pointer}
-use Rattle.vl_model.specs.declared.bytes.Value.{Value}
+use Rattle.vl_model.specs.declared.value.Value.{Value}
 use Rattle.vl_block.specs.Formats.{has_tags}
 use Rattle.vl_block.specs.Entries.{key_bytes, pointer_bytes, inline_bytes, tag_bytes, body_bytes, entry_bytes, IsPointer, IsInline, IsBody, IsEntry}
 

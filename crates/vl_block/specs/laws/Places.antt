@@ -26,7 +26,7 @@ blocks-split format number at (a ∷ front) b back =
     let frame = frame_bytes number at kinds.Block (block_body format a) in
     let next = at + block_frame_length format a in
     let behind : ℕ → List ℕ = λ (n : ℕ). frame_bytes number n kinds.Block (block_body format b) ++ blocks_bytes format number (n + block_frame_length format b) back in
-    let place : next + sum_by (block_frame_length format) front ≡ at + sum_by (block_frame_length format) (a ∷ front) = omega (arith, sum_by-cons (block_frame_length format) format a front) in
+    let place : next + sum_by (block_frame_length format) front ≡ at + sum_by (block_frame_length format) (a ∷ front) = omega (arith, sum_by-cons (block_frame_length format) a front) in
     ap (λ (l : List ℕ). frame ++ l) (blocks-split format number next front b back)
     ∙ sym (append_assoc frame (blocks_bytes format number next front) (behind (next + sum_by (block_frame_length format) front)))
     ∙ ap (λ (n : ℕ). (frame ++ blocks_bytes format number next front) ++ behind n) place

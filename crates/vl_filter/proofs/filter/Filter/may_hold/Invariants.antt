@@ -3,4 +3,4 @@ use Rattle.vl_filter.specs.Filters.{are_set}
 use Rattle.vl_filter.proofs.filter.Filter.may_hold.Given as goal
 
 abbrev pub invariant-loop-index : goal.invariant-loop-index
-invariant-loop-index l = are_set l.self.bytes.now l.hashes.first l.hashes.second l.index ≡ true
+invariant-loop-index l = are_set l.self.bytes.now l.hashes l.index ≡ true
