@@ -1,5 +1,5 @@
 -- One bit of bytes, read and written.
-use Rattle.std.proofs.Common.{◌≡◌, ◌≢◌, ◌⊎◌, ℕ, suc, ◌+◌, ◌*◌, ◌/◌, ◌%◌, ◌^◌, ◌<◌, Bool, true, false, ◌==◌, ◌||◌, List, length, get_or, slice_set, slice_index_or, bit_or, bit_and, refl, ap, sym, ◌∙◌, arith, inl, inr, ⊎_elim, w8}
+use Rattle.std.proofs.Common.{◌≡◌, ◌≢◌, ℕ, ◌*◌, ◌/◌, ◌%◌, ◌^◌, ◌<◌, Bool, true, false, ◌==◌, ◌||◌, List, length, get_or, slice_set, bit_or, refl, ap, sym, ◌∙◌, arith, ⊎_elim, w8}
 use Rattle.std.specs.Int.{bit_at}
 use Rattle.std.proofs.lemmas.Bool.{cases_eq}
 use Rattle.std.proofs.lemmas.Bool.Decides.{nat_tests}

@@ -1,12 +1,16 @@
 -- A filter holds the keys that it was built of, and a body spells one filter.
-use Rattle.std.proofs.Common.{◌≡◌, ℕ, zero, suc, ◌+◌, ◌*◌, ◌<◌, ◌^◌, Bool, true, false, ◌==◌, ◌&&◌, ◌||◌, List, [], ◌∷◌, ◌++◌, length, refl, ap, sym, ◌∙◌, arith}
+use Rattle.std.proofs.Common.{◌≡◌, ℕ, zero, suc, ◌*◌, ◌<◌, ◌^◌, Bool, true, false, ◌==◌, ◌&&◌, ◌||◌, List, [], ◌∷◌, ◌++◌, length, map, drop, refl, ap, sym, ◌∙◌, arith}
 use Rattle.std.proofs.lemmas.Bool.Decides.{nat_tests}
-use Rattle.std.specs.List.{AllByRecursion, list_any}
+use Rattle.std.specs.List.{AllByRecursion}
 use Rattle.byteorder.specs.Endian.{big_bytes}
-use Rattle.vl_frame.specs.laws.NumberLaws.{one_number}
+use Rattle.byteorder.specs.Numbers.{length-bytes_high_first}
+use Rattle.std.proofs.lemmas.List.{drop_at}
 use Rattle.vl_filter.specs.Bits.{is_set}
-use Rattle.vl_filter.specs.Filters.{are_set, has_place, has_place_below, may_hold, IsBuilt, SpellsFilter}
-use Rattle.vl_filter.specs.Places.{first_hash, second_hash, place}
+use Rattle.std.proofs.lemmas.List.{length-map}
+use Rattle.vl_filter.specs.Filters.{are_set, byte_count, filter_body, filter_bytes, is_marked, marked_bytes, may_hold, SpellsFilter}
+use Rattle.vl_filter.specs.Places.{has_place, has_place_below, hashes_of, place}
+use Rattle.vl_filter.specs.declared.hashes.Hashes.{Hashes}
+use Rattle.vl_filter.proofs.MarkedLaws.{marked-bits, marked-length}
 
 same_test : (m : ℕ) → (m == m) ≡ true
 same_test m = grind (arith, nat_tests)
@@ -24,27 +28,51 @@ and_both true b is also = also
 and_both false b is also = absurd cc
 
 -- where all places of a key are set its bits are
-module _ (bytes : List ℕ) (first second : ℕ) where
-  all_of : (n : ℕ) → ((p : ℕ) → has_place_below (8 * length bytes) first second n p ≡ true → is_set bytes p ≡ true) → are_set bytes first second n ≡ true
+module _ (bytes : List ℕ) (hashes : Hashes) where
+  all_of : (n : ℕ) → ((p : ℕ) → has_place_below (8 * length bytes) hashes n p ≡ true → is_set bytes p ≡ true) → are_set bytes hashes n ≡ true
   all_of zero set = refl
   all_of (suc n) set =
-      let q = place (8 * length bytes) first second n in
-      and_both (is_set bytes q) (are_set bytes first second n)
-      (set q (or_first (q == q) (has_place_below (8 * length bytes) first second n q) (same_test q)))
-      (all_of n (λ p has. set p (or_last (p == q) (has_place_below (8 * length bytes) first second n p) has)))
+      let q = place (8 * length bytes) hashes n in
+      and_both (is_set bytes q) (are_set bytes hashes n)
+      (set q (or_first (q == q) (has_place_below (8 * length bytes) hashes n q) (same_test q)))
+      (all_of n (λ p has. set p (or_last (p == q) (has_place_below (8 * length bytes) hashes n p) has)))
 
-each : (bytes : List ℕ) (keys : List (List ℕ)) → ((p : ℕ) → list_any (λ key. has_place (8 * length bytes) key p) keys ≡ true → is_set bytes p ≡ true)
+each : (bytes : List ℕ) (keys : List (List ℕ)) → ((p : ℕ) → is_marked (8 * length bytes) (map hashes_of keys) p ≡ true → is_set bytes p ≡ true)
     → AllByRecursion (λ key. may_hold bytes key ≡ true) keys
 each bytes [] set = tt
 each bytes (key ∷ keys) set = (
-  all_of bytes (first_hash key) (second_hash key) 7
-      (λ p has. set p (or_first (has_place (8 * length bytes) key p) (list_any (λ k. has_place (8 * length bytes) k p) keys) has)),
-  each bytes keys (λ p has. set p (or_last (has_place (8 * length bytes) key p) (list_any (λ k. has_place (8 * length bytes) k p) keys) has)),
+  all_of bytes (hashes_of key) 7
+      (λ p has. set p (or_first (has_place (8 * length bytes) (hashes_of key) p) (is_marked (8 * length bytes) (map hashes_of keys) p) has)),
+  each bytes keys (λ p has. set p (or_last (has_place (8 * length bytes) (hashes_of key) p) (is_marked (8 * length bytes) (map hashes_of keys) p) has)),
 )
 
-pub holds_all : (keys : List (List ℕ)) (body : List ℕ) → (is : IsBuilt keys body) → AllByRecursion (λ key. may_hold is.bytes key ≡ true) keys
-holds_all keys body is = each is.bytes keys (λ p has. is.exact p ∙ has)
+pub holds_all : (keys : List (List ℕ)) → AllByRecursion (λ key. may_hold (filter_bytes keys) key ≡ true) keys
+holds_all keys = each (filter_bytes keys) keys (λ p has.
+    marked-bits (map hashes_of keys) p
+    ∙ ap (λ (n : ℕ). is_marked (8 * n) (map hashes_of keys) p) (sym (marked-length (map hashes_of keys))) ∙ has)
+
+-- ---- a body and its filter
+
+one_front : (a b : ℕ) (x y : List ℕ) → a < 2 ^ 32 → b < 2 ^ 32 → big_bytes 4 a ++ x ≡ big_bytes 4 b ++ y → x ≡ y
+one_front a b x y a-fits b-fits e =
+    sym (drop_at (big_bytes 4 a) x 4 (length-bytes_high_first 4 a)) ∙ ap (drop 4) e ∙ drop_at (big_bytes 4 b) y 4 (length-bytes_high_first 4 b)
 
 pub one_filter : (body bytes others : List ℕ) → SpellsFilter body bytes → SpellsFilter body others → bytes ≡ others
 one_filter body bytes others a b =
-    (one_number 4 (8 * length bytes) (8 * length others) bytes others (omega (arith, a.fits)) (omega (arith, b.fits)) (sym a.spelled ∙ b.spelled)).1
+    one_front (8 * length bytes) (8 * length others) bytes others a.fits b.fits (sym a.spelled ∙ b.spelled)
+
+pub spells : (keys : List (List ℕ)) → 8 * byte_count (length keys) < 2 ^ 32 → SpellsFilter (filter_body keys) (filter_bytes keys)
+spells keys fits =
+    let list = map hashes_of keys in
+    let long : length (marked_bytes list) ≡ byte_count (length list) = marked-length list in
+    let same : length list ≡ length keys = length-map keys hashes_of in
+    record {
+      some = omega (arith, long);
+      fits = omega (arith, long, fits, ap byte_count same);
+      spelled = ap (λ (n : ℕ). big_bytes 4 (8 * n) ++ marked_bytes list) (sym long);
+    }
+
+pub bits_of : (keys : List (List ℕ)) (p : ℕ) → is_set (filter_bytes keys) p ≡ is_marked (8 * byte_count (length keys)) (map hashes_of keys) p
+bits_of keys p =
+    marked-bits (map hashes_of keys) p
+    ∙ ap (λ (n : ℕ). is_marked (8 * byte_count n) (map hashes_of keys) p) (length-map keys hashes_of)

@@ -1,7 +1,7 @@
 -- The bits of a key, one more at a time.
-use Rattle.std.proofs.Common.{◌≡◌, ℕ, zero, suc, ◌+◌, ◌*◌, ◌<◌, Bool, true, false, cond, ◌==◌, ◌&&◌, ◌||◌, List, [], ◌∷◌, ◌++◌, length, get_or, take, refl, ap, sym, ◌∙◌, arith, add-one}
+use Rattle.std.proofs.Common.{◌≡◌, ℕ, zero, suc, ◌+◌, ◌*◌, ◌<◌, Bool, true, false, ◌==◌, ◌&&◌, ◌||◌, List, [], ◌∷◌, ◌++◌, length, get_or, take, refl, ap, sym, ◌∙◌, arith, add-one}
 use Rattle.std.proofs.lemmas.Bool.Decides.{nat_tests}
-use Rattle.std.specs.List.{AllByRecursion, list_any}
+use Rattle.std.specs.List.{list_any}
 use Rattle.std.proofs.lemmas.List.Folds.{list_any-append}
 use Rattle.std.proofs.Math.Seq.{take-suc}
 use Rattle.vl_filter.specs.Bits.{is_set}
@@ -52,6 +52,17 @@ more_key bits list i hashes p a b c within is one before =
     one ∙ ap (λ t. has_place bits hashes p || t) before
     ∙ or_assoc (has_place bits hashes p) (list_any test (take i list)) c
     ∙ ap (λ t. t || c) (or_turned (has_place bits hashes p) (list_any test (take i list)) ∙ sym more)
+
+pub more_key_at : (bits : ℕ) (list : List Hashes) (i : ℕ) (d : Hashes) (p : ℕ) (a b c : Bool) → i < length list
+    → a ≡ (has_place bits (get_or list i d) p || b) → b ≡ (is_marked bits (take i list) p || c)
+    → a ≡ (is_marked bits (take (i + 1) list) p || c)
+more_key_at bits list i d p a b c within one before =
+    more_key bits list i (get_or list i d) p a b c within (get_or-any list i d (get_or list i d) within) one before
+  where
+    get_or-any : (list : List Hashes) (i : ℕ) (d e : Hashes) → i < length list → get_or list i d ≡ get_or list i e
+    get_or-any [] i d e within = absurd (omega arith)
+    get_or-any (h ∷ list) zero d e within = refl
+    get_or-any (h ∷ list) (suc i) d e within = get_or-any list i d e (omega arith)
 
 -- ---- bits that are read
 

@@ -1,6 +1,6 @@
 //! How the filter of a table's keys is made: of two hashes for each key, once all keys are known.
 
-ghost use Rattle.std.specs.Prelude.{◌≡◌, ◌≤◌, ◌<◌, ◌*◌, ◌++◌, ◌||◌, ◌^◌, ℕ, length, IfOk};
+ghost use Rattle.std.specs.Prelude.{◌≡◌, ◌≤◌, ◌<◌, ◌*◌, ◌++◌, ◌||◌, ◌^◌, ℕ, get_or, length, IfOk};
 ghost use Rattle.vl_filter.specs.Bits.{is_set};
 ghost use Rattle.vl_filter.specs.Filters.{byte_count, is_marked, marked_body};
 ghost use Rattle.vl_filter.specs.Places.{has_place};
@@ -38,18 +38,19 @@ pub fn bytes_for(keys: usize) -> usize
 fn mark_all(bytes: &mut [u8], keys: &[Hashes])
     requires some { 8 ≤ length bytes.old }
     requires fits { 8 * length bytes.old < 2 ^ 32 }
-    ensures { (p : ℕ) → is_set bytes.new p ≡ (is_marked (8 * length bytes.old) keys.now p || is_set bytes.old p) }
+    ensures bytes { (k : ℕ) → get_or bytes.new k 0 < 2 ^ 8 }
+    ensures marked { (p : ℕ) → is_set bytes.new p ≡ (is_marked (8 * length bytes.old) keys.now p || is_set bytes.old p) }
 {
     for hashes in keys {
-        mark(bytes, *hashes);
+        mark(bytes, hashes);
     }
 }
 
 // Makes the seven bits of a key 1.
-fn mark(bytes: &mut [u8], hashes: Hashes)
+fn mark(bytes: &mut [u8], hashes: &Hashes)
     requires some { 8 ≤ length bytes.old }
     requires fits { 8 * length bytes.old < 2 ^ 32 }
-    ensures { (p : ℕ) → is_set bytes.new p ≡ (has_place (8 * length bytes.old) hashes p || is_set bytes.old p) }
+    ensures { (p : ℕ) → is_set bytes.new p ≡ (has_place (8 * length bytes.old) hashes.now p || is_set bytes.old p) }
 {
     let bits = bytes.len() as u64 * 8;
     for index in 0..7 {

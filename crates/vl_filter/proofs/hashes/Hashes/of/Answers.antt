@@ -1,6 +1,6 @@
-use Rattle.std.proofs.Common.{ap, ◌∙◌, take, drop, ◌≡◌}
+use Rattle.std.proofs.Common.{ap, ◌∙◌, take, drop}
 use Rattle.byteorder.specs.Endian.{big_number}
-use Rattle.vl_filter.specs.Places.{first_hash, second_hash, hashes_of}
+use Rattle.vl_filter.specs.Places.{first_hash, second_hash}
 use Rattle.vl_filter.proofs.hashes.Hashes.of.Goals as goal
 
 pub returns : goal.returns
