@@ -12,37 +12,37 @@ use Rattle.vl_block.specs.Lists.{last_item}
 use Rattle.vl_block.specs.laws.ListLaws.{SoFar, Behind, cut, goes_on, last-push, next, not_next, one_more}
 
 -- so many entries were read, and the last of them is this
-pub record UnderWay (bytes : List ℕ) (total count : ℕ) (last : Option EntryRef) (rest : List ℕ) : Type 0 where
+pub record UnderWay (format : ℕ) (bytes : List ℕ) (total count : ℕ) (last : Option EntryRef) (rest : List ℕ) : Type 0 where
   pub taken : List Entry
-  pub so_far : SoFar entries bytes total count taken rest
+  pub so_far : SoFar (entries format) bytes total count taken rest
   pub last_is : last_item taken ≡ option_map entry_of last
 
-pub reads_one : (bytes : List ℕ) (total count : ℕ) (last : Option EntryRef) (rest : List ℕ) (e : EntryRef) (after : List ℕ)
-    → UnderWay bytes total count last rest → IsEntry (entry_of e) → rest ≡ entry_bytes (entry_of e) ++ after
-    → IsNext entries (option_map entry_of last) (entry_of e) → UnderWay bytes total (count + 1) (Some e) after
-reads_one bytes total count last rest e after u lawful spelled follows = record {
+pub reads_one : (format : ℕ) (bytes : List ℕ) (total count : ℕ) (last : Option EntryRef) (rest : List ℕ) (e : EntryRef) (after : List ℕ)
+    → UnderWay format bytes total count last rest → IsEntry format (entry_of e) → rest ≡ entry_bytes format (entry_of e) ++ after
+    → IsNext (entries format) (option_map entry_of last) (entry_of e) → UnderWay format bytes total (count + 1) (Some e) after
+reads_one format bytes total count last rest e after u lawful spelled follows = record {
   taken = u.taken ++ entry_of e ∷ [];
-  so_far = goes_on entries bytes total count u.taken rest (entry_of e) after u.so_far (entry_is_some (entry_of e)) lawful spelled
-      (subst (λ (o : Option Entry). IsNext entries o (entry_of e)) (sym u.last_is) follows);
+  so_far = goes_on (entries format) bytes total count u.taken rest (entry_of e) after u.so_far (entry_is_some format (entry_of e)) lawful spelled
+      (subst (λ (o : Option Entry). IsNext (entries format) o (entry_of e)) (sym u.last_is) follows);
   last_is = last-push u.taken (entry_of e);
 }
 
-pub cut_short : (bytes : List ℕ) (total count : ℕ) (last : Option EntryRef) (rest : List ℕ)
-    → UnderWay bytes total count last rest → count < total
-    → ((e : Entry) (after : List ℕ) → IsEntry e → rest ≡ entry_bytes e ++ after → ⊥)
-    → (es : List Entry) → IsRun entries bytes total es → ⊥
-cut_short bytes total count last rest u less none es run = cut entries bytes total count u.taken rest u.so_far less none es run
+pub cut_short : (format : ℕ) (bytes : List ℕ) (total count : ℕ) (last : Option EntryRef) (rest : List ℕ)
+    → UnderWay format bytes total count last rest → count < total
+    → ((e : Entry) (after : List ℕ) → IsEntry format e → rest ≡ entry_bytes format e ++ after → ⊥)
+    → (es : List Entry) → IsRun (entries format) bytes total es → ⊥
+cut_short format bytes total count last rest u less none es run = cut (entries format) bytes total count u.taken rest u.so_far less none es run
 
-pub out_of_order : (bytes : List ℕ) (total count : ℕ) (last : Option EntryRef) (rest : List ℕ) (e : EntryRef) (after : List ℕ)
-    → UnderWay bytes total count last rest → IsEntry (entry_of e) → rest ≡ entry_bytes (entry_of e) ++ after
-    → (IsNext entries (option_map entry_of last) (entry_of e) → ⊥)
-    → (es : List Entry) → IsRun entries bytes total es → ⊥
-out_of_order bytes total count last rest e after u lawful spelled apart es run =
-    not_next entries bytes total count u.taken rest (entry_of e) after u.so_far (entry_is_some (entry_of e)) lawful spelled
-    (λ follows. apart (subst (λ (o : Option Entry). IsNext entries o (entry_of e)) u.last_is follows)) es run
+pub out_of_order : (format : ℕ) (bytes : List ℕ) (total count : ℕ) (last : Option EntryRef) (rest : List ℕ) (e : EntryRef) (after : List ℕ)
+    → UnderWay format bytes total count last rest → IsEntry format (entry_of e) → rest ≡ entry_bytes format (entry_of e) ++ after
+    → (IsNext (entries format) (option_map entry_of last) (entry_of e) → ⊥)
+    → (es : List Entry) → IsRun (entries format) bytes total es → ⊥
+out_of_order format bytes total count last rest e after u lawful spelled apart es run =
+    not_next (entries format) bytes total count u.taken rest (entry_of e) after u.so_far (entry_is_some format (entry_of e)) lawful spelled
+    (λ follows. apart (subst (λ (o : Option Entry). IsNext (entries format) o (entry_of e)) u.last_is follows)) es run
 
 -- of a block's entries so many were copied
-pub copies_one : (es copied : List Entry) (rest : List ℕ) (e : Entry) (after : List ℕ)
-    → Behind entries es copied rest → IsEntry e → rest ≡ entry_bytes e ++ after → Behind entries es (copied ++ e ∷ []) after
-copies_one es copied rest e after behind lawful spelled =
-    one_more entries es copied e after (next entries es copied rest e after behind (entry_is_some e) lawful spelled)
+pub copies_one : (format : ℕ) (es copied : List Entry) (rest : List ℕ) (e : Entry) (after : List ℕ)
+    → Behind (entries format) es copied rest → IsEntry format e → rest ≡ entry_bytes format e ++ after → Behind (entries format) es (copied ++ e ∷ []) after
+copies_one format es copied rest e after behind lawful spelled =
+    one_more (entries format) es copied e after (next (entries format) es copied rest e after behind (entry_is_some format e) lawful spelled)

@@ -1,3 +1,4 @@
 pub mod Bits
 pub mod Filters
+pub mod laws
 pub mod Places

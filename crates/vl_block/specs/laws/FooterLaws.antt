@@ -1,5 +1,5 @@
 -- A footer's body spells one footer at most.
-use Rattle.std.specs.Prelude.{◌≡◌, ℕ, Bool, true, false, Option, Some, None, List, ◌++◌, refl}
+use Rattle.std.specs.Prelude.{◌≡◌, ◌<◌, ◌^◌, ℕ, Bool, true, false, Option, Some, None, List, ◌++◌, refl}
 use Rattle.std.proofs.Common.{sym, ap, ◌∙◌, append_assoc}
 use Rattle.byteorder.specs.Endian.{big_bytes}
 use Rattle.vl_frame.specs.laws.NumberLaws.{one_number}
@@ -33,6 +33,32 @@ head-parts h x =
     append_assoc (frame_place_bytes h.filter) (big_bytes 8 h.index_place ++ (big_bytes 4 h.index_length ++ (big_bytes 8 h.count ++ (big_bytes 8 h.greatest ++ (key_bytes h.first ++ key_bytes h.last))))) x
     ∙ ap (λ (l : List ℕ). frame_place_bytes h.filter ++ (big_bytes 8 h.index_place ++ (big_bytes 4 h.index_length ++ (big_bytes 8 h.count ++ (big_bytes 8 h.greatest ++ l)))))
     (append_assoc (key_bytes h.first) (key_bytes h.last) x)
+
+-- what was taken one after the other is a head
+pub head-found : (h : Head) (b r0 r1 r2 r3 r4 r5 r6 : List ℕ) → b ≡ frame_place_bytes h.filter ++ r0 → r0 ≡ big_bytes 8 h.index_place ++ r1
+    → r1 ≡ big_bytes 4 h.index_length ++ r2 → r2 ≡ big_bytes 8 h.count ++ r3 → r3 ≡ big_bytes 8 h.greatest ++ r4
+    → r4 ≡ key_bytes h.first ++ r5 → r5 ≡ key_bytes h.last ++ r6 → b ≡ head_bytes h ++ r6
+head-found h b r0 r1 r2 r3 r4 r5 r6 e0 e1 e2 e3 e4 e5 e6 =
+    e0 ∙ ap (λ (l : List ℕ). frame_place_bytes h.filter ++ l)
+    (e1 ∙ ap (λ (l : List ℕ). big_bytes 8 h.index_place ++ l)
+    (e2 ∙ ap (λ (l : List ℕ). big_bytes 4 h.index_length ++ l)
+    (e3 ∙ ap (λ (l : List ℕ). big_bytes 8 h.count ++ l)
+    (e4 ∙ ap (λ (l : List ℕ). big_bytes 8 h.greatest ++ l) (e5 ∙ ap (λ (l : List ℕ). key_bytes h.first ++ l) e6)))))
+    ∙ sym (head-parts h r6)
+
+-- of a head whose numbers were taken the keys are left
+pub numbers-taken : (format : ℕ) (g h : Head) (b x r0 r1 r2 r3 r4 : List ℕ) → IsFramePlace (has_filter format) g.filter
+    → g.index_place < 2 ^ 64 → g.index_length < 2 ^ 32 → g.count < 2 ^ 64 → g.greatest < 2 ^ 64 → IsHead format h
+    → b ≡ frame_place_bytes g.filter ++ r0 → r0 ≡ big_bytes 8 g.index_place ++ r1 → r1 ≡ big_bytes 4 g.index_length ++ r2
+    → r2 ≡ big_bytes 8 g.count ++ r3 → r3 ≡ big_bytes 8 g.greatest ++ r4
+    → b ≡ head_bytes h ++ x → r4 ≡ key_bytes h.first ++ (key_bytes h.last ++ x)
+numbers-taken format g h b x r0 r1 r2 r3 r4 filter place size count greatest j e0 e1 e2 e3 e4 spelled =
+    let p = one_frame_place (has_filter format) g.filter h.filter r0 _ filter j.filter (sym e0 ∙ spelled ∙ head-parts h x) in
+    let a = one_number 8 g.index_place h.index_place r1 _ place j.index_place (sym e1 ∙ p.1) in
+    let l = one_number 4 g.index_length h.index_length r2 _ size j.index_length (sym e2 ∙ a.1) in
+    let c = one_number 8 g.count h.count r3 _ count j.count (sym e3 ∙ l.1) in
+    let d = one_number 8 g.greatest h.greatest r4 _ greatest j.greatest (sym e4 ∙ c.1) in
+    d.1
 
 pub one_head : (format : ℕ) (g h : Head) (x y : List ℕ) → IsHead format g → IsHead format h → head_bytes g ++ x ≡ head_bytes h ++ y
     → (g ≡ h) × (x ≡ y)

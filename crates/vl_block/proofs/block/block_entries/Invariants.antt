@@ -5,7 +5,7 @@ use Rattle.vl_block.specs.laws.ListLaws.{Behind}
 use Rattle.vl_block.proofs.block.block_entries.Given as goal
 
 abbrev pub invariant-entries : goal.invariant-entries
-invariant-entries l = (es : List Entry) → SpellsBlock l.fn.body es → Behind entries es l.entries.items l.rest
+invariant-entries l = (es : List Entry) → SpellsBlock l.fn.format l.fn.body es → Behind (entries l.fn.format) es l.entries.items l.rest
 
 abbrev pub decreases-entries : goal.decreases-entries
 decreases-entries l = length l.rest
