@@ -18,7 +18,7 @@ use Rattle.vl_block.specs.declared.points.Point.{Point}
 use Rattle.vl_block.specs.Blocks.{block_body, entries}
 use Rattle.vl_block.specs.Entries.{body_bytes, entry_bytes, inline_bytes, key_bytes, tag_bytes}
 use Rattle.vl_block.specs.Formats.{has_filter, has_tags}
-use Rattle.vl_block.specs.Footer.{Head, footer_body, frame_place_bytes, head_bytes, points}
+use Rattle.vl_block.specs.Footer.{footer_body, frame_place_bytes, head_bytes, points}
 use Rattle.vl_block.specs.Index.{index_body, places}
 use Rattle.vl_block.specs.Lists.{counted_bytes, items_bytes}
 use Rattle.vl_block.specs.Bytes.{block_places, blocks_bytes, filter_bytes, filter_place, filter_said, foot, footer_bytes, footer_place, index_bytes, index_place, table_bytes}
@@ -90,28 +90,15 @@ length-index format number bs =
       length-places format 16 bs,
     )
 
+some_frame : (number at : ℕ) (keys : List (List ℕ)) (t : Bool)
+    → length (cond t (frame_bytes number at kinds.Filter (filter_body keys)) []) ≡ cond t (4 + byte_count (length keys) + 13) 0
+some_frame number at keys true =
+    omega (arith, length-frame_bytes number at kinds.Filter (filter_body keys), length-filter_body keys)
+some_frame number at keys false = refl
+
 pub length-filter_frame : (format number : ℕ) (es : List Entry) (bs : List (List Entry))
     → length (filter_bytes format number es bs) ≡ filter_frame_length format es
-length-filter_frame format number es bs = by (has_filter format)
-  where
-    frame : List ℕ
-    frame = frame_bytes number (filter_place format bs) kinds.Filter (filter_body (keys_of es))
-
-    long : length frame ≡ 4 + byte_count (length (keys_of es)) + 13
-    unfolding frame
-    long =
-        omega (
-          arith,
-          length-frame_bytes number (filter_place format bs) kinds.Filter (filter_body (keys_of es)),
-          length-filter_body (keys_of es),
-        )
-
-    by : (t : Bool)
-        → length (cond t (frame_bytes number (filter_place format bs) kinds.Filter (filter_body (keys_of es))) [])
-        ≡ cond t (4 + byte_count (length (keys_of es)) + 13) 0
-    unfolding frame
-    by true = long
-    by false = refl
+length-filter_frame format number es bs = some_frame number (filter_place format bs) (keys_of es) (has_filter format)
 
 length-points : (ps : List Point) → length (items_bytes points ps) ≡ 12 * length ps
 length-points [] = refl
