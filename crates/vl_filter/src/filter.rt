@@ -31,6 +31,13 @@ pub fn read(body: &[u8]) -> Option<Filter<'_>>
 }
 
 impl Filter<'_> {
+    /// The bytes with its bits.
+    pub fn as_slice(&self) -> &[u8]
+        ensures { result.now ≡ self.now.bytes.now }
+    {
+        self.bytes
+    }
+
     /// Whether a key may be among those that the filter was built of: false exactly where one of its seven bits is 0.
     pub fn may_hold(&self, key: &[u8]) -> bool
         ensures { result ≡ may_hold self.now.bytes.now key.now }

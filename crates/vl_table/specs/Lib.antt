@@ -8,6 +8,8 @@ pub mod laws
 pub mod Meets
 pub mod Opened
 pub mod Opening
+pub mod OpeningParts
 pub mod Scans
 pub mod Seeks
+pub mod TableSaid
 pub mod Worked

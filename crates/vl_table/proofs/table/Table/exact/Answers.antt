@@ -18,7 +18,7 @@ pub returns-clause-answers : goal.returns-clause-answers
 returns-clause-answers g c = λ files kept file.
     let key = c.args.key.now in
     and_then _ _ _ c.args.self.now.number (g.H.HeldFile.bytes c.args.self.now.held) _ (λ bytes found. found ≡ c.of_version.result) _ _ (λ bytes damage. ⊥) _ c.in_ok-found.found _
-    (λ bytes told good found is es is_of. is ∙ c.of_version.ensures key (first_over key c.args.version (blocks es)) (good es is_of) ∙ exact-blocks key c.args.version es is_of.table.tabled.ordered)
+    (λ bytes told good found is es is_of. is ∙ c.of_version.ensures key (first_over key c.args.version (blocks c.args.self.now.format es)) (good es is_of) ∙ exact-blocks c.args.self.now.format key c.args.version es is_of.table.tabled.ordered)
     (λ bytes told good damage none. absurd none)
     (c.in_ok-found.ensures.answers files kept file) (gives _ c.args.self.now.number _ _ _ c.of_version.result (λ bytes told. refl))
 
