@@ -223,3 +223,11 @@ hashes-push es e last old new some is before noted =
         ≡ map hashes_of (cond t (keys_of es) (keys_of es ++ e.key ∷ []))
     by true = refl
     by false = sym (map-append hashes_of (keys_of es) (e.key ∷ []))
+
+pub picked : {X : Type 0} (b : Bool) (x y : X) → b ≡ true → x ≡ (if b then x else y)
+picked true x y is = refl
+picked false x y is = absurd cc
+
+pub unpicked : {X : Type 0} (b : Bool) (x y : X) → b ≡ false → y ≡ (if b then x else y)
+unpicked true x y is = absurd cc
+unpicked false x y is = refl

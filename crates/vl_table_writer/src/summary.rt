@@ -95,8 +95,9 @@ fn note_key(keys: &mut Vec<Hashes>, last: &[u8], key: &[u8]) -> Result<(), Alloc
     ensures { OnOk result (keys.new.items
         ≡ (if eq_by_cmp key_cmp last.now key.now then keys.old.items else keys.old.items ++ hashes_of key.now ∷ [])) }
 {
-    if last == key {
+    if last.cmp(&key).is_eq() {
         return Ok(());
     }
-    keys.push(Hashes::of(key))
+    keys.push(Hashes::of(key))?;
+    Ok(())
 }

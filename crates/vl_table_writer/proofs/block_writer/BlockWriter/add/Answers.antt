@@ -12,6 +12,6 @@ returns-clause-added c = λ es has.
     record {
       count = omega (arith, has.count, length-append es (c.args.entry.now ∷ []));
       frame =
-          with_items_is out c.write_count.new.frame (body_length table_format es c.args.entry.now c.args.self.now.frame.items out.items c.write_count.new.frame (c.args.self.now.count + 1) has.frame c.in_ok-write_entry.ensures.written counted ∙ sym out.ok.0)
+          with_items_is out c.write_count.new.frame (body_length es c.args.entry.now c.args.self.now.frame.items out.items c.write_count.new.frame (c.args.self.now.count + 1) has.frame c.in_ok-write_entry.ensures.written counted ∙ sym out.ok.0)
           ∙ body_added c.args.self.now.count es c.args.entry.now c.args.self.now.frame.items out.items c.write_count.new.frame has.count has.frame c.in_ok-write_entry.ensures.written counted;
     }
