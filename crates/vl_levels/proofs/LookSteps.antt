@@ -185,7 +185,7 @@ module _ {H : Type 0} (bytes_of : H → Option (List ℕ)) where
         found : (ess : List (List Entry)) → AreOf bytes_of (t ∷ []) ess → IsAnswer (λ found. found ≡ sought look key (joined ess)) (λ place. ⊥) r
         found [] are = absurd are
         found (es ∷ []) are =
-            let bytes = table_bytes t.number es in
+            let bytes = table_bytes t.format t.number es in
             moved (Good bytes) (λ found. found ≡ sought look key (joined (es ∷ []))) (IsBadBlock t bytes) r
             (λ x good. good es are.0 ∙ sym (ap (sought look key) (append-nil es))) (λ place bad. no_bad_block bytes_of t es place are.0 bad) (a.answer bytes are.0.told)
         found (es ∷ fs ∷ ess) are = absurd are.1
