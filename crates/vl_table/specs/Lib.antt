@@ -5,6 +5,7 @@ pub mod BlocksRead
 pub mod Buffers
 pub mod CursorLeft
 pub mod laws
+pub mod MayHold
 pub mod Meets
 pub mod Opened
 pub mod Opening

@@ -1,4 +1,4 @@
-ghost use Rattle.std.specs.Prelude.{◌≡◌, ◌≤◌, ℕ, List, Option, Some, IfOk, length};
+ghost use Rattle.std.specs.Prelude.{◌≡◌, ◌≤◌, ℕ, true, false, List, Option, Some, None, Ok, IfOk, length};
 ghost use Rattle.std.specs.List.{prefix_len};
 ghost use Rattle.vl_model.specs.Formats.{table_format};
 ghost use Rattle.vl_model.specs.declared.entry.Entry.{Entry};
@@ -9,6 +9,7 @@ ghost use Rattle.vl_run.specs.Lookups.{if_exact, if_of_key, is_below, IsParted, 
 ghost use Rattle.vl_block.specs.declared.index.BlockPlace.{BlockPlace};
 ghost use Rattle.vl_table.specs.Buffers.{IsKept};
 ghost use Rattle.vl_block.specs.Bytes.{table_bytes, IsTable};
+ghost use Rattle.vl_table.specs.MayHold.{may_hold};
 ghost use Rattle.vl_table.specs.Meets.{LooksIn};
 ghost use Rattle.vl_table.specs.Seeks.{IsBadBlock};
 ghost use Rattle.vl_table.specs.Opened.{IsOf, OpensAs};
@@ -23,6 +24,7 @@ use crate::scanning::{Scan, look_in};
 use std::alloc::Global;
 use vl_block::{BlockPlace, Footer};
 use vl_disk::{HeldFile, Reader};
+use vl_filter::passes;
 use vl_model::Entry;
 
 /// A table in a held file: what its footer says, and where its blocks stand.
@@ -105,9 +107,18 @@ impl<H: HeldFile> Table<H> {
         &self.footer
     }
 
+    /// Whether it may have a key: false where the key is below the first or above the last, or the filter says no.
+    pub fn may_hold(&self, key: &[u8]) -> bool
+        ensures { result ≡ may_hold key.now self.now }
+    {
+        !key.cmp(&self.footer.first.as_slice()).is_lt()
+            && !key.cmp(&self.footer.last.as_slice()).is_gt()
+            && passes(&self.filter, key)
+    }
+
     /// Of the entries of a key with a version of at most a number the one of the greatest version.
     ///
-    /// It reads the first block whose last key isn't below the key, and goes on to the next while all entries of a block come
+    /// Where it may not have the key nothing is read. Else it reads the first block whose last key isn't below the key, and goes on to the next while all entries of a block come
     /// before the place. A block that the buffer has isn't read again.
     pub fn find<R: Reader<Held = H>>(
         &self,
@@ -126,8 +137,15 @@ impl<H: HeldFile> Table<H> {
 
         // No answer hides a block that doesn't stand, also in a table that isn't true.
         ensures looks { (files : ℕ → Option (List ℕ)) → IsKept files buffer.old → files self.now.number ≡ H.bytes self.now.held
-            → LooksIn H.bytes (if_of_key key.now) self.now key.now number result }
+            → may_hold key.now self.now ≡ true → LooksIn H.bytes (if_of_key key.now) self.now key.now number result }
+
+        // Nothing is read of a table that may not have the key.
+        ensures unread { may_hold key.now self.now ≡ false
+            → (result ≡ Ok None) × (reader.new ≡ reader.old) × (buffer.new ≡ buffer.old) }
     {
+        if !self.may_hold(key) {
+            return Ok(None);
+        }
         self.seek(alloc, reader, buffer, key, number)
     }
 
@@ -147,8 +165,13 @@ impl<H: HeldFile> Table<H> {
             (λ bytes found. (es : List Entry) → IsOf H.bytes self.now es → found ≡ exact es key.now version)
             (λ bytes damage. IsBadBlock self.now bytes damage) result }
         ensures looks { (files : ℕ → Option (List ℕ)) → IsKept files buffer.old → files self.now.number ≡ H.bytes self.now.held
-            → LooksIn H.bytes (if_exact key.now version) self.now key.now version result }
+            → may_hold key.now self.now ≡ true → LooksIn H.bytes (if_exact key.now version) self.now key.now version result }
+        ensures unread { may_hold key.now self.now ≡ false
+            → (result ≡ Ok None) × (reader.new ≡ reader.old) × (buffer.new ≡ buffer.old) }
     {
+        if !self.may_hold(key) {
+            return Ok(None);
+        }
         let found = self.seek(alloc, reader, buffer, key, version)?;
         Ok(of_version(found, version))
     }

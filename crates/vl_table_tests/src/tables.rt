@@ -81,11 +81,16 @@ fn finds_both(alloc: Global, bytes: &[u8], tag: u8) -> Result<bool, Fail> {
     let far = table.find(alloc, &mut reader, &mut buffer, b"b", 9)?;
     let short = table.exact(alloc, &mut reader, &mut buffer, b"a", 1)?;
     let none = table.exact(alloc, &mut reader, &mut buffer, b"a", 2)?;
-    let tagged = match short.ok_or("none")?.body {
+    let entry = short.ok_or("none")?;
+    Ok(far.is_some() && none.is_none() && has_tag(&entry.body, tag))
+}
+
+// Whether a body is a value with this user byte.
+fn has_tag(body: &Body, tag: u8) -> bool {
+    match body {
         Body::Inline(value) => value.tag == tag,
         _ => false,
-    };
-    Ok(far.is_some() && none.is_none() && tagged)
+    }
 }
 
 #[test]

@@ -10,7 +10,7 @@ use Rattle.std.proofs.lemmas.List.{length-map}
 use Rattle.vl_filter.specs.Filters.{are_set, byte_count, filter_body, filter_bytes, is_marked, marked_bytes, may_hold, SpellsFilter}
 use Rattle.vl_filter.specs.Places.{has_place, has_place_below, hashes_of, place}
 use Rattle.vl_filter.specs.declared.hashes.Hashes.{Hashes}
-use Rattle.vl_filter.proofs.MarkedLaws.{marked-bits, marked-length}
+use Rattle.vl_filter.specs.laws.MarkedLaws.{marked-bits, marked-length}
 
 same_test : (m : ℕ) → (m == m) ≡ true
 same_test m = grind (arith, nat_tests)
