@@ -1,10 +1,9 @@
 -- What the words of a command line ask for.
-use Rattle.std.specs.Prelude.{ℕ, Bool, false, not, ◌==◌, ◌&&◌, nat_le, if◌then◌else◌, List, [], ◌∷◌, Option, None, Some, codes}
-use Rattle.std.specs.Fmt.{decimal}
+use Rattle.std.specs.Prelude.{ℕ, Bool, false, not, ◌==◌, ◌&&◌, if◌then◌else◌, List, [], ◌∷◌, Option, None, Some, codes}
 use Rattle.std.specs.Str.{bytes_eq}
-use Rattle.std.specs.Str.Parse.{digits_value}
 use Rattle.vl_mem.specs.declared.outcome.Outcome.{Outcome}
 use Rattle.vl_mem.specs.declared.outcome.Outcome.TheVariants.{Lost, Kept, Halved}
+use Rattle.vl_script.specs.Numbers.{number_of}
 use Rattle.vl_cli.specs.declared.command_line.words.Command.{Command}
 use Rattle.vl_cli.specs.declared.command_line.words.Command.TheVariants.{Replay, Trial}
 
@@ -12,11 +11,6 @@ use Rattle.vl_cli.specs.declared.command_line.words.Command.TheVariants.{Replay,
 abbrev pub is_plain_word : List ℕ → Bool
 is_plain_word [] = false
 is_plain_word (b ∷ bytes) = not (b == 45)
-
--- the number that a word spells in decimal, without a sign or leading zeros, where it isn't over a limit
-abbrev pub number_of : (most : ℕ) → List ℕ → Option ℕ
-number_of most word =
-    if bytes_eq (decimal (digits_value 10 word)) word && nat_le (digits_value 10 word) most then Some (digits_value 10 word) else None
 
 -- what a crash does to what isn't durable: 0 loses it, 1 keeps it, 2 halves it
 abbrev pub outcome_of : List ℕ → Option Outcome

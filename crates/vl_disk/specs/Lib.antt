@@ -13,5 +13,6 @@ pub mod Lending
 pub mod MadeFile
 pub mod Moments
 pub mod Name
+pub mod Performs
 pub mod Spare
 pub mod Started

@@ -2,4 +2,5 @@
 pub mod Lawful
 pub mod Lending
 pub mod NameMap
+pub mod Performing
 pub mod Standing

@@ -2,7 +2,8 @@
 use Rattle.std.proofs.Common.{◌≡◌, ℕ, List, [], ◌∷◌, map, length, refl}
 use Rattle.std.specs.Prelude.{Option, Some, None, replicate}
 use Rattle.std.specs.FinMap.{empty}
-use Rattle.vl_model.specs.Keys.{Stored}
+use Rattle.vl_model.specs.Formats.{log_format}
+use Rattle.vl_model.specs.Keys.{Stored, untagged}
 use Rattle.vl_model.specs.History.{History}
 use Rattle.vl_model.specs.Frames.{frame_length}
 use Rattle.vl_model.specs.Winners.{winner}
@@ -37,13 +38,13 @@ at number = record { first = number; base = empty; commits = [] }
 
 -- the longest value that stands beside its key, and two longer ones
 abbrev short : Stored
-short = replicate 64 0xaa
+short = untagged (replicate 64 0xaa)
 
 abbrev long : Stored
-long = replicate 65 0xaa
+long = untagged (replicate 65 0xaa)
 
 abbrev long_too : Stored
-long_too = replicate 65 0xbb
+long_too = untagged (replicate 65 0xbb)
 
 abbrev fresh : Layout
 fresh = fresh_layout 1073741824
@@ -66,17 +67,17 @@ written number key change l = flushed (rotated (logged (Committed number ((key, 
 abbrev two_values : Layout
 two_values = logged (Committed 1 ((0x61 ∷ [], Set short) ∷ (0x62 ∷ [], Set long) ∷ [])) fresh
 
-two_values_logged : (two_values.active.length ≡ 186) × (map (λ (r : LogRecord). r.place) (records two_values.active) ≡ 33 ∷ 105 ∷ [])
+two_values_logged : (two_values.active.length ≡ 188) × (map (λ (r : LogRecord). r.place) (records two_values.active) ≡ 33 ∷ 106 ∷ [])
 two_values_logged = (refl, refl)
 
 -- the longer one stands in the log, the shorter one beside its key
 two_values_shown : sources (flushed (rotated two_values)) ≡
     record { key = 0x61 ∷ []; version = 1; body = Inline short }
-    ∷ record { key = 0x62 ∷ []; version = 1; body = Far (record { segment = 1; place = 105; length = 73 }) } ∷ []
+    ∷ record { key = 0x62 ∷ []; version = 1; body = Far (record { segment = 1; place = 106; length = 74 }) } ∷ []
 two_values_shown = refl
 
 -- a frame of one short write
-one_write : frame_length (Committed 3 ((0x61 ∷ [], Set (1 ∷ [])) ∷ [])) ≡ 34
+one_write : frame_length log_format (Committed 3 ((0x61 ∷ [], Set (untagged (1 ∷ []))) ∷ [])) ≡ 35
 one_write = refl
 
 -- ---- an older version in the newest source
@@ -116,12 +117,12 @@ older_found = (refl, refl)
 
 -- the newer version is still the winner
 newer_wins : winner (sources (moving (picked both_versions 2).layout 2 older_pass (found older_pass)).layout) (0x61 ∷ []) 2 ≡
-    Some (record { key = 0x61 ∷ []; version = 2; body = Far (record { segment = 2; place = 33; length = 73 }) })
+    Some (record { key = 0x61 ∷ []; version = 2; body = Far (record { segment = 2; place = 33; length = 74 }) })
 newer_wins = refl
 
 -- ---- shares of garbage
 
--- of 98 bytes 25 are garbage: more than 25 per cent, and less than 26
+-- of 99 bytes 25 are garbage: more than 25 per cent, and less than 26
 garbage_share : map (λ percent. (pick_ruling first_version (at 1) percent).answer) (25 ∷ 26 ∷ []) ≡
     (picked first_version 1).answer ∷ NoRewrite ∷ []
 garbage_share = refl

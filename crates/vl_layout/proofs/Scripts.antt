@@ -1,11 +1,18 @@
 -- Worked scripts, which hold by computing: what each line is answered.
 use Rattle.std.proofs.Common.{◌≡◌, ℕ, zero, suc, ◌+◌, List, [], ◌∷◌, ◌++◌, map, length, refl}
 use Rattle.std.specs.Prelude.{replicate}
-use Rattle.vl_model.specs.Keys.{Stored}
+use Rattle.vl_model.specs.Keys.{tagged, untagged}
+use Rattle.vl_model.specs.Placement.{placed}
+use Rattle.vl_model.specs.declared.change.Change.TheVariants as change
+use Rattle.vl_model.specs.declared.log_frame.LogFrame.{LogFrame}
+use Rattle.vl_model.specs.declared.log_frame.LogFrame.TheVariants.{Committed}
 use Rattle.vl_model.specs.declared.way.Way.TheVariants.{Up, Down}
+use Rattle.vl_layout.specs.Logs.{memtable, new_segment}
 use Rattle.vl_layout.specs.Ruling.{pin_of}
+use Rattle.vl_layout.specs.Start.{layout_at_start}
+use Rattle.vl_layout.specs.Tables.{new_table}
 use Rattle.vl_layout.specs.Sources.{tables}
-use Rattle.vl_layout.specs.Store.Lines.{Line, Begin, View, Get, GetAt, Set, Delete, Scan, Commit, Drop, Rotate, Flush, Plan, Drain, Install, Pick, Batch, Move, Sweep, Stats, Keep, Answer, Done, Number, Value, NoValue, Dropped, Rows, Taken, Unknown, ReadOnly, Invalid, TooMany, Nothing, Conflict, Full, Raced, Rejected, NoRewrite, Found, End, Moved, Removed, Segments}
+use Rattle.vl_layout.specs.Store.Lines.{Line, Begin, View, Get, GetTagged, GetAt, Set, SetTagged, Delete, Scan, Commit, Drop, Rotate, Flush, Plan, Drain, Install, Pick, Batch, Move, Sweep, Stats, Keep, Answer, Done, Number, Value, ValueTagged, NoValue, Dropped, Rows, Taken, Unknown, ReadOnly, Invalid, TooMany, Nothing, Conflict, Full, Raced, Rejected, NoRewrite, Found, End, Moved, Removed, Segments}
 use Rattle.vl_layout.specs.Store.Dispatch.{answers, answers_until, new_store, state_behind}
 use Rattle.vl_layout.specs.Store.Things.{State}
 use Rattle.vl_layout.specs.declared.live.Live.{Live}
@@ -16,22 +23,22 @@ abbrev store : State
 store = new_store 1073741824
 
 -- the longest value that stands beside its key, and two longer ones
-abbrev short : Stored
+abbrev short : List ℕ
 short = replicate 64 0xaa
 
-abbrev long : Stored
+abbrev long : List ℕ
 long = replicate 65 0xaa
 
-abbrev long_too : Stored
+abbrev long_too : List ℕ
 long_too = replicate 65 0xbb
 
-abbrev n1 : Stored
+abbrev n1 : List ℕ
 n1 = 1 ∷ []
 
-abbrev n2 : Stored
+abbrev n2 : List ℕ
 n2 = 2 ∷ []
 
-abbrev n3 : Stored
+abbrev n3 : List ℕ
 n3 = 3 ∷ []
 
 -- keys, which serve as names too
@@ -81,7 +88,7 @@ abbrev stat : ℕ → ℕ → ℕ → SegmentStat
 stat segment bytes live = record { segment = segment; bytes = bytes; live = live }
 
 -- a transaction of one write
-abbrev sets : List ℕ → Stored → List Line
+abbrev sets : List ℕ → List ℕ → List Line
 sets key value = Begin t ∷ Set t key value ∷ Commit t ∷ []
 
 -- ---- conflicts
@@ -115,10 +122,10 @@ abbrev two_values : List Line
 two_values = Begin t ∷ Set t k1 short ∷ Set t k2 long ∷ Commit t ∷ Rotate ∷ Flush ∷ []
 
 two_values_told : answers store (two_values ++ Stats ∷ [])
-    ≡ Number 0 ∷ Done ∷ Done ∷ Number 1 ∷ Number 1 ∷ Number 1 ∷ Segments (stat 1 170 73 ∷ stat 2 0 0 ∷ []) ∷ []
+    ≡ Number 0 ∷ Done ∷ Done ∷ Number 1 ∷ Number 1 ∷ Number 1 ∷ Segments (stat 1 172 74 ∷ stat 2 0 0 ∷ []) ∷ []
 two_values_told = refl
 
-two_values_table : map (λ (x : Table). x.length) (tables (state_behind store two_values).layout) ≡ 241 ∷ []
+two_values_table : map (λ (x : Table). x.length) (tables (state_behind store two_values).layout) ≡ 279 ∷ []
 two_values_table = refl
 
 -- ---- an older version in the newest source
@@ -131,7 +138,7 @@ first_answers = Number 0 ∷ Done ∷ Number 1 ∷ Number 1 ∷ Number 1 ∷ []
 
 older_moved : answers store (first_version ++ View v ∷ sets k1 long_too ++ Rotate ∷ Flush ∷ Pick g 1 ∷ Batch g ∷ Move g ∷ Batch g ∷ Drop g ∷ Get v k1 ∷ View w ∷ Get w k1 ∷ Stats ∷ [])
     ≡ first_answers ++ Number 1 ∷ Number 1 ∷ Done ∷ Number 2 ∷ Number 2 ∷ Number 2 ∷ Number 1 ∷ Found 1 ∷ Moved 1 ∷ End ∷ Done ∷ Value long ∷ Number 2 ∷ Value long_too
-    ∷ Segments (stat 1 98 73 ∷ stat 2 98 73 ∷ stat 3 98 0 ∷ []) ∷ []
+    ∷ Segments (stat 1 99 74 ∷ stat 2 99 74 ∷ stat 3 99 0 ∷ []) ∷ []
 older_moved = refl
 
 -- ---- a deletion that a merge drops, or must keep
@@ -202,7 +209,7 @@ picked_once = refl
 -- ---- a full log
 
 full_log : answers (new_store 100) (sets k1 n1 ++ sets k1 n1 ++ sets k1 n1 ++ Rotate ∷ Commit t ∷ [])
-    ≡ Number 0 ∷ Done ∷ Number 1 ∷ Number 1 ∷ Done ∷ Number 2 ∷ Number 2 ∷ Done ∷ Full 84 34 ∷ Number 1 ∷ Number 3 ∷ []
+    ≡ Number 0 ∷ Done ∷ Number 1 ∷ Number 1 ∷ Done ∷ Number 2 ∷ Number 2 ∷ Done ∷ Full 86 35 ∷ Number 1 ∷ Number 3 ∷ []
 full_log = refl
 
 -- ---- own writes in a scan
@@ -210,6 +217,46 @@ full_log = refl
 own_writes : answers store (Begin t ∷ Set t k1 n1 ∷ Set t k2 n2 ∷ Commit t ∷ Begin k1 ∷ Set k1 k3 n3 ∷ Delete k1 k1 ∷ Scan Up k1 [] [] 10 ∷ Scan Down k1 [] [] 1 ∷ [])
     ≡ Number 0 ∷ Done ∷ Done ∷ Number 1 ∷ Number 1 ∷ Done ∷ Done ∷ Rows ((k2, n2) ∷ (k3, n3) ∷ []) ∷ Rows ((k3, n3) ∷ []) ∷ []
 own_writes = refl
+
+-- ---- a value's tag
+
+tag_told : answers store (Begin t ∷ SetTagged t k1 long 7 ∷ GetTagged t k1 ∷ Commit t ∷ Rotate ∷ Flush ∷ View w ∷ GetTagged w k1 ∷ Get w k1 ∷ GetTagged w k2 ∷ GetTagged w [] ∷ [])
+    ≡ Number 0 ∷ Done ∷ ValueTagged (tagged long 7) ∷ Number 1 ∷ Number 1 ∷ Number 1 ∷ Number 1 ∷ ValueTagged (tagged long 7) ∷ Value long ∷ NoValue ∷ Invalid ∷ []
+tag_told = refl
+
+-- ---- files of the first formats, which an opening found: one commit of a short and a long value, in a table
+
+abbrev first_frames : List LogFrame
+first_frames = Committed 1 ((k1, change.Set (untagged short)) ∷ (k2, change.Set (untagged long)) ∷ []) ∷ []
+
+abbrev first_table : Table
+first_table = new_table 1 1 (map placed (memtable (new_segment 1 1 first_frames)))
+
+abbrev first_store : State
+first_store = record {
+  commits = record { first = 1; base = (1, (k1, change.Set (untagged short)) ∷ (k2, change.Set (untagged long)) ∷ []) ∷ []; commits = [] };
+  layout = layout_at_start 1073741824 (record {
+    levels = (first_table ∷ []) ∷ [] ∷ [] ∷ [] ∷ [] ∷ [] ∷ [] ∷ [];
+    logs = [];
+    below = new_segment 1 1 first_frames ∷ [];
+    active = 2;
+    covered = 1;
+    next_log = 2;
+    next_table = 2;
+    keep = 1;
+    since = 0;
+    gone = 1;
+  });
+  things = [];
+}
+
+-- what is moved gets the longer form, and the old records keep theirs
+first_formats : answers first_store (View v ∷ GetTagged v k2 ∷ GetTagged v k1 ∷ Pick g 1 ∷ Batch g ∷ Move g ∷ Stats ∷ Begin t ∷ Set t k1 n1 ∷ Commit t ∷ Rotate ∷ [])
+    ≡ Number 1 ∷ ValueTagged (untagged long) ∷ ValueTagged (untagged short) ∷ Number 1 ∷ Found 1 ∷ Moved 1 ∷ Segments (stat 1 170 73 ∷ stat 2 99 0 ∷ []) ∷ Number 1 ∷ Done ∷ Number 2 ∷ Number 2 ∷ []
+first_formats = refl
+
+first_lengths : (first_table.length ≡ 241) × (first_store.layout.next_log ≡ 3)
+first_lengths = (refl, refl)
 
 -- ---- names
 

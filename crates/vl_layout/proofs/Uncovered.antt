@@ -2,6 +2,8 @@
 -- drain then changes nothing, for ever.
 use Rattle.std.proofs.Common.{◌≡◌, ℕ, Bool, true, false, List, [], ◌∷◌, refl}
 use Rattle.std.specs.Prelude.{Option, Some, None}
+use Rattle.vl_model.specs.Formats.{log_format, table_format}
+use Rattle.vl_model.specs.Keys.{untagged}
 use Rattle.vl_model.specs.Winners.{wins_exactly}
 use Rattle.vl_model.specs.declared.entry.Entry.{Entry}
 use Rattle.vl_model.specs.declared.entry.Body.TheVariants.{Inline, Far}
@@ -20,10 +22,10 @@ abbrev store_of : ℕ → Layout → State
 store_of last l = record { commits = record { first = last; base = []; commits = [] }; layout = l; things = [] }
 
 abbrev far : ℕ → ℕ → ℕ → Entry
-far key version segment = record { key = key ∷ []; version = version; body = Far (record { segment = segment; place = 33; length = 73 }) }
+far key version segment = record { key = key ∷ []; version = version; body = Far (record { segment = segment; place = 33; length = 74 }) }
 
 abbrev short : ℕ → ℕ → Entry
-short key version = record { key = key ∷ []; version = version; body = Inline (1 ∷ []) }
+short key version = record { key = key ∷ []; version = version; body = Inline (untagged (1 ∷ [])) }
 
 abbrev j : List ℕ
 j = 0x6a ∷ []
@@ -50,8 +52,8 @@ into s = entries_of (first_into 1 (tables s.layout))
 -- in level 2 an old table that leads into log 1; in level 0 the record moved to log 2, and a newer version of its key
 abbrev moved_away : State
 moved_away = store_of 4 (record (fresh_layout 1000) {
-  active = new_segment 9 [];
-  levels = (new_table 5 (short 0x63 4 ∷ []) ∷ new_table 4 (short 0x62 3 ∷ []) ∷ new_table 3 (short 0x61 2 ∷ []) ∷ new_table 2 (far 0x61 1 2 ∷ []) ∷ []) ∷ [] ∷ (new_table 1 (far 0x61 1 1 ∷ []) ∷ []) ∷ [] ∷ [] ∷ [] ∷ [] ∷ [];
+  active = new_segment log_format 9 [];
+  levels = (new_table table_format 5 (short 0x63 4 ∷ []) ∷ new_table table_format 4 (short 0x62 3 ∷ []) ∷ new_table table_format 3 (short 0x61 2 ∷ []) ∷ new_table table_format 2 (far 0x61 1 2 ∷ []) ∷ []) ∷ [] ∷ (new_table table_format 1 (far 0x61 1 1 ∷ []) ∷ []) ∷ [] ∷ [] ∷ [] ∷ [] ∷ [];
   next_log = 10;
   next_table = 6;
 })
@@ -70,8 +72,8 @@ drained_twice = (refl, refl)
 -- no entry into log 1 wins exactly: 62 stands moved in front, and 61 in the same table as its newer version
 abbrev both_moved : State
 both_moved = store_of 4 (record (fresh_layout 1000) {
-  active = new_segment 9 [];
-  levels = (new_table 4 (far 0x62 1 3 ∷ []) ∷ new_table 3 (short 0x61 2 ∷ far 0x61 1 2 ∷ far 0x62 1 1 ∷ []) ∷ []) ∷ [] ∷ (new_table 1 (far 0x61 1 1 ∷ []) ∷ []) ∷ [] ∷ [] ∷ [] ∷ [] ∷ [];
+  active = new_segment log_format 9 [];
+  levels = (new_table table_format 4 (far 0x62 1 3 ∷ []) ∷ new_table table_format 3 (short 0x61 2 ∷ far 0x61 1 2 ∷ far 0x62 1 1 ∷ []) ∷ []) ∷ [] ∷ (new_table table_format 1 (far 0x61 1 1 ∷ []) ∷ []) ∷ [] ∷ [] ∷ [] ∷ [] ∷ [];
   next_log = 10;
   next_table = 5;
 })
@@ -86,8 +88,8 @@ drained_open = (refl, refl, refl)
 -- a key was written, and written again, each flushed; nobody reads the older version
 abbrev twice : State
 twice = store_of 2 (record (fresh_layout 1000) {
-  active = new_segment 3 [];
-  levels = (new_table 2 (far 0x61 2 2 ∷ []) ∷ new_table 1 (far 0x61 1 1 ∷ []) ∷ []) ∷ [] ∷ [] ∷ [] ∷ [] ∷ [] ∷ [] ∷ [];
+  active = new_segment log_format 3 [];
+  levels = (new_table table_format 2 (far 0x61 2 2 ∷ []) ∷ new_table table_format 1 (far 0x61 1 1 ∷ []) ∷ []) ∷ [] ∷ [] ∷ [] ∷ [] ∷ [] ∷ [] ∷ [];
   next_log = 4;
   next_table = 3;
 })

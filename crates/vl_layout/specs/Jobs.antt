@@ -1,6 +1,7 @@
 -- What a job makes beside the engine, and what becomes of its files when it ends.
 use Rattle.std.specs.Prelude.{◌≡◌, ℕ, false, true, List, [], ◌∷◌, ◌++◌, map, length, Option, Some, None}
 use Rattle.std.specs.List.{AllByRecursion}
+use Rattle.vl_model.specs.Formats.{table_format}
 use Rattle.vl_model.specs.Numbers.{has}
 use Rattle.vl_model.specs.declared.entry.Entry.{Entry}
 use Rattle.vl_layout.specs.Merging.{outputs}
@@ -27,7 +28,7 @@ nothing_made = record { tables = []; leavings = [] }
 abbrev pub tables_made : List ℕ → List (List Entry) → List Table
 tables_made [] output = []
 tables_made (n ∷ ns) [] = []
-tables_made (n ∷ ns) (es ∷ output) = new_table n es ∷ tables_made ns output
+tables_made (n ∷ ns) (es ∷ output) = new_table table_format n es ∷ tables_made ns output
 
 -- the numbers that were drawn for the open job
 abbrev pub lent_numbers : Option OpenJob → List ℕ

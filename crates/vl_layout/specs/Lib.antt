@@ -1,3 +1,4 @@
+pub mod AtAnswer
 pub mod Decides
 pub mod Garbage
 pub mod Jobs
@@ -20,4 +21,5 @@ pub mod Stock
 pub mod Store
 pub mod Tables
 pub mod Tickets
+pub mod Tidy
 pub mod TidyLevels

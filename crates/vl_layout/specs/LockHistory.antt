@@ -1,6 +1,6 @@
 -- The steps that sessions made under the commit lock, one after the other, and the history and
 -- layout that they come to.
-use Rattle.std.specs.Prelude.{◌≡◌, ◌≢◌, ℕ, ◌+◌, ◌==◌, Bool, false, true, ◌&&◌, not, if◌then◌else◌, List, [], ◌∷◌, map, Option, Some, None, IsTrue}
+use Rattle.std.specs.Prelude.{◌≡◌, ◌≢◌, ℕ, ◌+◌, ◌==◌, Bool, false, true, ◌&&◌, not, if◌then◌else◌, List, [], ◌∷◌, map, Option, Some, None, IsTrue, is_some}
 use Rattle.std.specs.Option.{option_map}
 use Rattle.std.specs.List.{filter, list_any}
 use Rattle.std.specs.FinMap.{from_sorted, is_sorted}
@@ -94,6 +94,19 @@ abbrev pub open_things : OpenThings → List LockEntry → OpenThings
 open_things o [] = o
 open_things o (e ∷ es) = open_things (things_after e o) es
 
+-- the same of each kind by itself
+abbrev pub open_tickets : List OpenTicket → List LockEntry → List OpenTicket
+open_tickets ts [] = ts
+open_tickets ts (e ∷ es) = open_tickets (tickets_after e.session e.step ts) es
+
+abbrev pub open_job : Option (ℕ × Job) → List LockEntry → Option (ℕ × Job)
+open_job job [] = job
+open_job job (e ∷ es) = open_job (job_after e.session e.step e.layout job) es
+
+abbrev pub open_pass : Option (ℕ × ℕ) → List LockEntry → Option (ℕ × ℕ)
+open_pass pass [] = pass
+open_pass pass (e ∷ es) = open_pass (pass_after e.session e.step e.layout pass) es
+
 -- ---- the history
 
 abbrev pub put_after : LockStep → List Writes → List Writes
@@ -131,6 +144,11 @@ number_after Picked last = last
 number_after PassEnded last = last
 number_after Changed last = last
 
+-- the number of the last commit of some steps, where this was the last before
+abbrev pub last_from : ℕ → List LockEntry → ℕ
+last_from last [] = last
+last_from last (e ∷ es) = last_from (number_after e.step last) es
+
 abbrev pub tickets_in : List OpenTicket → List Ticket
 tickets_in ts = map (λ (t : OpenTicket). (t.ticket, t.number)) ts
 
@@ -165,9 +183,21 @@ pub record HasOpen (o : OpenThings) (l : Layout) : Type 0 where
   pub job : job_in l ≡ option_map (λ (j : ℕ × Job). j.1) o.job
   pub pass : segment_in l ≡ option_map (λ (p : ℕ × ℕ). p.1) o.pass
 
+-- behind a plan a job is open in the layout, and behind a pick a pass
+abbrev pub HasBegun : LockStep → Layout → Type 0
+HasBegun (Begun ticket number) l = Unit {0}
+HasBegun (Put ticket number writes) l = Unit {0}
+HasBegun (Ended ticket) l = Unit {0}
+HasBegun Planned l = is_some (job_in l) ≡ true
+HasBegun JobEnded l = Unit {0}
+HasBegun Picked l = is_some (segment_in l) ≡ true
+HasBegun PassEnded l = Unit {0}
+HasBegun Changed l = Unit {0}
+
 pub record IsLegalEntry (last : ℕ) (o : OpenThings) (e : LockEntry) : Type 0 where
   pub step : IsLegalStep last o e.session e.step
   pub layout : HasOpen (things_after e o) e.layout
+  pub begun : HasBegun e.step e.layout
 
 abbrev pub IsLegalFrom : ℕ → OpenThings → List LockEntry → Type 0
 IsLegalFrom last o [] = Unit {0}

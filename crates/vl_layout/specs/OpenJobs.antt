@@ -1,14 +1,14 @@
 -- What is so of an open job, whatever was done since it was planned.
-use Rattle.std.specs.Prelude.{◌≡◌, ◌⊎◌, ℕ, ◌+◌, ◌-◌, ◌<◌, ◌≤◌, Bool, true, false, List, [], ◌∷◌, ◌++◌, is_some}
+use Rattle.std.specs.Prelude.{◌≡◌, ◌⊎◌, ℕ, ◌+◌, ◌-◌, ◌<◌, ◌≤◌, ◌==◌, Bool, true, false, List, [], ◌∷◌, ◌++◌, is_some, length}
 use Rattle.std.specs.List.{AllZip, AllByRecursion, flat_map, list_any}
 use Rattle.std.specs.FinMap.{find}
-use Rattle.std.specs.Ordering.{eq_by_cmp}
+use Rattle.std.specs.Ordering.{eq_by_cmp, is_lt}
 use Rattle.vl_model.specs.Conflicts.{Named}
 use Rattle.vl_model.specs.Entries.{is_at}
 use Rattle.vl_model.specs.History.{History, last_number}
 use Rattle.vl_model.specs.Keys.{key_cmp}
 use Rattle.vl_model.specs.declared.entry.Entry.{Entry}
-use Rattle.vl_layout.specs.Levels.{is_among}
+use Rattle.vl_layout.specs.Levels.{is_among, level_at}
 use Rattle.vl_layout.specs.Merging.{Sourced, inputs_of, outside_of}
 use Rattle.vl_layout.specs.Rulings.Plan.{sourced}
 use Rattle.vl_layout.specs.Shown.{AreOf, Fits}
@@ -100,6 +100,24 @@ IsFitted l job (Level n) = (key : List ℕ) → IsShaped job.inputs key n l.leve
 IsFitted l job InPlace = (xs : List Table) × (t : Table) × (ys : List Table) × (tables l ≡ xs ++ t ∷ ys)
     × (IsIdle job.inputs xs × ((is_among job.inputs t ≡ true) × IsIdle job.inputs ys))
 
+-- ---- where its outputs go
+
+-- the table lies on one side of all these keys
+abbrev pub IsBesideAll : List Entry → Table → Type 0
+IsBesideAll es u = AllByRecursion (λ (e : Entry). is_lt (key_cmp u.last e.key) ≡ true) es
+    ⊎ AllByRecursion (λ (e : Entry). is_lt (key_cmp e.key u.first) ≡ true) es
+
+-- in the level below level 0 into which it goes each table that isn't an input lies on one side of all keys
+-- of the inputs
+abbrev pub IsRoomy : List (List Table) → Job → Target → Type 0
+IsRoomy levels job (Level n) = (0 < n) × ((n < length levels)
+    × AllByRecursion (λ (u : Table). is_among job.inputs u ≡ false → IsBesideAll (inputs_of job.base) u) (level_at n levels))
+IsRoomy levels job InPlace = Unit {0}
+
+-- each of these is the number of a table
+abbrev pub AreStanding : List Table → List ℕ → Type 0
+AreStanding ts numbers = AllByRecursion (λ (n : ℕ). list_any (λ (t : Table). n == t.number) ts ≡ true) numbers
+
 -- ---- all of it
 
 pub record IsOpenWell (l : Layout) (h : History) (job : Job) (moved : List Named) : Type 0 where
@@ -108,7 +126,9 @@ pub record IsOpenWell (l : Layout) (h : History) (job : Job) (moved : List Named
   pub last : job.floor ≤ last_number h
   pub live : AllByRecursion (λ (x : Live). job.floor ≤ x.number) l.live
   pub given : AllByRecursion (λ n. n < l.next_table) job.inputs
+  pub standing : AreStanding (tables l) job.inputs
   pub fitted : IsFitted l job job.target
+  pub roomy : IsRoomy l.levels job job.target
   -- it keeps some versions; as many as are kept now, or its floor isn't above since; and its inputs'
   -- versions are of the history
   pub some : 1 ≤ job.keep

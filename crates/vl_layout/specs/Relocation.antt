@@ -1,6 +1,7 @@
 -- What a pass over a segment finds, and what a relocation moves of it.
 use Rattle.std.specs.Prelude.{ℕ, ◌+◌, ◌==◌, Bool, true, false, ◌&&◌, ◌||◌, nat_le, nat_lt, if◌then◌else◌, List, [], ◌∷◌, map, length, Option, Some, None}
 use Rattle.std.specs.List.{filter, sum_by}
+use Rattle.vl_model.specs.Keys.{value_length}
 use Rattle.vl_model.specs.Limits.{max_batch_records, max_batch_bytes}
 use Rattle.vl_model.specs.Winners.{wins_exactly}
 use Rattle.vl_model.specs.declared.change.Change.{Change}
@@ -54,7 +55,7 @@ batch_with true (c ∷ cs) passed with_it before = with_first c with_it
 batch_with false (c ∷ cs) passed with_it before = before
 
 abbrev pub value_lengths : List Candidate → ℕ
-value_lengths cs = sum_by (λ (c : Candidate). length c.moved.value) cs
+value_lengths cs = sum_by (λ (c : Candidate). value_length c.moved.value) cs
 
 -- the next records that win exactly, as many as fit behind so many with so many bytes of values
 abbrev pub taken_from : List Entry → ℕ → ℕ → ℕ → List LogRecord → Taken

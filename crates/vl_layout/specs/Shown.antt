@@ -1,11 +1,11 @@
 -- What is asked and said of sources that show a history: by the laws of rulings and of merges.
-use Rattle.std.specs.Prelude.{◌≡◌, ◌⊎◌, ℕ, ◌≤◌, List, ◌++◌, Some}
+use Rattle.std.specs.Prelude.{◌≡◌, ◌⊎◌, ℕ, ◌≤◌, true, List, ◌++◌, Some}
 use Rattle.std.specs.List.{AllByRecursion, filter}
 use Rattle.std.specs.Ordering.{eq_by_cmp}
 use Rattle.vl_model.specs.Entries.{in_order}
 use Rattle.vl_model.specs.History.{History, last_number}
 use Rattle.vl_model.specs.Keys.{Stored, key_cmp}
-use Rattle.vl_model.specs.Numbers.{AreAmong}
+use Rattle.vl_model.specs.Numbers.{AreAmong, has}
 use Rattle.vl_model.specs.Placement.{placement}
 use Rattle.vl_model.specs.Versions.{versions, versions_in, low}
 use Rattle.vl_model.specs.Winners.{Logs, resolved}
@@ -54,6 +54,10 @@ abbrev pub IsThere : Logs → ℕ → Candidate → Type 0
 IsThere logs segment c = (p : Pointer) (value : Stored) → p.segment ≡ segment → p.place ≡ c.place → logs p c.moved.key ≡ Some value → value ≡ c.moved.value
 
 -- ---- by a merge
+
+-- the entry's version is one of its key in the history
+abbrev pub IsOf : History → Entry → Type 0
+IsOf h e = has e.version (versions h e.key) ≡ true
 
 -- the entries' versions are versions of the history
 abbrev pub AreOf : History → List Entry → Type 0

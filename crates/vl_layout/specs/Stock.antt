@@ -1,5 +1,5 @@
 -- What an engine keeps tidy of its files: which numbers were drawn, what is retired, and what pins need.
-use Rattle.std.specs.Prelude.{◌≡◌, ◌⊎◌, ℕ, ◌<◌, ◌≤◌, ◌==◌, Bool, false, List, [], ◌∷◌, ◌++◌}
+use Rattle.std.specs.Prelude.{◌≡◌, ◌⊎◌, ℕ, ◌<◌, ◌≤◌, ◌==◌, Bool, false, List, [], ◌∷◌, ◌++◌, map}
 use Rattle.std.specs.List.{AllByRecursion, list_any}
 use Rattle.vl_model.specs.Numbers.{has}
 use Rattle.vl_model.specs.declared.entry.Entry.{Entry}
@@ -9,7 +9,7 @@ use Rattle.vl_block.specs.Cutting.{points_of}
 use Rattle.vl_block.specs.declared.points.Point.{Point}
 use Rattle.vl_layout.specs.Jobs.{AreDistinct, lent_numbers, loose}
 use Rattle.vl_layout.specs.Rulings.Sweep.{is_same, pins}
-use Rattle.vl_layout.specs.Sources.{needed, tables}
+use Rattle.vl_layout.specs.Sources.{needed, log_of, tables}
 use Rattle.vl_layout.specs.declared.file_name.FileName.{FileName}
 use Rattle.vl_layout.specs.declared.file_name.FileName.TheVariants.{Log, Table as TableFile, Manifest}
 use Rattle.vl_layout.specs.declared.file_name.Retired.{Retired}
@@ -108,13 +108,27 @@ IsNotLent lent (Log n) = Unit {0}
 IsNotLent lent (TableFile n) = has n lent ≡ false
 IsNotLent lent (Manifest n) = Unit {0}
 
+abbrev pub files_of : List Retired → List FileName
+files_of rs = map (λ (r : Retired). r.file) rs
+
+-- no file stands twice
+abbrev pub AreOnce : List FileName → Type 0
+AreOnce [] = Unit {0}
+AreOnce (f ∷ fs) = (is_in f fs ≡ false) × AreOnce fs
+
+-- the log is none of these files
+abbrev pub IsLogOff : List FileName → Segment → Type 0
+IsLogOff fs s = is_in (log_of s) fs ≡ false
+
 -- What an engine keeps of its files: lent ones are needed by nothing either, and none of them is
--- retired.
+-- retired; no file is retired twice, and none of the logs that aren't retired.
 pub record IsWellStocked (l : Layout) : Type 0 where
   pub stocked : IsStocked (with_lent l)
   pub drawn : IsDrawnWhole l
   pub lent_once : AreDistinct (lent_numbers l.job)
   pub lent_apart : AllByRecursion (λ (r : Retired). IsNotLent (lent_numbers l.job) r.file) l.retired
+  pub once : AreOnce (files_of l.retired)
+  pub flushed_apart : AllByRecursion (IsLogOff (files_of l.retired)) l.flushed
 
 -- the numbers that logs and tables may still be given don't fall
 pub record HaveRisen (before now : Layout) : Type 0 where

@@ -7,6 +7,7 @@ pub mod LowRulings
 pub mod LowShows
 pub mod MergeShows
 pub mod OrderShows
+pub mod OwnThings
 pub mod RelocationShows
 pub mod RisingLaws
 pub mod RulingShows

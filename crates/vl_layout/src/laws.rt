@@ -7,6 +7,7 @@ ghost use Rattle.vl_model.specs.History.{History, contents_at, last_number, valu
 ghost use Rattle.vl_model.specs.Keys.{Stored, key_cmp};
 ghost use Rattle.vl_model.specs.Winners.{Logs, resolved};
 ghost use Rattle.vl_model.specs.declared.entry.Entry.{Entry};
+ghost use Rattle.vl_layout.specs.AtAnswer.{Beginning, at_answer};
 ghost use Rattle.vl_layout.specs.Garbage.{far_bytes, pointed_bytes, best_of, is_better as is_better_than};
 ghost use Rattle.vl_layout.specs.Logs.{memtable};
 ghost use Rattle.vl_layout.specs.Merging.{Sourced, inputs_of as sourced_inputs};
@@ -21,7 +22,7 @@ ghost use Rattle.vl_layout.specs.Sources.{sources, oldest};
 ghost use Rattle.vl_block.specs.Cutting.{joined, points_of, blocks};
 ghost use Rattle.vl_model.specs.Conflicts.{first_conflict};
 ghost use Rattle.vl_model.specs.Reads.{Read};
-ghost use Rattle.vl_layout.specs.Store.Commits.{AreProper, Commits, conflict_in, history_in, low_in, rows_in, value_in};
+ghost use Rattle.vl_layout.specs.Store.Commits.{AreProper, Commits, at_answer_in, conflict_in, history_in, low_in, rows_in, value_in};
 ghost use Rattle.vl_layout.specs.Tables.{cut_into_tables};
 ghost use Rattle.vl_layout.specs.declared.layout.Layout.{Layout};
 ghost use Rattle.vl_layout.specs.declared.segment.Segment.{Segment};
@@ -120,17 +121,19 @@ pub fn best_has_the_greatest_share()
 
 /// Blocks hold all entries of their table, and tables all of their merge, in order.
 pub fn cutting_keeps_all_entries()
-    ensures blocks { (es : List Entry) → joined (blocks es) ≡ es }
+    ensures blocks { (format : ℕ) (es : List Entry) → joined (blocks format es) ≡ es }
     ensures tables { (es : List Entry) → joined (cut_into_tables es) ≡ es }
 {}
 
 /// Plain lists of commits give the values, rows, least numbers and conflicts of the history that they
-/// are.
+/// are, and what a read at an older number is answered.
 pub fn plain_commits_are_the_history()
     ensures values { (p : Commits) (n : ℕ) (key : List ℕ) → AreProper p → value_in p n key ≡ value_at (history_in p) n key }
     ensures rows { (p : Commits) (n : ℕ) → AreProper p → rows_in p n ≡ entries (contents_at (history_in p) n) }
     ensures low { (p : Commits) (floor keep since : ℕ) (key : List ℕ) → AreProper p
         → low_in p floor keep since key ≡ low (history_in p) floor keep since key }
+    ensures past { (p : Commits) (b : Beginning) (number : ℕ) (key : List ℕ) (n : ℕ) → AreProper p
+        → at_answer_in p b number key n ≡ at_answer (history_in p) b number key n }
     ensures conflicts { (p : Commits) (n : ℕ) (reads : List Read) → AreProper p
         → conflict_in p n reads ≡ first_conflict (history_in p) n reads }
 {}

@@ -7,6 +7,7 @@ mod laws;
 mod layout;
 mod live;
 mod lock_history;
+mod lock_laws;
 mod segment;
 mod table;
 
@@ -21,6 +22,10 @@ pub use laws::{
 pub use layout::Layout;
 pub use live::{Live, Pin};
 pub use lock_history::{LockEntry, LockStep};
+pub use lock_laws::{
+    a_commit_alone_adds_to_the_history, own_things_are_open, steps_go_on,
+    what_is_open_stands_in_the_layout,
+};
 pub use segment::{Segment, SegmentStat};
 pub use table::Table;
 pub use vl_block::Point;

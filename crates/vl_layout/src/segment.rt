@@ -4,9 +4,10 @@ ghost use Rattle.vl_layout.specs.Garbage as garbage;
 use std::collections::LinkedList;
 use vl_model::LogFrame;
 
-/// A log file: its number, its length in bytes, and what its frames say, in their order.
+/// A log file: its format, its number, its length in bytes, and what its frames say, in their order.
 #[derive(Drop)]
 pub struct Segment {
+    pub format: u32,
     pub number: u32,
     pub length: u64,
     pub frames: LinkedList<LogFrame>,

@@ -17,7 +17,7 @@ ghost use Rattle.vl_layout.specs.Merging.{inputs_of};
 ghost use Rattle.vl_layout.specs.TidyLevels.{AreLevels};
 ghost use Rattle.vl_layout.specs.OpenJobs.{IsOpenWell};
 ghost use Rattle.vl_layout.specs.Ruling.{ended, logged};
-ghost use Rattle.vl_layout.specs.Shown.{AreOf, ArePlaced, IsThere, ShowsLow};
+ghost use Rattle.vl_layout.specs.Shown.{ArePlaced, IsOf, IsThere, ShowsLow};
 ghost use Rattle.vl_layout.specs.Shows.{AreUpTo};
 ghost use Rattle.vl_layout.specs.declared.file_name.FileName.{FileName};
 ghost use Rattle.vl_layout.specs.declared.job.OpenJob.{OpenJob};
@@ -75,12 +75,16 @@ pub fn jobs_leave_files_tidy()
     ensures fresh { (l : Layout) (h : History) → IsWellStocked l → IsWellStocked (fresh_ruling l h).layout }
     ensures abandon { (l : Layout) (h : History) (made : Made) → AreLent (lent_numbers l.job) made → IsWellStocked l
         → IsWellStocked (abandon_ruling l h made).layout }
-    ensures install { (l : Layout) (h : History) (job : Job) (made : Made) → AreLent (lent_numbers l.job) made
-        → AllByRecursion (λ (n : ℕ). list_any (λ (t : Table). n == t.number) (tables l) ≡ true) job.inputs
-        → AllByRecursion IsFooted made.tables
-        → ((n : ℕ) → AllByRecursion (λ (t : Table). leads n t.points ≡ true → list_any (λ (u : Table). leads n u.points) (tables l) ≡ true) made.tables)
-        → AllByRecursion (PointsDrawn l.next_log) made.tables
-        → IsWellStocked l → IsWellStocked (install_ruling l h job made).layout }
+    ensures install { (l : Layout) (h : History) (o : OpenJob) (made : Made) → l.job ≡ Some o → AreLent o.lent made → AreOutputs o.job made
+        → IsOpenWell l h o.job o.moved → AreLevels l.levels → IsWellStocked l → IsWellStocked (install_ruling l h o.job made).layout }
+{}
+
+/// There are seven levels, no table stands twice, ranges are true, and the tables of deeper levels lie
+/// apart, whatever a flush or an install answers; other calls don't touch levels.
+pub fn levels_stay_tidy()
+    ensures flush { (l : Layout) (h : History) → IsWellStocked l → AreLevels l.levels → AreLevels (flush_ruling l h).layout.levels }
+    ensures install { (l : Layout) (h : History) (o : OpenJob) (made : Made) → l.job ≡ Some o → AreLent o.lent made → AreOutputs o.job made
+        → IsOpenWell l h o.job o.moved → IsWellStocked l → AreLevels l.levels → AreLevels (install_ruling l h o.job made).layout.levels }
 {}
 
 /// What a sweep removes is needed by no source and no pin, whether others may still look or not.
@@ -189,13 +193,12 @@ pub fn numbers_are_drawn_once()
         → (n ≡ l.next_table) × ((fresh_ruling l h).layout.next_table ≡ l.next_table + 1) }
 {}
 
-/// A job is open well when it is planned, into a level that there is or in the place of one table.
+/// A job is open well once it is planned.
 pub fn a_planned_job_is_open_well()
-    ensures plan { (l : Layout) (h : History) (n : ℕ) → AreLevels l.levels → n + 1 < length l.levels → 1 ≤ l.keep
-        → AllByRecursion (λ (t : Table). t.number < l.next_table) (inputs_at n l.levels)
-        → AreOf h (inputs_of (sourced l (numbers_of (inputs_at n l.levels))))
-        → IsOpenWell l h (job_of l h (inputs_at n l.levels) (Level (n + 1))) [] }
-    ensures drain { (l : Layout) (h : History) (segment : ℕ) (t : Table) → AreLevels l.levels → first_into segment (tables l) ≡ Some t → 1 ≤ l.keep
-        → t.number < l.next_table → AreOf h (inputs_of (sourced l (numbers_of (t ∷ []))))
-        → IsOpenWell l h (job_of l h (t ∷ []) InPlace) [] }
+    ensures plan { (l : Layout) (h : History) (job : Job) → AreLevels l.levels → IsWellStocked l → 1 ≤ l.keep
+        → AllByRecursion (λ (t : Table). AllByRecursion (IsOf h) t.entries) (tables l)
+        → (plan_ruling l h).answer ≡ Some job → IsOpenWell (plan_ruling l h).layout h job [] }
+    ensures drain { (l : Layout) (h : History) (segment : ℕ) (job : Job) → AreLevels l.levels → IsWellStocked l → 1 ≤ l.keep
+        → AllByRecursion (λ (t : Table). AllByRecursion (IsOf h) t.entries) (tables l)
+        → (drain_ruling l h segment).answer ≡ Some job → IsOpenWell (drain_ruling l h segment).layout h job [] }
 {}

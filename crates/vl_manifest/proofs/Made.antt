@@ -13,6 +13,7 @@ use Rattle.vl_disk.specs.Moments.{Elapses, While, passes_then, past_of}
 use Rattle.vl_disk.specs.Spare.{SameSpareElsewhere}
 use Rattle.vl_manifest.specs.declared.edit.Edit.{Edit}
 use Rattle.vl_manifest.specs.declared.fails.IoFail.TheVariants.{Disk}
+use Rattle.vl_model.specs.Formats.{manifest_format}
 use Rattle.vl_manifest.specs.Making.{MakesManifest, new_manifest}
 use Rattle.vl_manifest.specs.Manifest.{ReadsManifest}
 
@@ -40,7 +41,7 @@ module _ {D : Type 0} (g : Ghosts D) (number : ℕ) (edits : List Edit) (old mid
 
   -- it was made
   pub was_made : (result : Result Unit Failed) (len : ℕ) → is_err result ≡ false → len ≡ length (new_manifest number edits)
-      → ReadsManifest number (new_manifest number edits) (edits ∷ [])
+      → ReadsManifest manifest_format number (new_manifest number edits) (edits ∷ [])
       → Makes g (names.Manifest number) (new_manifest number edits) mid new result
       → MakesManifest g number edits old new (Ok (record { number = number; length = len }))
   was_made (Ok u) len went e reads makes = record {

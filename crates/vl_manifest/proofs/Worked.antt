@@ -9,7 +9,7 @@ use Rattle.vl_manifest.specs.States.{fresh_state, whole_edits}
 -- edits; Head, by which log 1 is the first and commits up to 0 are in tables; Next, by which log 1 and
 -- table 1 may be given; and the frame's check.
 pub worked_manifest : manifest_bytes 1 (whole_edits fresh_state ∷ [])
-    ≡ 0x56 ∷ 0x4d ∷ 0x41 ∷ 0x4e ∷ 0 ∷ 0 ∷ 0 ∷ 1 ∷ 0 ∷ 0 ∷ 0 ∷ 1 ∷ 0 ∷ 0 ∷ 0 ∷ 0
+    ≡ 0x56 ∷ 0x4d ∷ 0x41 ∷ 0x4e ∷ 0 ∷ 0 ∷ 0 ∷ 4 ∷ 0 ∷ 0 ∷ 0 ∷ 1 ∷ 0 ∷ 0 ∷ 0 ∷ 0
     ∷ 6 ∷ 0 ∷ 0 ∷ 0 ∷ 26
     ∷ 0 ∷ 0 ∷ 0 ∷ 2
     ∷ 3 ∷ 0 ∷ 0 ∷ 0 ∷ 1 ∷ 0 ∷ 0 ∷ 0 ∷ 0 ∷ 0 ∷ 0 ∷ 0 ∷ 0

@@ -1,5 +1,6 @@
 pub mod Current
 pub mod Edits
+pub mod Formats
 pub mod Grammar
 pub mod laws
 pub mod Levels
@@ -7,3 +8,5 @@ pub mod Making
 pub mod Manifest
 pub mod Reading
 pub mod States
+pub mod Switching
+pub mod Tables

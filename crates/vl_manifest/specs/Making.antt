@@ -14,6 +14,7 @@ use Rattle.vl_manifest.specs.declared.edit.Edit.{Edit}
 use Rattle.vl_manifest.specs.declared.fails.IoFail.{IoFail}
 use Rattle.vl_manifest.specs.declared.fails.IoFail.TheVariants.{Disk, NoMemory}
 use Rattle.vl_manifest.specs.declared.manifest_log.ManifestLog.{ManifestLog}
+use Rattle.vl_model.specs.Formats.{manifest_format}
 use Rattle.vl_manifest.specs.Manifest.{ReadsManifest, manifest_bytes}
 
 -- the bytes of the manifest with this number whose first frame says these edits, and which has no other
@@ -25,7 +26,7 @@ pub record HasMade {D : Type 0} (g : Ghosts D) (number : ℕ) (edits : List Edit
     (log : ManifestLog) : Type 0 where
   pub log_is : log ≡ record { number = number; length = length (new_manifest number edits) }
   -- it reads as its one frame
-  pub reads : ReadsManifest number (new_manifest number edits) (edits ∷ [])
+  pub reads : ReadsManifest manifest_format number (new_manifest number edits) (edits ∷ [])
   pub file : IsChangedBy (made (names.Manifest number) (new_manifest number edits)) (g.told old) (g.told new)
   pub stands : ForSome (g.told new) (Stands (names.Manifest number))
   pub calls : g.calls new ≡ after_calls 3 (g.calls old)

@@ -7,57 +7,61 @@ use Rattle.vl_frame.specs.Runs.{ReadsAs, StandsAt, StandsNone, item_frame, run_b
 use Rattle.vl_frame.specs.declared.kinds.FileKind.TheVariants as files
 use Rattle.vl_frame.specs.declared.kinds.FrameKind.TheVariants as kinds
 use Rattle.vl_manifest.specs.declared.edit.Edit.{Edit}
-use Rattle.vl_manifest.specs.declared.format.TheConstants.{MANIFEST_FORMAT}
 use Rattle.vl_manifest.specs.declared.state.ManifestState.{ManifestState}
+use Rattle.vl_model.specs.Formats.{manifest_format}
 use Rattle.vl_manifest.specs.Grammar.{edits_grammar}
-use Rattle.vl_manifest.specs.States.{manifest_state}
+use Rattle.vl_manifest.specs.States.{manifest_state, read_in}
 
 -- ---- as it is written
 
 -- the header of the manifest with this number
 abbrev pub manifest_header : ℕ → List ℕ
-manifest_header number = header_bytes files.Manifest MANIFEST_FORMAT number
+manifest_header number = header_bytes files.Manifest manifest_format number
 
 -- the manifest with this number that has these frames and nothing else
 abbrev pub manifest_bytes : ℕ → List (List Edit) → List ℕ
-manifest_bytes number frames = manifest_header number ++ run_bytes edits_grammar number 16 frames
+manifest_bytes number frames = manifest_header number ++ run_bytes (edits_grammar manifest_format) number 16 frames
 
 -- ---- as it is read
 
--- The bytes begin with the header of the manifest with this number, in a format that is read.
-pub record HasHeader (number : ℕ) (bytes : List ℕ) : Type 0 where
-  pub format : ℕ
+-- The bytes begin with the header of the manifest with this number, in this format, which is one that is read.
+pub record HasHeader (format number : ℕ) (bytes : List ℕ) : Type 0 where
   pub first : 1 ≤ format
-  pub readable : format ≤ MANIFEST_FORMAT
+  pub readable : format ≤ manifest_format
   pub header : IsHeader files.Manifest format number bytes
 
--- A manifest with its header, and behind it the longest list of frames that stand there.
-pub record ReadsManifest (number : ℕ) (bytes : List ℕ) (frames : List (List Edit)) : Type 0 where
-  pub header : HasHeader number bytes
-  pub reads : ReadsAs edits_grammar number 16 (drop 16 bytes) frames
+-- in none
+abbrev pub HasNoHeader : ℕ → List ℕ → Type 0
+HasNoHeader number bytes = (format : ℕ) → HasHeader format number bytes → ⊥
 
--- what these frames make, the first of which stands behind the header
-abbrev pub state_of : ℕ → List Edit → List (List Edit) → Result ManifestState ℕ
-state_of number first others =
-    manifest_state (record { place = 16; item = first })
-    (placed edits_grammar number (16 + length (item_frame edits_grammar number 16 first)) others)
+-- A manifest with its header, in this format, and behind it the longest list of frames that stand there.
+pub record ReadsManifest (format number : ℕ) (bytes : List ℕ) (frames : List (List Edit)) : Type 0 where
+  pub header : HasHeader format number bytes
+  pub reads : ReadsAs (edits_grammar format) number 16 (drop 16 bytes) frames
+
+-- what these frames make in a manifest of this format, the first of which stands behind the header
+abbrev pub state_of : ℕ → ℕ → List Edit → List (List Edit) → Result ManifestState ℕ
+state_of format number first others =
+    read_in format (manifest_state (record { place = 16; item = first })
+    (placed (edits_grammar format) number (16 + length (item_frame (edits_grammar format) number 16 first)) others))
 
 -- The first place at which a manifest is damaged: 0 where its header isn't there, 16 where no frame is,
 -- else that of the first frame that can't be applied, whatever stands behind it.
 pub data IsDamaged (number : ℕ) (bytes : List ℕ) (place : ℕ) : Type 0 where
-  no_header : (HasHeader number bytes → ⊥) → place ≡ 0 → IsDamaged number bytes place
-  no_frame : HasHeader number bytes → StandsNone edits_grammar number 16 (drop 16 bytes) → place ≡ 16
-      → IsDamaged number bytes place
-  not_applied : HasHeader number bytes → (first : List Edit) (others : List (List Edit))
-      → BeginsAs edits_grammar number 16 (drop 16 bytes) (first ∷ others)
-      → state_of number first others ≡ Err place → IsDamaged number bytes place
+  no_header : HasNoHeader number bytes → place ≡ 0 → IsDamaged number bytes place
+  no_frame : (format : ℕ) → HasHeader format number bytes
+      → StandsNone (edits_grammar format) number 16 (drop 16 bytes) → place ≡ 16 → IsDamaged number bytes place
+  not_applied : (format : ℕ) → HasHeader format number bytes → (first : List Edit) (others : List (List Edit))
+      → BeginsAs (edits_grammar format) number 16 (drop 16 bytes) (first ∷ others)
+      → state_of format number first others ≡ Err place → IsDamaged number bytes place
 
 -- the bytes are a manifest's, whose frames make this state
 pub record SaysState (number : ℕ) (bytes : List ℕ) (state : ManifestState) : Type 0 where
+  pub format : ℕ
   pub first : List Edit
   pub others : List (List Edit)
-  pub reads : ReadsManifest number bytes (first ∷ others)
-  pub made : state_of number first others ≡ Ok state
+  pub reads : ReadsManifest format number bytes (first ∷ others)
+  pub made : state_of format number first others ≡ Ok state
 
 -- What the bytes of the manifest with this number say: a state, or the place of the damage.
 abbrev pub ManifestSays : ℕ → List ℕ → Result ManifestState ℕ → Type 0
@@ -68,15 +72,16 @@ ManifestSays number bytes (Err place) = IsDamaged number bytes place
 
 -- A manifest with its header and its first frame. Of these the one with the greatest number counts.
 pub record IsReadable (number : ℕ) (bytes : List ℕ) : Type 0 where
-  pub header : HasHeader number bytes
+  pub format : ℕ
+  pub header : HasHeader format number bytes
   pub first : List Edit
   pub rest : List ℕ
-  pub stands : StandsAt edits_grammar number 16 (drop 16 bytes) first rest
+  pub stands : StandsAt (edits_grammar format) number 16 (drop 16 bytes) first rest
 
 -- A manifest of a format that isn't read yet: the letters, a format above, and a whole first frame,
 -- whatever this says. Nothing else of its header is looked at.
 pub record IsNewer (number : ℕ) (bytes : List ℕ) (format : ℕ) : Type 0 where
   pub says : HasFormat files.Manifest bytes format
-  pub above : MANIFEST_FORMAT < format
+  pub above : manifest_format < format
   pub body : List ℕ
   pub frame : IsSpelled files.Manifest number 16 (drop 16 bytes) kinds.Edits body

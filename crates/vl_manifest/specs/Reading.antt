@@ -12,20 +12,20 @@ use Rattle.vl_manifest.specs.Edits.{IsEdit, edits_bytes}
 use Rattle.vl_manifest.specs.Manifest.{IsDamaged, SaysState}
 use Rattle.vl_manifest.specs.States.{state_behind}
 
--- so many edits, one behind the other, are the bytes
-pub record IsRun (bytes : List ℕ) (count : ℕ) (edits : List Edit) : Type 0 where
+-- so many edits of a format, one behind the other, are the bytes
+pub record IsRun (format : ℕ) (bytes : List ℕ) (count : ℕ) (edits : List Edit) : Type 0 where
   pub counted : length edits ≡ count
-  pub lawful : AllByRecursion IsEdit edits
+  pub lawful : AllByRecursion (IsEdit format) edits
   pub spelled : bytes ≡ edits_bytes edits
 
--- what a manifest says whose frames up to a place make a state, and which has these bytes from there on
-abbrev pub GoesOn : ℕ → ℕ → List ℕ → ManifestState → Result ManifestState ℕ → Type 0
-GoesOn number at bytes state (Ok last) =
-    (frames : List (List Edit)) × ReadsAs edits_grammar number at bytes frames
-    × (state_behind state (placed edits_grammar number at frames) ≡ Ok last)
-GoesOn number at bytes state (Err place) =
-    (frames : List (List Edit)) × BeginsAs edits_grammar number at bytes frames
-    × (state_behind state (placed edits_grammar number at frames) ≡ Err place)
+-- what a manifest's frames make, of which those up to a place make a state, and which has these bytes from there on
+abbrev pub GoesOn : ℕ → ℕ → ℕ → List ℕ → ManifestState → Result ManifestState ℕ → Type 0
+GoesOn format number at bytes state (Ok last) =
+    (frames : List (List Edit)) × ReadsAs (edits_grammar format) number at bytes frames
+    × (state_behind state (placed (edits_grammar format) number at frames) ≡ Ok last)
+GoesOn format number at bytes state (Err place) =
+    (frames : List (List Edit)) × BeginsAs (edits_grammar format) number at bytes frames
+    × (state_behind state (placed (edits_grammar format) number at frames) ≡ Err place)
 
 -- what was read of a manifest is what its bytes say, unless there was no memory
 abbrev pub AnswersSo : ℕ → List ℕ → Result ManifestState StateFail → Type 0
@@ -34,7 +34,7 @@ AnswersSo number bytes (Err NoMemory) = Unit {0}
 AnswersSo number bytes (Err (Damaged place)) = IsDamaged number bytes place
 
 -- the same of a manifest whose frames up to a place were read
-abbrev pub GoesOnSo : ℕ → ℕ → List ℕ → ManifestState → Result ManifestState StateFail → Type 0
-GoesOnSo number at bytes state (Ok last) = GoesOn number at bytes state (Ok last)
-GoesOnSo number at bytes state (Err NoMemory) = Unit {0}
-GoesOnSo number at bytes state (Err (Damaged place)) = GoesOn number at bytes state (Err place)
+abbrev pub GoesOnSo : ℕ → ℕ → ℕ → List ℕ → ManifestState → Result ManifestState StateFail → Type 0
+GoesOnSo format number at bytes state (Ok last) = GoesOn format number at bytes state (Ok last)
+GoesOnSo format number at bytes state (Err NoMemory) = Unit {0}
+GoesOnSo format number at bytes state (Err (Damaged place)) = GoesOn format number at bytes state (Err place)

@@ -21,6 +21,15 @@ pub enum Edit {
         log: u32,
         table: u32,
     },
+    /// So many of the newest versions of each key are kept, and those above `since`.
+    Keep {
+        versions: u8,
+        since: u64,
+    },
+    /// The greatest version of a deletion that was dropped for good.
+    Gone {
+        number: u64,
+    },
 }
 
 // The bytes that the kinds of edits begin with.
@@ -31,3 +40,7 @@ pub(crate) const DROP: u8 = 2;
 pub(crate) const HEAD: u8 = 3;
 
 pub(crate) const NEXT: u8 = 4;
+
+pub(crate) const KEEP: u8 = 5;
+
+pub(crate) const GONE: u8 = 6;

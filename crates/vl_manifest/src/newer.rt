@@ -1,9 +1,9 @@
 ghost use Rattle.std.specs.Prelude.{ℕ, IfNone, IfSome};
 ghost use Rattle.vl_manifest.specs.Manifest.{IsNewer};
 
-use crate::format::MANIFEST_FORMAT;
 use crate::frames::behind_header;
 use vl_frame::{FileKind, HEADER_BYTES, read_format, read_frame};
+use vl_model::MANIFEST_FORMAT;
 
 /// The format of the manifest with this number, where it is one that isn't read yet: a file with a manifest's letters,
 /// a greater format and a whole first frame, whatever this says.

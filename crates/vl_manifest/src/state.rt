@@ -1,4 +1,5 @@
 use crate::edit::Edit;
+use crate::format::GONE_FORMAT;
 use crate::levels::Levels;
 use crate::version_builder::VersionBuilder;
 use std::alloc::{AllocError, Global};
@@ -16,23 +17,32 @@ pub struct ManifestState {
     pub next_log: u32,
     /// The least number that a table may still be given.
     pub next_table: u32,
+    /// How many of the newest versions of each key merges keep, from 1 to 16.
+    pub keep: u8,
+    /// Of the versions that are kept, those above this commit are whole.
+    pub since: u64,
+    /// The greatest version of a deletion that was dropped for good; 0 where none was.
+    pub gone: u64,
 }
 
 impl ManifestState {
-    ghost use Rattle.std.specs.Prelude.{◌≡◌, ◌≤◌, IfOk};
+    ghost use Rattle.std.specs.Prelude.{◌≡◌, ◌≤◌, ◌++◌, IfOk, OnOk};
     ghost use Rattle.vl_model.specs.Limits.{max_file_number};
     ghost use Rattle.vl_manifest.specs.States as states;
 
     /// The state of a store that has nothing yet.
-    pub fn fresh() -> Self
+    pub fn fresh(alloc: Global) -> Self
         ensures { result ≡ states.fresh_state }
     {
         ManifestState {
-            levels: Levels::new(),
+            levels: Levels::new(alloc),
             head: 1,
             covered: 0,
             next_log: 1,
             next_table: 1,
+            keep: 1,
+            since: 0,
+            gone: 0,
         }
     }
 
@@ -46,9 +56,20 @@ impl ManifestState {
         ManifestState {
             next_log: self.next_log.max(log + 1),
             next_table: self.next_table.max(table + 1),
-            levels: self.levels,
-            head: self.head,
-            covered: self.covered,
+            ..self
+        }
+    }
+
+    // What a manifest in this format says whose frames make this state.
+    pub(crate) fn as_read(self, format: u32) -> Self
+        ensures { result ≡ states.as_read format self }
+    {
+        if format >= GONE_FORMAT {
+            return self;
+        }
+        ManifestState {
+            gone: self.covered,
+            ..self
         }
     }
 
@@ -65,21 +86,52 @@ impl ManifestState {
             log: self.next_log,
             table: self.next_table,
         })?;
+        self.add_keep(&mut edits)?;
+        self.add_gone(&mut edits)?;
         Ok(edits)
     }
 
-    /// The state that the edits of a manifest's first frame make; none where one can't be applied, or where they don't
-    /// give all of it.
-    pub(crate) fn first(edits: &[Edit]) -> Option<Self>
-        ensures { result ≡ states.first_state edits.now }
+    // Puts a Keep behind the edits, where it says more than is so without it.
+    fn add_keep(&self, edits: &mut Vec<Edit>) -> Result<(), AllocError>
+        ensures { OnOk result (edits.new.items ≡ edits.old.items ++ states.keep_edits self.now.keep self.now.since) }
     {
-        VersionBuilder::first().all_applied(edits)?.finished()
+        if self.keep != 1 || self.since != 0 {
+            edits.push(Edit::Keep {
+                versions: self.keep,
+                since: self.since,
+            })?;
+        }
+        Ok(())
     }
 
-    /// The state that the edits of a later frame make of this one.
-    pub(crate) fn next(self, edits: &[Edit]) -> Option<Self>
-        ensures { result ≡ states.next_state edits.now self }
+    // Likewise a Gone.
+    fn add_gone(&self, edits: &mut Vec<Edit>) -> Result<(), AllocError>
+        ensures { OnOk result (edits.new.items ≡ edits.old.items ++ states.gone_edits self.now.gone) }
     {
-        VersionBuilder::of(self).all_applied(edits)?.finished()
+        if self.gone != 0 {
+            edits.push(Edit::Gone { number: self.gone })?;
+        }
+        Ok(())
+    }
+
+    // The state that the edits of a manifest's first frame make; none where one can't be applied, or where they don't
+    // give all of it.
+    pub(crate) fn first(alloc: Global, edits: &[Edit]) -> Result<Option<Self>, AllocError>
+        ensures { IfOk result (λ state. state ≡ states.first_state edits.now) }
+    {
+        match VersionBuilder::first(alloc).all_applied(edits)? {
+            None => Ok(None),
+            Some(builder) => Ok(builder.finished()),
+        }
+    }
+
+    // The state that the edits of a later frame make of this one.
+    pub(crate) fn next(self, edits: &[Edit]) -> Result<Option<Self>, AllocError>
+        ensures { IfOk result (λ state. state ≡ states.next_state edits.now self) }
+    {
+        match VersionBuilder::of(self).all_applied(edits)? {
+            None => Ok(None),
+            Some(builder) => Ok(builder.finished()),
+        }
     }
 }

@@ -1,7 +1,11 @@
 use crate::edit::Edit;
 use crate::levels::Levels;
 use crate::state::ManifestState;
+use std::alloc::{AllocError, Global};
 use vl_model::{MAX_COMMIT_NUMBER, MAX_FILE_NUMBER};
+
+// How many versions of a key may be kept at most.
+const MAX_KEEP: u8 = 16;
 
 /// A state while the edits of a frame are applied, which may not have given all of it yet.
 #[derive(Debug, Drop)]
@@ -11,20 +15,27 @@ pub struct VersionBuilder {
     pub head: Option<(u32, u64)>,
     /// The next log and the next table.
     pub next: Option<(u32, u32)>,
+    pub keep: u8,
+    pub since: u64,
+    pub gone: u64,
 }
 
 impl VersionBuilder {
-    ghost use Rattle.std.specs.Prelude.{◌≡◌};
+    ghost use Rattle.std.specs.Prelude.{◌≡◌, IfOk};
     ghost use Rattle.vl_manifest.specs.States as states;
+    ghost use Rattle.vl_manifest.specs.declared.edit.Edit.TheVariants as kinds;
 
     /// Before the first frame.
-    pub fn first() -> Self
+    pub fn first(alloc: Global) -> Self
         ensures { result ≡ states.first_draft }
     {
         VersionBuilder {
-            levels: Levels::new(),
+            levels: Levels::new(alloc),
             head: None,
             next: None,
+            keep: 1,
+            since: 0,
+            gone: 0,
         }
     }
 
@@ -36,56 +47,114 @@ impl VersionBuilder {
             levels: state.levels,
             head: Some((state.head, state.covered)),
             next: Some((state.next_log, state.next_table)),
+            keep: state.keep,
+            since: state.since,
+            gone: state.gone,
         }
     }
 
     /// After these edits, in their order; none where one can't be applied.
-    pub fn all_applied(self, edits: &[Edit]) -> Option<Self>
-        ensures { result ≡ states.all_applied edits.now self }
+    pub fn all_applied(self, edits: &[Edit]) -> Result<Option<Self>, AllocError>
+        ensures { IfOk result (λ builder. builder ≡ states.all_applied edits.now self) }
     {
         let mut builder = self;
         for edit in edits {
-            builder = builder.applied(edit)?;
+            match builder.applied(edit)? {
+                None => return Ok(None),
+                Some(next) => builder = next,
+            }
         }
+        Ok(Some(builder))
+    }
+
+    fn applied(self, edit: &Edit) -> Result<Option<Self>, AllocError>
+        ensures { IfOk result (λ builder. builder ≡ states.applied edit.now self) }
+    {
+        match *edit {
+            Edit::Add {
+                level,
+                position,
+                table,
+            } => self.with_table(level, position, table),
+            Edit::Drop { table } => Ok(self.without_table(table)),
+            Edit::Head { segment, number } => Ok(self.with_head(segment, number)),
+            Edit::Next { log, table } => Ok(self.with_next(log, table)),
+            Edit::Keep { versions, since } => Ok(self.with_keep(versions, since)),
+            Edit::Gone { number } => Ok(self.with_gone(number)),
+        }
+    }
+
+    fn with_table(self, level: u8, position: u32, table: u32) -> Result<Option<Self>, AllocError>
+        ensures { IfOk result (λ builder. builder ≡ states.applied (kinds.Add level position table) self) }
+    {
+        let mut builder = self;
+        if table == 0 || table > MAX_FILE_NUMBER || builder.levels.has(table) {
+            return Ok(None);
+        }
+        if builder.levels.put(level, position, table)? {
+            Ok(Some(builder))
+        } else {
+            Ok(None)
+        }
+    }
+
+    fn without_table(self, table: u32) -> Option<Self>
+        ensures { result ≡ states.applied (kinds.Drop table) self }
+    {
+        let mut builder = self;
+        if !builder.levels.has(table) {
+            return None;
+        }
+        builder.levels.take_out(table);
         Some(builder)
     }
 
-    // No store has tables yet, so that an Add or a Drop can't be applied.
-    fn applied(self, edit: &Edit) -> Option<Self>
-        ensures { result ≡ states.applied edit.now self }
-    {
-        match *edit {
-            Edit::Add { .. } | Edit::Drop { .. } => None,
-            Edit::Head { segment, number } => self.with_head(segment, number),
-            Edit::Next { log, table } => self.with_next(log, table),
-        }
-    }
-
     fn with_head(self, segment: u32, number: u64) -> Option<Self>
-        ensures { result ≡ states.given_if (states.is_head segment number)
-            (record self { head = Some (segment, number) }) }
+        ensures { result ≡ states.applied (kinds.Head segment number) self }
     {
         if segment == 0 || segment > MAX_FILE_NUMBER || number > MAX_COMMIT_NUMBER {
             return None;
         }
         Some(VersionBuilder {
-            levels: self.levels,
             head: Some((segment, number)),
-            next: self.next,
+            ..self
         })
     }
 
     fn with_next(self, log: u32, table: u32) -> Option<Self>
-        ensures { result ≡ states.given_if (states.are_next log table)
-            (record self { next = Some (log, table) }) }
+        ensures { result ≡ states.applied (kinds.Next log table) self }
     {
         if log == 0 || table == 0 {
             return None;
         }
         Some(VersionBuilder {
-            levels: self.levels,
-            head: self.head,
             next: Some((log, table)),
+            ..self
+        })
+    }
+
+    fn with_keep(self, versions: u8, since: u64) -> Option<Self>
+        ensures { result ≡ states.applied (kinds.Keep versions since) self }
+    {
+        if versions == 0 || versions > MAX_KEEP || since > MAX_COMMIT_NUMBER {
+            return None;
+        }
+        Some(VersionBuilder {
+            keep: versions,
+            since,
+            ..self
+        })
+    }
+
+    fn with_gone(self, number: u64) -> Option<Self>
+        ensures { result ≡ states.applied (kinds.Gone number) self }
+    {
+        if number == 0 || number > MAX_COMMIT_NUMBER {
+            return None;
+        }
+        Some(VersionBuilder {
+            gone: number,
+            ..self
         })
     }
 
@@ -101,6 +170,9 @@ impl VersionBuilder {
             covered,
             next_log,
             next_table,
+            keep: self.keep,
+            since: self.since,
+            gone: self.gone,
         })
     }
 }

@@ -1,21 +1,23 @@
 -- Laws of a memtable's runs: that they are few, and that each goes along the way of its cursor.
-use Rattle.std.proofs.Common.{◌≡◌, ℕ, zero, suc, ◌+◌, ◌*◌, ◌-◌, ◌^◌, ◌<◌, ◌≤◌, true, List, [], ◌∷◌, ◌++◌, length, map, reverse, refl, ap, sym, ◌∙◌, subst, arith, length-append}
+use Rattle.std.proofs.Common.{◌≡◌, ℕ, zero, suc, ◌+◌, ◌*◌, ◌-◌, ◌^◌, ◌<◌, ◌≤◌, Bool, true, cond, List, [], ◌∷◌, ◌++◌, length, map, reverse, refl, ap, sym, ◌∙◌, subst, arith, length-append}
 use Rattle.std.proofs.lemmas.List.{reverse-append}
 use Rattle.std.proofs.lemmas.List.Sums.{sum_by-cons}
 use Rattle.std.proofs.lemmas.Bool.{and_parts}
 use Rattle.std.proofs.lemmas.Bool.Decides.{nat_tests}
 use Rattle.std.specs.Prelude.{false, nat_le}
-use Rattle.std.specs.List.{AllByRecursion, sum}
+use Rattle.std.specs.List.{AllByRecursion, filter, sum}
 use Rattle.std.specs.Ordering.{is_gt}
 use Rattle.vl_model.specs.Entries.{entry_cmp}
 use Rattle.vl_model.specs.declared.entry.Entry.{Entry}
+use Rattle.vl_model.specs.Reads.{is_in_span}
+use Rattle.vl_model.specs.declared.span.Span.{Span}
 use Rattle.vl_model.specs.declared.way.Way.{Way}
 use Rattle.vl_model.specs.declared.way.Way.TheVariants.{Up, Down}
-use Rattle.vl_run.specs.Order.{IsInOrder, along}
+use Rattle.vl_run.specs.Order.{IsInOrder, along, within}
 use Rattle.vl_run.specs.laws.OrderLaws.{IsBefore, IsRising, rising}
 use Rattle.vl_merge.specs.Merging.{IsFirst, IsAlong}
 use Rattle.vl_model.specs.Order.{way_cmp}
-use Rattle.vl_memtable.specs.Contents.{Contents, all_of, contents_of, AreRuns, GiveAll}
+use Rattle.vl_memtable.specs.Contents.{Contents, all_of, contents_of, AreRuns, GiveAll, GiveWithin}
 use Rattle.vl_memtable.specs.Lengths.{doubles}
 use Rattle.vl_memtable.specs.Facts.{HasFewRuns}
 
@@ -125,4 +127,42 @@ give_all way held runs left is are each = record {
   entries = ap (λ (m : Contents). m.entries) is;
   lengths = ap (λ (m : Contents). m.lengths) is;
   along = subst (AllByRecursion (IsAlong way)) (sym each) (all_along way runs are.rising);
+}
+
+-- ---- in an interval
+
+before-filter : (p : Entry → Bool) (e : Entry) (es : List Entry) → IsBefore e es → IsBefore e (filter p es)
+before-filter p e [] before = tt
+before-filter p e (f ∷ fs) before =
+    let later = before-filter p e fs before.1 in
+    elim (p f) as (λ b. IsBefore e (cond b (f ∷ filter p fs) (filter p fs))) [
+      | true ↦ (before.0, later)
+      | false ↦ later
+    ]
+
+rising-filter : (p : Entry → Bool) (es : List Entry) → IsRising es → IsRising (filter p es)
+rising-filter p [] rising = tt
+rising-filter p (e ∷ es) rising =
+    let later = rising-filter p es rising.1 in
+    elim (p e) as (λ b. IsRising (cond b (e ∷ filter p es) (filter p es))) [
+      | true ↦ (before-filter p e es rising.0, later)
+      | false ↦ later
+    ]
+
+all_within : (span : Span) (way : Way) (runs : List (List Entry)) → AllByRecursion IsInOrder runs
+    → AllByRecursion (IsAlong way) (map (λ run. along way (within span run)) runs)
+all_within span way [] in_order = tt
+all_within span way (run ∷ runs) in_order = (
+  along-rising way (within span run) (rising-filter (λ e. is_in_span span e.key) run (rising run in_order.0)),
+  all_within span way runs in_order.1,
+)
+
+pub give_within : (span : Span) (way : Way) (held : Contents) (runs left : List (List Entry)) → held ≡ contents_of runs
+    → AreRuns runs → left ≡ map (λ run. along way (within span run)) runs → GiveWithin span way held left
+give_within span way held runs left is are each = record {
+  runs = runs;
+  each = each;
+  rising = are.rising;
+  entries = ap (λ (m : Contents). m.entries) is;
+  along = subst (AllByRecursion (IsAlong way)) (sym each) (all_within span way runs are.rising);
 }

@@ -4,8 +4,9 @@ use Rattle.std.specs.List.{AllByRecursion}
 use Rattle.vl_model.specs.Entries.{in_order}
 use Rattle.vl_model.specs.Winners.{exact}
 use Rattle.vl_model.specs.declared.entry.Entry.{Entry}
+use Rattle.vl_model.specs.declared.span.Span.{Span}
 use Rattle.vl_model.specs.declared.way.Way.{Way}
-use Rattle.vl_run.specs.Order.{IsInOrder, along}
+use Rattle.vl_run.specs.Order.{IsInOrder, along, within}
 use Rattle.vl_merge.specs.Merging.{IsAlong}
 use Rattle.vl_memtable.specs.Lengths.{doubles}
 
@@ -46,4 +47,12 @@ pub record GiveAll (way : Way) (held : Contents) (left : List (List Entry)) : Ty
   pub rising : AllByRecursion IsInOrder runs
   pub entries : held.entries ≡ in_order (all_of runs)
   pub lengths : held.lengths ≡ map length runs
+  pub along : AllByRecursion (IsAlong way) left
+
+-- likewise of cursors over the entries whose keys are in an interval
+pub record GiveWithin (span : Span) (way : Way) (held : Contents) (left : List (List Entry)) : Type 0 where
+  pub runs : List (List Entry)
+  pub each : left ≡ map (λ run. along way (within span run)) runs
+  pub rising : AllByRecursion IsInOrder runs
+  pub entries : held.entries ≡ in_order (all_of runs)
   pub along : AllByRecursion (IsAlong way) left

@@ -2,7 +2,7 @@ ghost use Rattle.std.specs.Prelude.{◌≡◌, ◌++◌, ◌<◌, ◌↔◌, len
 ghost use Rattle.std.specs.Option.{option_copied};
 ghost use Rattle.vl_model.specs.Entries.{in_order};
 ghost use Rattle.vl_model.specs.Winners.{winner, exact};
-ghost use Rattle.vl_memtable.specs.Contents.{IsNewTo, GiveAll};
+ghost use Rattle.vl_memtable.specs.Contents.{IsNewTo, GiveAll, GiveWithin};
 ghost use Rattle.vl_memtable.specs.Facts.{HasFewRuns};
 ghost use Rattle.vl_memtable.specs.Lengths.{lengths_with};
 
@@ -10,7 +10,7 @@ use crate::over::over;
 use crate::runs;
 use std::alloc::{AllocError, Global};
 use std::marker::Model;
-use vl_model::{Entry, Way};
+use vl_model::{Entry, Span, Way};
 use vl_run::{Run, RunCursor};
 
 /// Entries in order, as a list of runs that older memtables share.
@@ -115,6 +115,13 @@ impl Memtable {
         ensures { IfOk result (λ cursors. GiveAll way self.now cursors.items) }
     {
         runs::cursors(*self.runs.allocator(), &self.runs, way)
+    }
+
+    /// Cursors over the entries whose keys are in an interval, one for each run, the newest first. It may want memory.
+    pub fn cursors_within(&self, span: &Span, way: Way) -> Result<Vec<RunCursor>, AllocError>
+        ensures { IfOk result (λ cursors. GiveWithin span.now way self.now cursors.items) }
+    {
+        runs::cursors_within(*self.runs.allocator(), &self.runs, span, way)
     }
 }
 

@@ -3,12 +3,12 @@ ghost use Rattle.std.specs.Prelude.{◌≡◌, ◌++◌, ◌<◌, length, map, I
 ghost use Rattle.std.specs.Option.{option_copied};
 ghost use Rattle.vl_model.specs.Entries.{in_order};
 ghost use Rattle.vl_model.specs.Winners.{winner, exact};
-ghost use Rattle.vl_run.specs.Order.{along};
+ghost use Rattle.vl_run.specs.Order.{along, within};
 ghost use Rattle.vl_memtable.specs.Contents.{all_of, AreRuns, IsNewTo};
 ghost use Rattle.vl_memtable.specs.Lengths.{lengths_with};
 
 use std::alloc::{AllocError, Global};
-use vl_model::{Entry, Way, newest_ref};
+use vl_model::{Entry, Span, Way, newest_ref};
 use vl_run::{Run, RunCursor};
 
 // These runs with one more. As long as the first has less than twice the entries of the new one, it
@@ -73,6 +73,22 @@ pub fn share(alloc: Global, runs: &[Run]) -> Result<Vec<Run>, AllocError>
 {
     let mut all = Vec::new(alloc);
     share_all(&mut all, runs)?;
+    Ok(all)
+}
+
+// Cursors over the entries of these runs whose keys are in an interval, one for each run.
+pub fn cursors_within(
+    alloc: Global,
+    runs: &[Run],
+    span: &Span,
+    way: Way,
+) -> Result<Vec<RunCursor>, AllocError>
+    ensures { IfOk result (λ cursors. cursors.items ≡ map (λ run. along way (within span.now run)) runs.now) }
+{
+    let mut all = Vec::new(alloc);
+    for run in runs {
+        all.push(run.cursor_within(span, way)?)?;
+    }
     Ok(all)
 }
 

@@ -17,7 +17,7 @@ record_length format key change = record_head format + length key + length (valu
 abbrev pub moved_length : ℕ → Moved → ℕ
 moved_length format moved = 8 + record_length format moved.key (Set moved.value)
 
--- kind, length and check take 13 bytes; behind them a commit has its number and a count, a
+-- Kind, length and check take 13 bytes. In front of its records a commit has its number and a count, a
 -- relocation a count
 abbrev pub frame_length : ℕ → LogFrame → ℕ
 frame_length format (Committed number writes) =

@@ -13,7 +13,7 @@ ghost use Rattle.vl_model.specs.Winners.{winner, newest_of};
 ghost use Rattle.vl_model.specs.declared.entry.Entry.{Entry};
 ghost use Rattle.vl_model.specs.Limits.{max_key_bytes, max_value_bytes, max_inline_bytes, max_transaction_keys, max_transaction_bytes, max_live, min_room, max_room, max_level, max_batch_records, max_batch_bytes, max_commit_number, max_file_number, max_version_number, max_sessions};
 ghost use Rattle.vl_model.specs.declared.formats.TheConstants.{LOG_FORMAT, MANIFEST_FORMAT, TABLE_FORMAT};
-ghost use Rattle.vl_model.specs.declared.limits.TheConstants.{MAX_KEY_BYTES, MAX_VALUE_BYTES, MAX_INLINE_BYTES, MAX_TRANSACTION_KEYS, MAX_TRANSACTION_BYTES, MAX_LIVE, MIN_ROOM, MAX_ROOM, MAX_LEVEL, MAX_BATCH_RECORDS, MAX_BATCH_BYTES, MAX_COMMIT_NUMBER, MAX_FILE_NUMBER, MAX_VERSION_NUMBER, MAX_SESSIONS};
+ghost use Rattle.vl_model.specs.declared.limits.TheConstants.{MAX_KEY_BYTES, MAX_VALUE_BYTES, MAX_VALUE_BYTES_BEFORE_TAGS, MAX_INLINE_BYTES, MAX_TRANSACTION_KEYS, MAX_TRANSACTION_BYTES, MAX_LIVE, MIN_ROOM, MAX_ROOM, MAX_LEVEL, MAX_BATCH_RECORDS, MAX_BATCH_BYTES, MAX_COMMIT_NUMBER, MAX_FILE_NUMBER, MAX_VERSION_NUMBER, MAX_SESSIONS};
 ghost use Rattle.vl_model.specs.History.{standing_at, History, past_value, Extends, last_naming, value_at, contents_at, last_number, with_commit, value_left};
 
 /// The contents at a number have, at each key, the value that stands there at that number.
@@ -94,7 +94,7 @@ pub fn placed_entries_may_stand_in_tables()
 /// The constants are the limits that the definitions have.
 pub fn constants_are_the_limits()
     ensures key { MAX_KEY_BYTES ≡ max_key_bytes }
-    ensures value { MAX_VALUE_BYTES ≡ max_value_bytes log_format }
+    ensures value { (MAX_VALUE_BYTES ≡ max_value_bytes log_format) × (MAX_VALUE_BYTES_BEFORE_TAGS ≡ max_value_bytes 1) }
     ensures formats { (LOG_FORMAT ≡ log_format) × (TABLE_FORMAT ≡ table_format) × (MANIFEST_FORMAT ≡ manifest_format) }
     ensures inline { MAX_INLINE_BYTES ≡ max_inline_bytes }
     ensures transaction { (MAX_TRANSACTION_KEYS ≡ max_transaction_keys) × (MAX_TRANSACTION_BYTES ≡ max_transaction_bytes) }

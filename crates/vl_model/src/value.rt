@@ -4,8 +4,8 @@ ghost use Rattle.vl_model.specs.Keys.{tagged, value_length};
 use crate::Bytes;
 use std::alloc::{AllocError, Global};
 
-/// A value: at most [`MAX_VALUE_BYTES`](crate::MAX_VALUE_BYTES) bytes, and beside them one byte of
-/// the user's own, its tag, which is 0 where none was given.
+/// A value: its bytes, of which a store takes at most [`MAX_VALUE_BYTES`](crate::MAX_VALUE_BYTES),
+/// and beside them one byte of the user's own, its tag, which is 0 where none was given.
 #[derive(Drop)]
 pub struct Value {
     pub bytes: Bytes,

@@ -7,7 +7,7 @@ use std::test::Fail;
 use vl_cli::{Ended, run};
 use vl_disk::Name;
 use vl_io::{SliceSource, VecSink};
-use vl_mem::MemDisk;
+use vl_mem::{MemDisk, Outcome};
 
 /// A replay of an input: what it prints, and its status.
 #[derive(Clone, Copy)]
@@ -39,79 +39,114 @@ fn outcome_over(alloc: Global, case: &Case, disk: MemDisk) -> Result<(u8, Vec<u8
 
 /// The manifest of a new store.
 const MANIFEST_BYTES: [u8; 55] = [
-    0x56, 0x4d, 0x41, 0x4e, 0, 0, 0, 1, 0, 0, 0, 1, 0, 0, 0, 0, 6, 0, 0, 0, 26, 0, 0, 0, 2, 3, 0,
+    0x56, 0x4d, 0x41, 0x4e, 0, 0, 0, 4, 0, 0, 0, 1, 0, 0, 0, 0, 6, 0, 0, 0, 0x1a, 0, 0, 0, 2, 3, 0,
     0, 0, 1, 0, 0, 0, 0, 0, 0, 0, 0, 4, 0, 0, 0, 1, 0, 0, 0, 1, 0x8d, 0xf1, 0xd8, 0x60, 0x1b, 0xeb,
     0xe2, 0xd7,
 ];
 
 /// The log with the commit 1 of key 61 with value 01, whose record stands at 33.
-const LOG_BYTES: [u8; 50] = [
-    0x56, 0x4c, 0x4f, 0x47, 0, 0, 0, 1, 0, 0, 0, 1, 0, 0, 0, 0, 1, 0, 0, 0, 21, 0, 0, 0, 0, 0, 0,
-    0, 1, 0, 0, 0, 1, 0, 0, 1, 0, 0, 0, 1, 0x61, 1, 0x4b, 0x93, 0xa9, 0x61, 0xb6, 0xcc, 0xa4, 0xb4,
+const LOG_BYTES: [u8; 51] = [
+    0x56, 0x4c, 0x4f, 0x47, 0, 0, 0, 2, 0, 0, 0, 1, 0, 0, 0, 0, 1, 0, 0, 0, 0x16, 0, 0, 0, 0, 0, 0,
+    0, 1, 0, 0, 0, 1, 0, 0, 0, 1, 0, 0, 0, 1, 0x61, 1, 0xd9, 0x71, 0x36, 0x59, 0xc0, 0xcd, 0x76,
+    0xed,
 ];
 
 /// That log with a relocation of the record behind its commit.
-const MOVED_LOG_BYTES: [u8; 84] = [
-    0x56, 0x4c, 0x4f, 0x47, 0, 0, 0, 1, 0, 0, 0, 1, 0, 0, 0, 0, 1, 0, 0, 0, 21, 0, 0, 0, 0, 0, 0,
-    0, 1, 0, 0, 0, 1, 0, 0, 1, 0, 0, 0, 1, 0x61, 1, 0x4b, 0x93, 0xa9, 0x61, 0xb6, 0xcc, 0xa4, 0xb4,
-    2, 0, 0, 0, 21, 0, 0, 0, 1, 0, 0, 0, 0, 0, 0, 0, 1, 0, 0, 1, 0, 0, 0, 1, 0x61, 1, 0xdf, 0x58,
-    0xff, 0x73, 0x71, 0x5f, 0x60, 0x0b,
+const MOVED_LOG_BYTES: [u8; 86] = [
+    0x56, 0x4c, 0x4f, 0x47, 0, 0, 0, 2, 0, 0, 0, 1, 0, 0, 0, 0, 1, 0, 0, 0, 0x16, 0, 0, 0, 0, 0, 0,
+    0, 1, 0, 0, 0, 1, 0, 0, 0, 1, 0, 0, 0, 1, 0x61, 1, 0xd9, 0x71, 0x36, 0x59, 0xc0, 0xcd, 0x76,
+    0xed, 2, 0, 0, 0, 0x16, 0, 0, 0, 1, 0, 0, 0, 0, 0, 0, 0, 1, 0, 0, 0, 1, 0, 0, 0, 1, 0x61, 1,
+    0x69, 0x78, 0x97, 0xb0, 0xbc, 0x24, 8, 0xc2,
 ];
 
 /// What the manifest says that is made where that store is opened again, with a commit in its log.
 const SECOND_MANIFEST_BYTES: [u8; 55] = [
-    0x56, 0x4d, 0x41, 0x4e, 0, 0, 0, 1, 0, 0, 0, 2, 0, 0, 0, 0, 6, 0, 0, 0, 0x1a, 0, 0, 0, 2, 3, 0,
+    0x56, 0x4d, 0x41, 0x4e, 0, 0, 0, 4, 0, 0, 0, 2, 0, 0, 0, 0, 6, 0, 0, 0, 0x1a, 0, 0, 0, 2, 3, 0,
     0, 0, 1, 0, 0, 0, 0, 0, 0, 0, 0, 4, 0, 0, 0, 2, 0, 0, 0, 1, 0x45, 0xb6, 3, 0xbe, 0, 0x1a, 0x6a,
     0xa0,
 ];
 
 /// And where it is opened once more, with one in log 2.
 const THIRD_MANIFEST_BYTES: [u8; 55] = [
-    0x56, 0x4d, 0x41, 0x4e, 0, 0, 0, 1, 0, 0, 0, 3, 0, 0, 0, 0, 6, 0, 0, 0, 0x1a, 0, 0, 0, 2, 3, 0,
+    0x56, 0x4d, 0x41, 0x4e, 0, 0, 0, 4, 0, 0, 0, 3, 0, 0, 0, 0, 6, 0, 0, 0, 0x1a, 0, 0, 0, 2, 3, 0,
     0, 0, 1, 0, 0, 0, 0, 0, 0, 0, 0, 4, 0, 0, 0, 3, 0, 0, 0, 1, 0xdc, 0x9e, 7, 0x5b, 0xfa, 0x88,
     0xa7, 0x55,
 ];
 
 /// Log 2 with the commit 2 of key 61 with value 02.
-const SECOND_LOG_BYTES: [u8; 50] = [
-    0x56, 0x4c, 0x4f, 0x47, 0, 0, 0, 1, 0, 0, 0, 2, 0, 0, 0, 0, 1, 0, 0, 0, 0x15, 0, 0, 0, 0, 0, 0,
-    0, 2, 0, 0, 0, 1, 0, 0, 1, 0, 0, 0, 1, 0x61, 2, 0xd1, 0xb4, 0x37, 0xc4, 0x2a, 0xf4, 0x0c, 0xd6,
+const SECOND_LOG_BYTES: [u8; 51] = [
+    0x56, 0x4c, 0x4f, 0x47, 0, 0, 0, 2, 0, 0, 0, 2, 0, 0, 0, 0, 1, 0, 0, 0, 0x16, 0, 0, 0, 0, 0, 0,
+    0, 2, 0, 0, 0, 1, 0, 0, 0, 1, 0, 0, 0, 1, 0x61, 2, 0x73, 0x93, 0xc6, 0, 0x25, 0xed, 0xe0, 0x9d,
 ];
 
 /// Log 3 with the commit 3 of key 62 with value 03.
-const THIRD_LOG_BYTES: [u8; 50] = [
-    0x56, 0x4c, 0x4f, 0x47, 0, 0, 0, 1, 0, 0, 0, 3, 0, 0, 0, 0, 1, 0, 0, 0, 0x15, 0, 0, 0, 0, 0, 0,
-    0, 3, 0, 0, 0, 1, 0, 0, 1, 0, 0, 0, 1, 0x62, 3, 0x4b, 0x8e, 0x3c, 0xa3, 0xfc, 0xcb, 0x85, 0x51,
+const THIRD_LOG_BYTES: [u8; 51] = [
+    0x56, 0x4c, 0x4f, 0x47, 0, 0, 0, 2, 0, 0, 0, 3, 0, 0, 0, 0, 1, 0, 0, 0, 0x16, 0, 0, 0, 0, 0, 0,
+    0, 3, 0, 0, 0, 1, 0, 0, 0, 1, 0, 0, 0, 1, 0x62, 3, 0x76, 0xae, 0xe9, 0x2a, 0xc1, 0xb6, 0x5f,
+    0xfa,
 ];
 
 /// The header of log 2.
-const SECOND_LOG_HEADER: [u8; 16] = [0x56, 0x4c, 0x4f, 0x47, 0, 0, 0, 1, 0, 0, 0, 2, 0, 0, 0, 0];
+const SECOND_LOG_HEADER: [u8; 16] = [0x56, 0x4c, 0x4f, 0x47, 0, 0, 0, 2, 0, 0, 0, 2, 0, 0, 0, 0];
 
-/// The manifest of a new store, in format 2.
+/// The manifest of a new store, in format 5.
 const NEWER_MANIFEST: [u8; 55] = [
-    0x56, 0x4d, 0x41, 0x4e, 0, 0, 0, 2, 0, 0, 0, 1, 0, 0, 0, 0, 6, 0, 0, 0, 0x1a, 0, 0, 0, 2, 3, 0,
+    0x56, 0x4d, 0x41, 0x4e, 0, 0, 0, 5, 0, 0, 0, 1, 0, 0, 0, 0, 6, 0, 0, 0, 0x1a, 0, 0, 0, 2, 3, 0,
     0, 0, 1, 0, 0, 0, 0, 0, 0, 0, 0, 4, 0, 0, 0, 1, 0, 0, 0, 1, 0x8d, 0xf1, 0xd8, 0x60, 0x1b, 0xeb,
     0xe2, 0xd7,
 ];
 
 /// A manifest whose first frame has no Next.
 const DAMAGED_MANIFEST: [u8; 46] = [
-    0x56, 0x4d, 0x41, 0x4e, 0, 0, 0, 1, 0, 0, 0, 1, 0, 0, 0, 0, 6, 0, 0, 0, 0x11, 0, 0, 0, 1, 3, 0,
+    0x56, 0x4d, 0x41, 0x4e, 0, 0, 0, 4, 0, 0, 0, 1, 0, 0, 0, 0, 6, 0, 0, 0, 0x11, 0, 0, 0, 1, 3, 0,
     0, 0, 1, 0, 0, 0, 0, 0, 0, 0, 0, 0xa7, 0x84, 0xb9, 0xe1, 3, 0x43, 0xdb, 0x2c,
 ];
 
 /// A manifest behind whose last log none can be made.
 const LAST_LOG_MANIFEST: [u8; 55] = [
-    0x56, 0x4d, 0x41, 0x4e, 0, 0, 0, 1, 0, 0, 0, 1, 0, 0, 0, 0, 6, 0, 0, 0, 0x1a, 0, 0, 0, 2, 3, 0,
+    0x56, 0x4d, 0x41, 0x4e, 0, 0, 0, 4, 0, 0, 0, 1, 0, 0, 0, 0, 6, 0, 0, 0, 0x1a, 0, 0, 0, 2, 3, 0,
     0, 0, 1, 0, 0, 0, 0, 0, 0, 0, 0, 4, 0xff, 0xff, 0xff, 0xff, 0, 0, 0, 1, 0x0d, 0x16, 0xf4, 0x75,
     0x37, 0x26, 0xc5, 0x74,
 ];
 
 /// A manifest with the greatest number, 4,294,967,294.
 const LAST_MANIFEST: [u8; 55] = [
-    0x56, 0x4d, 0x41, 0x4e, 0, 0, 0, 1, 0xff, 0xff, 0xff, 0xfe, 0, 0, 0, 0, 6, 0, 0, 0, 0x1a, 0, 0,
+    0x56, 0x4d, 0x41, 0x4e, 0, 0, 0, 4, 0xff, 0xff, 0xff, 0xfe, 0, 0, 0, 0, 6, 0, 0, 0, 0x1a, 0, 0,
     0, 2, 3, 0, 0, 0, 1, 0, 0, 0, 0, 0, 0, 0, 0, 4, 0, 0, 0, 1, 0, 0, 0, 1, 0x43, 0x9f, 0x97, 0xe9,
     0x56, 0x12, 0xd6, 0x57,
+];
+
+/// The manifest that a program before tags wrote for a new store: all of it is of format 1.
+const OLD_MANIFEST: [u8; 55] = [
+    0x56, 0x4d, 0x41, 0x4e, 0, 0, 0, 1, 0, 0, 0, 1, 0, 0, 0, 0, 6, 0, 0, 0, 0x1a, 0, 0, 0, 2, 3, 0,
+    0, 0, 1, 0, 0, 0, 0, 0, 0, 0, 0, 4, 0, 0, 0, 1, 0, 0, 0, 1, 0x8d, 0xf1, 0xd8, 0x60, 0x1b, 0xeb,
+    0xe2, 0xd7,
+];
+
+/// Its log: commit 1 of keys 61 with value 01 and 62 with 65 bytes aa, and commit 2, which deletes 61 and sets 63 to
+/// nothing.
+const OLD_LOG: [u8; 164] = [
+    0x56, 0x4c, 0x4f, 0x47, 0, 0, 0, 1, 0, 0, 0, 1, 0, 0, 0, 0, 1, 0, 0, 0, 0x5e, 0, 0, 0, 0, 0, 0,
+    0, 1, 0, 0, 0, 2, 0, 0, 1, 0, 0, 0, 1, 0x61, 1, 0, 0, 1, 0, 0, 0, 0x41, 0x62, 0xaa, 0xaa, 0xaa,
+    0xaa, 0xaa, 0xaa, 0xaa, 0xaa, 0xaa, 0xaa, 0xaa, 0xaa, 0xaa, 0xaa, 0xaa, 0xaa, 0xaa, 0xaa, 0xaa,
+    0xaa, 0xaa, 0xaa, 0xaa, 0xaa, 0xaa, 0xaa, 0xaa, 0xaa, 0xaa, 0xaa, 0xaa, 0xaa, 0xaa, 0xaa, 0xaa,
+    0xaa, 0xaa, 0xaa, 0xaa, 0xaa, 0xaa, 0xaa, 0xaa, 0xaa, 0xaa, 0xaa, 0xaa, 0xaa, 0xaa, 0xaa, 0xaa,
+    0xaa, 0xaa, 0xaa, 0xaa, 0xaa, 0xaa, 0xaa, 0xaa, 0xaa, 0xaa, 0xaa, 0xaa, 0xaa, 0xaa, 0xc2, 0x82,
+    0x41, 0x92, 0xa4, 0xd3, 0x0c, 0x27, 1, 0, 0, 0, 0x1c, 0, 0, 0, 0, 0, 0, 0, 2, 0, 0, 0, 2, 1, 0,
+    1, 0, 0, 0, 0, 0x61, 0, 0, 1, 0, 0, 0, 0, 0x63, 0x11, 0xd3, 0xdf, 0xbd, 0xa4, 0xbb, 0xea, 0xdf,
+];
+
+/// What that program left where the store was opened again: a manifest,
+const OLD_SECOND_MANIFEST: [u8; 55] = [
+    0x56, 0x4d, 0x41, 0x4e, 0, 0, 0, 1, 0, 0, 0, 2, 0, 0, 0, 0, 6, 0, 0, 0, 0x1a, 0, 0, 0, 2, 3, 0,
+    0, 0, 1, 0, 0, 0, 0, 0, 0, 0, 0, 4, 0, 0, 0, 2, 0, 0, 0, 1, 0x45, 0xb6, 3, 0xbe, 0, 0x1a, 0x6a,
+    0xa0,
+];
+
+/// and log 2 with the commit 3 of key 61 with value 02.
+const OLD_SECOND_LOG: [u8; 50] = [
+    0x56, 0x4c, 0x4f, 0x47, 0, 0, 0, 1, 0, 0, 0, 2, 0, 0, 0, 0, 1, 0, 0, 0, 0x15, 0, 0, 0, 0, 0, 0,
+    0, 3, 0, 0, 0, 1, 0, 0, 1, 0, 0, 0, 1, 0x61, 2, 0x96, 0x72, 9, 0xd5, 0xeb, 0x5a, 0xa0, 0x5d,
 ];
 
 /// Files on which a disk is to be started, with one more.
@@ -197,7 +232,7 @@ fn a_store_is_opened_again(rt: HostRuntime) -> Result<(), Fail> {
 #[test]
 fn a_torn_end_is_cut(rt: HostRuntime) -> Result<(), Fail> {
     // A manifest is made, the log is cut and synced, and the old manifest removed: so call 7 doesn't come.
-    let files = store(rt.alloc(), &MANIFEST_BYTES, &LOG_BYTES[..49])?;
+    let files = store(rt.alloc(), &MANIFEST_BYTES, &LOG_BYTES[..50])?;
     let disk = started(rt.alloc(), files, &[7])?;
     let first = plain("view b\nget b 61\n", "ok 0\nnone\n", 0);
     let (status, printed, disk) = outcome_over(rt.alloc(), &first, disk)?;
@@ -207,7 +242,7 @@ fn a_torn_end_is_cut(rt: HostRuntime) -> Result<(), Fail> {
     assert!(rt; holds(&disk, Name::Manifest(2), &SECOND_MANIFEST_BYTES));
 
     // The same log takes the next commits.
-    let files = store(rt.alloc(), &MANIFEST_BYTES, &LOG_BYTES[..49])?;
+    let files = store(rt.alloc(), &MANIFEST_BYTES, &LOG_BYTES[..50])?;
     let second = plain("begin a\nset a 61 01\ncommit a\n", "ok 0\nok\nok 1\n", 0);
     let (status, printed, disk) = outcome_over(
         rt.alloc(),
@@ -249,7 +284,7 @@ fn what_is_no_store_is_refused(rt: HostRuntime) -> Result<(), Fail> {
     assert!(rt; left(&disk, Name::Log(1), &LOG_BYTES));
 
     let disk = started(alloc, store(alloc, &NEWER_MANIFEST, &LOG_BYTES)?, &[])?;
-    let disk = refused(alloc, disk, "newer format 2\n")?;
+    let disk = refused(alloc, disk, "newer format 5\n")?;
     assert!(rt; left(&disk, Name::Manifest(1), &NEWER_MANIFEST));
     assert!(rt; left(&disk, Name::Log(1), &LOG_BYTES));
     Ok(())
@@ -260,10 +295,10 @@ fn damaged_stores_are_refused(rt: HostRuntime) -> Result<(), Fail> {
     let alloc = rt.alloc();
 
     // A log that isn't the last must be whole.
-    let files = store(alloc, &MANIFEST_BYTES, &LOG_BYTES[..49])?;
+    let files = store(alloc, &MANIFEST_BYTES, &LOG_BYTES[..50])?;
     let files = with(alloc, files, Name::Log(2), &SECOND_LOG_HEADER)?;
     let disk = refused(alloc, started(alloc, files, &[])?, "damaged log 1 at 16\n")?;
-    assert!(rt; left(&disk, Name::Log(1), &LOG_BYTES[..49]));
+    assert!(rt; left(&disk, Name::Log(1), &LOG_BYTES[..50]));
     assert!(rt; left(&disk, Name::Log(2), &SECOND_LOG_HEADER));
 
     let files = store(alloc, &MANIFEST_BYTES, &SECOND_LOG_BYTES)?;
@@ -302,6 +337,85 @@ fn stores_without_a_number_left_are_refused(rt: HostRuntime) -> Result<(), Fail>
     Ok(())
 }
 
+/// What was written before there were tags: a store of one log, or of two.
+fn old_store(alloc: Global, log: &[u8], is_second: bool) -> Result<Vec<(Name, Vec<u8>)>, Fail>
+    ensures { IfOk result (λ files. All (λ file. IsNumbered file.0) files.items) }
+{
+    if !is_second {
+        return store(alloc, &OLD_MANIFEST, log);
+    }
+    let files = with(
+        alloc,
+        Vec::new(alloc),
+        Name::Manifest(2),
+        &OLD_SECOND_MANIFEST,
+    )?;
+    let files = with(alloc, files, Name::Log(1), log)?;
+    with(alloc, files, Name::Log(2), &OLD_SECOND_LOG)
+}
+
+/// What a view over the disk prints of the three keys, and its status.
+fn shown(alloc: Global, disk: MemDisk) -> Result<(u8, Vec<u8>, MemDisk), Fail> {
+    outcome_over(
+        alloc,
+        &plain("view v\ngetb v 61\ngetb v 62\ngetb v 63\n", "", 0),
+        disk,
+    )
+}
+
+#[test]
+fn a_store_of_format_1_shows_the_same_whenever_its_opening_stops(
+    rt: HostRuntime,
+) -> Result<(), Fail> {
+    let alloc = rt.alloc();
+    // The first log, whether there is a second, how many changing calls an opening makes, and what the keys have.
+    let stores: [(&[u8], bool, u64, &str); 4] = [
+        (&OLD_LOG, false, 8, "ok 2\nnone\nA\nvalue - byte 0\n"),
+        (
+            &OLD_LOG[..160],
+            false,
+            9,
+            "ok 1\nvalue 01 byte 0\nA\nnone\n",
+        ),
+        (&OLD_LOG[..100], false, 7, "ok 0\nnone\nnone\nnone\n"),
+        (
+            &OLD_LOG,
+            true,
+            8,
+            "ok 3\nvalue 02 byte 0\nA\nvalue - byte 0\n",
+        ),
+    ];
+    let long =
+        "value aaaaaaaaaaaaaaaaaaaaaaaaaaaaaaaaaaaaaaaaaaaaaaaaaaaaaaaaaaaaaaaaaaaaaaaaaaaaaaaaaaaaaaaaaaaaaaaaaaaaaaaaaaaaaaaaaaaaaaaaaaaaaaaaaa byte 0";
+    for (log, is_second, calls, rows) in stores {
+        let wanted = rows.replace(alloc, "A", long)?;
+        for stop in 0..=calls {
+            for outcome in [Outcome::Lost, Outcome::Kept, Outcome::Halved] {
+                let mut disk = started(alloc, old_store(alloc, log, is_second)?, &[])?;
+                disk.stop_after(stop);
+                let (status, printed, disk) = shown(alloc, disk)?;
+                if stop < calls {
+                    assert!(rt;
+                        status == 3 && printed.as_slice() == b"disk fault\n".as_slice(),
+                        "{stop}"
+                    );
+                } else {
+                    assert!(rt;
+                        status == 0 && printed.as_slice() == wanted.as_bytes(),
+                        "{stop}"
+                    );
+                }
+                let (status, printed, _) = shown(alloc, disk.crash(outcome)?)?;
+                assert!(rt;
+                    status == 0 && printed.as_slice() == wanted.as_bytes(),
+                    "{stop}"
+                );
+            }
+        }
+    }
+    Ok(())
+}
+
 #[test]
 fn a_store_is_opened_again_after_faults(rt: HostRuntime) -> Result<(), Fail> {
     let alloc = rt.alloc();
@@ -309,7 +423,7 @@ fn a_store_is_opened_again_after_faults(rt: HostRuntime) -> Result<(), Fail> {
     let stores: [(&[u8], u64, &str); 4] = [
         (&LOG_BYTES, 8, "ok 1\nvalue 01\n"),
         (&MOVED_LOG_BYTES, 8, "ok 1\nvalue 01\n"),
-        (&LOG_BYTES[..49], 6, "ok 0\nnone\n"),
+        (&LOG_BYTES[..50], 6, "ok 0\nnone\n"),
         // The header of another log is none.
         (&SECOND_LOG_BYTES, 7, "ok 0\nnone\n"),
     ];

@@ -1,11 +1,13 @@
 -- What is found.
 pub mod Composing
-pub mod CountingOn
+pub mod Contents
 pub mod Decided
 pub mod Filling
 pub mod Looking
 pub mod Naming
 pub mod Numbers
+pub mod OneLog
 pub mod ReadingLogs
 pub mod Rows
+pub mod SortedOnce
 pub mod Unmoved

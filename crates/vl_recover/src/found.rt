@@ -1,6 +1,7 @@
 use crate::FrozenLog;
 use vl_disk::Name;
 use vl_manifest::ManifestState;
+use vl_model::Entry;
 
 /// The greatest number of each kind of file that stands, 0 where none does.
 #[derive(Clone, Copy, Debug, Drop)]
@@ -16,9 +17,9 @@ pub(crate) struct LastLog {
     pub number: u32,
     /// Of its file, in bytes.
     pub length: u64,
-    /// Whether its header is right.
+    /// Whether it keeps its header: this is right, and in the format that is written, or has frames behind it.
     pub header: bool,
-    /// Where its content ends, in bytes: 0 without a header.
+    /// Where its content ends, in bytes: 0 without a right header.
     pub end: u64,
     pub has_frames: bool,
 }
@@ -37,6 +38,30 @@ pub(crate) struct Findings {
     pub last: Option<LastLog>,
     /// The files that aren't needed behind the opening: manifests, tables, and logs below head.
     pub strays: Vec<Name>,
+}
+
+/// What stands behind a log's header.
+#[derive(Drop)]
+pub(crate) struct Content {
+    /// Where it ends, in bytes: 0 without a right header.
+    pub end: u64,
+    /// The number of the last commit, by the one before the log; or the place of the first frame that has another
+    /// number than the next.
+    pub count: Result<u64, u64>,
+    pub has_frames: bool,
+    /// Those of all records, the first one's first, but of each frame the last one's first.
+    pub entries: Vec<Entry>,
+}
+
+/// A log that was read.
+#[derive(Drop)]
+pub(crate) struct LogFound {
+    pub number: u32,
+    /// Of its file, in bytes.
+    pub length: u64,
+    /// The one in its header. None where that isn't right.
+    pub format: Option<u32>,
+    pub content: Content,
 }
 
 /// Where a log is damaged: its number, and the place in bytes.

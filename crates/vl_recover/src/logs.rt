@@ -1,5 +1,5 @@
 // The logs of a store, from head on.
-ghost use Rattle.std.specs.Prelude.{◌≡◌, ◌++◌, ◌∷◌, [], ◌<◌, ℕ, length, map, All, Some, Contains, IfErr, IfOk, IfSome};
+ghost use Rattle.std.specs.Prelude.{◌≡◌, ◌++◌, ◌∷◌, [], List, map, All, Some, Contains, IfErr, IfOk, IfSome};
 ghost use Rattle.std.specs.Option.{ForSome};
 ghost use Rattle.vl_disk.specs.Calls.{ChangesNothing};
 ghost use Rattle.vl_disk.specs.Crash.{Image};
@@ -8,24 +8,25 @@ ghost use Rattle.vl_disk.specs.DiskState.{DiskState};
 ghost use Rattle.vl_disk.specs.Name.{IsNumbered};
 ghost use Rattle.vl_disk.specs.Started.{IsRead};
 ghost use Rattle.vl_disk.specs.declared.name.Name.TheVariants as kinds;
-ghost use Rattle.vl_layout.specs.Logs.{new_segment};
-ghost use Rattle.vl_recover.specs.opening.Answers.{held_log};
+ghost use Rattle.vl_model.specs.declared.log_frame.LogFrame.{LogFrame};
 ghost use Rattle.vl_recover.specs.opening.Counting.{walked_log};
 ghost use Rattle.vl_recover.specs.opening.Finding.{IsExcused, IsFault, IsFaultAt};
-ghost use Rattle.vl_recover.specs.opening.LogsSoFar.{AreLogsFound, FindsOneMore, HasOneMore, walk_of};
+ghost use Rattle.vl_recover.specs.opening.LogsSoFar.{AreLogsFound, FindsOneMore, HasOneMore, number_before, walk_of};
 ghost use Rattle.vl_recover.specs.opening.Named.{AreRising, IsGreatestIn};
-ghost use Rattle.vl_recover.specs.opening.ReadLogs.{IsLogRead, frames_of, standing_log};
+ghost use Rattle.vl_recover.specs.opening.ReadLogs.{IsReadAs, held_content, standing_log};
 ghost use Rattle.vl_recover.specs.opening.Results.{frozen_log};
+ghost use Rattle.vl_recover.specs.opening.Walk as walk;
+ghost use Rattle.vl_seglog.specs.LogReading.{LogReading};
 
-use crate::counting::count_log;
-use crate::found::{DamagePlace, LastLog, LogsFound};
+use crate::counting::count_end;
+use crate::found::{Content, DamagePlace, LastLog, LogFound, LogsFound};
 use crate::memtables::memtable_of;
 use crate::names::log_from;
-use crate::reading::read_whole;
+use crate::one_log::read_log;
 use crate::{FrozenLog, OpenError};
 use std::alloc::{AllocError, Global};
 use vl_disk::{Disk, Name};
-use vl_seglog::{LogRead, read_log};
+use vl_model::LOG_FORMAT;
 
 /// Reads the logs from head on, each once, also behind a damage. The names are in order, and the greatest log has this
 /// number. The commits before the logs have numbers up to `covered`.
@@ -64,7 +65,7 @@ pub fn read_logs<D: Disk>(
     Ok(so_far)
 }
 
-// With the log of this number more, which another follows or not. Its bytes go as soon as they are read.
+// With the log of this number more, which another follows or not.
 fn with_next<D: Disk>(
     alloc: Global,
     disk: &mut D,
@@ -80,56 +81,63 @@ fn with_next<D: Disk>(
     ensures at { IfErr result (IsFaultAt (D.told disk.old)) }
     ensures no_change { ChangesNothing D.Watched disk.old disk.new (IsFault result) }
 {
-    let bytes = read_whole(alloc, disk, Name::Log(number))?;
-    let length = bytes.len() as u64;
-    let log = read_log(alloc, &bytes, number)?;
-    drop(bytes);
-    Ok(with_log(alloc, so_far, length, &log, followed)?)
+    let log = read_log(alloc, disk, number, last_before(so_far.number))?;
+    Ok(with_log(alloc, so_far, log, followed)?)
 }
 
-// With a log more, which has this length in bytes.
+// The number of the last commit so far. Behind a damage it doesn't matter any more.
+fn last_before(number: Result<u64, DamagePlace>) -> u64
+    ensures { result ≡ number_before number }
+{
+    match number {
+        Ok(before) => before,
+        Err(_) => 0,
+    }
+}
+
+// With a log more.
 fn with_log(
     alloc: Global,
     so_far: LogsFound,
-    length: u64,
-    log: &LogRead,
+    log: LogFound,
     followed: bool,
 ) -> Result<LogsFound, AllocError>
-    requires { IsLogRead log.now }
-    ensures { IfOk result (HasOneMore (standing_log length log.now) followed so_far) }
+    ensures one_more { (reading : LogReading) → IsReadAs (number_before so_far.number) reading log
+        → IfOk result (HasOneMore (standing_log log reading) followed so_far) }
+    ensures number { IfOk result (λ logs. IfSome logs.last (λ q. q.number ≡ log.number)) }
 {
-    let count = count_on(so_far.number, log, followed);
-    let has_frames = !log.frames.is_empty();
-    let frozen = if has_frames {
-        with_frozen(alloc, so_far.frozen, log)?
+    let number = number_with(so_far.number, &log, followed);
+    let last = LastLog {
+        number: log.number,
+        length: log.length,
+        header: keeps_header(log.format, log.content.has_frames),
+        end: log.content.end,
+        has_frames: log.content.has_frames,
+    };
+    let frozen = if log.content.has_frames {
+        with_frozen(alloc, so_far.frozen, log.number, log.content)?
     } else {
         so_far.frozen
     };
     Ok(LogsFound {
-        number: count,
+        number,
         frozen,
-        last: Some(LastLog {
-            number: log.number,
-            length,
-            header: log.header,
-            end: log.end,
-            has_frames,
-        }),
+        last: Some(last),
     })
 }
 
-// The number of the last commit, or the first damage, with one log more.
-fn count_on(
+// The number of the last commit, or the first damage, with a log more.
+fn number_with(
     so_far: Result<u64, DamagePlace>,
-    log: &LogRead,
+    log: &LogFound,
     followed: bool,
 ) -> Result<u64, DamagePlace>
-    requires { IsLogRead log.now }
-    ensures { (length : ℕ) → walk_of result ≡
-        walked_log followed (walk_of so_far) (standing_log length log.now) }
+    ensures { (reading : LogReading) → IsReadAs (number_before so_far) reading log.now
+        → walk_of result ≡ walked_log followed (walk_of so_far) (standing_log log.now reading) }
 {
-    let before = so_far?;
-    match count_log(before, log, followed) {
+    so_far?;
+    let whole = log.format.is_some() && log.content.end == log.length;
+    match count_end(log.content.count, log.content.end, whole, followed) {
         Ok(last) => Ok(last),
         Err(place) => Err(DamagePlace {
             log: log.number,
@@ -138,22 +146,31 @@ fn count_on(
     }
 }
 
+// Whether a last log keeps its header.
+fn keeps_header(format: Option<u32>, has_frames: bool) -> bool
+    ensures { (frames : List LogFrame) → has_frames ≡ walk.has_some frames → result ≡ walk.keeps_header format frames }
+{
+    match format {
+        Some(format) => format == LOG_FORMAT || has_frames,
+        None => false,
+    }
+}
+
 // The logs with frames, with one more.
 fn with_frozen(
     alloc: Global,
     frozen: Vec<FrozenLog>,
-    log: &LogRead,
+    number: u32,
+    content: Content,
 ) -> Result<Vec<FrozenLog>, AllocError>
-    requires read { IsLogRead log.now }
-    requires some { 0 < length log.now.frames.items }
     ensures { IfOk result (λ with. map frozen_log with.items ≡
-        map frozen_log frozen.items ++ held_log (new_segment log.now.number (frames_of log.now.frames.items)) ∷ []) }
+        map frozen_log frozen.items ++ held_content number content ∷ []) }
 {
     let mut with = frozen;
-    let memtable = memtable_of(alloc, log)?;
+    let memtable = memtable_of(alloc, content.entries)?;
     with.push(FrozenLog {
-        number: log.number,
-        length: log.end,
+        number,
+        length: content.end,
         memtable: memtable.freeze(),
     })?;
     Ok(with)

@@ -6,10 +6,10 @@ use Rattle.std.specs.Option.{option_map}
 use Rattle.vl_model.specs.History.{last_number, value_at}
 use Rattle.vl_model.specs.Reads.{Read, IsExplained}
 use Rattle.vl_model.specs.Keys.{Writes, is_key_length}
-use Rattle.vl_replay.specs.Sequential.{State, answer_to, state_after, OpenTransaction, OpenView, found}
+use Rattle.vl_replay.specs.Sequential.{State, answer_to, state_after, OpenTransaction, OpenView, found, with_tag}
 use Rattle.vl_script.specs.Script.{line_of, text_of}
 use Rattle.vl_script.specs.declared.line.Line.{Line}
-use Rattle.vl_script.specs.declared.line.Line.TheVariants.{Begin, View, Get, Set, Delete, Commit, Drop}
+use Rattle.vl_script.specs.declared.line.Line.TheVariants.{Begin, View, Get, Set, SetTagged, GetTagged, Delete, Commit, Drop}
 use Rattle.vl_script.specs.declared.answer.Answer.{Answer}
 use Rattle.vl_script.specs.declared.answer.Answer.TheVariants.{Number, Invalid}
 
@@ -74,6 +74,10 @@ IsExplainedExchange (View name) e = Unit {0}
 IsExplainedExchange (Get name key) e =
     (number : ℕ) → get e.before.handles name ≡ Some (OpenView number)
     → e.answer ≡ (if is_key_length (length key) then found (value_at e.before.history number key) else Invalid)
+IsExplainedExchange (GetTagged name key) e =
+    (number : ℕ) → get e.before.handles name ≡ Some (OpenView number)
+    → e.answer ≡ with_tag (if is_key_length (length key) then found (value_at e.before.history number key) else Invalid)
+IsExplainedExchange (SetTagged name key value tag) e = Unit {0}
 IsExplainedExchange (Set name key value) e = Unit {0}
 IsExplainedExchange (Delete name key) e = Unit {0}
 IsExplainedExchange (Commit name) e =

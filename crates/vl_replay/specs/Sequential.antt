@@ -2,7 +2,8 @@
 -- Nothing here knows of memtables or tables. Of the log and the disk it counts only bytes and changing calls.
 use Rattle.std.specs.Prelude.{◌+◌, ℕ, Bool, not, ◌&&◌, ◌==◌, nat_le, if◌then◌else◌, List, [], ◌∷◌, ◌++◌, length, Option, Some, None}
 use Rattle.std.specs.FinMap.{FinMap, get, insert, remove, contains_key, len, empty}
-use Rattle.vl_model.specs.Keys.{Stored, Writes, key_cmp, value_bytes, is_key_length, is_value_length}
+use Rattle.vl_model.specs.Formats.{log_format}
+use Rattle.vl_model.specs.Keys.{Stored, Writes, key_cmp, value_bytes, is_key_length, is_value_length, tagged, untagged}
 use Rattle.vl_model.specs.History.{History, last_number, with_commit, value_at, value_left}
 use Rattle.vl_model.specs.Reads.{Read, KeyRead}
 use Rattle.vl_model.specs.declared.change.Change.{Change}
@@ -14,9 +15,9 @@ use Rattle.vl_seglog.specs.Commit.{commit_length}
 use Rattle.vl_seglog.specs.declared.active.ActiveLog.{ActiveLog}
 pub use Rattle.vl_txn.specs.Refusals.{fits_transaction, write_bytes}
 use Rattle.vl_script.specs.declared.line.Line.{Line}
-use Rattle.vl_script.specs.declared.line.Line.TheVariants.{Begin, View, Get, Set, Delete as DeleteLine, Commit, Drop}
+use Rattle.vl_script.specs.declared.line.Line.TheVariants.{Begin, View, Get, Set, SetTagged, GetTagged, Delete as DeleteLine, Commit, Drop}
 use Rattle.vl_script.specs.declared.answer.Answer.{Answer}
-use Rattle.vl_script.specs.declared.answer.Answer.TheVariants.{Done, Number, Found, NoValue, Taken, Unknown, ReadOnly, Invalid, TooBig, TooMany, Nothing, Full, Exhausted}
+use Rattle.vl_script.specs.declared.answer.Answer.TheVariants.{Done, Number, Found, FoundTagged, NoValue, Taken, Unknown, ReadOnly, Invalid, TooBig, TooMany, Nothing, Full, Exhausted}
 
 -- what a name in use stands for: a transaction, with the last commit's number at its begin, what it has read
 -- and what it has written; or a view, with that number
@@ -75,10 +76,18 @@ read s name key (Some (OpenView number)) =
 read s name key (Some (OpenTransaction number reads writes)) =
     if is_key_length (length key) then read_in_transaction s name key number reads writes (get writes key) else (Invalid, s)
 
+-- the answer to a read, with the value's tag
+abbrev pub with_tag : Answer → Answer
+with_tag (Found value) = FoundTagged value
+with_tag answer = answer
+
+abbrev pub read_tagged : Outcome → Outcome
+read_tagged outcome = (with_tag outcome.0, outcome.1)
+
 -- a key and what is written to it are within their limits
 abbrev pub is_lawful_write : List ℕ → Change → Bool
 is_lawful_write key change =
-    is_key_length (length key) && is_value_length (length (value_bytes change))
+    is_key_length (length key) && is_value_length log_format (length (value_bytes change))
 
 -- set and del: one write in the place of an earlier one of its key
 abbrev pub written : State → List ℕ → List ℕ → Change → Option Handle → Outcome
@@ -123,7 +132,9 @@ abbrev pub outcome : State → Line → Outcome
 outcome s (Begin name) = opened s name (OpenTransaction (last_number s.history) [] empty)
 outcome s (View name) = opened s name (OpenView (last_number s.history))
 outcome s (Get name key) = read s name key (get s.handles name)
-outcome s (Set name key value) = written s name key (Put value) (get s.handles name)
+outcome s (Set name key value) = written s name key (Put (untagged value)) (get s.handles name)
+outcome s (GetTagged name key) = read_tagged (read s name key (get s.handles name))
+outcome s (SetTagged name key value tag) = written s name key (Put (tagged value tag)) (get s.handles name)
 outcome s (DeleteLine name key) = written s name key Delete (get s.handles name)
 outcome s (Commit name) = committed s name (get s.handles name)
 outcome s (Drop name) = dropped s name (get s.handles name)

@@ -1,6 +1,7 @@
 -- How far a commit came on a disk that then failed, and failed cleanly. And the numbers that a disk's files have.
 use Rattle.std.specs.Prelude.{◌≡◌, ◌≢◌, ◌≤◌, ℕ, ◌+◌, Bool, true, false, List, length, None}
 use Rattle.std.specs.FinMap.{get}
+use Rattle.vl_model.specs.Formats.{log_format}
 use Rattle.vl_disk.specs.DiskState.{DiskState, appended}
 use Rattle.vl_disk.specs.Name.{file_number}
 use Rattle.vl_disk.specs.declared.name.Name.{Name}
@@ -22,9 +23,9 @@ pub record Commits (holds : Holding) (before after : State) : Type 0 where
   pub held : holds before old
   -- the frame is that of one item, at the end of the log that takes commits,
   pub item : LogFrame
-  pub has : HasFrame frames_grammar item
+  pub has : HasFrame (frames_grammar log_format) item
   pub frame : List ℕ
-  pub frame_is : frame ≡ frame_at before.log.number before.log.length item
+  pub frame_is : frame ≡ frame_at log_format before.log.number before.log.length item
   -- and once it is written the disk holds the state after
   pub done : holds after (written (Log before.log.number) frame old)
 

@@ -1,5 +1,6 @@
 -- What a disk holds of a state, and what an image shows of a history, for a store without tables.
 use Rattle.std.specs.Prelude.{◌≡◌, ℕ, List, [], ◌∷◌, ◌++◌, None, Ok}
+use Rattle.vl_model.specs.Formats.{log_format}
 use Rattle.vl_disk.specs.Crash.{Image}
 use Rattle.vl_disk.specs.DiskState.{DiskState, IsLawful}
 use Rattle.vl_layout.specs.Logs.{log_length, memtable, new_segment}
@@ -39,7 +40,7 @@ pub record Shown (image : Image) (h : History) (m : ℕ) : Type 0 where
 
 -- the logs that take no more commits, and behind them the one with these frames that does
 abbrev pub logs_of : State → List Segment → List LogFrame → List Segment
-logs_of s frozen frames = frozen ++ new_segment s.log.number frames ∷ []
+logs_of s frozen frames = frozen ++ new_segment log_format s.log.number frames ∷ []
 
 -- The disk holds the state: a manifest and logs, all of them durable, of which the last takes commits; the commits in
 -- them end with the history's last one, and they show the history there.
@@ -50,7 +51,7 @@ pub record IsStored (s : State) (disk : DiskState) : Type 0 where
   pub holds : HoldsStore manifest (logs_of s frozen frames) disk
   pub numbers : GoOn manifest.covered (logs_of s frozen frames) (last_number s.history)
   pub shows : LogsShow (logs_of s frozen frames) s.history (last_number s.history)
-  pub length_is : s.log.length ≡ log_length frames
+  pub length_is : s.log.length ≡ log_length log_format frames
   -- it is lawful, as whatever a disk tells;
   pub lawful : IsLawful disk
   -- no file passes the number that the state has for that,

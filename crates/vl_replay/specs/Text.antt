@@ -7,7 +7,7 @@ use Rattle.vl_script.specs.Script.{bytes_text}
 
 -- a key and its value, with a space between them, as a line
 abbrev pub row_text : Row → List ℕ
-row_text row = bytes_text row.0 ++ (32 ∷ []) ++ bytes_text row.1 ++ (10 ∷ [])
+row_text row = bytes_text row.0 ++ (32 ∷ []) ++ bytes_text row.1.bytes ++ (10 ∷ [])
 
 -- a line for each row
 abbrev pub rows_text : List Row → List ℕ

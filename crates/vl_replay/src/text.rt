@@ -35,12 +35,12 @@ fn push_count(text: &mut Vec<u8>, front: &[u8], number: u64) -> Result<(), Alloc
     Ok(())
 }
 
-fn push_row(alloc: Global, text: &mut Vec<u8>, key: &Bytes, value: &Bytes) -> Result<(), AllocError>
+fn push_row(alloc: Global, text: &mut Vec<u8>, key: &Key, value: &Value) -> Result<(), AllocError>
     ensures { OnOk result (text.new.items ≡ text.old.items ++ row_text (key.now, value.now)) }
 {
     push_bytes(alloc, text, key)?;
     text.push(b' ')?;
-    push_bytes(alloc, text, value)?;
+    push_bytes(alloc, text, &value.bytes)?;
     text.push(b'\n')?;
     Ok(())
 }

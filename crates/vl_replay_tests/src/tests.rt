@@ -27,9 +27,10 @@ const RUNS: &str = "\
     replay .|||begin a;get a -;del a -;commit a;commit a;|ok 0;invalid;invalid;nothing;unknown a;|0\n\
     replay .|||begin t;set t 61 01;commit t;begin a;set a 62 02;del a 61;get a 61;commit a;view v;get v 61;get v 62;|ok 0;ok;ok 1;ok 1;ok;ok;none;ok 2;ok 2;none;value 02;|0\n\
     replay .|||begin t;del t 61;commit t;begin t;del t 61;set t 61 02;get t 61;|ok 0;ok;ok 1;ok 1;ok;ok;value 02;|0\n\
+    replay .|||begin a;setb a 61 aa 7;getb a 61;get a 61;set a 62 -;getb a 62;getb a 63;commit a;view b;getb b 61;getb b -;setb b 61 01 0;getb q 61;setb q 61 01 0;|ok 0;ok;value aa byte 7;value aa;ok;value - byte 0;none;ok 1;ok 1;value aa byte 7;invalid;readonly;unknown q;unknown q;|0\n\
     replay .|||begin a;drop a;get a 61;view a;drop a;begin a;drop b;|ok 0;ok;unknown a;ok 0;ok;ok 0;unknown b;|0\n\
     replay .|||begin a;set a *4096* 01;get a *4096*;del a *4096*;set a *4097* 01;get a *4097*;del a *4097*;|ok 0;ok;value 01;ok;invalid;invalid;invalid;|0\n\
-    replay .|||begin a;set a 61 *1048577*;set a 61 *1048576*;set a 62 *1048576*;set a 63 *1048576*;set a 64 *1048572*;del a 65;set a 64 01;del a 65;|ok 0;invalid;ok;ok;ok;ok;toobig;ok;ok;|0\n\
+    replay .|||begin a;set a 61 *8388609*;set a 61 *8388608*;set a 62 *8388605*;del a 63;del a 64;set a 62 01;del a 64;|ok 0;invalid;ok;ok;ok;toobig;ok;ok;|0\n\
     replay .|3||begin a;get a 61|ok 0;none;|0\n\
     replay .|2||begin a;get a 61|ok 0;read fault;|6\n\
     replay .||2|begin a;get a 61;|ok 0;|7\n\
@@ -75,7 +76,7 @@ const USAGE: &str =
 /// Texts that are no line, between the bars.
 const NO_LINES: &str =
     " |begin|begin |begin  a| begin a|begin a |begin a b|begin A|begin a_b|begin 123456789abcdefgh|Begin a\
-    |begi a|get a|get - -|get a 6|get a 6g|get a |get a 61 62|set a 61|set a 61 01 02|set a 61 01\r|del a\
+    |begi a|get a|get - -|get a 6|get a 6g|get a |get a 61 62|set a 61|set a 61 01 02|set a 61 01\r|setb a 61 01|setb a 61 01 256|setb a 61 01 07|setb a 61 01 +7|setb a 61 01 7 |getb a|getb a 61 7|del a\
     |del a |del a 61 62|del a 6|delete a 61|drop|drop a b|drop A";
 
 /// The text that stands for these bytes in a table.

@@ -1,2 +1,3 @@
 mod Along
 mod MergeSteps
+mod Spans

@@ -1,16 +1,25 @@
 -- What a look-up in entries in order finds: the first at or behind a place, and what that is of a key or a version.
-use Rattle.std.specs.Prelude.{◌≡◌, ℕ, Bool, true, cond, List, [], ◌∷◌, Option, Some, None}
+use Rattle.std.specs.Prelude.{◌≡◌, ℕ, Bool, true, cond, not, List, [], ◌∷◌, Option, Some, None}
 use Rattle.std.specs.List.{AllByRecursion}
 use Rattle.std.specs.Ordering.{is_gt, eq_by_cmp}
 use Rattle.vl_model.specs.Keys.{key_cmp}
 use Rattle.vl_model.specs.Entries.{entry_cmp, is_at}
+use Rattle.vl_model.specs.Reads.{is_from, is_up_to}
 use Rattle.vl_model.specs.Winners.{only_if}
 use Rattle.vl_model.specs.declared.entry.Entry.{Entry}
+use Rattle.vl_model.specs.declared.span.Span.{Span}
 use Rattle.vl_run.specs.Order.{place_of}
 
 -- the entry comes before the place of the key and version
 abbrev pub is_ahead : List ℕ → ℕ → Entry → Bool
 is_ahead key version e = is_gt (entry_cmp (place_of key version) e)
+
+-- the entry's key is below an interval, and it isn't above it
+abbrev pub is_short_of : Span → Entry → Bool
+is_short_of span e = not (is_from span.lo e.key)
+
+abbrev pub is_not_past : Span → Entry → Bool
+is_not_past span e = is_up_to span.hi span.closed e.key
 
 -- what the first entry at or behind the place is of a key's winner, and of a key and version
 abbrev pub if_of_key : List ℕ → Option Entry → Option Entry

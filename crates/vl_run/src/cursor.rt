@@ -1,28 +1,33 @@
-ghost use Rattle.std.specs.Prelude.{◌≡◌};
-ghost use Rattle.vl_run.specs.Order.{along};
+ghost use Rattle.std.specs.Prelude.{◌≡◌, ◌≤◌, length};
+ghost use Rattle.vl_run.specs.Order.{along, between};
 
 use crate::Run;
 use std::alloc::AllocError;
 use std::marker::Model;
 use vl_model::{Cursor, Entry, Way};
 
-/// The entries of a run, one after the other. Each that it gives shares its bytes with the run's.
+/// Entries of a run, one after the other. Each that it gives shares its bytes with the run's.
 /// Clauses see the entries that are left.
 #[derive(Drop)]
 pub struct RunCursor {
     run: Run,
     way: Way,
+    // It goes over the entries from `first` on and before `end`, of which so many were given.
+    first: usize,
+    end: usize,
     given: usize,
 }
 
 impl Model for RunCursor {
-    ghost use Rattle.std.specs.Prelude.{List, drop};
+    ghost use Rattle.std.specs.Prelude.{List, ◌≤◌, drop, length};
     ghost use Rattle.vl_model.specs.declared.entry.Entry.{Entry};
-    ghost use Rattle.vl_run.specs.Order.{along};
+    ghost use Rattle.vl_run.specs.Order.{along, between};
 
     ghost Value = { List Entry };
 
-    ghost view = { λ c. drop c.given (along c.way c.run) };
+    ghost view = { λ c. drop c.given (along c.way (between c.first c.end c.run)) };
+
+    ghost invariant = { λ c. (c.first ≤ c.end) × (c.end ≤ length c.run) };
 }
 
 impl Cursor for RunCursor {
@@ -43,7 +48,7 @@ impl Cursor for RunCursor {
     ghost may_fail = { λ _ _. Unit {0} };
 
     fn next(&mut self, _: &mut ()) -> Result<Option<Entry>, AllocError> {
-        let entries = self.run.as_slice();
+        let entries = part(&self.run, self.first, self.end);
         if self.given >= entries.len() {
             return Ok(None);
         }
@@ -58,10 +63,25 @@ impl Cursor for RunCursor {
 }
 
 impl RunCursor {
-    /// A cursor over all entries of a run.
-    pub fn new(run: Run, way: Way) -> Self
-        ensures { result ≡ along way run }
+    /// A cursor over the entries of a run from an index on and before another.
+    pub fn between(run: Run, first: usize, end: usize, way: Way) -> Self
+        requires { (first ≤ end) × (end ≤ length run) }
+        ensures { result ≡ along way (between first end run) }
     {
-        RunCursor { run, way, given: 0 }
+        RunCursor {
+            run,
+            way,
+            first,
+            end,
+            given: 0,
+        }
     }
+}
+
+// The entries of a run from an index on and before another.
+fn part(run: &Run, first: usize, end: usize) -> &[Entry]
+    requires { (first ≤ end) × (end ≤ length run.now) }
+    ensures { result.now ≡ between first end run.now }
+{
+    &run.as_slice()[first..end]
 }

@@ -3,15 +3,16 @@ ghost use Rattle.std.specs.List.{prefix_len};
 ghost use Rattle.std.specs.Option.{option_copied};
 ghost use Rattle.vl_model.specs.Entries.{in_order};
 ghost use Rattle.vl_model.specs.Winners.{winner, exact};
-ghost use Rattle.vl_run.specs.Order.{IsInOrder, along};
-ghost use Rattle.vl_run.specs.Lookups.{is_ahead, first_failing};
+ghost use Rattle.vl_model.specs.Reads.{is_from, is_up_to};
+ghost use Rattle.vl_run.specs.Order.{IsInOrder, along, within};
+ghost use Rattle.vl_run.specs.Lookups.{is_ahead, first_failing, is_not_past, is_short_of};
 
 use crate::RunCursor;
 use crate::merged::merged;
 use std::alloc::{AllocError, Global};
 use std::marker::Model;
 use std::sync::ArcSlice;
-use vl_model::{Entry, Place, Way, place_order};
+use vl_model::{Entry, Place, Span, Way, place_order};
 
 /// Entries that don't change, in order, with no key and version twice. Several may share them.
 #[derive(Drop)]
@@ -104,7 +105,19 @@ impl Run {
     pub fn cursor(&self, way: Way) -> Result<RunCursor, AllocError>
         ensures { IfOk result (λ cursor. cursor ≡ along way self.now) }
     {
-        Ok(RunCursor::new(self.share()?, way))
+        let end = self.len();
+        Ok(RunCursor::between(self.share()?, 0, end, way))
+    }
+
+    /// A cursor over the entries whose keys are in an interval, which shares them. Both of its ends are
+    /// found by halving. It may want memory.
+    pub fn cursor_within(&self, span: &Span, way: Way) -> Result<RunCursor, AllocError>
+        ensures { IfOk result (λ cursor. cursor ≡ along way (within span.now self.now)) }
+    {
+        let entries = self.as_slice();
+        let end = end_of(entries, span);
+        let first = start_of(entries, span).min(end);
+        Ok(RunCursor::between(self.share()?, first, end, way))
     }
 
     // The first entry that doesn't come before the place of a key and version.
@@ -114,6 +127,41 @@ impl Run {
     {
         let entries = self.as_slice();
         entries.get(place(entries, key, version))
+    }
+}
+
+// How many of the entries have keys below an interval.
+fn start_of(entries: &[Entry], span: &Span) -> usize
+    requires { IsInOrder entries.now }
+    ensures { result ≡ prefix_len (is_short_of span.now) entries.now }
+{
+    entries.partition_point(|entry| !is_from(span, entry.key.as_slice()))
+}
+
+// How many of them have keys that aren't above it.
+fn end_of(entries: &[Entry], span: &Span) -> usize
+    requires { IsInOrder entries.now }
+    ensures { result ≡ prefix_len (is_not_past span.now) entries.now }
+{
+    entries.partition_point(|entry| is_up_to(span, entry.key.as_slice()))
+}
+
+fn is_from(span: &Span, key: &[u8]) -> bool
+    ensures { result ≡ is_from span.now.lo key.now }
+{
+    match &span.lo {
+        Some(low) => !key.cmp(&low.as_slice()).is_lt(),
+        None => true,
+    }
+}
+
+fn is_up_to(span: &Span, key: &[u8]) -> bool
+    ensures { result ≡ is_up_to span.now.hi span.now.closed key.now }
+{
+    match &span.hi {
+        Some(high) if span.closed => !high.as_slice().cmp(&key).is_lt(),
+        Some(high) => key.cmp(&high.as_slice()).is_lt(),
+        None => true,
     }
 }
 

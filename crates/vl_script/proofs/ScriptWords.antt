@@ -6,7 +6,7 @@ use Rattle.std.specs.List.{onto_first, position, position_or_len}
 use Rattle.std.proofs.lemmas.List.Splits.{slice_split_none, slice_split_first}
 use Rattle.std.proofs.lemmas.List.Sums.{fails_before_first}
 use Rattle.std.proofs.lemmas.Bool.Decides.{nat_tests}
-use Rattle.vl_script.specs.Script.{words_of, ident_alone, ident_and_key, set_of}
+use Rattle.vl_script.specs.Script.{words_of, ident_alone, ident_and_key, set_of, set_tagged_of}
 
 passed_end : (first end : ℕ) → cond (ltb first end) (Some first) None ≡ None → end ≤ first
 passed_end first end e = grind (arith, nat_tests)
@@ -55,3 +55,7 @@ ident_and_key_of_more name key rest e = rw (words_behind_begins rest e).2 refl
 -- nor behind the three that set wants
 pub set_of_more : (name key value : List ℕ) (rest : Option (Bor (List ℕ))) → is_some rest ≡ true → set_of (name ∷ key ∷ value ∷ words_behind rest) ≡ None
 set_of_more name key value rest e = rw (words_behind_begins rest e).2 refl
+
+-- nor behind the four that setb wants
+pub set_tagged_of_more : (name key value tag : List ℕ) (rest : Option (Bor (List ℕ))) → is_some rest ≡ true → set_tagged_of (name ∷ key ∷ value ∷ tag ∷ words_behind rest) ≡ None
+set_tagged_of_more name key value tag rest e = rw (words_behind_begins rest e).2 refl

@@ -8,14 +8,15 @@ use Rattle.hex.specs.Hex.{decode_of, encode_lower}
 use Rattle.hex.specs.declared.error.FromHexError.{FromHexError}
 use Rattle.vl_model.specs.declared.counter.Counter.{Counter}
 use Rattle.vl_model.specs.declared.counter.Counter.TheVariants.{Commit as CommitNumber, Log, Table, Manifest, Version}
+use Rattle.vl_script.specs.Numbers.{number_of}
 use Rattle.vl_script.specs.declared.line.Line.{Line}
-use Rattle.vl_script.specs.declared.line.Line.TheVariants.{Begin, View, Get, Set, Delete, Commit, Drop}
+use Rattle.vl_script.specs.declared.line.Line.TheVariants.{Begin, View, Get, Set, SetTagged, GetTagged, Delete, Commit, Drop}
 use Rattle.vl_script.specs.declared.answer.Answer.{Answer}
-use Rattle.vl_script.specs.declared.answer.Answer.TheVariants.{Done, Number, Found, NoValue, Taken, Unknown, ReadOnly, Invalid, TooBig, TooMany, Nothing, Full, Exhausted}
+use Rattle.vl_script.specs.declared.answer.Answer.TheVariants.{Done, Number, Found, FoundTagged, NoValue, Taken, Unknown, ReadOnly, Invalid, TooBig, TooMany, Nothing, Full, Exhausted}
 
 -- the longest line, in bytes without its end
 abbrev pub longest_line : ℕ
-longest_line = 4300000
+longest_line = 17000000
 
 -- the longest name, in bytes
 abbrev pub longest_ident : ℕ
@@ -67,6 +68,12 @@ abbrev pub set_of : List (List ℕ) → Option Line
 set_of (name ∷ key ∷ value ∷ []) = ident_of name >>= λ t. bytes_of key >>= λ k. bytes_of value >>= λ v. Some (Set t k v)
 set_of words = None
 
+-- the words behind setb
+abbrev pub set_tagged_of : List (List ℕ) → Option Line
+set_tagged_of (name ∷ key ∷ value ∷ tag ∷ []) =
+    ident_of name >>= λ t. bytes_of key >>= λ k. bytes_of value >>= λ v. number_of 255 tag >>= λ u. Some (SetTagged t k v u)
+set_tagged_of words = None
+
 abbrev pub line_of_words : List (List ℕ) → Option Line
 line_of_words [] = None
 line_of_words (command ∷ words) =
@@ -74,10 +81,12 @@ line_of_words (command ∷ words) =
     else (if bytes_eq command (codes "view") then option_map View (ident_alone words)
     else (if bytes_eq command (codes "get") then option_map (λ p. Get p.0 p.1) (ident_and_key words)
     else (if bytes_eq command (codes "set") then set_of words
+    else (if bytes_eq command (codes "setb") then set_tagged_of words
+    else (if bytes_eq command (codes "getb") then option_map (λ p. GetTagged p.0 p.1) (ident_and_key words)
     else (if bytes_eq command (codes "del") then option_map (λ p. Delete p.0 p.1) (ident_and_key words)
     else (if bytes_eq command (codes "commit") then option_map Commit (ident_alone words)
     else (if bytes_eq command (codes "drop") then option_map Drop (ident_alone words)
-    else None))))))
+    else None))))))))
 
 -- the line that these bytes are, without the line's end
 abbrev pub line_of : List ℕ → Option Line
@@ -99,7 +108,8 @@ counter_text Version = codes "version"
 abbrev pub answer_text : Answer → List ℕ
 answer_text Done = codes "ok"
 answer_text (Number number) = codes "ok " ++ decimal number
-answer_text (Found value) = codes "value " ++ bytes_text value
+answer_text (Found value) = codes "value " ++ bytes_text value.bytes
+answer_text (FoundTagged value) = codes "value " ++ bytes_text value.bytes ++ codes " byte " ++ decimal value.tag
 answer_text NoValue = codes "none"
 answer_text (Taken name) = codes "taken " ++ name
 answer_text (Unknown name) = codes "unknown " ++ name

@@ -10,6 +10,8 @@ pub enum Answer {
     Number { number: u64 },
     /// `value V`
     Found { value: Value },
+    /// `value V byte U`: with the value's tag.
+    FoundTagged { value: Value },
     /// `none`: the key has no value.
     NoValue,
     /// `taken T`: the name is in use.

@@ -25,6 +25,18 @@ pub enum Line {
         key: Bytes,
         value: Bytes,
     },
+    /// `setb T K V U`: writes a key in a transaction, with a tag from 0 to 255 beside the value.
+    SetTagged {
+        name: Ident,
+        key: Bytes,
+        value: Bytes,
+        tag: u8,
+    },
+    /// `getb T K`: reads a key, with its value's tag.
+    GetTagged {
+        name: Ident,
+        key: Bytes,
+    },
     /// `del T K`: deletes a key in a transaction.
     Delete {
         name: Ident,

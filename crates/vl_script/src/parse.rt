@@ -1,9 +1,9 @@
 ghost use Rattle.std.specs.Prelude.{◌≡◌, ◌∷◌, [], ◌&&◌, length, nat_le, IfOk};
 ghost use Rattle.std.specs.List.{list_all};
 ghost use Rattle.std.specs.Option.{option_map_or};
-ghost use Rattle.vl_script.specs.Script.{longest_ident, is_ident_byte, ident_of, bytes_of, ident_alone, ident_and_key, set_of, words_of, line_of};
+ghost use Rattle.vl_script.specs.Script.{longest_ident, is_ident_byte, ident_of, bytes_of, ident_alone, ident_and_key, set_of, set_tagged_of, words_of, line_of};
 
-use crate::{Ident, Line, MAX_IDENT_BYTES, MAX_LINE_BYTES};
+use crate::{Ident, Line, MAX_IDENT_BYTES, MAX_LINE_BYTES, parse_number};
 use hex::FromHexError;
 use std::alloc::{AllocError, Global};
 use vl_model::Bytes;
@@ -27,6 +27,11 @@ pub fn parse_line(alloc: Global, text: &[u8]) -> Result<Option<Line>, AllocError
         Ok(words.map(|(name, key)| Line::Get { name, key }))
     } else if command == b"set".as_slice() {
         parse_set(alloc, rest)
+    } else if command == b"setb".as_slice() {
+        parse_set_tagged(alloc, rest)
+    } else if command == b"getb".as_slice() {
+        let words = parse_ident_and_key(alloc, rest)?;
+        Ok(words.map(|(name, key)| Line::GetTagged { name, key }))
     } else if command == b"del".as_slice() {
         let words = parse_ident_and_key(alloc, rest)?;
         Ok(words.map(|(name, key)| Line::Delete { name, key }))
@@ -111,6 +116,44 @@ fn parse_set(alloc: Global, rest: Option<&[u8]>) -> Result<Option<Line>, AllocEr
         return Ok(None);
     };
     Ok(Some(Line::Set { name, key, value }))
+}
+
+// Like `set`, with a tag behind the value.
+#[tactic(auto, using(crate::proofs::ScriptWords::set_tagged_of_more))]
+fn parse_set_tagged(alloc: Global, rest: Option<&[u8]>) -> Result<Option<Line>, AllocError>
+    ensures { IfOk result (λ line. line ≡ set_tagged_of (option_map_or (λ rest. words_of rest.now) rest.entry [])) }
+{
+    let Some((name, Some(rest))) = rest.map(next_word) else {
+        return Ok(None);
+    };
+    let (key, Some(rest)) = next_word(rest) else {
+        return Ok(None);
+    };
+    let (value, Some(rest)) = next_word(rest) else {
+        return Ok(None);
+    };
+    let (tag, rest) = next_word(rest);
+    if rest.is_some() {
+        return Ok(None);
+    }
+    let Some(name) = parse_ident(alloc, name)? else {
+        return Ok(None);
+    };
+    let Some(key) = parse_bytes(alloc, key)? else {
+        return Ok(None);
+    };
+    let Some(value) = parse_bytes(alloc, value)? else {
+        return Ok(None);
+    };
+    let Some(tag) = parse_number(tag, 255) else {
+        return Ok(None);
+    };
+    Ok(Some(Line::SetTagged {
+        name,
+        key,
+        value,
+        tag: tag as u8,
+    }))
 }
 
 fn parse_ident(alloc: Global, word: &[u8]) -> Result<Option<Ident>, AllocError>

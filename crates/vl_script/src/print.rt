@@ -2,11 +2,11 @@ ghost use Rattle.std.specs.Prelude.{◌≡◌, ◌+◌, ◌≤◌, ◌++◌, ◌
 ghost use Rattle.std.specs.Fmt.{decimal};
 ghost use Rattle.std.specs.String.{string_bytes};
 ghost use Rattle.vl_script.specs.Script.{bytes_text, counter_text, text_of};
-ghost use Rattle.vl_script.specs.declared.answer.Answer.TheVariants.{Number};
+ghost use Rattle.vl_script.specs.declared.answer.Answer.TheVariants.{FoundTagged, Number};
 
 use crate::Answer;
 use std::alloc::{AllocError, Global};
-use vl_model::{Bytes, Counter};
+use vl_model::{Bytes, Counter, Value};
 
 /// The room, in bytes, that the text of an answer with a number takes at most.
 pub const NUMBER_ROOM: usize = 24;
@@ -20,7 +20,10 @@ pub fn print_answer(alloc: Global, text: &mut Vec<u8>, answer: &Answer) -> Resul
     match answer {
         Answer::Done => print_line(text, b"ok", b""),
         Answer::Number { number } => print_number(text, b"ok ", *number),
-        Answer::Found { value } => print_line(text, b"value ", encode(alloc, value)?.as_bytes()),
+        Answer::Found { value } => {
+            print_line(text, b"value ", encode(alloc, &value.bytes)?.as_bytes())
+        },
+        Answer::FoundTagged { value } => print_tagged(alloc, text, value),
         Answer::NoValue => print_line(text, b"none", b""),
         Answer::Taken { name } => print_line(text, b"taken ", name.as_slice()),
         Answer::Unknown { name } => print_line(text, b"unknown ", name.as_slice()),
@@ -50,6 +53,15 @@ fn print_number(text: &mut Vec<u8>, front: &[u8], number: u64) -> Result<(), All
 {
     let mut digits = itoa::Buffer::new();
     print_line(text, front, digits.format(number).as_bytes())
+}
+
+// The value, and its tag.
+fn print_tagged(alloc: Global, text: &mut Vec<u8>, value: &Value) -> Result<(), AllocError>
+    ensures { OnOk result (text.new.items ≡ text.old.items ++ text_of (FoundTagged value.now)) }
+{
+    text.extend_from_slice(b"value ")?;
+    text.extend_from_slice(encode(alloc, &value.bytes)?.as_bytes())?;
+    print_number(text, b" byte ", u64::from(value.tag))
 }
 
 // Both parts, and the line's end.

@@ -63,14 +63,14 @@ module _ {Item : Type 0} (S : Spelling Item) (view : ReadRecord → Item) (At : 
     fits = step_fits place step rest r after parts step_is so.fits;
   }
 
-pub write_sized : (r : ReadRecord) → length (records_spelling.bytes (write_of r)) ≡ record_size r
-write_sized r = length-record_bytes r.key r.change
+pub write_sized : (format : ℕ) (r : ReadRecord) → length ((records_spelling format).bytes (write_of r)) ≡ record_size format r
+write_sized format r = length-record_bytes format r.key r.change
 
-pub moved_sized : (r : ReadRecord) → length (moves_spelling.bytes (moved_of r)) ≡ moved_size r
-moved_sized r = length-moved_bytes (moved_of r)
+pub moved_sized : (format : ℕ) (r : ReadRecord) → length ((moves_spelling format).bytes (moved_of r)) ≡ moved_size format r
+moved_sized format r = length-moved_bytes format (moved_of r)
 
-pub write_length_is : (log version place : ℕ) (r : ReadRecord) → LiesAt log version place r → r.pointer.length ≡ record_size r
-write_length_is log version place r at = ap (λ (p : Pointer). p.length) at.pointer_is
+pub write_length_is : (format log version place : ℕ) (r : ReadRecord) → LiesAt format log version place r → r.pointer.length ≡ record_size format r
+write_length_is format log version place r at = ap (λ (p : Pointer). p.length) at.pointer_is
 
-pub moved_length_is : (log place : ℕ) (r : ReadRecord) → LiesMovedAt log place r → 8 + r.pointer.length ≡ moved_size r
-moved_length_is log place r at = ap (λ (p : Pointer). 8 + p.length) at.pointer_is
+pub moved_length_is : (format log place : ℕ) (r : ReadRecord) → LiesMovedAt format log place r → 8 + r.pointer.length ≡ moved_size format r
+moved_length_is format log place r at = ap (λ (p : Pointer). 8 + p.length) at.pointer_is

@@ -1,5 +1,8 @@
+pub mod AnswerSteps
 pub mod Bodies
+pub mod Cut
 pub mod Following
+pub mod Found
 pub mod Framing
 pub mod Headless
 pub mod Moving
@@ -10,6 +13,7 @@ pub mod Pointers
 pub mod RecordParts
 pub mod Records
 pub mod Runs
+pub mod Scanning
 pub mod Staging
-mod StoredLaws
+pub mod StoredLaws
 mod Worked

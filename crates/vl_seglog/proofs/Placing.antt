@@ -24,24 +24,24 @@ pub record Lying (Item : Type 0) : Type 1 where
   pub none : (place : ℕ) → from place [] ≡ []
   pub more : (place : ℕ) (item : Item) (items : List Item) → from place (item ∷ items) ≡ pointer place item ∷ from (place + size item) items
 
-abbrev pub records_lying : ℕ → Lying (List ℕ × Change)
-records_lying log = record {
-  spelling = records_spelling;
-  size = λ w. record_length w.0 w.1;
-  sized = λ w. length-record_bytes w.0 w.1;
-  pointer = λ place w. pointer_at log place w.0 w.1;
-  from = pointers_from log;
+abbrev pub records_lying : ℕ → ℕ → Lying (List ℕ × Change)
+records_lying format log = record {
+  spelling = records_spelling format;
+  size = λ w. record_length format w.0 w.1;
+  sized = λ w. length-record_bytes format w.0 w.1;
+  pointer = λ place w. pointer_at format log place w.0 w.1;
+  from = pointers_from format log;
   none = λ place. refl;
   more = λ place w ws. refl;
 }
 
-abbrev pub moves_lying : ℕ → Lying Moved
-moves_lying log = record {
-  spelling = moves_spelling;
-  size = moved_length;
-  sized = length-moved_bytes;
-  pointer = λ place m. pointer_at log (place + 8) m.key (Set m.value);
-  from = moved_pointers log;
+abbrev pub moves_lying : ℕ → ℕ → Lying Moved
+moves_lying format log = record {
+  spelling = moves_spelling format;
+  size = moved_length format;
+  sized = length-moved_bytes format;
+  pointer = λ place m. pointer_at format log (place + 8) m.key (Set m.value);
+  from = moved_pointers format log;
   none = λ place. refl;
   more = λ place m ms. refl;
 }

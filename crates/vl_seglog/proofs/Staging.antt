@@ -1,6 +1,7 @@
 -- A frame that was written behind nothing.
 use Rattle.std.proofs.Common.{◌≡◌, ℕ, ◌+◌, ◌<◌, ◌^◌, List, [], ◌++◌, length, ap, ◌∙◌, arith}
 use Rattle.vl_frame.specs.Runs.{HasFrame}
+use Rattle.vl_model.specs.Formats.{log_format}
 use Rattle.vl_model.specs.declared.change.Change.{Change}
 use Rattle.vl_model.specs.declared.log_frame.LogFrame.{LogFrame}
 use Rattle.vl_model.specs.declared.log_frame.LogFrame.TheVariants.{Committed, Relocated}
@@ -13,24 +14,24 @@ use Rattle.vl_seglog.specs.Bodies.{IsFrame, frame_body, frame_kind}
 use Rattle.vl_seglog.specs.Relocation.{moves_bytes, relocation_body}
 
 pub record IsWritten (log place : ℕ) (f : LogFrame) (out : List ℕ) : Type 0 where
-  pub frame : out ≡ frame_at log place f
-  pub has : HasFrame frames_grammar f
-  pub long : length out ≡ length (frame_body f) + 13
+  pub frame : out ≡ frame_at log_format log place f
+  pub has : HasFrame (frames_grammar log_format) f
+  pub long : length out ≡ length (frame_body log_format f) + 13
   pub short : length out < 2 ^ 32
 
-pub written : (log place : ℕ) (f : LogFrame) (none out : List ℕ) → out ≡ none ++ frame_at log place f → none ≡ [] → IsFrame f → length (frame_body f) + 13 < 2 ^ 32 → IsWritten log place f out
+pub written : (log place : ℕ) (f : LogFrame) (none out : List ℕ) → out ≡ none ++ frame_at log_format log place f → none ≡ [] → IsFrame log_format f → length (frame_body log_format f) + 13 < 2 ^ 32 → IsWritten log place f out
 written log place f none out is empty lawful short =
-    let frame : out ≡ frame_at log place f = is ∙ ap (λ (l : List ℕ). l ++ frame_at log place f) empty in
-    let long : length out ≡ length (frame_body f) + 13 = ap length frame ∙ length-frame_bytes log place (frame_kind f) (frame_body f) in
+    let frame : out ≡ frame_at log_format log place f = is ∙ ap (λ (l : List ℕ). l ++ frame_at log_format log place f) empty in
+    let long : length out ≡ length (frame_body log_format f) + 13 = ap length frame ∙ length-frame_bytes log place (frame_kind f) (frame_body log_format f) in
     record { frame = frame; has = record { lawful = lawful; short = omega (arith, short) }; long = long; short = omega (arith, short, long) }
 
 -- its parts
-pub commit_long : (log place number : ℕ) (writes : List (List ℕ × Change)) (out : List ℕ) → IsWritten log place (Committed number writes) out → length out ≡ 25 + length (records_bytes writes)
-commit_long log place number writes out w = omega (arith, w.long, body_length (record { number = number; writes = writes }))
+pub commit_long : (log place number : ℕ) (writes : List (List ℕ × Change)) (out : List ℕ) → IsWritten log place (Committed number writes) out → length out ≡ 25 + length (records_bytes log_format writes)
+commit_long log place number writes out w = omega (arith, w.long, body_length log_format (record { number = number; writes = writes }))
 
-move_long : (records : List Moved) → length (relocation_body records) ≡ 4 + length (moves_bytes records)
+move_long : (records : List Moved) → length (relocation_body log_format records) ≡ 4 + length (moves_bytes log_format records)
 unfolding relocation_body
 move_long records = omega arith
 
-pub relocation_long : (log place : ℕ) (records : List Moved) (out : List ℕ) → IsWritten log place (Relocated records) out → length out ≡ 17 + length (moves_bytes records)
+pub relocation_long : (log place : ℕ) (records : List Moved) (out : List ℕ) → IsWritten log place (Relocated records) out → length out ≡ 17 + length (moves_bytes log_format records)
 relocation_long log place records out w = omega (arith, w.long, move_long records)

@@ -11,11 +11,11 @@ abbrev pub frame_kind : LogFrame → FrameKind
 frame_kind (Committed number writes) = kinds.Commit
 frame_kind (Relocated records) = kinds.Move
 
-abbrev pub frame_body : LogFrame → List ℕ
-frame_body (Committed number writes) = commit_body (record { number = number; writes = writes })
-frame_body (Relocated records) = relocation_body records
+abbrev pub frame_body : ℕ → LogFrame → List ℕ
+frame_body format (Committed number writes) = commit_body format (record { number = number; writes = writes })
+frame_body format (Relocated records) = relocation_body format records
 
--- the frames that a log may have
-abbrev pub IsFrame : LogFrame → Type 0
-IsFrame (Committed number writes) = IsCommit (record { number = number; writes = writes })
-IsFrame (Relocated records) = IsRelocation records
+-- the frames that a log of this format may have
+abbrev pub IsFrame : ℕ → LogFrame → Type 0
+IsFrame format (Committed number writes) = IsCommit format (record { number = number; writes = writes })
+IsFrame format (Relocated records) = IsRelocation format records

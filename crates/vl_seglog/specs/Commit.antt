@@ -17,43 +17,43 @@ pub record Commit : Type 0 where
   pub number : ℕ
   pub writes : List (List ℕ × Change)
 
--- each key and each value has a lawful length
-abbrev pub AreRecords : List (List ℕ × Change) → Type 0
-AreRecords writes = AllByRecursion (λ write. IsRecord write.0 write.1) writes
+-- each is lawful in a log of this format
+abbrev pub AreRecords : ℕ → List (List ℕ × Change) → Type 0
+AreRecords format writes = AllByRecursion (λ write. IsRecord format write.0 write.1) writes
 
--- the commits that a log may have
-pub record IsCommit (c : Commit) : Type 0 where
+-- the commits that a log of this format may have
+pub record IsCommit (format : ℕ) (c : Commit) : Type 0 where
   pub first : 1 ≤ c.number
   pub last : c.number ≤ max_commit_number
   pub some : 1 ≤ length c.writes
   pub rising : IsTrue (is_sorted key_cmp c.writes)
-  pub lawful : AreRecords c.writes
+  pub lawful : AreRecords format c.writes
 
 -- how records are spelled, each of a key and what is done to it
-abbrev pub records_spelling : Spelling (List ℕ × Change)
-records_spelling = record {
-  bytes = λ write. record_bytes write.0 write.1;
-  lawful = λ write. IsRecord write.0 write.1;
-  one = one_write;
+abbrev pub records_spelling : ℕ → Spelling (List ℕ × Change)
+records_spelling format = record {
+  bytes = λ write. record_bytes format write.0 write.1;
+  lawful = λ write. IsRecord format write.0 write.1;
+  one = one_write format;
 }
 
 -- records, one behind the other
-abbrev pub records_bytes : List (List ℕ × Change) → List ℕ
-records_bytes writes = series_bytes records_spelling writes
+abbrev pub records_bytes : ℕ → List (List ℕ × Change) → List ℕ
+records_bytes format writes = series_bytes (records_spelling format) writes
 
 -- what stands before the records: the commit's number, and their count
 abbrev pub head_bytes : ℕ → ℕ → List ℕ
 head_bytes number count = big_bytes 8 number ++ big_bytes 4 count
 
--- the one spelling of a commit
-unfoldable pub commit_body : Commit → List ℕ
-commit_body c = head_bytes c.number (length c.writes) ++ records_bytes c.writes
+-- the one spelling of a commit in a log of a format
+unfoldable pub commit_body : ℕ → Commit → List ℕ
+commit_body format c = head_bytes c.number (length c.writes) ++ records_bytes format c.writes
 
--- its frame at a place of the log with this number
-abbrev pub commit_frame : ℕ → ℕ → Commit → List ℕ
-commit_frame file at c = frame_bytes file at kinds.Commit (commit_body c)
+-- its frame at a place of the log with this number, which has this format
+abbrev pub commit_frame : ℕ → ℕ → ℕ → Commit → List ℕ
+commit_frame format file at c = frame_bytes file at kinds.Commit (commit_body format c)
 
--- How many bytes a commit's frame has: 13 of the frame, 12 of the number and the count, 7 for each
--- record, and the keys and values, which have so many together.
+-- How many bytes a commit's frame has in the logs that are written: 13 of the frame, 12 of the number and the
+-- count, 8 for each record, and the keys and values, which have so many together.
 abbrev pub commit_length : ℕ → ℕ → ℕ
-commit_length records bytes = 25 + 7 * records + bytes
+commit_length records bytes = 25 + 8 * records + bytes

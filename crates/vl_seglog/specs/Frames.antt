@@ -9,29 +9,29 @@ use Rattle.vl_model.specs.declared.log_frame.LogFrame.{LogFrame}
 use Rattle.vl_seglog.specs.Bodies.{IsFrame, frame_body, frame_kind}
 use Rattle.vl_seglog.specs.laws.BodyLaws.{in_log, one_spelling}
 
--- how frames of logs are spelled
-abbrev pub frames_grammar : Grammar LogFrame
-frames_grammar = record {
+-- how frames of logs of a format are spelled
+abbrev pub frames_grammar : ℕ → Grammar LogFrame
+frames_grammar format = record {
   file = files.Log;
   kind = frame_kind;
-  body = frame_body;
-  lawful = IsFrame;
+  body = frame_body format;
+  lawful = IsFrame format;
   in_file = in_log;
-  one = one_spelling;
+  one = one_spelling format;
 }
 
--- the frame at a place of the log with this number
-abbrev pub frame_at : ℕ → ℕ → LogFrame → List ℕ
-frame_at number at f = item_frame frames_grammar number at f
+-- the frame at a place of the log of this format with this number
+abbrev pub frame_at : ℕ → ℕ → ℕ → LogFrame → List ℕ
+frame_at format number at f = item_frame (frames_grammar format) number at f
 
--- the header of the log with this number, in format 1
-abbrev pub log_header : ℕ → List ℕ
-log_header number = header_bytes files.Log 1 number
+-- the header of the log with this number, in a format
+abbrev pub log_header : ℕ → ℕ → List ℕ
+log_header format number = header_bytes files.Log format number
 
--- the log with this number that holds these frames and nothing else
-abbrev pub log_bytes : ℕ → List LogFrame → List ℕ
-log_bytes number frames = log_header number ++ run_bytes frames_grammar number 16 frames
+-- the log of this format with this number that holds these frames and nothing else
+abbrev pub log_bytes : ℕ → ℕ → List LogFrame → List ℕ
+log_bytes format number frames = log_header format number ++ run_bytes (frames_grammar format) number 16 frames
 
 -- where these frames end, of which the first stands at byte 16
-abbrev pub frames_end : List LogFrame → ℕ
-frames_end frames = 16 + sum_by frame_length frames
+abbrev pub frames_end : ℕ → List LogFrame → ℕ
+frames_end format frames = 16 + sum_by (frame_length format) frames

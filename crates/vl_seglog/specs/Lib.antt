@@ -1,3 +1,4 @@
+pub mod Answers
 pub mod Bodies
 pub mod Commit
 pub mod Frames
@@ -9,6 +10,7 @@ pub mod Pointer
 pub mod Reading
 pub mod Record
 pub mod Relocation
+pub mod Sealed
 pub mod Series
 pub mod Staging
 pub mod Stored

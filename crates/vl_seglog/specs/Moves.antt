@@ -6,10 +6,10 @@ use Rattle.vl_model.specs.declared.change.Change.TheVariants.{Set}
 use Rattle.vl_model.specs.declared.log_frame.Moved.{Moved}
 use Rattle.vl_seglog.specs.Record.{IsRecord, record_bytes}
 
--- a record under a version, which any number of eight bytes may be
-pub record IsMoved (moved : Moved) : Type 0 where
+-- a record of a log of this format under a version, which any number of eight bytes may be
+pub record IsMoved (format : ℕ) (moved : Moved) : Type 0 where
   pub version : moved.version < 2 ^ 64
-  pub lawful : IsRecord moved.key (Set moved.value)
+  pub lawful : IsRecord format moved.key (Set moved.value)
 
 -- none of the others has its key and its version
 abbrev pub IsElsewhere : Moved → List Moved → Type 0
@@ -22,5 +22,5 @@ AreOnce [] = Unit {0}
 AreOnce (moved ∷ others) = IsElsewhere moved others × AreOnce others
 
 -- a record behind its version
-abbrev pub moved_bytes : Moved → List ℕ
-moved_bytes moved = big_bytes 8 moved.version ++ record_bytes moved.key (Set moved.value)
+abbrev pub moved_bytes : ℕ → Moved → List ℕ
+moved_bytes format moved = big_bytes 8 moved.version ++ record_bytes format moved.key (Set moved.value)

@@ -9,24 +9,24 @@ use Rattle.vl_seglog.specs.Moves.{AreOnce, IsMoved, moved_bytes}
 use Rattle.vl_seglog.specs.Series.{Spelling, series_bytes}
 use Rattle.vl_seglog.specs.laws.MoveLaws.{one_moved}
 
--- the relocations that a log may have, in any order
-pub record IsRelocation (records : List Moved) : Type 0 where
+-- the relocations that a log of this format may have, in any order
+pub record IsRelocation (format : ℕ) (records : List Moved) : Type 0 where
   pub some : 1 ≤ length records
-  pub lawful : AllByRecursion IsMoved records
+  pub lawful : AllByRecursion (IsMoved format) records
   pub once : AreOnce records
 
 -- how moved records are spelled
-abbrev pub moves_spelling : Spelling Moved
-moves_spelling = record { bytes = moved_bytes; lawful = IsMoved; one = one_moved }
+abbrev pub moves_spelling : ℕ → Spelling Moved
+moves_spelling format = record { bytes = moved_bytes format; lawful = IsMoved format; one = one_moved format }
 
 -- such records, one behind the other
-abbrev pub moves_bytes : List Moved → List ℕ
-moves_bytes records = series_bytes moves_spelling records
+abbrev pub moves_bytes : ℕ → List Moved → List ℕ
+moves_bytes format records = series_bytes (moves_spelling format) records
 
 -- the one spelling of a relocation: the count of its records, and these
-unfoldable pub relocation_body : List Moved → List ℕ
-relocation_body records = big_bytes 4 (length records) ++ moves_bytes records
+unfoldable pub relocation_body : ℕ → List Moved → List ℕ
+relocation_body format records = big_bytes 4 (length records) ++ moves_bytes format records
 
--- its frame at a place of the log with this number
-abbrev pub relocation_frame : ℕ → ℕ → List Moved → List ℕ
-relocation_frame number at records = frame_bytes number at kinds.Move (relocation_body records)
+-- its frame at a place of the log with this number, which has this format
+abbrev pub relocation_frame : ℕ → ℕ → ℕ → List Moved → List ℕ
+relocation_frame format number at records = frame_bytes number at kinds.Move (relocation_body format records)

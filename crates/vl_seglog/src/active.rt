@@ -1,20 +1,24 @@
-ghost use Rattle.std.specs.Prelude.{◌≡◌, ◌+◌, ◌-◌, ◌<◌, ◌^◌, length, min, IfOk, OnErr, OnOk};
+ghost use Rattle.std.specs.Prelude.{◌≡◌, ◌+◌, ◌-◌, ◌<◌, ◌^◌, length, min, IfOk, IsErrOf, IsTrue, OnErr, OnOk, Some};
 ghost use Rattle.std.specs.Option.{ForSome};
+ghost use Rattle.vl_disk.specs.declared.errors.DiskFail.TheVariants as why;
 ghost use Rattle.vl_disk.specs.declared.name.Name.TheVariants as names;
 ghost use Rattle.vl_disk.specs.Calls.{Appends, ChangesNothing, Syncs};
 ghost use Rattle.vl_disk.specs.Disk.{Stands};
-ghost use Rattle.vl_disk.specs.Spare.{CanAppend, SameSpare, SameSpareElsewhere};
+ghost use Rattle.vl_disk.specs.DiskState.{file_at};
+ghost use Rattle.vl_disk.specs.Spare.{CanAppend, SameSpare, SameSpareElsewhere, UsesHold};
+ghost use Rattle.vl_model.specs.Formats.{log_format};
 ghost use Rattle.vl_model.specs.declared.log_frame.LogFrame.TheVariants.{Committed, Relocated};
 ghost use Rattle.vl_seglog.specs.Bodies.{IsFrame};
 ghost use Rattle.vl_seglog.specs.Staging.{IsStaged, IsStagedFor};
 
 use crate::lengths::LOG_HEADER_BYTES;
+use crate::sealed::SealedLog;
 use crate::staged::{Staged, staged_commit, staged_move};
 use std::alloc::Global;
-use vl_disk::{Disk, Failed, Name, NoMemory};
-use vl_model::{Change, Key, Moved};
+use vl_disk::{Disk, DiskFail, Failed, Name, NoMemory};
+use vl_model::{Change, Key, LOG_FORMAT, Moved};
 
-/// The log that frames are appended to. Its file is made, and opened, by others.
+/// The log that frames are appended to, in the format that is written. Its file is made, and opened, by others.
 #[derive(Debug, Drop)]
 pub struct ActiveLog {
     /// Of its file, which is the segment of its records' pointers too.
@@ -44,7 +48,7 @@ impl ActiveLog {
         number: u64,
         writes: &[(Key, Change)],
     ) -> Result<Staged, NoMemory>
-        requires { IsFrame (Committed number writes.now) }
+        requires { IsFrame log_format (Committed number writes.now) }
         ensures staged { IfOk result (IsStaged self.now.number self.now.length (Committed number writes.now)) }
         ensures staged_for { IfOk result (IsStagedFor self.now) }
         ensures room { IfOk result (λ staged.
@@ -65,7 +69,7 @@ impl ActiveLog {
         disk: &mut D,
         records: &[Moved],
     ) -> Result<Staged, NoMemory>
-        requires { IsFrame (Relocated records.now) }
+        requires { IsFrame log_format (Relocated records.now) }
         ensures staged { IfOk result (IsStaged self.now.number self.now.length (Relocated records.now)) }
         ensures staged_for { IfOk result (IsStagedFor self.now) }
         ensures room { IfOk result (λ staged.
@@ -103,5 +107,26 @@ impl ActiveLog {
         ensures kept { self.new ≡ self.old }
     {
         disk.sync(Name::Log(self.number))
+    }
+
+    /// Holds the log's file: what is appended to no more. The room that `stage_commit` and `stage_move` make is enough
+    /// for it.
+    pub fn seal<D: Disk>(self, disk: &mut D) -> Result<SealedLog<D::Held>, DiskFail>
+        requires { ForSome (D.told disk.old) (Stands (names.Log self.number)) }
+        ensures number { IfOk result (λ log. log.number ≡ self.number) }
+        ensures format { IfOk result (λ log. log.format ≡ log_format) }
+        ensures held { IfOk result (λ log. ForSome (D.told disk.old)
+            (λ state. D.Held.bytes log.held ≡ Some (file_at state (names.Log self.number)).bytes)) }
+        ensures named { IfOk result (λ log. D.Held.named log.held ≡ names.Log self.number) }
+        ensures no_change { ChangesNothing D.Watched disk.old disk.new (IsErrOf result why.Failed) }
+        ensures memory { IsTrue (D.spare disk.old (names.Log self.number)).hold → IsErrOf result why.NoMemory → ⊥ }
+        ensures spare { UsesHold (names.Log self.number) (D.spare disk.old) (D.spare disk.new) }
+    {
+        let held = disk.hold(Name::Log(self.number))?;
+        Ok(SealedLog {
+            number: self.number,
+            format: LOG_FORMAT,
+            held,
+        })
     }
 }

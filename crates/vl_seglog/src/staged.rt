@@ -1,4 +1,5 @@
 ghost use Rattle.std.specs.Prelude.{◌≡◌, ◌+◌, ◌<◌, ◌^◌, length, IfOk, OnOk};
+ghost use Rattle.vl_model.specs.Formats.{log_format};
 ghost use Rattle.vl_model.specs.Frames.{record_length};
 ghost use Rattle.vl_model.specs.declared.change.Change.TheVariants.{Set};
 ghost use Rattle.vl_model.specs.declared.log_frame.LogFrame.TheVariants.{Committed, Relocated};
@@ -35,7 +36,7 @@ pub fn staged_commit(
     number: u64,
     writes: &[(Key, Change)],
 ) -> Result<Staged, AllocError>
-    requires { IsFrame (Committed number writes.now) }
+    requires { IsFrame log_format (Committed number writes.now) }
     ensures staged { IfOk result (IsStaged log place (Committed number writes.now)) }
     ensures staged_for { IfOk result (λ s. (s.log ≡ log) × (s.place ≡ place)) }
 {
@@ -60,7 +61,7 @@ pub fn staged_move(
     place: u64,
     records: &[Moved],
 ) -> Result<Staged, AllocError>
-    requires { IsFrame (Relocated records.now) }
+    requires { IsFrame log_format (Relocated records.now) }
     ensures staged { IfOk result (IsStaged log place (Relocated records.now)) }
     ensures staged_for { IfOk result (λ s. (s.log ≡ log) × (s.place ≡ place)) }
 {
@@ -85,9 +86,9 @@ fn record_pointers(
     from: u64,
     writes: &[(Key, Change)],
 ) -> Result<Vec<Pointer>, AllocError>
-    requires short { length (records_bytes writes.now) < 2 ^ 32 }
-    requires fits { from + length (records_bytes writes.now) < 2 ^ 64 }
-    ensures { IfOk result (λ pointers. pointers.items ≡ pointers_from log from writes.now) }
+    requires short { length (records_bytes log_format writes.now) < 2 ^ 32 }
+    requires fits { from + length (records_bytes log_format writes.now) < 2 ^ 64 }
+    ensures { IfOk result (λ pointers. pointers.items ≡ pointers_from log_format log from writes.now) }
 {
     let mut pointers = Vec::new(alloc);
     let mut place = from;
@@ -106,9 +107,9 @@ fn moved_pointers(
     from: u64,
     records: &[Moved],
 ) -> Result<Vec<Pointer>, AllocError>
-    requires short { length (moves_bytes records.now) < 2 ^ 32 }
-    requires fits { from + length (moves_bytes records.now) < 2 ^ 64 }
-    ensures { IfOk result (λ pointers. pointers.items ≡ moved_pointers log from records.now) }
+    requires short { length (moves_bytes log_format records.now) < 2 ^ 32 }
+    requires fits { from + length (moves_bytes log_format records.now) < 2 ^ 64 }
+    ensures { IfOk result (λ pointers. pointers.items ≡ moved_pointers log_format log from records.now) }
 {
     let mut pointers = Vec::new(alloc);
     let mut place = from;
@@ -122,8 +123,8 @@ fn moved_pointers(
 
 // The pointer to a record of this key and a value of so many bytes.
 fn pointer_to(segment: u32, place: u64, key: &Key, value_len: usize) -> Pointer
-    requires { 7 + length key.now + value_len < 2 ^ 32 }
-    ensures { result ≡ record { segment = segment; place = place; length = 7 + length key.now + value_len } }
+    requires { 8 + length key.now + value_len < 2 ^ 32 }
+    ensures { result ≡ record { segment = segment; place = place; length = 8 + length key.now + value_len } }
 {
     Pointer {
         segment,

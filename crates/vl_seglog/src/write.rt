@@ -1,6 +1,7 @@
 ghost use Rattle.std.specs.Prelude.{◌≡◌, ◌++◌, ◌<◌, ◌^◌, length, IfOk, OnErr, OnOk};
 ghost use Rattle.byteorder.specs.Endian.{big_bytes};
 ghost use Rattle.vl_frame.specs.Frame.{frame_length};
+ghost use Rattle.vl_model.specs.Formats.{log_format};
 ghost use Rattle.vl_model.specs.declared.change.Change.{Change};
 ghost use Rattle.vl_seglog.specs.Record.{record_bytes};
 ghost use Rattle.vl_seglog.specs.Commit as commits;
@@ -13,14 +14,11 @@ use crate::{RECORD_HEAD_BYTES, write_record};
 use byteorder::{BigEndian, ByteOrder};
 use std::alloc::{AllocError, Global};
 use vl_frame::{FRAME_BYTES, FileKind, FrameKind, HEADER_BYTES, file_header, write_frame};
-use vl_model::{Change, Key, Moved};
+use vl_model::{Change, Key, LOG_FORMAT, Moved};
 
-/// The format in which logs are written, and the greatest that is read.
-pub const LOG_FORMAT: u32 = 1;
-
-/// The first bytes of the log with this number.
+/// The first bytes of the log with this number, in the format that is written.
 pub fn log_header(number: u32) -> [u8; HEADER_BYTES]
-    ensures { result ≡ log.log_header number }
+    ensures { result ≡ log.log_header log_format number }
 {
     file_header(FileKind::Log, LOG_FORMAT, number)
 }
@@ -45,9 +43,9 @@ pub fn write_commit(
     writes: &[(Key, Change)],
 ) -> Result<(), AllocError>
     ensures written { OnOk result (out.new.items ≡
-        out.old.items ++ commits.commit_frame file at (record { number = number; writes = writes.now })) }
+        out.old.items ++ commits.commit_frame log_format file at (record { number = number; writes = writes.now })) }
     ensures short { OnOk result (frame_length
-        (length (commits.commit_body (record { number = number; writes = writes.now }))) < 2 ^ 32) }
+        (length (commits.commit_body log_format (record { number = number; writes = writes.now }))) < 2 ^ 32) }
     ensures err { OnErr result (out.new.items ≡ out.old.items) }
 {
     let body = commit_body(alloc, number, writes)?;
@@ -57,7 +55,7 @@ pub fn write_commit(
 // The body of a commit's frame.
 #[tactic(auto, unfolding(crate::specs::Commit::commit_body))]
 fn commit_body(alloc: Global, number: u64, writes: &[(Key, Change)]) -> Result<Vec<u8>, AllocError>
-    ensures { IfOk result (λ body. body.items ≡ commits.commit_body (record { number = number; writes = writes.now })) }
+    ensures { IfOk result (λ body. body.items ≡ commits.commit_body log_format (record { number = number; writes = writes.now })) }
 {
     if writes.len() > u32::MAX as usize {
         return Err(AllocError);
@@ -82,11 +80,11 @@ fn head(number: u64, count: u32) -> [u8; COMMIT_HEAD_BYTES]
 
 // Appends the record of a change to a key.
 fn write_change(out: &mut Vec<u8>, key: &Key, change: &Change) -> Result<(), AllocError>
-    ensures { OnOk result (out.new.items ≡ out.old.items ++ record_bytes key.now change.now) }
+    ensures { OnOk result (out.new.items ≡ out.old.items ++ record_bytes log_format key.now change.now) }
 {
     match change {
-        Change::Set(value) => write_record(out, key.as_slice(), Some(value.as_slice())),
-        Change::Delete => write_record(out, key.as_slice(), None),
+        Change::Set(value) => write_record(out, key.as_slice(), Some(value.as_slice()), value.tag),
+        Change::Delete => write_record(out, key.as_slice(), None, 0),
     }
 }
 
@@ -99,8 +97,8 @@ pub fn write_move(
     at: u64,
     records: &[Moved],
 ) -> Result<(), AllocError>
-    ensures written { OnOk result (out.new.items ≡ out.old.items ++ relocation_frame file at records.now) }
-    ensures short { OnOk result (frame_length (length (relocation_body records.now)) < 2 ^ 32) }
+    ensures written { OnOk result (out.new.items ≡ out.old.items ++ relocation_frame log_format file at records.now) }
+    ensures short { OnOk result (frame_length (length (relocation_body log_format records.now)) < 2 ^ 32) }
     ensures err { OnErr result (out.new.items ≡ out.old.items) }
 {
     let body = relocation_body(alloc, records)?;
@@ -110,7 +108,7 @@ pub fn write_move(
 // The body of a relocation's frame.
 #[tactic(auto, unfolding(crate::specs::Relocation::relocation_body))]
 fn relocation_body(alloc: Global, records: &[Moved]) -> Result<Vec<u8>, AllocError>
-    ensures { IfOk result (λ body. body.items ≡ relocation_body records.now) }
+    ensures { IfOk result (λ body. body.items ≡ relocation_body log_format records.now) }
 {
     if records.len() > u32::MAX as usize {
         return Err(AllocError);
@@ -125,10 +123,15 @@ fn relocation_body(alloc: Global, records: &[Moved]) -> Result<Vec<u8>, AllocErr
 
 // Appends a moved record behind its version.
 fn write_moved(out: &mut Vec<u8>, moved: &Moved) -> Result<(), AllocError>
-    ensures { OnOk result (out.new.items ≡ out.old.items ++ moved_bytes moved.now) }
+    ensures { OnOk result (out.new.items ≡ out.old.items ++ moved_bytes log_format moved.now) }
 {
     out.extend_from_slice(&u64_bytes(moved.version))?;
-    write_record(out, moved.key.as_slice(), Some(moved.value.as_slice()))
+    write_record(
+        out,
+        moved.key.as_slice(),
+        Some(moved.value.as_slice()),
+        moved.value.tag,
+    )
 }
 
 fn u32_bytes(number: u32) -> [u8; 4]

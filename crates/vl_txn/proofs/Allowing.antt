@@ -3,6 +3,7 @@ use Rattle.std.proofs.Common.{◌≡◌, ℕ, ◌==◌, Bool, true, false, cond,
 use Rattle.std.proofs.lemmas.Bool.Decides.{nat_tests}
 use Rattle.std.specs.Prelude.{nat_le}
 use Rattle.std.specs.FinMap.{insert}
+use Rattle.vl_model.specs.Formats.{log_format}
 use Rattle.vl_model.specs.Keys.{Writes, value_bytes, is_key_length, is_value_length}
 use Rattle.vl_model.specs.Limits.{max_key_bytes}
 use Rattle.vl_model.specs.declared.change.Change.{Change}
@@ -26,9 +27,9 @@ key_length : (n : ℕ) → (n == 0) ≡ false → nat_le n max_key_bytes ≡ tru
 key_length n some short = grind (arith, nat_tests)
 
 pub allowed : (writes : Writes) (key : List ℕ) (change : Change) → refused_write writes key change ≡ None
-    → (is_key_length (length key) ≡ true) × (is_value_length (length (value_bytes change)) ≡ true) × (fits_transaction (insert writes key change) ≡ true)
+    → (is_key_length (length key) ≡ true) × (is_value_length log_format (length (value_bytes change)) ≡ true) × (fits_transaction (insert writes key change) ≡ true)
 allowed writes key change is =
-    let parts = all_pass (length key == 0) (nat_le (length key) max_key_bytes) (is_value_length (length (value_bytes change))) (fits_transaction (insert writes key change)) is in
+    let parts = all_pass (length key == 0) (nat_le (length key) max_key_bytes) (is_value_length log_format (length (value_bytes change))) (fits_transaction (insert writes key change)) is in
     (key_length (length key) parts.0 parts.1, parts.2, parts.3)
 
 -- no test answers that memory ran out
@@ -45,4 +46,4 @@ refused_so old key change new KeyTooLong is same = (is, same)
 refused_so old key change new ValueTooLong is same = (is, same)
 refused_so old key change new TooBig is same = (is, same)
 refused_so old key change new NoMemory is same =
-    absurd (never_memory (length key == 0) (nat_le (length key) max_key_bytes) (is_value_length (length (value_bytes change))) (fits_transaction (insert old key change)) is)
+    absurd (never_memory (length key == 0) (nat_le (length key) max_key_bytes) (is_value_length log_format (length (value_bytes change))) (fits_transaction (insert old key change)) is)

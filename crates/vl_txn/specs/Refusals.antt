@@ -1,6 +1,7 @@
 -- Which calls of a transaction are refused, by the limits on keys, values and transactions.
 use Rattle.std.specs.Prelude.{◌≡◌, ℕ, ◌+◌, ◌==◌, Bool, ◌&&◌, not, nat_le, if◌then◌else◌, List, length, sum_by, Option, Some, None, Result, Ok, Err, ⊤}
 use Rattle.std.specs.FinMap.{entries, len, insert}
+use Rattle.vl_model.specs.Formats.{log_format}
 use Rattle.vl_model.specs.Keys.{Writes, value_bytes, is_value_length}
 use Rattle.vl_model.specs.Limits.{max_key_bytes, max_transaction_keys, max_transaction_bytes}
 use Rattle.vl_model.specs.declared.change.Change.{Change}
@@ -35,7 +36,7 @@ abbrev pub refused_write : Writes → List ℕ → Change → Option SetFail
 refused_write writes key change =
     if length key == 0 then Some EmptyKey
     else (if not (nat_le (length key) max_key_bytes) then Some KeyTooLong
-    else (if not (is_value_length (length (value_bytes change))) then Some ValueTooLong
+    else (if not (is_value_length log_format (length (value_bytes change))) then Some ValueTooLong
     else (if fits_transaction (insert writes key change) then None else Some TooBig)))
 
 -- What a write ends in: one within the limits is made, where memory doesn't fail, and another is refused; a refused one

@@ -2,7 +2,8 @@ ghost use Rattle.std.specs.Prelude.{◌≡◌, ◌≤◌, ◌==◌, length, IsTr
 ghost use Rattle.std.specs.List.{AllByRecursion, prefix_len};
 ghost use Rattle.std.specs.Option.{option_copied};
 ghost use Rattle.std.specs.FinMap as map;
-ghost use Rattle.vl_model.specs.Keys.{key_cmp, value_bytes};
+ghost use Rattle.vl_model.specs.Formats.{log_format};
+ghost use Rattle.vl_model.specs.Keys.{key_cmp, tagged, value_bytes};
 ghost use Rattle.vl_model.specs.Limits.{max_key_bytes, max_transaction_bytes, max_transaction_keys, max_value_bytes};
 ghost use Rattle.vl_model.specs.declared.change.Change.TheVariants.{Set, Delete};
 ghost use Rattle.vl_txn.specs.Refusals.{IsWritten, IsAllowed, HasSizes, write_bytes};
@@ -11,7 +12,9 @@ ghost use Rattle.vl_txn.specs.Writes.{is_above, IsLawful};
 use crate::{SetFail, check_key};
 use std::alloc::{AllocError, Global};
 use std::marker::Model;
-use vl_model::{Change, Key, MAX_TRANSACTION_BYTES, MAX_TRANSACTION_KEYS, Value, is_value_len};
+use vl_model::{
+    Change, Key, LOG_FORMAT, MAX_TRANSACTION_BYTES, MAX_TRANSACTION_KEYS, Value, is_value_len,
+};
 
 /// What a transaction has written: its keys in order, each with the last write of it.
 #[derive(Drop)]
@@ -75,12 +78,12 @@ impl Writes {
         }
     }
 
-    /// Writes a value, in the place of an earlier write of its key.
-    pub fn set(&mut self, key: &[u8], value: &[u8]) -> Result<(), SetFail>
-        ensures { IsWritten self.old key.now (Set value.now) self.new result }
+    /// Writes a value of these bytes and this tag, in the place of an earlier write of its key.
+    pub fn set(&mut self, key: &[u8], value: &[u8], tag: u8) -> Result<(), SetFail>
+        ensures { IsWritten self.old key.now (Set (tagged value.now tag)) self.new result }
     {
         let bytes = self.allow(key, value.len())?;
-        let value = Value::copy_of(*self.entries.allocator(), value)?;
+        let value = Value::copy_of(*self.entries.allocator(), value, tag)?;
         self.insert(key, Change::Set(value), bytes)?;
         Ok(())
     }
@@ -115,7 +118,7 @@ impl Writes {
         ensures { IsAllowed self.now key.now value_len result }
     {
         check_key(key)?;
-        if !is_value_len(value_len) {
+        if !is_value_len(LOG_FORMAT, value_len) {
             return Err(SetFail::ValueTooLong);
         }
         let (keys, bytes) = self.sizes_with(key, value_len);
@@ -128,7 +131,7 @@ impl Writes {
     // How many keys and bytes there are with a write of a value of this length, in the place of an earlier one of its key.
     fn sizes_with(&self, key: &[u8], value_len: usize) -> (usize, usize)
         requires key { length key.now ≤ max_key_bytes }
-        requires value { value_len ≤ max_value_bytes }
+        requires value { value_len ≤ max_value_bytes log_format }
         ensures { HasSizes self.now key.now value_len result }
     {
         match self.get(key) {

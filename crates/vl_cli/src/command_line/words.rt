@@ -1,7 +1,8 @@
 ghost use Rattle.std.specs.Prelude.{◌≡◌, map, string_bytes};
-ghost use Rattle.vl_cli.specs.Words.{command_of, is_plain_word, number_of, outcome_of};
+ghost use Rattle.vl_cli.specs.Words.{command_of, is_plain_word, outcome_of};
 
 use vl_mem::Outcome;
+use vl_script::parse_number;
 
 /// The most changing calls that a trial lets pass.
 const MAX_STOP: u32 = 1_000_000;
@@ -26,7 +27,7 @@ pub fn command_in(words: &[String]) -> Option<Command>
         }
         [command, stop, outcome] if command.as_bytes() == b"trial".as_slice() => {
             Some(Command::Trial(
-                number(stop.as_str(), MAX_STOP)?,
+                parse_number(stop.as_bytes(), MAX_STOP)?,
                 outcome_in(outcome.as_bytes())?,
             ))
         }
@@ -42,18 +43,6 @@ fn is_plain_word(word: &[u8]) -> bool
         [] => false,
         [first, ..] => *first != b'-',
     }
-}
-
-/// The number that a word spells in decimal, without a sign or leading zeros, where it isn't over a limit.
-fn number(word: &str, most: u32) -> Option<u32>
-    ensures { result ≡ number_of most word.now }
-{
-    let number = word.parse::<u32>().ok()?;
-    let mut digits = itoa::Buffer::new();
-    if digits.format(number).as_bytes() != word.as_bytes() || number > most {
-        return None;
-    }
-    Some(number)
 }
 
 fn outcome_in(word: &[u8]) -> Option<Outcome>

@@ -57,8 +57,8 @@ committed l h t = record {
 abbrev pub commit_checked : Layout → History → Transaction → Option Named → Ruling CommitAnswer
 commit_checked l h t (Some named) = commit_ended (Conflict named.0 named.1) l h t
 commit_checked l h t None =
-    if nat_le (l.active.length + frame_length (commit_frame h t.writes)) l.room then committed l h t
-    else leaving (Full l.active.length (frame_length (commit_frame h t.writes))) h l
+    if nat_le (l.active.length + frame_length l.active.format (commit_frame h t.writes)) l.room then committed l h t
+    else leaving (Full l.active.length (frame_length l.active.format (commit_frame h t.writes))) h l
 
 abbrev pub commit_running : Layout → History → Transaction → Option Named → Ruling CommitAnswer
 commit_running l h t conflict =

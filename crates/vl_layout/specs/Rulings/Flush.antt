@@ -1,6 +1,7 @@
 -- The memtable that has been frozen for longest becomes a table in front of level 0.
 use Rattle.std.specs.Prelude.{ℕ, ◌+◌, max, if◌then◌else◌, List, [], ◌∷◌, map, Option, Some, None}
 use Rattle.vl_model.specs.History.{History}
+use Rattle.vl_model.specs.Formats.{table_format}
 use Rattle.vl_model.specs.Placement.{placed}
 use Rattle.vl_model.specs.declared.counter.Counter.TheVariants as counter
 use Rattle.vl_model.specs.declared.log_frame.LogFrame.{LogFrame}
@@ -17,7 +18,7 @@ use Rattle.vl_layout.specs.declared.table.Table.{Table}
 
 -- the table of a memtable's entries, each at its placement
 abbrev pub flushed_table : Layout → Segment → Table
-flushed_table l s = new_table l.next_table (map placed (memtable s))
+flushed_table l s = new_table table_format l.next_table (map placed (memtable s))
 
 -- the last commit of some frames, or the number that was covered before
 abbrev pub covered_by : List LogFrame → ℕ → ℕ

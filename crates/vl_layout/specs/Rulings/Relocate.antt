@@ -41,9 +41,9 @@ abbrev pub relocate_of : Layout → History → List Moved → Ruling MoveAnswer
 relocate_of l h [] = leaving (Moves 0) h l
 relocate_of l h (m ∷ ms) =
     if has_no_version l then leaving (Exhausted counter.Version) h l
-    else (if nat_le (l.active.length + frame_length (Relocated (m ∷ ms))) l.room
+    else (if nat_le (l.active.length + frame_length l.active.format (Relocated (m ∷ ms))) l.room
     then record { answer = Moves (length (m ∷ ms)); history = h; layout = relocated l (m ∷ ms); calls = 2; gone = [] }
-    else leaving (Full l.active.length (frame_length (Relocated (m ∷ ms)))) h l)
+    else leaving (Full l.active.length (frame_length l.active.format (Relocated (m ∷ ms)))) h l)
 
 abbrev pub relocate_unless : Option FileName → Layout → History → Pass → List Candidate
     → Ruling MoveAnswer

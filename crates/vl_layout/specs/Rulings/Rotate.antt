@@ -3,6 +3,7 @@ use Rattle.std.specs.Prelude.{◌+◌, if◌then◌else◌, List, [], ◌∷◌,
 use Rattle.vl_model.specs.History.{History}
 use Rattle.vl_model.specs.declared.counter.Counter.TheVariants as counter
 use Rattle.vl_model.specs.declared.log_frame.LogFrame.{LogFrame}
+use Rattle.vl_model.specs.Formats.{log_format}
 use Rattle.vl_layout.specs.Logs.{new_segment}
 use Rattle.vl_layout.specs.Ruling.{Ruling, leaving, StepAnswer, Stepped, Idle, Halted, Exhausted, has_no_number, has_no_version}
 use Rattle.vl_layout.specs.declared.file_name.FileName.{FileName}
@@ -10,7 +11,7 @@ use Rattle.vl_layout.specs.declared.layout.Layout.{Layout}
 
 abbrev pub rotated : Layout → Layout
 rotated l = record l {
-  active = new_segment l.next_log [];
+  active = new_segment log_format l.next_log [];
   frozen = l.active ∷ l.frozen;
   next_log = l.next_log + 1;
   version_number = l.version_number + 1;

@@ -9,6 +9,7 @@ use Rattle.vl_model.specs.Keys.{Stored, Row, key_cmp}
 use Rattle.vl_model.specs.Numbers.{low_of}
 use Rattle.vl_model.specs.Reads.{Read, rows_written}
 use Rattle.vl_model.specs.declared.change.Change.{Change}
+use Rattle.vl_layout.specs.AtAnswer.{Beginning, AtAnswer, at_answer_by}
 
 -- what is done to some keys, which rise
 abbrev pub Changes : Type 0
@@ -68,6 +69,11 @@ versions_in p key =
 -- the least number at which the key can be read
 abbrev pub low_in : Commits → ℕ → ℕ → ℕ → List ℕ → ℕ
 low_in p floor keep since key = low_of (versions_in p key) floor keep since
+
+-- what a read at an older number is answered
+abbrev pub at_answer_in : Commits → Beginning → ℕ → List ℕ → ℕ → AtAnswer
+at_answer_in p b number key n =
+    at_answer_by number (low_in p b.floor b.keep b.since key) (value_in p n key) key n
 
 -- the least key that was read and overwritten since
 abbrev pub conflict_in : Commits → ℕ → List Read → Option Named

@@ -1,5 +1,6 @@
 -- Each line's step: what it is answered, and what it leaves.
 use Rattle.std.specs.Prelude.{ℕ, ◌+◌, nat_le, if◌then◌else◌, List, [], ◌∷◌, ◌++◌, length, Option, Some, None}
+use Rattle.vl_model.specs.Keys.{tagged, untagged}
 use Rattle.vl_model.specs.declared.change.Change.TheVariants as change
 use Rattle.vl_model.specs.declared.entry.Entry.{Entry}
 use Rattle.vl_layout.specs.Jobs.{Made, tables_made, job_ended}
@@ -30,8 +31,8 @@ use Rattle.vl_layout.specs.Rulings.Sweep as sweep
 use Rattle.vl_layout.specs.Rulings.Sweep.{SweepAnswer, sweep_ruling}
 use Rattle.vl_layout.specs.Start.{fresh_layout}
 use Rattle.vl_layout.specs.Store.Commits.{history_in}
-use Rattle.vl_layout.specs.Store.Lines.{Name, Line, Begin, View, Get, GetAt, Set, Delete, Scan, Commit, Drop, Rotate, Flush, Plan, Drain, Install, Pick, Batch, Move, Sweep, Stats, Keep, Answer, Done, Number, Taken, Unknown, Invalid, Full, Exhausted, Idle, Raced, Rejected, NoRewrite, Found, End, Moved, Removed, Segments, Halted}
-use Rattle.vl_layout.specs.Store.Reading.{a_transaction, a_view, begin_as, get_by, get_at_by, scan_by, write_by, commit_by}
+use Rattle.vl_layout.specs.Store.Lines.{Name, Line, Begin, View, Get, GetTagged, GetAt, Set, SetTagged, Delete, Scan, Commit, Drop, Rotate, Flush, Plan, Drain, Install, Pick, Batch, Move, Sweep, Stats, Keep, Answer, Done, Number, Taken, Unknown, Invalid, Full, Exhausted, Idle, Raced, Rejected, NoRewrite, Found, End, Moved, Removed, Segments, Halted}
+use Rattle.vl_layout.specs.Store.Reading.{answer_of, answer_with_tag, a_transaction, a_view, begin_as, get_by, get_at_by, scan_by, write_by, commit_by}
 use Rattle.vl_layout.specs.Store.Things.{Thing, ATransaction, AView, AJob, APass, State, Step, only, thing_of, with_thing, without_thing}
 use Rattle.vl_layout.specs.declared.job.Job.{Job}
 use Rattle.vl_layout.specs.declared.layout.Layout.{Layout}
@@ -170,9 +171,11 @@ keep_by s r = record { answer = keeping r.answer; state = record s { layout = r.
 abbrev pub step_of : State → Line → Step
 step_of s (Begin name) = begin_as s name a_transaction (thing_of s name)
 step_of s (View name) = begin_as s name a_view (thing_of s name)
-step_of s (Get name key) = get_by s name key (thing_of s name)
+step_of s (Get name key) = get_by s name answer_of key (thing_of s name)
+step_of s (GetTagged name key) = get_by s name answer_with_tag key (thing_of s name)
 step_of s (GetAt name key n) = get_at_by s name key n (thing_of s name)
-step_of s (Set name key value) = write_by s name key (change.Set value) (thing_of s name)
+step_of s (Set name key value) = write_by s name key (change.Set (untagged value)) (thing_of s name)
+step_of s (SetTagged name key value tag) = write_by s name key (change.Set (tagged value tag)) (thing_of s name)
 step_of s (Delete name key) = write_by s name key change.Delete (thing_of s name)
 step_of s (Scan way name low high limit) = scan_by s way name low high limit (thing_of s name)
 step_of s (Commit name) = commit_by s name (thing_of s name)

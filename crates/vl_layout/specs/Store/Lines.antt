@@ -1,6 +1,6 @@
 -- The lines of a script, and their answers.
 use Rattle.std.specs.Prelude.{ℕ, List}
-use Rattle.vl_model.specs.Keys.{Stored, Row}
+use Rattle.vl_model.specs.Keys.{Stored}
 use Rattle.vl_model.specs.declared.counter.Counter.{Counter}
 use Rattle.vl_model.specs.declared.way.Way.{Way}
 use Rattle.vl_layout.specs.declared.file_name.FileName.{FileName}
@@ -16,7 +16,10 @@ pub data Line : Type 0 where
   Get : Name → List ℕ → Line
   -- at an older number
   GetAt : Name → List ℕ → ℕ → Line
-  Set : Name → List ℕ → Stored → Line
+  Set : Name → List ℕ → List ℕ → Line
+  -- with a value's tag
+  GetTagged : Name → List ℕ → Line
+  SetTagged : Name → List ℕ → List ℕ → ℕ → Line
   Delete : Name → List ℕ → Line
   -- from a bound on and below another, so many rows at most
   Scan : Way → Name → List ℕ → List ℕ → ℕ → Line
@@ -41,11 +44,14 @@ pub data Answer : Type 0 where
   Done : Answer
   -- a number, that of a commit, a segment or a table among them
   Number : ℕ → Answer
-  Value : Stored → Answer
+  -- a value's bytes; with its tag where that was asked for
+  Value : List ℕ → Answer
+  ValueTagged : Stored → Answer
   NoValue : Answer
   -- the least number at which the key can be read
   Dropped : ℕ → Answer
-  Rows : List Row → Answer
+  -- each key with its value's bytes
+  Rows : List (List ℕ × List ℕ) → Answer
   Taken : Name → Answer
   Unknown : Name → Answer
   ReadOnly : Answer

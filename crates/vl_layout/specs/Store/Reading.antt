@@ -1,29 +1,26 @@
 -- Lines that begin, read, write and end a transaction or a view.
-use Rattle.std.specs.Prelude.{ℕ, ◌+◌, Bool, ◌&&◌, ◌||◌, not, nat_le, nat_lt, if◌then◌else◌, List, [], ◌∷◌, ◌++◌, length, Option, Some, None}
+use Rattle.std.specs.Prelude.{ℕ, ◌+◌, Bool, ◌&&◌, not, nat_le, if◌then◌else◌, List, [], ◌∷◌, ◌++◌, length, map, Option, Some, None}
 use Rattle.std.specs.List.{sum_by}
 use Rattle.std.specs.FinMap.{find, put, from_sorted}
+use Rattle.vl_model.specs.Formats.{log_format}
 use Rattle.vl_model.specs.History.{value_left}
 use Rattle.vl_model.specs.Keys.{Stored, Row, key_cmp, value_bytes, is_key_length, is_value_length}
 use Rattle.vl_model.specs.Limits.{max_key_bytes, max_transaction_keys, max_transaction_bytes}
 use Rattle.vl_model.specs.Reads.{Scan, KeyRead, RangeRead, scanned}
 use Rattle.vl_model.specs.declared.change.Change.{Change}
 use Rattle.vl_model.specs.declared.way.Way.{Way}
+use Rattle.vl_layout.specs.AtAnswer as at
+use Rattle.vl_layout.specs.AtAnswer.{Beginning, AtAnswer, EmptyKey, KeyTooLong, Ahead, Found, beginning_of}
 use Rattle.vl_layout.specs.Ruling.{Ruling}
 use Rattle.vl_layout.specs.Rulings.Begin as begin
 use Rattle.vl_layout.specs.Rulings.Begin.{BeginAnswer, begin_ruling}
 use Rattle.vl_layout.specs.Rulings.Commit as commit
 use Rattle.vl_layout.specs.Rulings.Commit.{Transaction, CommitAnswer, commit_unless}
-use Rattle.vl_layout.specs.Sources.{floor}
-use Rattle.vl_layout.specs.Store.Commits.{Changes, history_in, with_changes, value_in, rows_in, low_in, conflict_in}
-use Rattle.vl_layout.specs.Store.Lines.{Name, Answer, Done, Number, Value, NoValue, Dropped, Rows, Taken, Unknown, ReadOnly, Invalid, TooBig, TooMany, Nothing, Conflict, Full, Exhausted, Halted}
-use Rattle.vl_layout.specs.Store.Things.{Beginning, Thing, ATransaction, AView, AJob, APass, State, Step, only, with_thing, without_thing}
-use Rattle.vl_layout.specs.declared.layout.Layout.{Layout}
+use Rattle.vl_layout.specs.Store.Commits.{Changes, history_in, with_changes, value_in, rows_in, at_answer_in, conflict_in}
+use Rattle.vl_layout.specs.Store.Lines.{Name, Answer, Done, Number, Value, ValueTagged, NoValue, Dropped, Rows, Taken, Unknown, ReadOnly, Invalid, TooBig, TooMany, Nothing, Conflict, Full, Exhausted, Halted}
+use Rattle.vl_layout.specs.Store.Things.{Thing, ATransaction, AView, AJob, APass, State, Step, only, with_thing, without_thing}
 
 -- ---- begin and view
-
--- the floor counts the number at which it reads itself
-abbrev pub beginning : Layout → State → Beginning
-beginning l s = record { floor = floor l (history_in s.commits); keep = l.keep; since = l.since }
 
 abbrev pub begun_by : State → Name → (ℕ → ℕ → Thing) → Ruling BeginAnswer → BeginAnswer → Step
 begun_by s name thing r begin.TooMany = only TooMany s
@@ -41,41 +38,51 @@ abbrev pub begin_as : State → Name → (Beginning → ℕ → ℕ → Thing) �
 begin_as s name thing (Some other) = only (Taken name) s
 begin_as s name thing None =
     let r = begin_ruling s.layout (history_in s.commits) in
-    begun_by s name (thing (beginning r.layout s)) r r.answer
+    begun_by s name (thing (beginning_of r.layout (history_in s.commits))) r r.answer
 
 -- ---- reads
 
+-- a value's bytes, and with its tag
 abbrev pub answer_of : Option Stored → Answer
 answer_of None = NoValue
-answer_of (Some value) = Value value
+answer_of (Some value) = Value value.bytes
 
-abbrev pub noted : State → Name → Transaction → Beginning → List ℕ → Option Stored → Step
-noted s name t b key value = record {
-  answer = answer_of value;
+abbrev pub answer_with_tag : Option Stored → Answer
+answer_with_tag None = NoValue
+answer_with_tag (Some value) = ValueTagged value
+
+-- noted alike, whatever is told of it
+abbrev pub noted : State → Name → (Option Stored → Answer) → Transaction → Beginning → List ℕ → Option Stored → Step
+noted s name tell t b key value = record {
+  answer = tell value;
   state = with_thing s s.layout name (ATransaction (record t { reads = t.reads ++ KeyRead key value ∷ [] }) b);
   calls = 0;
 }
 
 -- a key that the transaction has written has that write's value, and nothing is noted
-abbrev pub get_own : State → Name → Transaction → Beginning → List ℕ → Option Change → Step
-get_own s name t b key (Some change) = only (answer_of (value_left None (Some change))) s
-get_own s name t b key None = noted s name t b key (value_in s.commits t.number key)
+abbrev pub get_own : State → Name → (Option Stored → Answer) → Transaction → Beginning → List ℕ → Option Change → Step
+get_own s name tell t b key (Some change) = only (tell (value_left None (Some change))) s
+get_own s name tell t b key None = noted s name tell t b key (value_in s.commits t.number key)
 
-abbrev pub get_by : State → Name → List ℕ → Option Thing → Step
-get_by s name key None = only (Unknown name) s
-get_by s name key (Some (AJob job made)) = only (Unknown name) s
-get_by s name key (Some (APass pass batch)) = only (Unknown name) s
-get_by s name key (Some (AView v b)) =
-    if is_key_length (length key) then only (answer_of (value_in s.commits v.number key)) s else only Invalid s
-get_by s name key (Some (ATransaction t b)) =
-    if is_key_length (length key) then get_own s name t b key (find key_cmp key t.writes) else only Invalid s
+abbrev pub get_by : State → Name → (Option Stored → Answer) → List ℕ → Option Thing → Step
+get_by s name tell key None = only (Unknown name) s
+get_by s name tell key (Some (AJob job made)) = only (Unknown name) s
+get_by s name tell key (Some (APass pass batch)) = only (Unknown name) s
+get_by s name tell key (Some (AView v b)) =
+    if is_key_length (length key) then only (tell (value_in s.commits v.number key)) s else only Invalid s
+get_by s name tell key (Some (ATransaction t b)) =
+    if is_key_length (length key) then get_own s name tell t b key (find key_cmp key t.writes) else only Invalid s
 
--- at an older number, past own writes
+abbrev pub told_at : AtAnswer → Answer
+told_at EmptyKey = Invalid
+told_at KeyTooLong = Invalid
+told_at (Ahead number) = Invalid
+told_at (at.Dropped least) = Dropped least
+told_at (Found value) = answer_of value
+
+-- at an older number
 abbrev pub get_old : State → List ℕ → ℕ → ℕ → Beginning → Step
-get_old s key n number b =
-    if not (is_key_length (length key)) || nat_lt number n then only Invalid s
-    else (if nat_lt n (low_in s.commits b.floor b.keep b.since key) then only (Dropped (low_in s.commits b.floor b.keep b.since key)) s
-    else only (answer_of (value_in s.commits n key)) s)
+get_old s key n number b = only (told_at (at_answer_in s.commits b number key n)) s
 
 abbrev pub get_at_by : State → Name → List ℕ → ℕ → Option Thing → Step
 get_at_by s name key n None = only (Unknown name) s
@@ -93,9 +100,12 @@ scan_of way low high limit own =
 abbrev pub scanned_rows : State → Way → List ℕ → List ℕ → ℕ → Changes → ℕ → List Row
 scanned_rows s way low high limit own number = scanned (scan_of way low high limit own) own (rows_in s.commits number)
 
+abbrev pub rows_told : List Row → List (List ℕ × List ℕ)
+rows_told rows = map (λ (row : Row). (row.0, row.1.bytes)) rows
+
 abbrev pub noted_scan : State → Name → Transaction → Beginning → Scan → List Row → Step
 noted_scan s name t b scan rows = record {
-  answer = Rows rows;
+  answer = Rows (rows_told rows);
   state = with_thing s s.layout name (ATransaction (record t { reads = t.reads ++ RangeRead (record scan { rows = rows }) ∷ [] }) b);
   calls = 0;
 }
@@ -106,7 +116,7 @@ scan_by s way name low high limit (Some (AJob job made)) = only (Unknown name) s
 scan_by s way name low high limit (Some (APass pass batch)) = only (Unknown name) s
 scan_by s way name low high limit (Some (AView v b)) =
     if nat_le (length low) max_key_bytes && nat_le (length high) max_key_bytes
-    then only (Rows (scanned_rows s way low high limit [] v.number)) s else only Invalid s
+    then only (Rows (rows_told (scanned_rows s way low high limit [] v.number))) s else only Invalid s
 scan_by s way name low high limit (Some (ATransaction t b)) =
     if nat_le (length low) max_key_bytes && nat_le (length high) max_key_bytes
     then noted_scan s name t b (scan_of way low high limit t.writes) (scanned_rows s way low high limit t.writes t.number)
@@ -127,7 +137,7 @@ write_by s name key change (Some (APass pass batch)) = only (Unknown name) s
 write_by s name key change (Some (AView v b)) = only ReadOnly s
 write_by s name key change (Some (ATransaction t b)) =
     let writes = put key_cmp key change t.writes in
-    if not (is_key_length (length key) && is_value_length (length (value_bytes change))) then only Invalid s
+    if not (is_key_length (length key) && is_value_length log_format (length (value_bytes change))) then only Invalid s
     else (if fits writes then record { answer = Done; state = with_thing s s.layout name (ATransaction (record t { writes = writes }) b); calls = 0 }
     else only TooBig s)
 

@@ -3,6 +3,7 @@ use Rattle.std.specs.Prelude.{ℕ, if◌then◌else◌, List, [], ◌∷◌, Opt
 use Rattle.std.specs.List.{filter}
 use Rattle.std.specs.Ordering.{eq_by_cmp}
 use Rattle.vl_model.specs.Keys.{key_cmp}
+use Rattle.vl_layout.specs.AtAnswer.{Beginning}
 use Rattle.vl_layout.specs.Jobs.{Made}
 use Rattle.vl_layout.specs.Relocation.{Pass, Candidate}
 use Rattle.vl_layout.specs.Rulings.Commit.{Transaction}
@@ -11,12 +12,6 @@ use Rattle.vl_layout.specs.Store.Commits.{Commits}
 use Rattle.vl_layout.specs.Store.Lines.{Name, Answer}
 use Rattle.vl_layout.specs.declared.job.Job.{Job}
 use Rattle.vl_layout.specs.declared.layout.Layout.{Layout}
-
--- the floor, and how many versions were kept and since when, where something began
-pub record Beginning : Type 0 where
-  pub floor : ℕ
-  pub keep : ℕ
-  pub since : ℕ
 
 pub data Thing : Type 0 where
   ATransaction : Transaction → Beginning → Thing

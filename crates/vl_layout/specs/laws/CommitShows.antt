@@ -23,8 +23,8 @@ use Rattle.vl_layout.specs.Logs.{committed_records, record_entry, logged_body, p
 use Rattle.vl_layout.specs.Shows.{Shows, Meaning, Means, AreUpTo, times}
 use Rattle.vl_layout.specs.laws.ShowsLaws.{all_both, times-append}
 
-abbrev pub committed_entries : ℕ → ℕ → ℕ → List (List ℕ × Change) → List Entry
-committed_entries segment place number writes = map (record_entry segment) (committed_records place number writes)
+abbrev pub committed_entries : (format segment place number : ℕ) → List (List ℕ × Change) → List Entry
+committed_entries format segment place number writes = map (record_entry format segment) (committed_records format place number writes)
 
 -- what a change makes of its key
 abbrev pub change_meant : Option Change → Option Stored
@@ -91,16 +91,16 @@ all_found (w ∷ ws) rising = (
 
 -- ---- a commit's winners
 
-module _ (segment number : ℕ) where
+module _ (format segment number : ℕ) where
   -- below its number a commit doesn't count
   early : (key : List ℕ) (n place : ℕ) (ws : List (List ℕ × Change)) → n < number
-      → winner (committed_entries segment place number ws) key n ≡ None
+      → winner (committed_entries format segment place number ws) key n ≡ None
   early key n place [] lt = refl
   early key n place (w ∷ ws) lt =
       let not_yet : nat_le number n ≡ false = grind (arith, nat_tests) in
-      let first : Entry = record_entry segment (record { key = w.0; version = number; change = w.1; place = place }) in
-      ap (λ b. newest_of (only_if b first) (winner (committed_entries segment (place + record_length w.0 w.1) number ws) key n)) (neither (eq_by_cmp key_cmp key w.0) (nat_le number n) not_yet)
-      ∙ early key n (place + record_length w.0 w.1) ws lt
+      let first : Entry = record_entry format segment (record { key = w.0; version = number; change = w.1; place = place }) in
+      ap (λ b. newest_of (only_if b first) (winner (committed_entries format segment (place + record_length format w.0 w.1) number ws) key n)) (neither (eq_by_cmp key_cmp key w.0) (nat_le number n) not_yet)
+      ∙ early key n (place + record_length format w.0 w.1) ws lt
     where
       neither : (a b : Bool) → b ≡ false → (a && b) ≡ false
       neither true b e = e
@@ -114,15 +114,15 @@ module _ (segment number : ℕ) where
   IsNamed logs (Some e) (Some change) = (e.version ≡ number) × (resolved logs e.key e.body ≡ Some (change_meant (Some change)))
 
   late : (logs : Logs) (key : List ℕ) (n place : ℕ) (ws : List (List ℕ × Change)) → number ≤ n
-      → IsNamed logs (winner (committed_entries segment place number ws) key n) (find key_cmp key ws)
+      → IsNamed logs (winner (committed_entries format segment place number ws) key n) (find key_cmp key ws)
   late logs key n place [] le = tt
-  late logs key n place (w ∷ ws) le = by_test (eq_by_cmp key_cmp key w.0) refl (late logs key n (place + record_length w.0 w.1) ws le)
+  late logs key n place (w ∷ ws) le = by_test (eq_by_cmp key_cmp key w.0) refl (late logs key n (place + record_length format w.0 w.1) ws le)
     where
       first : Entry
-      first = record_entry segment (record { key = w.0; version = number; change = w.1; place = place })
+      first = record_entry format segment (record { key = w.0; version = number; change = w.1; place = place })
 
       rest : Option Entry
-      rest = winner (committed_entries segment (place + record_length w.0 w.1) number ws) key n
+      rest = winner (committed_entries format segment (place + record_length format w.0 w.1) number ws) key n
 
       counted : nat_le number n ≡ true
       counted = grind (arith, nat_tests)
@@ -138,7 +138,7 @@ module _ (segment number : ℕ) where
       by_test true is later =
           subst (λ b. IsNamed logs (newest_of (only_if (b && nat_le number n) first) rest) (cond b (Some w.1) (find key_cmp key ws))) (sym is)
           (subst (λ b. IsNamed logs (newest_of (only_if b first) rest) (Some w.1)) (sym counted)
-          (subst (λ r. IsNamed logs r (Some w.1)) (sym (newest rest (find key_cmp key ws) later)) (refl, logged_leads logs w.0 w.1 (pointer_to segment (record { key = w.0; version = number; change = w.1; place = place })))))
+          (subst (λ r. IsNamed logs r (Some w.1)) (sym (newest rest (find key_cmp key ws) later)) (refl, logged_leads logs w.0 w.1 (pointer_to format segment (record { key = w.0; version = number; change = w.1; place = place })))))
       by_test false is later =
           subst (λ b. IsNamed logs (newest_of (only_if (b && nat_le number n) first) rest) (cond b (Some w.1) (find key_cmp key ws))) (sym is) later
 
@@ -187,37 +187,37 @@ times_above key version last (e ∷ es) up lt =
     neither true b e = e
     neither false b e = refl
 
-module _ (segment number : ℕ) (key : List ℕ) (version : ℕ) where
+module _ (format segment number : ℕ) (key : List ℕ) (version : ℕ) where
   -- nor are the commit's of an older version
   times_other : (place : ℕ) (ws : List (List ℕ × Change)) → (number == version) ≡ false
-      → times key version (committed_entries segment place number ws) ≡ 0
+      → times key version (committed_entries format segment place number ws) ≡ 0
   times_other place [] apart = refl
   times_other place (w ∷ ws) apart =
-      ap (λ b. cond b 1 0 + times key version (committed_entries segment (place + record_length w.0 w.1) number ws)) (neither (eq_by_cmp key_cmp key w.0) (number == version) apart)
-      ∙ zero-add (times key version (committed_entries segment (place + record_length w.0 w.1) number ws)) ∙ times_other (place + record_length w.0 w.1) ws apart
+      ap (λ b. cond b 1 0 + times key version (committed_entries format segment (place + record_length format w.0 w.1) number ws)) (neither (eq_by_cmp key_cmp key w.0) (number == version) apart)
+      ∙ zero-add (times key version (committed_entries format segment (place + record_length format w.0 w.1) number ws)) ∙ times_other (place + record_length format w.0 w.1) ws apart
     where
       neither : (a b : Bool) → b ≡ false → (a && b) ≡ false
       neither true b e = e
       neither false b e = refl
 
   below_none : (place : ℕ) (ws : List (List ℕ × Change)) → T (below_all key_cmp key ws)
-      → times key version (committed_entries segment place number ws) ≡ 0
+      → times key version (committed_entries format segment place number ws) ≡ 0
   below_none place [] below = refl
   below_none place (w ∷ ws) below =
-      ap (λ b. cond (b && (number == version)) 1 0 + times key version (committed_entries segment (place + record_length w.0 w.1) number ws))
+      ap (λ b. cond (b && (number == version)) 1 0 + times key version (committed_entries format segment (place + record_length format w.0 w.1) number ws))
       (not_tied (key_cmp key w.0) (first_part (is_lt (key_cmp key w.0)) (below_all key_cmp key ws) below))
-      ∙ zero-add (times key version (committed_entries segment (place + record_length w.0 w.1) number ws)) ∙ below_none (place + record_length w.0 w.1) ws (second_part (is_lt (key_cmp key w.0)) (below_all key_cmp key ws) below)
+      ∙ zero-add (times key version (committed_entries format segment (place + record_length format w.0 w.1) number ws)) ∙ below_none (place + record_length format w.0 w.1) ws (second_part (is_lt (key_cmp key w.0)) (below_all key_cmp key ws) below)
 
   -- no key comes twice in a commit
   once : (place : ℕ) (ws : List (List ℕ × Change)) → T (is_sorted key_cmp ws)
-      → times key version (committed_entries segment place number ws) ≤ 1
+      → times key version (committed_entries format segment place number ws) ≤ 1
   once place [] rising = omega arith
   once place (w ∷ ws) rising =
       by_test (eq_by_cmp key_cmp key w.0) refl
-      (once (place + record_length w.0 w.1) ws (second_part (below_all key_cmp w.0 ws) (is_sorted key_cmp ws) rising))
+      (once (place + record_length format w.0 w.1) ws (second_part (below_all key_cmp w.0 ws) (is_sorted key_cmp ws) rising))
     where
       rest : ℕ
-      rest = times key version (committed_entries segment (place + record_length w.0 w.1) number ws)
+      rest = times key version (committed_entries format segment (place + record_length format w.0 w.1) number ws)
 
       one_at_most : (b : Bool) → cond b 1 0 + 0 ≤ 1
       one_at_most true = omega arith
@@ -227,12 +227,12 @@ module _ (segment number : ℕ) (key : List ℕ) (version : ℕ) where
           → cond (eq_by_cmp key_cmp key w.0 && (number == version)) 1 0 + rest ≤ 1
       by_test false is later = subst (λ b. cond (b && (number == version)) 1 0 + rest ≤ 1) (sym is) (omega (arith, later))
       by_test true is later =
-          let none : rest ≡ 0 = below_none (place + record_length w.0 w.1) ws (subst (λ (k : List ℕ). T (below_all key_cmp k ws)) (sym (same_key key w.0 is)) (first_part (below_all key_cmp w.0 ws) (is_sorted key_cmp ws) rising)) in
+          let none : rest ≡ 0 = below_none (place + record_length format w.0 w.1) ws (subst (λ (k : List ℕ). T (below_all key_cmp k ws)) (sym (same_key key w.0 is)) (first_part (below_all key_cmp w.0 ws) (is_sorted key_cmp ws) rising)) in
           subst (λ n. cond (eq_by_cmp key_cmp key w.0 && (number == version)) 1 0 + n ≤ 1) (sym none) (one_at_most (eq_by_cmp key_cmp key w.0 && (number == version)))
 
 -- ---- the history with the commit
 
-module _ (logs : Logs) (es : List Entry) (h : History) (from : List ℕ → ℕ) (writes : Writes) (segment place : ℕ) where
+module _ (logs : Logs) (es : List Entry) (h : History) (from : List ℕ → ℕ) (writes : Writes) (format segment place : ℕ) where
   meant : Meaning → Meaning
   meant meaning key version = if version == last_number h + 1 then change_meant (find key_cmp key (entries writes)) else meaning key version
 
@@ -258,13 +258,13 @@ module _ (logs : Logs) (es : List Entry) (h : History) (from : List ℕ → ℕ)
 
   new_mean : (meaning : Meaning) (at : ℕ) (ws : List (List ℕ × Change))
       → AreFound (entries writes) ws
-      → AllByRecursion (Means logs (meant meaning)) (committed_entries segment at (last_number h + 1) ws)
+      → AllByRecursion (Means logs (meant meaning)) (committed_entries format segment at (last_number h + 1) ws)
   new_mean meaning at [] found = tt
   new_mean meaning at (w ∷ ws) found =
-      (logged_leads logs w.0 w.1 _ ∙ ap Some (sym (newer meaning w.0 ∙ ap change_meant found.0)), new_mean meaning (at + record_length w.0 w.1) ws found.1)
+      (logged_leads logs w.0 w.1 _ ∙ ap Some (sym (newer meaning w.0 ∙ ap change_meant found.0)), new_mean meaning (at + record_length format w.0 w.1) ws found.1)
 
   at_last : (o : Option Change) (new old : Option Entry) (value : Option Stored)
-      → IsNamed segment (last_number h + 1) logs new o → IsAtMost (last_number h) old
+      → IsNamed format segment (last_number h + 1) logs new o → IsAtMost (last_number h) old
       → resolved_at logs old ≡ Some value
       → resolved_at logs (newest_of new old) ≡ Some (value_left value o)
   at_last None None old value named up leads = leads
@@ -278,7 +278,7 @@ module _ (logs : Logs) (es : List Entry) (h : History) (from : List ℕ → ℕ)
       let n = named.0 in let t : nat_le f.version e.version ≡ true = grind (arith, nat_tests) in ap (λ b. resolved_at logs (cond b (Some e) (Some f))) t ∙ named.1
 
   new : List Entry
-  new = committed_entries segment place (last_number h + 1) (entries writes)
+  new = committed_entries format segment place (last_number h + 1) (entries writes)
 
   alone : (meaning : Meaning) → AreUpTo (last_number h) es
       → ((key : List ℕ) (version : ℕ) → meaning key version ≡ None → times key version es ≤ 1)
@@ -287,43 +287,43 @@ module _ (logs : Logs) (es : List Entry) (h : History) (from : List ℕ → ℕ)
   unfolding new
   alone meaning up few key version none = by_test (version == last_number h + 1) refl
     where
-      both : times key version (committed_entries segment place (last_number h + 1) (entries writes) ++ es) ≡ times key version (committed_entries segment place (last_number h + 1) (entries writes)) + times key version es
-      both = times-append key version (committed_entries segment place (last_number h + 1) (entries writes)) es
+      both : times key version (committed_entries format segment place (last_number h + 1) (entries writes) ++ es) ≡ times key version (committed_entries format segment place (last_number h + 1) (entries writes)) + times key version es
+      both = times-append key version (committed_entries format segment place (last_number h + 1) (entries writes)) es
 
       by_test : (b : Bool) → (version == last_number h + 1) ≡ b
-          → times key version (committed_entries segment place (last_number h + 1) (entries writes) ++ es) ≤ 1
+          → times key version (committed_entries format segment place (last_number h + 1) (entries writes) ++ es) ≤ 1
       by_test true is =
           let same : version ≡ last_number h + 1 = grind (arith, nat_tests) in
-          let front = once segment (last_number h + 1) key version place (entries writes) (entries_sorted writes) in
+          let front = once format segment (last_number h + 1) key version place (entries writes) (entries_sorted writes) in
           let back : times key version es ≡ 0 = times_above key version (last_number h) es up (omega arith) in
           omega (arith, both, front, back)
       by_test false is =
           let apart : (last_number h + 1 == version) ≡ false = grind (arith, nat_tests) in
-          let front = times_other segment (last_number h + 1) key version place (entries writes) apart in
+          let front = times_other format segment (last_number h + 1) key version place (entries writes) apart in
           let back = few key version (sym (older meaning key version is) ∙ none) in
           omega (arith, both, front, back)
 
   pub shows_committed : AreUpTo (last_number h) es → ((key : List ℕ) → from key ≤ last_number h)
       → Shows logs es h from (last_number h)
-      → Shows logs (committed_entries segment place (last_number h + 1) (entries writes) ++ es) (with_commit h writes) from (last_number h + 1)
+      → Shows logs (committed_entries format segment place (last_number h + 1) (entries writes) ++ es) (with_commit h writes) from (last_number h + 1)
   unfolding new
   shows_committed up begins shows = record {
     values = λ key n low high. ⊎_elim
         (λ (before : n < last_number h + 1).
-        ap (resolved_at logs) (winner-append key n (committed_entries segment place (last_number h + 1) (entries writes)) es
-        ∙ ap (λ w. newest_of w (winner es key n)) (early segment (last_number h + 1) key n place (entries writes) before))
+        ap (resolved_at logs) (winner-append key n (committed_entries format segment place (last_number h + 1) (entries writes)) es
+        ∙ ap (λ w. newest_of w (winner es key n)) (early format segment (last_number h + 1) key n place (entries writes) before))
         ∙ shows.values key n low (omega arith) ∙ ap Some (sym (value_at-before h writes n key (omega arith))))
         (λ (there : last_number h + 1 ≤ n).
         let is : n ≡ last_number h + 1 = omega arith in
         let old_is : resolved_at logs (winner es key n) ≡ Some (value_at h (last_number h) key) =
         ap (resolved_at logs) (same_from (last_number h) n key es up (omega arith)) ∙ shows.values key (last_number h) (begins key) (omega arith) in
-        ap (resolved_at logs) (winner-append key n (committed_entries segment place (last_number h + 1) (entries writes)) es)
-        ∙ at_last (find key_cmp key (entries writes)) (winner (committed_entries segment place (last_number h + 1) (entries writes)) key n) (winner es key n) (value_at h (last_number h) key)
-        (late segment (last_number h + 1) logs key n place (entries writes) there) (winner_at_most (last_number h) n key es up) old_is
+        ap (resolved_at logs) (winner-append key n (committed_entries format segment place (last_number h + 1) (entries writes)) es)
+        ∙ at_last (find key_cmp key (entries writes)) (winner (committed_entries format segment place (last_number h + 1) (entries writes)) key n) (winner es key n) (value_at h (last_number h) key)
+        (late format segment (last_number h + 1) logs key n place (entries writes) there) (winner_at_most (last_number h) n key es up) old_is
         ∙ ap Some (ap (value_left (value_at h (last_number h) key)) (sym (get-entries writes key)) ∙ sym (value_at-with_commit h writes key) ∙ ap (λ m. value_at (with_commit h writes) m key) (sym is)))
         (cases_lt n (last_number h + 1));
     meaning = meant shows.meaning;
-    resolves = all_both (Means logs (meant shows.meaning)) (committed_entries segment place (last_number h + 1) (entries writes)) es
+    resolves = all_both (Means logs (meant shows.meaning)) (committed_entries format segment place (last_number h + 1) (entries writes)) es
         (new_mean shows.meaning place (entries writes) (all_found (entries writes) (entries_sorted writes))) (old_mean shows.meaning es up shows.resolves);
     gone_once = alone shows.meaning up shows.gone_once;
   }

@@ -41,33 +41,33 @@ sources-rotated l = append_assoc (memtable l.active) (flat_map memtable l.frozen
 -- ---- a frame more
 
 -- where the frame behind these stands
-abbrev pub place_behind : ℕ → List LogFrame → ℕ
-place_behind place [] = place
-place_behind place (f ∷ fs) = place_behind (place + frame_length f) fs
+abbrev pub place_behind : (format place : ℕ) → List LogFrame → ℕ
+place_behind format place [] = place
+place_behind format place (f ∷ fs) = place_behind format (place + frame_length format f) fs
 
 -- a frame behind the others has its entries in front of theirs
-pub logged_entries-more : (segment place : ℕ) (fs : List LogFrame) (f : LogFrame)
-    → logged_entries segment place (fs ++ f ∷ []) ≡ frame_entries segment (place_behind place fs) f ++ logged_entries segment place fs
-logged_entries-more segment place [] f = nothing_behind (frame_entries segment place f)
+pub logged_entries-more : (format segment place : ℕ) (fs : List LogFrame) (f : LogFrame)
+    → logged_entries format segment place (fs ++ f ∷ []) ≡ frame_entries format segment (place_behind format place fs) f ++ logged_entries format segment place fs
+logged_entries-more format segment place [] f = nothing_behind (frame_entries format segment place f)
   where
     nothing_behind : (es : List Entry) → es ≡ es ++ []
     nothing_behind [] = refl
     nothing_behind (e ∷ es) = ap (λ xs. e ∷ xs) (nothing_behind es)
-logged_entries-more segment place (g ∷ gs) f =
-    ap (λ es. es ++ frame_entries segment place g) (logged_entries-more segment (place + frame_length g) gs f)
-    ∙ append_assoc (frame_entries segment (place_behind (place + frame_length g) gs) f) (logged_entries segment (place + frame_length g) gs) (frame_entries segment place g)
+logged_entries-more format segment place (g ∷ gs) f =
+    ap (λ es. es ++ frame_entries format segment place g) (logged_entries-more format segment (place + frame_length format g) gs f)
+    ∙ append_assoc (frame_entries format segment (place_behind format (place + frame_length format g) gs) f) (logged_entries format segment (place + frame_length format g) gs) (frame_entries format segment place g)
 
 -- the entries that a frame adds to the active memtable
 abbrev pub added : Layout → LogFrame → List Entry
-added l f = frame_entries l.active.number (place_behind 16 l.active.frames) f
+added l f = frame_entries l.active.format l.active.number (place_behind l.active.format 16 l.active.frames) f
 
 module _ (logs : Logs) (l : Layout) (f : LogFrame) (h : History) (from : List ℕ → ℕ) (to : ℕ) where
   -- what is shown with these entries in front of the sources is shown with the frame
   pub shows_logged : Shows logs (added l f ++ sources l) h from to
       → Shows logs (sources (logged f l)) h from to
   shows_logged shows =
-      let old = logged_entries l.active.number 16 l.active.frames in
-      subst (λ es. Shows logs (in_order es ++ behind_active l) h from to) (sym (logged_entries-more l.active.number 16 l.active.frames f))
+      let old = logged_entries l.active.format l.active.number 16 l.active.frames in
+      subst (λ es. Shows logs (in_order es ++ behind_active l) h from to) (sym (logged_entries-more l.active.format l.active.number 16 l.active.frames f))
       (shows_taken_in logs (added l f) old (behind_active l) h from to
       (subst (λ es. Shows logs es h from to) (sym (append_assoc (added l f) (in_order old) (behind_active l))) shows))
 
@@ -79,7 +79,7 @@ pub commit_shows : (logs : Logs) (l : Layout) (ticket : ℕ) (h : History) (writ
     → Shows logs (sources (logged (commit_frame h (entries writes)) (ended ticket l))) (with_commit h writes) from (last_number h + 1)
 commit_shows logs l ticket h writes from up begins shows =
     shows_logged logs (ended ticket l) (commit_frame h (entries writes)) (with_commit h writes) from (last_number h + 1)
-    (shows_committed logs (sources l) h from writes l.active.number (place_behind 16 l.active.frames + 17) up begins shows)
+    (shows_committed logs (sources l) h from writes l.active.format l.active.number (place_behind l.active.format 16 l.active.frames + 17) up begins shows)
 
 -- ---- a flush
 
@@ -163,13 +163,13 @@ module _ (logs : Logs) (h : History) (from : List ℕ → ℕ) (to : ℕ) (es : 
   abbrev IsMoved : List Entry → Type 0
   IsMoved new = (shown : Shows logs (new ++ es) h from to) × (shown.meaning ≡ shows.meaning)
 
-  moved_front : (segment place : ℕ) (ms : List Moved) → AreShown es shows.meaning ms
-      → IsMoved (map (record_entry segment) (relocated_records place ms))
-  moved_front segment place [] all = (shows, refl)
-  moved_front segment place (m ∷ ms) all =
-      let later = moved_front segment (place + moved_length m) ms all.1 in
-      let new = map (record_entry segment) (relocated_records (place + moved_length m) ms) in
-      let first = record_entry segment (record { key = m.key; version = m.version; change = Set m.value; place = place + 8 }) in
+  moved_front : (format segment place : ℕ) (ms : List Moved) → AreShown es shows.meaning ms
+      → IsMoved (map (record_entry format segment) (relocated_records format place ms))
+  moved_front format segment place [] all = (shows, refl)
+  moved_front format segment place (m ∷ ms) all =
+      let later = moved_front format segment (place + moved_length format m) ms all.1 in
+      let new = map (record_entry format segment) (relocated_records format (place + moved_length format m) ms) in
+      let first = record_entry format segment (record { key = m.key; version = m.version; change = Set m.value; place = place + 8 }) in
       let both = shows_moved logs h from to first (new ++ es) m.value later.0 (any_behind (is_at m.key m.version) new es all.0.0) refl (ap (λ meaning. meaning m.key m.version) later.1 ∙ all.0.1) in
       (both.0, both.1 ∙ later.1)
 
@@ -179,4 +179,4 @@ pub relocate_shows : (logs : Logs) (l : Layout) (moved : List Moved) (h : Histor
     → Shows logs (sources (relocated l moved)) h from to
 relocate_shows logs l moved h from to shows all =
     shows_logged logs l (Relocated moved) h from to
-    (moved_front logs h from to (sources l) shows l.active.number (place_behind 16 l.active.frames + 9) moved all).0
+    (moved_front logs h from to (sources l) shows l.active.format l.active.number (place_behind l.active.format 16 l.active.frames + 9) moved all).0

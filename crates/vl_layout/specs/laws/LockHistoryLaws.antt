@@ -8,7 +8,7 @@ use Rattle.std.specs.FinMap.{from_sorted}
 use Rattle.vl_model.specs.Keys.{Writes}
 use Rattle.vl_model.specs.History.{Past, Extends, with_commit, last_number}
 use Rattle.vl_model.specs.declared.change.Change.{Change}
-use Rattle.vl_layout.specs.LockHistory.{OpenTicket, OpenThings, nothing_open, is_of, closed, opened, tickets_after, job_after, things_after, open_things, put_after, commits_of, history_of, last_layout, number_after, tickets_in, IsOpen, IsOwn, IsLegalStep, HasOpen, IsLegalFrom, IsLegal, entries_by, tickets_by, number_of}
+use Rattle.vl_layout.specs.LockHistory.{OpenTicket, OpenThings, nothing_open, is_of, closed, opened, tickets_after, things_after, open_things, open_tickets, put_after, commits_of, history_of, last_layout, number_after, last_from, tickets_in, IsOpen, IsLegalStep, HasOpen, IsLegalFrom, IsLegal, entries_by, tickets_by, number_of}
 use Rattle.vl_layout.specs.Rising.{IsRising}
 use Rattle.vl_layout.specs.Tickets.{has_ticket}
 use Rattle.vl_layout.specs.declared.job.Job.{Job}
@@ -20,10 +20,6 @@ use Rattle.vl_layout.specs.declared.lock_history.LockStep.TheVariants.{Begun, Pu
 use Rattle.vl_layout.specs.laws.RisingLaws.{rising-put_by, rising-filter, filter-put_by}
 
 -- ---- some steps more
-
-abbrev pub last_from : ℕ → List LockEntry → ℕ
-last_from last [] = last
-last_from last (e ∷ es) = last_from (number_after e.step last) es
 
 pub legal-append : (last : ℕ) (o : OpenThings) (es more : List LockEntry)
     → IsLegalFrom last o es → IsLegalFrom (last_from last es) (open_things o es) more → IsLegalFrom last o (es ++ more)
@@ -153,11 +149,6 @@ as_many_live o l has =
 
 -- ---- a session's own tickets
 
--- the tickets that are open by some steps, where these were before
-abbrev pub open_tickets : List OpenTicket → List LockEntry → List OpenTicket
-open_tickets ts [] = ts
-open_tickets ts (e ∷ es) = open_tickets (tickets_after e.session e.step ts) es
-
 pub open_tickets-is : (o : OpenThings) (es : List LockEntry) → (open_things o es).tickets ≡ open_tickets o.tickets es
 open_tickets-is o [] = refl
 open_tickets-is o (e ∷ es) = open_tickets-is (things_after e o) es
@@ -224,7 +215,7 @@ module _ (session : ℕ) where
       by_test true is rest = rest ∙ ap (λ us. open_tickets us (entries_by session es)) (own_step e.session e.step o.tickets rising true is)
       by_test false is rest = rest ∙ ap (λ us. open_tickets us (entries_by session es)) (own_step e.session e.step o.tickets rising false is)
 
-none≢some : {X : Type 0} (n : X) → None ≡ Some n → ⊥
+pub none≢some : {X : Type 0} (n : X) → None ≡ Some n → ⊥
 none≢some {X} n e = subst (λ (x : Option X). is_none x) e tt
   where
     is_none : Option X → Type 0
@@ -258,52 +249,3 @@ pub own_is_open : (last s ticket n : ℕ) (es : List LockEntry) → IsLegal last
 own_is_open last s ticket n es legal is =
     number_by s ticket n (open_things nothing_open es).tickets (open_rising last nothing_open es legal tt)
     (ap (λ ts. number_of ticket (tickets_by s ts)) (open_tickets-is nothing_open es) ∙ ap (number_of ticket) (own_tickets s last nothing_open es legal tt) ∙ is)
-
--- ---- a session's own job
-
--- the job that is open by some steps, where this was before
-abbrev pub open_job : Option (ℕ × Job) → List LockEntry → Option (ℕ × Job)
-open_job job [] = job
-open_job job (e ∷ es) = open_job (job_after e.session e.step e.layout job) es
-
-pub open_job-is : (o : OpenThings) (es : List LockEntry) → (open_things o es).job ≡ open_job o.job es
-open_job-is o [] = refl
-open_job-is o (e ∷ es) = open_job-is (things_after e o) es
-
--- the session of what is open is this one, if it is another's step that follows it stays
-other_step : (last s k : ℕ) (o : OpenThings) (step : LockStep) (l : Layout) (j : Job) → (k == s) ≡ false
-    → IsLegalStep last o k step → o.job ≡ Some (s, j) → job_after k step l o.job ≡ Some (s, j)
-other_step last s k o (Begun ticket number) l j other legal is = is
-other_step last s k o (Put ticket number writes) l j other legal is = is
-other_step last s k o (Ended ticket) l j other legal is = is
-other_step last s k o Planned l j other legal is = absurd (none≢some (s, j) (sym legal ∙ is))
-other_step last s k o JobEnded l j other legal is =
-    let same : s ≡ k = subst (IsOwn k) is legal in
-    let no : (k == s) ≡ true = grind (arith, nat_tests) in absurd (false≢true (sym other ∙ no))
-other_step last s k o Picked l j other legal is = is
-other_step last s k o PassEnded l j other legal is = is
-other_step last s k o Changed l j other legal is = is
-
-own_job_step : (k : ℕ) (step : LockStep) (l : Layout) (p o : Option (ℕ × Job)) (x : ℕ × Job) → (p ≡ Some x → o ≡ Some x)
-    → job_after k step l p ≡ Some x → job_after k step l o ≡ Some x
-own_job_step k (Begun ticket number) l p o x all is = all is
-own_job_step k (Put ticket number writes) l p o x all is = all is
-own_job_step k (Ended ticket) l p o x all is = all is
-own_job_step k Planned l p o x all is = is
-own_job_step k JobEnded l p o x all is = is
-own_job_step k Picked l p o x all is = all is
-own_job_step k PassEnded l p o x all is = all is
-own_job_step k Changed l p o x all is = all is
-
--- a job that is open by a session's own steps is the open one
-pub job_stays : (last s : ℕ) (j : Job) (p : Option (ℕ × Job)) (o : OpenThings) (es : List LockEntry) → IsLegalFrom last o es
-    → (p ≡ Some (s, j) → o.job ≡ Some (s, j)) → open_job p (entries_by s es) ≡ Some (s, j) → (open_things o es).job ≡ Some (s, j)
-job_stays last s j p o [] legal all is = all is
-job_stays last s j p o (e ∷ es) legal all is =
-    by_test (e.session == s) refl (λ q next. job_stays (number_after e.step last) s j q (things_after e o) es legal.1 next) is
-  where
-    by_test : (b : Bool) → (e.session == s) ≡ b
-        → ((q : Option (ℕ × Job)) → (q ≡ Some (s, j) → (things_after e o).job ≡ Some (s, j)) → open_job q (entries_by s es) ≡ Some (s, j) → (open_things (things_after e o) es).job ≡ Some (s, j))
-        → open_job p (cond b (e ∷ entries_by s es) (entries_by s es)) ≡ Some (s, j) → (open_things (things_after e o) es).job ≡ Some (s, j)
-    by_test true own rest is = rest (job_after e.session e.step e.layout p) (own_job_step e.session e.step e.layout p o.job (s, j) all) is
-    by_test false other rest is = rest p (λ has. other_step last s e.session o e.step e.layout j other legal.0.step (all has)) is

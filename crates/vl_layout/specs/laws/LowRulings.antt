@@ -99,7 +99,7 @@ module _ (h : History) (l : Layout) where
 
   checked_later : (t : Transaction) (conflict : Option Named) → RuledLater h l (commit_checked l h t conflict)
   checked_later t (Some named) = one_ended h l t.ticket
-  checked_later t None = either h l (nat_le (l.active.length + frame_length (commit_frame h t.writes)) l.room) (committed l h t) _ (committed_later t) same
+  checked_later t None = either h l (nat_le (l.active.length + frame_length l.active.format (commit_frame h t.writes)) l.room) (committed l h t) _ (committed_later t) same
 
   running_later : (t : Transaction) (conflict : Option Named) → RuledLater h l (commit_running l h t conflict)
   running_later t conflict =
@@ -146,7 +146,7 @@ module _ (h : History) (l : Layout) where
   relocate_of-later : (moved : List Moved) → RuledLater h l (relocate_of l h moved)
   relocate_of-later [] = same
   relocate_of-later (m ∷ ms) =
-      either h l (has_no_version l) _ _ same (either h l (nat_le (l.active.length + frame_length (Relocated (m ∷ ms))) l.room) _ _ (as_it_was h l (relocated l (m ∷ ms)) refl refl refl) same)
+      either h l (has_no_version l) _ _ same (either h l (nat_le (l.active.length + frame_length l.active.format (Relocated (m ∷ ms))) l.room) _ _ (as_it_was h l (relocated l (m ∷ ms)) refl refl refl) same)
 
   relocate_later : (pass : Pass) (batch : List Candidate) (halted : Option FileName) → RuledLater h l (relocate_unless halted l h pass batch)
   relocate_later pass batch (Some name) = same

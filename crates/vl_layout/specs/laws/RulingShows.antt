@@ -63,7 +63,7 @@ module _ (logs : Logs) (from : List ℕ → ℕ) (l : Layout) (h : History) (t :
   checked_shows : (conflict : Option Named) → ShowsRuled logs from (commit_checked l h t conflict)
   checked_shows (Some named) = shows
   checked_shows None =
-      either logs from (nat_le (l.active.length + frame_length (commit_frame h t.writes)) l.room) (committed l h t) (leaving (Full l.active.length (frame_length (commit_frame h t.writes))) h l) committed_shows shows
+      either logs from (nat_le (l.active.length + frame_length l.active.format (commit_frame h t.writes)) l.room) (committed l h t) (leaving (Full l.active.length (frame_length l.active.format (commit_frame h t.writes))) h l) committed_shows shows
 
   running_shows : (conflict : Option Named) → ShowsRuled logs from (commit_running l h t conflict)
   running_shows conflict =
@@ -188,8 +188,8 @@ module _ (logs : Logs) (from : List ℕ → ℕ) (l : Layout) (h : History) (sho
   relocate_of-shows [] all = shows
   relocate_of-shows (m ∷ ms) all =
       let made : Ruling MoveAnswer = record { answer = Moves (length (m ∷ ms)); history = h; layout = relocated l (m ∷ ms); calls = 2; gone = [] } in
-      let full : Ruling MoveAnswer = leaving (NoRoom l.active.length (frame_length (Relocated (m ∷ ms)))) h l in
-      let room : Bool = nat_le (l.active.length + frame_length (Relocated (m ∷ ms))) l.room in
+      let full : Ruling MoveAnswer = leaving (NoRoom l.active.length (frame_length l.active.format (Relocated (m ∷ ms)))) h l in
+      let room : Bool = nat_le (l.active.length + frame_length l.active.format (Relocated (m ∷ ms))) l.room in
       either logs from (has_no_version l) (leaving (NoVersion counter.Version) h l) (if room then made else full) shows
       (either logs from room made full (relocate_shows logs l (m ∷ ms) h from (last_number h) shows all) shows)
 

@@ -4,6 +4,7 @@ use Rattle.std.proofs.Common.{◌≡◌, ℕ, ◌+◌, Bool, true, false, not, �
 use Rattle.std.specs.Prelude.{nat_le, if◌then◌else◌}
 use Rattle.std.specs.List.{flat_map}
 use Rattle.std.specs.Ordering.{eq_by_cmp}
+use Rattle.vl_model.specs.Formats.{table_format}
 use Rattle.vl_model.specs.Keys.{key_cmp}
 use Rattle.vl_model.specs.declared.entry.Entry.{Entry}
 use Rattle.vl_layout.specs.Levels.{is_among}
@@ -34,19 +35,19 @@ tables_from-whole : (table : List Entry) (key : List ℕ) (closed open_bytes : �
     → joined (tables_from table key closed open_bytes es) ≡ table ++ es
 tables_from-whole table key closed open_bytes [] = refl
 tables_from-whole table key closed open_bytes (e ∷ es) =
-    let grown : List (List Entry) = tables_from (table ++ e ∷ []) e.key closed (open_bytes + entry_length e) es in
-    let next : List (List Entry) = tables_from (table ++ e ∷ []) e.key (closed + around open_bytes) (begun_length e) es in
+    let grown : List (List Entry) = tables_from (table ++ e ∷ []) e.key closed (open_bytes + entry_length table_format e) es in
+    let next : List (List Entry) = tables_from (table ++ e ∷ []) e.key (closed + around open_bytes) (begun_length table_format e) es in
     by_test (table ++ e ∷ es) (not (eq_by_cmp key_cmp key e.key) && nat_le full_table_bytes (closed + around open_bytes))
-    (table ∷ tables_from (e ∷ []) e.key 0 (begun_length e) es)
-    (if nat_le (open_bytes + entry_length e) max_block_bytes then grown else next)
-    (ap (λ xs. table ++ xs) (tables_from-whole (e ∷ []) e.key 0 (begun_length e) es))
-    (by_test (table ++ e ∷ es) (nat_le (open_bytes + entry_length e) max_block_bytes) grown next
-    (tables_from-whole (table ++ e ∷ []) e.key closed (open_bytes + entry_length e) es ∙ one_more table e es)
-    (tables_from-whole (table ++ e ∷ []) e.key (closed + around open_bytes) (begun_length e) es ∙ one_more table e es))
+    (table ∷ tables_from (e ∷ []) e.key 0 (begun_length table_format e) es)
+    (if nat_le (open_bytes + entry_length table_format e) max_block_bytes then grown else next)
+    (ap (λ xs. table ++ xs) (tables_from-whole (e ∷ []) e.key 0 (begun_length table_format e) es))
+    (by_test (table ++ e ∷ es) (nat_le (open_bytes + entry_length table_format e) max_block_bytes) grown next
+    (tables_from-whole (table ++ e ∷ []) e.key closed (open_bytes + entry_length table_format e) es ∙ one_more table e es)
+    (tables_from-whole (table ++ e ∷ []) e.key (closed + around open_bytes) (begun_length table_format e) es ∙ one_more table e es))
 
 pub cut-whole : (es : List Entry) → joined (cut_into_tables es) ≡ es
 cut-whole [] = refl
-cut-whole (e ∷ es) = tables_from-whole (e ∷ []) e.key 0 (begun_length e) es
+cut-whole (e ∷ es) = tables_from-whole (e ∷ []) e.key 0 (begun_length table_format e) es
 
 -- tables of some entries hold these
 pub tables_made-entries : (numbers : List ℕ) (ess : List (List Entry)) → length numbers ≡ length ess

@@ -8,11 +8,10 @@ use Rattle.vl_model.specs.declared.entry.Entry.{Entry}
 use Rattle.vl_layout.specs.Levels.{is_among, Range, range_of, meets, due_inputs, with_next}
 use Rattle.vl_layout.specs.declared.table.Table.{Table}
 use Rattle.vl_layout_laws.specs.laws.Lists.{true_false}
-use Rattle.vl_layout_laws.specs.laws.KeyOrder.{IsWide}
 use Rattle.vl_layout_laws.specs.laws.Outputs.{Lt, le_lt, lt_le_then, lt_le}
 use Rattle.vl_layout_laws.specs.laws.Planned.{only_one, all_given, within, met}
 use Rattle.vl_layout.specs.Sources.{numbers_of}
-use Rattle.vl_layout.specs.TidyLevels.{Le, IsRanged, IsDistinct, IsApart}
+use Rattle.vl_layout.specs.TidyLevels.{Le, IsRanged, IsDistinct, IsApart, IsWide}
 use Rattle.vl_layout_laws.specs.laws.Pairs.{le_then, AreOther, others_turned, one_is}
 
 all_both : (P : Table → Type 0) (xs ys : List Table) → AllByRecursion P xs → AllByRecursion P ys → AllByRecursion P (xs ++ ys)
@@ -101,7 +100,7 @@ module _ (n : ℕ) (A B : List Table) (distinct_A : IsDistinct A) (distinct_B : 
       (AreAbove (λ t. is_among (numbers_of (with_next (due_inputs n A) B)) t) u.last A × AreAbove (λ t. is_among (numbers_of (with_next (due_inputs n A) B)) t) u.last B)
       ⊎ (AreBelow (λ t. is_among (numbers_of (with_next (due_inputs n A) B)) t) u.first A × AreBelow (λ t. is_among (numbers_of (with_next (due_inputs n A) B)) t) u.first B)
 
-  all_beside : AllByRecursion (λ (u : Table). is_among (numbers_of (with_next (due_inputs n A) B)) u ≡ false → IsBeside u) B
+  pub all_beside : AllByRecursion (λ (u : Table). is_among (numbers_of (with_next (due_inputs n A) B)) u ≡ false → IsBeside u) B
   all_beside = each B (subst (λ (o : Option Range). AllByRecursion (λ (u : Table). meets o u ≡ true → is_among (numbers_of (with_next (due_inputs n A) B)) u ≡ true) B) is (met n A B distinct_A other ranged_A ranged_B apart_A apart_B))
       (pairs_apart (λ t. is_among (numbers_of (with_next (due_inputs n A) B)) t) B apart_B) wide_B
     where

@@ -1,5 +1,5 @@
 -- The invariant of an open job: it holds when the job is made, and each ruling beside it keeps it.
-use Rattle.std.proofs.Common.{◌≡◌, inl, inr, ⊎_elim, ℕ, ◌+◌, min, ◌≤◌, ◌<◌, Bool, true, false, cond, not, ◌&&◌, ◌||◌, List, [], ◌∷◌, ◌++◌, refl, ap, sym, ◌∙◌, subst, arith, length-append}
+use Rattle.std.proofs.Common.{◌≡◌, inl, inr, ⊎_elim, ℕ, ◌+◌, ◌-◌, min, ◌≤◌, ◌<◌, Bool, true, false, cond, not, ◌&&◌, ◌||◌, List, [], ◌∷◌, ◌++◌, refl, ap, sym, ◌∙◌, subst, arith, length-append}
 use Rattle.std.proofs.lemmas.Bool.Decides.{nat_tests}
 use Rattle.std.specs.Prelude.{Option, None, if◌then◌else◌, Some, ◌==◌}
 use Rattle.std.specs.List.{AllZip, AllByRecursion, flat_map, list_any, filter}
@@ -11,7 +11,7 @@ use Rattle.vl_model.specs.Winners.{Logs}
 use Rattle.vl_model.specs.declared.entry.Entry.{Entry}
 use Rattle.vl_model.specs.declared.log_frame.Moved.{Moved}
 use Rattle.vl_block.specs.Cutting.{joined}
-use Rattle.vl_layout.specs.Levels.{is_among, in_front}
+use Rattle.vl_layout.specs.Levels.{is_among, in_front, level_at}
 use Rattle.vl_layout.specs.Merging.{Sourced, if_so, inputs_of, outside_of, is_dropped, kept_from, kept, merged_entries, outputs}
 use Rattle.vl_layout.specs.laws.OrderShows.{all-in_order}
 use Rattle.vl_layout.specs.Ruling.{Ruling, has_no_version, pin_of, logged, ended}
@@ -53,7 +53,7 @@ use Rattle.vl_model.specs.laws.VersionLaws.{versions-stay}
 use Rattle.vl_model.specs.laws.HistoryLaws.{with_commit-extends}
 use Rattle.vl_model.specs.declared.change.Change.{Change}
 use Rattle.std.specs.FinMap.{from_sorted}
-use Rattle.vl_layout.specs.OpenJobs.{place_if, places, IsStillBehind, IsAccounted, IsKeptFor, IsFitted, IsOpenWell}
+use Rattle.vl_layout.specs.OpenJobs.{place_if, places, IsStillBehind, IsAccounted, IsKeptFor, IsFitted, IsRoomy, IsBesideAll, AreStanding, IsOpenWell}
 
 -- ---- when it is made
 
@@ -98,12 +98,14 @@ numbers_given next (t ∷ ts) all = (all.0, numbers_given next ts all.1)
 
 pub open_at_first : (l : Layout) (h : History) (inputs : List Table) (target : Target)
     → AllByRecursion (λ (t : Table). t.number < l.next_table) inputs
+    → AreStanding (tables l) (numbers_of inputs)
     → IsFitted l (job_of l h inputs target) target
+    → IsRoomy l.levels (job_of l h inputs target) target
     → 1 ≤ l.keep → AreOf h (inputs_of (sourced l (numbers_of inputs)))
     → IsOpenWell l h (job_of l h inputs target) []
-open_at_first l h inputs target given fitted some of =
+open_at_first l h inputs target given standing fitted roomy some of =
     let least = least_is_least (last_number h) l.live in
-    record { kept = kept_at_first l h inputs target; last = least.0; live = least.1; given = numbers_given l.next_table inputs given; fitted = fitted; some = some; fits = fits-planned l.keep l.since (floor l h); of = of }
+    record { kept = kept_at_first l h inputs target; last = least.0; live = least.1; given = numbers_given l.next_table inputs given; standing = standing; fitted = fitted; roomy = roomy; some = some; fits = fits-planned l.keep l.since (floor l h); of = of }
 
 -- ---- beside it
 
@@ -117,28 +119,28 @@ filtered_live f ticket (x ∷ xs) all = elim (x.ticket == ticket) as (λ b. AllB
 
 module _ (l : Layout) (h : History) (job : Job) (moved : List Named) (k : IsOpenWell l h job moved) where
   pub open_begun : (ticket : ℕ) → IsOpenWell (begun l ticket (last_number h)) h job moved
-  open_begun ticket = record { kept = k.kept; last = k.last; live = all-put_by (λ (x : Live). x.ticket) (λ (x : Live). job.floor ≤ x.number) (record { ticket = ticket; number = last_number h; pin = pin_of l }) l.live k.last k.live; given = k.given; fitted = by job.target k.fitted; some = k.some; fits = k.fits; of = k.of }
+  open_begun ticket = record { kept = k.kept; last = k.last; live = all-put_by (λ (x : Live). x.ticket) (λ (x : Live). job.floor ≤ x.number) (record { ticket = ticket; number = last_number h; pin = pin_of l }) l.live k.last k.live; given = k.given; standing = k.standing; fitted = by job.target k.fitted; roomy = k.roomy; some = k.some; fits = k.fits; of = k.of }
     where
       by : (target : Target) → IsFitted l job target → IsFitted (begun l ticket (last_number h)) job target
       by (Level n) fit = fit
       by InPlace fit = fit
 
   pub open_ended : (ticket : ℕ) → IsOpenWell (ended ticket l) h job moved
-  open_ended ticket = record { kept = k.kept; last = k.last; live = filtered_live job.floor ticket l.live k.live; given = k.given; fitted = by job.target k.fitted; some = k.some; fits = k.fits; of = k.of }
+  open_ended ticket = record { kept = k.kept; last = k.last; live = filtered_live job.floor ticket l.live k.live; given = k.given; standing = k.standing; fitted = by job.target k.fitted; roomy = k.roomy; some = k.some; fits = k.fits; of = k.of }
     where
       by : (target : Target) → IsFitted l job target → IsFitted (ended ticket l) job target
       by (Level n) fit = fit
       by InPlace fit = fit
 
   pub open_picked : (segment : ℕ) → IsOpenWell (with_pass segment l) h job moved
-  open_picked segment = record { kept = k.kept; last = k.last; live = k.live; given = k.given; fitted = by job.target k.fitted; some = k.some; fits = k.fits; of = k.of }
+  open_picked segment = record { kept = k.kept; last = k.last; live = k.live; given = k.given; standing = k.standing; fitted = by job.target k.fitted; roomy = k.roomy; some = k.some; fits = k.fits; of = k.of }
     where
       by : (target : Target) → IsFitted l job target → IsFitted (with_pass segment l) job target
       by (Level n) fit = fit
       by InPlace fit = fit
 
   pub open_swept : (gone : List FileName) → IsOpenWell (without_files gone l) h job moved
-  open_swept gone = record { kept = k.kept; last = k.last; live = k.live; given = k.given; fitted = by job.target k.fitted; some = k.some; fits = k.fits; of = k.of }
+  open_swept gone = record { kept = k.kept; last = k.last; live = k.live; given = k.given; standing = k.standing; fitted = by job.target k.fitted; roomy = k.roomy; some = k.some; fits = k.fits; of = k.of }
     where
       by : (target : Target) → IsFitted l job target → IsFitted (without_files gone l) job target
       by (Level n) fit = fit
@@ -154,7 +156,9 @@ module _ (l : Layout) (h : History) (job : Job) (moved : List Named) (k : IsOpen
     last = (let more = last_more (from_sorted writes) in let low = k.last in omega (arith, more, low));
     live = filtered_live job.floor ticket l.live k.live;
     given = k.given;
+    standing = k.standing;
     fitted = by job.target k.fitted;
+    roomy = k.roomy;
     some = k.some;
     fits = k.fits;
     of = λ key n there. versions-stay h (with_commit h (from_sorted writes)) (with_commit-extends h (from_sorted writes)) key n (k.of key n there);
@@ -170,7 +174,9 @@ module _ (l : Layout) (h : History) (job : Job) (moved : List Named) (k : IsOpen
     last = k.last;
     live = k.live;
     given = k.given;
+    standing = k.standing;
     fitted = by job.target k.fitted;
+    roomy = k.roomy;
     some = k.some;
     fits = fits-keep job.keep job.floor l.keep l.since v (last_number h) k.last known k.fits;
     of = k.of;
@@ -190,7 +196,9 @@ module _ (l : Layout) (h : History) (job : Job) (moved : List Named) (k : IsOpen
     last = k.last;
     live = k.live;
     given = one_later job.inputs k.given;
+    standing = k.standing;
     fitted = by_drawn [] job.target k.fitted;
+    roomy = k.roomy;
     some = k.some;
     fits = k.fits;
     of = k.of;
@@ -201,14 +209,14 @@ module _ (l : Layout) (h : History) (job : Job) (moved : List Named) (k : IsOpen
       one_later (n ∷ ns) all = ((let less = all.0 in omega (arith, less)), one_later ns all.1)
 
   pub open_rotated : IsOpenWell (rotated l) h job moved
-  open_rotated = record { kept = kept_rotated l job moved k.kept; last = k.last; live = k.live; given = k.given; fitted = by job.target k.fitted; some = k.some; fits = k.fits; of = k.of }
+  open_rotated = record { kept = kept_rotated l job moved k.kept; last = k.last; live = k.live; given = k.given; standing = k.standing; fitted = by job.target k.fitted; roomy = k.roomy; some = k.some; fits = k.fits; of = k.of }
     where
       by : (target : Target) → IsFitted l job target → IsFitted (rotated l) job target
       by (Level n) fit = fit
       by InPlace fit = fit
 
   pub open_relocated : (records : List Moved) → IsOpenWell (relocated l records) h job (moves_at (l.version_number + 1) records ++ moved)
-  open_relocated records = record { kept = kept_relocated l records job moved k.kept; last = k.last; live = k.live; given = k.given; fitted = by job.target k.fitted; some = k.some; fits = k.fits; of = k.of }
+  open_relocated records = record { kept = kept_relocated l records job moved k.kept; last = k.last; live = k.live; given = k.given; standing = k.standing; fitted = by job.target k.fitted; roomy = k.roomy; some = k.some; fits = k.fits; of = k.of }
     where
       by : (target : Target) → IsFitted l job target → IsFitted (relocated l records) job target
       by (Level n) fit = fit
@@ -244,12 +252,34 @@ module _ (l : Layout) (h : History) (job : Job) (moved : List Named) (k : IsOpen
     last = k.last;
     live = k.live;
     given = later l.next_table job.inputs k.given;
+    standing = subst (λ (ts : List Table). AreStanding ts job.inputs) (sym new)
+        (all_numbers_weaker (λ (n : ℕ). list_any (λ (u : Table). n == u.number) (tables l) ≡ true) (λ (n : ℕ). list_any (λ (u : Table). n == u.number) (flushed_table l s ∷ tables l) ≡ true)
+        (λ n is. or_right (n == l.next_table) (list_any (λ (u : Table). n == u.number) (tables l)) is) job.inputs k.standing);
     fitted = by job.target k.fitted;
+    roomy = roomy_behind job.target k.roomy;
     some = k.some;
     fits = k.fits;
     of = k.of;
   }
     where
+      new : tables (flushed l s) ≡ flushed_table l s ∷ tables l
+      new = ap (λ (levels : List (List Table)). flat_map (λ ts. ts) (in_front (flushed_table l s) levels)) are ∙ ap (λ (levels : List (List Table)). flushed_table l s ∷ flat_map (λ ts. ts) levels) (sym are)
+
+      all_numbers_weaker : (P Q : ℕ → Type 0) → ((n : ℕ) → P n → Q n) → (ns : List ℕ) → AllByRecursion P ns → AllByRecursion Q ns
+      all_numbers_weaker P Q f [] all = tt
+      all_numbers_weaker P Q f (n ∷ ns) all = (f n all.0, all_numbers_weaker P Q f ns all.1)
+
+      -- the deeper levels are as they were
+      roomy_front : (n : ℕ) (t : Table) → 0 < n → level_at n ((t ∷ level) ∷ deeper) ≡ level_at n (level ∷ deeper)
+      roomy_front n t some = let apart : (n == 0) ≡ false = grind (arith, nat_tests, some) in
+          ap (λ b. cond b (t ∷ level) (level_at (n - 1) deeper)) apart ∙ sym (ap (λ b. cond b level (level_at (n - 1) deeper)) apart)
+
+      roomy_behind : (target : Target) → IsRoomy l.levels job target → IsRoomy (flushed l s).levels job target
+      roomy_behind InPlace roomy = tt
+      roomy_behind (Level n) roomy = subst (λ (levels : List (List Table)). IsRoomy (in_front (flushed_table l s) levels) job (Level n)) (sym are)
+          (let was : IsRoomy (level ∷ deeper) job (Level n) = subst (λ (levels : List (List Table)). IsRoomy levels job (Level n)) are roomy in
+          (was.0, (was.1.0, subst (AllByRecursion (λ (u : Table). is_among job.inputs u ≡ false → IsBesideAll (inputs_of job.base) u)) (sym (roomy_front n (flushed_table l s) was.0)) was.1.1)))
+
       later : (next : ℕ) (ns : List ℕ) → AllByRecursion (λ n. n < next) ns → AllByRecursion (λ n. n < next + 1) ns
       later next [] all = tt
       later next (n ∷ ns) all = ((let one = all.0 in omega (arith, one)), later next ns all.1)
@@ -323,7 +353,7 @@ all_if_so : (Q : Entry → Type 0) (b : Bool) (e : Entry) (es : List Entry) → 
 all_if_so Q true e es here all = (here, all)
 all_if_so Q false e es here all = all
 
-all_kept_from : (Q : Entry → Type 0) (keep : ℕ) (I O : List Entry) (f : ℕ) (newer : List Entry) (ss : List Sourced)
+pub all_kept_from : (Q : Entry → Type 0) (keep : ℕ) (I O : List Entry) (f : ℕ) (newer : List Entry) (ss : List Sourced)
     → AllByRecursion Q (inputs_of ss) → AllByRecursion Q (kept_from keep I O f newer ss)
 all_kept_from Q keep I O f newer [] all = tt
 all_kept_from Q keep I O f newer (s ∷ ss) all = by s.0 all (λ later. all_kept_from Q keep I O f (s.1 ∷ newer) ss later)
@@ -334,7 +364,7 @@ all_kept_from Q keep I O f newer (s ∷ ss) all = by s.0 all (λ later. all_kept
     by true all later = all_if_so Q (not (is_dropped keep I O f newer s.1)) s.1 (kept_from keep I O f (s.1 ∷ newer) ss) all.0 (later all.1)
     by false all later = later all
 
-inputs_front : (Q : Entry → Type 0) (es : List Entry) (ss : List Sourced) → AllByRecursion Q (inputs_of ss) → AllByRecursion Q (inputs_of (marked_as false es ++ ss))
+pub inputs_front : (Q : Entry → Type 0) (es : List Entry) (ss : List Sourced) → AllByRecursion Q (inputs_of ss) → AllByRecursion Q (inputs_of (marked_as false es ++ ss))
 inputs_front Q [] ss all = all
 inputs_front Q (e ∷ es) ss all = inputs_front Q es ss all
 
@@ -342,7 +372,7 @@ inputs_table : (Q : Entry → Type 0) (b : Bool) (es : List Entry) (ss : List So
 inputs_table Q b [] ss all later = later
 inputs_table Q b (e ∷ es) ss all later = all_if_so Q b e (inputs_of (marked_as b es ++ ss)) all.0 (inputs_table Q b es ss all.1 later)
 
-inputs_tables : (Q : Entry → Type 0) (inputs : List ℕ) (ts : List Table) → AllByRecursion Q (all_entries ts) → AllByRecursion Q (inputs_of (marked_tables inputs ts))
+pub inputs_tables : (Q : Entry → Type 0) (inputs : List ℕ) (ts : List Table) → AllByRecursion Q (all_entries ts) → AllByRecursion Q (inputs_of (marked_tables inputs ts))
 inputs_tables Q inputs [] all = tt
 inputs_tables Q inputs (t ∷ ts) all =
     let both = split t.entries (all_entries ts) all in

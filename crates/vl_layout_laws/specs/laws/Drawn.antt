@@ -41,6 +41,7 @@ use Rattle.vl_layout_laws.specs.laws.Switches.{all_replaced, own_memtable, IsOwn
 use Rattle.vl_layout_laws.specs.laws.Streaming.{needed_drawn, lending, putting}
 use Rattle.vl_layout_laws.specs.laws.Steps.{drawn_later}
 use Rattle.vl_layout.specs.Stock.{PointsDrawn, IsDrawnWhole, IsDrawn, IsStocked}
+use Rattle.vl_model.specs.Keys.{value_length}
 
 -- ---- points
 
@@ -77,7 +78,7 @@ placed_below n number less (Inline value) own = tt
 placed_below n number less Gone own = tt
 placed_below n number less (Far pointer) own = absurd own
 placed_below n number less (Logged value pointer) own =
-    elim (nat_le (length value) max_inline_bytes) as (λ t. IsFarBelowAt n (cond t (Inline value) (Far pointer))) [
+    elim (nat_le (value_length value) max_inline_bytes) as (λ t. IsFarBelowAt n (cond t (Inline value) (Far pointer))) [
       | true ↦ tt
       | false ↦ (let same = own.0 in omega (arith, less, same))
     ]

@@ -108,6 +108,15 @@ module _ {X : Type 0} where
       (λ (later : list_any p xs ≡ true). or_right (q x) (list_any q xs) (any_alike p q gives xs later))
       (or_cases (p x) (list_any p xs) there)
 
+-- for each test: where it is passed, it is passed by some of all
+pub seen_by : {X Y : Type 0} (p : Y → X → Bool) (xs : List X) → AllByRecursion (λ (x : X). (y : Y) → p y x ≡ true → list_any (p y) xs ≡ true) xs
+seen_by p [] = tt
+seen_by {X} {Y} p (x ∷ xs) = (
+  (λ y is. or_left (p y x) (list_any (p y) xs) is),
+  all_weaker (λ (z : X). (y : Y) → p y z ≡ true → list_any (p y) xs ≡ true) (λ (z : X). (y : Y) → p y z ≡ true → list_any (p y) (x ∷ xs) ≡ true)
+      (λ z is y at. or_right (p y x) (list_any (p y) xs) (is y at)) xs (seen_by p xs),
+)
+
 module _ {X Y : Type 0} where
   pub any-map : (p : Y → Bool) (f : X → Y) (xs : List X)
       → list_any p (map f xs) ≡ list_any (λ (x : X). p (f x)) xs

@@ -160,17 +160,17 @@ module _ (l : Layout) (f : LogFrame) (job : Job) (moved moved' : List Named)
     (weaker : (e : Entry) → IsAccounted (outside_of job.base) job.floor moved e → IsAccounted (outside_of job.base) job.floor moved' e)
     (new : AllByRecursion (IsAccounted (outside_of job.base) job.floor moved') (added l f)) where
   old_entries : List Entry
-  old_entries = logged_entries l.active.number 16 l.active.frames
+  old_entries = logged_entries l.active.format l.active.number 16 l.active.frames
 
-  memtable_logged : memtable (logged f l).active ≡ in_order (added l f ++ logged_entries l.active.number 16 l.active.frames)
-  memtable_logged = ap in_order (logged_entries-more l.active.number 16 l.active.frames f)
+  memtable_logged : memtable (logged f l).active ≡ in_order (added l f ++ logged_entries l.active.format l.active.number 16 l.active.frames)
+  memtable_logged = ap in_order (logged_entries-more l.active.format l.active.number 16 l.active.frames f)
 
   -- a frame more in the active log, of entries that are accounted for
   pub kept_logged : IsKeptFor job moved (sourced l job.inputs)
       → IsKeptFor job moved' (sourced (logged f l) job.inputs)
   kept_logged k =
       let back = flat_map memtable l.frozen in
-      let old = logged_entries l.active.number 16 l.active.frames in
+      let old = logged_entries l.active.format l.active.number 16 l.active.frames in
       subst (λ (m : List Entry). IsKeptFor job moved' (marked_as false (m ++ back) ++ marked_tables job.inputs (tables l))) (sym memtable_logged)
       (kept_again job moved moved' (in_order old ++ back) (in_order (added l f ++ old) ++ back) (marked_tables job.inputs (tables l)) k
       (covers_both (in_order old) (in_order (added l f ++ old)) back (covers_in_order (added l f) old))
@@ -185,19 +185,19 @@ module _ (l : Layout) (f : LogFrame) (job : Job) (moved moved' : List Named)
 
 -- ---- a commit
 
-committed_accounted : (outside : List Entry) (floor : ℕ) (moved : List Named) (segment place number : ℕ) (writes : List (List ℕ × Change))
+committed_accounted : (outside : List Entry) (floor : ℕ) (moved : List Named) (format segment place number : ℕ) (writes : List (List ℕ × Change))
     → floor < number
-    → AllByRecursion (IsAccounted outside floor moved) (map (record_entry segment) (committed_records place number writes))
-committed_accounted outside floor moved segment place number [] above = tt
-committed_accounted outside floor moved segment place number (w ∷ ws) above =
-    (inr (inl above), committed_accounted outside floor moved segment (place + record_length w.0 w.1) number ws above)
+    → AllByRecursion (IsAccounted outside floor moved) (map (record_entry format segment) (committed_records format place number writes))
+committed_accounted outside floor moved format segment place number [] above = tt
+committed_accounted outside floor moved format segment place number (w ∷ ws) above =
+    (inr (inl above), committed_accounted outside floor moved format segment (place + record_length format w.0 w.1) number ws above)
 
 pub kept_committed : (l : Layout) (h : History) (ticket : ℕ) (writes : List (List ℕ × Change)) (job : Job) (moved : List Named)
     → job.floor ≤ last_number h → IsKeptFor job moved (sourced l job.inputs)
     → IsKeptFor job moved (sourced (logged (commit_frame h writes) (ended ticket l)) job.inputs)
 kept_committed l h ticket writes job moved low k =
     kept_logged (ended ticket l) (commit_frame h writes) job moved moved (λ e a. a)
-    (committed_accounted (outside_of job.base) job.floor moved l.active.number (place_behind 16 l.active.frames + 17) (last_number h + 1) writes (omega (arith, low)))
+    (committed_accounted (outside_of job.base) job.floor moved l.active.format l.active.number (place_behind l.active.format 16 l.active.frames + 17) (last_number h + 1) writes (omega (arith, low)))
     k
 
 -- ---- a relocation
@@ -221,20 +221,20 @@ accounted-more outside floor xs ys e (inl there) = inl there
 accounted-more outside floor xs ys e (inr (inl above)) = inr (inl above)
 accounted-more outside floor xs ys e (inr (inr was)) = inr (inr (find-front e.key xs ys was))
 
-module _ (outside : List Entry) (floor : ℕ) (segment number : ℕ) (moved : List Named) where
+module _ (outside : List Entry) (floor : ℕ) (format segment number : ℕ) (moved : List Named) where
   one_more_noted : (x : List ℕ × ℕ) (xs : List Named) (e : Entry)
       → IsAccounted outside floor (xs ++ moved) e → IsAccounted outside floor (x ∷ xs ++ moved) e
   one_more_noted x xs e a = accounted-more outside floor (x ∷ []) (xs ++ moved) e a
 
   moved_accounted : (place : ℕ) (ms : List Moved)
-      → AllByRecursion (IsAccounted outside floor (moves_at number ms ++ moved)) (map (record_entry segment) (relocated_records place ms))
+      → AllByRecursion (IsAccounted outside floor (moves_at number ms ++ moved)) (map (record_entry format segment) (relocated_records format place ms))
   moved_accounted place [] = tt
   moved_accounted place (m ∷ ms) = (
     inr (inr (find-first m.key number (moves_at number ms ++ moved))),
     all_weaker (IsAccounted outside floor (moves_at number ms ++ moved)) (IsAccounted outside floor (moves_at number (m ∷ ms) ++ moved))
         (λ e a. one_more_noted (m.key, number) (moves_at number ms) e a)
-        (map (record_entry segment) (relocated_records (place + moved_length m) ms))
-        (moved_accounted (place + moved_length m) ms),
+        (map (record_entry format segment) (relocated_records format (place + moved_length format m) ms))
+        (moved_accounted (place + moved_length format m) ms),
   )
 
 pub kept_relocated : (l : Layout) (records : List Moved) (job : Job) (moved : List Named)
@@ -243,7 +243,7 @@ pub kept_relocated : (l : Layout) (records : List Moved) (job : Job) (moved : Li
 kept_relocated l records job moved k =
     kept_logged l (Relocated records) job moved (moves_at (l.version_number + 1) records ++ moved)
     (λ e a. accounted-more (outside_of job.base) job.floor (moves_at (l.version_number + 1) records) moved e a)
-    (moved_accounted (outside_of job.base) job.floor l.active.number (l.version_number + 1) moved (place_behind 16 l.active.frames + 9) records)
+    (moved_accounted (outside_of job.base) job.floor l.active.format l.active.number (l.version_number + 1) moved (place_behind l.active.format 16 l.active.frames + 9) records)
     k
 
 -- ---- a rotation

@@ -5,15 +5,12 @@ use Rattle.vl_layout.specs.Levels.{is_before, in_key_order}
 use Rattle.vl_layout.specs.declared.table.Table.{Table}
 use Rattle.vl_layout_laws.specs.laws.Lists.{true_false}
 use Rattle.vl_layout_laws.specs.laws.Outputs.{Lt, lt_le_then, lt_le}
-use Rattle.vl_layout.specs.TidyLevels.{Le, IsApart}
+use Rattle.vl_layout.specs.TidyLevels.{Le, IsApart, IsWide}
 use Rattle.vl_layout_laws.specs.laws.Pairs.{le_then}
 
 -- the table ends before all of these begin, or begins behind all of them
 abbrev pub IsAside : List Table → Table → Type 0
 IsAside new u = AllByRecursion (λ (t : Table). Lt u.last t.first) new ⊎ AllByRecursion (λ (t : Table). Lt t.last u.first) new
-
-abbrev pub IsWide : Table → Type 0
-IsWide t = Le t.first t.last
 
 never_lt : (a b : List ℕ) → Lt a b → Le b a → ⊥
 never_lt a b less le = true_false (sym less ∙ le)
@@ -26,7 +23,7 @@ all_weaker : (P Q : Table → Type 0) → ((t : Table) → P t → Q t) → (ts 
 all_weaker P Q f [] all = tt
 all_weaker P Q f (t ∷ ts) all = (f t all.0, all_weaker P Q f ts all.1)
 
-all_among : (P : Table → Type 0) (new ts : List Table) → AllByRecursion P new → AllByRecursion P ts → AllByRecursion P (in_key_order new ts)
+pub all_among : (P : Table → Type 0) (new ts : List Table) → AllByRecursion P new → AllByRecursion P ts → AllByRecursion P (in_key_order new ts)
 all_among P new [] a b = a
 all_among P new (t ∷ ts) a b = elim (is_before t new) as (λ c. AllByRecursion P (cond c (t ∷ in_key_order new ts) (new ++ t ∷ ts))) [
   | true ↦ (b.0, all_among P new ts a b.1)

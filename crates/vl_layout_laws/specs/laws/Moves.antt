@@ -8,7 +8,7 @@ use Rattle.std.specs.List.{AllByRecursion, flat_map, list_any, filter}
 use Rattle.std.specs.Ordering.{eq_by_cmp}
 use Rattle.vl_model.specs.Entries.{is_at, in_order}
 use Rattle.vl_model.specs.Frames.{frame_length, moved_length}
-use Rattle.vl_model.specs.Keys.{key_cmp}
+use Rattle.vl_model.specs.Keys.{key_cmp, Stored, value_length}
 use Rattle.vl_model.specs.Limits.{max_inline_bytes}
 use Rattle.vl_model.specs.Placement.{placed, placement}
 use Rattle.vl_model.specs.Winners.{exact, is_far_to, leads_to, wins_exactly}
@@ -87,18 +87,18 @@ outside_record : (segment : ℕ) (c : Change) (p : Pointer) (place : ℕ) → is
 outside_record segment (Set value) p place = refl
 outside_record segment Delete p place = refl
 
-outside_records : (segment number : ℕ) (rs : List LogRecord) → AllByRecursion (IsOutside segment) (map (record_entry number) rs)
-outside_records segment number [] = tt
-outside_records segment number (r ∷ rs) = (outside_record segment r.change (pointer_to number r), outside_records segment number rs)
+outside_records : (format segment number : ℕ) (rs : List LogRecord) → AllByRecursion (IsOutside segment) (map (record_entry format number) rs)
+outside_records format segment number [] = tt
+outside_records format segment number (r ∷ rs) = (outside_record segment r.change (pointer_to format number r), outside_records format segment number rs)
 
 -- what is found behind a frame more is found in it, or was found before
 pub exact_logged : (key : List ℕ) (version : ℕ) (l : Layout) (f : LogFrame)
     → exact (sources (logged f l)) key version ≡ or_else (exact (added l f) key version) (exact (sources l) key version)
 exact_logged key version l f =
-    let old = logged_entries l.active.number 16 l.active.frames in
+    let old = logged_entries l.active.format l.active.number 16 l.active.frames in
     let B = exact (behind_active l) key version in
     exact-append key version (memtable (logged f l).active) (behind_active l)
-    ∙ ap (λ (es : List Entry). or_else (exact (in_order es) key version) B) (logged_entries-more l.active.number 16 l.active.frames f)
+    ∙ ap (λ (es : List Entry). or_else (exact (in_order es) key version) B) (logged_entries-more l.active.format l.active.number 16 l.active.frames f)
     ∙ ap (λ (o : Option Entry). or_else o B) (exact-in_order key version (added l f ++ old) ∙ exact-append key version (added l f) old ∙ ap (or_else (exact (added l f) key version)) (sym (exact-in_order key version old)))
     ∙ assoc (exact (added l f) key version) (exact (in_order old) key version) B
     ∙ ap (or_else (exact (added l f) key version)) (sym (exact-append key version (memtable l.active) (behind_active l)))
@@ -116,7 +116,7 @@ shrinks_logged segment l f key version place wins =
         → wins_exactly (sources l) segment key version place ≡ true
     by_found None is wins = sym (ap (λ o. leads_to segment place (or_else o (exact (sources l) key version))) is) ∙ wins
     by_found (Some e) is wins =
-        let out = found_one key version (IsOutside segment) (added l f) (outside_records segment l.active.number (frame_records (place_behind 16 l.active.frames) f)) (Some e) is e refl in
+        let out = found_one key version (IsOutside segment) (added l f) (outside_records l.active.format segment l.active.number (frame_records l.active.format (place_behind l.active.format 16 l.active.frames) f)) (Some e) is e refl in
         absurd (true_false (sym wins ∙ ap (λ o. leads_to segment place (or_else o (exact (sources l) key version))) is ∙ out place))
 
 pub shrinks_rotated : (segment : ℕ) (l : Layout) → Shrinks segment (sources l) (sources (rotated l))
@@ -163,10 +163,10 @@ module _ (segment last : ℕ) (es : List Entry) where
       later [] all = tt
       later (x ∷ xs) all = ((λ moves at. more (all.0 moves at)), later xs all.1)
 
-  any_recorded : (key : List ℕ) (version number place : ℕ) (ms : List Moved)
-      → list_any (is_at key version) (map (record_entry number) (relocated_records place ms)) ≡ list_any (λ (m : Moved). eq_by_cmp key_cmp key m.key && (m.version == version)) ms
-  any_recorded key version number place [] = refl
-  any_recorded key version number place (m ∷ ms) = ap (λ b. (eq_by_cmp key_cmp key m.key && (m.version == version)) || b) (any_recorded key version number (place + moved_length m) ms)
+  any_recorded : (format : ℕ) (key : List ℕ) (version number place : ℕ) (ms : List Moved)
+      → list_any (is_at key version) (map (record_entry format number) (relocated_records format place ms)) ≡ list_any (λ (m : Moved). eq_by_cmp key_cmp key m.key && (m.version == version)) ms
+  any_recorded format key version number place [] = refl
+  any_recorded format key version number place (m ∷ ms) = ap (λ b. (eq_by_cmp key_cmp key m.key && (m.version == version)) || b) (any_recorded format key version number (place + moved_length format m) ms)
 
 tied : (key : List ℕ) (version : ℕ) → (eq_by_cmp key_cmp key key && (version == version)) ≡ true
 tied key version =
@@ -186,9 +186,9 @@ module _ (segment last : ℕ) (l : Layout) (batch : List Candidate) where
       let before : wins_exactly (sources l) segment c.moved.key c.moved.version c.place ≡ true = shrinks_logged segment l f c.moved.key c.moved.version c.place wins in
       let le : nat_le c.moved.version last ≡ true = grind (arith, nat_tests) in
       let moves : is_moved (sources l) segment last c ≡ true = and_from (wins_exactly (sources l) segment c.moved.key c.moved.version c.place) (nat_le c.moved.version last) before le in
-      let there = any_recorded segment last (sources l) c.moved.key c.moved.version l.active.number (place_behind 16 l.active.frames + 9) (moved_of (sources l) segment last batch) ∙ added_if moves in
+      let there = any_recorded segment last (sources l) l.active.format c.moved.key c.moved.version l.active.number (place_behind l.active.format 16 l.active.frames + 9) (moved_of (sources l) segment last batch) ∙ added_if moves in
       let found = is_found c.moved.key c.moved.version (added l f) there in
-      let out = found_one c.moved.key c.moved.version (IsOutside segment) (added l f) (outside_records segment l.active.number (frame_records (place_behind 16 l.active.frames) f)) (Some found.0) found.1 found.0 refl in
+      let out = found_one c.moved.key c.moved.version (IsOutside segment) (added l f) (outside_records l.active.format segment l.active.number (frame_records l.active.format (place_behind l.active.format 16 l.active.frames) f)) (Some found.0) found.1 found.0 refl in
       true_false (sym wins ∙ ap (leads_to segment c.place) (exact_logged c.moved.key c.moved.version l f) ∙ ap (λ o. leads_to segment c.place (or_else o (exact (sources l) c.moved.key c.moved.version))) found.1 ∙ out c.place))
 
   -- Right behind a relocation no record of its batch wins exactly from inside the log.
@@ -254,7 +254,7 @@ still_settled segment before now c shrinks settled =
 -- Where all that a pass found is settled, and nothing won anew, no record of the log that has a value wins exactly.
 pub pass_settles : (segment : ℕ) (base now : List Entry) → Shrinks segment base now → (rs : List LogRecord)
     → AllByRecursion (IsSettled segment now) (found_all base segment rs)
-    → AllByRecursion (λ (r : LogRecord). (value : List ℕ) → r.change ≡ Set value → wins_exactly now segment r.key r.version r.place ≡ false) rs
+    → AllByRecursion (λ (r : LogRecord). (value : Stored) → r.change ≡ Set value → wins_exactly now segment r.key r.version r.place ≡ false) rs
 pass_settles segment base now shrinks [] all = tt
 pass_settles segment base now shrinks (r ∷ rs) all = (one, pass_settles segment base now shrinks rs (later (found_in base segment r) all))
   where
@@ -262,7 +262,7 @@ pass_settles segment base now shrinks (r ∷ rs) all = (one, pass_settles segmen
     later [] a = a
     later (c ∷ cs) a = later cs a.1
 
-    one : (value : List ℕ) → r.change ≡ Set value → wins_exactly now segment r.key r.version r.place ≡ false
+    one : (value : Stored) → r.change ≡ Set value → wins_exactly now segment r.key r.version r.place ≡ false
     one value is = by (wins_exactly base segment r.key r.version r.place) refl
       where
         by : (b : Bool) → wins_exactly base segment r.key r.version r.place ≡ b → wins_exactly now segment r.key r.version r.place ≡ false
@@ -284,17 +284,17 @@ own_record : (number : ℕ) (c : Change) (p : Pointer) → p.segment ≡ number 
 own_record number (Set value) p is = is
 own_record number Delete p is = tt
 
-own_records : (number : ℕ) (rs : List LogRecord) → AllByRecursion (λ (e : Entry). IsOwnAt number e.body) (map (record_entry number) rs)
-own_records number [] = tt
-own_records number (r ∷ rs) = (own_record number r.change (pointer_to number r) refl, own_records number rs)
+own_records : (format number : ℕ) (rs : List LogRecord) → AllByRecursion (λ (e : Entry). IsOwnAt number e.body) (map (record_entry format number) rs)
+own_records format number [] = tt
+own_records format number (r ∷ rs) = (own_record number r.change (pointer_to format number r) refl, own_records format number rs)
 
 own_both : (number : ℕ) (xs ys : List Entry) → AllByRecursion (λ (e : Entry). IsOwnAt number e.body) xs → AllByRecursion (λ (e : Entry). IsOwnAt number e.body) ys → AllByRecursion (λ (e : Entry). IsOwnAt number e.body) (xs ++ ys)
 own_both number [] ys a b = b
 own_both number (x ∷ xs) ys a b = (a.0, own_both number xs ys a.1 b)
 
-own_logged : (number place : ℕ) (fs : List LogFrame) → AllByRecursion (λ (e : Entry). IsOwnAt number e.body) (logged_entries number place fs)
-own_logged number place [] = tt
-own_logged number place (f ∷ fs) = own_both number (logged_entries number (place + frame_length f) fs) (frame_entries number place f) (own_logged number (place + frame_length f) fs) (own_records number (frame_records place f))
+own_logged : (format number place : ℕ) (fs : List LogFrame) → AllByRecursion (λ (e : Entry). IsOwnAt number e.body) (logged_entries format number place fs)
+own_logged format number place [] = tt
+own_logged format number place (f ∷ fs) = own_both number (logged_entries format number (place + frame_length format f) fs) (frame_entries format number place f) (own_logged format number (place + frame_length format f) fs) (own_records format number (frame_records format place f))
 
 outside_placed : (segment number : ℕ) → number ≢ segment → (b : Body) → IsOwnAt number b → (place : ℕ) → is_far_to segment place (placement b) ≡ false
 outside_placed segment number apart (Inline value) own place = refl
@@ -302,7 +302,7 @@ outside_placed segment number apart Gone own place = refl
 outside_placed segment number apart (Far p) own place = absurd own
 outside_placed segment number apart (Logged value p) own place =
     let other : (p.segment == segment) ≡ false = grind (arith, nat_tests, apart, own) in
-    elim (nat_le (length value) max_inline_bytes) as (λ t. is_far_to segment place (cond t (Inline value) (Far p)) ≡ false) [
+    elim (nat_le (value_length value) max_inline_bytes) as (λ t. is_far_to segment place (cond t (Inline value) (Far p)) ≡ false) [
       | true ↦ refl
       | false ↦ ap (λ b. b && (p.place == place)) other
     ]
@@ -366,5 +366,5 @@ shrinks_flushed segment l s level deeper apart waits are =
     ∙ sym (append_assoc active front (map placed (memtable s) ++ back)) in
     λ key version place wins.
     ap (λ (es : List Entry). wins_exactly es segment key version place) before
-    ∙ placed_shrinks segment s.number apart (active ++ front) (memtable s) back (all-in_order (λ (e : Entry). IsOwnAt s.number e.body) (logged_entries s.number 16 s.frames) (own_logged s.number 16 s.frames)) key version place
+    ∙ placed_shrinks segment s.number apart (active ++ front) (memtable s) back (all-in_order (λ (e : Entry). IsOwnAt s.number e.body) (logged_entries s.format s.number 16 s.frames) (own_logged s.format s.number 16 s.frames)) key version place
     (sym (ap (λ (es : List Entry). wins_exactly es segment key version place) after) ∙ wins)

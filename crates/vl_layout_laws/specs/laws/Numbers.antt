@@ -68,7 +68,7 @@ module _ (l : Layout) (h : History) where
   checked_rises : (t : Transaction) (conflict : Option Named) → Rises l (commit_checked l h t conflict)
   checked_rises t (Some named) = record { log = omega arith; table = omega arith }
   checked_rises t None =
-      either l (nat_le (l.active.length + frame_length (commit_frame h t.writes)) l.room) (committed l h t) _ (record { log = omega arith; table = omega arith }) w
+      either l (nat_le (l.active.length + frame_length l.active.format (commit_frame h t.writes)) l.room) (committed l h t) _ (record { log = omega arith; table = omega arith }) w
 
   running_rises : (t : Transaction) (conflict : Option Named) → Rises l (commit_running l h t conflict)
   running_rises t conflict =
@@ -118,7 +118,7 @@ module _ (l : Layout) (h : History) where
   relocate_of-rises [] = w
   relocate_of-rises (m ∷ ms) =
       either l (has_no_version l) _ _ w
-      (either l (nat_le (l.active.length + frame_length (Relocated (m ∷ ms))) l.room) _ _ (record { log = omega arith; table = omega arith }) w)
+      (either l (nat_le (l.active.length + frame_length l.active.format (Relocated (m ∷ ms))) l.room) _ _ (record { log = omega arith; table = omega arith }) w)
 
   relocate_unless-rises : (pass : Pass) (batch : List Candidate) (halted : Option FileName) → Rises l (relocate_unless halted l h pass batch)
   relocate_unless-rises pass batch (Some name) = w

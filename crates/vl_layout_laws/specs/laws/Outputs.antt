@@ -21,6 +21,7 @@ use Rattle.vl_layout.specs.declared.job.Job.{Job}
 use Rattle.vl_layout.specs.declared.table.Table.{Table}
 use Rattle.vl_layout.specs.TidyLevels.{Le, IsRanged, IsApart}
 use Rattle.vl_layout_laws.specs.laws.Pairs.{le_then}
+use Rattle.vl_model.specs.Formats.{table_format}
 
 abbrev pub Lt : List ℕ → List ℕ → Type 0
 Lt a b = is_lt (key_cmp a b) ≡ true
@@ -79,7 +80,7 @@ all_put P e (f ∷ fs) here all = elim (entry_cmp e f) as (λ r. AllByRecursion 
   | Greater ↦ (all.0, all_put P e fs here all.1)
 ]
 
-all_weaker : (P Q : Entry → Type 0) → ((e : Entry) → P e → Q e) → (es : List Entry) → AllByRecursion P es → AllByRecursion Q es
+pub all_weaker : (P Q : Entry → Type 0) → ((e : Entry) → P e → Q e) → (es : List Entry) → AllByRecursion P es → AllByRecursion Q es
 all_weaker P Q f [] all = tt
 all_weaker P Q f (e ∷ es) all = (f e all.0, all_weaker P Q f es all.1)
 
@@ -108,7 +109,7 @@ sorted_put e (f ∷ fs) sorted = by (entry_cmp e f) refl (sorted_put e fs sorted
     by Greater is later =
         (all_put (λ (g : Entry). Le f.key g.key) e fs (key_down e f (key_cmp e.key f.key) (nat_cmp f.version e.version) refl is) sorted.0, later)
 
-sorted_in_order : (es : List Entry) → IsSorted (in_order es)
+pub sorted_in_order : (es : List Entry) → IsSorted (in_order es)
 sorted_in_order [] = tt
 sorted_in_order (e ∷ es) = sorted_put e (in_order es) (sorted_in_order es)
 
@@ -142,15 +143,15 @@ from_well : (table : List Entry) (key : List ℕ) (closed open_bytes : ℕ) (es 
     → IsCutWell (tables_from table key closed open_bytes es)
 from_well table key closed open_bytes [] some sorted below above rest = (nothing_behind table, (some, (sorted, tt)))
 from_well table key closed open_bytes (e ∷ es) some sorted below above rest =
-    let begun = from_well (e ∷ []) e.key 0 (begun_length e) es (omega arith) (tt, tt) (ap is_lt (key_tied e.key), tt) rest.0 rest.1 in
+    let begun = from_well (e ∷ []) e.key 0 (begun_length table_format e) es (omega arith) (tt, tt) (ap is_lt (key_tied e.key), tt) rest.0 rest.1 in
     let lower : AllByRecursion (λ (x : Entry). Le x.key e.key) table = all_weaker (λ (x : Entry). Le x.key key) (λ (x : Entry). Le x.key e.key) (λ x le. le_then x.key key e.key le above.0) table below in
     let more : 1 ≤ length (table ++ e ∷ []) = omega (arith, some, Rattle.std.proofs.Common.length-append table (e ∷ [])) in
     let under : AllByRecursion (λ (x : Entry). Le x.key e.key) (table ++ e ∷ []) = all_both (λ (x : Entry). Le x.key e.key) table (e ∷ []) lower (ap is_lt (key_tied e.key), tt) in
     let longer = sorted_more table e sorted lower in
-    let grown : List (List Entry) = tables_from (table ++ e ∷ []) e.key closed (open_bytes + entry_length e) es in
-    let next : List (List Entry) = tables_from (table ++ e ∷ []) e.key (closed + around open_bytes) (begun_length e) es in
-    let later : List (List Entry) = tables_from (e ∷ []) e.key 0 (begun_length e) es in
-    either (not (eq_by_cmp key_cmp key e.key) && nat_le full_table_bytes (closed + around open_bytes)) (table ∷ later) (if nat_le (open_bytes + entry_length e) max_block_bytes then grown else next)
+    let grown : List (List Entry) = tables_from (table ++ e ∷ []) e.key closed (open_bytes + entry_length table_format e) es in
+    let next : List (List Entry) = tables_from (table ++ e ∷ []) e.key (closed + around open_bytes) (begun_length table_format e) es in
+    let later : List (List Entry) = tables_from (e ∷ []) e.key 0 (begun_length table_format e) es in
+    either (not (eq_by_cmp key_cmp key e.key) && nat_le full_table_bytes (closed + around open_bytes)) (table ∷ later) (if nat_le (open_bytes + entry_length table_format e) max_block_bytes then grown else next)
     (λ closes.
     let apart : eq_by_cmp key_cmp key e.key ≡ false = not_true (eq_by_cmp key_cmp key e.key) (and_parts (not (eq_by_cmp key_cmp key e.key)) (nat_le full_table_bytes (closed + around open_bytes)) closes).0 in
     let step : Lt key e.key = le_apart key e.key above.0 apart in (
@@ -159,9 +160,9 @@ from_well table key closed open_bytes (e ∷ es) some sorted below above rest =
           (λ x le. (le_lt x.key key e.key le step, all_weaker (λ (f : Entry). Le e.key f.key) (λ (f : Entry). Lt x.key f.key) (λ f up. lt_le_then x.key e.key f.key (le_lt x.key key e.key le step) up) es rest.0)) table below),
       (some, (sorted, begun)),
     ))
-    (either' (nat_le (open_bytes + entry_length e) max_block_bytes) grown next
-    (from_well (table ++ e ∷ []) e.key closed (open_bytes + entry_length e) es more longer under rest.0 rest.1)
-    (from_well (table ++ e ∷ []) e.key (closed + around open_bytes) (begun_length e) es more longer under rest.0 rest.1))
+    (either' (nat_le (open_bytes + entry_length table_format e) max_block_bytes) grown next
+    (from_well (table ++ e ∷ []) e.key closed (open_bytes + entry_length table_format e) es more longer under rest.0 rest.1)
+    (from_well (table ++ e ∷ []) e.key (closed + around open_bytes) (begun_length table_format e) es more longer under rest.0 rest.1))
   where
     not_true : (b : Bool) → not b ≡ true → b ≡ false
     not_true true h = absurd cc
@@ -171,27 +172,27 @@ from_well table key closed open_bytes (e ∷ es) some sorted below above rest =
     either' true x y one other = one
     either' false x y one other = other
 
-cut_well : (es : List Entry) → IsSorted es → IsCutWell (cut_into_tables es)
+pub cut_well : (es : List Entry) → IsSorted es → IsCutWell (cut_into_tables es)
 cut_well [] sorted = tt
-cut_well (e ∷ es) sorted = from_well (e ∷ []) e.key 0 (begun_length e) es (omega arith) (tt, tt) (ap is_lt (key_tied e.key), tt) sorted.0 sorted.1
+cut_well (e ∷ es) sorted = from_well (e ∷ []) e.key 0 (begun_length table_format e) es (omega arith) (tt, tt) (ap is_lt (key_tied e.key), tt) sorted.0 sorted.1
 
 -- ---- the tables
 
-of_first : (P : List ℕ → Type 0) (es : List Entry) → 1 ≤ length es → AllByRecursion (λ (e : Entry). P e.key) es → P (first_key es)
+pub of_first : (P : List ℕ → Type 0) (es : List Entry) → 1 ≤ length es → AllByRecursion (λ (e : Entry). P e.key) es → P (first_key es)
 of_first P [] some all = absurd (omega (arith, some))
 of_first P (e ∷ es) some all = all.0
 
-of_last : (P : List ℕ → Type 0) (es : List Entry) → 1 ≤ length es → AllByRecursion (λ (e : Entry). P e.key) es → P (last_key es)
+pub of_last : (P : List ℕ → Type 0) (es : List Entry) → 1 ≤ length es → AllByRecursion (λ (e : Entry). P e.key) es → P (last_key es)
 of_last P [] some all = absurd (omega (arith, some))
 of_last P (e ∷ []) some all = all.0
 of_last P (e ∷ f ∷ fs) some all = of_last P (f ∷ fs) (omega arith) all.1
 
-up_to_last : (es : List Entry) → IsSorted es → AllByRecursion (λ (e : Entry). Le e.key (last_key es)) es
+pub up_to_last : (es : List Entry) → IsSorted es → AllByRecursion (λ (e : Entry). Le e.key (last_key es)) es
 up_to_last [] sorted = tt
 up_to_last (e ∷ []) sorted = (ap is_lt (key_tied e.key), tt)
 up_to_last (e ∷ f ∷ fs) sorted = (of_last (Le e.key) (f ∷ fs) (omega arith) sorted.0, up_to_last (f ∷ fs) sorted.1)
 
-from_first : (es : List Entry) → IsSorted es → AllByRecursion (λ (e : Entry). Le (first_key es) e.key) es
+pub from_first : (es : List Entry) → IsSorted es → AllByRecursion (λ (e : Entry). Le (first_key es) e.key) es
 from_first [] sorted = tt
 from_first (e ∷ es) sorted = (ap is_lt (key_tied e.key), sorted.0)
 

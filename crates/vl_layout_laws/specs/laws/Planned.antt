@@ -115,7 +115,7 @@ module _ (n : ℕ) (A B : List Table) (distinct_A : IsDistinct A) (other : AreOt
   ins = with_next (due_inputs n A) B
 
   -- what is so of all of both is so of the inputs
-  all_ins : (P : Table → Type 0) → AllByRecursion P A → AllByRecursion P B → AllByRecursion P (with_next (due_inputs n A) B)
+  pub all_ins : (P : Table → Type 0) → AllByRecursion P A → AllByRecursion P B → AllByRecursion P (with_next (due_inputs n A) B)
   all_ins P a b = all_both P (due_inputs n A) (filter (meets (range_of (due_inputs n A))) B) (all_given P n A a) (all_filtered P (meets (range_of (due_inputs n A))) B b)
 
   pub met : AllByRecursion (λ (u : Table). meets (range_of (due_inputs n A)) u ≡ true → is_among (numbers_of (with_next (due_inputs n A) B)) u ≡ true) B
@@ -151,7 +151,7 @@ module _ (n : ℕ) (A B : List Table) (distinct_A : IsDistinct A) (other : AreOt
           two (x ∷ xs) a b = ((λ same. subst (λ (y : Table). Le range.0 y.first × Le y.last range.1) (b.0 same) a.0), two xs a.1 b.1)
 
   -- where nothing is due_inputs there is no input
-  none_given : range_of (due_inputs n A) ≡ None → with_next (due_inputs n A) B ≡ []
+  pub none_given : range_of (due_inputs n A) ≡ None → with_next (due_inputs n A) B ≡ []
   none_given is = by (due_inputs n A) is
     where
       some : (v : Table) (o : Option Range) → widened v o ≡ None → ⊥
@@ -224,17 +224,17 @@ module _ (keep : ℕ) (I O : List Entry) (floor : ℕ) (inputs : List ℕ) (key 
       let same : length (us ∷ pre) + 1 ≡ length (ts ∷ us ∷ pre) + 1 - 1 = omega arith in
       inr (omega arith, (both.0, subst (λ (n : ℕ). IsShaped keep I O floor inputs key n ((us ∷ pre) ++ A ∷ B ∷ deeper)) same later))
 
-record IsCut (n : ℕ) (levels : List (List Table)) : Type 0 where
-  pre : List (List Table)
-  first : List Table
-  second : List Table
-  deeper : List (List Table)
-  whole : levels ≡ pre ++ first ∷ second ∷ deeper
-  count : length pre ≡ n
-  first_is : level_at n levels ≡ first
-  second_is : level_at (n + 1) levels ≡ second
+pub record IsCut (n : ℕ) (levels : List (List Table)) : Type 0 where
+  pub pre : List (List Table)
+  pub first : List Table
+  pub second : List Table
+  pub deeper : List (List Table)
+  pub whole : levels ≡ pre ++ first ∷ second ∷ deeper
+  pub count : length pre ≡ n
+  pub first_is : level_at n levels ≡ first
+  pub second_is : level_at (n + 1) levels ≡ second
 
-cut_at : (n : ℕ) (levels : List (List Table)) → n + 1 < length levels → IsCut n levels
+pub cut_at : (n : ℕ) (levels : List (List Table)) → n + 1 < length levels → IsCut n levels
 cut_at n [] within = absurd (omega (arith, within))
 cut_at n (A ∷ []) within = absurd (omega (arith, within))
 cut_at n (A ∷ B ∷ deeper) within = by (n == 0) refl (λ less. cut_at (n - 1) (B ∷ deeper) less)
@@ -271,7 +271,7 @@ cut_at n (A ∷ B ∷ deeper) within = by (n == 0) refl (λ less. cut_at (n - 1)
           second_is = ap (λ b. cond b A (level_at (n + 1 - 1) (B ∷ deeper))) next ∙ ap (λ (m : ℕ). level_at m (B ∷ deeper)) back ∙ c.second_is;
         }
 
-flat_levels : (pre : List (List Table)) (others : List (List Table))
+pub flat_levels : (pre : List (List Table)) (others : List (List Table))
     → flat_map (λ ts. ts) (pre ++ others) ≡ flat_map (λ ts. ts) pre ++ flat_map (λ ts. ts) others
 flat_levels [] others = refl
 flat_levels (ts ∷ pre) others = ap (λ (xs : List Table). ts ++ xs) (flat_levels pre others) ∙ sym (Rattle.std.proofs.Common.append_assoc ts (flat_map (λ us. us) pre) (flat_map (λ us. us) others))

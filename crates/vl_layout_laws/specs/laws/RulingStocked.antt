@@ -22,6 +22,7 @@ use Rattle.vl_layout.specs.Rulings.Rotate.{rotate_of, rotate_unless, rotate_ruli
 use Rattle.vl_layout.specs.Rulings.Sweep.{pins, is_held, is_up_to, swept, sweep_unless}
 use Rattle.vl_layout.specs.Sources.{oldest, sources, tables}
 use Rattle.vl_layout.specs.Stock.{leads, IsFooted, PointsDrawn, with_lent, IsWellStocked, IsLoose}
+use Rattle.vl_layout.specs.TidyLevels.{IsDistinct}
 use Rattle.vl_layout.specs.declared.file_name.FileName.{FileName}
 use Rattle.vl_layout.specs.declared.file_name.Retired.{Retired}
 use Rattle.vl_layout.specs.declared.job.Job.{Job}
@@ -63,7 +64,7 @@ module _ (l : Layout) (h : History) (w : IsWellStocked l) where
   checked_well : (t : Transaction) (conflict : Option Named) → LeavesWell (commit_checked l h t conflict)
   checked_well t (Some named) = well_ended l w t.ticket
   checked_well t None =
-      either (nat_le (l.active.length + frame_length (commit_frame h t.writes)) l.room) (committed l h t) _ (well_logged (ended t.ticket l) (well_ended l w t.ticket) (commit_frame h t.writes)) w
+      either (nat_le (l.active.length + frame_length l.active.format (commit_frame h t.writes)) l.room) (committed l h t) _ (well_logged (ended t.ticket l) (well_ended l w t.ticket) (commit_frame h t.writes)) w
 
   running_well : (t : Transaction) (conflict : Option Named) → LeavesWell (commit_running l h t conflict)
   running_well t conflict =
@@ -113,7 +114,7 @@ module _ (l : Layout) (h : History) (w : IsWellStocked l) where
   relocate_of-well [] = w
   relocate_of-well (m ∷ ms) =
       either (has_no_version l) _ _ w
-      (either (nat_le (l.active.length + frame_length (Relocated (m ∷ ms))) l.room) _ _ (well_relocated l w (m ∷ ms)) w)
+      (either (nat_le (l.active.length + frame_length l.active.format (Relocated (m ∷ ms))) l.room) _ _ (well_relocated l w (m ∷ ms)) w)
 
   relocate_unless-well : (pass : Pass) (batch : List Candidate) (halted : Option FileName) → LeavesWell (relocate_unless halted l h pass batch)
   relocate_unless-well pass batch (Some name) = w
@@ -160,10 +161,10 @@ module _ (l : Layout) (h : History) (w : IsWellStocked l) where
       (standing : AllByRecursion (λ (n : ℕ). list_any (λ (t : Table). n == t.number) (tables l) ≡ true) job.inputs)
       (footed : AllByRecursion IsFooted made.tables)
       (into : (n : ℕ) → AllByRecursion (λ (t : Table). leads n t.points ≡ true → list_any (λ (u : Table). leads n u.points) (tables l) ≡ true) made.tables)
-      (below : AllByRecursion (PointsDrawn l.next_log) made.tables) where
+      (below : AllByRecursion (PointsDrawn l.next_log) made.tables) (distinct : IsDistinct (tables l)) where
     install_checked-well : (o : Option Named) → LeavesWell (install_checked l h job made o)
     install_checked-well (Some named) = well_job_ended l w made are
-    install_checked-well None = either (has_no_version l) _ _ (well_job_ended l w made are) (well_installed l w job made are standing footed into below)
+    install_checked-well None = either (has_no_version l) _ _ (well_job_ended l w made are) (well_installed l w job made are standing footed into below distinct)
 
     install_unless-well : (halted : Option FileName) → LeavesWell (install_unless halted l h job made)
     install_unless-well (Some name) = well_job_ended l w made are

@@ -305,7 +305,7 @@ all_put P s (t ∷ ts) here all = elim (nat_cmp s.number t.number) as (λ r. All
   | Greater ↦ (all.0, all_put P s ts here all.1)
 ]
 
-all_rising : (P : Segment → Type 0) (ss : List Segment) → AllByRecursion P ss → AllByRecursion P (rising ss)
+pub all_rising : (P : Segment → Type 0) (ss : List Segment) → AllByRecursion P ss → AllByRecursion P (rising ss)
 all_rising P [] all = tt
 all_rising P (s ∷ ss) all = all_put P s (rising ss) all.0 (all_rising P ss all.1)
 

@@ -35,6 +35,8 @@ use Rattle.vl_layout.specs.declared.table.Table.{Table}
 use Rattle.vl_layout_laws.specs.laws.Files.{true_false, or_cases, or_left, or_right, any-append, any-map, all_weaker, all_both, all_parts, all_filtered, all_passed, same_file, itself, leads-points}
 use Rattle.vl_layout_laws.specs.laws.Steps.{Gains, still_unneeded, drawn_later, needed_parts, in_tables, in_points, in_logs, later_pins, nothing_more, stocked_switched}
 use Rattle.vl_layout.specs.Stock.{is_in, leads, is_body_into, is_into, HasBytesAt, HasBytes, IsFooted, IsDrawn, IsUnneeded, IsOff, IsPinned, IsFalling, IsStocked}
+use Rattle.vl_model.specs.Keys.{value_length}
+use Rattle.vl_model.specs.Formats.{record_head}
 
 -- ---- a memtable's entries as a table's
 
@@ -53,18 +55,21 @@ own_record : (number : ℕ) (r : LogRecord) (c : Change) (p : Pointer) → p.seg
 own_record number r (Set value) p is some = (is, some)
 own_record number r Delete p is some = tt
 
-own_records : (number : ℕ) (rs : List LogRecord) → AllByRecursion (IsOwn number) (map (record_entry number) rs)
-own_records number [] = tt
-own_records number (r ∷ rs) = (own_record number r r.change (pointer_to number r) refl (omega arith), own_records number rs)
+some_head : (format : ℕ) → 0 < record_head format
+some_head format = elim (nat_le format 1) as (λ b. 0 < cond b 7 8) [ true ↦ omega arith | false ↦ omega arith ]
 
-own_logged : (number place : ℕ) (fs : List LogFrame) → AllByRecursion (IsOwn number) (logged_entries number place fs)
-own_logged number place [] = tt
-own_logged number place (f ∷ fs) =
-    all_both (IsOwn number) (logged_entries number (place + frame_length f) fs) (frame_entries number place f)
-    (own_logged number (place + frame_length f) fs) (own_records number (frame_records place f))
+own_records : (format number : ℕ) (rs : List LogRecord) → AllByRecursion (IsOwn number) (map (record_entry format number) rs)
+own_records format number [] = tt
+own_records format number (r ∷ rs) = (own_record number r r.change (pointer_to format number r) refl (let some = some_head format in omega (arith, some)), own_records format number rs)
+
+own_logged : (format number place : ℕ) (fs : List LogFrame) → AllByRecursion (IsOwn number) (logged_entries format number place fs)
+own_logged format number place [] = tt
+own_logged format number place (f ∷ fs) =
+    all_both (IsOwn number) (logged_entries format number (place + frame_length format f) fs) (frame_entries format number place f)
+    (own_logged format number (place + frame_length format f) fs) (own_records format number (frame_records format place f))
 
 pub own_memtable : (s : Segment) → AllByRecursion (IsOwn s.number) (memtable s)
-own_memtable s = all-in_order (IsOwn s.number) (logged_entries s.number 16 s.frames) (own_logged s.number 16 s.frames)
+own_memtable s = all-in_order (IsOwn s.number) (logged_entries s.format s.number 16 s.frames) (own_logged s.format s.number 16 s.frames)
 
 placed_body : (number : ℕ) (b : Body) → IsOwnAt number b
     → HasBytesAt (placement b) × ((n : ℕ) → is_body_into n (placement b) ≡ true → n ≡ number)
@@ -72,7 +77,7 @@ placed_body number (Inline value) own = (tt, λ n is. absurd (true_false (sym is
 placed_body number Gone own = (tt, λ n is. absurd (true_false (sym is)))
 placed_body number (Far pointer) own = absurd own
 placed_body number (Logged value pointer) own =
-    elim (nat_le (length value) max_inline_bytes) as (λ t. HasBytesAt (cond t (Inline value) (Far pointer)) × ((n : ℕ) → is_body_into n (cond t (Inline value) (Far pointer)) ≡ true → n ≡ number)) [
+    elim (nat_le (value_length value) max_inline_bytes) as (λ t. HasBytesAt (cond t (Inline value) (Far pointer)) × ((n : ℕ) → is_body_into n (cond t (Inline value) (Far pointer)) ≡ true → n ≡ number)) [
       | true ↦ (tt, λ n is. absurd (true_false (sym is)))
       | false ↦ (own.1, λ n is. let e : n ≡ pointer.segment = grind (arith, nat_tests, is) in e ∙ own.0)
     ]
@@ -107,7 +112,7 @@ pointed_into (Manifest n) t are there = absurd (never t.points there)
     never [] there = true_false (sym there)
     never (p ∷ ps) there = never ps there
 
-oldest_in : (f : FileName) (ss : List Segment) (s : Segment) → oldest ss ≡ Some s → is_same f (log_of s) ≡ true
+pub oldest_in : (f : FileName) (ss : List Segment) (s : Segment) → oldest ss ≡ Some s → is_same f (log_of s) ≡ true
     → is_in f (map log_of ss) ≡ true
 oldest_in f [] s is same = absurd cc
 oldest_in f (t ∷ []) s is same = or_left (is_same f (log_of t)) false (ap (λ (x : Segment). is_same f (log_of x)) (the_one t s is) ∙ same)
@@ -228,7 +233,7 @@ module _ (P : Table → Type 0) (inputs : List ℕ) (new : List Table) (made : A
     | false ↦ all_both P new (t ∷ ts) made all
   ]
 
-  all_at_level : (n : ℕ) (levels : List (List Table)) → AllByRecursion P (flat_map (λ ts. ts) levels)
+  pub all_at_level : (n : ℕ) (levels : List (List Table)) → AllByRecursion P (flat_map (λ ts. ts) levels)
       → AllByRecursion P (flat_map (λ ts. ts) (at_level n (in_key_order new) levels))
   all_at_level n [] all = tt
   all_at_level n (ts ∷ deeper) all =
@@ -246,7 +251,7 @@ module _ (P : Table → Type 0) (inputs : List ℕ) (new : List Table) (made : A
       let both = all_parts (λ (t : Table). is_among inputs t ≡ false → P t) ts (flat_map (λ xs. xs) deeper) all in
       all_both P (without inputs ts) (flat_map (λ xs. xs) (map (without inputs) deeper)) (all_without ts both.0) (all_levels_without deeper both.1)
 
-  all_swapped : (ts : List Table) → AllByRecursion (λ (t : Table). is_among inputs t ≡ false → P t) ts
+  pub all_swapped : (ts : List Table) → AllByRecursion (λ (t : Table). is_among inputs t ≡ false → P t) ts
       → AllByRecursion P (flat_map (λ t. cond (is_among inputs t) new (t ∷ [])) ts)
   all_swapped [] all = tt
   all_swapped (t ∷ ts) all = all_both P (cond (is_among inputs t) new (t ∷ [])) (flat_map (λ u. cond (is_among inputs u) new (u ∷ [])) ts)

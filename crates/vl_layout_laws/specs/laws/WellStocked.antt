@@ -16,7 +16,7 @@ use Rattle.vl_layout.specs.Rulings.Begin.{begun}
 use Rattle.vl_layout.specs.Rulings.EndPass.{without_pass}
 use Rattle.vl_layout.specs.Rulings.Flush.{flushed}
 use Rattle.vl_layout.specs.Rulings.Fresh.{lent_to, drawn}
-use Rattle.vl_layout.specs.Rulings.Install.{installed}
+use Rattle.vl_layout.specs.Rulings.Install.{installed, put_in}
 use Rattle.vl_layout.specs.Rulings.Keep.{keeping}
 use Rattle.vl_layout.specs.Rulings.Pick.{with_pass}
 use Rattle.vl_layout.specs.Rulings.Plan.{with_job}
@@ -24,7 +24,8 @@ use Rattle.vl_layout.specs.Rulings.Relocate.{with_moves, relocated}
 use Rattle.vl_layout.specs.Rulings.Rotate.{rotated}
 use Rattle.vl_layout.specs.Rulings.Sweep.{is_same, job_pin, pass_pin, pins, without_files}
 use Rattle.vl_layout.specs.Sources.{log_of, pointed_logs, needed, numbers_of, oldest, table_of, tables}
-use Rattle.vl_layout.specs.Stock.{is_in, leads, IsDrawn, IsUnneeded, IsOff, IsPinned, IsStocked, IsFooted, PointsDrawn, IsDrawnWhole, with_lent, IsNotLent, IsWellStocked}
+use Rattle.vl_layout.specs.TidyLevels.{IsDistinct}
+use Rattle.vl_layout.specs.Stock.{AreOnce, IsLogOff, files_of, is_in, leads, IsDrawn, IsUnneeded, IsOff, IsPinned, IsStocked, IsFooted, PointsDrawn, IsDrawnWhole, with_lent, IsNotLent, IsWellStocked}
 use Rattle.vl_layout.specs.declared.file_name.FileName.{FileName}
 use Rattle.vl_layout.specs.declared.file_name.FileName.TheVariants.{Log, Table as TableFile, Manifest}
 use Rattle.vl_layout.specs.declared.file_name.Retired.{Retired}
@@ -35,11 +36,12 @@ use Rattle.vl_layout.specs.declared.live.Live.{Live}
 use Rattle.vl_layout.specs.declared.live.Pin.{Pin}
 use Rattle.vl_layout.specs.declared.segment.Segment.{Segment}
 use Rattle.vl_layout.specs.declared.table.Table.{Table}
-use Rattle.vl_layout_laws.specs.laws.Files.{all_weaker, all_both, all_parts, all_filtered, any-map}
-use Rattle.vl_layout_laws.specs.laws.Steps.{in_tables, stocked_begun, stocked_ended, stocked_planned, stocked_picked, stocked_freed, stocked_pass_ended, stocked_logged, stocked_relocated, stocked_rotated, tables_only}
+use Rattle.vl_layout_laws.specs.laws.Files.{all_weaker, all_both, all_parts, all_filtered, any-map, is_not, itself, or_left, or_right, same_file}
+use Rattle.vl_layout_laws.specs.laws.Once.{distinct_filtered, files-both, log_not_loose, loose_once, off_both, off_filtered, once_both, once_filtered, switched_apart, switched_once, tables_once}
+use Rattle.vl_layout_laws.specs.laws.Steps.{in_logs, in_tables, nothing_more, stocked_begun, stocked_ended, stocked_planned, stocked_picked, stocked_freed, stocked_pass_ended, stocked_logged, stocked_relocated, stocked_rotated, tables_only}
 use Rattle.vl_layout_laws.specs.laws.Streaming.{lending, stocked_lent, stocked_put, putting}
 use Rattle.vl_layout_laws.specs.laws.Drawn.{drawn_begun, drawn_ended, drawn_planned, drawn_picked, drawn_freed, drawn_pass_ended, drawn_logged, drawn_relocated, drawn_rotated, drawn_lent, drawn_flushed, drawn_put}
-use Rattle.vl_layout_laws.specs.laws.Switches.{stocked_flushed}
+use Rattle.vl_layout_laws.specs.laws.Switches.{flushing, oldest_in, stocked_flushed}
 
 -- ---- other retired files, another job
 
@@ -128,6 +130,8 @@ module _ (l : Layout) (w : IsWellStocked l) where
     drawn = let d = drawn_begun (with_lent l) w.stocked (up l w.drawn) ticket number in record { points = d.points; pins_drawn = d.pins_drawn };
     lent_once = w.lent_once;
     lent_apart = w.lent_apart;
+    once = w.once;
+    flushed_apart = w.flushed_apart;
   }
 
   pub well_ended : (ticket : ℕ) → IsWellStocked (ended ticket l)
@@ -136,6 +140,8 @@ module _ (l : Layout) (w : IsWellStocked l) where
     drawn = let d = drawn_ended (with_lent l) w.stocked (up l w.drawn) ticket in record { points = d.points; pins_drawn = d.pins_drawn };
     lent_once = w.lent_once;
     lent_apart = w.lent_apart;
+    once = w.once;
+    flushed_apart = w.flushed_apart;
   }
 
   pub well_picked : (segment : ℕ) → IsWellStocked (with_pass segment l)
@@ -144,6 +150,8 @@ module _ (l : Layout) (w : IsWellStocked l) where
     drawn = let d = drawn_picked (with_lent l) w.stocked (up l w.drawn) segment in record { points = d.points; pins_drawn = d.pins_drawn };
     lent_once = w.lent_once;
     lent_apart = w.lent_apart;
+    once = w.once;
+    flushed_apart = w.flushed_apart;
   }
 
   pub well_pass_ended : IsWellStocked (without_pass l)
@@ -152,6 +160,8 @@ module _ (l : Layout) (w : IsWellStocked l) where
     drawn = let d = drawn_pass_ended (with_lent l) w.stocked (up l w.drawn) in record { points = d.points; pins_drawn = d.pins_drawn };
     lent_once = w.lent_once;
     lent_apart = w.lent_apart;
+    once = w.once;
+    flushed_apart = w.flushed_apart;
   }
 
   pub well_logged : (f : LogFrame) → IsWellStocked (logged f l)
@@ -160,6 +170,8 @@ module _ (l : Layout) (w : IsWellStocked l) where
     drawn = let d = drawn_logged (with_lent l) w.stocked (up l w.drawn) f in record { points = d.points; pins_drawn = d.pins_drawn };
     lent_once = w.lent_once;
     lent_apart = w.lent_apart;
+    once = w.once;
+    flushed_apart = w.flushed_apart;
   }
 
   pub well_keeping : (v : ℕ) (h : History) → IsWellStocked (keeping v h l)
@@ -168,6 +180,8 @@ module _ (l : Layout) (w : IsWellStocked l) where
     drawn = record { points = w.drawn.points; pins_drawn = w.drawn.pins_drawn };
     lent_once = w.lent_once;
     lent_apart = w.lent_apart;
+    once = w.once;
+    flushed_apart = w.flushed_apart;
   }
 
   -- ---- a rotation, a relocation
@@ -178,6 +192,8 @@ module _ (l : Layout) (w : IsWellStocked l) where
     drawn = let d = drawn_rotated (with_lent l) w.stocked (up l w.drawn) in record { points = d.points; pins_drawn = d.pins_drawn };
     lent_once = w.lent_once;
     lent_apart = w.lent_apart;
+    once = w.once;
+    flushed_apart = w.flushed_apart;
   }
 
   lent_moved : (number : ℕ) (moved : List Moved) (o : Option OpenJob) → lent_numbers (with_moves number moved o) ≡ lent_numbers o
@@ -192,6 +208,8 @@ module _ (l : Layout) (w : IsWellStocked l) where
         drawn = let d = drawn_relocated (with_lent l) w.stocked (up l w.drawn) moved in record { points = d.points; pins_drawn = d.pins_drawn };
         lent_once = subst AreDistinct same w.lent_once;
         lent_apart = subst (λ (ns : List ℕ). AllByRecursion (λ (r : Retired). IsNotLent ns r.file) l.retired) same w.lent_apart;
+        once = w.once;
+        flushed_apart = w.flushed_apart;
       }
 
   -- ---- a flush
@@ -199,6 +217,41 @@ module _ (l : Layout) (w : IsWellStocked l) where
   logs_apart : (lent : List ℕ) (v : ℕ) (ss : List Segment) → AllByRecursion (λ (r : Retired). IsNotLent lent r.file) (map (retired_at v) (map log_of ss))
   logs_apart lent v [] = tt
   logs_apart lent v (s ∷ ss) = (tt, logs_apart lent v ss)
+
+  -- what is needed isn't retired
+  needed_off : (f : FileName) → is_in f (needed l) ≡ true → (rs : List Retired) → AllByRecursion (IsUnneeded (needed l)) rs → is_in f (files_of rs) ≡ false
+  needed_off f there [] un = refl
+  needed_off f there (r ∷ rs) un = or_false (is_same f r.file) (is_in f (files_of rs))
+      (is_not (is_same f r.file) (λ is. false≢true (sym un.0 ∙ subst (λ (g : FileName). is_in g (needed l) ≡ true) (same_file f r.file is) there)))
+      (needed_off f there rs un.1)
+
+  unneeded : AllByRecursion (IsUnneeded (needed l)) l.retired
+  unneeded = (all_parts (IsUnneeded (needed l)) (loose (lent_numbers l.job)) l.retired w.stocked.unneeded).1
+
+  waiting_off : (s : Segment) → oldest l.frozen ≡ Some s → IsLogOff (files_of l.retired) s
+  waiting_off s waits = needed_off (log_of s)
+      (in_logs (log_of s) (map table_of (tables l)) (flat_map pointed_logs (tables l)) (map log_of (l.active ∷ l.frozen))
+      (or_right (is_same (log_of s) (log_of l.active)) (is_in (log_of s) (map log_of l.frozen)) (oldest_in (log_of s) l.frozen s waits (itself (log_of s)))))
+      l.retired unneeded
+
+  -- what is lent isn't retired
+  lent_off : (n : ℕ) → has n (lent_numbers l.job) ≡ true → (rs : List Retired) → AllByRecursion (λ (r : Retired). IsNotLent (lent_numbers l.job) r.file) rs
+      → is_in (TableFile n) (files_of rs) ≡ false
+  lent_off n is [] off = refl
+  lent_off n is (r ∷ rs) off = or_false (is_same (TableFile n) r.file) (is_in (TableFile n) (files_of rs))
+      (is_not (is_same (TableFile n) r.file) (λ at. false≢true (sym (subst (IsNotLent (lent_numbers l.job)) (sym (same_file (TableFile n) r.file at)) off.0) ∙ is)))
+      (lent_off n is rs off.1)
+
+  all_lent_off : (ns : List ℕ) → AllByRecursion (λ n. has n (lent_numbers l.job) ≡ true) ns → AllByRecursion (λ g. is_in g (files_of l.retired) ≡ false) (files_of (loose ns))
+  all_lent_off [] are = tt
+  all_lent_off (n ∷ ns) are = (lent_off n are.0 l.retired w.lent_apart, all_lent_off ns are.1)
+
+  with_loose : (ns : List ℕ) → AllByRecursion (λ n. has n (lent_numbers l.job) ≡ true) ns → AreDistinct ns → AreOnce (files_of (l.retired ++ loose ns))
+  with_loose ns are distinct = subst AreOnce (sym (files-both l.retired (loose ns))) (once_both (files_of l.retired) (files_of (loose ns)) w.once (loose_once ns distinct) (all_lent_off ns are))
+
+  logs_off_loose : (ns : List ℕ) → AllByRecursion (IsLogOff (files_of (l.retired ++ loose ns))) l.flushed
+  logs_off_loose ns = subst (λ (fs : List FileName). AllByRecursion (IsLogOff fs) l.flushed) (sym (files-both l.retired (loose ns)))
+      (all_weaker (IsLogOff (files_of l.retired)) (IsLogOff (files_of l.retired ++ files_of (loose ns))) (λ s off. off_both (log_of s) (files_of l.retired) (files_of (loose ns)) off (log_not_loose s.number ns)) l.flushed w.flushed_apart)
 
   pub well_flushed : (s : Segment) (level : List Table) (deeper : List (List Table)) → oldest l.frozen ≡ Some s → l.levels ≡ level ∷ deeper
       → IsWellStocked (flushed l s)
@@ -209,6 +262,8 @@ module _ (l : Layout) (w : IsWellStocked l) where
     drawn = let d = drawn_flushed (with_lent l) w.stocked (up l w.drawn) s level deeper waits are in record { points = d.points; pins_drawn = d.pins_drawn };
     lent_once = w.lent_once;
     lent_apart = all_both (λ (r : Retired). IsNotLent (lent_numbers l.job) r.file) l.retired _ w.lent_apart (logs_apart (lent_numbers l.job) (l.version_number + 1) _);
+    once = switched_once (flushing l s) [] (subst AreOnce (sym (nothing_more (files_of l.retired))) w.once) (waiting_off s waits, w.flushed_apart);
+    flushed_apart = switched_apart (flushing l s) [] (subst AreOnce (sym (nothing_more (files_of l.retired))) w.once) (waiting_off s waits, w.flushed_apart);
   }
 
   -- ---- a sweep
@@ -221,6 +276,9 @@ module _ (l : Layout) (w : IsWellStocked l) where
     drawn = record { points = w.drawn.points; pins_drawn = w.drawn.pins_drawn };
     lent_once = w.lent_once;
     lent_apart = all_filtered (λ (r : Retired). IsNotLent (lent_numbers l.job) r.file) (λ (r : Retired). not (list_any (is_same r.file) gone)) l.retired w.lent_apart;
+    once = once_filtered (λ (r : Retired). not (list_any (is_same r.file) gone)) l.retired w.once;
+    flushed_apart = all_weaker (IsLogOff (files_of l.retired)) (IsLogOff (files_of (without_files gone l).retired))
+        (λ s off. off_filtered (log_of s) (λ (r : Retired). not (list_any (is_same r.file) gone)) l.retired off) l.flushed w.flushed_apart;
   }
 
   -- ---- a job begins, draws a number and ends without its switch
@@ -232,6 +290,8 @@ module _ (l : Layout) (w : IsWellStocked l) where
     drawn = let d = drawn_planned (with_lent l) w.stocked (up l w.drawn) job in record { points = d.points; pins_drawn = d.pins_drawn };
     lent_once = tt;
     lent_apart = none_lent l.retired;
+    once = w.once;
+    flushed_apart = w.flushed_apart;
   }
 
   same_pin : (n : ℕ) (o : Option OpenJob) → job_pin (lent_to n o) ≡ job_pin o
@@ -300,6 +360,8 @@ module _ (l : Layout) (w : IsWellStocked l) where
         };
         lent_once = once_lent n l.job w.lent_once (not_drawn l.next_log n (lent_numbers l.job) (lent_drawn l w));
         lent_apart = apart_lent l.next_log n l.job l.retired w.lent_apart (retired_drawn l w);
+        once = w.once;
+        flushed_apart = w.flushed_apart;
       }
 
   pub well_job_ended : (made : Made) → AreLent (lent_numbers l.job) made → IsWellStocked (job_ended made l)
@@ -310,6 +372,8 @@ module _ (l : Layout) (w : IsWellStocked l) where
     drawn = let d = drawn_freed (with_lent l) w.stocked (up l w.drawn) in record { points = d.points; pins_drawn = d.pins_drawn };
     lent_once = tt;
     lent_apart = none_lent (job_ended made l).retired;
+    once = with_loose (numbers_of made.tables ++ made.leavings) are.drawn are.distinct;
+    flushed_apart = logs_off_loose (numbers_of made.tables ++ made.leavings);
   }
 
   -- ---- a job's tables are put in
@@ -319,7 +383,7 @@ module _ (l : Layout) (w : IsWellStocked l) where
   AreStanding inputs = AllByRecursion (λ (n : ℕ). list_any (λ (t : Table). n == t.number) (tables l) ≡ true) inputs
 
   -- a lent number is that of no table
-  not_standing : (n : ℕ) → has n (lent_numbers l.job) ≡ true → list_any (λ (t : Table). n == t.number) (tables l) ≡ false
+  pub not_standing : (n : ℕ) → has n (lent_numbers l.job) ≡ true → list_any (λ (t : Table). n == t.number) (tables l) ≡ false
   not_standing n is =
       sym (any-map (is_same (TableFile n)) table_of (tables l))
       ∙ front (is_in (TableFile n) (map table_of (tables l))) refl
@@ -424,14 +488,26 @@ module _ (l : Layout) (w : IsWellStocked l) where
           by_test true is none later = absurd (false≢true (sym none))
           by_test false is none later = let turned : (n == u.number) ≡ false = grind (arith, nat_tests) in or_false (n == u.number) (is_in (TableFile n) (map table_of us)) turned (later none)
 
+  distinct_back : (ns ms : List ℕ) → AreDistinct (ns ++ ms) → AreDistinct ms
+  distinct_back [] ms distinct = distinct
+  distinct_back (n ∷ ns) ms distinct = distinct_back ns ms distinct.1
+
+  standing_all : (ts : List Table) → AllByRecursion (λ (t : Table). list_any (λ (u : Table). t.number == u.number) ts ≡ true) ts
+  standing_all [] = tt
+  standing_all (t ∷ ts) = (
+    or_left (t.number == t.number) (list_any (λ (u : Table). t.number == u.number) ts) (grind (arith, nat_tests)),
+    all_weaker (λ (x : Table). list_any (λ (u : Table). x.number == u.number) ts ≡ true) (λ (x : Table). list_any (λ (u : Table). x.number == u.number) (t ∷ ts) ≡ true)
+        (λ x is. or_right (x.number == t.number) (list_any (λ (u : Table). x.number == u.number) ts) is) ts (standing_all ts),
+  )
+
   -- The switch of a job whose inputs stand, and whose tables have true footers and lead only where tables lead.
   pub well_installed : (job : Job) (made : Made) → AreLent (lent_numbers l.job) made
       → AllByRecursion (λ (n : ℕ). list_any (λ (t : Table). n == t.number) (tables l) ≡ true) job.inputs
       → AllByRecursion IsFooted made.tables
       → ((n : ℕ) → AllByRecursion (λ (t : Table). leads n t.points ≡ true → list_any (λ (u : Table). leads n u.points) (tables l) ≡ true) made.tables)
-      → AllByRecursion (PointsDrawn l.next_log) made.tables
+      → AllByRecursion (PointsDrawn l.next_log) made.tables → IsDistinct (tables l)
       → IsWellStocked (installed job made l)
-  well_installed job made are standing footed into below = record {
+  well_installed job made are standing footed into below distinct = record {
     stocked = with_gone (switched (filter (is_among job.inputs) (tables l)) (putting (with_lent l) job made.tables rest)) (gone_after l.gone (needless job)) l.keep l.since
         (stocked_put (with_lent l) job made.tables rest w.stocked
         (within (IsUnneeded (needed l)) w.stocked.unneeded)
@@ -446,10 +522,41 @@ module _ (l : Layout) (w : IsWellStocked l) where
     drawn = let d = drawn_put (with_lent l) w.stocked (up l w.drawn) job made.tables rest below in record { points = d.points; pins_drawn = d.pins_drawn };
     lent_once = tt;
     lent_apart = none_lent (installed job made l).retired;
+    once = switched_once (put_in job made l) dropped dropped_once (logs_off_loose made.leavings);
+    flushed_apart = switched_apart (put_in job made l) dropped dropped_once (logs_off_loose made.leavings);
   }
     where
       lent : AllByRecursion (λ n. has n (lent_numbers l.job) ≡ true) (numbers_of made.tables) × AllByRecursion (λ n. has n (lent_numbers l.job) ≡ true) made.leavings
       lent = all_parts (λ n. has n (lent_numbers l.job) ≡ true) (numbers_of made.tables) made.leavings are.drawn
+
+      dropped : List Table
+      dropped = filter (is_among job.inputs) (tables l)
+
+      -- an input is needed, so it isn't retired; and no leaving is a table
+      inputs_off : (ts : List Table) → AllByRecursion (λ (t : Table). list_any (λ (u : Table). t.number == u.number) (tables l) ≡ true) ts
+          → AllByRecursion (λ g. is_in g (files_of (l.retired ++ loose made.leavings)) ≡ false) (map table_of ts)
+      inputs_off [] stand = tt
+      inputs_off (t ∷ ts) stand = (
+        subst (λ (fs : List FileName). is_in (table_of t) fs ≡ false) (sym (files-both l.retired (loose made.leavings)))
+            (off_both (table_of t) (files_of l.retired) (files_of (loose made.leavings))
+            (needed_off (table_of t) (in_tables (table_of t) (map table_of (tables l)) (flat_map pointed_logs (tables l)) (map log_of (l.active ∷ l.frozen)) (any-map (is_same (table_of t)) table_of (tables l) ∙ stand.0)) l.retired unneeded)
+            (off_leavings made.leavings lent.1)),
+        inputs_off ts stand.1,
+      )
+        where
+          off_leavings : (ns : List ℕ) → AllByRecursion (λ n. has n (lent_numbers l.job) ≡ true) ns → is_in (table_of t) (files_of (loose ns)) ≡ false
+          off_leavings [] are = refl
+          off_leavings (n ∷ ns) are = or_false (t.number == n) (is_in (table_of t) (files_of (loose ns)))
+              (is_not (t.number == n) (λ is.
+              let same : t.number ≡ n = grind (arith, nat_tests, is) in
+              false≢true (sym (not_standing n are.0) ∙ subst (λ (m : ℕ). list_any (λ (u : Table). m == u.number) (tables l) ≡ true) same stand.0)))
+              (off_leavings ns are.1)
+
+      dropped_once : AreOnce (files_of (put_in job made l).retired ++ map table_of (filter (is_among job.inputs) (tables l)))
+      dropped_once = once_both (files_of (l.retired ++ loose made.leavings)) (map table_of (filter (is_among job.inputs) (tables l)))
+          (with_loose made.leavings lent.1 (distinct_back (numbers_of made.tables) made.leavings are.distinct))
+          (tables_once (filter (is_among job.inputs) (tables l)) (distinct_filtered (is_among job.inputs) (tables l) distinct))
+          (inputs_off (filter (is_among job.inputs) (tables l)) (all_filtered (λ (t : Table). list_any (λ (u : Table). t.number == u.number) (tables l) ≡ true) (is_among job.inputs) (tables l) (standing_all (tables l))))
 
       rest : List Retired
       rest = l.retired ++ loose made.leavings

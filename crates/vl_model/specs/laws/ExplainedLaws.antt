@@ -3,7 +3,7 @@ use Rattle.std.proofs.Common.{◌≡◌, ◌≤◌, ℕ, ◌-◌, List, [], ◌�
 use Rattle.std.proofs.lemmas.List.{take-append-le}
 use Rattle.std.specs.Prelude.{min}
 use Rattle.std.specs.FinMap.{empty}
-use Rattle.vl_model.specs.Keys.{Pairs, Writes}
+use Rattle.vl_model.specs.Keys.{Writes}
 use Rattle.vl_model.specs.History.{Past, History, Extends, known_up_to, pairs_after, contents_at, last_number}
 use Rattle.vl_model.specs.Reads.{Read, KeyRead, RangeRead, rows_of, IsExplainedRead, IsExplained}
 use Rattle.vl_model.specs.laws.HistoryLaws.{value_at-extends}

@@ -29,6 +29,7 @@ use Rattle.vl_recover.specs.laws.repairing.StraysLaws.{AreSpare, IsSpare, rest_a
 use Rattle.vl_recover.specs.laws.crash.Torn.{ended_no_chance}
 use Rattle.vl_recover.specs.opening.Walk.{StandingLog}
 use Rattle.vl_seglog.specs.laws.FrameLaws.{length-log_header}
+use Rattle.vl_model.specs.Formats.{log_format}
 use Rattle.vl_seglog.specs.Frames.{log_header}
 
 -- What stands may stand, and from a number on each log that another follows is durable, and none was removed.
@@ -122,16 +123,16 @@ last_well number s (q ∷ qs) disk now goes stand during =
 -- ---- the new log
 
 -- a log that is being made may stand so
-header_part : (k : ℕ) (file : File) → IsPart (log_header k) file → MayStand (Log k) file
+header_part : (k : ℕ) (file : File) → IsPart (log_header log_format k) file → MayStand (Log k) file
 header_part k file part_empty = record {
   no_chance = λ right. ended_no_chance (Log k) new_file [] (omega arith);
   headless = λ wrong. All-nil (λ (piece : Piece). piece.place + length piece.bytes ≤ 16);
 }
 header_part k file (part_some taken) = record {
-  no_chance = λ right. ended_no_chance (Log k) (lengthened (log_header k) taken new_file)
-      (take taken (log_header k)) (omega (arith, length-take taken (log_header k), length-log_header k));
+  no_chance = λ right. ended_no_chance (Log k) (lengthened (log_header log_format k) taken new_file)
+      (take taken (log_header log_format k)) (omega (arith, length-take taken (log_header log_format k), length-log_header log_format k));
   headless = λ wrong. All-cons (λ (piece : Piece). piece.place + length piece.bytes ≤ 16)
-      (record { place = 0; bytes = log_header k }) [] (omega arith)
+      (record { place = 0; bytes = log_header log_format k }) [] (omega arith)
       (All-nil (λ (piece : Piece). piece.place + length piece.bytes ≤ 16));
 }
 
@@ -143,7 +144,7 @@ pub log_well : (number : ℕ) (s : ManifestState) (new : Option ℕ) (disk now :
     → WhileLog new disk now → GoesWell number s now
 log_well number s None disk now never free all goes during = absurd during
 log_well number s (Some k) disk now never free all goes during =
-    by (making (Log k) (log_header k) disk now during)
+    by (making (Log k) (log_header log_format k) disk now during)
   where
     below : AreSealedBelow s.head k disk
     below m file from less stands = (let is = all m file from stands in
@@ -160,11 +161,11 @@ log_well number s (Some k) disk now never free all goes during =
           (λ other is. subst (MayStand (Log k)) (some_same file other (sym stands ∙ is)) may) goes.well;
     }
 
-    by : Making (Log k) (log_header k) disk now → GoesWell number s now
+    by : Making (Log k) (log_header log_format k) disk now → GoesWell number s now
     by (waits same) = subst (GoesWell number s) (sym same) goes
     by (torn file part stands same) = with_file_there file stands (header_part k file part) same
-    by (done stands same) = with_file_there (settled (log_header k)) stands
-        (settled_may_stand (Log k) (log_header k)) same
+    by (done stands same) = with_file_there (settled (log_header log_format k)) stands
+        (settled_may_stand (Log k) (log_header log_format k)) same
 
 -- ---- the strays
 

@@ -1,5 +1,5 @@
 -- Where an opening failed while it repaired a store, the store may be opened again on the same disk.
-use Rattle.std.specs.Prelude.{◌≡◌, ◌≢◌, ◌⊎◌, ℕ, ◌+◌, ◌≤◌, ◌<◌, List, map, Option, None, Some, Ok, refl}
+use Rattle.std.specs.Prelude.{◌≡◌, ◌≢◌, ◌⊎◌, ℕ, ◌+◌, ◌≤◌, ◌<◌, List, Option, None, Some, Ok, refl}
 use Rattle.std.specs.FinMap.{get, remove, same_map}
 use Rattle.std.specs.Option.{option_map}
 use Rattle.std.proofs.Common.{ap, arith, subst, sym, ◌∙◌, ⊎_elim}
@@ -19,7 +19,7 @@ use Rattle.vl_manifest.specs.laws.ManifestLaws.{whole_manifest}
 use Rattle.vl_manifest.specs.declared.state.ManifestState.{ManifestState}
 use Rattle.vl_recover.specs.crash.Alike.{IsLeft, SameState}
 use Rattle.vl_recover.specs.laws.crash.AlikeLaws.{log_manifest, manifest_same, state_back, state_then}
-use Rattle.vl_recover.specs.opening.Answers.{AreStrayNames, Finds, as_segment, used_up}
+use Rattle.vl_recover.specs.opening.Answers.{AreStrayNames, Finds, as_segments, used_up}
 use Rattle.vl_recover.specs.laws.opening.HeldLaws.{settled_may_stand}
 use Rattle.vl_recover.specs.laws.opening.LeadsLaws.{nowhere_kept}
 use Rattle.vl_recover.specs.laws.opening.LogsLaws.{written_held}
@@ -245,7 +245,7 @@ module _ {read : Image} (found : Finds read) (start : DiskState) (begins : Begin
       → WhileLog (log_made new_s found.logs) disk2 now → GoesWell n new_s now
   log_goes now never during = log_well n new_s (log_made new_s found.logs) disk2 now never
       (log_free found start begins strays)
-      (λ m file from. held_settled found.opening.state.head (map as_segment found.logs) disk2
+      (λ m file from. held_settled found.opening.state.head (as_segments found.logs) disk2
       (written_held found.opening.state.head found.logs disk2
       (last found start begins strays).written) m from file)
       second_goes during

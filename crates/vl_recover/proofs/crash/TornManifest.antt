@@ -48,10 +48,10 @@ front_in taken at piece frame rest is some =
 
 spelled_in : (name : Name) (taken at : ℕ) (piece frame : List ℕ) → Spells name (take taken piece) at frame
     → take (length frame) (drop at piece) ≡ frame
-spelled_in (Log number) taken at piece frame (item, rest, stands, is) =
+spelled_in (Log number) taken at piece frame (format, is_read, header, (item, rest, stands, is)) =
     subst (λ (f : List ℕ). take (length f) (drop at piece) ≡ f) (sym is)
-    (front_in taken at piece (item_frame frames_grammar number at item) rest stands.spelled
-    (frame_is_some frames_grammar number at item))
+    (front_in taken at piece (item_frame (frames_grammar format) number at item) rest stands.spelled
+    (frame_is_some (frames_grammar format) number at item))
 spelled_in (Table number) taken at piece frame spelled = absurd spelled
 spelled_in (Manifest number) taken at piece frame (item, rest, stands, is) =
     subst (λ (f : List ℕ). take (length f) (drop at piece) ≡ f) (sym is)

@@ -1,11 +1,11 @@
 -- What was decided by what was found is what is to be done by what reads give.
-use Rattle.std.proofs.Common.{◌≡◌, ℕ, ◌+◌, List, [], ◌∷◌, length, map, refl, sym, ap, subst, ◌∙◌}
-use Rattle.std.specs.Prelude.{Bool, true, false, ◌&&◌, ◌==◌, if◌then◌else◌, Option, None, Some, Result, Ok, Err, IfErr, IsErr, IsErrAnd}
+use Rattle.std.proofs.Common.{◌≡◌, ℕ, ◌+◌, List, [], ◌∷◌, map, refl, sym, ap, subst, ◌∙◌}
+use Rattle.std.proofs.lemmas.Bool.{true≢false}
+use Rattle.std.specs.Prelude.{Bool, true, false, ◌==◌, if◌then◌else◌, Option, None, Some, Result, Ok, Err, IfErr, IsErr, IsErrAnd}
 use Rattle.std.specs.Option.{option_map}
 use Rattle.vl_disk.specs.Crash.{Image}
 use Rattle.vl_disk.specs.declared.name.Name.{Name}
 use Rattle.vl_disk.specs.DiskState.{DiskState}
-use Rattle.vl_layout.specs.Logs.{log_length}
 use Rattle.vl_manifest.specs.Manifest.{manifest_bytes}
 use Rattle.vl_manifest.specs.States.{opened_state, whole_edits}
 use Rattle.vl_manifest.specs.declared.state.ManifestState.{ManifestState}
@@ -19,7 +19,8 @@ use Rattle.vl_recover.specs.opening.Opening.{IsNextLog, StandingLogs}
 use Rattle.vl_recover.specs.opening.Plans.{Greatest, active_of, log_behind, log_made, new_state}
 use Rattle.vl_recover.specs.repairing.NextLogs.{made_of, number_of}
 use Rattle.vl_recover.specs.opening.Results.{HasFailed, recovery_by, frozen_log}
-use Rattle.vl_recover.specs.opening.Walk.{StandingLog, content_end}
+use Rattle.vl_recover.specs.opening.Walk.{StandingLog, content_end, keeps_header}
+use Rattle.vl_seglog.specs.LogReading.{end_of, is_whole}
 use Rattle.vl_seglog.specs.Frames.{frames_end}
 use Rattle.vl_recover.specs.declared.fails.OpenError.{OpenError}
 use Rattle.vl_recover.specs.declared.fails.OpenError.TheVariants as why
@@ -32,23 +33,23 @@ false_true : false ≡ true → ⊥
 false_true e = cc
 
 -- what is decided by the last log is decided by all
-abbrev end_of : List StandingLog → Option LastLog
-end_of logs = option_map last_log (last_of logs)
+abbrev ending : List StandingLog → Option LastLog
+ending logs = option_map last_log (last_of logs)
 
-log_is : (s : ManifestState) (logs : List StandingLog) → made_of (next_of s (end_of logs)) ≡ log_made s logs
+log_is : (s : ManifestState) (logs : List StandingLog) → made_of (next_of s (ending logs)) ≡ log_made s logs
 log_is s [] = refl
 log_is s (q ∷ []) = by q.reading.frames refl
   where
-    by : (frames : List LogFrame) → q.reading.frames ≡ frames → made_of (next_of s (end_of (q ∷ []))) ≡ log_behind s q.reading.frames
+    by : (frames : List LogFrame) → q.reading.frames ≡ frames → made_of (next_of s (ending (q ∷ []))) ≡ log_behind s q.reading.frames
     by [] is = rw is refl
     by (f ∷ fs) is = rw is refl
 log_is s (q ∷ p ∷ ps) = log_is s (p ∷ ps)
 
-active_is : (s : ManifestState) (logs : List StandingLog) → number_of (next_of s (end_of logs)) ≡ active_of (log_made s logs) logs
+active_is : (s : ManifestState) (logs : List StandingLog) → number_of (next_of s (ending logs)) ≡ active_of (log_made s logs) logs
 active_is s [] = refl
 active_is s (q ∷ []) = by q.reading.frames refl
   where
-    by : (frames : List LogFrame) → q.reading.frames ≡ frames → number_of (next_of s (end_of (q ∷ []))) ≡ active_of (log_behind s q.reading.frames) (q ∷ [])
+    by : (frames : List LogFrame) → q.reading.frames ≡ frames → number_of (next_of s (ending (q ∷ []))) ≡ active_of (log_behind s q.reading.frames) (q ∷ [])
     by [] is = rw is refl
     by (f ∷ fs) is = rw is refl
 active_is s (q ∷ p ∷ ps) = active_is s (p ∷ ps) ∙ same (log_made s (p ∷ ps))
@@ -58,22 +59,25 @@ active_is s (q ∷ p ∷ ps) = active_is s (p ∷ ps) ∙ same (log_made s (p �
     same (Some number) = refl
 
 -- a log with its header is whole where it ends with its content
-whole_is : (image : Image) (least : ℕ) (q : StandingLog) → IsNextLog image least q → q.reading.header ≡ true
-    → q.reading.whole ≡ (q.length == content_end q.reading)
-whole_is image least q next header =
-    next.reads.whole ∙ ap (λ (b : Bool). b && (length next.bytes == frames_end q.reading.frames)) header
-    ∙ ap (λ (n : ℕ). n == frames_end q.reading.frames) (sym next.length_is)
-    ∙ ap (λ (b : Bool). q.length == (if b then log_length q.reading.frames else 0)) (sym header)
+whole_is : (image : Image) (least : ℕ) (q : StandingLog) → IsNextLog image least q
+    → (format : ℕ) → q.reading.header ≡ Some format → q.reading.whole ≡ (q.length == content_end q.reading)
+whole_is image least q next format header =
+    next.reads.whole ∙ ap (λ (h : Option ℕ). is_whole h next.bytes q.reading.frames) header
+    ∙ ap (λ (n : ℕ). n == frames_end format q.reading.frames) (sym next.length_is)
+    ∙ ap (λ (h : Option ℕ). q.length == end_of h q.reading.frames) (sym header)
 
-step_is : (image : Image) (least : ℕ) (logs : List StandingLog) → StandingLogs image least logs → step_for (end_of logs) ≡ repairing.last_of logs
+step_is : (image : Image) (least : ℕ) (logs : List StandingLog) → StandingLogs image least logs → step_for (ending logs) ≡ repairing.last_of logs
 step_is image least [] standing = refl
-step_is image least (q ∷ []) (next, rest) = by q.reading.header refl
+step_is image least (q ∷ []) (next, rest) = by (keeps_header q.reading.header q.reading.frames) q.reading.header refl refl
   where
-    by : (header : Bool) → q.reading.header ≡ header
-        → (if header then (if q.length == content_end q.reading then Kept q.number else Cut q.number (content_end q.reading)) else (if q.length == 0 then Headed q.number else Rewritten q.number))
-        ≡ (if header then (if q.reading.whole then Kept q.number else Cut q.number (content_end q.reading)) else (if q.length == 0 then Headed q.number else Rewritten q.number))
-    by true is = ap (λ (whole : Bool). if whole then Kept q.number else Cut q.number (content_end q.reading)) (sym (whole_is image least q next is))
-    by false is = refl
+    by : (keeps : Bool) (header : Option ℕ) → keeps_header q.reading.header q.reading.frames ≡ keeps → q.reading.header ≡ header
+        → (if keeps then (if q.length == content_end q.reading then Kept q.number else Cut q.number (content_end q.reading)) else (if q.length == 0 then Headed q.number else Rewritten q.number))
+        ≡ (if keeps then (if q.reading.whole then Kept q.number else Cut q.number (content_end q.reading)) else (if q.length == 0 then Headed q.number else Rewritten q.number))
+    by true (Some format) keeps is =
+        ap (λ (whole : Bool). if whole then Kept q.number else Cut q.number (content_end q.reading)) (sym (whole_is image least q next format is))
+    by true None keeps is =
+        absurd (true≢false (sym keeps ∙ ap (λ (h : Option ℕ). keeps_header h q.reading.frames) is))
+    by false header keeps is = refl
 step_is image least (q ∷ p ∷ ps) (next, rest) = step_is image (q.number + 1) (p ∷ ps) rest
 
 module _ (image : Image) (found : Findings) (is : IsFound image found) where

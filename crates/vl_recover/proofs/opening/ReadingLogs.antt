@@ -1,7 +1,5 @@
 -- Logs are read, one after the other.
-use Rattle.std.proofs.Common.{◌≡◌, ℕ, ◌+◌, ◌<◌, ◌≤◌, ◌^◌, Bool, true, false, List, [], ◌∷◌, ◌++◌, length, map, refl, sym, ap, ◌∙◌, subst, arith}
-use Rattle.std.specs.List.{AllByRecursion}
-use Rattle.std.proofs.lemmas.Bool.{true≢false}
+use Rattle.std.proofs.Common.{◌≡◌, ℕ, ◌+◌, ◌<◌, ◌≤◌, Bool, true, false, List, [], ◌∷◌, ◌++◌, map, refl, sym, ap, ◌∙◌, subst, arith}
 use Rattle.std.proofs.lemmas.Bool.Decides.{nat_tests}
 use Rattle.std.specs.Prelude.{Contains, IfSome, IsSome, Option, None, Some, Result, Ok, Err, nat_lt}
 use Rattle.std.specs.FinMap.{get}
@@ -14,8 +12,7 @@ use Rattle.vl_disk.specs.DiskState.{DiskState, File}
 use Rattle.vl_disk.specs.Started.{IsRead}
 use Rattle.vl_disk.specs.declared.name.Name.{Name}
 use Rattle.vl_disk.specs.declared.name.Name.TheVariants.{Log}
-use Rattle.vl_frame.specs.Runs.{HasFrame}
-use Rattle.vl_layout.specs.Logs.{log_length, new_segment}
+use Rattle.vl_layout.specs.Logs.{new_segment}
 use Rattle.vl_layout.specs.declared.segment.Segment.{Segment}
 use Rattle.vl_model.specs.declared.log_frame.LogFrame.{LogFrame}
 use Rattle.vl_recover.specs.opening.Answers.{HeldLog, held_log}
@@ -24,59 +21,12 @@ use Rattle.vl_recover.specs.opening.Finding.{last_log, last_of}
 use Rattle.vl_recover.specs.opening.LogsSoFar.{AreLogsFound, AreReadSoFar, FindsOneMore, HasOneMore, walk_of}
 use Rattle.vl_recover.specs.opening.Named.{IsGreatestIn, IsLeastOf, IsLogFrom}
 use Rattle.vl_recover.specs.opening.Opening.{IsNextLog, StandingLogs}
-use Rattle.vl_recover.specs.opening.ReadLogs.{IsLogRead, frames_of}
-use Rattle.vl_seglog.specs.Placed.{AreFramesFrom}
-use Rattle.vl_seglog.specs.Reading.{reading_of}
 use Rattle.vl_recover.specs.opening.Results.{frozen_log}
 use Rattle.vl_recover.specs.opening.Stages.{on_ok}
-use Rattle.vl_recover.specs.opening.Walk.{LogDamage, StandingLog, content_end, counted_whole, filled, in_log, walked_on, with_frames}
+use Rattle.vl_recover.specs.opening.Walk.{LogDamage, StandingLog, counted_whole, filled, format_of, in_log, walked_on, with_frames}
 use Rattle.vl_recover.specs.declared.found.LastLog.{LastLog}
 use Rattle.vl_recover.specs.declared.found.LogsFound.{LogsFound}
-use Rattle.vl_seglog.specs.declared.frame.Frame.{Frame}
-use Rattle.vl_seglog.specs.declared.reading.LogRead.{LogRead}
-use Rattle.vl_seglog.specs.Frames.{frames_grammar}
-use Rattle.vl_seglog.specs.LogReading.{AreBehind, ReadsLog}
-use Rattle.vl_seglog.specs.laws.LogReadingLaws.{frames_within, log_apart}
-
--- what was read of bytes
-pub log_read : (number : ℕ) (bytes : List ℕ) (log : LogRead) → log.number ≡ number → AreFramesFrom number 16 log.frames.items → ReadsLog number bytes (reading_of log) → log.end ≡ content_end (reading_of log) → length bytes < 2 ^ 63 → IsLogRead log
-log_read number bytes log number_is from_first reads end_is short = by log.header refl
-  where
-    frames : List LogFrame
-    frames = frames_of log.frames.items
-
-    places : AreFramesFrom log.number 16 log.frames.items
-    places = subst (λ (n : ℕ). AreFramesFrom n 16 log.frames.items) (sym number_is) from_first
-
-    by : (header : Bool) → log.header ≡ header → IsLogRead log
-    by true right = record {
-      have = (log_apart number bytes (reading_of log) reads right).have;
-      headless = λ wrong. absurd (true≢false (sym right ∙ wrong));
-      end_is = end_is;
-      places = places;
-      fits = let within = frames_within number bytes (reading_of log) reads right in omega (arith, within, short);
-    }
-    by false wrong =
-        let none : frames ≡ [] = subst (λ (b : Bool). AreBehind b number bytes frames) wrong reads.frames in
-        record {
-          have = subst (AllByRecursion (HasFrame frames_grammar)) (sym none) tt;
-          headless = λ _. none;
-          end_is = end_is;
-          places = places;
-          fits = subst (λ (fs : List LogFrame). log_length fs < 2 ^ 63) (sym none) (omega arith);
-        }
-
-some_frames : (frames : List Frame) → 0 < length frames → frames_of frames ≡ [] → ⊥
-some_frames [] some none = omega (arith, some)
-some_frames (f ∷ fs) some none = cc
-
--- a log with frames has its header, and ends behind them
-pub ends_behind : (log : LogRead) → IsLogRead log → 0 < length log.frames.items → log.end ≡ log_length (frames_of log.frames.items)
-ends_behind log is some = by log.header refl
-  where
-    by : (header : Bool) → log.header ≡ header → log.end ≡ log_length (frames_of log.frames.items)
-    by true right = is.end_is ∙ (rw right refl)
-    by false wrong = absurd (some_frames log.frames.items some (is.headless wrong))
+use Rattle.vl_seglog.specs.LogReading.{ReadsLog}
 
 -- ---- the walk, a log at a time
 
@@ -109,9 +59,10 @@ filled-append : (ps qs : List StandingLog) → filled (ps ++ qs) ≡ filled ps +
 filled-append [] qs = refl
 filled-append (p ∷ ps) qs = by (filled-append ps qs) p.reading.frames
   where
-    by : filled (ps ++ qs) ≡ filled ps ++ filled qs → (frames : List LogFrame) → with_frames p.number frames (filled (ps ++ qs)) ≡ with_frames p.number frames (filled ps) ++ filled qs
+    by : filled (ps ++ qs) ≡ filled ps ++ filled qs → (frames : List LogFrame)
+        → with_frames p.number p.reading.header frames (filled (ps ++ qs)) ≡ with_frames p.number p.reading.header frames (filled ps) ++ filled qs
     by rest [] = rest
-    by rest (f ∷ fs) = ap (λ (ss : List Segment). new_segment p.number (f ∷ fs) ∷ ss) rest
+    by rest (f ∷ fs) = ap (λ (ss : List Segment). new_segment (format_of p.reading.header) p.number (f ∷ fs) ∷ ss) rest
 
 last_of-push : (qs : List StandingLog) (q : StandingLog) → last_of (qs ++ q ∷ []) ≡ Some q
 last_of-push [] q = refl

@@ -2,6 +2,7 @@
 use Rattle.std.specs.Prelude.{◌≡◌, ℕ, Bool, true, false, List, [], ◌∷◌, None, Some, Ok, Err, refl}
 use Rattle.vl_layout.specs.Logs.{log_length, new_segment}
 use Rattle.vl_manifest.specs.States.{fresh_state}
+use Rattle.vl_model.specs.Formats.{log_format}
 use Rattle.vl_model.specs.declared.counter.Counter.TheVariants as counters
 use Rattle.vl_model.specs.declared.log_frame.LogFrame.{LogFrame}
 use Rattle.vl_model.specs.declared.log_frame.LogFrame.TheVariants.{Committed, Relocated}
@@ -17,17 +18,20 @@ commit number = Committed number []
 abbrev moves : LogFrame
 moves = Relocated []
 
--- a log with its header, and one with a wrong header, of so many bytes
-abbrev log : ℕ → List LogFrame → (whole : Bool) → StandingLog
-log number frames whole = record {
+-- a log of a format, one of the format that is written, and one with a wrong header, of so many bytes
+abbrev log_in : ℕ → ℕ → List LogFrame → (whole : Bool) → StandingLog
+log_in format number frames whole = record {
   number = number;
-  length = log_length frames;
-  reading = record { header = true; frames = frames; whole = whole };
+  length = log_length format frames;
+  reading = record { header = Some format; frames = frames; whole = whole };
 }
+
+abbrev log : ℕ → List LogFrame → (whole : Bool) → StandingLog
+log number frames whole = log_in log_format number frames whole
 
 abbrev headless : ℕ → (length : ℕ) → StandingLog
 headless number length =
-    record { number = number; length = length; reading = record { header = false; frames = []; whole = false } }
+    record { number = number; length = length; reading = record { header = None; frames = []; whole = false } }
 
 two_logs : walked 0 (log 1 (commit 1 ∷ commit 2 ∷ []) true ∷ log 4 (commit 3 ∷ []) false ∷ []) ≡ Ok 3
 two_logs = refl
@@ -68,7 +72,7 @@ gap_behind_moves = refl
 
 -- a log without frames has no memtable
 filled_only : filled (log 1 [] true ∷ log 2 (commit 1 ∷ []) true ∷ headless 3 0 ∷ [])
-    ≡ new_segment 2 (commit 1 ∷ []) ∷ []
+    ≡ new_segment log_format 2 (commit 1 ∷ []) ∷ []
 filled_only = refl
 
 -- ---- numbers
@@ -125,3 +129,15 @@ calls_of_headless = refl
 
 calls_of_empty : calls_of_opening (greatest 1 1) fresh_state (headless 1 0 ∷ []) 1 ≡ 6
 calls_of_empty = refl
+
+-- one in the older format is given a new header where it has no frames, torn bytes behind its own or not
+calls_of_older : calls_of_opening (greatest 1 1) fresh_state (log_in 1 1 [] true ∷ []) 1
+    ≡ calls_of_opening (greatest 1 1) fresh_state (headless 1 16 ∷ []) 1
+calls_of_older = refl
+
+calls_of_older_torn : calls_of_opening (greatest 1 1) fresh_state (log_in 1 1 [] false ∷ []) 1 ≡ 7
+calls_of_older_torn = refl
+
+-- and where it has some, it stays as it is, and another log is made
+older_stays : log_made (new_state (greatest 7 1) fresh_state) (log_in 1 7 (commit 1 ∷ []) true ∷ []) ≡ Some 8
+older_stays = refl

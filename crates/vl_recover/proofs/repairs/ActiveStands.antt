@@ -15,6 +15,7 @@ use Rattle.vl_recover.specs.repairing.Repairing.{IsPlan, Plan, behind_log, behin
 use Rattle.vl_recover.specs.opening.Opening.{StandingLogs}
 use Rattle.vl_recover.specs.opening.Plans.{active_log, active_of, last_number, log_made, new_state}
 use Rattle.vl_recover.specs.opening.Walk.{StandingLog}
+use Rattle.vl_model.specs.Formats.{log_format}
 use Rattle.vl_seglog.specs.Frames.{log_header}
 use Rattle.vl_recover.proofs.repairs.Fitted.{above_all, last_stands, log_stands, made_stands, stands_read}
 
@@ -65,7 +66,7 @@ module _ {read : Image} (found : Finds read) (start : DiskState) (is_read : IsRe
       × ((other : Name) → Contains plan.strays other → Log (active_of log found.logs) ≢ other)
   by_log (Some k) made_is log_is = (
     subst (λ (l : Option ℕ). Stands (Log k) (behind_log l (with_last planned start))) (sym log_is)
-        (subst IsSome (sym (get_inserted (with_last planned start).standing (Log k) (settled (log_header k)))) refl),
+        (subst IsSome (sym (get_inserted (with_last planned start).standing (Log k) (settled (log_header log_format k)))) refl),
     nor_new k (found.are_greatest.log.none_above k (let above = above_all new found.logs k made_is in omega (arith, above))),
   )
   by_log None made_is log_is =

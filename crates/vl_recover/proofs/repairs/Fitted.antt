@@ -6,13 +6,12 @@ use Rattle.std.specs.FinMap.{get}
 use Rattle.vl_disk.specs.Changes.{changed_elsewhere, changed_there}
 use Rattle.vl_disk.specs.Crash.{Image}
 use Rattle.vl_disk.specs.Disk.{IsFree, IsInside, Stands}
-use Rattle.vl_disk.specs.DiskState.{DiskState, File, cut_to, file_at, lengthened, new_file, settled, shortened, synced_file, with_file, without}
+use Rattle.vl_disk.specs.DiskState.{DiskState, File, cut_to, lengthened, new_file, settled, shortened, synced_file, with_file, without}
 use Rattle.vl_disk.specs.MadeFile.{made}
 use Rattle.vl_disk.specs.laws.NameMap.{get_inserted, get_inserted_other, get_removed_other, same_or_other}
 use Rattle.vl_disk.specs.Started.{IsRead}
 use Rattle.vl_disk.specs.declared.name.Name.{Name}
 use Rattle.vl_disk.specs.declared.name.Name.TheVariants.{Log, Manifest}
-use Rattle.vl_layout.specs.Logs.{log_length}
 use Rattle.vl_manifest.specs.declared.state.ManifestState.{ManifestState}
 use Rattle.vl_model.specs.declared.log_frame.LogFrame.{LogFrame}
 use Rattle.vl_recover.specs.opening.Answers.{Finds}
@@ -21,7 +20,9 @@ use Rattle.vl_recover.specs.repairing.Repairing.{Cut, Headed, IsPlan, Kept, Last
 use Rattle.vl_recover.specs.laws.repairing.RepairingStart.{unread_free}
 use Rattle.vl_recover.specs.opening.Opening.{IsNextLog, StandingLogs}
 use Rattle.vl_recover.specs.opening.Plans.{log_behind, log_made, new_state}
-use Rattle.vl_recover.specs.opening.Walk.{StandingLog, content_end}
+use Rattle.vl_recover.specs.opening.Walk.{StandingLog, content_end, keeps_header}
+use Rattle.vl_seglog.specs.LogReading.{end_of}
+use Rattle.vl_model.specs.Formats.{log_format}
 use Rattle.vl_seglog.specs.Frames.{log_header}
 use Rattle.vl_seglog.specs.laws.LogReadingLaws.{frames_within}
 
@@ -70,7 +71,7 @@ made_stands name bytes other disk stands = ⊎_elim
 head_free : (k : ℕ) (name : Name) (disk : DiskState) → IsFree name disk → IsFree name (behind_last (Headed k) disk)
 head_free k name disk free =
     changed_free (Log k) synced_file name (headed k disk)
-    (changed_free (Log k) (lengthened (log_header k) (length (log_header k))) name disk free)
+    (changed_free (Log k) (lengthened (log_header log_format k) (length (log_header log_format k))) name disk free)
 
 last_free : (last : LastLog) (name : Name) (disk : DiskState) → IsFree name disk → IsFree name (behind_last last disk)
 last_free NoLast name disk free = free
@@ -83,7 +84,7 @@ last_free (Rewritten k) name disk free = head_free k name (cut_to (Log k) 0 0 di
 head_stands : (k : ℕ) (name : Name) (disk : DiskState) → Stands name disk → Stands name (behind_last (Headed k) disk)
 head_stands k name disk stands =
     changed_stands (Log k) synced_file name (headed k disk)
-    (changed_stands (Log k) (lengthened (log_header k) (length (log_header k))) name disk stands)
+    (changed_stands (Log k) (lengthened (log_header log_format k) (length (log_header log_format k))) name disk stands)
 
 pub last_stands : (last : LastLog) (name : Name) (disk : DiskState) → Stands name disk → Stands name (behind_last last disk)
 last_stands NoLast name disk stands = stands
@@ -108,7 +109,7 @@ module _ (read : Image) (start : DiskState) (is_read : IsRead read start) (manif
   read_file bytes (Some file) e = (file, refl, some_same bytes file.bytes e)
 
   one_can : (least : ℕ) (q : StandingLog) → IsNextLog read least q → CanRepair (repairing_of q) first
-  one_can least q next = by q.reading.header q.reading.whole (q.length == 0) refl
+  one_can least q next = by (keeps_header q.reading.header q.reading.frames) q.reading.whole (q.length == 0)
     where
       file_is : (file : File) × (get start.standing (Log q.number) ≡ Some file) × (next.bytes ≡ file.bytes)
       file_is = read_file next.bytes (get start.standing (Log q.number)) (sym next.stands ∙ is_read.each (Log q.number))
@@ -119,23 +120,21 @@ module _ (read : Image) (start : DiskState) (is_read : IsRead read start) (manif
       stands : Stands (Log q.number) first
       stands = subst IsSome (sym there) refl
 
-      inside : q.reading.header ≡ true → IsInside (Log q.number) (content_end q.reading) first
-      inside header =
-          let within = frames_within q.number next.bytes q.reading next.reads header in
-          subst (λ (n : ℕ). n ≤ length (file_at first (Log q.number)).bytes) (sym (ends q.reading.header header))
-          (subst (λ (o : Option File). log_length q.reading.frames ≤ length (unwrap_or o new_file).bytes) (sym there)
-          (subst (λ (b : List ℕ). log_length q.reading.frames ≤ length b) file_is.2 within))
-        where
-          ends : (h : Bool) → h ≡ true → (if h then log_length q.reading.frames else 0) ≡ log_length q.reading.frames
-          ends true e = refl
-          ends false e = absurd (false_true e)
+      within : (header : Option ℕ) → q.reading.header ≡ header → end_of header q.reading.frames ≤ length next.bytes
+      within None is = omega arith
+      within (Some format) is = frames_within q.number next.bytes q.reading next.reads format is
 
-      by : (header whole empty : Bool) → q.reading.header ≡ header
-          → CanRepair (if header then (if whole then Kept q.number else Cut q.number (content_end q.reading)) else (if empty then Headed q.number else Rewritten q.number)) first
-      by true true empty is = stands
-      by true false empty is = (stands, inside is)
-      by false whole true is = stands
-      by false whole false is = stands
+      inside : IsInside (Log q.number) (content_end q.reading) first
+      inside =
+          subst (λ (o : Option File). content_end q.reading ≤ length (unwrap_or o new_file).bytes) (sym there)
+          (subst (λ (b : List ℕ). content_end q.reading ≤ length b) file_is.2 (within q.reading.header refl))
+
+      by : (keeps whole empty : Bool)
+          → CanRepair (if keeps then (if whole then Kept q.number else Cut q.number (content_end q.reading)) else (if empty then Headed q.number else Rewritten q.number)) first
+      by true true empty = stands
+      by true false empty = (stands, inside)
+      by false whole true = stands
+      by false whole false = stands
 
   last_can : (least : ℕ) (logs : List StandingLog) → StandingLogs read least logs → CanRepair (last_of logs) first
   last_can least [] none = tt

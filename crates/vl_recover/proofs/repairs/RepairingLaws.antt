@@ -8,10 +8,10 @@ use Rattle.vl_disk.specs.declared.name.Name.{Name}
 use Rattle.vl_recover.specs.opening.Answers.{Finds, calls_to_open}
 use Rattle.vl_recover.specs.repairing.Repairing.{Cut, Headed, IsPlan, Kept, LastLog, NoLast, Plan, Rewritten, WhileLast, WhileLog, WhileStrays, behind_last, behind_log, behind_strays, calls_of_plan, calls_to_repair, last_of, repairing_of}
 use Rattle.vl_recover.specs.opening.Plans.{calls_of_last, calls_to_make, log_made, new_state}
-use Rattle.vl_recover.specs.opening.Walk.{StandingLog, content_end}
+use Rattle.vl_recover.specs.opening.Walk.{StandingLog, content_end, keeps_header}
 
 repairing_calls : (q : StandingLog) → calls_to_repair (repairing_of q) ≡ calls_of_last (q ∷ [])
-repairing_calls q = by q.reading.header q.reading.whole (q.length == 0)
+repairing_calls q = by (keeps_header q.reading.header q.reading.frames) q.reading.whole (q.length == 0)
   where
     by : (header whole empty : Bool)
         → calls_to_repair (if header then (if whole then Kept q.number else Cut q.number

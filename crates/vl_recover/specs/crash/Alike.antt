@@ -10,6 +10,7 @@ use Rattle.vl_frame.specs.Begins.{SpellsAt}
 use Rattle.vl_manifest.specs.Grammar.{edits_grammar}
 use Rattle.vl_manifest.specs.declared.state.ManifestState.{ManifestState}
 use Rattle.vl_seglog.specs.Frames.{frames_grammar}
+use Rattle.vl_seglog.specs.LogReading.{HasHeader, IsLogFormat}
 use Rattle.vl_recover.specs.opening.Opening.{Opening, Opens}
 
 -- two manifests say the same, but for the numbers that may still be given
@@ -29,9 +30,14 @@ abbrev pub OpensLike : (image other : Image) → Type 0
 OpensLike image other =
     (o : Opening) → Opens other (Ok o) → (p : Opening) × Opens image (Ok p) × ShowsAs p o
 
+-- the frames of a log, in the format that its header says
+abbrev pub SpellsLogged : ℕ → List ℕ → ℕ → List ℕ → Type 0
+SpellsLogged number bytes at frame = (format : ℕ) × IsLogFormat format × HasHeader format number bytes
+    × SpellsAt (frames_grammar format) number bytes at frame
+
 -- the frames that are looked for when a crash has left torn bytes: those of logs and manifests
 abbrev pub Spells : Name → List ℕ → ℕ → List ℕ → Type 0
-Spells (Log number) bytes at frame = SpellsAt frames_grammar number bytes at frame
+Spells (Log number) bytes at frame = SpellsLogged number bytes at frame
 Spells (Table number) bytes at frame = ⊥
 Spells (Manifest number) bytes at frame = SpellsAt edits_grammar number bytes at frame
 

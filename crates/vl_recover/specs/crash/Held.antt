@@ -12,6 +12,7 @@ use Rattle.vl_frame.specs.Runs.{HasFrame}
 use Rattle.vl_recover.specs.opening.Opening.{Opening}
 use Rattle.vl_recover.specs.opening.Walk.{StandingLog, filled, standing_log, walked}
 use Rattle.vl_seglog.specs.Frames.{frames_grammar, log_bytes}
+use Rattle.vl_seglog.specs.LogReading.{IsLogFormat}
 
 -- no file stands under this name, and none was removed since the disk was started
 pub record IsNowhere (disk : DiskState) (name : Name) : Type 0 where
@@ -36,8 +37,9 @@ HoldsLogs least [] disk = (m : ℕ) → least ≤ m → IsNowhere disk (Log m)
 HoldsLogs least (s ∷ ss) disk =
     (least ≤ s.number)
     × ((m : ℕ) → least ≤ m → m < s.number → IsNowhere disk (Log m))
-    × AllByRecursion (HasFrame frames_grammar) s.frames
-    × IsSettled disk (Log s.number) (log_bytes s.number s.frames)
+    × IsLogFormat s.format
+    × AllByRecursion (HasFrame (frames_grammar s.format)) s.frames
+    × IsSettled disk (Log s.number) (log_bytes s.format s.number s.frames)
     × HoldsLogs (s.number + 1) ss disk
 
 -- each file that stands is durable
@@ -54,8 +56,8 @@ pub record HoldsStore (state : ManifestState) (logs : List Segment) (disk : Disk
 
 -- a log as it stands that is held: whole
 abbrev pub log_as_held : Segment → StandingLog
-log_as_held s = standing_log s.number (log_bytes s.number s.frames)
-    (record { header = true; frames = s.frames; whole = true })
+log_as_held s = standing_log s.number (log_bytes s.format s.number s.frames)
+    (record { header = Some s.format; frames = s.frames; whole = true })
 
 -- their commits go on from a number to another
 abbrev pub GoOn : ℕ → List Segment → ℕ → Type 0

@@ -1,5 +1,6 @@
 -- What is asked of a disk on which a store is opened, where crashes are spoken of.
 use Rattle.std.specs.Prelude.{◌≡◌, ◌≢◌, ℕ, ◌+◌, ◌≤◌, ◌<◌, true, length, None, Some, Ok, All}
+use Rattle.vl_model.specs.Formats.{log_format}
 use Rattle.std.specs.FinMap.{get}
 use Rattle.vl_disk.specs.Chance.{NoChanceOne}
 use Rattle.vl_disk.specs.Crash.{Image}
@@ -9,21 +10,27 @@ use Rattle.vl_disk.specs.declared.name.Name.{Name}
 use Rattle.vl_disk.specs.declared.name.Name.TheVariants.{Log, Table, Manifest}
 use Rattle.vl_recover.specs.crash.Alike.{IsLeft, SameState, Spells}
 use Rattle.vl_recover.specs.opening.Opening.{Opening, Opens}
-use Rattle.vl_seglog.specs.LogReading.{HasHeader}
+use Rattle.vl_seglog.specs.LogReading.{HasHeader, SaysFormat}
 
 -- a log that doesn't begin with its header, so that none of its frames are read
 abbrev pub HasWrongHeader : Name → File → Type 0
-HasWrongHeader (Log number) file = HasHeader number file.bytes → ⊥
+HasWrongHeader (Log number) file = SaysFormat None number file.bytes
 HasWrongHeader (Table number) file = ⊥
 HasWrongHeader (Manifest number) file = ⊥
+
+-- a log that doesn't begin with a header in the format that is written, so that nothing is appended to it
+abbrev pub TakesNoFrames : Name → File → Type 0
+TakesNoFrames (Log number) file = HasHeader log_format number file.bytes → ⊥
+TakesNoFrames (Table number) file = ⊥
+TakesNoFrames (Manifest number) file = ⊥
 
 -- A file may stand under this name.
 pub record MayStand (name : Name) (file : File) : Type 0 where
   -- Where the header isn't wrong and the file isn't wholly synced: a frame that a read gives at the first place that may be torn
   -- was handed over there, and so was one right behind it, if any.
   pub no_chance : (HasWrongHeader name file → ⊥) → NoChanceOne Spells name (Some file) (Some file.bytes)
-  -- behind a wrong header no piece is unsynced that goes past the header
-  pub headless : HasWrongHeader name file → All (λ piece. piece.place + length piece.bytes ≤ 16) file.unsynced
+  -- a log that takes no frames has no unsynced piece that goes past the header
+  pub headless : TakesNoFrames name file → All (λ piece. piece.place + length piece.bytes ≤ 16) file.unsynced
 
 -- so do all that stand
 abbrev pub AllMayStand : DiskState → Type 0

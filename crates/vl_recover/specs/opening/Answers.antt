@@ -6,12 +6,14 @@ use Rattle.vl_disk.specs.declared.name.Name.{Name}
 use Rattle.vl_disk.specs.declared.name.Name.TheVariants.{Log, Table, Manifest}
 use Rattle.vl_layout.specs.Logs.{memtable, new_segment}
 use Rattle.vl_layout.specs.declared.segment.Segment.{Segment}
+use Rattle.vl_model.specs.Formats.{log_format}
 use Rattle.vl_model.specs.declared.counter.Counter.{Counter}
 use Rattle.vl_model.specs.declared.entry.Entry.{Entry}
+use Rattle.vl_model.specs.declared.log_frame.LogFrame.{LogFrame}
 use Rattle.vl_manifest.specs.declared.state.ManifestState.{ManifestState}
 use Rattle.vl_recover.specs.opening.Opening.{Opening, Opens, Refusal, StandingLogs}
 use Rattle.vl_recover.specs.opening.Plans.{AreGreatest, Greatest, active_log, calls_of_opening, exhausted, log_made, new_state}
-use Rattle.vl_recover.specs.opening.Walk.{StandingLog}
+use Rattle.vl_recover.specs.opening.Walk.{StandingLog, format_of}
 
 -- a log that takes no more commits: its number, its length in bytes, and the entries of its memtable
 pub record HeldLog : Type 0 where
@@ -58,13 +60,22 @@ opened_from found = record {
 -- the logs that stand then from head on, rising
 abbrev pub and_made : Option ℕ → List Segment
 and_made None = []
-and_made (Some number) = new_segment number [] ∷ []
+and_made (Some number) = new_segment log_format number [] ∷ []
 
-abbrev pub as_segment : StandingLog → Segment
-as_segment log = new_segment log.number log.reading.frames
+-- the format of the last log: one without frames has the one that is written, in a new header if need be
+abbrev pub last_format : Option ℕ → List LogFrame → ℕ
+last_format header [] = log_format
+last_format header (f ∷ fs) = format_of header
+
+abbrev pub as_segments : List StandingLog → List Segment
+as_segments [] = []
+as_segments (q ∷ []) =
+    new_segment (last_format q.reading.header q.reading.frames) q.number q.reading.frames ∷ []
+as_segments (q ∷ p ∷ ps) =
+    new_segment (format_of q.reading.header) q.number q.reading.frames ∷ as_segments (p ∷ ps)
 
 abbrev pub logs_then : {image : Image} → Finds image → List Segment
-logs_then found = map as_segment found.logs
+logs_then found = as_segments found.logs
     ++ and_made (log_made (new_state found.greatest found.opening.state) found.logs)
 
 -- how many changing calls it makes to open, and to remove so many files

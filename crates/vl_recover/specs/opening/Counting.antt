@@ -2,12 +2,12 @@
 use Rattle.std.specs.Prelude.{ℕ, Bool, true, false, List, [], ◌∷◌, Result, Ok}
 use Rattle.vl_seglog.specs.LogReading.{LogReading}
 use Rattle.vl_recover.specs.opening.Stages.{on_ok}
-use Rattle.vl_recover.specs.opening.Walk.{LogDamage, StandingLog, counted, counted_whole, in_log, walked}
+use Rattle.vl_recover.specs.opening.Walk.{LogDamage, StandingLog, counted_behind, counted_whole, in_log, walked}
 
 -- the number of the last commit behind a log, whether others follow it or not
 abbrev pub counted_log : (followed : Bool) → ℕ → LogReading → Result ℕ ℕ
 counted_log true n r = counted_whole n r
-counted_log false n r = counted n 16 r.frames
+counted_log false n r = counted_behind r.header n r.frames
 
 -- a log behind others, by what these gave
 abbrev pub walked_log : (followed : Bool) → Result ℕ LogDamage → StandingLog → Result ℕ LogDamage

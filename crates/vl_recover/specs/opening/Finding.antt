@@ -1,11 +1,10 @@
 -- What the reading half of an opening gives to the half that repairs.
-use Rattle.std.specs.Prelude.{◌≡◌, ◌⊎◌, ◌≤◌, ℕ, Bool, true, false, List, [], ◌∷◌, map, Option, None, Some, Result, Ok, Err}
+use Rattle.std.specs.Prelude.{◌≡◌, ◌⊎◌, ◌≤◌, ℕ, List, [], ◌∷◌, map, Option, None, Some, Result, Ok, Err}
 use Rattle.std.specs.Option.{ForSome, option_map}
 use Rattle.vl_disk.specs.Crash.{Image}
 use Rattle.vl_disk.specs.Disk.{Stands}
 use Rattle.vl_disk.specs.DiskState.{DiskState}
 use Rattle.vl_model.specs.Limits.{max_file_number}
-use Rattle.vl_model.specs.declared.log_frame.LogFrame.{LogFrame}
 use Rattle.vl_recover.specs.declared.fails.OpenError.{OpenError}
 use Rattle.vl_recover.specs.declared.fails.OpenError.TheVariants as why
 use Rattle.vl_recover.specs.declared.found.Findings.{Findings}
@@ -14,7 +13,7 @@ use Rattle.vl_recover.specs.declared.found.LastLog.{LastLog}
 use Rattle.vl_recover.specs.opening.Answers.{AnswersBy, AreStrayNames, Finds, held_log, no_file}
 use Rattle.vl_recover.specs.opening.Plans.{Greatest}
 use Rattle.vl_recover.specs.opening.Results.{HasFailed, recovery_by, frozen_log}
-use Rattle.vl_recover.specs.opening.Walk.{StandingLog, content_end}
+use Rattle.vl_recover.specs.opening.Walk.{StandingLog, content_end, has_some, keeps_header}
 
 abbrev pub greatest_of : GreatestNumbers → Greatest
 greatest_of g = record { log = g.log; table = g.table; manifest = g.manifest }
@@ -32,15 +31,11 @@ last_of [] = None
 last_of (q ∷ []) = Some q
 last_of (q ∷ p ∷ ps) = last_of (p ∷ ps)
 
-abbrev pub has_some : List LogFrame → Bool
-has_some [] = false
-has_some (f ∷ fs) = true
-
 abbrev pub last_log : StandingLog → LastLog
 last_log q = record {
   number = q.number;
   length = q.length;
-  header = q.reading.header;
+  header = keeps_header q.reading.header q.reading.frames;
   end = content_end q.reading;
   has_frames = has_some q.reading.frames;
 }

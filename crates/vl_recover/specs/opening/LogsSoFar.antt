@@ -4,13 +4,15 @@ use Rattle.std.specs.Option.{option_map}
 use Rattle.std.specs.FinMap.{get}
 use Rattle.vl_disk.specs.Crash.{Image}
 use Rattle.vl_disk.specs.declared.name.Name.TheVariants.{Log}
-use Rattle.vl_seglog.specs.LogReading.{ReadsLog}
+use Rattle.vl_seglog.specs.LogReading.{LogReading, ReadsLog}
 use Rattle.vl_recover.specs.declared.found.DamagePlace.{DamagePlace}
+use Rattle.vl_recover.specs.declared.found.LogFound.{LogFound}
 use Rattle.vl_recover.specs.declared.found.LogsFound.{LogsFound}
 use Rattle.vl_recover.specs.opening.Answers.{held_log}
 use Rattle.vl_recover.specs.opening.Counting.{walked_by, walked_log}
 use Rattle.vl_recover.specs.opening.Finding.{last_log, last_of}
 use Rattle.vl_recover.specs.opening.Opening.{StandingLogs}
+use Rattle.vl_recover.specs.opening.ReadLogs.{IsReadAs}
 use Rattle.vl_recover.specs.opening.Results.{frozen_log}
 use Rattle.vl_recover.specs.opening.Walk.{LogDamage, StandingLog, filled}
 
@@ -26,6 +28,21 @@ pub record AreReadSoFar (covered : ℕ) (followed : Bool) (logs : List StandingL
   pub number : walk_of read.number ≡ walked_by followed covered logs
   pub frozen : map frozen_log read.frozen.items ≡ map held_log (filled logs)
   pub last : read.last ≡ option_map last_log (last_of logs)
+
+-- the number of the last commit so far; behind a damage 0 stands for it
+abbrev pub number_before : Result ℕ DamagePlace → ℕ
+number_before (Ok n) = n
+number_before (Err d) = 0
+
+-- a log of an image was read, and the commit before it has this number
+pub record FindsLog (image : Image) (number before : ℕ) (log : LogFound) : Type 0 where
+  pub number_is : log.number ≡ number
+  pub bytes : List ℕ
+  pub stands : get image (Log number) ≡ Some bytes
+  pub length_is : log.length ≡ length bytes
+  pub reading : LogReading
+  pub reads : ReadsLog number bytes reading
+  pub read_as : IsReadAs before reading log
 
 -- one log more was read
 pub record HasOneMore (log : StandingLog) (followed : Bool) (old new : LogsFound) : Type 0 where

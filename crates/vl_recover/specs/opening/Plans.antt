@@ -10,7 +10,7 @@ use Rattle.vl_model.specs.declared.counter.Counter.TheVariants as counters
 use Rattle.vl_model.specs.declared.log_frame.LogFrame.{LogFrame}
 use Rattle.vl_manifest.specs.States.{opened_state}
 use Rattle.vl_manifest.specs.declared.state.ManifestState.{ManifestState}
-use Rattle.vl_recover.specs.opening.Walk.{StandingLog}
+use Rattle.vl_recover.specs.opening.Walk.{StandingLog, keeps_header}
 
 -- the greatest number of each kind that stands, 0 where none does
 pub record Greatest : Type 0 where
@@ -77,11 +77,11 @@ calls_to_make None = 0
 calls_to_make (Some number) = 3
 
 -- the last log is synced; before that it is cut where it is longer than its content, and given a
--- header where it has none
+-- header where it keeps none
 abbrev pub calls_of_last : List StandingLog → ℕ
 calls_of_last [] = 0
 calls_of_last (q ∷ []) =
-    if q.reading.header then (if q.reading.whole then 1 else 2)
+    if keeps_header q.reading.header q.reading.frames then (if q.reading.whole then 1 else 2)
     else (if q.length == 0 then 2 else 3)
 calls_of_last (q ∷ p ∷ ps) = calls_of_last (p ∷ ps)
 

@@ -11,7 +11,8 @@ use Rattle.vl_manifest.specs.States.{whole_edits}
 use Rattle.vl_manifest.specs.declared.state.ManifestState.{ManifestState}
 use Rattle.vl_recover.specs.opening.Answers.{AreStrayNames, Finds}
 use Rattle.vl_recover.specs.opening.Plans.{Greatest, calls_to_make, log_made, new_state}
-use Rattle.vl_recover.specs.opening.Walk.{StandingLog, content_end}
+use Rattle.vl_recover.specs.opening.Walk.{StandingLog, content_end, keeps_header}
+use Rattle.vl_model.specs.Formats.{log_format}
 use Rattle.vl_seglog.specs.Frames.{log_header}
 
 -- ---- what is to be done
@@ -24,7 +25,7 @@ pub data LastLog : Type 0 where
   Kept : ℕ → LastLog
   -- it goes on behind its frames, which end at this length: it is cut to it, and synced
   Cut : ℕ → ℕ → LastLog
-  -- its header isn't right: it is cut to nothing, gets a header, and is synced
+  -- its header isn't kept: it is cut to nothing, gets a header, and is synced
   Rewritten : ℕ → LastLog
   -- it is empty: it gets a header, and is synced
   Headed : ℕ → LastLog
@@ -44,7 +45,8 @@ pub record Plan : Type 0 where
 
 -- the disk on which the log got its header
 abbrev pub headed : ℕ → DiskState → DiskState
-headed log disk = appended (Log log) (log_header log) (length (log_header log)) disk
+headed log disk =
+    appended (Log log) (log_header log_format log) (length (log_header log_format log)) disk
 
 abbrev pub behind_last : LastLog → DiskState → DiskState
 behind_last NoLast disk = disk
@@ -55,7 +57,7 @@ behind_last (Headed log) disk = synced (Log log) (headed log disk)
 
 abbrev pub behind_log : Option ℕ → DiskState → DiskState
 behind_log None disk = disk
-behind_log (Some log) disk = made (Log log) (log_header log) disk
+behind_log (Some log) disk = made (Log log) (log_header log_format log) disk
 
 abbrev pub behind_strays : List Name → DiskState → DiskState
 behind_strays [] disk = disk
@@ -80,7 +82,7 @@ repaired plan disk = behind_strays plan.strays (with_log plan disk)
 -- while a log gets its header and is synced
 abbrev pub WhileHeading : ℕ → DiskState → DiskState → Type 0
 WhileHeading log disk now =
-    WhileAppending (Log log) (log_header log) disk now ⊎ WhileSyncing (Log log) (headed log disk) now
+    WhileAppending (Log log) (log_header log_format log) disk now ⊎ WhileSyncing (Log log) (headed log disk) now
 
 abbrev pub WhileLast : LastLog → DiskState → DiskState → Type 0
 WhileLast NoLast disk now = ⊥
@@ -93,7 +95,7 @@ WhileLast (Headed log) disk now = WhileHeading log disk now
 
 abbrev pub WhileLog : Option ℕ → DiskState → DiskState → Type 0
 WhileLog None disk now = ⊥
-WhileLog (Some log) disk now = WhileMaking (Log log) (log_header log) disk now
+WhileLog (Some log) disk now = WhileMaking (Log log) (log_header log_format log) disk now
 
 abbrev pub WhileStrays : List Name → DiskState → DiskState → Type 0
 WhileStrays [] disk now = ⊥
@@ -112,7 +114,7 @@ pub data WhileRepairing (plan : Plan) (disk now : DiskState) : Type 0 where
 -- what becomes of a log that is the last, by how it reads
 abbrev pub repairing_of : StandingLog → LastLog
 repairing_of log =
-    if log.reading.header
+    if keeps_header log.reading.header log.reading.frames
     then (if log.reading.whole then Kept log.number else Cut log.number (content_end log.reading))
     else (if log.length == 0 then Headed log.number else Rewritten log.number)
 

@@ -4,6 +4,7 @@ use Rattle.std.specs.Prelude.{IsErr}
 use Rattle.std.specs.FinMap.{entries, len, len-entries, is_sorted}
 use Rattle.std.specs.List.{AllByRecursion}
 use Rattle.std.proofs.lemmas.Bool.{eqb-false}
+use Rattle.vl_model.specs.Formats.{log_format}
 use Rattle.vl_model.specs.declared.change.Change.{Change}
 use Rattle.vl_model.specs.History.{Extends, last_number}
 use Rattle.vl_model.specs.Keys.{Writes, key_cmp}
@@ -66,7 +67,7 @@ are_records [] all = tt
 are_records (write ∷ list) all = (record { key_length = all.0.key; value_length = all.0.value }, are_records list all.1)
 
 pub is_commit : (last : ℕ) (writes : Writes) (list : List (List ℕ × Change)) → list ≡ entries writes → (len writes == 0) ≡ false → last < max_commit_number → IsTrue (is_sorted key_cmp list) → AllByRecursion IsLawful list
-    → IsCommit (record { number = last + 1; writes = list })
+    → IsCommit log_format (record { number = last + 1; writes = list })
 is_commit last writes list is some left rising lawful =
     let lengths : length list ≡ length (entries writes) = ap length is in
     let not_none = eqb-false _ _ some in
@@ -76,14 +77,14 @@ is_commit last writes list is some left rising lawful =
 -- the staged frame is that of the next commit, at the log's end
 pub frame_staged : (r : Store) (s : State) (disk : DiskState) (writes : Writes) (list : List (List ℕ × Change)) (staged : Staged) → Represents r s → (stored : IsStored s disk) → list ≡ entries writes
     → IsStaged r.log.number r.log.length (staged_frame r list) staged
-    → HasFrame frames_grammar (next_frame s.history writes) × (staged.frame.items ≡ frame_behind s.log.number stored.frames (next_frame s.history writes))
+    → HasFrame (frames_grammar log_format) (next_frame s.history writes) × (staged.frame.items ≡ frame_behind s.log.number stored.frames (next_frame s.history writes))
 frame_staged r s disk writes list staged rep stored listed is =
     let same = same_frame r s writes list rep listed in
     let number : r.log.number ≡ s.log.number = ap (λ (l : ActiveLog). l.number) rep.log in
-    let place : r.log.length ≡ frames_end stored.frames = ap (λ (l : ActiveLog). l.length) rep.log ∙ stored.length_is in (
-      subst (HasFrame frames_grammar) same is.has,
-      is.frame ∙ ap (frame_at r.log.number r.log.length) same ∙ ap (λ (n : ℕ). frame_at n r.log.length (next_frame s.history writes)) number
-          ∙ ap (λ (n : ℕ). frame_at s.log.number n (next_frame s.history writes)) place,
+    let place : r.log.length ≡ frames_end log_format stored.frames = ap (λ (l : ActiveLog). l.length) rep.log ∙ stored.length_is in (
+      subst (HasFrame (frames_grammar log_format)) same is.has,
+      is.frame ∙ ap (frame_at log_format r.log.number r.log.length) same ∙ ap (λ (n : ℕ). frame_at log_format n r.log.length (next_frame s.history writes)) number
+          ∙ ap (λ (n : ℕ). frame_at log_format s.log.number n (next_frame s.history writes)) place,
     )
 
 -- ---- disks
@@ -127,7 +128,7 @@ module _ {D : Type 0} (g : Ghosts D) (watched : IsWatched g) where
       }
 
   module _ (s : State) (name : List ℕ) (writes : Writes) (old mid new : D) (failed : Type 0) (no_change : ChangesNothing g old mid failed) (held : HoldsState g IsStored s old)
-      (bytes : List ℕ) (staged : HasFrame frames_grammar (next_frame s.history writes) × (bytes ≡ frame_behind s.log.number held.there.2.frames (next_frame s.history writes)))
+      (bytes : List ℕ) (staged : HasFrame (frames_grammar log_format) (next_frame s.history writes) × (bytes ≡ frame_behind s.log.number held.there.2.frames (next_frame s.history writes)))
       (time : Elapses g mid new (WhileWriting (names.Log s.log.number) bytes)) where
     abbrev after : State
     after = after_commit s name writes
@@ -151,7 +152,7 @@ module _ {D : Type 0} (g : Ghosts D) (watched : IsWatched g) where
     one_more = omega (arith, length-append s.history.commits (writes ∷ []))
 
     -- an image with the commits before, or with this one too
-    shown_either : (image : Image) → OpensEither stored.manifest stored.frozen (new_segment s.log.number stored.frames) (next_frame s.history writes) (last_number s.history) (last_number s.history + 1) image → between image
+    shown_either : (image : Image) → OpensEither stored.manifest stored.frozen (new_segment log_format s.log.number stored.frames) (next_frame s.history writes) (last_number s.history) (last_number s.history + 1) image → between image
     shown_either image either = ⊎_elim
         (λ (before : Opens image (Ok (opening_held stored.manifest (logs_of s stored.frozen stored.frames) (last_number s.history)))). (
           last_number s.history,
@@ -160,13 +161,13 @@ module _ {D : Type 0} (g : Ghosts D) (watched : IsWatched g) where
           shown_stays s.history after.history extends image (last_number s.history) (omega arith)
               (shown_by image stored.manifest (logs_of s stored.frozen stored.frames) s.history (last_number s.history) before stored.shows),
         ))
-        (λ (now : Opens image (Ok (opening_held stored.manifest (stored.frozen ++ with_frame (next_frame s.history writes) (new_segment s.log.number stored.frames) ∷ []) (last_number s.history + 1)))). (
+        (λ (now : Opens image (Ok (opening_held stored.manifest (stored.frozen ++ with_frame (next_frame s.history writes) (new_segment log_format s.log.number stored.frames) ∷ []) (last_number s.history + 1)))). (
           last_number after.history,
           last-extends s.history after.history extends,
           omega arith,
           subst (Shown image after.history) (sym one_more)
-              (shown_by image stored.manifest (stored.frozen ++ with_frame (next_frame s.history writes) (new_segment s.log.number stored.frames) ∷ []) after.history (last_number s.history + 1) now
-              (shows_next stored.frozen (new_segment s.log.number stored.frames) s.history writes stored.shows)),
+              (shown_by image stored.manifest (stored.frozen ++ with_frame (next_frame s.history writes) (new_segment log_format s.log.number stored.frames) ∷ []) after.history (last_number s.history + 1) now
+              (shows_next stored.frozen (new_segment log_format s.log.number stored.frames) s.history writes stored.shows)),
         ))
         either
 
@@ -174,10 +175,10 @@ module _ {D : Type 0} (g : Ghosts D) (watched : IsWatched g) where
     frame_leaves : (now : DiskState) → WhileWriting (names.Log s.log.number) (frame_behind s.log.number stored.frames (next_frame s.history writes)) state now → Leaves between now
     frame_leaves now during image left = shown_either image (⊎_elim
         (λ (w : WhileAppending (names.Log s.log.number) (frame_behind s.log.number stored.frames (next_frame s.history writes)) state now).
-        append_leaves stored.manifest stored.frozen (new_segment s.log.number stored.frames) (next_frame s.history writes) state stored.holds staged.0
+        append_leaves stored.manifest stored.frozen (new_segment log_format s.log.number stored.frames) (next_frame s.history writes) state stored.holds staged.0
         (last_number s.history) (last_number s.history + 1) stored.numbers (numbers_next s name writes state stored staged.0) now w image left)
         (λ (w : WhileSyncing (names.Log s.log.number) _ now).
-        sync_leaves stored.manifest stored.frozen (new_segment s.log.number stored.frames) (next_frame s.history writes) state stored.holds staged.0
+        sync_leaves stored.manifest stored.frozen (new_segment log_format s.log.number stored.frames) (next_frame s.history writes) state stored.holds staged.0
         (last_number s.history) (last_number s.history + 1) stored.numbers (numbers_next s name writes state stored staged.0) now w image left)
         during)
 
@@ -195,9 +196,9 @@ module _ {D : Type 0} (g : Ghosts D) (watched : IsWatched g) where
     frame_may_open : (now : DiskState) → WhileWriting (names.Log s.log.number) (frame_behind s.log.number stored.frames (next_frame s.history writes)) state now → MayOpen now
     frame_may_open now during = ⊎_elim
         (λ (w : WhileAppending (names.Log s.log.number) (frame_behind s.log.number stored.frames (next_frame s.history writes)) state now).
-        append_may_open stored.manifest stored.frozen (new_segment s.log.number stored.frames) (next_frame s.history writes) state stored.holds staged.0 stored.lawful now w)
+        append_may_open stored.manifest stored.frozen (new_segment log_format s.log.number stored.frames) (next_frame s.history writes) state stored.holds staged.0 stored.lawful now w)
         (λ (w : WhileSyncing (names.Log s.log.number) _ now).
-        sync_may_open stored.manifest stored.frozen (new_segment s.log.number stored.frames) (next_frame s.history writes) state stored.holds staged.0 stored.lawful now w)
+        sync_may_open stored.manifest stored.frozen (new_segment log_format s.log.number stored.frames) (next_frame s.history writes) state stored.holds staged.0 stored.lawful now w)
         during
 
     -- and so on what stands then
@@ -219,7 +220,7 @@ module _ {D : Type 0} (g : Ghosts D) (watched : IsWatched g) where
       item = next_frame s.history writes;
       has = staged.0;
       frame = bytes;
-      frame_is = staged.1 ∙ ap (λ (n : ℕ). frame_at s.log.number n (next_frame s.history writes)) (sym stored.length_is);
+      frame_is = staged.1 ∙ ap (λ (n : ℕ). frame_at log_format s.log.number n (next_frame s.history writes)) (sym stored.length_is);
       done = subst (λ (frame : List ℕ). IsStored after (written (names.Log s.log.number) frame state)) (sym staged.1) (stored_next s name writes state stored staged.0);
     }
 

@@ -2,6 +2,7 @@
 use Rattle.std.proofs.Common.{◌≡◌, ◌+◌, ℕ, List, [], ◌∷◌, ◌++◌, length, length-append, refl, ap, sym, ◌∙◌, arith, subst}
 use Rattle.std.specs.Prelude.{Ok}
 use Rattle.std.specs.FinMap.{entries, len-entries}
+use Rattle.vl_model.specs.Formats.{log_format}
 use Rattle.vl_disk.specs.DiskState.{DiskState, appended}
 use Rattle.vl_disk.specs.laws.Lawful.{appended_lawful, synced_lawful}
 use Rattle.vl_disk.specs.Crash.{Image}
@@ -64,10 +65,10 @@ stored_kept before after disk keeps stored =
       manifest = stored.manifest;
       frozen = stored.frozen;
       frames = stored.frames;
-      holds = subst (λ n. HoldsStore stored.manifest (stored.frozen ++ new_segment n stored.frames ∷ []) disk) (ap (λ l. l.number) log) stored.holds;
-      numbers = subst (λ n. GoOn stored.manifest.covered (stored.frozen ++ new_segment n stored.frames ∷ []) (last_number after.history)) (ap (λ l. l.number) log)
+      holds = subst (λ n. HoldsStore stored.manifest (stored.frozen ++ new_segment log_format n stored.frames ∷ []) disk) (ap (λ l. l.number) log) stored.holds;
+      numbers = subst (λ n. GoOn stored.manifest.covered (stored.frozen ++ new_segment log_format n stored.frames ∷ []) (last_number after.history)) (ap (λ l. l.number) log)
           (subst (λ g. GoOn stored.manifest.covered (logs_of before stored.frozen stored.frames) (last_number g)) h stored.numbers);
-      shows = subst (λ n. LogsShow (stored.frozen ++ new_segment n stored.frames ∷ []) after.history (last_number after.history)) (ap (λ l. l.number) log)
+      shows = subst (λ n. LogsShow (stored.frozen ++ new_segment log_format n stored.frames ∷ []) after.history (last_number after.history)) (ap (λ l. l.number) log)
           (subst (λ g. LogsShow (logs_of before stored.frozen stored.frames) g (last_number g)) h stored.shows);
       length_is = ap (λ l. l.length) keeps.log ∙ stored.length_is;
       lawful = stored.lawful;
@@ -77,16 +78,16 @@ stored_kept before after disk keeps stored =
 
 -- ---- one commit more
 
-pub commit-length : (number : ℕ) (writes : Writes) → frame_length (Committed number (entries writes)) ≡ bytes_in_log writes
+pub commit-length : (number : ℕ) (writes : Writes) → frame_length log_format (Committed number (entries writes)) ≡ bytes_in_log writes
 commit-length number writes = omega (arith, frame_length-committed number (entries writes), len-entries writes)
 
 module _ (s : State) (name : List ℕ) (writes : Writes) (disk : DiskState) (stored : IsStored s disk)
-    (has : HasFrame frames_grammar (next_frame s.history writes)) where
+    (has : HasFrame (frames_grammar log_format) (next_frame s.history writes)) where
   abbrev pub frame : List ℕ
   frame = frame_behind s.log.number stored.frames (next_frame s.history writes)
 
   abbrev last : Segment
-  last = new_segment s.log.number stored.frames
+  last = new_segment log_format s.log.number stored.frames
 
   abbrev after : State
   after = after_commit s name writes
@@ -100,7 +101,7 @@ module _ (s : State) (name : List ℕ) (writes : Writes) (disk : DiskState) (sto
   -- the commits go on with it
   pub numbers_next : GoOn stored.manifest.covered (stored.frozen ++ with_frame (next_frame s.history writes) last ∷ []) (m + 1)
   numbers_next = goes_on stored.manifest.covered stored.frozen last (next_frame s.history writes) m (m + 1) stored.numbers
-      (commit_counts m (frames_end stored.frames) (entries writes))
+      (commit_counts m (frames_end log_format stored.frames) (entries writes))
 
   -- after it was written the state with it is stored
   pub stored_next : IsStored after (written (names.Log s.log.number) frame disk)

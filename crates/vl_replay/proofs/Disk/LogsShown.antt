@@ -2,6 +2,7 @@
 use Rattle.std.specs.Prelude.{◌≡◌, ℕ, ◌+◌, ◌≤◌, List, [], ◌∷◌, ◌++◌, map, refl, Some}
 use Rattle.std.proofs.Common.{sym, ap, subst, ◌∙◌, append_assoc, arith}
 use Rattle.std.specs.FinMap.{entries}
+use Rattle.vl_model.specs.Formats.{log_format}
 use Rattle.vl_layout.specs.laws.CommitShows.{committed_entries, shows_committed}
 use Rattle.vl_layout.specs.laws.LayoutShows.{logged_entries-more, place_behind}
 use Rattle.vl_layout.specs.Logs.{logged_entries, memtable, new_segment}
@@ -43,7 +44,7 @@ nothing_behind [] = refl
 nothing_behind (e ∷ es) = ap (λ xs. e ∷ xs) (nothing_behind es)
 
 with_frames-entries : (log : ℕ) (frames : List LogFrame) (others : List Segment)
-    → logs_entries (with_frames log frames others) ≡ logs_entries others ++ memtable (new_segment log frames)
+    → logs_entries (with_frames log frames others) ≡ logs_entries others ++ memtable (new_segment log_format log frames)
 with_frames-entries log [] others = nothing_behind (logs_entries others)
 with_frames-entries log (f ∷ fs) others = refl
 
@@ -71,7 +72,7 @@ logs_entries-last (s ∷ ss) last = ap (λ es. es ++ memtable s) (logs_entries-l
 
 versions : (segment place number : ℕ) (writes : List (List ℕ × Change)) → AreUpTo number (committed_entries segment place number writes)
 versions segment place number [] = tt
-versions segment place number (w ∷ ws) = (omega arith, versions segment (place + record_length w.0 w.1) number ws)
+versions segment place number (w ∷ ws) = (omega arith, versions segment (place + record_length log_format w.0 w.1) number ws)
 
 later_up_to : (m n : ℕ) (es : List Entry) → m ≤ n → AreUpTo m es → AreUpTo n es
 later_up_to m n [] le all = tt
@@ -95,7 +96,7 @@ pub shows_next : (logs : List Segment) (last : Segment) (h : History) (writes : 
 shows_next logs last h writes show =
     let segment = last.number in
     let place = place_behind 16 last.frames + 17 in
-    let old = logged_entries segment 16 last.frames in
+    let old = logged_entries log_format segment 16 last.frames in
     let back = logs_entries logs in
     let n = last_number h + 1 in
     let new = committed_entries segment place n (entries writes) in

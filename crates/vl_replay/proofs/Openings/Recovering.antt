@@ -1,6 +1,7 @@
 -- A store that `recover` opened: what is kept of it, and what the disk holds.
 use Rattle.std.proofs.Common.{◌≡◌, ℕ, List, [], ◌∷◌, ◌++◌, length, refl, ap, sym, ◌∙◌, subst, inl, inr, arith}
 use Rattle.std.specs.Prelude.{◌+◌, ◌≤◌, Option, Some, None, map}
+use Rattle.vl_model.specs.Formats.{log_format}
 use Rattle.vl_disk.specs.Crash.{Image}
 use Rattle.vl_disk.specs.DiskState.{DiskState, IsLawful}
 use Rattle.vl_disk.specs.declared.name.Name.{Name}
@@ -105,9 +106,9 @@ module _ {D : Type 0} (g : Ghosts D) (disk : D) (s : State) (starts : StartsIn g
 
   -- the log that takes commits is the last one, and has no frames
   ends : (state : ManifestState) (none : ℕ) (logs : List StandingLog) → log_made state logs ≡ None
-      → (before : List Segment) × (map as_segment logs ≡ before ++ new_segment (last_log none logs) [] ∷ [])
+      → (before : List Segment) × (map as_segment logs ≡ before ++ new_segment log_format (last_log none logs) [] ∷ [])
   ends state none [] is = absurd cc
-  ends state none (q ∷ []) is = ([], ap (λ (fs : List LogFrame). new_segment q.number fs ∷ []) (by q.reading.frames is))
+  ends state none (q ∷ []) is = ([], ap (λ (fs : List LogFrame). new_segment log_format q.number fs ∷ []) (by q.reading.frames is))
     where
       by : (frames : List LogFrame) → log_behind state frames ≡ None → frames ≡ []
       by [] e = refl
@@ -117,7 +118,7 @@ module _ {D : Type 0} (g : Ghosts D) (disk : D) (s : State) (starts : StartsIn g
       (as_segment q ∷ before, ap (λ (ss : List Segment). as_segment q ∷ ss) rest)
 
   stands_last : (made : Option ℕ) → log_made (new_state found.greatest found.opening.state) found.logs ≡ made
-      → (frozen : List Segment) × (map as_segment found.logs ++ and_made made ≡ frozen ++ new_segment (active_of made found.logs) [] ∷ [])
+      → (frozen : List Segment) × (map as_segment found.logs ++ and_made made ≡ frozen ++ new_segment log_format (active_of made found.logs) [] ∷ [])
   stands_last None none =
       let (before, rest) = ends (new_state found.greatest found.opening.state) 0 found.logs none in
       (before, nothing_behind (map as_segment found.logs) ∙ rest)
@@ -130,7 +131,7 @@ module _ {D : Type 0} (g : Ghosts D) (disk : D) (s : State) (starts : StartsIn g
   pub last_stands : (frozen : List Segment) × (logs_then found ≡ logs_of s frozen [])
   last_stands =
       let (frozen, is_last) = stands_last (log_made (new_state found.greatest found.opening.state) found.logs) refl in
-      (frozen, is_last ∙ ap (λ (n : ℕ). frozen ++ new_segment n [] ∷ []) (sym (ap (λ l. l.number) starts.log)))
+      (frozen, is_last ∙ ap (λ (n : ℕ). frozen ++ new_segment log_format n [] ∷ []) (sym (ap (λ l. l.number) starts.log)))
 
   -- the number of the last commit
   last_is : found.opening.number ≡ last_number s.history

@@ -3,7 +3,7 @@ use Rattle.std.proofs.Common.{◌≡◌, ◌+◌, ◌⊎◌, ◌==◌, not, ℕ,
 use Rattle.std.specs.FinMap.{get, insert, contains_key, len, empty}
 use Rattle.std.specs.Prelude.{Option, Some, None, nat_le}
 use Rattle.vl_model.specs.History.{Extends, last_number, value_at, with_commit}
-use Rattle.vl_model.specs.Keys.{Writes, is_key_length}
+use Rattle.vl_model.specs.Keys.{Writes, is_key_length, tagged, untagged}
 use Rattle.vl_model.specs.Limits.{max_commit_number, max_room}
 use Rattle.vl_model.specs.Reads.{Read}
 use Rattle.vl_model.specs.declared.change.Change.{Change}
@@ -11,7 +11,7 @@ use Rattle.vl_model.specs.declared.change.Change.TheVariants.{Set as Put, Delete
 use Rattle.vl_model.specs.declared.counter.Counter.TheVariants.{Commit as CommitNumber}
 use Rattle.vl_script.specs.declared.answer.Answer.TheVariants.{Done, Number, Taken, Invalid, TooBig, TooMany, Nothing, Full, Exhausted}
 use Rattle.vl_script.specs.declared.line.Line.{Line}
-use Rattle.vl_script.specs.declared.line.Line.TheVariants.{Begin, View, Get, Set, Delete as DeleteLine, Commit as CommitLine, Drop}
+use Rattle.vl_script.specs.declared.line.Line.TheVariants.{Begin, View, Get, Set, SetTagged, GetTagged, Delete as DeleteLine, Commit as CommitLine, Drop}
 use Rattle.vl_replay.specs.Sequential.{State, Handle, Outcome, OpenTransaction, OpenView, most_open, with_handle, without_handle, opened, found, read, read_in_transaction, is_lawful_write, written, committed, dropped, fits_transaction, bytes_in_log, after_commit, answer_to, state_after}
 use Rattle.vl_replay.proofs.Disk.Betweens.{extends_same, extends_one}
 
@@ -88,7 +88,9 @@ line_adds : (s : State) (line : Line) → Keeps s (state_after s line) ⊎ ((wri
 line_adds s (Begin name) = inl (kept_opened s name (OpenTransaction (last_number s.history) [] empty))
 line_adds s (View name) = inl (kept_opened s name (OpenView (last_number s.history)))
 line_adds s (Get name key) = inl (kept_read s name key (get s.handles name))
-line_adds s (Set name key value) = inl (kept_written s name key (Put value) (get s.handles name))
+line_adds s (Set name key value) = inl (kept_written s name key (Put (untagged value)) (get s.handles name))
+line_adds s (GetTagged name key) = inl (kept_read s name key (get s.handles name))
+line_adds s (SetTagged name key value tag) = inl (kept_written s name key (Put (tagged value tag)) (get s.handles name))
 line_adds s (DeleteLine name key) = inl (kept_written s name key Delete (get s.handles name))
 line_adds s (Drop name) = inl (kept_dropped s name (get s.handles name))
 line_adds s (CommitLine name) = committed_adds s name (get s.handles name)

@@ -3,6 +3,7 @@ use Rattle.std.proofs.Common.{◌≡◌, ℕ, ◌==◌, Bool, true, false, cond,
 use Rattle.std.proofs.lemmas.Bool.Decides.{nat_tests}
 use Rattle.std.specs.Prelude.{nat_le, Result, ⊤, IfOk, IfErr, OnOk, OnErr}
 use Rattle.std.specs.FinMap.{insert}
+use Rattle.vl_model.specs.Formats.{log_format}
 use Rattle.vl_model.specs.Keys.{Writes, value_bytes, is_value_length}
 use Rattle.vl_model.specs.Limits.{max_key_bytes}
 use Rattle.vl_model.specs.declared.change.Change.{Change}
@@ -50,7 +51,7 @@ module _ (old : Writes) (key : List ℕ) (change : Change) where
       let more = insert old key change in
       let n = length key in
       let short = nat_le n max_key_bytes in
-      let value = is_value_length (length (value_bytes change)) in
+      let value = is_value_length log_format (length (value_bytes change)) in
       let fits = fits_transaction more in
       let parts = by_tests old more (n == 0) short value fits in (
         ap (λ b. cond (not ((b && short) && value)) Invalid (cond fits Done TooBig)) (some_byte n) ∙ parts.0,

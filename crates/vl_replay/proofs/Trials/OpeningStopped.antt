@@ -4,6 +4,7 @@ use Rattle.std.specs.Prelude.{◌≢◌, Result}
 use Rattle.std.specs.FinMap.{empty, get, get-empty, insert}
 use Rattle.std.proofs.lemmas.Bool.{true≢false}
 use Rattle.std.proofs.lemmas.List.{take_at}
+use Rattle.vl_model.specs.Formats.{log_format}
 use Rattle.vl_disk.specs.Changes.{SameElsewhere}
 use Rattle.vl_disk.specs.Crash.{Image, MayLeaveOne}
 use Rattle.vl_disk.specs.DiskState.{DiskState, File, IsLawful, created, empty_disk, new_file, settled}
@@ -60,7 +61,7 @@ spells_what_stands = record { stands = stands; some = some }
     stands : (name : Name) (bytes : List ℕ) (place : ℕ) (frame : List ℕ) → Spells name bytes place frame
         → take (length frame) (drop place bytes) ≡ frame
     stands (Log number) bytes place frame (item, rest, at, is) =
-        let here = item_frame frames_grammar number place item in
+        let here = item_frame (frames_grammar log_format) number place item in
         subst (λ (f : List ℕ). take (length f) (drop place bytes) ≡ f) (sym is)
         (ap (take (length here)) at.spelled ∙ take_at here rest (length here) refl)
     stands (Table number) bytes place frame spelled = absurd spelled
@@ -71,7 +72,7 @@ spells_what_stands = record { stands = stands; some = some }
 
     some : (name : Name) (bytes : List ℕ) (place : ℕ) (frame : List ℕ) → Spells name bytes place frame → 1 ≤ length frame
     some (Log number) bytes place frame (item, rest, at, is) =
-        subst (λ (f : List ℕ). 1 ≤ length f) (sym is) (frame_is_some frames_grammar number place item)
+        subst (λ (f : List ℕ). 1 ≤ length f) (sym is) (frame_is_some (frames_grammar log_format) number place item)
     some (Table number) bytes place frame spelled = absurd spelled
     some (Manifest number) bytes place frame (item, rest, at, is) =
         subst (λ (f : List ℕ). 1 ≤ length f) (sym is) (frame_is_some edits_grammar number place item)
@@ -318,14 +319,14 @@ while_first now (at_log during) = record {
       (started_made empty empty_disk (Manifest 1) piece started_empty)
       (making_small empty empty_disk started_empty empty_small (Manifest 1) (omega arith, omega arith) (omega arith) piece
       (made (Manifest 1) piece empty_disk) (making.durable refl))
-      (Log 1) (omega arith, omega arith) (omega arith) (log_header 1) now during;
-  manifest = by (one.making (Log 1) (log_header 1) (made (Manifest 1) piece empty_disk) now during);
+      (Log 1) (omega arith, omega arith) (omega arith) (log_header log_format 1) now during;
+  manifest = by (one.making (Log 1) (log_header log_format 1) (made (Manifest 1) piece empty_disk) now during);
 }
   where
     there : get (made (Manifest 1) piece empty_disk).standing (Manifest 1) ≡ Some (settled piece)
     there = one.made_there (Manifest 1) piece empty_disk
 
-    by : Making (Log 1) (log_header 1) (made (Manifest 1) piece empty_disk) now → IsFirstManifest now
+    by : Making (Log 1) (log_header log_format 1) (made (Manifest 1) piece empty_disk) now → IsFirstManifest now
     by (one.waits is) = subst IsFirstManifest (sym is) (is_made there)
     by (one.torn file part stands same) = is_made (same.standing (Manifest 1) (manifest_log 1 1) ∙ there)
     by (one.done stands same) = is_made (same.standing (Manifest 1) (manifest_log 1 1) ∙ there)

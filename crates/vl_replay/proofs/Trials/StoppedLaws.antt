@@ -6,6 +6,7 @@ use Rattle.std.specs.List.{AllByRecursion}
 use Rattle.std.specs.Option.{option_map}
 use Rattle.std.proofs.Math.Seq.{take-append-add}
 use Rattle.std.proofs.lemmas.List.{length-take, map-append, take-take, take_all, take_at}
+use Rattle.vl_model.specs.Formats.{log_format}
 use Rattle.vl_disk.specs.Changes.{changed_elsewhere, changed_there}
 use Rattle.vl_disk.specs.Crash.{Image, MayLeave}
 use Rattle.vl_disk.specs.DiskState.{DiskState, File, IsLawful, appended, lengthened, synced, synced_file}
@@ -48,25 +49,25 @@ use Rattle.vl_replay.proofs.Openings.NumbersLeft.{names_left, numbered_changed, 
 
 -- ---- a log that ends with a part of a frame
 
-module _ (number : ℕ) (frames : List LogFrame) (f : LogFrame) (has : HasFrame frames_grammar f) (k : ℕ) where
+module _ (number : ℕ) (frames : List LogFrame) (f : LogFrame) (has : HasFrame (frames_grammar log_format) f) (k : ℕ) where
   abbrev whole : List ℕ
   whole = frame_behind number frames f
 
   -- no frame is spelled in a part of one,
-  part_says_none : k < length whole → StandsNone frames_grammar number (frames_end frames) (take k whole)
+  part_says_none : k < length whole → StandsNone (frames_grammar log_format) number (frames_end log_format frames) (take k whole)
   part_says_none less g rest stands =
-      let some = item_frame frames_grammar number (frames_end frames) g in
+      let some = item_frame (frames_grammar log_format) number (frames_end log_format frames) g in
       let parts : take k whole ≡ some ++ rest = stands.spelled in
       let within : length some ≤ k = omega (arith, ap length parts, length-append some rest, length-take k whole) in
       let front : take (length some) whole ≡ some =
       sym (take-take (length some) k whole within) ∙ ap (take (length some)) parts ∙ take_at some rest (length some) refl in
-      let same : g ≡ f = one_front frames_grammar number (frames_end frames) f g has
+      let same : g ≡ f = one_front (frames_grammar log_format) number (frames_end log_format frames) f g has
       (record { lawful = stands.lawful; short = stands.short }) front in
-      let all : length some ≡ length whole = ap (λ (x : LogFrame). length (item_frame frames_grammar number (frames_end frames) x)) same in
+      let all : length some ≡ length whole = ap (λ (x : LogFrame). length (item_frame (frames_grammar log_format) number (frames_end log_format frames) x)) same in
       omega (arith, less, within, all)
 
   -- so the log says the frames before it
-  part_says : k < length whole → AllByRecursion (HasFrame frames_grammar) frames → SaysFrames number (log_bytes number frames ++ take k whole) frames
+  part_says : k < length whole → AllByRecursion (HasFrame (frames_grammar log_format)) frames → SaysFrames number (log_bytes log_format number frames ++ take k whole) frames
   part_says less have = (_, reads_with_tail number frames have (take k whole) (part_says_none less))
 
 -- the logs with frames are the same where the last one has the same
@@ -79,7 +80,7 @@ filled_with a b number frames (q ∷ logs) = ap (with_frames q.number q.reading.
 
 -- of a disk that holds a store, and a frame for its last log
 module _ (state : ManifestState) (before : List Segment) (last : Segment) (f : LogFrame) (disk : DiskState)
-    (holds : HoldsStore state (before ++ last ∷ []) disk) (has : HasFrame frames_grammar f) where
+    (holds : HoldsStore state (before ++ last ∷ []) disk) (has : HasFrame (frames_grammar log_format) f) where
   abbrev frame : List ℕ
   frame = frame_behind last.number last.frames f
 
@@ -87,7 +88,7 @@ module _ (state : ManifestState) (before : List Segment) (last : Segment) (f : L
   torn taken = appended (Log last.number) frame taken disk
 
   abbrev log : List ℕ
-  log = log_bytes last.number last.frames
+  log = log_bytes log_format last.number last.frames
 
   torn_there : (taken : ℕ) → get (torn taken).standing (Log last.number) ≡ Some (torn_log last.number last.frames f taken)
   torn_there taken = changed_there (Log last.number) disk (lengthened frame taken)
@@ -161,7 +162,7 @@ module _ (state : ManifestState) (before : List Segment) (last : Segment) (f : L
       ∙ ap Some (part_of (length frame) half ∙ ap (λ (b : List ℕ). log ++ take half b) (take_all (length frame) frame (omega arith)))
 
   frame_some : 1 ≤ length frame
-  frame_some = frame_is_some frames_grammar last.number (frames_end last.frames) f
+  frame_some = frame_is_some (frames_grammar log_format) last.number (frames_end log_format last.frames) f
 
   half_less : half < length frame
   half_less =
@@ -234,27 +235,27 @@ module _ (before after : State) (commits : Commits IsStored before after) where
   number = before.log.number
 
   same_frame : frame_behind number stored.frames commits.item ≡ commits.frame
-  same_frame = ap (λ (place : ℕ). frame_at number place commits.item) (sym stored.length_is) ∙ sym commits.frame_is
+  same_frame = ap (λ (place : ℕ). frame_at log_format number place commits.item) (sym stored.length_is) ∙ sym commits.frame_is
 
   -- Where its append failed, the image opens as the store before,
   append_failed_opens : (outcome : Outcome) → OpensAsHeld before old stored (crash_image outcome (with_taken commits 0))
   append_failed_opens outcome = subst
       (λ (frame : List ℕ). OpensAsHeld before old stored (crash_image outcome (appended (Log number) frame 0 old))) same_frame
-      (none_opens stored.manifest stored.frozen (new_segment number stored.frames) commits.item old stored.holds commits.has
+      (none_opens stored.manifest stored.frozen (new_segment log_format number stored.frames) commits.item old stored.holds commits.has
       stored.lawful (last_number before.history) stored.numbers outcome)
 
   -- and where its sync failed too, if what wasn't durable was lost,
   sync_failed_lost : OpensAsHeld before old stored (crash_image Lost (with_taken commits (length commits.frame)))
   sync_failed_lost = subst
       (λ (frame : List ℕ). OpensAsHeld before old stored (crash_image Lost (appended (Log number) frame (length frame) old))) same_frame
-      (lost_opens stored.manifest stored.frozen (new_segment number stored.frames) commits.item old stored.holds commits.has
+      (lost_opens stored.manifest stored.frozen (new_segment log_format number stored.frames) commits.item old stored.holds commits.has
       stored.lawful (last_number before.history) stored.numbers)
 
   -- or half of it.
   sync_failed_halved : OpensAsHeld before old stored (crash_image Halved (with_taken commits (length commits.frame)))
   sync_failed_halved = subst
       (λ (frame : List ℕ). OpensAsHeld before old stored (crash_image Halved (appended (Log number) frame (length frame) old))) same_frame
-      (half_opens stored.manifest stored.frozen (new_segment number stored.frames) commits.item old stored.holds commits.has
+      (half_opens stored.manifest stored.frozen (new_segment log_format number stored.frames) commits.item old stored.holds commits.has
       stored.lawful (last_number before.history) stored.numbers)
 
   -- If all of it was kept, it opens as the store after.
@@ -298,7 +299,7 @@ module _ (n : ℕ) (fits : n + 2 ≤ max_file_number) (s : State) (disk : DiskSt
       → Reopens image s.history (last_number s.history)
   held_reopens image opens names =
       reopens_by n image names s.history (last_number s.history) (held_shows s disk stored image opens) (λ found.
-      let last = last_held stored.manifest.head stored.frozen (new_segment s.log.number stored.frames) disk stored.holds.logs_are in
+      let last = last_held stored.manifest.head stored.frozen (new_segment log_format s.log.number stored.frames) disk stored.holds.logs_are in
       let within : s.log.number ≤ n = numbered.standing (Log s.log.number) (λ none. some_none _ (sym last.stands ∙ none)) in
       let same : found.opening ≡ opening_held stored.manifest (logs_of s stored.frozen stored.frames) (last_number s.history) =
       ok_same {E = Refusal} found.opening _ (single_opening image (Ok found.opening) _ found.opens opens) in

@@ -4,13 +4,14 @@ use Rattle.std.specs.Prelude.{Option, nat_le, ◌==◌}
 use Rattle.std.specs.FinMap.{get, len}
 use Rattle.std.specs.List.{AllByRecursion, slice_get}
 use Rattle.std.proofs.lemmas.Bool.Decides.{nat_tests}
+use Rattle.vl_model.specs.Keys.{tagged, untagged}
 use Rattle.vl_model.specs.History.{last_number}
 use Rattle.vl_model.specs.Limits.{max_commit_number, max_room}
 use Rattle.vl_model.specs.declared.counter.Counter.TheVariants.{Commit as CommitNumber}
 use Rattle.vl_script.specs.Script.{line_of}
 use Rattle.vl_script.specs.declared.answer.Answer.TheVariants.{Number, Nothing, Full, Exhausted}
 use Rattle.vl_script.specs.declared.line.Line.{Line}
-use Rattle.vl_script.specs.declared.line.Line.TheVariants.{Begin, View, Get, Set, Delete as DeleteLine, Commit as CommitLine, Drop}
+use Rattle.vl_script.specs.declared.line.Line.TheVariants.{Begin, View, Get, Set, SetTagged, GetTagged, Delete as DeleteLine, Commit as CommitLine, Drop}
 use Rattle.vl_model.specs.declared.change.Change.TheVariants.{Set as Put, Delete}
 use Rattle.vl_replay.specs.Exchanges.{Exchange, and_later, exchange_at, exchanges_from, last_state}
 use Rattle.vl_replay.specs.Sequential.{Handle, OpenTransaction, OpenView, Outcome, State, after_commit, bytes_in_log, committed, state_after, without_handle}
@@ -138,7 +139,9 @@ line_files : (s : State) (line : Line) → (state_after s line).files ≡ s.file
 line_files s (Begin name) = (kept_opened s name (OpenTransaction (last_number s.history) [] _)).files
 line_files s (View name) = (kept_opened s name (OpenView (last_number s.history))).files
 line_files s (Get name key) = (kept_read s name key (get s.handles name)).files
-line_files s (Set name key value) = (kept_written s name key (Put value) (get s.handles name)).files
+line_files s (Set name key value) = (kept_written s name key (Put (untagged value)) (get s.handles name)).files
+line_files s (GetTagged name key) = (kept_read s name key (get s.handles name)).files
+line_files s (SetTagged name key value tag) = (kept_written s name key (Put (tagged value tag)) (get s.handles name)).files
 line_files s (DeleteLine name key) = (kept_written s name key Delete (get s.handles name)).files
 line_files s (CommitLine name) = committed_files s name (get s.handles name)
 line_files s (Drop name) = (kept_dropped s name (get s.handles name)).files

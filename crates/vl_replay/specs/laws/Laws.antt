@@ -8,16 +8,16 @@ use Rattle.std.specs.Option.{option_map}
 use Rattle.std.specs.FinMap.{FinMap, get, insert, remove, len, empty, contains_key, get-insert, get-remove, len-insert, len-remove, len-empty, empty_of_len, get-empty}
 use Rattle.std.specs.Cmp.Lexicographic.{nat_list_cmp_total}
 use Rattle.std.specs.Ordering.{eq_by_cmp}
-use Rattle.vl_model.specs.Keys.{Writes, key_cmp, is_key_length}
+use Rattle.vl_model.specs.Keys.{Writes, key_cmp, is_key_length, tagged, untagged}
 use Rattle.vl_model.specs.History.{History, last_number, with_commit, value_at, commits_up_to}
 use Rattle.vl_model.specs.Reads.{Read, KeyRead, RangeRead, IsExplained, IsExplainedRead}
 use Rattle.vl_model.specs.declared.change.Change.{Change}
 use Rattle.vl_model.specs.declared.change.Change.TheVariants.{Set as Put, Delete}
-use Rattle.vl_replay.specs.Sequential.{Handle, OpenTransaction, OpenView, State, Outcome, with_handle, without_handle, opened, found, read, read_in_transaction, is_lawful_write, written, committed, dropped, after_commit, bytes_in_log, fits_transaction, state_after}
+use Rattle.vl_replay.specs.Sequential.{Handle, OpenTransaction, OpenView, State, Outcome, with_handle, without_handle, opened, found, read, read_in_transaction, with_tag, is_lawful_write, written, committed, dropped, after_commit, bytes_in_log, fits_transaction, state_after}
 use Rattle.vl_script.specs.Script.{line_of}
 use Rattle.vl_replay.specs.Exchanges.{exchanged, exchanges_from, and_later, IsExplainedExchange, AreExplained, ended_lines, KeepsUp}
 use Rattle.vl_script.specs.declared.line.Line.{Line}
-use Rattle.vl_script.specs.declared.line.Line.TheVariants.{Begin, View, Get, Set, Delete as DeleteLine, Commit, Drop}
+use Rattle.vl_script.specs.declared.line.Line.TheVariants.{Begin, View, Get, Set, SetTagged, GetTagged, Delete as DeleteLine, Commit, Drop}
 use Rattle.vl_script.specs.declared.answer.Answer.{Answer}
 use Rattle.vl_script.specs.declared.answer.Answer.TheVariants.{Number, Done, Invalid, TooBig, Full, Exhausted}
 use Rattle.vl_model.specs.declared.counter.Counter.TheVariants.{Commit as CommitNumber}
@@ -150,7 +150,10 @@ pub state_after-sound : (s : State) (line : Line) → IsSound s → IsSound (sta
 state_after-sound s (Begin name) sound = opened-sound s name (OpenTransaction (last_number s.history) [] empty) sound (tt, refl)
 state_after-sound s (View name) sound = opened-sound s name (OpenView (last_number s.history)) sound refl
 state_after-sound s (Get name key) sound = read-sound s name key (get s.handles name) sound refl
-state_after-sound s (Set name key value) sound = written-sound s name key (Put value) (get s.handles name) sound refl
+state_after-sound s (Set name key value) sound = written-sound s name key (Put (untagged value)) (get s.handles name) sound refl
+state_after-sound s (GetTagged name key) sound = read-sound s name key (get s.handles name) sound refl
+state_after-sound s (SetTagged name key value tag) sound =
+    written-sound s name key (Put (tagged value tag)) (get s.handles name) sound refl
 state_after-sound s (DeleteLine name key) sound = written-sound s name key Delete (get s.handles name) sound refl
 state_after-sound s (Commit name) sound = committed-sound s name (get s.handles name) sound refl
 state_after-sound s (Drop name) sound = dropped-sound s name (get s.handles name) sound
@@ -197,6 +200,8 @@ exchange_explained : (s : State) (line : Line) → IsSound s → IsExplainedExch
 exchange_explained s (Begin name) sound = tt
 exchange_explained s (View name) sound = tt
 exchange_explained s (Get name key) sound = λ number is. view_read s name key number (get s.handles name) is
+exchange_explained s (GetTagged name key) sound = λ number is. ap with_tag (view_read s name key number (get s.handles name) is)
+exchange_explained s (SetTagged name key value tag) sound = tt
 exchange_explained s (Set name key value) sound = tt
 exchange_explained s (DeleteLine name key) sound = tt
 exchange_explained s (Drop name) sound = tt

@@ -8,7 +8,7 @@ ghost use Rattle.vl_disk.specs.Disk.{Stands};
 ghost use Rattle.vl_disk.specs.Faults.{HasCause};
 ghost use Rattle.vl_model.specs.History.{last_number, value_left};
 ghost use Rattle.vl_model.specs.Keys.{Writes};
-ghost use Rattle.vl_replay.specs.Sequential.{State, answer_to, state_after, opened, read, written, committed, bytes_in_log, after_commit, dropped, found};
+ghost use Rattle.vl_replay.specs.Sequential.{State, answer_to, state_after, opened, read, read_tagged, with_tag, written, committed, bytes_in_log, after_commit, dropped, found};
 ghost use Rattle.vl_replay.specs.Sequential as sequential;
 ghost use Rattle.vl_replay.specs.Represents.{Represents, IsOutcome, StandsFor, HasOpen, HasWritesToCommit, Decides, handle_named, write_answer, writes_after, answer_of};
 ghost use Rattle.vl_replay.specs.Durable.{CarriesOut};
@@ -79,7 +79,23 @@ impl Store {
             Line::Begin { name } => Ok(self.begin(name)),
             Line::View { name } => Ok(self.view(name)),
             Line::Get { name, key } => self.get(name, key),
-            Line::Set { name, key, value } => self.write(name, key, Change::Set(value)),
+            Line::Set { name, key, value } => {
+                let value = Value {
+                    bytes: value,
+                    tag: 0,
+                };
+                self.write(name, key, Change::Set(value))
+            }
+            Line::SetTagged {
+                name,
+                key,
+                value,
+                tag,
+            } => {
+                let value = Value { bytes: value, tag };
+                self.write(name, key, Change::Set(value))
+            }
+            Line::GetTagged { name, key } => self.get_tagged(name, key),
             Line::Delete { name, key } => self.write(name, key, Change::Delete),
             Line::Commit { name } => self.commit(disk, name),
             Line::Drop { name } => Ok(self.end(name)),
@@ -141,6 +157,15 @@ impl Store {
                 None => self.read(key.as_slice(), *number),
             },
         }
+    }
+
+    // As `get`, with the value's tag.
+    fn get_tagged(&self, name: Ident, key: Key) -> Result<Answer, Halt>
+        ensures answer { (s : State) → Represents self.now s
+            → IfOk result (λ answer. IsOutcome answer self.now (read_tagged (read s name key (get s.handles name)))) }
+        ensures halt { IfErr result (λ halt. halt ≡ Halt.NoMemory) }
+    {
+        Ok(with_tag(self.get(name, key)?))
     }
 
     // The value that a key has at a number: what the newest commit up to it left, else what the logs that were opened have.
@@ -296,6 +321,16 @@ impl Store {
     }
 }
 
+// A read's answer with its value's tag.
+fn with_tag(answer: Answer) -> Answer
+    ensures { result ≡ with_tag answer }
+{
+    match answer {
+        Answer::Found { value } => Answer::FoundTagged { value },
+        other => other,
+    }
+}
+
 // The value that a change leaves, as an answer.
 fn found(change: &Change) -> Result<Answer, Halt>
     ensures answer { IfOk result (λ answer. answer ≡ found (value_left None (Some change.now))) }
@@ -355,7 +390,7 @@ fn make(writes: &mut Writes, key: &[u8], change: &Change) -> Result<(), SetFail>
     ensures { IsWritten writes.old key.now change.now writes.new result }
 {
     match change {
-        Change::Set(value) => writes.set(key, value.as_slice()),
+        Change::Set(value) => writes.set(key, value.as_slice(), value.tag),
         Change::Delete => writes.delete(key),
     }
 }

@@ -1,5 +1,5 @@
 -- What the definition of a frame's body says: the frame stands in a log, and it is spelled in one way.
-use Rattle.std.specs.Prelude.{◌≡◌, ◌<◌, ◌^◌, length, refl}
+use Rattle.std.specs.Prelude.{◌≡◌, ℕ, ◌<◌, ◌^◌, length, refl}
 use Rattle.std.proofs.Common.{ap, sym}
 use Rattle.vl_frame.specs.Frame.{file_of}
 use Rattle.vl_frame.specs.declared.kinds.FileKind.TheVariants as files
@@ -20,12 +20,12 @@ two_kinds : kinds.Commit ≡ kinds.Move → ⊥
 two_kinds e = cc
 
 -- A frame that has room is spelled in one way.
-pub one_spelling : (f g : LogFrame) → IsFrame f → IsFrame g → length (frame_body f) < 2 ^ 32
-    → frame_kind f ≡ frame_kind g → frame_body f ≡ frame_body g → f ≡ g
-one_spelling (Committed m ws) (Committed n vs) p q short kind body =
+pub one_spelling : (format : ℕ) (f g : LogFrame) → IsFrame format f → IsFrame format g → length (frame_body format f) < 2 ^ 32
+    → frame_kind f ≡ frame_kind g → frame_body format f ≡ frame_body format g → f ≡ g
+one_spelling format (Committed m ws) (Committed n vs) p q short kind body =
     ap (λ (c : Commit). Committed c.number c.writes)
-    (one_body (record { number = m; writes = ws }) (record { number = n; writes = vs }) p q short body)
-one_spelling (Committed m ws) (Relocated others) p q short kind body = absurd (two_kinds kind)
-one_spelling (Relocated records) (Committed n vs) p q short kind body = absurd (two_kinds (sym kind))
-one_spelling (Relocated records) (Relocated others) p q short kind body =
-    ap Relocated (one_relocation records others p q short body)
+    (one_body format (record { number = m; writes = ws }) (record { number = n; writes = vs }) p q short body)
+one_spelling format (Committed m ws) (Relocated others) p q short kind body = absurd (two_kinds kind)
+one_spelling format (Relocated records) (Committed n vs) p q short kind body = absurd (two_kinds (sym kind))
+one_spelling format (Relocated records) (Relocated others) p q short kind body =
+    ap Relocated (one_relocation format records others p q short body)

@@ -14,29 +14,29 @@ use Rattle.vl_seglog.specs.laws.SeriesLaws.{one_series}
 -- ---- lengths
 
 -- Moved records one behind the other have the sum of their lengths.
-pub moves_length : (records : List Moved) → length (moves_bytes records) ≡ sum_by moved_length records
-moves_length [] = refl
-moves_length (m ∷ records) =
-    omega (arith, length-append (moved_bytes m) (moves_bytes records), length-moved_bytes m, moves_length records, sum_by-cons moved_length m records)
+pub moves_length : (format : ℕ) (records : List Moved) → length (moves_bytes format records) ≡ sum_by (moved_length format) records
+moves_length format [] = refl
+moves_length format (m ∷ records) =
+    omega (arith, length-append (moved_bytes format m) (moves_bytes format records), length-moved_bytes format m, moves_length format records, sum_by-cons (moved_length format) m records)
 
-pub length-relocation_body : (records : List Moved) → length (relocation_body records) ≡ 4 + sum_by moved_length records
+pub length-relocation_body : (format : ℕ) (records : List Moved) → length (relocation_body format records) ≡ 4 + sum_by (moved_length format) records
 unfolding relocation_body
-length-relocation_body records = omega (arith, moves_length records)
+length-relocation_body format records = omega (arith, moves_length format records)
 
-many_bytes : (records : List Moved) → length records ≤ length (moves_bytes records)
-many_bytes [] = omega arith
-many_bytes (m ∷ records) = omega (arith, length-append (moved_bytes m) (moves_bytes records), length-moved_bytes m, many_bytes records)
+many_bytes : (format : ℕ) (records : List Moved) → length records ≤ length (moves_bytes format records)
+many_bytes format [] = omega arith
+many_bytes format (m ∷ records) = omega (arith, length-append (moved_bytes format m) (moves_bytes format records), length-moved_bytes format m, many_bytes format records)
 
 -- Where a body is short enough for a frame, its records can be counted.
-pub few_moves : (records : List Moved) → length (relocation_body records) < 2 ^ 32 → length records < 2 ^ 32
+pub few_moves : (format : ℕ) (records : List Moved) → length (relocation_body format records) < 2 ^ 32 → length records < 2 ^ 32
 unfolding relocation_body
-few_moves records short = omega (arith, short, many_bytes records)
+few_moves format records short = omega (arith, short, many_bytes format records)
 
 -- ---- one spelling
 
-pub one_relocation : (records others : List Moved) → IsRelocation records → IsRelocation others → length (relocation_body records) < 2 ^ 32 → relocation_body records ≡ relocation_body others → records ≡ others
+pub one_relocation : (format : ℕ) (records others : List Moved) → IsRelocation format records → IsRelocation format others → length (relocation_body format records) < 2 ^ 32 → relocation_body format records ≡ relocation_body format others → records ≡ others
 unfolding relocation_body
-one_relocation records others p q short e =
-    let other_short : length (relocation_body others) < 2 ^ 32 = subst (λ (body : List ℕ). length body < 2 ^ 32) e short in
-    let counts = one_number 4 (length records) (length others) _ _ (few_moves records short) (few_moves others other_short) e in
-    one_series moves_spelling records others p.lawful q.lawful counts.0 counts.1
+one_relocation format records others p q short e =
+    let other_short : length (relocation_body format others) < 2 ^ 32 = subst (λ (body : List ℕ). length body < 2 ^ 32) e short in
+    let counts = one_number 4 (length records) (length others) _ _ (few_moves format records short) (few_moves format others other_short) e in
+    one_series (moves_spelling format) records others p.lawful q.lawful counts.0 counts.1

@@ -11,9 +11,10 @@ use std::alloc::{AllocError, Global};
 use vl_frame::{take_u32, take_u64};
 use vl_model::MAX_COMMIT_NUMBER;
 
-/// The commit that the body of a frame spells, which begins at this place of the log.
+/// The commit that the body of a frame spells, which begins at this place of the log of this format.
 pub fn read_commit(
     alloc: Global,
+    format: u32,
     body: &[u8],
     log: u32,
     place: u64,
@@ -21,10 +22,10 @@ pub fn read_commit(
     requires short { length body.now < 2 ^ 32 }
     requires fits { place + length body.now < 2 ^ 64 }
     ensures found { IfOk result (λ read. IfSome read
-        (λ c. spelling.IsCommit (commit_of c) × (body.now ≡ spelling.commit_body (commit_of c)))) }
-    ensures places { IfOk result (λ read. IfSome read (λ c. AreCommitted log (place + 12) c)) }
+        (λ c. spelling.IsCommit format (commit_of c) × (body.now ≡ spelling.commit_body format (commit_of c)))) }
+    ensures places { IfOk result (λ read. IfSome read (λ c. AreCommitted format log (place + 12) c)) }
     ensures none { IfOk result (λ read. IfNone read
-        ((c : spelling.Commit) → spelling.IsCommit c → body.now ≡ spelling.commit_body c → ⊥)) }
+        ((c : spelling.Commit) → spelling.IsCommit format c → body.now ≡ spelling.commit_body format c → ⊥)) }
 {
     let Some((number, count, rest)) = take_head(body) else {
         return Ok(None);
@@ -33,7 +34,7 @@ pub fn read_commit(
         return Ok(None);
     }
     let first = place + COMMIT_HEAD_BYTES as u64;
-    let Some(records) = read_records(alloc, count, rest, log, first, number)? else {
+    let Some(records) = read_records(alloc, format, count, rest, log, first, number)? else {
         return Ok(None);
     };
     if !is_rising(&records) {

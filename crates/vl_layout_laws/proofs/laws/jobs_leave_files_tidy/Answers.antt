@@ -1,4 +1,5 @@
-use Rattle.vl_layout_laws.specs.laws.RulingStocked.{plan_well, drain_well, fresh_well, abandon_well, install_well}
+use Rattle.vl_layout_laws.specs.laws.RulingStocked.{plan_well, drain_well, fresh_well, abandon_well}
+use Rattle.vl_layout_laws.specs.laws.InstallTidy.{install_stocked}
 use Rattle.vl_layout_laws.proofs.laws.jobs_leave_files_tidy.Goals as goal
 
 pub returns-clause-plan : goal.returns-clause-plan
@@ -14,4 +15,4 @@ pub returns-clause-abandon : goal.returns-clause-abandon
 returns-clause-abandon c l h made are w = abandon_well l h w made are
 
 pub returns-clause-install : goal.returns-clause-install
-returns-clause-install c l h job made are standing footed into below w = install_well l h w job made are standing footed into below
+returns-clause-install c l h o made is lent all k are w = install_stocked l h o is made w are k all lent

@@ -9,12 +9,12 @@ use Rattle.vl_manifest.proofs.reading.read_edits.Goals as goal
 pub returns-in_default-clause-none : goal.returns-in_default-clause-none
 returns-in_default-clause-none c = λ edits rest s.
     c.in_default.ensures.none kinds.Edits (edits_body edits)
-    (frame_of edits_grammar c.args.number c.args.at c.args.bytes.now edits rest s)
+    (frame_of (edits_grammar c.args.format) c.args.number c.args.at c.args.bytes.now edits rest s)
 
 pub returns-in-None-clause-none : goal.returns-in-None-clause-none
 returns-in-None-clause-none c = λ edits rest s.
     let frame = c.in-Some.frame in
     let same = one_frame files.Manifest c.args.number c.args.at c.args.bytes.now frame.kind kinds.Edits frame.body.now (edits_body edits)
-    c.in-Some.ensures.found.0 (frame_of edits_grammar c.args.number c.args.at c.args.bytes.now edits rest s) in
+    c.in-Some.ensures.found.0 (frame_of (edits_grammar c.args.format) c.args.number c.args.at c.args.bytes.now edits rest s) in
     let none = rw c.in-None.is at c.in_ok-read_body.ensures.none in
     none edits s.lawful same.1

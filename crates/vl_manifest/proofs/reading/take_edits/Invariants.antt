@@ -2,4 +2,4 @@ use Rattle.vl_manifest.proofs.Taking.{SoFar}
 use Rattle.vl_manifest.proofs.reading.take_edits.Given as goal
 
 abbrev pub invariant-loop : goal.invariant-loop
-invariant-loop l = SoFar l.bytes l.counter l.edits.items l.rest
+invariant-loop l = SoFar l.format l.bytes l.counter l.edits.items l.rest

@@ -5,7 +5,7 @@ use Rattle.vl_manifest.proofs.saying.read_on.Given as goal
 abbrev pub invariant-frames : goal.invariant-frames
 invariant-frames l =
     (length l.left ≤ length l.frames)
-    × UnderWay l.number (place_of l.frames l.rest) l.rest l.fn.state (place_of l.frames l.left) l.left l.latest
+    × UnderWay l.format l.number (place_of l.frames l.rest) l.rest l.fn.state (place_of l.frames l.left) l.left l.latest
 
 abbrev pub decreases-frames : goal.decreases-frames
 decreases-frames l = length l.left

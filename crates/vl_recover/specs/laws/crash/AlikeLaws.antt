@@ -7,7 +7,7 @@ use Rattle.vl_disk.specs.Crash.{Image}
 use Rattle.vl_disk.specs.laws.NameMap.{same_or_other}
 use Rattle.vl_disk.specs.declared.name.Name.{Name}
 use Rattle.vl_disk.specs.declared.name.Name.TheVariants.{Log, Table, Manifest}
-use Rattle.vl_layout.specs.Logs.{log_length}
+use Rattle.vl_layout.specs.declared.segment.Segment.{Segment}
 use Rattle.vl_manifest.specs.Current.{IsCurrent, StandsReadable}
 use Rattle.vl_manifest.specs.Manifest.{SaysState}
 use Rattle.vl_manifest.specs.declared.state.ManifestState.{ManifestState}
@@ -19,7 +19,7 @@ use Rattle.vl_recover.specs.opening.Opening.{Bare, Current, Headless, Heading, I
 use Rattle.vl_recover.specs.laws.opening.OpeningLaws.{IsOpened, OpensBy, one_heading, opened, opens_by, some_none, some_same}
 use Rattle.vl_recover.specs.laws.repairing.StageLaws.{ok_with, then_kept}
 use Rattle.vl_recover.specs.opening.Stages.{on_ok}
-use Rattle.vl_recover.specs.opening.Walk.{LogDamage, StandingLog, counted, counted_whole, filled, in_log, standing_log, walked, with_frames}
+use Rattle.vl_recover.specs.opening.Walk.{LogDamage, StandingLog, content_end, counted_behind, counted_whole, filled, in_log, standing_log, walked, with_frames}
 
 -- ---- states and images that are alike
 
@@ -150,33 +150,49 @@ module _ (image other : Image) where
 -- ---- logs
 
 -- a log that is whole gives what its frames give
-pub whole_log : (n : ℕ) (r : LogReading) → r.header ≡ true → r.whole ≡ true
-    → counted_whole n r ≡ counted n 16 r.frames
-whole_log n r header whole =
-    ap (λ (b : Bool). if b
-    then on_ok (λ m. if r.whole then Ok m else Err (log_length r.frames)) (counted n 16 r.frames)
-    else Err 0) header
-    ∙ ap (λ (b : Bool). on_ok (λ m. if b then Ok m else Err (log_length r.frames)) (counted n 16 r.frames)) whole
-    ∙ stays (counted n 16 r.frames)
+pub whole_log : (n : ℕ) (r : LogReading) → r.whole ≡ true → counted_whole n r ≡ counted_behind r.header n r.frames
+whole_log n r whole =
+    ap (λ (b : Bool). on_ok (λ m. if b then Ok m else Err (content_end r)) (counted_behind r.header n r.frames)) whole
+    ∙ stays (counted_behind r.header n r.frames)
   where
-    stays : (w : Result ℕ ℕ) → on_ok (λ m. if true then Ok m else Err (log_length r.frames)) w ≡ w
+    stays : (w : Result ℕ ℕ) → on_ok (λ m. if true then Ok m else Err (content_end r)) w ≡ w
     stays (Ok m) = refl
     stays (Err place) = refl
 
 -- a log without frames behind a whole one gives no more
-pub walk_more : (k n number log : ℕ) (r : LogReading) (frames : List LogFrame) → frames ≡ []
-    → r.header ≡ true → r.whole ≡ true → in_log log (counted n 16 r.frames) ≡ Ok number
-    → on_ok (λ m. in_log k (counted m 16 frames)) (in_log log (counted_whole n r)) ≡ Ok number
-walk_more k n number log r frames empty header whole e =
-    ap (λ (fs : List LogFrame). on_ok (λ m. in_log k (counted m 16 fs)) (in_log log (counted_whole n r))) empty
-    ∙ ap (λ (w : Result ℕ ℕ). on_ok (λ m. Ok m) (in_log log w)) (whole_log n r header whole)
-    ∙ stays (in_log log (counted n 16 r.frames)) ∙ e
+pub walk_more : (k n number log : ℕ) (r s : LogReading) → s.frames ≡ [] → r.whole ≡ true
+    → in_log log (counted_behind r.header n r.frames) ≡ Ok number
+    → on_ok (λ m. in_log k (counted_behind s.header m s.frames)) (in_log log (counted_whole n r)) ≡ Ok number
+walk_more k n number log r s empty whole e =
+    ap (λ (w : Result ℕ ℕ). on_ok (λ m. in_log k (counted_behind s.header m s.frames)) (in_log log w)) (whole_log n r whole)
+    ∙ stays (in_log log (counted_behind r.header n r.frames)) ∙ e
   where
-    stays : (w : Result ℕ LogDamage) → on_ok (λ m. Ok m) w ≡ w
-    stays (Ok m) = refl
+    gives : (m : ℕ) → in_log k (counted_behind s.header m s.frames) ≡ Ok m
+    gives m = ap (λ (fs : List LogFrame). in_log k (counted_behind s.header m fs)) empty
+
+    stays : (w : Result ℕ LogDamage) → on_ok (λ m. in_log k (counted_behind s.header m s.frames)) w ≡ w
+    stays (Ok m) = gives m
     stays (Err damage) = refl
 
--- The log with this number stands in both images, with the same frames each time.
+-- two readings have no frames, or the same in the same format
+pub data SameContent (r s : LogReading) : Type 0 where
+  none_each : r.frames ≡ [] → s.frames ≡ [] → SameContent r s
+  same_each : r.header ≡ s.header → r.frames ≡ s.frames → SameContent r s
+
+pub same_counted : (r s : LogReading) → SameContent r s → (n : ℕ)
+    → counted_behind r.header n r.frames ≡ counted_behind s.header n s.frames
+same_counted r s (none_each p q) n =
+    ap (counted_behind r.header n) p ∙ sym (ap (counted_behind s.header n) q)
+same_counted r s (same_each h f) n = λ i. counted_behind (h i) n (f i)
+
+pub same_filled : (r s : LogReading) → SameContent r s → (k : ℕ) (others : List Segment)
+    → with_frames k r.header r.frames others ≡ with_frames k s.header s.frames others
+same_filled r s (none_each p q) k others =
+    ap (λ (fs : List LogFrame). with_frames k r.header fs others) p
+    ∙ sym (ap (λ (fs : List LogFrame). with_frames k s.header fs others) q)
+same_filled r s (same_each h f) k others = λ i. with_frames k (h i) (f i) others
+
+-- The log with this number stands in both images, with the same content each time.
 pub record SameFrames (image other : Image) (number : ℕ) : Type 0 where
   pub now : List ℕ
   pub was : List ℕ
@@ -186,7 +202,7 @@ pub record SameFrames (image other : Image) (number : ℕ) : Type 0 where
   pub stood : get other (Log number) ≡ Some was
   pub reads_now : ReadsLog number now reads
   pub read_was : ReadsLog number was read
-  pub frames : reads.frames ≡ read.frames
+  pub same : SameContent reads read
 
 -- the log with this number stands in one image and not in the other, and has no frames
 pub record NewLog (image other : Image) (number : ℕ) : Type 0 where
@@ -201,11 +217,11 @@ pub record NewLog (image other : Image) (number : ℕ) : Type 0 where
 abbrev pub NoLogAbove : ℕ → Image → Type 0
 NoLogAbove number image = (m : ℕ) → number < m → get image (Log m) ≡ None
 
--- a last log from a number on has its header, and ends with its frames
+-- a last log from a number on ends with its frames
 abbrev pub LastIsWhole : ℕ → Image → Type 0
 LastIsWhole least image = (number : ℕ) (bytes : List ℕ) (reading : LogReading) → least ≤ number
     → get image (Log number) ≡ Some bytes → ReadsLog number bytes reading → NoLogAbove number image
-    → (reading.header ≡ true) × (reading.whole ≡ true)
+    → reading.whole ≡ true
 
 -- The logs from a number on have the frames that these have, and count as they do.
 pub record Alike (image : Image) (least : ℕ) (others : List StandingLog) : Type 0 where
@@ -247,7 +263,7 @@ module _ (image other : Image) where
     first = q;
     behind = rest.first ∷ rest.behind;
     standing = (next_kept least q same next, rest.standing);
-    logs = ap (with_frames q.number q.reading.frames) rest.logs;
+    logs = ap (with_frames q.number q.reading.header q.reading.frames) rest.logs;
     walk = λ n number e. ok_with (λ m. walked m (p ∷ ps)) (λ m. walked m (rest.first ∷ rest.behind)) number number
         (λ m. rest.walk m number) (in_log q.number (counted_whole n q.reading)) e;
   }
@@ -273,8 +289,7 @@ module _ (image other : Image) where
         (subst (λ (n : ℕ). ReadsLog n next.bytes q.reading) at next.reads) in
         let reading : q.reading ≡ both.read =
         one_log_reading k both.was q.reading both.read reads both.read_was in
-        let frames : both.reads.frames ≡ q.reading.frames =
-        both.frames ∙ ap (λ (x : LogReading). x.frames) (sym reading) in
+        let content : SameContent both.reads q.reading = subst (SameContent both.reads) (sym reading) both.same in
         record {
           first = standing_log k both.now both.reads;
           behind = [];
@@ -290,8 +305,11 @@ module _ (image other : Image) where
             },
             λ m above. same_log m (omega (arith, above)) ∙ none m (omega (arith, above, at)),
           );
-          logs = λ i. with_frames (sym at i) (frames i) [];
-          walk = λ n number e. (λ i. in_log (sym at i) (counted n 16 (frames i))) ∙ e;
+          logs = same_filled both.reads q.reading content k []
+              ∙ ap (λ (m : ℕ). with_frames m q.reading.header q.reading.frames []) (sym at);
+          walk = λ n number e.
+              ap (in_log k) (same_counted both.reads q.reading content n)
+              ∙ ap (λ (m : ℕ). in_log m (counted_behind q.reading.header n q.reading.frames)) (sym at) ∙ e;
         }
     last_alike both least (q ∷ p ∷ ps) from (next, (after, rest)) =
         let not_less : k < q.number → ⊥ =
@@ -320,8 +338,9 @@ module _ (image other : Image) where
         },
         λ m above. same_log m (omega (arith, above)) ∙ none m (omega (arith, from, above)),
       );
-      logs = ap (λ (fs : List LogFrame). with_frames k fs []) new.empty;
-      walk = λ n number e. ap (λ (fs : List LogFrame). in_log k (counted n 16 fs)) new.empty ∙ e;
+      logs = ap (λ (fs : List LogFrame). with_frames k new.reading.header fs []) new.empty;
+      walk = λ n number e.
+          ap (λ (fs : List LogFrame). in_log k (counted_behind new.reading.header n fs)) new.empty ∙ e;
     }
     one_more new least (q ∷ []) from (next, none) whole =
         let up = next.from in
@@ -345,8 +364,9 @@ module _ (image other : Image) where
               λ m above. same_log m (omega (arith, above)) ∙ none m (omega (arith, above, below)),
             ),
           );
-          logs = ap (λ (fs : List LogFrame). with_frames q.number q.reading.frames (with_frames k fs [])) new.empty;
-          walk = λ n number e. walk_more k n number q.number q.reading new.reading.frames new.empty last.0 last.1 e;
+          logs = ap (with_frames q.number q.reading.header q.reading.frames)
+              (ap (λ (fs : List LogFrame). with_frames k new.reading.header fs []) new.empty);
+          walk = λ n number e. walk_more k n number q.number q.reading new.reading new.empty last e;
         }
       where
         low : (q.number ≡ k) ⊎ (q.number ≢ k) → q.number < k

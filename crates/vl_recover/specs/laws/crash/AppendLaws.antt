@@ -3,10 +3,10 @@ use Rattle.std.specs.Prelude.{Bool, ◌≡◌, ◌≢◌, ◌⊎◌, ◌≤◌, 
 use Rattle.std.specs.FinMap.{get}
 use Rattle.std.specs.List.{AllByRecursion, sum_by}
 use Rattle.std.specs.Option.{option_map}
-use Rattle.std.proofs.Common.{sym, ap, subst, ◌∙◌, append_assoc, arith, inl, inr, ⊎_elim}
+use Rattle.std.proofs.Common.{sym, ap, subst, ◌∙◌, arith, inl, inr, ⊎_elim}
 use Rattle.std.proofs.lemmas.Bool.{true≢false}
 use Rattle.std.proofs.lemmas.Bool.Decides.{nat_tests}
-use Rattle.std.proofs.lemmas.List.{map-append, take_all, take_at}
+use Rattle.std.proofs.lemmas.List.{map-append, take_all}
 use Rattle.std.proofs.lemmas.List.Sums.{sum_by-cons}
 use Rattle.vl_disk.specs.Changes.{SameElsewhere, changed_elsewhere, changed_there}
 use Rattle.vl_disk.specs.Chance.{none_by_chance}
@@ -16,7 +16,7 @@ use Rattle.vl_disk.specs.laws.Lawful.{appended_lawful, synced_lawful}
 use Rattle.vl_disk.specs.laws.NameMap.{same_or_other}
 use Rattle.vl_disk.specs.declared.name.Name.{Name}
 use Rattle.vl_disk.specs.declared.name.Name.TheVariants.{Log, Manifest}
-use Rattle.vl_frame.specs.Runs.{HasFrame, run_bytes}
+use Rattle.vl_frame.specs.Runs.{HasFrame}
 use Rattle.vl_layout.specs.Logs.{log_length, new_segment}
 use Rattle.vl_layout.specs.declared.segment.Segment.{Segment}
 use Rattle.vl_manifest.specs.declared.state.ManifestState.{ManifestState}
@@ -37,11 +37,12 @@ use Rattle.vl_recover.specs.laws.opening.OpeningLaws.{opens_by, some_same}
 use Rattle.vl_recover.specs.laws.repairing.StageLaws.{err_ok, ok_same, ok_with}
 use Rattle.vl_recover.specs.crash.Starts.{AllMayStand, MayOpen, MayStand}
 use Rattle.vl_recover.specs.opening.Stages.{on_ok}
-use Rattle.vl_recover.specs.laws.crash.TornFrames.{due_as_read, frame_behind, torn_log, torn_says}
-use Rattle.vl_recover.specs.opening.Walk.{LogDamage, StandingLog, counted, counted_frame, counted_whole, filled, in_log, walked, walked_on, with_frames}
-use Rattle.vl_seglog.specs.laws.FrameLaws.{length-log_header, log_bytes-more}
-use Rattle.vl_seglog.specs.Frames.{frames_grammar, log_bytes, log_header}
-use Rattle.vl_seglog.specs.LogReading.{HasHeader, LogReading, ReadsLog}
+use Rattle.vl_recover.specs.laws.crash.TornFrames.{due_as_read, frame_behind, headed_front, torn_log, torn_says}
+use Rattle.vl_recover.specs.opening.Walk.{LogDamage, StandingLog, counted, counted_behind, counted_frame, counted_whole, filled, in_log, walked, walked_on, with_frames}
+use Rattle.vl_seglog.specs.laws.FrameLaws.{log_bytes-more}
+use Rattle.vl_seglog.specs.Frames.{frames_grammar, log_bytes}
+use Rattle.vl_model.specs.Formats.{log_format}
+use Rattle.vl_seglog.specs.LogReading.{HasHeader, IsLogFormat, LogReading, ReadsLog}
 use Rattle.vl_seglog.specs.laws.LogReadingLaws.{SaysFrames, reads_written}
 
 -- ---- what is the same under the other names
@@ -64,18 +65,30 @@ manifest_kept log state disk now same holds = record {
 -- the last of the logs that a disk holds from a number on
 pub record HoldsLast (least : ℕ) (last : Segment) (disk : DiskState) : Type 0 where
   pub from : least ≤ last.number
-  pub have : AllByRecursion (HasFrame frames_grammar) last.frames
-  pub stands : IsSettled disk (Log last.number) (log_bytes last.number last.frames)
+  pub is_read : IsLogFormat last.format
+  pub have : AllByRecursion (HasFrame (frames_grammar last.format)) last.frames
+  pub stands : IsSettled disk (Log last.number) (log_bytes last.format last.number last.frames)
   pub above : (m : ℕ) → last.number < m → IsNowhere disk (Log m)
 
 pub last_held : (least : ℕ) (before : List Segment) (last : Segment) (disk : DiskState)
     → HoldsLogs least (before ++ last ∷ []) disk → HoldsLast least last disk
-last_held least [] last disk (from, between, have, stands, above) =
-    record { from = from; have = have; stands = stands; above = λ m less. above m (omega (arith, less)) }
-last_held least (s ∷ before) last disk (from, between, have, stands, rest) =
+last_held least [] last disk (from, between, is_read, have, stands, above) = record {
+  from = from;
+  is_read = is_read;
+  have = have;
+  stands = stands;
+  above = λ m less. above m (omega (arith, less));
+}
+last_held least (s ∷ before) last disk (from, between, is_read, have, stands, rest) =
     let behind = last_held (s.number + 1) before last disk rest in
     let up = behind.from in
-    record { from = omega (arith, from, up); have = behind.have; stands = behind.stands; above = behind.above }
+    record {
+      from = omega (arith, from, up);
+      is_read = behind.is_read;
+      have = behind.have;
+      stands = behind.stands;
+      above = behind.above;
+    }
 
 other_log : (m k : ℕ) → (m ≡ k → ⊥) → Log m ≢ Log k
 other_log m k apart e = apart (log_same m k e)
@@ -83,12 +96,13 @@ other_log m k apart e = apart (log_same m k e)
 -- The same logs are held where the last one has other frames.
 pub logs_with : (least : ℕ) (before : List Segment) (last other : Segment) (disk now : DiskState)
     → other.number ≡ last.number → SameElsewhere (Log last.number) disk now
-    → AllByRecursion (HasFrame frames_grammar) other.frames
-    → IsSettled now (Log other.number) (log_bytes other.number other.frames)
+    → IsLogFormat other.format → AllByRecursion (HasFrame (frames_grammar other.format)) other.frames
+    → IsSettled now (Log other.number) (log_bytes other.format other.number other.frames)
     → HoldsLogs least (before ++ last ∷ []) disk → HoldsLogs least (before ++ other ∷ []) now
-logs_with least [] last other disk now same elsewhere has there (from, between, have, stands, above) = (
+logs_with least [] last other disk now same elsewhere read has there (from, between, is_read, have, stands, above) = (
   omega (arith, from, same),
   λ m up less. kept m (λ at. omega (arith, at, less, same)) (between m up (omega (arith, less, same))),
+  read,
   has,
   there,
   λ m up. kept m (λ at. omega (arith, at, up, same)) (above m (omega (arith, up, same))),
@@ -96,14 +110,15 @@ logs_with least [] last other disk now same elsewhere has there (from, between, 
   where
     kept : (m : ℕ) → (m ≡ last.number → ⊥) → IsNowhere disk (Log m) → IsNowhere now (Log m)
     kept m apart = nowhere_kept (Log last.number) disk now elsewhere (Log m) (other_log m last.number apart)
-logs_with least (s ∷ before) last other disk now same elsewhere has there (from, between, have, stands, rest) =
+logs_with least (s ∷ before) last other disk now same elsewhere read has there (from, between, is_read, have, stands, rest) =
     let up = (last_held (s.number + 1) before last disk rest).from in (
       from,
       λ m above less. nowhere_kept (Log last.number) disk now elsewhere (Log m)
           (other_log m last.number (λ at. omega (arith, less, at, up))) (between m above less),
+      is_read,
       have,
       elsewhere.standing (Log s.number) (other_log s.number last.number (λ at. omega (arith, at, up))) ∙ stands,
-      logs_with (s.number + 1) before last other disk now same elsewhere has there rest,
+      logs_with (s.number + 1) before last other disk now same elsewhere read has there rest,
     )
 
 -- What is left has the same logs before the last, however that one reads.
@@ -118,7 +133,7 @@ module _ (last : Segment) (disk now : DiskState) (image : Image)
 
   pub standing_with : (least : ℕ) (before : List Segment) → HoldsLogs least (before ++ last ∷ []) disk
       → StandingLogs image least (map log_as_held before ++ standing_log last.number bytes reading ∷ [])
-  standing_with least [] (from, between, have, stands, above) = (
+  standing_with least [] (from, between, is_read, have, stands, above) = (
     record {
       from = from;
       between = λ m up less. none_left m (λ at. omega (arith, at, less)) (between m up less);
@@ -129,17 +144,17 @@ module _ (last : Segment) (disk now : DiskState) (image : Image)
     },
     λ m up. none_left m (λ at. omega (arith, at, up)) (above m up),
   )
-  standing_with least (s ∷ before) (from, between, have, stands, rest) =
+  standing_with least (s ∷ before) (from, between, is_read, have, stands, rest) =
       let up = (last_held (s.number + 1) before last disk rest).from in
-      let here : IsSettled now (Log s.number) (log_bytes s.number s.frames) =
+      let here : IsSettled now (Log s.number) (log_bytes s.format s.number s.frames) =
       elsewhere.standing (Log s.number) (other_log s.number last.number (λ at. omega (arith, at, up))) ∙ stands in (
         record {
           from = from;
           between = λ m above less. none_left m (λ at. omega (arith, at, less, up)) (between m above less);
-          bytes = log_bytes s.number s.frames;
-          stands = left_settled now image (Log s.number) (log_bytes s.number s.frames) here may;
+          bytes = log_bytes s.format s.number s.frames;
+          stands = left_settled now image (Log s.number) (log_bytes s.format s.number s.frames) here may;
           length_is = refl;
-          reads = reads_written s.number s.frames have;
+          reads = reads_written s.format s.number is_read s.frames have;
         },
         standing_with (s.number + 1) before rest,
       )
@@ -147,19 +162,19 @@ module _ (last : Segment) (disk now : DiskState) (image : Image)
 -- ---- logs that differ in the last one's frames
 
 -- one frame more goes on from the number of the last commit before it
-pub counted_more : (n place : ℕ) (fs : List LogFrame) (f : LogFrame) (m next : ℕ) → counted n place fs ≡ Ok m
-    → counted_frame m (place + sum_by frame_length fs) f ≡ Ok next → counted n place (fs ++ f ∷ []) ≡ Ok next
-counted_more n place [] f m next e one =
+pub counted_more : (format n place : ℕ) (fs : List LogFrame) (f : LogFrame) (m next : ℕ) → counted format n place fs ≡ Ok m
+    → counted_frame m (place + sum_by (frame_length format) fs) f ≡ Ok next → counted format n place (fs ++ f ∷ []) ≡ Ok next
+counted_more format n place [] f m next e one =
     let here : place + 0 ≡ place = omega arith in
     let same : n ≡ m = ok_same {E = ℕ} n m e in
     ap (on_ok (λ (k : ℕ). Ok k))
     (ap (λ (k : ℕ). counted_frame k place f) same ∙ ap (λ (p : ℕ). counted_frame m p f) (sym here) ∙ one)
-counted_more n place (g ∷ fs) f m next e one =
-    let after = place + frame_length g in
-    let there : place + sum_by frame_length (g ∷ fs) ≡ after + sum_by frame_length fs =
-    omega (arith, sum_by-cons frame_length g fs) in
-    ok_with (λ k. counted k after fs) (λ k. counted k after (fs ++ f ∷ [])) m next
-    (λ k is. counted_more k after fs f m next is (subst (λ (p : ℕ). counted_frame m p f ≡ Ok next) there one))
+counted_more format n place (g ∷ fs) f m next e one =
+    let after = place + frame_length format g in
+    let there : place + sum_by (frame_length format) (g ∷ fs) ≡ after + sum_by (frame_length format) fs =
+    omega (arith, sum_by-cons (frame_length format) g fs) in
+    ok_with (λ k. counted format k after fs) (λ k. counted format k after (fs ++ f ∷ [])) m next
+    (λ k is. counted_more format k after fs f m next is (subst (λ (p : ℕ). counted_frame m p f ≡ Ok next) there one))
     (counted_frame n place g) e
 
 -- a commit with the next number goes on
@@ -171,8 +186,8 @@ commit_counts n place writes =
 
 -- logs go on with the last of them
 pub walked_with : (a b : StandingLog) (number next : ℕ)
-    → ((m : ℕ) → in_log a.number (counted m 16 a.reading.frames) ≡ Ok number
-    → in_log b.number (counted m 16 b.reading.frames) ≡ Ok next)
+    → ((m : ℕ) → in_log a.number (counted_behind a.reading.header m a.reading.frames) ≡ Ok number
+    → in_log b.number (counted_behind b.reading.header m b.reading.frames) ≡ Ok next)
     → (n : ℕ) (logs : List StandingLog) → walked n (logs ++ a ∷ []) ≡ Ok number → walked n (logs ++ b ∷ []) ≡ Ok next
 walked_with a b number next last n [] e = last n e
 walked_with a b number next last n (q ∷ []) e =
@@ -182,12 +197,13 @@ walked_with a b number next last n (q ∷ p ∷ logs) e =
     ok_with (λ m. walked_on m p (logs ++ a ∷ [])) (λ m. walked_on m p (logs ++ b ∷ [])) number next
     (λ m. walked_with a b number next last m (p ∷ logs)) (in_log q.number (counted_whole n q.reading)) e
 
-filled_with : (a b : StandingLog) → a.number ≡ b.number → a.reading.frames ≡ b.reading.frames
+filled_with : (a b : StandingLog) → a.number ≡ b.number → a.reading.header ≡ b.reading.header
+    → a.reading.frames ≡ b.reading.frames
     → (logs : List StandingLog)
     → filled (logs ++ a ∷ []) ≡ filled (logs ++ b ∷ [])
-filled_with a b number frames [] = λ i. with_frames (number i) (frames i) []
-filled_with a b number frames (q ∷ logs) =
-    ap (with_frames q.number q.reading.frames) (filled_with a b number frames logs)
+filled_with a b number header frames [] = λ i. with_frames (number i) (header i) (frames i) []
+filled_with a b number header frames (q ∷ logs) =
+    ap (with_frames q.number q.reading.header q.reading.frames) (filled_with a b number header frames logs)
 
 logs_as_held : (before : List Segment) (last : Segment)
     → map log_as_held (before ++ last ∷ []) ≡ map log_as_held before ++ log_as_held last ∷ []
@@ -195,11 +211,11 @@ logs_as_held before last = map-append log_as_held before (last ∷ [])
 
 -- the log with one frame more
 abbrev pub with_frame : LogFrame → Segment → Segment
-with_frame f s = new_segment s.number (s.frames ++ f ∷ [])
+with_frame f s = new_segment s.format s.number (s.frames ++ f ∷ [])
 
 -- Logs go on where the last one's new frame does.
 pub goes_on : (covered : ℕ) (before : List Segment) (last : Segment) (f : LogFrame) (number next : ℕ)
-    → GoOn covered (before ++ last ∷ []) number → counted_frame number (log_length last.frames) f ≡ Ok next
+    → GoOn covered (before ++ last ∷ []) number → counted_frame number (log_length last.format last.frames) f ≡ Ok next
     → GoOn covered (before ++ with_frame f last ∷ []) next
 goes_on covered before last f number next goes one =
     subst (λ (l : List StandingLog). walked covered l ≡ Ok next) (sym (logs_as_held before (with_frame f last)))
@@ -211,11 +227,11 @@ goes_on covered before last f number next goes one =
     in_ok (Ok m) e = ap (λ (k : ℕ). Ok k) (ok_same {E = LogDamage} m number e)
     in_ok (Err p) e = absurd (err_ok (record { log = last.number; place = p }) number e)
 
-    counts : (m : ℕ) → in_log last.number (counted m 16 last.frames) ≡ Ok number
-        → in_log last.number (counted m 16 (last.frames ++ f ∷ [])) ≡ Ok next
+    counts : (m : ℕ) → in_log last.number (counted last.format m 16 last.frames) ≡ Ok number
+        → in_log last.number (counted last.format m 16 (last.frames ++ f ∷ [])) ≡ Ok next
     counts m e =
-        let so_far = in_ok (counted m 16 last.frames) e in
-        ap (in_log last.number) (counted_more m 16 last.frames f number next so_far one)
+        let so_far = in_ok (counted last.format m 16 last.frames) e in
+        ap (in_log last.number) (counted_more last.format m 16 last.frames f number next so_far one)
 
 -- ---- while the frame is appended and made durable
 
@@ -225,19 +241,20 @@ OpensEither state before last f number next image =
     Opens image (Ok (opening_held state (before ++ last ∷ []) number))
     ⊎ Opens image (Ok (opening_held state (before ++ with_frame f last ∷ []) next))
 
-have_more : (fs : List LogFrame) (f : LogFrame) → AllByRecursion (HasFrame frames_grammar) fs
-    → HasFrame frames_grammar f → AllByRecursion (HasFrame frames_grammar) (fs ++ f ∷ [])
-have_more [] f have has = (has, tt)
-have_more (g ∷ fs) f have has = (have.0, have_more fs f have.1 has)
+have_more : (format : ℕ) (fs : List LogFrame) (f : LogFrame)
+    → AllByRecursion (HasFrame (frames_grammar format)) fs
+    → HasFrame (frames_grammar format) f → AllByRecursion (HasFrame (frames_grammar format)) (fs ++ f ∷ [])
+have_more format [] f have has = (has, tt)
+have_more format (g ∷ fs) f have has = (have.0, have_more format fs f have.1 has)
 
 -- of a disk that holds a store, and a frame for its last log
 module _ (state : ManifestState) (before : List Segment) (last : Segment) (f : LogFrame) (disk : DiskState)
-    (holds : HoldsStore state (before ++ last ∷ []) disk) (has : HasFrame frames_grammar f) where
+    (holds : HoldsStore state (before ++ last ∷ []) disk) (has : HasFrame (frames_grammar last.format) f) where
   abbrev name : Name
   name = Log last.number
 
   abbrev frame : List ℕ
-  frame = frame_behind last.number last.frames f
+  frame = frame_behind last.format last.number last.frames f
 
   -- the disk whose log took so many bytes of the frame, and that on which the frame is durable
   abbrev torn : ℕ → DiskState
@@ -249,19 +266,19 @@ module _ (state : ManifestState) (before : List Segment) (last : Segment) (f : L
   here : HoldsLast state.head last disk
   here = last_held state.head before last disk holds.logs_are
 
-  torn_there : (taken : ℕ) → get (torn taken).standing name ≡ Some (torn_log last.number last.frames f taken)
+  torn_there : (taken : ℕ) → get (torn taken).standing name ≡ Some (torn_log last.format last.number last.frames f taken)
   torn_there taken =
       changed_there name disk (lengthened frame taken) ∙ ap (option_map (lengthened frame taken)) here.stands
 
   torn_elsewhere : (taken : ℕ) → SameElsewhere name disk (torn taken)
   torn_elsewhere taken = changed_elsewhere name disk (lengthened frame taken)
 
-  durable_there : IsSettled durable name (log_bytes last.number (last.frames ++ f ∷ []))
+  durable_there : IsSettled durable name (log_bytes last.format last.number (last.frames ++ f ∷ []))
   durable_there =
-      let old = log_bytes last.number last.frames in
-      let all : old ++ take (length frame) frame ≡ log_bytes last.number (last.frames ++ f ∷ []) =
+      let old = log_bytes last.format last.number last.frames in
+      let all : old ++ take (length frame) frame ≡ log_bytes last.format last.number (last.frames ++ f ∷ []) =
       ap (λ (b : List ℕ). old ++ b) (take_all (length frame) frame (omega arith))
-      ∙ sym (log_bytes-more last.number last.frames f) in
+      ∙ sym (log_bytes-more last.format last.number last.frames f) in
       changed_there name (torn (length frame)) synced_file ∙ ap (option_map synced_file) (torn_there (length frame))
       ∙ ap (λ (b : List ℕ). Some (settled b)) all
 
@@ -278,7 +295,7 @@ module _ (state : ManifestState) (before : List Segment) (last : Segment) (f : L
   durable_settled : AllSettled durable
   durable_settled q file stands = ⊎_elim
       (λ (same : q ≡ name).
-      let bytes = log_bytes last.number (last.frames ++ f ∷ []) in
+      let bytes = log_bytes last.format last.number (last.frames ++ f ∷ []) in
       let is : settled bytes ≡ file = some_same (settled bytes) file
       (sym durable_there ∙ ap (get durable.standing) (sym same) ∙ stands) in
       sym is ∙ ap (λ (x : File). settled x.bytes) is)
@@ -290,20 +307,20 @@ module _ (state : ManifestState) (before : List Segment) (last : Segment) (f : L
   append_holds = record {
     manifest = manifest_kept last.number state disk durable durable_elsewhere holds.manifest;
     logs_are = logs_with state.head before last (with_frame f last) disk durable refl durable_elsewhere
-        (have_more last.frames f here.have has) durable_there holds.logs_are;
+        here.is_read (have_more last.format last.frames f here.have has) durable_there holds.logs_are;
     durable = durable_settled;
   }
 
   -- a log of some bytes is left, which say the frames before, or these and the new one
   abbrev IsTorn : Image → Type 0
   IsTorn image = (bytes : List ℕ) × (get image name ≡ Some bytes)
-      × (SaysFrames last.number bytes last.frames ⊎ SaysFrames last.number bytes (last.frames ++ f ∷ []))
+      × (SaysFrames last.format last.number bytes last.frames ⊎ SaysFrames last.format last.number bytes (last.frames ++ f ∷ []))
 
   torn_left : (taken : ℕ) (image : Image) → IsLeft (torn taken) image → IsTorn image
   torn_left taken image left = by (get image name) refl
     where
       file : File
-      file = torn_log last.number last.frames f taken
+      file = torn_log last.format last.number last.frames f taken
 
       removed : Option File
       removed = get (torn taken).removed name
@@ -316,7 +333,7 @@ module _ (state : ManifestState) (before : List Segment) (last : Segment) (f : L
       by (Some bytes) is = (
         bytes,
         is,
-        torn_says last.number last.frames f has taken here.have bytes
+        torn_says last.format last.number here.is_read last.frames f has taken here.have bytes
             (subst (λ (o : Option (List ℕ)). MayLeaveOne (Some file) removed o) is one)
             (none_by_chance Spells name (torn taken) image left.no_chance file bytes
             (ap (λ (o : Option File). last_file o removed) (torn_there taken)) is tt refl),
@@ -325,22 +342,24 @@ module _ (state : ManifestState) (before : List Segment) (last : Segment) (f : L
   -- whatever the last log's frames are, the image opens with them
   opens_with : (taken : ℕ) (image : Image) → MayLeave (torn taken) image → (bytes : List ℕ)
       → get image name ≡ Some bytes
-      → (s : Segment) → s.number ≡ last.number → SaysFrames last.number bytes s.frames
+      → (s : Segment) → s.number ≡ last.number → s.format ≡ last.format
+      → SaysFrames last.format last.number bytes s.frames
       → (n : ℕ) → GoOn state.covered (before ++ s ∷ []) n
       → Opens image (Ok (opening_held state (before ++ s ∷ []) n))
-  opens_with taken image may bytes is s same says n goes =
+  opens_with taken image may bytes is s same format says n goes =
       let held = manifest_kept last.number state disk (torn taken) (torn_elsewhere taken) holds.manifest in
-      let found = standing_log last.number bytes (record { header = true; frames = s.frames; whole = says.0 }) in
+      let found = standing_log last.number bytes (record { header = Some last.format; frames = s.frames; whole = says.0 }) in
       let logs = map log_as_held before ++ found ∷ [] in
       let standing : StandingLogs image state.head logs =
       standing_with last disk (torn taken) image (torn_elsewhere taken) may bytes found.reading is says.1
       state.head before holds.logs_are in
       let walk : walked state.covered logs ≡ Ok n =
       walked_with (log_as_held s) found n n
-      (λ m e. ap (λ (k : ℕ). in_log k (counted m 16 s.frames)) (sym same) ∙ e) state.covered (map log_as_held before)
+      (λ m e. ap (λ (k : ℕ). in_log k (counted last.format m 16 s.frames)) (sym same)
+      ∙ ap (λ (k : ℕ). in_log s.number (counted k m 16 s.frames)) (sym format) ∙ e) state.covered (map log_as_held before)
       (subst (λ (l : List StandingLog). walked state.covered l ≡ Ok n) (logs_as_held before s) goes) in
       let filled_same : filled logs ≡ filled (map log_as_held (before ++ s ∷ [])) =
-      filled_with found (log_as_held s) (sym same) refl (map log_as_held before)
+      filled_with found (log_as_held s) (sym same) (ap Some (sym format)) refl (map log_as_held before)
       ∙ ap filled (sym (logs_as_held before s)) in
       subst (λ (l : List Segment). Opens image (Ok (record { state = state; logs = l; number = n }))) filled_same
       (opens_by image (Led held.number held.bytes) state logs n (record {
@@ -358,10 +377,10 @@ module _ (state : ManifestState) (before : List Segment) (last : Segment) (f : L
       where
         by : IsTorn image → OpensEither state before last f number next image
         by (bytes, is, either) = ⊎_elim
-            (λ (says : SaysFrames last.number bytes last.frames).
-            inl (opens_with taken image left.left bytes is last refl says number goes))
-            (λ (says : SaysFrames last.number bytes (last.frames ++ f ∷ [])).
-            inr (opens_with taken image left.left bytes is (with_frame f last) refl says next goes_too))
+            (λ (says : SaysFrames last.format last.number bytes last.frames).
+            inl (opens_with taken image left.left bytes is last refl refl says number goes))
+            (λ (says : SaysFrames last.format last.number bytes (last.frames ++ f ∷ [])).
+            inr (opens_with taken image left.left bytes is (with_frame f last) refl refl says next goes_too))
             either
 
     -- Whatever a crash leaves while the frame is appended opens with the logs before, or with the frame.
@@ -388,29 +407,27 @@ module _ (state : ManifestState) (before : List Segment) (last : Segment) (f : L
 
   -- ---- the same disk is opened again
 
-  module _ (lawful : IsLawful disk) where
+  module _ (lawful : IsLawful disk) (active : last.format ≡ log_format) where
     -- the header of the log stands, so that none is wrong
-    torn_headed : (taken : ℕ) → HasHeader last.number (torn_log last.number last.frames f taken).bytes
-    torn_headed taken =
-        let run = run_bytes frames_grammar last.number 16 last.frames in
-        let part = take taken frame in
-        ap (take 16) (append_assoc (log_header last.number) run part)
-        ∙ take_at (log_header last.number) (run ++ part) 16 (length-log_header last.number)
+    torn_headed : (taken : ℕ) → HasHeader log_format last.number (torn_log last.format last.number last.frames f taken).bytes
+    torn_headed taken = subst
+        (λ (n : ℕ). HasHeader n last.number (torn_log last.format last.number last.frames f taken).bytes) active
+        (headed_front last.format last.number last.frames (take taken frame))
 
-    torn_may_stand : (taken : ℕ) → MayStand name (torn_log last.number last.frames f taken)
+    torn_may_stand : (taken : ℕ) → MayStand name (torn_log last.format last.number last.frames f taken)
     torn_may_stand taken = record {
-      no_chance = λ right grows torn_now. due_as_read last.number last.frames f has taken;
+      no_chance = λ right grows torn_now. due_as_read last.format last.number here.is_read last.frames f has taken;
       headless = λ wrong. absurd (wrong (torn_headed taken));
     }
       where
         file : File
-        file = torn_log last.number last.frames f taken
+        file = torn_log last.format last.number last.frames f taken
 
     torn_all_stand : (taken : ℕ) → AllMayStand (torn taken)
     torn_all_stand taken q file stands = ⊎_elim
         (λ (same : q ≡ name).
-        let is : torn_log last.number last.frames f taken ≡ file =
-        some_same (torn_log last.number last.frames f taken) file
+        let is : torn_log last.format last.number last.frames f taken ≡ file =
+        some_same (torn_log last.format last.number last.frames f taken) file
         (sym (torn_there taken) ∙ ap (get (torn taken).standing) (sym same) ∙ stands) in
         subst (λ (n : Name). MayStand n file) (sym same) (subst (MayStand name) is (torn_may_stand taken)))
         (λ (apart : q ≢ name).

@@ -1,5 +1,5 @@
 -- What bytes say that a crash left of a file that isn't durable.
-use Rattle.std.specs.Prelude.{◌≡◌, ◌⊎◌, ℕ, ◌+◌, ◌-◌, ◌^◌, ◌<◌, ◌≤◌, ◌==◌, min, max, true, false, bytes_eq, List, [], ◌∷◌, ◌++◌, length, take, drop, All, Any, Some, refl}
+use Rattle.std.specs.Prelude.{◌≡◌, ◌⊎◌, ℕ, ◌+◌, ◌-◌, ◌^◌, ◌<◌, ◌≤◌, ◌==◌, min, max, true, false, bytes_eq, List, [], ◌∷◌, ◌++◌, length, take, drop, All, Any, Option, None, Some, refl}
 use Rattle.std.proofs.Common.{append_assoc, ap, arith, inl, inr, length-append, subst, sym, zero-le, ◌∙◌, ⊎_elim}
 use Rattle.std.proofs.lemmas.Bool.{cases_Bool, cases_lt, true≢false}
 use Rattle.std.proofs.lemmas.Bool.Decides.{not_from_Decides}
@@ -22,15 +22,16 @@ use Rattle.vl_manifest.specs.States.{whole_edits}
 use Rattle.vl_manifest.specs.declared.edit.Edit.{Edit}
 use Rattle.vl_manifest.specs.declared.format.TheConstants.{MANIFEST_FORMAT}
 use Rattle.vl_manifest.specs.declared.state.ManifestState.{ManifestState}
-use Rattle.vl_model.specs.declared.log_frame.LogFrame.{LogFrame}
+use Rattle.vl_model.specs.Formats.{log_format}
+use Rattle.vl_recover.specs.laws.crash.AlikeLaws.{SameContent, none_each, same_each}
 use Rattle.vl_recover.specs.crash.Alike.{Spells}
 use Rattle.vl_recover.specs.laws.crash.OneName.{IsPart, part_empty, part_some}
 use Rattle.vl_recover.specs.crash.Starts.{HasWrongHeader, MayStand}
-use Rattle.vl_recover.specs.laws.crash.TornFrames.{one_due}
-use Rattle.vl_seglog.specs.laws.FrameLaws.{length-log_bytes}
+use Rattle.vl_recover.specs.laws.crash.TornFrames.{headed_front, one_due}
+use Rattle.vl_seglog.specs.laws.FrameLaws.{length-log_bytes, length-log_header}
 use Rattle.vl_seglog.specs.Frames.{frames_end, frames_grammar, log_bytes, log_header}
-use Rattle.vl_seglog.specs.LogReading.{HasHeader, LogReading, ReadsLog}
-use Rattle.vl_seglog.specs.laws.LogReadingLaws.{LogApart, log_apart, reads_no_header, reads_with_tail}
+use Rattle.vl_seglog.specs.LogReading.{HasHeader, IsLogFormat, LogReading, ReadsLog, SaysFormat}
+use Rattle.vl_seglog.specs.laws.LogReadingLaws.{LogApart, log_apart, reads_no_header, reads_with_tail, written_is_read}
 
 -- ---- frames that were handed over
 
@@ -70,17 +71,17 @@ none_below file at frame lawful below handed =
 
 spelled_some : (name : Name) (bytes : List ℕ) (at : ℕ) (frame : List ℕ) → Spells name bytes at frame
     → 1 ≤ length frame
-spelled_some (Log number) bytes at frame (item, rest, stands, is) =
-    omega (arith, frame_is_some frames_grammar number at item, ap length is)
+spelled_some (Log number) bytes at frame (format, is_read, header, (item, rest, stands, is)) =
+    omega (arith, frame_is_some (frames_grammar format) number at item, ap length is)
 spelled_some (Table number) bytes at frame spelled = absurd spelled
 spelled_some (Manifest number) bytes at frame (item, rest, stands, is) =
     omega (arith, frame_is_some edits_grammar number at item, ap length is)
 
 none_spelled : (name : Name) (bytes : List ℕ) (at : ℕ) (frame : List ℕ) → length bytes ≤ at
     → Spells name bytes at frame → ⊥
-none_spelled (Log number) bytes at frame end (item, rest, stands, is) =
-    none_at_end frames_grammar number at item rest (subst
-    (λ (b : List ℕ). StandsAt frames_grammar number at b item rest) (drop_all at bytes end) stands)
+none_spelled (Log number) bytes at frame end (format, is_read, header, (item, rest, stands, is)) =
+    none_at_end (frames_grammar format) number at item rest (subst
+    (λ (b : List ℕ). StandsAt (frames_grammar format) number at b item rest) (drop_all at bytes end) stands)
 none_spelled (Table number) bytes at frame end spelled = spelled
 none_spelled (Manifest number) bytes at frame end (item, rest, stands, is) =
     none_at_end edits_grammar number at item rest (subst
@@ -206,59 +207,90 @@ module _ (number : ℕ) (s : ManifestState) (fits : number < 2 ^ 32) (range : Is
 
 -- ---- logs
 
-header_or_not : (number : ℕ) (bytes : List ℕ) → HasHeader number bytes ⊎ (HasHeader number bytes → ⊥)
-header_or_not number bytes =
-    let test = bytes_eq (take 16 bytes) (log_header number) in
-    let decides = bytes_eq-Decides (take 16 bytes) (log_header number) in
+header_or_not : (format number : ℕ) (bytes : List ℕ)
+    → HasHeader format number bytes ⊎ (HasHeader format number bytes → ⊥)
+header_or_not format number bytes =
+    let test = bytes_eq (take 16 bytes) (log_header format number) in
+    let decides = bytes_eq-Decides (take 16 bytes) (log_header format number) in
     ⊎_elim (λ (yes : test ≡ true). inl (decides.0 yes))
     (λ (no : test ≡ false). inr (not_from_Decides test decides no)) (cases_Bool test)
 
--- the bytes of a log have these frames, with its header and to their end or not
-pub record ReadsFrames (number : ℕ) (bytes : List ℕ) (frames : List LogFrame) : Type 0 where
+-- the bytes say a format that is read, or none
+pub said_format : (number : ℕ) (bytes : List ℕ) → (header : Option ℕ) × SaysFormat header number bytes
+said_format number bytes = ⊎_elim
+    (λ (first : HasHeader 1 number bytes). (Some 1, (record { least = omega arith; greatest = omega arith }, first)))
+    (λ (not_first : HasHeader 1 number bytes → ⊥). ⊎_elim
+    (λ (second : HasHeader 2 number bytes). (Some 2, (record { least = omega arith; greatest = omega arith }, second)))
+    (λ (not_second : HasHeader 2 number bytes → ⊥). (
+      None,
+      λ format is has. ⊎_elim
+          (λ (low : format < 2). let one : format ≡ 1 = (let least = is.least in omega (arith, low, least)) in
+          not_first (subst (λ (n : ℕ). HasHeader n number bytes) one has))
+          (λ (high : 2 ≤ format). let two : format ≡ 2 = (let most = is.greatest in omega (arith, high, most)) in
+          not_second (subst (λ (n : ℕ). HasHeader n number bytes) two has))
+          (cases_lt format 2),
+    ))
+    (header_or_not 2 number bytes))
+    (header_or_not 1 number bytes)
+
+-- the bytes of a log have the content of a reading, with its header and to their end or not
+pub record ReadsFrames (number : ℕ) (bytes : List ℕ) (like : LogReading) : Type 0 where
   pub reading : LogReading
   pub reads : ReadsLog number bytes reading
-  pub same : reading.frames ≡ frames
+  pub same : SameContent reading like
 
-reads_none : (number : ℕ) (bytes : List ℕ) → StandsNone frames_grammar number 16 (drop 16 bytes)
-    → ReadsFrames number bytes []
-reads_none number bytes none = ⊎_elim
-    (λ (header : HasHeader number bytes).
-    let parts : bytes ≡ log_header number ++ drop 16 bytes = sym (take-append-drop 16 bytes)
-    ∙ ap (λ (b : List ℕ). b ++ drop 16 bytes) header in
-    record {
-      reading = record { header = true; frames = []; whole = length (drop 16 bytes) == 0 };
-      reads = subst (λ (b : List ℕ). ReadsLog number b
-          (record { header = true; frames = []; whole = length (drop 16 bytes) == 0 })) (sym parts)
-          (reads_with_tail number [] tt (drop 16 bytes) none);
-      same = refl;
-    })
-    (λ (wrong : HasHeader number bytes → ⊥). record {
-      reading = record { header = false; frames = []; whole = false };
+-- a reading without header and frames
+abbrev pub no_reading : LogReading
+no_reading = record { header = None; frames = []; whole = false }
+
+-- nothing stands behind a header of the bytes
+abbrev pub HasNoneBehind : ℕ → List ℕ → Type 0
+HasNoneBehind number bytes = (format : ℕ) → IsLogFormat format → HasHeader format number bytes
+    → StandsNone (frames_grammar format) number 16 (drop 16 bytes)
+
+reads_none : (number : ℕ) (bytes : List ℕ) → HasNoneBehind number bytes
+    → (like : LogReading) → like.frames ≡ [] → ReadsFrames number bytes like
+reads_none number bytes none like empty = by (said_format number bytes)
+  where
+    by : (header : Option ℕ) × SaysFormat header number bytes → ReadsFrames number bytes like
+    by (Some format, (is_read, header)) =
+        let parts : bytes ≡ log_header format number ++ drop 16 bytes = sym (take-append-drop 16 bytes)
+        ∙ ap (λ (b : List ℕ). b ++ drop 16 bytes) header in
+        record {
+          reading = record { header = Some format; frames = []; whole = length (drop 16 bytes) == 0 };
+          reads = subst (λ (b : List ℕ). ReadsLog number b
+              (record { header = Some format; frames = []; whole = length (drop 16 bytes) == 0 })) (sym parts)
+              (reads_with_tail format number is_read [] tt (drop 16 bytes) (none format is_read header));
+          same = none_each refl empty;
+        }
+    by (None, wrong) = record {
+      reading = no_reading;
       reads = reads_no_header number bytes wrong;
-      same = refl;
-    })
-    (header_or_not number bytes)
+      same = none_each refl empty;
+    }
 
 -- Where no piece that is unsynced goes past the header, what is left of a log has no frames.
 pub torn_header : (number : ℕ) (file : File) (bytes : List ℕ) → file.wholly_synced ≡ false → file.synced ≤ 16
     → All (λ piece. piece.place + length piece.bytes ≤ 16) file.unsynced
-    → NoChanceOne Spells (Log number) (Some file) (Some bytes) → ReadsFrames number bytes []
+    → NoChanceOne Spells (Log number) (Some file) (Some bytes)
+    → (like : LogReading) → like.frames ≡ [] → ReadsFrames number bytes like
 torn_header number file bytes loose short within chance = reads_none number bytes none
   where
-    none : StandsNone frames_grammar number 16 (drop 16 bytes)
-    none f rest stands =
+    none : HasNoneBehind number bytes
+    none format is_read header f rest stands =
         let from : torn_from file ≡ 16 = omega (arith, short) in
-        let frame = item_frame frames_grammar number 16 f in
-        let spelled : Spells (Log number) bytes 16 frame = (f, rest, stands, refl) in
+        let frame = item_frame (frames_grammar format) number 16 f in
+        let spelled : Spells (Log number) bytes 16 frame = (format, is_read, header, (f, rest, stands, refl)) in
         let handed = (chance tt loose).first frame (subst (λ (n : ℕ). Spells (Log number) bytes n frame)
         (sym from) spelled) in
-        none_past file 16 16 frame within (omega arith) (frame_is_some frames_grammar number 16 f)
+        none_past file 16 16 frame within (omega arith) (frame_is_some (frames_grammar format) number 16 f)
         (subst (λ (n : ℕ). WasHandedOver file n frame) from handed)
 
 -- a header alone
-pub header_reads : (number : ℕ) → ReadsLog number (log_header number)
-    (record { header = true; frames = []; whole = true })
-header_reads number = reads_with_tail number [] tt [] (none_at_end frames_grammar number 16)
+pub header_reads : (number : ℕ) → ReadsLog number (log_header log_format number)
+    (record { header = Some log_format; frames = []; whole = true })
+header_reads number = reads_with_tail log_format number written_is_read [] tt []
+    (none_at_end (frames_grammar log_format) number 16)
 
 -- ---- what is left of a file as it stands
 
@@ -290,35 +322,50 @@ leaves_front name file loose = record {
       (omega (arith, length-take (torn_from file) file.bytes));
 }
 
--- Of a log with a wrong header bytes may be left that have no frames.
+-- Of a log bytes may be left that have no frames.
 pub record LeavesNone (number : ℕ) (file : File) : Type 0 where
   pub leaves : Leaves (Log number) file
-  pub reads : ReadsLog number leaves.bytes (record { header = false; frames = []; whole = false })
+  pub reading : LogReading
+  pub reads : ReadsLog number leaves.bytes reading
+  pub none : reading.frames ≡ []
+
+-- So it is with one that reads so,
+pub leaves_empty : (number : ℕ) (file : File) (reading : LogReading) → ReadsLog number file.bytes reading
+    → reading.frames ≡ [] → NoChanceOne Spells (Log number) (Some file) (Some file.bytes) → LeavesNone number file
+leaves_empty number file reading reads none chance =
+    record { leaves = leaves_read (Log number) file chance; reading = reading; reads = reads; none = none }
+
+-- and with one that has a wrong header.
 
 pub leaves_none : (number : ℕ) (file : File) → HasWrongHeader (Log number) file → LeavesNone number file
 unfolding leaves_front
 leaves_none number file wrong = ⊎_elim
     (λ (whole : file.wholly_synced ≡ true). record {
       leaves = leaves_read (Log number) file (λ grows loose. absurd (true≢false (sym whole ∙ loose)));
+      reading = no_reading;
       reads = reads_no_header number file.bytes wrong;
+      none = refl;
     })
     (λ (loose : file.wholly_synced ≡ false).
     let front : take 16 (take (torn_from file) file.bytes) ≡ take 16 file.bytes =
     take-take 16 (torn_from file) file.bytes (omega arith) in
     record {
       leaves = leaves_front (Log number) file loose;
+      reading = no_reading;
       reads = reads_no_header number (take (torn_from file) file.bytes)
-          (λ header. wrong (sym front ∙ header));
+          (λ format is_read header. wrong format is_read (sym front ∙ header));
+      none = refl;
     })
     (cases_Bool file.wholly_synced)
 
 -- Of each file that may stand some bytes may be left.
 pub stand_leaves : (name : Name) (file : File) → MayStand name file → Leaves name file
-stand_leaves (Log number) file stand = ⊎_elim
-    (λ (header : HasHeader number file.bytes). leaves_read (Log number) file
-    (stand.no_chance (λ wrong. wrong header)))
-    (λ (wrong : HasHeader number file.bytes → ⊥). (leaves_none number file wrong).leaves)
-    (header_or_not number file.bytes)
+stand_leaves (Log number) file stand = by (said_format number file.bytes)
+  where
+    by : (header : Option ℕ) × SaysFormat header number file.bytes → Leaves (Log number) file
+    by (Some format, (is_read, header)) = leaves_read (Log number) file
+        (stand.no_chance (λ wrong. wrong format is_read header))
+    by (None, wrong) = (leaves_none number file wrong).leaves
 stand_leaves (Table number) file stand = leaves_read (Table number) file (stand.no_chance (λ wrong. wrong))
 stand_leaves (Manifest number) file stand = leaves_read (Manifest number) file
     (stand.no_chance (λ wrong. wrong))
@@ -360,34 +407,46 @@ module _ (number len : ℕ) (file : File) where
         let from : max 16 (min len file.synced) ≡ max 16 file.synced = omega (arith, flat) in
         same_handed (shortened len left file) file (Spells name bytes) from refl (chance grows refl)
 
+  -- the header of first bytes is that of all of them
+  header_longer : (format : ℕ) (bytes : List ℕ) → HasHeader format number (take len bytes) → HasHeader format number bytes
+  header_longer format bytes header =
+      let size : length (take 16 (take len bytes)) ≡ 16 = ap length header ∙ length-log_header format number in
+      let long : 16 ≤ len = omega (arith, size, length-take 16 (take len bytes), length-take len bytes) in
+      sym (take-take 16 len bytes long) ∙ header
+
   -- what is spelled in first bytes is spelled in all of them
   pub spelled_longer : (bytes : List ℕ) (at : ℕ) (frame : List ℕ)
       → Spells (Log number) (take len bytes) at frame → Spells (Log number) bytes at frame
-  spelled_longer bytes at frame (item, rest, stands, is) = (
-    item,
-    rest ++ drop len bytes,
-    record {
-      lawful = stands.lawful;
-      short = stands.short;
-      spelled = ap (drop at) (sym (take-append-drop len bytes))
-          ∙ drop-append-le at (take len bytes) (drop len bytes) within
-          ∙ ap (λ (b : List ℕ). b ++ drop len bytes) stands.spelled
-          ∙ append_assoc (item_frame frames_grammar number at item) rest (drop len bytes);
-    },
-    is,
+  spelled_longer bytes at frame (format, is_read, header, (item, rest, stands, is)) = (
+    format,
+    is_read,
+    header_longer format bytes header,
+    (
+      item,
+      rest ++ drop len bytes,
+      record {
+        lawful = stands.lawful;
+        short = stands.short;
+        spelled = ap (drop at) (sym (take-append-drop len bytes))
+            ∙ drop-append-le at (take len bytes) (drop len bytes) within
+            ∙ ap (λ (b : List ℕ). b ++ drop len bytes) stands.spelled
+            ∙ append_assoc (item_frame (frames_grammar format) number at item) rest (drop len bytes);
+      },
+      is,
+    ),
   )
     where
       within : at ≤ length (take len bytes)
       within = ⊎_elim
           (λ (less : length (take len bytes) < at).
-          let none : [] ≡ item_frame frames_grammar number at item ++ rest =
+          let none : [] ≡ item_frame (frames_grammar format) number at item ++ rest =
           sym (drop_all at (take len bytes) (omega (arith, less))) ∙ stands.spelled in
           absurd (omega (
             arith,
             ap length none,
             length-append
-                (item_frame frames_grammar number at item) rest,
-            frame_is_some frames_grammar number at item,
+                (item_frame (frames_grammar format) number at item) rest,
+            frame_is_some (frames_grammar format) number at item,
           )))
           (λ (le : at ≤ length (take len bytes)). le)
           (cases_lt (length (take len bytes)) at)
@@ -417,45 +476,50 @@ module _ (number len : ℕ) (file : File) where
 
 -- Cut to its content below the synced length, a log leaves the same frames.
 module _ (number : ℕ) (file : File) (reading : LogReading) (lawful : IsLawfulFile file)
-    (reads : ReadsLog number file.bytes reading) (header : reading.header ≡ true) where
+    (reads : ReadsLog number file.bytes reading) (format : ℕ) (header : reading.header ≡ Some format) where
   abbrev content : ℕ
-  content = frames_end reading.frames
+  content = frames_end format reading.frames
 
-  pub torn_cut : (left : ℕ) → frames_end reading.frames ≤ left → frames_end reading.frames < file.synced
-      → (bytes : List ℕ) → Agrees (shortened (frames_end reading.frames) left file) bytes
-      → NoChanceOne Spells (Log number) (Some (shortened (frames_end reading.frames) left file)) (Some bytes)
-      → ReadsFrames number bytes reading.frames
+  pub torn_cut : (left : ℕ) → frames_end format reading.frames ≤ left → frames_end format reading.frames < file.synced
+      → (bytes : List ℕ) → Agrees (shortened (frames_end format reading.frames) left file) bytes
+      → NoChanceOne Spells (Log number) (Some (shortened (frames_end format reading.frames) left file)) (Some bytes)
+      → ReadsFrames number bytes reading
   torn_cut left short deep bytes agrees chance = record {
-    reading = record { header = true; frames = reading.frames; whole = length (drop content bytes) == 0 };
+    reading = record { header = Some format; frames = reading.frames; whole = length (drop content bytes) == 0 };
     reads = subst (λ (b : List ℕ). ReadsLog number b
-        (record { header = true; frames = reading.frames; whole = length (drop content bytes) == 0 }))
+        (record { header = Some format; frames = reading.frames; whole = length (drop content bytes) == 0 }))
         (sym parts)
-        (reads_with_tail number reading.frames apart.have (drop content bytes) none);
-    same = refl;
+        (reads_with_tail format number apart.is_read reading.frames apart.have (drop content bytes) none);
+    same = same_each (sym header) refl;
   }
     where
-      apart : LogApart number file.bytes reading.frames
-      apart = log_apart number file.bytes reading reads header
+      apart : LogApart format number file.bytes reading.frames
+      apart = log_apart number file.bytes reading reads format header
 
-      cut : min (frames_end reading.frames) file.synced ≡ frames_end reading.frames
+      cut : min (frames_end format reading.frames) file.synced ≡ frames_end format reading.frames
       cut = omega (arith, deep)
 
-      front : take (frames_end reading.frames) bytes ≡ log_bytes number reading.frames
+      front : take (frames_end format reading.frames) bytes ≡ log_bytes format number reading.frames
       front = ap (λ (n : ℕ). take n bytes) (sym cut) ∙ agrees.durable
           ∙ ap (λ (n : ℕ). take n (take left file.bytes)) cut ∙ take-take content left file.bytes short
-          ∙ ap (take content) apart.parts ∙ take_at (log_bytes number reading.frames) apart.tail content
-          (length-log_bytes number reading.frames)
+          ∙ ap (take content) apart.parts ∙ take_at (log_bytes format number reading.frames) apart.tail content
+          (length-log_bytes format number reading.frames)
 
-      parts : bytes ≡ log_bytes number reading.frames ++ drop (frames_end reading.frames) bytes
+      parts : bytes ≡ log_bytes format number reading.frames ++ drop (frames_end format reading.frames) bytes
       parts = sym (take-append-drop content bytes) ∙ ap (λ (b : List ℕ). b ++ drop content bytes) front
 
-      none : StandsNone frames_grammar number (frames_end reading.frames)
-          (drop (frames_end reading.frames) bytes)
+      has_header : HasHeader format number bytes
+      has_header = subst (HasHeader format number) (sym parts)
+          (headed_front format number reading.frames (drop content bytes))
+
+      none : StandsNone (frames_grammar format) number (frames_end format reading.frames)
+          (drop (frames_end format reading.frames) bytes)
       none f rest stands =
           let from : max 16 (min content file.synced) ≡ content =
-          omega (arith, deep, length-log_bytes number reading.frames) in
-          let frame = item_frame frames_grammar number content f in
-          let spelled : Spells (Log number) bytes content frame = (f, rest, stands, refl) in
+          omega (arith, deep, length-log_bytes format number reading.frames) in
+          let frame = item_frame (frames_grammar format) number content f in
+          let spelled : Spells (Log number) bytes content frame =
+          (format, apart.is_read, has_header, (f, rest, stands, refl)) in
           let handed = (chance tt refl).first frame (subst (λ (n : ℕ). Spells (Log number) bytes n frame)
           (sym from) spelled) in
           none_below file content frame lawful deep (subst

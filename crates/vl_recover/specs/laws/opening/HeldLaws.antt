@@ -97,14 +97,14 @@ module _ (state : ManifestState) (disk : DiskState) (holds : HoldsManifest state
 pub held_standing : (least : ℕ) (logs : List Segment) (disk : DiskState) (image : Image)
     → HoldsLogs least logs disk → MayLeave disk image → StandingLogs image least (map log_as_held logs)
 held_standing least [] disk image none may = λ m from. left_nowhere disk image (Log m) (none m from) may
-held_standing least (s ∷ ss) disk image (from, between, have, stands, rest) may = (
+held_standing least (s ∷ ss) disk image (from, between, is_read, have, stands, rest) may = (
   record {
     from = from;
     between = λ m above less. left_nowhere disk image (Log m) (between m above less) may;
-    bytes = log_bytes s.number s.frames;
-    stands = left_settled disk image (Log s.number) (log_bytes s.number s.frames) stands may;
+    bytes = log_bytes s.format s.number s.frames;
+    stands = left_settled disk image (Log s.number) (log_bytes s.format s.number s.frames) stands may;
     length_is = refl;
-    reads = reads_written s.number s.frames have;
+    reads = reads_written s.format s.number is_read s.frames have;
   },
   held_standing (s.number + 1) ss disk image rest may,
 )
@@ -134,12 +134,12 @@ held_reads state logs number disk holds goes read is =
 pub none_removed : (least : ℕ) (logs : List Segment) (disk : DiskState) → IsLawful disk → HoldsLogs least logs disk
     → (m : ℕ) → least ≤ m → get disk.removed (Log m) ≡ None
 none_removed least [] disk lawful none m from = (none m from).never
-none_removed least (s ∷ ss) disk lawful (up, between, have, stands, rest) m from = ⊎_elim
+none_removed least (s ∷ ss) disk lawful (up, between, is_read, have, stands, rest) m from = ⊎_elim
     (λ (below : m < s.number). (between m from below).never)
     (λ (above : s.number ≤ m). ⊎_elim
     (λ (beyond : s.number < m). none_removed (s.number + 1) ss disk lawful rest m (omega (arith, beyond)))
     (λ (at : m ≤ s.number). let same : m ≡ s.number = omega (arith, above, at) in
-    lawful.apart (Log m) (settled (log_bytes s.number s.frames))
+    lawful.apart (Log m) (settled (log_bytes s.format s.number s.frames))
     (ap (λ (n : ℕ). get disk.standing (Log n)) same ∙ stands))
     (cases_lt s.number m))
     (cases_lt m s.number)

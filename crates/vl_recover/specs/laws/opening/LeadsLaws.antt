@@ -24,7 +24,9 @@ use Rattle.vl_recover.specs.opening.Opening.{Led, StandingLogs}
 use Rattle.vl_recover.specs.laws.opening.OpeningLaws.{single_says, some_none}
 use Rattle.vl_recover.specs.laws.repairing.StageLaws.{ok_same}
 use Rattle.vl_recover.specs.opening.Walk.{StandingLog}
+use Rattle.vl_model.specs.Formats.{log_format}
 use Rattle.vl_seglog.specs.Frames.{log_header}
+use Rattle.vl_seglog.specs.laws.LogReadingLaws.{written_is_read}
 
 -- ---- what stays elsewhere
 
@@ -145,9 +147,10 @@ pub logs_kept : (name : Name) (old now : DiskState) → SameElsewhere name old n
     → ((m : ℕ) → least ≤ m → Log m ≢ name) → HoldsLogs least logs old → HoldsLogs least logs now
 logs_kept name old now same least [] apart none = λ m from. nowhere_kept name old now same (Log m)
     (apart m from) (none m from)
-logs_kept name old now same least (s ∷ ss) apart (from, between, have, stands, rest) = (
+logs_kept name old now same least (s ∷ ss) apart (from, between, is_read, have, stands, rest) = (
   from,
   λ m above less. nowhere_kept name old now same (Log m) (apart m above) (between m above less),
+  is_read,
   have,
   settled_kept name old now same (Log s.number) _ (apart s.number from) stands,
   logs_kept name old now same (s.number + 1) ss (λ m above. apart m (omega (arith, from, above))) rest,
@@ -156,32 +159,34 @@ logs_kept name old now same least (s ∷ ss) apart (from, between, have, stands,
 -- A log without frames behind all of them is held too.
 pub log_added : (disk : DiskState) (k least : ℕ) (logs : List Segment) → least ≤ k
     → ((m : ℕ) → k ≤ m → IsNowhere disk (Log m)) → HoldsLogs least logs disk
-    → HoldsLogs least (logs ++ new_segment k [] ∷ []) (made (Log k) (log_header k) disk)
+    → HoldsLogs least (logs ++ new_segment log_format k [] ∷ []) (made (Log k) (log_header log_format k) disk)
 log_added disk k least [] from nowhere none = (
   from,
   λ m above less. kept m (omega (arith, less)) (none m above),
+  written_is_read,
   tt,
-  made_there (Log k) (log_header k) disk,
+  made_there (Log k) (log_header log_format k) disk,
   λ m above. kept m (omega (arith, above)) (nowhere m (omega (arith, above))),
 )
   where
-    kept : (m : ℕ) → m ≢ k → IsNowhere disk (Log m) → IsNowhere (made (Log k) (log_header k) disk) (Log m)
-    kept m apart = nowhere_kept (Log k) disk (made (Log k) (log_header k) disk)
-        (made_elsewhere (Log k) (log_header k) disk) (Log m)
+    kept : (m : ℕ) → m ≢ k → IsNowhere disk (Log m) → IsNowhere (made (Log k) (log_header log_format k) disk) (Log m)
+    kept m apart = nowhere_kept (Log k) disk (made (Log k) (log_header log_format k) disk)
+        (made_elsewhere (Log k) (log_header log_format k) disk) (Log m)
         (λ e. apart (log_same m k e))
-log_added disk k least (s ∷ ss) from nowhere (first, between, have, stands, rest) =
+log_added disk k least (s ∷ ss) from nowhere (first, between, is_read, have, stands, rest) =
     let not : k ≤ s.number → ⊥ = λ above. some_none _ (sym stands ∙ (nowhere s.number above).free) in
     let below : s.number < k = omega (arith, not) in (
       first,
       λ m above less. kept m (omega (arith, less, below)) (between m above less),
+      is_read,
       have,
-      settled_kept (Log k) disk (made (Log k) (log_header k) disk)
-          (made_elsewhere (Log k) (log_header k) disk) (Log s.number) _
+      settled_kept (Log k) disk (made (Log k) (log_header log_format k) disk)
+          (made_elsewhere (Log k) (log_header log_format k) disk) (Log s.number) _
           (λ e. omega (arith, below, log_same s.number k e)) stands,
       log_added disk k (s.number + 1) ss (omega (arith, below)) nowhere rest,
     )
   where
-    kept : (m : ℕ) → m ≢ k → IsNowhere disk (Log m) → IsNowhere (made (Log k) (log_header k) disk) (Log m)
-    kept m apart = nowhere_kept (Log k) disk (made (Log k) (log_header k) disk)
-        (made_elsewhere (Log k) (log_header k) disk) (Log m)
+    kept : (m : ℕ) → m ≢ k → IsNowhere disk (Log m) → IsNowhere (made (Log k) (log_header log_format k) disk) (Log m)
+    kept m apart = nowhere_kept (Log k) disk (made (Log k) (log_header log_format k) disk)
+        (made_elsewhere (Log k) (log_header log_format k) disk) (Log m)
         (λ e. apart (log_same m k e))

@@ -1,5 +1,5 @@
 -- The logs from head on as they stand on a disk, before and after the last one is repaired.
-use Rattle.std.specs.Prelude.{◌≡◌, ◌≢◌, ◌⊎◌, ℕ, ◌+◌, ◌≤◌, ◌<◌, ◌==◌, Bool, List, [], ◌∷◌, length, map, Option, None, Some, Result, Ok, Err, if◌then◌else◌, false, true, refl}
+use Rattle.std.specs.Prelude.{◌≡◌, ◌≢◌, ◌⊎◌, ℕ, ◌+◌, ◌≤◌, ◌<◌, ◌==◌, Bool, List, [], ◌∷◌, length, Option, None, Some, Result, Ok, Err, if◌then◌else◌, false, true, refl}
 use Rattle.std.specs.FinMap.{get}
 use Rattle.std.specs.Option.{option_map}
 use Rattle.std.proofs.Common.{ap, arith, inl, inr, subst, sym, ◌∙◌, ⊎_elim}
@@ -10,14 +10,13 @@ use Rattle.vl_disk.specs.DiskState.{DiskState, File, IsLawful, lengthened, settl
 use Rattle.vl_disk.specs.Started.{IsRead}
 use Rattle.vl_disk.specs.declared.name.Name.{Name}
 use Rattle.vl_disk.specs.declared.name.Name.TheVariants.{Log}
-use Rattle.vl_layout.specs.Logs.{log_length}
 use Rattle.vl_manifest.specs.declared.state.ManifestState.{ManifestState}
 use Rattle.vl_recover.specs.laws.crash.AlikeLaws.{LastIsWhole, log_same}
-use Rattle.vl_recover.specs.opening.Answers.{as_segment}
+use Rattle.vl_recover.specs.opening.Answers.{as_segments}
 use Rattle.vl_recover.specs.crash.Held.{HoldsLogs, IsNowhere}
 use Rattle.vl_recover.specs.laws.opening.HeldLaws.{left_nowhere, left_settled}
 use Rattle.vl_recover.specs.laws.opening.LeadsLaws.{nowhere_kept, settled_kept}
-use Rattle.vl_recover.specs.laws.repairing.LastLaws.{IsWritten, LastStands, RepairsLast, whole_bytes, wrong_header}
+use Rattle.vl_recover.specs.laws.repairing.LastLaws.{IsLastWritten, IsWritten, LastStands, RepairsLast, whole_bytes}
 use Rattle.vl_recover.specs.repairing.Repairing.{Cut, Headed, Kept, LastLog, Rewritten, behind_last, headed, last_of, repairing_of}
 use Rattle.vl_recover.specs.laws.crash.OneName.{elsewhere_then}
 use Rattle.vl_recover.specs.opening.Opening.{IsNextLog, StandingLogs}
@@ -26,10 +25,11 @@ use Rattle.vl_recover.specs.opening.Plans.{log_behind, log_made}
 use Rattle.vl_recover.specs.laws.repairing.StageLaws.{err_ok, ok_apart}
 use Rattle.vl_recover.specs.opening.Stages.{on_ok}
 use Rattle.vl_recover.specs.crash.Starts.{AllMayStand}
-use Rattle.vl_recover.specs.opening.Walk.{StandingLog, counted, counted_whole, in_log, walked, walked_on}
+use Rattle.vl_recover.specs.opening.Walk.{StandingLog, content_end, counted_behind, counted_whole, format_of, in_log, keeps_header, walked, walked_on}
+use Rattle.vl_model.specs.Formats.{log_format}
 use Rattle.vl_seglog.specs.Frames.{log_bytes, log_header}
 use Rattle.vl_seglog.specs.LogReading.{LogReading, ReadsLog}
-use Rattle.vl_seglog.specs.laws.LogReadingLaws.{log_apart, one_log_reading, reads_written}
+use Rattle.vl_seglog.specs.laws.LogReadingLaws.{log_apart, one_format, one_log_reading, reads_written, whole_has_header, written_is_read}
 
 -- ---- what is said of them
 
@@ -45,7 +45,7 @@ abbrev pub StandUpTo : (StandingLog → DiskState → Type 0) → ℕ → List S
 StandUpTo P least [] disk = (m : ℕ) → least ≤ m → IsNowhere disk (Log m)
 StandUpTo P least (q ∷ []) disk = IsNext least q disk × P q disk
     × ((m : ℕ) → q.number < m → IsNowhere disk (Log m))
-StandUpTo P least (q ∷ p ∷ ps) disk = IsNext least q disk × IsWritten q disk
+StandUpTo P least (q ∷ p ∷ ps) disk = IsNext least q disk × IsWritten (format_of q.reading.header) q disk
     × StandUpTo P (q.number + 1) (p ∷ ps) disk
 
 next_kept : (name : Name) (old now : DiskState) → SameElsewhere name old now → (least : ℕ) (q : StandingLog)
@@ -56,12 +56,13 @@ next_kept name old now same least q apart next = record {
       (next.between m above less);
 }
 
-written_kept : (name : Name) (old now : DiskState) → SameElsewhere name old now → (q : StandingLog)
-    → Log q.number ≢ name → IsWritten q old → IsWritten q now
-written_kept name old now same q apart written = record {
+written_kept : (name : Name) (old now : DiskState) → SameElsewhere name old now → (format : ℕ) (q : StandingLog)
+    → Log q.number ≢ name → IsWritten format q old → IsWritten format q now
+written_kept name old now same format q apart written = record {
+  is_read = written.is_read;
   have = written.have;
   stands = settled_kept name old now same (Log q.number)
-      (log_bytes q.number q.reading.frames) apart written.stands;
+      (log_bytes format q.number q.reading.frames) apart written.stands;
 }
 
 -- They stay where the disk changes under another name.
@@ -80,7 +81,7 @@ stand_kept P name old now same keeps least (q ∷ []) apart (next, holds, none) 
 )
 stand_kept P name old now same keeps least (q ∷ p ∷ ps) apart (next, written, rest) = (
   next_kept name old now same least q (λ m above less. apart m above) next,
-  written_kept name old now same q (apart q.number next.from) written,
+  written_kept name old now same (format_of q.reading.header) q (apart q.number next.from) written,
   stand_kept P name old now same keeps (q.number + 1) (p ∷ ps)
       (λ m above. apart m (omega (arith, above, next.from))) rest,
 )
@@ -134,24 +135,24 @@ headed_elsewhere : (k : ℕ) (disk : DiskState) → SameElsewhere (Log k) disk
     (with_file (Log k) synced_file (headed k disk))
 headed_elsewhere k disk = elsewhere_then (Log k) disk (headed k disk)
     (with_file (Log k) synced_file (headed k disk))
-    (changed_elsewhere (Log k) disk (lengthened (log_header k) (length (log_header k))))
+    (changed_elsewhere (Log k) disk (lengthened (log_header log_format k) (length (log_header log_format k))))
     (changed_elsewhere (Log k) (headed k disk) synced_file)
 
 -- What is done to a log changes it alone.
 pub repairing_elsewhere : (q : StandingLog) (disk : DiskState)
     → SameElsewhere (Log q.number) disk (behind_last (repairing_of q) disk)
-repairing_elsewhere q disk = by q.reading.header q.reading.whole (q.length == 0)
+repairing_elsewhere q disk = by (keeps_header q.reading.header q.reading.frames) q.reading.whole (q.length == 0)
   where
     cut : (len : ℕ) → SameElsewhere (Log q.number) disk (with_file (Log q.number) (shortened len len) disk)
     cut len = changed_elsewhere (Log q.number) disk (shortened len len)
 
     by : (header whole empty : Bool) → SameElsewhere (Log q.number) disk
         (behind_last (if header then (if whole then Kept q.number else Cut q.number
-        (if q.reading.header then log_length q.reading.frames else 0)) else
+        (content_end q.reading)) else
         (if empty then Headed q.number else Rewritten q.number)) disk)
     by true true empty = changed_elsewhere (Log q.number) disk synced_file
     by true false empty =
-        let len = if q.reading.header then log_length q.reading.frames else 0 in
+        let len = content_end q.reading in
         elsewhere_then (Log q.number) disk (with_file (Log q.number) (shortened len len) disk)
         (behind_last (Cut q.number len) disk) (cut len)
         (changed_elsewhere (Log q.number) (with_file (Log q.number) (shortened len len) disk) synced_file)
@@ -163,7 +164,7 @@ repairing_elsewhere q disk = by q.reading.header q.reading.whole (q.length == 0)
 -- Then all are durable with their frames and nothing else.
 pub all_written : (least : ℕ) (logs : List StandingLog) (disk : DiskState)
     → ((q : StandingLog) → IsTheLast LastStands least q disk → RepairsLast q disk (repairing_of q))
-    → StandUpTo LastStands least logs disk → StandUpTo IsWritten least logs (behind_last (last_of logs) disk)
+    → StandUpTo LastStands least logs disk → StandUpTo IsLastWritten least logs (behind_last (last_of logs) disk)
 all_written least [] disk repairs none = none
 all_written least (q ∷ []) disk repairs (next, is, none) =
     let now = behind_last (repairing_of q) disk in
@@ -177,7 +178,7 @@ all_written least (q ∷ []) disk repairs (next, is, none) =
 all_written least (q ∷ p ∷ ps) disk repairs (next, written, rest) = (
   next_kept (Log last) disk now same least q (λ m above less e. omega
       (arith, less, up, log_same m last e)) next,
-  written_kept (Log last) disk now same q (λ e. omega (arith, up, log_same q.number last e)) written,
+  written_kept (Log last) disk now same (format_of q.reading.header) q (λ e. omega (arith, up, log_same q.number last e)) written,
   all_written (q.number + 1) (p ∷ ps) disk
       (λ x is. repairs x (record {
         from = (let a = is.from in let b = next.from in omega (arith, a, b));
@@ -204,55 +205,54 @@ all_written least (q ∷ p ∷ ps) disk repairs (next, written, rest) = (
 
 -- A log from a number on is nowhere, or is one of these.
 pub written_at : (least : ℕ) (logs : List StandingLog) (disk : DiskState)
-    → StandUpTo IsWritten least logs disk → (m : ℕ) → least ≤ m
-    → IsNowhere disk (Log m) ⊎ ((q : StandingLog) × (q.number ≡ m) × IsWritten q disk)
+    → StandUpTo IsLastWritten least logs disk → (m : ℕ) → least ≤ m
+    → IsNowhere disk (Log m) ⊎ ((q : StandingLog) × (q.number ≡ m) × ((format : ℕ) × IsWritten format q disk))
 written_at least [] disk none m from = inl (none m from)
 written_at least (q ∷ []) disk (next, written, none) m from = ⊎_elim
     (λ (less : m < q.number). inl (next.between m from less))
     (λ (above : q.number ≤ m). ⊎_elim
     (λ (more : q.number < m). inl (none m more))
-    (λ (below : m ≤ q.number). inr (q, omega (arith, above, below), written))
+    (λ (below : m ≤ q.number). inr (q, omega (arith, above, below), (_, written)))
     (cases_lt q.number m))
     (cases_lt m q.number)
 written_at least (q ∷ p ∷ ps) disk (next, written, rest) m from = ⊎_elim
     (λ (less : m < q.number). inl (next.between m from less))
     (λ (above : q.number ≤ m). ⊎_elim
     (λ (more : q.number < m). written_at (q.number + 1) (p ∷ ps) disk rest m (omega (arith, more)))
-    (λ (below : m ≤ q.number). inr (q, omega (arith, above, below), written))
+    (λ (below : m ≤ q.number). inr (q, omega (arith, above, below), (_, written)))
     (cases_lt q.number m))
     (cases_lt m q.number)
 
--- So in whatever a crash leaves each of them has its header and ends with its frames.
+-- So in whatever a crash leaves each of them ends with its frames.
 pub written_whole : (least : ℕ) (logs : List StandingLog) (disk : DiskState)
-    → StandUpTo IsWritten least logs disk → (image : Image) → MayLeave disk image → LastIsWhole least image
+    → StandUpTo IsLastWritten least logs disk → (image : Image) → MayLeave disk image → LastIsWhole least image
 written_whole least logs disk all image may number bytes reading from stands reads alone = ⊎_elim
     (λ (nowhere : IsNowhere disk (Log number)). absurd
     (some_none bytes (sym stands ∙ left_nowhere disk image (Log number) nowhere may)))
-    (λ (x : (q : StandingLog) × (q.number ≡ number) × IsWritten q disk). by x.0 x.1 x.2)
+    (λ (x : (q : StandingLog) × (q.number ≡ number) × ((format : ℕ) × IsWritten format q disk)). by x.0 x.1 x.2.0 x.2.1)
     (written_at least logs disk all number from)
   where
-    by : (q : StandingLog) → q.number ≡ number → IsWritten q disk
-        → (reading.header ≡ true) × (reading.whole ≡ true)
-    by q at written =
-        let there : bytes ≡ log_bytes q.number q.reading.frames =
-        some_same bytes (log_bytes q.number q.reading.frames) (sym stands
+    by : (q : StandingLog) → q.number ≡ number → (format : ℕ) → IsWritten format q disk → reading.whole ≡ true
+    by q at format written =
+        let there : bytes ≡ log_bytes format q.number q.reading.frames =
+        some_same bytes (log_bytes format q.number q.reading.frames) (sym stands
         ∙ ap (λ (n : ℕ). get image (Log n)) (sym at) ∙ left_settled disk image (Log q.number)
-        (log_bytes q.number q.reading.frames) written.stands may) in
-        let same : reading ≡ record { header = true; frames = q.reading.frames; whole = true } =
-        one_log_reading q.number (log_bytes q.number q.reading.frames) reading
-        (record { header = true; frames = q.reading.frames; whole = true })
+        (log_bytes format q.number q.reading.frames) written.stands may) in
+        let same : reading ≡ record { header = Some format; frames = q.reading.frames; whole = true } =
+        one_log_reading q.number (log_bytes format q.number q.reading.frames) reading
+        (record { header = Some format; frames = q.reading.frames; whole = true })
         (subst (λ (b : List ℕ). ReadsLog q.number b reading) there
         (subst (λ (n : ℕ). ReadsLog n bytes reading) (sym at) reads))
-        (reads_written q.number q.reading.frames written.have) in
-        (ap (λ (r : LogReading). r.header) same, ap (λ (r : LogReading). r.whole) same)
+        (reads_written format q.number written.is_read q.reading.frames written.have) in
+        ap (λ (r : LogReading). r.whole) same
 
 pub written_held : (least : ℕ) (logs : List StandingLog) (disk : DiskState)
-    → StandUpTo IsWritten least logs disk → HoldsLogs least (map as_segment logs) disk
+    → StandUpTo IsLastWritten least logs disk → HoldsLogs least (as_segments logs) disk
 written_held least [] disk none = none
 written_held least (q ∷ []) disk (next, written, none) =
-    (next.from, next.between, written.have, written.stands, λ m above. none m (omega (arith, above)))
+    (next.from, next.between, written.is_read, written.have, written.stands, λ m above. none m (omega (arith, above)))
 written_held least (q ∷ p ∷ ps) disk (next, written, rest) =
-    (next.from, next.between, written.have, written.stands, written_held (q.number + 1) (p ∷ ps) disk rest)
+    (next.from, next.between, written.is_read, written.have, written.stands, written_held (q.number + 1) (p ∷ ps) disk rest)
 
 -- ---- how they stand on a disk that may be opened
 
@@ -260,30 +260,27 @@ in_log_apart : (log : ℕ) (r : Result ℕ ℕ) (n : ℕ) → in_log log r ≡ O
 in_log_apart log (Ok m) n e = (m, refl)
 in_log_apart log (Err place) n e = absurd (err_ok (record { log = log; place = place }) n e)
 
-counted_whole_is : (n m : ℕ) (r : LogReading) → counted_whole n r ≡ Ok m
-    → (r.header ≡ true) × (r.whole ≡ true)
-counted_whole_is n m r e = by r.header r.whole refl refl e
+counted_whole_is : (n m : ℕ) (r : LogReading) → counted_whole n r ≡ Ok m → r.whole ≡ true
+counted_whole_is n m r e = by r.whole refl e
   where
-    by : (header whole : Bool) → r.header ≡ header → r.whole ≡ whole
-        → (if header then on_ok (λ m. if whole then Ok m else Err (log_length r.frames))
-        (counted n 16 r.frames) else Err 0) ≡ Ok m → (r.header ≡ true) × (r.whole ≡ true)
-    by true true h w e = (h, w)
-    by true false h w e =
-        let apart = ok_apart (λ (m : ℕ). if false then Ok m else Err (log_length r.frames))
-        (counted n 16 r.frames) m e in
-        absurd (err_ok (log_length r.frames) m apart.2)
-    by false whole h w e = absurd (err_ok 0 m e)
+    by : (whole : Bool) → r.whole ≡ whole
+        → on_ok (λ m. if whole then Ok m else Err (content_end r)) (counted_behind r.header n r.frames) ≡ Ok m
+        → r.whole ≡ true
+    by true w e = w
+    by false w e =
+        let apart = ok_apart (λ (m : ℕ). if false then Ok m else Err (content_end r))
+        (counted_behind r.header n r.frames) m e in
+        absurd (err_ok (content_end r) m apart.2)
 
--- a log that others follow has its header and ends with its frames
+-- a log that others follow ends with its frames
 followed_whole : (n number : ℕ) (q p : StandingLog) (ps : List StandingLog)
     → walked n (q ∷ p ∷ ps) ≡ Ok number
-    → (q.reading.header ≡ true) × (q.reading.whole ≡ true) × ((m : ℕ) × (walked m (p ∷ ps) ≡ Ok number))
+    → (q.reading.whole ≡ true) × ((m : ℕ) × (walked m (p ∷ ps) ≡ Ok number))
 followed_whole n number q p ps e =
     let apart = ok_apart (λ (m : ℕ). walked_on m p ps)
     (in_log q.number (counted_whole n q.reading)) number e in
     let inside = in_log_apart q.number (counted_whole n q.reading) apart.0 apart.1 in
-    let both = counted_whole_is n inside.0 q.reading inside.1 in
-    (both.0, both.1, (apart.0, apart.2))
+    (counted_whole_is n inside.0 q.reading inside.1, (apart.0, apart.2))
 
 bytes_none : (file : Option File) → None ≡ option_map (λ (f : File). f.bytes) file → file ≡ None
 bytes_none None e = refl
@@ -333,16 +330,17 @@ module _ (head : ℕ) (read : Image) (disk : DiskState) (may : MayRepair head re
         lawful = may.lawful.standing (Log q.number) file stands;
         length_is = next.length_is ∙ ap length (sym bytes);
         reads = reads;
-        no_chance = λ header. (may.files (Log q.number) file stands).no_chance
-            (λ wrong. wrong (reads.header.0 header));
-        headless = λ header. (may.files (Log q.number) file stands).headless
-            (wrong_header q.number file.bytes q.reading reads header);
+        no_chance = λ right. (may.files (Log q.number) file stands).no_chance
+            (λ wrong. right (one_format q.number file.bytes q.reading.header None reads.header wrong));
+        headless = λ other. (may.files (Log q.number) file stands).headless
+            (λ header. other (one_format q.number file.bytes q.reading.header (Some log_format) reads.header
+            (written_is_read, header)));
       }
 
   -- a log that another follows
   followed_read : (least : ℕ) (q p : StandingLog) → head ≤ least → IsNextLog read least q
-      → IsNextLog read (q.number + 1) p → q.reading.header ≡ true → q.reading.whole ≡ true → IsWritten q disk
-  followed_read least q p from next after header whole =
+      → IsNextLog read (q.number + 1) p → q.reading.whole ≡ true → IsWritten (format_of q.reading.header) q disk
+  followed_read least q p from next after whole =
       let (file, stands, bytes) = read_file q.number next.bytes next.stands in
       let (other, stands_other, bytes_other) = read_file p.number after.bytes after.stands in
       let reads : ReadsLog q.number file.bytes q.reading =
@@ -350,11 +348,15 @@ module _ (head : ℕ) (read : Image) (disk : DiskState) (may : MayRepair head re
       let durable = may.sealed q.number p.number file (omega (arith, from, (next).from))
       (omega (arith, (after).from)) (λ none. some_none other (sym stands_other ∙ none)) stands in
       let same = (may.lawful.standing (Log q.number) file stands).as_synced durable.0 in
-      record {
-        have = (log_apart q.number file.bytes q.reading reads header).have;
+      let (format, header) = whole_has_header q.number file.bytes q.reading reads whole in
+      let apart = log_apart q.number file.bytes q.reading reads format header in
+      let written : IsWritten format q disk = record {
+        is_read = apart.is_read;
+        have = apart.have;
         stands = stands ∙ ap Some same ∙ ap (λ (b : List ℕ). Some (settled b))
-            (whole_bytes q.number file.bytes q.reading reads header whole);
-      }
+            (whole_bytes q.number file.bytes q.reading reads format header whole);
+      } in
+      subst (λ (h : Option ℕ). IsWritten (format_of h) q disk) (sym header) written
 
   -- So they stand as they were read.
   pub stand_read : (least n number : ℕ) (logs : List StandingLog) → head ≤ least
@@ -369,8 +371,8 @@ module _ (head : ℕ) (read : Image) (disk : DiskState) (may : MayRepair head re
       )
   stand_read least n number (q ∷ p ∷ ps) from (next, (after, rest)) walk =
       let up = next.from in
-      let (header, whole, (m, more)) = followed_whole n number q p ps walk in (
+      let (whole, (m, more)) = followed_whole n number q p ps walk in (
         next_read least q from next,
-        followed_read least q p from next after header whole,
+        followed_read least q p from next after whole,
         stand_read (q.number + 1) m number (p ∷ ps) (omega (arith, from, up)) (after, rest) more,
       )

@@ -1,12 +1,12 @@
 -- An image gives one finding, and its strays are as many in any list of them.
-use Rattle.std.proofs.Common.{◌≡◌, ⊎_elim, ℕ, ◌≤◌, ◌<◌, List, [], ◌∷◌, ◌++◌, length, map, refl, sym, ap, subst, ◌∙◌, arith}
+use Rattle.std.proofs.Common.{◌≡◌, ⊎_elim, ℕ, ◌≤◌, ◌<◌, List, [], ◌∷◌, ◌++◌, length, refl, sym, ap, subst, ◌∙◌, arith}
 use Rattle.std.specs.Prelude.{◌≢◌, zero, suc, None, Result, Ok, Err, Contains, AllPairs, slice_index_or}
 use Rattle.std.proofs.lemmas.Bool.{cases_lt}
 use Rattle.vl_disk.specs.Crash.{Image}
 use Rattle.vl_disk.specs.declared.name.Name.{Name}
 use Rattle.vl_disk.specs.declared.name.Name.TheVariants.{Log, Manifest, Table}
 use Rattle.vl_layout.specs.declared.segment.Segment.{Segment}
-use Rattle.vl_recover.specs.opening.Answers.{AreStrayNames, Finds, IsNotOpened, and_made, as_segment, calls_to_open, logs_then, used_up}
+use Rattle.vl_recover.specs.opening.Answers.{AreStrayNames, Finds, IsNotOpened, and_made, as_segments, calls_to_open, logs_then, used_up}
 use Rattle.vl_recover.specs.opening.Opening.{Opening, Opens, Refusal, StandingLogs}
 use Rattle.vl_recover.specs.laws.opening.OpeningLaws.{one_standing, single_opening}
 use Rattle.vl_recover.specs.opening.Plans.{AreGreatest, Greatest, IsGreatest, calls_of_opening, exhausted, log_made, new_state}
@@ -62,7 +62,7 @@ module _ (image : Image) where
         ∙ ap (λ (logs : List StandingLog). of b.greatest b.opening logs) same_logs
       where
         of : Greatest → Opening → List StandingLog → List Segment
-        of g o logs = map as_segment logs ++ and_made (log_made (new_state g o.state) logs)
+        of g o logs = as_segments logs ++ and_made (log_made (new_state g o.state) logs)
 
 -- ---- as many strays
 

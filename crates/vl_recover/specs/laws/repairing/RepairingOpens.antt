@@ -1,6 +1,6 @@
 -- An opening's repairing: whatever a crash leaves meanwhile opens as something that it could have left before,
 -- and then the disk holds the store.
-use Rattle.std.specs.Prelude.{◌≡◌, ◌≢◌, ℕ, ◌+◌, ◌^◌, ◌≤◌, ◌<◌, List, [], ◌∷◌, map, Option, None, Some, IsSome, Contains, false, true, refl}
+use Rattle.std.specs.Prelude.{◌≡◌, ◌≢◌, ℕ, ◌+◌, ◌^◌, ◌≤◌, ◌<◌, List, [], ◌∷◌, Option, None, Some, IsSome, Contains, false, true, refl}
 use Rattle.std.specs.FinMap.{get}
 use Rattle.std.specs.Option.{option_map}
 use Rattle.std.proofs.Common.{ap, arith, subst, sym, ◌∙◌, ⊎_elim}
@@ -17,7 +17,7 @@ use Rattle.vl_manifest.specs.States.{whole_edits}
 use Rattle.vl_manifest.specs.declared.state.ManifestState.{ManifestState}
 use Rattle.vl_recover.specs.crash.Alike.{OpensAsOf}
 use Rattle.vl_recover.specs.laws.crash.AlikeLaws.{log_manifest, log_same, manifest_same}
-use Rattle.vl_recover.specs.opening.Answers.{AreStrayNames, Finds, IsStrayName, as_segment, logs_then, used_up}
+use Rattle.vl_recover.specs.opening.Answers.{AreStrayNames, Finds, IsStrayName, as_segments, logs_then, used_up}
 use Rattle.vl_recover.specs.crash.Held.{HoldsStore}
 use Rattle.vl_recover.specs.laws.repairing.LastLaws.{LastStands}
 use Rattle.vl_recover.specs.laws.opening.LeadsLaws.{Leads, leads_holds, nowhere_kept}
@@ -121,8 +121,8 @@ module _ {read : Image} (found : Finds read) (start : DiskState) (begins : Begin
   pub log_free : (k : ℕ) → log_made s found.logs ≡ Some k → IsFreeFrom head k second
   log_free = made_free s found.logs second last.written (last_below found.logs start_stand)
 
-  pub log : LogStage number s (log_made s found.logs) (map as_segment found.logs) second
-  log = log_stage number s (log_made s found.logs) (map as_segment found.logs) second last.leads
+  pub log : LogStage number s (log_made s found.logs) (as_segments found.logs) second
+  log = log_stage number s (log_made s found.logs) (as_segments found.logs) second last.leads
       (written_whole head found.logs second last.written)
       log_free
       (written_held head found.logs second last.written)

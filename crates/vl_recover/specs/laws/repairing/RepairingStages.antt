@@ -19,7 +19,7 @@ use Rattle.vl_recover.specs.crash.Alike.{OpensAsOf}
 use Rattle.vl_recover.specs.laws.crash.AlikeLaws.{LastIsWhole}
 use Rattle.vl_recover.specs.opening.Answers.{and_made}
 use Rattle.vl_recover.specs.crash.Held.{HoldsLogs, IsNowhere}
-use Rattle.vl_recover.specs.laws.repairing.LastLaws.{IsWritten, LastStands, RepairsLast, last_law}
+use Rattle.vl_recover.specs.laws.repairing.LastLaws.{IsLastWritten, LastStands, RepairsLast, last_law}
 use Rattle.vl_recover.specs.laws.opening.LeadsLaws.{Leads, leads_kept, log_added}
 use Rattle.vl_recover.specs.laws.opening.LogsLaws.{IsTheLast, StandUpTo, all_written, last_is, last_stands, made_is, repairing_elsewhere, the_last}
 use Rattle.vl_recover.specs.repairing.Repairing.{LastLog, WhileLast, WhileLog, behind_last, behind_log, behind_strays, last_of, repairing_of}
@@ -29,6 +29,7 @@ use Rattle.vl_recover.specs.laws.opening.OpeningLaws.{some_none, some_same}
 use Rattle.vl_recover.specs.opening.Plans.{log_behind, log_made}
 use Rattle.vl_recover.specs.laws.repairing.StraysLaws.{IsSpare}
 use Rattle.vl_recover.specs.opening.Walk.{StandingLog}
+use Rattle.vl_model.specs.Formats.{log_format}
 use Rattle.vl_seglog.specs.Frames.{log_bytes, log_header}
 
 -- ---- what stays below head
@@ -77,7 +78,7 @@ pub record LastStage (number : ℕ) (s : ManifestState) (logs : List StandingLog
   pub after : OpensAsOf disk (behind_last (last_of logs) disk)
   pub leads : Leads number s (behind_last (last_of logs) disk)
   pub same : SameBelow s.head disk (behind_last (last_of logs) disk)
-  pub written : StandUpTo IsWritten s.head logs (behind_last (last_of logs) disk)
+  pub written : StandUpTo IsLastWritten s.head logs (behind_last (last_of logs) disk)
 
 pub last_stage : (number : ℕ) (s : ManifestState) (logs : List StandingLog) (disk : DiskState)
     → Leads number s disk
@@ -129,7 +130,7 @@ behind_some s (f ∷ fs) k e = some_same s.next_log k e
 
 -- So it is of the log that is made, where the logs that stand have lower numbers than the next.
 pub made_free : (s : ManifestState) (logs : List StandingLog) (disk : DiskState)
-    → StandUpTo IsWritten s.head logs disk
+    → StandUpTo IsLastWritten s.head logs disk
     → ((q : StandingLog) (qs : List StandingLog) → logs ≡ q ∷ qs → (the_last q qs).number < s.next_log)
     → (k : ℕ) → log_made s logs ≡ Some k → IsFreeFrom s.head k disk
 made_free s [] disk none below k made =
@@ -139,7 +140,7 @@ made_free s [] disk none below k made =
 made_free s (q ∷ qs) disk stand below k made =
     let same : s.next_log ≡ k = behind_some s (the_last q qs).reading.frames k (sym (made_is s q qs)
     ∙ made) in
-    let last = last_stands IsWritten s.head q qs disk stand in
+    let last = last_stands IsLastWritten s.head q qs disk stand in
     let less = below q qs refl in
     record {
       from = (let from = last.from in omega (arith, from, less, same));
@@ -168,8 +169,8 @@ log_stage number s None logs disk leads whole free held = record {
 }
 log_stage number s (Some k) logs disk leads whole free held =
     let at = free k refl in
-    let now = made (Log k) (log_header k) disk in
-    let same = made_elsewhere (Log k) (log_header k) disk in
+    let now = made (Log k) (log_header log_format k) disk in
+    let same = made_elsewhere (Log k) (log_header log_format k) disk in
     record {
       meanwhile = λ now during. log_step number s k disk now leads at.from at.nowhere whole during;
       after = log_step number s k disk now leads at.from at.nowhere whole (durable refl);
@@ -212,13 +213,13 @@ pub held_settled : (least : ℕ) (logs : List Segment) (disk : DiskState) → Ho
     → least ≤ m
     → (file : File) → get disk.standing (Log m) ≡ Some file → file ≡ settled file.bytes
 held_settled least [] disk none m from file stands = absurd (some_none file (sym stands ∙ (none m from).free))
-held_settled least (s ∷ ss) disk (first, between, have, here, rest) m from file stands = ⊎_elim
+held_settled least (s ∷ ss) disk (first, between, is_read, have, here, rest) m from file stands = ⊎_elim
     (λ (less : m < s.number). absurd (some_none file (sym stands ∙ (between m from less).free)))
     (λ (above : s.number ≤ m). ⊎_elim
     (λ (more : s.number < m). held_settled (s.number + 1) ss disk rest m (omega (arith, more)) file stands)
     (λ (at : m ≤ s.number).
     let same : m ≡ s.number = omega (arith, above, at) in
-    settled_is (log_bytes s.number s.frames) file (sym here
+    settled_is (log_bytes s.format s.number s.frames) file (sym here
     ∙ ap (λ (n : ℕ). get disk.standing (Log n)) (sym same) ∙ stands))
     (cases_lt s.number m))
     (cases_lt m s.number)

@@ -21,14 +21,15 @@ use Rattle.vl_manifest.specs.laws.StateLaws.{IsInRange}
 use Rattle.vl_manifest.specs.States.{whole_edits}
 use Rattle.vl_manifest.specs.declared.state.ManifestState.{ManifestState}
 use Rattle.vl_recover.specs.crash.Alike.{IsLeft, OpensAsOf, OpensLike, SameState, Spells}
-use Rattle.vl_recover.specs.laws.crash.AlikeLaws.{LastIsWhole, SameBut, last_alike, lead_over, led_anew, like_lead, like_new, log_manifest, one_more}
+use Rattle.vl_recover.specs.laws.crash.AlikeLaws.{LastIsWhole, SameBut, SameContent, last_alike, lead_over, led_anew, like_lead, like_new, log_manifest, none_each, one_more, same_each}
 use Rattle.vl_recover.specs.crash.Held.{IsNowhere}
 use Rattle.vl_recover.specs.laws.opening.HeldLaws.{left_nowhere}
 use Rattle.vl_recover.specs.laws.opening.LeadsLaws.{Leads, current_kept, leads_image, led_like, led_same}
 use Rattle.vl_recover.specs.laws.crash.OneName.{IsLeftOne, IsPart, Making, WasLeft, as_before, done, left_still, making, may_miss, one_name, part_empty, part_some, torn, waits}
 use Rattle.vl_recover.specs.opening.Opening.{Opening}
 use Rattle.vl_recover.specs.laws.opening.OpeningLaws.{IsOpened, some_none, some_same}
-use Rattle.vl_recover.specs.laws.crash.Torn.{Leaves, ReadsFrames, header_reads, leaves_read, part_loose, part_synced, torn_header, torn_manifest}
+use Rattle.vl_recover.specs.laws.crash.Torn.{Leaves, ReadsFrames, header_reads, leaves_read, no_reading, part_loose, part_synced, torn_header, torn_manifest}
+use Rattle.vl_model.specs.Formats.{log_format}
 use Rattle.vl_seglog.specs.Frames.{log_header}
 use Rattle.vl_seglog.specs.LogReading.{LogReading, ReadsLog}
 
@@ -148,7 +149,7 @@ pub record IsLast (number : ℕ) (s : ManifestState) (k : ℕ) (disk : DiskState
 
 -- where it has the same frames as before
 last_like : (number : ℕ) (s : ManifestState) (k : ℕ) (disk : DiskState) → IsLast number s k disk
-    → (was now : List ℕ) (reading : LogReading) → ReadsLog k was reading → ReadsFrames k now reading.frames
+    → (was now : List ℕ) (reading : LogReading) → ReadsLog k was reading → ReadsFrames k now reading
     → (image before : Image) → IsLeft disk before → SameBut (Log k) image before
     → get image (Log k) ≡ Some now → get before (Log k) ≡ Some was
     → OpensLike image before
@@ -168,7 +169,7 @@ last_like number s k disk last was now reading read reads image before low same 
           stood;
       reads_now = reads.reads;
       read_was = read;
-      frames = reads.same;
+      same = reads.same;
     })
     s.head logs last.from standing)
 
@@ -185,7 +186,7 @@ module _ (number : ℕ) (s : ManifestState) (k : ℕ) (old : DiskState) (file : 
       → (change : File → File) → (change file).lasting ≡ file.lasting
       → ((bytes : List ℕ) → Agrees (change file) bytes
       → NoChanceOne Spells (Log k) (Some (change file)) (Some bytes)
-      → ReadsFrames k bytes reading.frames ⊎ IsLeftOne (Log k) (Some file) (get old.removed (Log k))
+      → ReadsFrames k bytes reading ⊎ IsLeftOne (Log k) (Some file) (get old.removed (Log k))
       (Some bytes))
       → OpensAsOf old (with_file (Log k) change old)
   change_step leaves reading read change lasting left_as =
@@ -201,7 +202,7 @@ module _ (number : ℕ) (s : ManifestState) (k : ℕ) (old : DiskState) (file : 
       there None one = left_still old (Log k) None (left_standing (Log k) old (Some file) None stands
           (record { may = sym lasting ∙ one.may; no_chance = tt }))
       there (Some bytes) one = ⊎_elim
-          (λ (same : ReadsFrames k bytes reading.frames). record {
+          (λ (same : ReadsFrames k bytes reading). record {
             was = Some leaves.bytes;
             is_left = leaves_one leaves;
             like = λ image before low but is was.
@@ -229,18 +230,23 @@ module _ (number : ℕ) (s : ManifestState) (k : ℕ) (old : DiskState) (file : 
 
 -- ---- the new log is made
 
+-- what reads like nothing has no frames
+unfilled : (reading : LogReading) → SameContent reading no_reading → reading.frames ≡ []
+unfilled reading (none_each none here) = none
+unfilled reading (same_each header frames) = frames
+
 module _ (number : ℕ) (s : ManifestState) (k : ℕ) (old now : DiskState) (leads : Leads number s old)
     (from : s.head ≤ k)
     (nowhere : (m : ℕ) → k ≤ m → IsNowhere old (Log m)) (whole : (image : Image) → MayLeave old image
     → LastIsWhole s.head image) where
-  pub log_step : WhileMaking (Log k) (log_header k) old now → OpensAsOf old now
-  log_step during = by (making (Log k) (log_header k) old now during)
+  pub log_step : WhileMaking (Log k) (log_header log_format k) old now → OpensAsOf old now
+  log_step during = by (making (Log k) (log_header log_format k) old now during)
     where
       missing : IsLeftOne (Log k) (get old.standing (Log k)) (get old.removed (Log k)) None
       missing = left_standing (Log k) old None None (nowhere k (omega arith)).free
           (may_miss (Log k) (get old.removed (Log k)))
 
-      new : (bytes : List ℕ) → ReadsFrames k bytes [] → (image before : Image) → IsLeft old before
+      new : (bytes : List ℕ) → ReadsFrames k bytes no_reading → (image before : Image) → IsLeft old before
           → SameBut (Log k) image before
           → get image (Log k) ≡ Some bytes → get before (Log k) ≡ None → OpensLike image before
       new bytes reads image before low same is gone =
@@ -256,20 +262,20 @@ module _ (number : ℕ) (s : ManifestState) (k : ℕ) (old now : DiskState) (lea
             none = gone;
             reads =
                 reads.reads;
-            empty = reads.same;
+            empty = unfilled reads.reading reads.same;
           })
           s.head logs from standing (whole before low.left))
 
-      by : Making (Log k) (log_header k) old now → OpensAsOf old now
+      by : Making (Log k) (log_header log_format k) old now → OpensAsOf old now
       by (waits is) = subst (OpensAsOf old) (sym is) (as_before old)
       by (torn file part stands elsewhere) = one_name (Log k) old now elsewhere
           (λ left one. there left (standing_left (Log k) now (Some file) left stands one))
         where
-          within : (file : File) → IsPart (log_header k) file
+          within : (file : File) → IsPart (log_header log_format k) file
               → All (λ piece. piece.place + length piece.bytes ≤ 16) file.unsynced
           within file part_empty = All-nil (λ (piece : Piece). piece.place + length piece.bytes ≤ 16)
           within file (part_some taken) = All-cons (λ (piece : Piece). piece.place + length piece.bytes ≤ 16)
-              (record { place = 0; bytes = log_header k }) [] (omega arith)
+              (record { place = 0; bytes = log_header log_format k }) [] (omega arith)
               (All-nil (λ (piece : Piece). piece.place + length piece.bytes ≤ 16))
 
           there : (left : Option (List ℕ)) → IsLeftOne (Log k) (Some file) (get now.removed (Log k)) left
@@ -279,23 +285,24 @@ module _ (number : ℕ) (s : ManifestState) (k : ℕ) (old now : DiskState) (lea
             was = None;
             is_left = missing;
             like = λ image before low same is gone. new bytes
-                (torn_header k file bytes (part_loose (log_header k) file part)
-                (omega (arith, part_synced (log_header k) file part)) (within file part) one.no_chance)
+                (torn_header k file bytes (part_loose (log_header log_format k) file part)
+                (omega (arith, part_synced (log_header log_format k) file part)) (within file part) one.no_chance
+                no_reading refl)
                 image before low same is gone;
           }
       by (done stands elsewhere) = one_name (Log k) old now elsewhere (λ left one. record {
         was = None;
         is_left = missing;
-        like = λ image before low same is gone. new (log_header k)
+        like = λ image before low same is gone. new (log_header log_format k)
             (record {
-              reading = record { header = true; frames = []; whole = true };
+              reading = record { header = Some log_format; frames = []; whole = true };
               reads =
                   header_reads k;
-              same = refl;
+              same = none_each refl refl;
             })
             image before low same
-            (is ∙ settled_left (log_header k) (get now.removed (Log k)) left
-            (standing_left (Log k) now (Some (settled (log_header k))) left stands one).may) gone;
+            (is ∙ settled_left (log_header log_format k) (get now.removed (Log k)) left
+            (standing_left (Log k) now (Some (settled (log_header log_format k))) left stands one).may) gone;
       })
 
 -- ---- a stray is removed

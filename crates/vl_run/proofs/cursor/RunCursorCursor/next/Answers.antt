@@ -1,5 +1,5 @@
 use Rattle.std.proofs.Common.{◌≡◌, ◌<◌, length, get_or, Some, ap, ◌∙◌, arith}
-use Rattle.vl_run.specs.Order.{along}
+use Rattle.vl_run.specs.Order.{along, between}
 use Rattle.vl_run.proofs.Along.{along-up, along-down, given_next}
 use Rattle.vl_run.proofs.cursor.RunCursorCursor.next.Goals as goal
 use Rattle.vl_run.proofs.cursor.RunCursorCursor.next.Goals.{in-Up, in-Down}
@@ -8,7 +8,7 @@ pub returns-clause-given : goal.returns-clause-given
 returns-clause-given c =
     let way = c.self.inside.way in
     let i = c.self.inside.given in
-    let entries = c.as_slice-entries.result.now in
+    let entries = c.part-entries.result.now in
     let e = c.index-entries-at.result in
     let within : i < length entries = let test = c.if-self-entries.false in omega arith in
     let found : e ≡ get_or (along way entries) i e = elim c.match-self.branch [
@@ -16,4 +16,4 @@ returns-clause-given c =
       | in-Down w ↦ along-down way entries i c.match-self.at e w.in-Down.is w.at-is within c.index-entries-at.is
     ] in
     λ left here.
-    given_next way c.self.inside.run entries i e c.in_ok-entry.entry c.as_slice-entries.ensures.entries c.in_ok-entry.ensures within found left (ap Some c.self.view_is ∙ here)
+    given_next way (between c.self.inside.first c.self.inside.end c.self.inside.run) entries i e c.in_ok-entry.entry c.part-entries.ensures c.in_ok-entry.ensures within found left (ap Some c.self.view_is ∙ here)

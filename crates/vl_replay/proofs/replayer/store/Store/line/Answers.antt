@@ -1,5 +1,6 @@
 use Rattle.std.proofs.Common.{[], Ok, sym, subst}
 use Rattle.std.specs.FinMap.{get, empty}
+use Rattle.vl_model.specs.Keys.{tagged, untagged}
 use Rattle.vl_model.specs.History.{last_number}
 use Rattle.vl_model.specs.declared.change.Change.TheVariants.{Set as Put, Delete}
 use Rattle.vl_script.specs.declared.line.Line.{Line}
@@ -37,7 +38,21 @@ returns-in-Set-clause-carries g c s rep held =
     let disk = c.args.disk.now in
     subst (λ (line : Line). LeadsTo g.D.Watched IsStored Shown disk disk s (state_after s line) c.write.result) (sym c.in-Set.is)
     (carries_kept g.D.Watched (record { only_now = g.met.D.Disk.only_now; counts_now = g.met.D.Disk.counts_now }) s _ disk c.write.result (not_by_disk c.write.result c.write.ensures.halt)
-    (kept_written s c.in-Set.name c.in-Set.key (Put c.in-Set.value) (get s.handles c.in-Set.name)) held)
+    (kept_written s c.in-Set.name c.in-Set.key (Put (untagged c.in-Set.value)) (get s.handles c.in-Set.name)) held)
+
+pub returns-in-SetTagged-clause-carries : goal.returns-in-SetTagged-clause-carries
+returns-in-SetTagged-clause-carries g c s rep held =
+    let disk = c.args.disk.now in
+    subst (λ (line : Line). LeadsTo g.D.Watched IsStored Shown disk disk s (state_after s line) c.write-in-SetTagged.result) (sym c.in-SetTagged.is)
+    (carries_kept g.D.Watched (record { only_now = g.met.D.Disk.only_now; counts_now = g.met.D.Disk.counts_now }) s _ disk c.write-in-SetTagged.result (not_by_disk c.write-in-SetTagged.result c.write-in-SetTagged.ensures.halt)
+    (kept_written s c.in-SetTagged.name c.in-SetTagged.key (Put (tagged c.in-SetTagged.value c.in-SetTagged.tag)) (get s.handles c.in-SetTagged.name)) held)
+
+pub returns-in-GetTagged-clause-carries : goal.returns-in-GetTagged-clause-carries
+returns-in-GetTagged-clause-carries g c s rep held =
+    let disk = c.args.disk.now in
+    subst (λ (line : Line). LeadsTo g.D.Watched IsStored Shown disk disk s (state_after s line) c.get_tagged.result) (sym c.in-GetTagged.is)
+    (carries_kept g.D.Watched (record { only_now = g.met.D.Disk.only_now; counts_now = g.met.D.Disk.counts_now }) s _ disk c.get_tagged.result (not_by_disk c.get_tagged.result c.get_tagged.ensures.halt)
+    (kept_read s c.in-GetTagged.name c.in-GetTagged.key (get s.handles c.in-GetTagged.name)) held)
 
 pub returns-in-Delete-clause-carries : goal.returns-in-Delete-clause-carries
 returns-in-Delete-clause-carries g c s rep held =

@@ -1,0 +1,23 @@
+ghost use Rattle.std.specs.Prelude.{◌≡◌};
+ghost use Rattle.vl_script.specs.Numbers.{number_of};
+
+/// The number that a word spells in decimal, without a sign or leading zeros, where it isn't over a limit.
+pub fn parse_number(word: &[u8], most: u32) -> Option<u32>
+    ensures { result ≡ number_of most word.now }
+{
+    let Ok(word) = str::from_utf8(word) else {
+        return None;
+    };
+    spelled(word, most)
+}
+
+fn spelled(word: &str, most: u32) -> Option<u32>
+    ensures { result ≡ number_of most word.now }
+{
+    let number = word.parse::<u32>().ok()?;
+    let mut digits = itoa::Buffer::new();
+    if digits.format(number).as_bytes() != word.as_bytes() || number > most {
+        return None;
+    }
+    Some(number)
+}
