@@ -165,8 +165,8 @@ module _ {H : Type 0} (bytes_of : H → Option (List ℕ)) where
         Good bytes found = (es : List Entry) → IsOf bytes_of t es → found ≡ sought look key es
 
         -- a fault comes only of a table that may hold the key
-        asked : (e : TableFault) → (may_hold key t ≡ false → Err {T = Option Entry} e ≡ Ok None) → IsAsked bytes_of (t ∷ []) key t
-        asked e unread = record { front = []; back = []; among = refl; holds = by (may_hold key t) refl }
+        asked : (r : Result (Option Entry) TableFault) (e : TableFault) → r ≡ Err e → (may_hold key t ≡ false → r ≡ Ok None) → IsAsked bytes_of (t ∷ []) key t
+        asked r e fault unread = record { front = []; back = []; among = refl; holds = by (may_hold key t) refl }
           where
             by : (b : Bool) → may_hold key t ≡ b → may_hold key t ≡ true
             by true is = is
@@ -175,8 +175,8 @@ module _ {H : Type 0} (bytes_of : H → Option (List ℕ)) where
         named : (r : Result (Option Entry) TableFault) → (may_hold key t ≡ false → r ≡ Ok None) → Answers {T = Option Entry} before now t.number (bytes_of t.held) Good (IsBadBlock t) r → NamesAsked bytes_of (t ∷ []) key r
         named (Ok found) unread a = tt
         named (Err NoMemory) unread a = tt
-        named (Err (Disk name)) unread a = record { table = t; asked = asked (Disk name) unread; named = a.named; why = tt }
-        named (Err (Damaged name place)) unread a = record { table = t; asked = asked (Damaged name place) unread; named = a.named; why = a.answer }
+        named (Err (Disk name)) unread a = record { table = t; asked = asked (Err (Disk name)) (Disk name) refl unread; named = a.named; why = tt }
+        named (Err (Damaged name place)) unread a = record { table = t; asked = asked (Err (Damaged name place)) (Damaged name place) refl unread; named = a.named; why = a.answer }
 
         found : (ess : List (List Entry)) → AreOf bytes_of (t ∷ []) ess → IsAnswer (λ found. found ≡ sought look key (joined ess)) (λ place. ⊥) r
         found [] are = absurd are
