@@ -1,5 +1,5 @@
 ghost use Rattle.vl_model.specs.Formats.{table_format};
-ghost use Rattle.std.specs.Prelude.{◌≡◌, ◌+◌, length, ◌++◌, ◌∷◌, [], ℕ, List, IfOk, OnOk};
+ghost use Rattle.std.specs.Prelude.{◌≡◌, ◌+◌, ◌<◌, ◌^◌, length, ◌++◌, ◌∷◌, [], ℕ, List, IfOk, OnOk};
 ghost use Rattle.byteorder.specs.Endian.{big_bytes};
 ghost use Rattle.vl_filter.specs.Filters.{marked_body};
 ghost use Rattle.vl_frame.specs.Frame.{frame_bytes, frame_length};
@@ -7,7 +7,8 @@ ghost use Rattle.vl_frame.specs.declared.kinds.FrameKind.TheVariants as kinds;
 ghost use Rattle.vl_model.specs.declared.entry.Entry.{Entry};
 ghost use Rattle.vl_block.specs.Footer.{foot_of, footer_body};
 ghost use Rattle.vl_block.specs.Index.{index_body};
-ghost use Rattle.vl_block.specs.Bytes.{table_bytes, table_header};
+ghost use Rattle.vl_block.specs.Bytes.{IsTable, table_bytes, table_header};
+ghost use Rattle.vl_model.specs.Entries.{in_order};
 ghost use Rattle.vl_table_writer.specs.Writing.{Appended, HasRoom, IsWriting};
 
 use crate::blocks_writer::BlocksWriter;
@@ -23,6 +24,12 @@ use vl_model::{Entry, TABLE_FORMAT};
 
 // A filter's bits can be counted for so many keys at most.
 const MAX_KEYS: usize = 429_496_728;
+
+// The bytes of the footer's place at the end.
+const PLACE_BYTES: usize = 8;
+
+// The longest table that is written.
+const MAX_TABLE_BYTES: u64 = u32::MAX as u64;
 
 /// A table that is written: its entries come in order, and its bytes are given out piece by piece. It holds one block at a
 /// time, the places of the others, and what the footer will say. Where nothing stands in `out`, a block goes there as it was
@@ -75,11 +82,16 @@ impl TableWriter {
         self.blocks.close(out, &self.summary.last)
     }
 
-    /// Appends the rest: the last block, the index, the filter, the footer and its place.
+    /// Appends the rest: the last block, the index, the filter, the footer and its place. Want of memory is the answer too
+    /// where the table would have 2^32 bytes or more.
     pub fn finish(self, alloc: Global, out: &mut Vec<u8>) -> Result<(), AllocError>
-        ensures { (number : ℕ) (es : List Entry) (given : List ℕ) → IsWriting self number es given
+        ensures written { (number : ℕ) (es : List Entry) (given : List ℕ) → IsWriting self number es given
             → OnOk result (Appended out.old.items out.new.items
             (λ piece. given ++ piece ≡ table_bytes table_format number es)) }
+
+        // What was written is a table, where the entries came in order.
+        ensures table { (number : ℕ) (es : List Entry) (given : List ℕ) → IsWriting self number es given
+            → number < 2 ^ 32 → in_order es ≡ es → OnOk result (IsTable table_format number es) }
     {
         let TableWriter {
             mut blocks,
@@ -141,6 +153,8 @@ fn append_footer(
     ensures written { OnOk result (out.new.items ≡ out.old.items
         ++ (frame_bytes number (filter.place + filter.length) kinds.Footer (footer_body (foot_of footer.now))
         ++ big_bytes 8 (filter.place + filter.length))) }
+    ensures short { OnOk result (filter.place + filter.length + frame_length (length (footer_body (foot_of footer.now))) + 8
+        < 2 ^ 32) }
 {
     if filter.place > u64::MAX - filter.length as u64 {
         return Err(AllocError);
@@ -148,6 +162,10 @@ fn append_footer(
     let place = filter.place + filter.length as u64;
     let mut body = Vec::new(alloc);
     write_footer(&mut body, footer)?;
+    let rest = body.len() + FRAME_BYTES + PLACE_BYTES;
+    if place > MAX_TABLE_BYTES || rest as u64 > MAX_TABLE_BYTES - place {
+        return Err(AllocError);
+    }
     write_frame(out, number, place, FrameKind::Footer, &body)?;
     out.extend_from_slice(&place_bytes(place))
 }
