@@ -7,9 +7,9 @@ ghost use Rattle.vl_table.specs.Begun.{HasHeader, IsBegun, IsInside, said_place}
 use crate::fault::{TableFault, damaged};
 use crate::reading::fill;
 use byteorder::{BigEndian, ByteOrder};
-use vl_model::TABLE_FORMAT;
 use vl_disk::{HeldFile, Reader};
 use vl_frame::{FileKind, HEADER_BYTES, read_header};
+use vl_model::TABLE_FORMAT;
 
 // A table has a header, a frame without a body and a place at least to be looked at.
 const MIN_TABLE_BYTES: u64 = 24;

@@ -140,7 +140,9 @@ fn footer_in(
     ensures none { IfOk result (λ read. IfNone read ((f : Foot) → FooterIn format number place bytes.now f → ⊥)) }
 {
     match read_frame(bytes, FileKind::Table, number, place) {
-        Some(frame) if is_same(frame.kind, FrameKind::Footer) => read_footer(alloc, format, frame.body),
+        Some(frame) if is_same(frame.kind, FrameKind::Footer) => read_footer(
+            alloc, format, frame.body,
+        ),
         _ => Ok(None),
     }
 }

@@ -22,7 +22,13 @@ pub enum Scan {
 }
 
 /// Looks for a key and a version in a block's body, entry by entry. Only the entry that is found is copied.
-pub fn look_in(alloc: Global, format: u32, body: &[u8], key: &[u8], version: u64) -> Result<Scan, AllocError>
+pub fn look_in(
+    alloc: Global,
+    format: u32,
+    body: &[u8],
+    key: &[u8],
+    version: u64,
+) -> Result<Scan, AllocError>
     ensures { (es : List Entry) → SpellsBlock format body.now es
         → IfOk result (IsScan key.now (first_failing (is_ahead key.now version) es)) }
 {

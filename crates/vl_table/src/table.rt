@@ -196,7 +196,13 @@ impl<H: HeldFile> Table<H> {
             → LooksIn H.bytes (if_of_key key.now) self.now key.now version result }
     {
         for at in first_block(&self.blocks, key)..self.blocks.len() {
-            buffer.load(reader, &self.held, self.format, self.number, &self.blocks[at])?;
+            buffer.load(
+                reader,
+                &self.held,
+                self.format,
+                self.number,
+                &self.blocks[at],
+            )?;
             match look_in(alloc, self.format, buffer.body(), key, version)? {
                 Scan::Behind => {}
                 Scan::Found(entry) => return Ok(Some(entry)),

@@ -26,4 +26,3 @@ spells keys fits =
       fits = omega (arith, long, fits, ap byte_count same);
       spelled = ap (λ (n : ℕ). big_bytes 4 (8 * n) ++ marked_bytes list) (sym long);
     }
-
