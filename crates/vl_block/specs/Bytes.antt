@@ -2,6 +2,7 @@
 use Rattle.std.specs.Prelude.{◌≡◌, ℕ, ◌+◌, ◌*◌, ◌≤◌, ◌<◌, ◌^◌, max, true, if◌then◌else◌, Option, Some, None, List, [], ◌∷◌, ◌++◌, length}
 use Rattle.std.specs.List.{sum_by, AllByRecursion}
 use Rattle.byteorder.specs.Endian.{big_bytes}
+use Rattle.vl_filter.specs.Filters as filters
 use Rattle.vl_filter.specs.Filters.{byte_count, filter_body}
 use Rattle.vl_frame.specs.Frame.{frame_bytes}
 use Rattle.vl_frame.specs.Header.{header_bytes}
@@ -57,6 +58,10 @@ filter_place format bs = index_place format bs + index_frame_length bs
 abbrev pub filter_bytes : ℕ → ℕ → List Entry → List (List Entry) → List ℕ
 filter_bytes format number es bs =
     if has_filter format then frame_bytes number (filter_place format bs) kinds.Filter (filter_body (keys_of es)) else []
+
+-- the bits of that filter, which are none where the format has no filter
+abbrev pub filter_bits : ℕ → List Entry → List ℕ
+filter_bits format es = if has_filter format then filters.filter_bytes (keys_of es) else []
 
 -- where the footer says that it stands
 abbrev pub filter_said : ℕ → List Entry → List (List Entry) → Option FramePlace

@@ -8,7 +8,7 @@ use Rattle.byteorder.specs.Endian.{big_bytes}
 use Rattle.vl_filter.specs.Bits.{is_set}
 use Rattle.vl_filter.specs.Filters.{byte_count, is_marked, marked_body, marked_bytes}
 use Rattle.vl_filter.specs.declared.hashes.Hashes.{Hashes}
-use Rattle.vl_filter.proofs.MarkedLaws.{only-marked}
+use Rattle.vl_filter.specs.laws.MarkedLaws.{only-marked}
 
 none_or : (a b : Bool) → b ≡ false → (a || b) ≡ a
 none_or true b is = refl

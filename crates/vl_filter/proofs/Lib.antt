@@ -1,6 +1,4 @@
 mod BitLaws
 mod BuildLaws
-mod HeldLaws
-mod MarkedLaws
 mod PlaceLaws
 mod WorkedRow

@@ -1,5 +1,5 @@
 -- What a filter's body is, and of which keys it says that they may be there.
-use Rattle.std.specs.Prelude.{◌≡◌, ◌≤◌, ◌<◌, ◌^◌, ◌*◌, ◌&&◌, ℕ, zero, suc, ◌+◌, ◌/◌, max, Bool, true, if◌then◌else◌, List, ◌++◌, length, map}
+use Rattle.std.specs.Prelude.{◌≡◌, ◌≤◌, ◌<◌, ◌^◌, ◌*◌, ◌&&◌, ◌||◌, not, nat_le, nat_lt, ℕ, zero, suc, ◌+◌, ◌/◌, max, Bool, true, if◌then◌else◌, List, ◌++◌, length, map}
 use Rattle.std.specs.List.{list_any, range_with_len}
 use Rattle.byteorder.specs.Endian.{big_bytes}
 use Rattle.vl_filter.specs.Bits.{is_set}
@@ -22,6 +22,10 @@ are_set bytes hashes (suc n) = is_set bytes (place (8 * length bytes) hashes n) 
 -- whether all seven bits of the key are 1
 abbrev pub may_hold : List ℕ → List ℕ → Bool
 may_hold bytes key = are_set bytes (hashes_of key) 7
+
+-- Whether these bits let a key pass: as many as a filter may have do where they may hold it, and others, such as none, always.
+abbrev pub passes : List ℕ → List ℕ → Bool
+passes bytes key = not (nat_le 8 (length bytes) && nat_lt (8 * length bytes) (2 ^ 32)) || may_hold bytes key
 
 -- ---- the filter of some keys
 

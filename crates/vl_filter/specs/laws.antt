@@ -1,2 +1,5 @@
 -- Laws of the definitions beside this folder, which proofs in other crates cite. Nothing here is needed to read a contract.
+pub mod HeldLaws
 pub mod Lengths
+pub mod MarkedLaws
+pub mod Spelling

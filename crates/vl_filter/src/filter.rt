@@ -1,5 +1,5 @@
 ghost use Rattle.std.specs.Prelude.{◌≡◌, ◌≤◌, ◌<◌, ◌*◌, ◌^◌, List, ℕ, length, IfNone, IfSome};
-ghost use Rattle.vl_filter.specs.Filters.{SpellsFilter, may_hold};
+ghost use Rattle.vl_filter.specs.Filters.{SpellsFilter, may_hold, passes};
 
 use crate::bits::is_set;
 use crate::hashes::Hashes;
@@ -30,7 +30,24 @@ pub fn read(body: &[u8]) -> Option<Filter<'_>>
     }
 }
 
+/// Whether bits let a key pass. No bits, or too many for a filter, let every key pass.
+pub fn passes(bits: &[u8], key: &[u8]) -> bool
+    ensures { result ≡ passes bits.now key.now }
+{
+    if bits.len() < 8 || bits.len() >= 1 << 29 {
+        return true;
+    }
+    Filter { bytes: bits }.may_hold(key)
+}
+
 impl Filter<'_> {
+    /// The bytes with its bits.
+    pub fn as_slice(&self) -> &[u8]
+        ensures { result.now ≡ self.now.bytes.now }
+    {
+        self.bytes
+    }
+
     /// Whether a key may be among those that the filter was built of: false exactly where one of its seven bits is 0.
     pub fn may_hold(&self, key: &[u8]) -> bool
         ensures { result ≡ may_hold self.now.bytes.now key.now }

@@ -12,7 +12,7 @@ mod hashes;
 mod laws;
 
 pub use building::{build, bytes_for};
-pub use filter::{Filter, read};
+pub use filter::{Filter, passes, read};
 pub use hashes::Hashes;
 pub use laws::{
     a_worked_filter, built_filters_hold_their_keys, filters_are_read_in_one_way,

@@ -14,8 +14,9 @@ use Rattle.vl_run.specs.Lookups.{IsParted}
 use Rattle.vl_block.specs.Footer.{Foot}
 use Rattle.vl_table.specs.Opened.{IsOf}
 use Rattle.vl_table.specs.declared.table.Table.{Table}
-use Rattle.vl_levels.proofs.KeyRanges.{HasNone, above_turned, all_above, all_below, all_map, below_turned, none_above, none_below, of_last, up_to_below}
-use Rattle.vl_levels.specs.LevelTables.{AreApart, AreOf, ends_before, may_hold}
+use Rattle.vl_table.specs.laws.KeyRanges.{HasNone, above_turned, all_above, all_below, all_map, below_turned, none_above, none_below, of_last, up_to_below}
+use Rattle.vl_table.specs.laws.RangeLaws.{first_is, in_order, last_is, none_behind}
+use Rattle.vl_levels.specs.LevelTables.{AreApart, AreOf, ends_before}
 
 greater : (r : Ordering) → is_gt r ≡ true → r ≡ Greater
 greater Less is = absurd cc
@@ -23,47 +24,15 @@ greater Equal is = absurd cc
 greater Greater is = refl
 
 module _ {H : Type 0} (bytes_of : H → Option (List ℕ)) where
-  -- ---- one table
-
-  in_order : (t : Table H) (es : List Entry) → IsOf bytes_of t es → IsRising es
-  in_order t es is = rising es is.table.tabled.ordered
-
-  first_is : (t : Table H) (es : List Entry) → IsOf bytes_of t es → t.footer.first ≡ first_key es
-  first_is t es is = ap (λ (f : Foot). f.head.first) is.says
-
-  last_is : (t : Table H) (es : List Entry) → IsOf bytes_of t es → t.footer.last ≡ last_key es
-  last_is t es is = ap (λ (f : Foot). f.head.last) is.says
-
-  -- a key above the last one
-  none_behind : (key : List ℕ) (t : Table H) (es : List Entry) → IsOf bytes_of t es → key_cmp key t.footer.last ≡ Greater → HasNone key es
-  none_behind key t es is above =
-      none_below key es (all_below key es (in_order t es is) (ap (key_cmp key) (sym (last_is t es is)) ∙ above))
-
-  -- where a table may not have a key it hasn't
-  pub holds_none : (key : List ℕ) (t : Table H) (es : List Entry) → IsOf bytes_of t es → may_hold key t ≡ false → HasNone key es
-  holds_none key t es is outside = by (key_cmp key t.footer.first) (key_cmp key t.footer.last) refl refl outside
-    where
-      below : key_cmp key t.footer.first ≡ Less → HasNone key es
-      below less = none_above key es (all_above key es (in_order t es is) (ap (key_cmp key) (sym (first_is t es is)) ∙ less))
-
-      by : (r s : Ordering) → key_cmp key t.footer.first ≡ r → key_cmp key t.footer.last ≡ s → (not (is_lt r) && not (is_gt s)) ≡ false → HasNone key es
-      by Less s first last test = below first
-      by Equal Greater first last test = none_behind key t es is last
-      by Greater Greater first last test = none_behind key t es is last
-      by Equal Less first last test = absurd cc
-      by Equal Equal first last test = absurd cc
-      by Greater Less first last test = absurd cc
-      by Greater Equal first last test = absurd cc
-
   -- ---- tables that are apart
 
   -- the next table's entries, its last one too, are above a table's last key
   next_above : (t u : Table H) (es : List Entry) → IsOf bytes_of u es → key_cmp t.footer.last u.footer.first ≡ Less
       → AllByRecursion (λ e. key_cmp t.footer.last e.key ≡ Less) es × (key_cmp t.footer.last u.footer.last ≡ Less)
   next_above t u es is less =
-      let all = all_above t.footer.last es (in_order u es is) (ap (key_cmp t.footer.last) (sym (first_is u es is)) ∙ less) in (
+      let all = all_above t.footer.last es (in_order bytes_of u es is) (ap (key_cmp t.footer.last) (sym (first_is bytes_of u es is)) ∙ less) in (
         all,
-        ap (key_cmp t.footer.last) (last_is u es is) ∙ of_last (λ k. key_cmp t.footer.last k ≡ Less) es is.table.tabled.some all,
+        ap (key_cmp t.footer.last) (last_is bytes_of u es is) ∙ of_last (λ k. key_cmp t.footer.last k ≡ Less) es is.table.tabled.some all,
       )
 
   -- so are those of all later ones
@@ -136,7 +105,7 @@ module _ {H : Type 0} (bytes_of : H → Option (List ℕ)) where
 
         by : IsCut ts ess count → (b : Bool) → ends_before key t ≡ b → IsCut (t ∷ ts) (es ∷ ess) (cond b (1 + count) 0)
         by later true ends =
-            let none = none_behind key t es are.0 (greater (key_cmp key t.footer.last) ends) in
+            let none = none_behind bytes_of key t es are.0 (greater (key_cmp key t.footer.last) ends) in
             record {
               past = λ past. all-append (λ e. eq_by_cmp key_cmp key e.key ≡ false) es (joined ess) none (later.past (omega (arith, past)));
               here = λ u within is.

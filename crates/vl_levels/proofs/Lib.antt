@@ -1,4 +1,3 @@
-mod KeyRanges
 mod LevelLaws
 mod LookLaws
 mod LookSteps

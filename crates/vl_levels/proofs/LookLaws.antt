@@ -4,7 +4,7 @@ use Rattle.std.proofs.Common.{refl, ap, ◌∙◌}
 use Rattle.vl_model.specs.laws.WinnerLaws.{winner-append}
 use Rattle.vl_model.specs.declared.entry.Entry.{Entry}
 use Rattle.vl_run.specs.laws.Exact.{exact-append}
-use Rattle.vl_levels.proofs.KeyRanges.{HasNone, exact-none, winner-none}
+use Rattle.vl_table.specs.laws.KeyRanges.{HasNone, exact-none, winner-none}
 use Rattle.vl_levels.specs.declared.look.Look.{Look}
 use Rattle.vl_levels.specs.declared.look.Look.TheVariants.{UpTo, Exactly}
 use Rattle.vl_levels.specs.Looks.{sought, better, is_settled}

@@ -1,5 +1,5 @@
 -- A look-up in tables, one more table at a time.
-use Rattle.std.specs.Prelude.{◌≡◌, ◌<◌, ◌≤◌, ℕ, suc, true, false, List, [], ◌∷◌, ◌++◌, length, get_or, take, drop, Option, None, Result, Ok, Err}
+use Rattle.std.specs.Prelude.{◌≡◌, ◌<◌, ◌≤◌, ℕ, suc, Bool, true, false, List, [], ◌∷◌, ◌++◌, length, get_or, take, drop, Option, None, Result, Ok, Err}
 use Rattle.std.specs.List.{prefix_len}
 use Rattle.std.proofs.Common.{refl, ap, sym, subst, ◌∙◌, append_assoc, append-nil, arith}
 use Rattle.vl_model.specs.declared.entry.Entry.{Entry}
@@ -15,8 +15,9 @@ use Rattle.vl_table.specs.laws.TrueBlocks.{no_bad_block}
 use Rattle.vl_table.specs.declared.fault.TableFault.{TableFault}
 use Rattle.vl_table.specs.declared.fault.TableFault.TheVariants.{NoMemory, Disk, Damaged}
 use Rattle.vl_table.specs.declared.table.Table.{Table}
-use Rattle.vl_levels.proofs.LevelLaws.{holds_none, level_cut, level-parted}
-use Rattle.vl_levels.specs.LevelTables.{AreApart, AreOf, ends_before, may_hold}
+use Rattle.vl_levels.proofs.LevelLaws.{level_cut, level-parted}
+use Rattle.vl_levels.specs.LevelTables.{AreApart, AreOf, ends_before}
+use Rattle.vl_table.specs.MayHold.{may_hold}
 use Rattle.vl_levels.specs.Looks.{better, is_settled, sought}
 use Rattle.vl_levels.proofs.LookLaws.{settled, sought-append, sought-middle, sought-none}
 use Rattle.vl_levels.proofs.Parts.{split_at}
@@ -154,38 +155,33 @@ module _ {H : Type 0} (bytes_of : H → Option (List ℕ)) where
 
     -- ---- one table
 
-    -- it can't hold the key
-    pub asks_not : (t : Table H) (Lawful : Type 0) (now : ℕ) → may_hold key t ≡ false → LookedUp bytes_of (t ∷ []) Lawful (sought look key) key now now (Ok None)
-    asks_not t Lawful now outside = record { cause = no_failure now; fault = tt; answer = λ lawful ess are. by ess are }
-      where
-        by : (ess : List (List Entry)) → AreOf bytes_of (t ∷ []) ess → None ≡ sought look key (joined ess)
-        by [] are = absurd are
-        by (es ∷ []) are =
-            sym (ap (sought look key) (append-nil es) ∙ sought-none look key es (holds_none bytes_of key t es are.0 outside))
-        by (es ∷ fs ∷ ess) are = absurd are.1
-
     -- it is asked
-    pub asks : (t : Table H) (Lawful : Type 0) (before now : ℕ) (r : Result (Option Entry) TableFault) → may_hold key t ≡ true
+    pub asks : (t : Table H) (Lawful : Type 0) (before now : ℕ) (r : Result (Option Entry) TableFault) → (may_hold key t ≡ false → r ≡ Ok None)
         → Answers {T = Option Entry} before now t.number (bytes_of t.held) (λ bytes found. (es : List Entry) → IsOf bytes_of t es → found ≡ sought look key es) (IsBadBlock t) r
         → LookedUp bytes_of (t ∷ []) Lawful (sought look key) key before now r
-    asks t Lawful before now r holds a = record { cause = a.cause; fault = named r a; answer = λ lawful ess are. found ess are }
+    asks t Lawful before now r unread a = record { cause = a.cause; fault = named r unread a; answer = λ lawful ess are. found ess are }
       where
         Good : List ℕ → Option Entry → Type 0
         Good bytes found = (es : List Entry) → IsOf bytes_of t es → found ≡ sought look key es
 
-        asked : IsAsked bytes_of (t ∷ []) key t
-        asked = record { front = []; back = []; among = refl; holds = holds }
+        -- a fault comes only of a table that may hold the key
+        asked : (r : Result (Option Entry) TableFault) (e : TableFault) → r ≡ Err e → (may_hold key t ≡ false → r ≡ Ok None) → IsAsked bytes_of (t ∷ []) key t
+        asked r e fault unread = record { front = []; back = []; among = refl; holds = by (may_hold key t) refl }
+          where
+            by : (b : Bool) → may_hold key t ≡ b → may_hold key t ≡ true
+            by true is = is
+            by false is = let no = unread is in absurd cc
 
-        named : (r : Result (Option Entry) TableFault) → Answers {T = Option Entry} before now t.number (bytes_of t.held) Good (IsBadBlock t) r → NamesAsked bytes_of (t ∷ []) key r
-        named (Ok found) a = tt
-        named (Err NoMemory) a = tt
-        named (Err (Disk name)) a = record { table = t; asked = asked; named = a.named; why = tt }
-        named (Err (Damaged name place)) a = record { table = t; asked = asked; named = a.named; why = a.answer }
+        named : (r : Result (Option Entry) TableFault) → (may_hold key t ≡ false → r ≡ Ok None) → Answers {T = Option Entry} before now t.number (bytes_of t.held) Good (IsBadBlock t) r → NamesAsked bytes_of (t ∷ []) key r
+        named (Ok found) unread a = tt
+        named (Err NoMemory) unread a = tt
+        named (Err (Disk name)) unread a = record { table = t; asked = asked (Err (Disk name)) (Disk name) refl unread; named = a.named; why = tt }
+        named (Err (Damaged name place)) unread a = record { table = t; asked = asked (Err (Damaged name place)) (Damaged name place) refl unread; named = a.named; why = a.answer }
 
         found : (ess : List (List Entry)) → AreOf bytes_of (t ∷ []) ess → IsAnswer (λ found. found ≡ sought look key (joined ess)) (λ place. ⊥) r
         found [] are = absurd are
         found (es ∷ []) are =
-            let bytes = table_bytes t.number es in
+            let bytes = table_bytes t.format t.number es in
             moved (Good bytes) (λ found. found ≡ sought look key (joined (es ∷ []))) (IsBadBlock t bytes) r
             (λ x good. good es are.0 ∙ sym (ap (sought look key) (append-nil es))) (λ place bad. no_bad_block bytes_of t es place are.0 bad) (a.answer bytes are.0.told)
         found (es ∷ fs ∷ ess) are = absurd are.1

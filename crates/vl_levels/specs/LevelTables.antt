@@ -1,7 +1,7 @@
 -- Tables of which entries are looked up: which entries they hold, and in which order they are.
-use Rattle.std.specs.Prelude.{◌≡◌, ℕ, Bool, ◌&&◌, not, List, [], ◌∷◌, ◌++◌, Option}
+use Rattle.std.specs.Prelude.{◌≡◌, ℕ, Bool, List, [], ◌∷◌, ◌++◌, Option}
 use Rattle.std.specs.List.{AllByRecursion}
-use Rattle.std.specs.Ordering.{is_gt, is_lt}
+use Rattle.std.specs.Ordering.{is_gt}
 use Rattle.std.specs.declared.cmp.Ordering.TheVariants.{Less}
 use Rattle.vl_model.specs.Keys.{key_cmp}
 use Rattle.vl_model.specs.declared.entry.Entry.{Entry}
@@ -25,10 +25,6 @@ module _ {H : Type 0} where
   AreApart [] = Unit {0}
   AreApart (t ∷ []) = Unit {0}
   AreApart (t ∷ u ∷ us) = (key_cmp t.footer.last u.footer.first ≡ Less) × AreApart (u ∷ us)
-
-  -- whether the table may have the key, by its footer
-  abbrev pub may_hold : List ℕ → Table H → Bool
-  may_hold key t = not (is_lt (key_cmp key t.footer.first)) && not (is_gt (key_cmp key t.footer.last))
 
   -- the table's last key is below the key
   abbrev pub ends_before : List ℕ → Table H → Bool

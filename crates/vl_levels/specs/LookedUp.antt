@@ -11,7 +11,8 @@ use Rattle.vl_table.specs.Seeks.{IsBadBlock}
 use Rattle.vl_table.specs.declared.fault.TableFault.{TableFault}
 use Rattle.vl_table.specs.declared.fault.TableFault.TheVariants.{NoMemory, Disk, Damaged}
 use Rattle.vl_table.specs.declared.table.Table.{Table}
-use Rattle.vl_levels.specs.LevelTables.{AreOf, may_hold}
+use Rattle.vl_table.specs.MayHold.{may_hold}
+use Rattle.vl_levels.specs.LevelTables.{AreOf}
 
 module _ {H : Type 0} (bytes_of : H → Option (List ℕ)) where
   -- a table among these was asked, since it may hold the key

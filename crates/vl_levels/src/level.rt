@@ -3,12 +3,11 @@
 ghost use Rattle.std.specs.Prelude.{◌≡◌, ◌≤◌, List, length};
 ghost use Rattle.std.specs.List.{prefix_len};
 ghost use Rattle.vl_run.specs.Lookups.{IsParted};
-ghost use Rattle.vl_levels.specs.LevelTables.{ends_before, may_hold};
+ghost use Rattle.vl_levels.specs.LevelTables.{ends_before};
 
 use crate::shared_table::SharedTable;
 use std::marker::Model;
 use vl_disk::HeldFile;
-use vl_table::Table;
 
 /// The tables of a level below level 0, in key order. None of them overlaps.
 #[derive(Drop)]
@@ -39,14 +38,6 @@ impl<H> Level<H> {
     {
         &self.tables
     }
-}
-
-// Whether a table may have a key, by its footer.
-pub fn may_hold<H: HeldFile>(table: &Table<H>, key: &[u8]) -> bool
-    ensures { result ≡ may_hold key.now table.now }
-{
-    let footer = table.footer();
-    !key.cmp(&footer.first.as_slice()).is_lt() && !key.cmp(&footer.last.as_slice()).is_gt()
 }
 
 // How many tables end before a key.

@@ -6,7 +6,7 @@ ghost use Rattle.vl_levels.specs.LevelTables.{AreApart, AreFiles};
 ghost use Rattle.vl_levels.specs.LookedUp.{LookedUp};
 ghost use Rattle.vl_levels.specs.Looks.{sought};
 
-use crate::level::{ending_before, may_hold};
+use crate::level::ending_before;
 use crate::look::Look;
 use crate::shared_table::SharedTable;
 use std::alloc::Global;
@@ -14,7 +14,7 @@ use vl_disk::{HeldFile, Reader};
 use vl_model::Entry;
 use vl_table::{BlockBuffer, Table, TableFault};
 
-// Looks in one table, if it may have the key.
+// Looks in one table, of which nothing is read where it may not have the key.
 pub fn look_in<H: HeldFile, R: Reader<Held = H>>(
     alloc: Global,
     reader: &mut R,
@@ -28,9 +28,6 @@ pub fn look_in<H: HeldFile, R: Reader<Held = H>>(
     ensures answers { (files : ℕ → Option (List ℕ)) → IsKept files buffer.old → AreFiles H.bytes files (table.now ∷ [])
         → LookedUp H.bytes (table.now ∷ []) (Unit {0}) (sought look key.now) key.now (R.faults reader.old) (R.faults reader.new) result }
 {
-    if !may_hold(table, key) {
-        return Ok(None);
-    }
     match look {
         Look::UpTo(number) => table.find(alloc, reader, buffer, key, number),
         Look::Exactly(version) => table.exact(alloc, reader, buffer, key, version),

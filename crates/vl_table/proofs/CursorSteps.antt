@@ -37,8 +37,8 @@ budget-on_way Down ps = by ps
         ∙ omega (arith, by ps, sum_by-append f (reverse ps) (p ∷ []), sum_by-cons f p [], sum_by-cons f p ps)
 
 -- the entries taken in, and those of the blocks from one on
-abbrev pub left_from : Option (List ℕ) → Way → List Entry → List BlockPlace → Option (List Entry)
-left_from told way taken ps = option_map (λ (bytes : List ℕ). reverse taken ++ blocks_entries way bytes ps) told
+abbrev pub left_from : ℕ → Option (List ℕ) → Way → List Entry → List BlockPlace → Option (List Entry)
+left_from format told way taken ps = option_map (λ (bytes : List ℕ). reverse taken ++ blocks_entries format way bytes ps) told
 
 for_told : (told : Option (List ℕ)) (f g : List ℕ → List Entry) → ForSome told (λ bytes. f bytes ≡ g bytes)
     → Keeps (option_map f told) (option_map g told)
@@ -52,15 +52,15 @@ unread-next ps read p within is =
     ∙ ap (λ (n : ℕ). p ∷ drop n ps) (sym (add-one read))
 
 -- a block is read where no entry is left of the ones before
-pub takes_in : (told : Option (List ℕ)) (way : Way) (ps : List BlockPlace) (read : ℕ) (p : BlockPlace) (old new : List Entry)
-    → old ≡ [] → read < length ps → p ≡ get_or ps read p → ForSome told (λ bytes. reverse new ≡ along way (block_entries bytes p))
-    → Keeps (left_from told way old (drop read ps)) (left_from told way new (drop (read + 1) ps))
-takes_in told way ps read p old new none within is says =
-    for_told told (λ bytes. reverse old ++ blocks_entries way bytes (drop read ps)) (λ bytes. reverse new ++ blocks_entries way bytes (drop (read + 1) ps))
+pub takes_in : (format : ℕ) (told : Option (List ℕ)) (way : Way) (ps : List BlockPlace) (read : ℕ) (p : BlockPlace) (old new : List Entry)
+    → old ≡ [] → read < length ps → p ≡ get_or ps read p → ForSome told (λ bytes. reverse new ≡ along way (block_entries format bytes p))
+    → Keeps (left_from format told way old (drop read ps)) (left_from format told way new (drop (read + 1) ps))
+takes_in format told way ps read p old new none within is says =
+    for_told told (λ bytes. reverse old ++ blocks_entries format way bytes (drop read ps)) (λ bytes. reverse new ++ blocks_entries format way bytes (drop (read + 1) ps))
     (λ bytes told_is.
-    ap (λ (l : List Entry). reverse l ++ blocks_entries way bytes (drop read ps)) none
-    ∙ ap (blocks_entries way bytes) (unread-next ps read p within is)
-    ∙ ap (λ (l : List Entry). l ++ blocks_entries way bytes (drop (read + 1) ps)) (sym (says bytes told_is)))
+    ap (λ (l : List Entry). reverse l ++ blocks_entries format way bytes (drop read ps)) none
+    ∙ ap (blocks_entries format way bytes) (unread-next ps read p within is)
+    ∙ ap (λ (l : List Entry). l ++ blocks_entries format way bytes (drop (read + 1) ps)) (sym (says bytes told_is)))
 
 pub spends_in : (ps : List BlockPlace) (read : ℕ) (p : BlockPlace) (old new : List Entry) → read < length ps → p ≡ get_or ps read p
     → length new ≤ p.length → length new + blocks_budget (drop (read + 1) ps) ≤ length old + blocks_budget (drop read ps)
@@ -68,12 +68,13 @@ spends_in ps read p old new within is few =
     omega (arith, few, ap blocks_budget (unread-next ps read p within is), sum_by-cons (λ (q : BlockPlace). q.length) p (drop (read + 1) ps))
 
 -- where a block isn't read the table is damaged
-pub block_fails : {H S T : Type 0} (bytes_of : H → Option (List ℕ)) (t : Table H) (number : ℕ) (held : H) (good : List ℕ → S → Type 0) (before now at : ℕ) (p : BlockPlace) (e : TableFault)
-    → number ≡ t.number → held ≡ t.held → at < length t.blocks.items → p ≡ get_or t.blocks.items at p
-    → Answers {T = S} before now number (bytes_of held) good (NoBlock number p) (Err e)
+pub block_fails : {H S T : Type 0} (bytes_of : H → Option (List ℕ)) (t : Table H) (format number : ℕ) (held : H) (good : List ℕ → S → Type 0) (before now at : ℕ) (p : BlockPlace) (e : TableFault)
+    → format ≡ t.format → number ≡ t.number → held ≡ t.held → at < length t.blocks.items → p ≡ get_or t.blocks.items at p
+    → Answers {T = S} before now number (bytes_of held) good (NoBlock format number p) (Err e)
     → Answers {T = T} before now t.number (bytes_of t.held) (λ bytes done. Unit {0}) (λ bytes damage. IsBadBlock t bytes damage) (Err e)
-block_fails {H = H} {S = S} {T = T} bytes_of t number held good before now at p e numbers helds within is a =
-    let one = subst (λ (n : ℕ). Answers {T = S} before now n (bytes_of held) good (NoBlock n p) (Err e)) numbers a in
-    let two = subst (λ (h : H). Answers {T = S} before now t.number (bytes_of h) good (NoBlock t.number p) (Err e)) helds one in
-    fails before now t.number (bytes_of t.held) good (λ bytes (done : T). Unit {0}) (NoBlock t.number p) (IsBadBlock t) e
+block_fails {H = H} {S = S} {T = T} bytes_of t format number held good before now at p e formats numbers helds within is a =
+    let same_format = subst (λ (f : ℕ). Answers {T = S} before now number (bytes_of held) good (NoBlock f number p) (Err e)) formats a in
+    let one = subst (λ (n : ℕ). Answers {T = S} before now n (bytes_of held) good (NoBlock t.format n p) (Err e)) numbers same_format in
+    let two = subst (λ (h : H). Answers {T = S} before now t.number (bytes_of h) good (NoBlock t.format t.number p) (Err e)) helds one in
+    fails before now t.number (bytes_of t.held) good (λ bytes (done : T). Unit {0}) (NoBlock t.format t.number p) (IsBadBlock t) e
     (λ bytes told damage none. record { at = at; place = p; named = within; place_is = is; none = none }) two

@@ -7,6 +7,7 @@ mod Headers
 mod Lookups
 mod MeetSteps
 mod OpeningSteps
+mod PartFaults
 mod Parts
 mod ScanSteps
 mod SeekSteps

@@ -31,14 +31,14 @@ module _ (key : List ℕ) (version : ℕ) where
       ∙ ap (or_else (first_failing (is_ahead key version) b)) (first-joined bs)
 
   -- a look-up may begin behind the blocks whose last key is below the key
-  pub first-skipped : (at : ℕ) (bs : List (List Entry)) → IsRising (joined bs)
-      → first_over key version (drop (prefix_len (λ (p : BlockPlace). is_below key p.last) (block_places at bs)) bs) ≡ first_over key version bs
-  first-skipped at [] rising = refl
-  first-skipped at (b ∷ bs) rising =
-      by (first-skipped (at + block_frame_length b) bs (rising-back b (joined bs) rising)) (is_below key (last_key b)) refl
+  pub first-skipped : (format at : ℕ) (bs : List (List Entry)) → IsRising (joined bs)
+      → first_over key version (drop (prefix_len (λ (p : BlockPlace). is_below key p.last) (block_places format at bs)) bs) ≡ first_over key version bs
+  first-skipped format at [] rising = refl
+  first-skipped format at (b ∷ bs) rising =
+      by (first-skipped format (at + block_frame_length format b) bs (rising-back b (joined bs) rising)) (is_below key (last_key b)) refl
     where
       count : ℕ
-      count = prefix_len (λ (p : BlockPlace). is_below key p.last) (block_places (at + block_frame_length b) bs)
+      count = prefix_len (λ (p : BlockPlace). is_below key p.last) (block_places format (at + block_frame_length format b) bs)
 
       one_more : (n : ℕ) → suc n ≡ 1 + n
       one_more n = omega arith
@@ -69,33 +69,33 @@ module _ (key : List ℕ) (version : ℕ) where
   of_last P (e ∷ []) some all = all.0
   of_last P (e ∷ f ∷ fs) some all = of_last P (f ∷ fs) (omega arith) all.1
 
-  of_blocks : (P : List ℕ → Type 0) (at : ℕ) (bs : List (List Entry)) → AllByRecursion (λ b. 1 ≤ length b) bs
-      → AllByRecursion (λ f. P f.key) (joined bs) → AllByRecursion (λ (p : BlockPlace). P p.last) (block_places at bs)
-  of_blocks P at [] some all = tt
-  of_blocks P at (b ∷ bs) some all = (
+  of_blocks : (P : List ℕ → Type 0) (format at : ℕ) (bs : List (List Entry)) → AllByRecursion (λ b. 1 ≤ length b) bs
+      → AllByRecursion (λ f. P f.key) (joined bs) → AllByRecursion (λ (p : BlockPlace). P p.last) (block_places format at bs)
+  of_blocks P format at [] some all = tt
+  of_blocks P format at (b ∷ bs) some all = (
     of_last P b some.0 (all-front (λ f. P f.key) b (joined bs) all),
-    of_blocks P (at + block_frame_length b) bs some.1 (all-back (λ f. P f.key) b (joined bs) all),
+    of_blocks P format (at + block_frame_length format b) bs some.1 (all-back (λ f. P f.key) b (joined bs) all),
   )
 
-  pub index-parted : (at : ℕ) (bs : List (List Entry)) → AllByRecursion (λ b. 1 ≤ length b) bs → IsRising (joined bs)
-      → IsParted (λ (p : BlockPlace). is_below key p.last) (block_places at bs)
-  index-parted at [] some rising = tt
-  index-parted at (b ∷ bs) some rising = (
-    of_blocks (λ k. is_below key k ≡ true → is_below key (last_key b) ≡ true) (at + block_frame_length b) bs some.1 (behind-last b (joined bs) some.0 rising),
-    index-parted (at + block_frame_length b) bs some.1 (rising-back b (joined bs) rising),
+  pub index-parted : (format at : ℕ) (bs : List (List Entry)) → AllByRecursion (λ b. 1 ≤ length b) bs → IsRising (joined bs)
+      → IsParted (λ (p : BlockPlace). is_below key p.last) (block_places format at bs)
+  index-parted format at [] some rising = tt
+  index-parted format at (b ∷ bs) some rising = (
+    of_blocks (λ k. is_below key k ≡ true → is_below key (last_key b) ≡ true) format (at + block_frame_length format b) bs some.1 (behind-last b (joined bs) some.0 rising),
+    index-parted format (at + block_frame_length format b) bs some.1 (rising-back b (joined bs) rising),
   )
 
 -- ---- the whole
 
 -- what a look-up finds in all the blocks is what it finds in the entries
-pub found-blocks : (key : List ℕ) (version : ℕ) (es : List Entry) → IsInOrder es
-    → if_of_key key (first_over key version (blocks es)) ≡ winner es key version
-found-blocks key version es ordered =
-    found_winner key version es ordered (first_over key version (blocks es))
-    (sym (first-joined key version (blocks es)) ∙ ap (first_failing (is_ahead key version)) (blocks-whole es))
+pub found-blocks : (format : ℕ) (key : List ℕ) (version : ℕ) (es : List Entry) → IsInOrder es
+    → if_of_key key (first_over key version (blocks format es)) ≡ winner es key version
+found-blocks format key version es ordered =
+    found_winner key version es ordered (first_over key version (blocks format es))
+    (sym (first-joined key version (blocks format es)) ∙ ap (first_failing (is_ahead key version)) (blocks-whole format es))
 
-pub exact-blocks : (key : List ℕ) (version : ℕ) (es : List Entry) → IsInOrder es
-    → if_exact key version (first_over key version (blocks es)) ≡ exact es key version
-exact-blocks key version es ordered =
-    found_exact key version es ordered (first_over key version (blocks es))
-    (sym (first-joined key version (blocks es)) ∙ ap (first_failing (is_ahead key version)) (blocks-whole es))
+pub exact-blocks : (format : ℕ) (key : List ℕ) (version : ℕ) (es : List Entry) → IsInOrder es
+    → if_exact key version (first_over key version (blocks format es)) ≡ exact es key version
+exact-blocks format key version es ordered =
+    found_exact key version es ordered (first_over key version (blocks format es))
+    (sym (first-joined key version (blocks format es)) ∙ ap (first_failing (is_ahead key version)) (blocks-whole format es))

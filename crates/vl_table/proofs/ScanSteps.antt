@@ -7,7 +7,7 @@ use Rattle.vl_block.specs.Blocks.{entries}
 use Rattle.vl_block.specs.laws.ListLaws.{Behind}
 
 -- so many entries were passed, and all come before the place
-pub record Passed (key : List ℕ) (version : ℕ) (es : List Entry) (rest : List ℕ) : Type 0 where
+pub record Passed (format : ℕ) (key : List ℕ) (version : ℕ) (es : List Entry) (rest : List ℕ) : Type 0 where
   pub taken : List Entry
-  pub behind : Behind entries es taken rest
+  pub behind : Behind (entries format) es taken rest
   pub ahead : AllByRecursion (λ e. is_ahead key version e ≡ true) taken

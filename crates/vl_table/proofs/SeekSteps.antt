@@ -33,13 +33,13 @@ use Rattle.vl_table.specs.Seeks.{IsBadBlock}
 
 -- what is found in all entries of the table
 abbrev pub Finds : {H : Type 0} → (H → Option (List ℕ)) → Table H → List ℕ → ℕ → List ℕ → Option Entry → Type 0
-Finds bytes_of t key version bytes found = (es : List Entry) → IsOf bytes_of t es → found ≡ if_of_key key (first_over key version (blocks es))
+Finds bytes_of t key version bytes found = (es : List Entry) → IsOf bytes_of t es → found ≡ if_of_key key (first_over key version (blocks t.format es))
 
 -- The blocks up to a position hold nothing at or behind the place, and no read has failed.
 pub record Seeking {H : Type 0} (bytes_of : H → Option (List ℕ)) (t : Table H) (key : List ℕ) (version : ℕ) (files : ℕ → Option (List ℕ)) (before now : ℕ) (buffer : BlockBuffer) (at : ℕ) : Type 0 where
   pub steady : now ≡ before
   pub kept : IsKept files buffer
-  pub so_far : (es : List Entry) → IsOf bytes_of t es → first_over key version (drop at (blocks es)) ≡ first_over key version (blocks es)
+  pub so_far : (es : List Entry) → IsOf bytes_of t es → first_over key version (drop at (blocks t.format es)) ≡ first_over key version (blocks t.format es)
   -- and each stands, also where the table isn't true
   pub met : ForSome (bytes_of t.held) (λ bytes. MetSoFar t key version bytes at)
 
@@ -52,58 +52,58 @@ seeks bytes_of t key version files before buffer at kept first = record {
   kept = kept;
   so_far = λ es is.
       let test = λ (p : BlockPlace). is_below key p.last in
-      let bs = blocks es in
-      let ordered = rising (joined bs) (subst IsInOrder (sym (blocks-whole es)) is.table.tabled.ordered) in
-      let parted = subst (IsParted test) (sym is.blocks) (index-parted key version 16 bs (blocks-some es) ordered) in
+      let bs = blocks t.format es in
+      let ordered = rising (joined bs) (subst IsInOrder (sym (blocks-whole t.format es)) is.table.tabled.ordered) in
+      let parted = subst (IsParted test) (sym is.blocks) (index-parted key version t.format 16 bs (blocks-some t.format es) ordered) in
       ap (λ (n : ℕ). first_over key version (drop n bs)) (first parted ∙ ap (prefix_len test) is.blocks)
-      ∙ first-skipped key version 16 bs ordered;
+      ∙ first-skipped key version t.format 16 bs ordered;
   met = λ bytes told. met_at_first t key version bytes at first;
 }
 
 module _ {H : Type 0} (bytes_of : H → Option (List ℕ)) (t : Table H) (key : List ℕ) (version : ℕ) (i : ℕ) (p : BlockPlace)
     (within : i < length t.blocks.items) (found : p ≡ get_or t.blocks.items i p) where
   pub load_fails : (a b c : ℕ) (buffer : BlockBuffer) (e : TableFault) → b ≡ a
-      → Answers {T = Unit {0}} b c t.number (bytes_of t.held) (λ bytes done. (es : List Entry) × HasBlock buffer t.number bytes p.place p.length es) (NoBlock t.number p) (Err e)
+      → Answers {T = Unit {0}} b c t.number (bytes_of t.held) (λ bytes done. (es : List Entry) × HasBlock buffer t.format t.number bytes p.place p.length es) (NoBlock t.format t.number p) (Err e)
       → Answers {T = Option Entry} a c t.number (bytes_of t.held) (Finds bytes_of t key version) (IsBadBlock t) (Err e)
   load_fails a b c buffer e same load =
       subst (λ (n : ℕ). Answers {T = Option Entry} n c t.number (bytes_of t.held) (Finds bytes_of t key version) (IsBadBlock t) (Err e)) same
-      (fails b c t.number (bytes_of t.held) (λ bytes (done : Unit {0}). (es : List Entry) × HasBlock buffer t.number bytes p.place p.length es) (Finds bytes_of t key version) (NoBlock t.number p) (IsBadBlock t) e
+      (fails b c t.number (bytes_of t.held) (λ bytes (done : Unit {0}). (es : List Entry) × HasBlock buffer t.format t.number bytes p.place p.length es) (Finds bytes_of t key version) (NoBlock t.format t.number p) (IsBadBlock t) e
       (λ bytes told damage none. record { at = i; place = p; named = within; place_is = found; none = none }) load)
 
   -- what comes behind a load that went well
   behind_load : (a b c : ℕ) (buffer : BlockBuffer) (r : Result (Option Entry) TableFault) (good : List ℕ → Option Entry → Type 0) → b ≡ a
-      → Answers {T = Unit {0}} b c t.number (bytes_of t.held) (λ bytes done. (es : List Entry) × HasBlock buffer t.number bytes p.place p.length es) (NoBlock t.number p) (Ok (tt {0}))
-      → ((bytes : List ℕ) → bytes_of t.held ≡ Some bytes → (es : List Entry) × HasBlock buffer t.number bytes p.place p.length es → (x : Option Entry) → good bytes x → Finds bytes_of t key version bytes x)
+      → Answers {T = Unit {0}} b c t.number (bytes_of t.held) (λ bytes done. (es : List Entry) × HasBlock buffer t.format t.number bytes p.place p.length es) (NoBlock t.format t.number p) (Ok (tt {0}))
+      → ((bytes : List ℕ) → bytes_of t.held ≡ Some bytes → (es : List Entry) × HasBlock buffer t.format t.number bytes p.place p.length es → (x : Option Entry) → good bytes x → Finds bytes_of t key version bytes x)
       → Answers {T = Option Entry} c c t.number (bytes_of t.held) good (λ bytes damage. ⊥) r
       → Answers {T = Option Entry} a c t.number (bytes_of t.held) (Finds bytes_of t key version) (IsBadBlock t) r
   behind_load a b c buffer r good same load f rest =
       subst (λ (n : ℕ). Answers {T = Option Entry} n c t.number (bytes_of t.held) (Finds bytes_of t key version) (IsBadBlock t) r) same
-      (and_then b c c t.number (bytes_of t.held) (λ bytes (done : Unit {0}). (es : List Entry) × HasBlock buffer t.number bytes p.place p.length es) good (Finds bytes_of t key version)
-      (NoBlock t.number p) (λ bytes damage. ⊥) (IsBadBlock t) (tt {0}) r f (λ bytes told has damage none. absurd none) load rest)
+      (and_then b c c t.number (bytes_of t.held) (λ bytes (done : Unit {0}). (es : List Entry) × HasBlock buffer t.format t.number bytes p.place p.length es) good (Finds bytes_of t key version)
+      (NoBlock t.format t.number p) (λ bytes damage. ⊥) (IsBadBlock t) (tt {0}) r f (λ bytes told has damage none. absurd none) load rest)
 
   pub look_no_memory : (a b c : ℕ) (buffer : BlockBuffer) (e : TableFault) → b ≡ a → e ≡ NoMemory
-      → Answers {T = Unit {0}} b c t.number (bytes_of t.held) (λ bytes done. (es : List Entry) × HasBlock buffer t.number bytes p.place p.length es) (NoBlock t.number p) (Ok (tt {0}))
+      → Answers {T = Unit {0}} b c t.number (bytes_of t.held) (λ bytes done. (es : List Entry) × HasBlock buffer t.format t.number bytes p.place p.length es) (NoBlock t.format t.number p) (Ok (tt {0}))
       → Answers {T = Option Entry} a c t.number (bytes_of t.held) (Finds bytes_of t key version) (IsBadBlock t) (Err e)
   look_no_memory a b c buffer e same is load =
       behind_load a b c buffer (Err e) (Finds bytes_of t key version) same load (λ bytes told has x good. good)
       (no_memory c t.number (bytes_of t.held) (Finds bytes_of t key version) (λ bytes damage. ⊥) e is)
 
   -- the block of a true table that was loaded
-  pub loaded : (buffer : BlockBuffer) (bytes : List ℕ) (es others : List Entry) → bytes_of t.held ≡ Some bytes → (is : IsOf bytes_of t es) → HasBlock buffer t.number bytes p.place p.length others
-      → (b : BlockAt 16 (blocks es) i p) × (others ≡ b.block)
+  pub loaded : (buffer : BlockBuffer) (bytes : List ℕ) (es others : List Entry) → bytes_of t.held ≡ Some bytes → (is : IsOf bytes_of t es) → HasBlock buffer t.format t.number bytes p.place p.length others
+      → (b : BlockAt t.format 16 (blocks t.format es) i p) × (others ≡ b.block)
   loaded buffer bytes es others told is has =
       let b = named_block bytes_of t es i p is within found in
-      let same : bytes ≡ table_bytes t.number es = some_same bytes (table_bytes t.number es) (sym told ∙ is.told) in
-      (b, block_is buffer t.number (table_bytes t.number es) p.place p.length others b.block (subst (λ (l : List ℕ). HasBlock buffer t.number l p.place p.length others) same has) (block_stands t.number es i p is.table b))
+      let same : bytes ≡ table_bytes t.format t.number es = some_same bytes (table_bytes t.format t.number es) (sym told ∙ is.told) in
+      (b, block_is buffer t.format t.number (table_bytes t.format t.number es) p.place p.length others b.block (subst (λ (l : List ℕ). HasBlock buffer t.format t.number l p.place p.length others) same has) (block_stands t.format t.number es i p is.table b))
     where
       some_same : (x y : List ℕ) → Some x ≡ Some y → x ≡ y
       some_same x y e = cc
 
   pub found_here : (a b c : ℕ) (buffer : BlockBuffer) (body : List ℕ) (x : Option Entry) → b ≡ a
-      → Answers {T = Unit {0}} b c t.number (bytes_of t.held) (λ bytes done. (es : List Entry) × HasBlock buffer t.number bytes p.place p.length es) (NoBlock t.number p) (Ok (tt {0}))
-      → ((bytes : List ℕ) (es : List Entry) → HasBlock buffer t.number bytes p.place p.length es → SpellsBlock body es)
-      → ((es : List Entry) → SpellsBlock body es → (e : Entry) × (first_failing (is_ahead key version) es ≡ Some e) × (if_of_key key (first_failing (is_ahead key version) es) ≡ x))
-      → ((es : List Entry) → IsOf bytes_of t es → first_over key version (drop i (blocks es)) ≡ first_over key version (blocks es))
+      → Answers {T = Unit {0}} b c t.number (bytes_of t.held) (λ bytes done. (es : List Entry) × HasBlock buffer t.format t.number bytes p.place p.length es) (NoBlock t.format t.number p) (Ok (tt {0}))
+      → ((bytes : List ℕ) (es : List Entry) → HasBlock buffer t.format t.number bytes p.place p.length es → SpellsBlock t.format body es)
+      → ((es : List Entry) → SpellsBlock t.format body es → (e : Entry) × (first_failing (is_ahead key version) es ≡ Some e) × (if_of_key key (first_failing (is_ahead key version) es) ≡ x))
+      → ((es : List Entry) → IsOf bytes_of t es → first_over key version (drop i (blocks t.format es)) ≡ first_over key version (blocks t.format es))
       → Answers {T = Option Entry} a c t.number (bytes_of t.held) (Finds bytes_of t key version) (IsBadBlock t) (Ok x)
   found_here a b c buffer body x same load spells said so_far =
       behind_load a b c buffer (Ok x) (λ bytes y. y ≡ x) same load
@@ -112,22 +112,22 @@ module _ {H : Type 0} (bytes_of : H → Option (List ℕ)) (t : Table H) (key : 
       let said_of = said has.0 (spells bytes has.0 has.1) in
       let first : first_failing (is_ahead key version) one.0.block ≡ Some said_of.0 = ap (first_failing (is_ahead key version)) (sym one.1) ∙ said_of.1 in
       is_x ∙ sym said_of.2 ∙ ap (λ l. if_of_key key (first_failing (is_ahead key version) l)) one.1
-      ∙ ap (if_of_key key) (stops_in key version i (blocks es) one.0.front one.0.block one.0.back one.0.split one.0.counted (first_over key version (blocks es)) said_of.0 first (so_far es is)))
+      ∙ ap (if_of_key key) (stops_in key version i (blocks t.format es) one.0.front one.0.block one.0.back one.0.split one.0.counted (first_over key version (blocks t.format es)) said_of.0 first (so_far es is)))
       (gives c t.number (bytes_of t.held) (λ bytes y. y ≡ x) (λ bytes damage. ⊥) x (λ bytes told. refl))
 
   pub moves_on : (a b c : ℕ) (files : ℕ → Option (List ℕ)) (old buffer : BlockBuffer) (body : List ℕ) → Seeking bytes_of t key version files a b old i → IsKept files buffer
-      → Answers {T = Unit {0}} b c t.number (bytes_of t.held) (λ bytes done. (es : List Entry) × HasBlock buffer t.number bytes p.place p.length es) (NoBlock t.number p) (Ok (tt {0}))
-      → ((bytes : List ℕ) (es : List Entry) → HasBlock buffer t.number bytes p.place p.length es → SpellsBlock body es)
-      → ((es : List Entry) → SpellsBlock body es → first_failing (is_ahead key version) es ≡ None)
+      → Answers {T = Unit {0}} b c t.number (bytes_of t.held) (λ bytes done. (es : List Entry) × HasBlock buffer t.format t.number bytes p.place p.length es) (NoBlock t.format t.number p) (Ok (tt {0}))
+      → ((bytes : List ℕ) (es : List Entry) → HasBlock buffer t.format t.number bytes p.place p.length es → SpellsBlock t.format body es)
+      → ((es : List Entry) → SpellsBlock t.format body es → first_failing (is_ahead key version) es ≡ None)
       → Seeking bytes_of t key version files a c buffer (i + 1)
   moves_on a b c files old buffer body so kept load spells said = record {
     steady = load.cause.steady (λ no. no) ∙ so.steady;
     kept = kept;
     so_far = λ es is.
-        let bytes = table_bytes t.number es in
+        let bytes = table_bytes t.format t.number es in
         let has = load.answer bytes is.told in
         let one = loaded buffer bytes es has.0 is.told is has.1 in
-        goes_behind key version i (blocks es) one.0.front one.0.block one.0.back one.0.split one.0.counted (first_over key version (blocks es))
+        goes_behind key version i (blocks t.format es) one.0.front one.0.block one.0.back one.0.split one.0.counted (first_over key version (blocks t.format es))
         (ap (first_failing (is_ahead key version)) (sym one.1) ∙ said has.0 (spells bytes has.0 has.1)) (so.so_far es is);
     met = λ bytes told.
         let has = load.answer bytes told in
@@ -136,9 +136,9 @@ module _ {H : Type 0} (bytes_of : H → Option (List ℕ)) (t : Table H) (key : 
 
   -- what was found was met
   pub looks_here : (b c : ℕ) (buffer : BlockBuffer) (body : List ℕ) (x : Option Entry)
-      → Answers {T = Unit {0}} b c t.number (bytes_of t.held) (λ bytes done. (es : List Entry) × HasBlock buffer t.number bytes p.place p.length es) (NoBlock t.number p) (Ok (tt {0}))
-      → ((bytes : List ℕ) (es : List Entry) → HasBlock buffer t.number bytes p.place p.length es → SpellsBlock body es)
-      → ((es : List Entry) → SpellsBlock body es → (e : Entry) × (first_failing (is_ahead key version) es ≡ Some e) × (if_of_key key (first_failing (is_ahead key version) es) ≡ x))
+      → Answers {T = Unit {0}} b c t.number (bytes_of t.held) (λ bytes done. (es : List Entry) × HasBlock buffer t.format t.number bytes p.place p.length es) (NoBlock t.format t.number p) (Ok (tt {0}))
+      → ((bytes : List ℕ) (es : List Entry) → HasBlock buffer t.format t.number bytes p.place p.length es → SpellsBlock t.format body es)
+      → ((es : List Entry) → SpellsBlock t.format body es → (e : Entry) × (first_failing (is_ahead key version) es ≡ Some e) × (if_of_key key (first_failing (is_ahead key version) es) ≡ x))
       → ForSome (bytes_of t.held) (λ bytes. MetSoFar t key version bytes i)
       → LooksIn bytes_of (if_of_key key) t key version (Ok x)
   looks_here b c buffer body x load spells said met = λ bytes told.
@@ -153,7 +153,7 @@ pub finds_none : {H : Type 0} (bytes_of : H → Option (List ℕ)) (t : Table H)
 finds_none bytes_of t key version files a b buffer at so past =
     subst (λ (n : ℕ). Answers {T = Option Entry} n b t.number (bytes_of t.held) (Finds bytes_of t key version) (IsBadBlock t) (Ok None)) so.steady
     (gives b t.number (bytes_of t.held) (Finds bytes_of t key version) (IsBadBlock t) None
-    (λ bytes told es is. sym (ap (if_of_key key) (sym (so.so_far es is) ∙ none_over key version at (blocks es) (omega (arith, past, ap length is.blocks, length-block_places 16 (blocks es)))))))
+    (λ bytes told es is. sym (ap (if_of_key key) (sym (so.so_far es is) ∙ none_over key version at (blocks t.format es) (omega (arith, past, ap length is.blocks, length-block_places t.format 16 (blocks t.format es)))))))
 
 pub looks_none : {H : Type 0} (bytes_of : H → Option (List ℕ)) (t : Table H) (key : List ℕ) (version : ℕ) (files : ℕ → Option (List ℕ)) (a b : ℕ) (buffer : BlockBuffer) (at : ℕ)
     → Seeking bytes_of t key version files a b buffer at → length t.blocks.items ≤ at

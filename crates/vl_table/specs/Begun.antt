@@ -5,19 +5,18 @@ use Rattle.vl_frame.specs.Frame.{IsSpelled, frame_length}
 use Rattle.vl_frame.specs.Header.{IsHeader}
 use Rattle.vl_frame.specs.declared.kinds.FileKind.TheVariants as files
 use Rattle.vl_frame.specs.declared.kinds.FrameKind.{FrameKind}
-use Rattle.vl_block.specs.declared.format.TheConstants.{TABLE_FORMAT}
+use Rattle.vl_model.specs.Formats.{table_format}
 
--- the bytes begin with the header of the table with this number, in a format that is read
-pub record HasHeader (number : ℕ) (bytes : List ℕ) : Type 0 where
-  pub format : ℕ
+-- the bytes begin with the header of the table with this number, in this format, which is one that is read
+pub record HasHeader (format number : ℕ) (bytes : List ℕ) : Type 0 where
   pub first : 1 ≤ format
-  pub readable : format ≤ TABLE_FORMAT
+  pub readable : format ≤ table_format
   pub header : IsHeader files.Table format number bytes
 
 -- so does the file, and it is long enough to be a table
-pub record IsBegun (number : ℕ) (bytes : List ℕ) : Type 0 where
+pub record IsBegun (format number : ℕ) (bytes : List ℕ) : Type 0 where
   pub long : 24 ≤ length bytes
-  pub header : HasHeader number bytes
+  pub header : HasHeader format number bytes
 
 -- the place that the last eight bytes say
 abbrev pub said_place : List ℕ → ℕ

@@ -13,6 +13,6 @@ on_way Up xs = xs
 on_way Down xs = reverse xs
 
 -- the entries of the blocks at these places, one block after the other, each as the way goes
-abbrev pub blocks_entries : Way → List ℕ → List BlockPlace → List Entry
-blocks_entries way bytes [] = []
-blocks_entries way bytes (p ∷ ps) = along way (block_entries bytes p) ++ blocks_entries way bytes ps
+abbrev pub blocks_entries : ℕ → Way → List ℕ → List BlockPlace → List Entry
+blocks_entries format way bytes [] = []
+blocks_entries format way bytes (p ∷ ps) = along way (block_entries format bytes p) ++ blocks_entries format way bytes ps

@@ -9,21 +9,21 @@ use Rattle.vl_table.specs.Begun.{FrameAt}
 use Rattle.vl_table.specs.declared.block_buffer.BlockBuffer.{BlockBuffer}
 
 -- a block of so many bytes stands at the place, with these entries
-pub record StandsBlock (number : ℕ) (bytes : List ℕ) (place size : ℕ) (es : List Entry) : Type 0 where
+pub record StandsBlock (format number : ℕ) (bytes : List ℕ) (place size : ℕ) (es : List Entry) : Type 0 where
   pub body : List ℕ
   pub frame : FrameAt number bytes place size kinds.Block body
-  pub says : SpellsBlock body es
+  pub says : SpellsBlock format body es
 
 -- none does, and that is the damage
-abbrev pub NoBlock : ℕ → BlockPlace → List ℕ → ℕ → Type 0
-NoBlock number p bytes damage = ((es : List Entry) → StandsBlock number bytes p.place p.length es → ⊥) × (damage ≡ p.place)
+abbrev pub NoBlock : ℕ → ℕ → BlockPlace → List ℕ → ℕ → Type 0
+NoBlock format number p bytes damage = ((es : List Entry) → StandsBlock format number bytes p.place p.length es → ⊥) × (damage ≡ p.place)
 
 -- the buffer has the frame of the block that stands at the place
-pub record HasBlock (buffer : BlockBuffer) (number : ℕ) (bytes : List ℕ) (place size : ℕ) (es : List Entry) : Type 0 where
-  pub stands : StandsBlock number bytes place size es
+pub record HasBlock (buffer : BlockBuffer) (format number : ℕ) (bytes : List ℕ) (place size : ℕ) (es : List Entry) : Type 0 where
+  pub stands : StandsBlock format number bytes place size es
   pub frame : buffer.frame.items ≡ frame_bytes number place kinds.Block stands.body
 
 -- The block that is in the buffer, if one is, is one of the table with its number, whose bytes are these.
 abbrev pub IsKept : (ℕ → Option (List ℕ)) → BlockBuffer → Type 0
 IsKept files buffer = buffer.number ≢ 0 → (bytes : List ℕ) → files buffer.number ≡ Some bytes
-    → (size : ℕ) × (es : List Entry) × HasBlock buffer buffer.number bytes buffer.place size es
+    → (size : ℕ) × (es : List Entry) × HasBlock buffer buffer.format buffer.number bytes buffer.place size es

@@ -19,7 +19,7 @@ unread c = drop c.read (on_way c.way c.table.now.blocks.items)
 -- The entries that it took in and hasn't given, and those of the blocks that it hasn't read, where the table's bytes are told.
 abbrev pub cursor_left : {H R : Type 0} → (H → Option (List ℕ)) → TableCursor H R → Option (List Entry)
 cursor_left bytes_of c =
-    option_map (λ bytes. reverse c.entries.items ++ blocks_entries c.way bytes (unread c)) (bytes_of c.table.now.held)
+    option_map (λ bytes. reverse c.entries.items ++ blocks_entries c.table.now.format c.way bytes (unread c)) (bytes_of c.table.now.held)
 
 -- the bytes of the blocks at these places; a block has fewer entries than bytes
 abbrev pub blocks_budget : List BlockPlace → ℕ

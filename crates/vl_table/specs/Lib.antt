@@ -5,9 +5,12 @@ pub mod BlocksRead
 pub mod Buffers
 pub mod CursorLeft
 pub mod laws
+pub mod MayHold
 pub mod Meets
 pub mod Opened
 pub mod Opening
+pub mod OpeningParts
 pub mod Scans
 pub mod Seeks
+pub mod TableSaid
 pub mod Worked

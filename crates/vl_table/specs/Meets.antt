@@ -15,11 +15,11 @@ MeetsFirst None found behind = behind
 MeetsFirst (Some e) found behind = found ≡ Some e
 
 -- The first entry at or behind the place of a key and a version that these blocks have. Each block up to it stands.
-abbrev pub Meets : (number : ℕ) → (bytes key : List ℕ) → (version : ℕ) → List BlockPlace → (found : Option Entry) → Type 0
-Meets number bytes key version [] found = found ≡ None
-Meets number bytes key version (p ∷ later) found =
-    (es : List Entry) × StandsBlock number bytes p.place p.length es
-    × MeetsFirst (first_failing (is_ahead key version) es) found (Meets number bytes key version later found)
+abbrev pub Meets : (format number : ℕ) → (bytes key : List ℕ) → (version : ℕ) → List BlockPlace → (found : Option Entry) → Type 0
+Meets format number bytes key version [] found = found ≡ None
+Meets format number bytes key version (p ∷ later) found =
+    (es : List Entry) × StandsBlock format number bytes p.place p.length es
+    × MeetsFirst (first_failing (is_ahead key version) es) found (Meets format number bytes key version later found)
 
 -- how many blocks a look-up passes over: those in front whose last key is below the key
 abbrev pub passed_over : List ℕ → List BlockPlace → ℕ
@@ -34,7 +34,7 @@ pub record Looks {H : Type 0} (makes : Option Entry → Option Entry) (t : Table
     (bytes : List ℕ) (found : Option Entry) : Type 0 where
   pub met : Rises key t.blocks.items
       → (first : Option Entry)
-      × Meets t.number bytes key version (drop (passed_over key t.blocks.items) t.blocks.items) first
+      × Meets t.format t.number bytes key version (drop (passed_over key t.blocks.items) t.blocks.items) first
       × (found ≡ makes first)
 
 -- an answer is so, of a table that tells its bytes

@@ -10,4 +10,4 @@ pub record IsBadBlock {H : Type 0} (t : Table H) (bytes : List ℕ) (damage : �
   pub place : BlockPlace
   pub named : at < length t.blocks.items
   pub place_is : place ≡ get_or t.blocks.items at place
-  pub none : NoBlock t.number place bytes damage
+  pub none : NoBlock t.format t.number place bytes damage

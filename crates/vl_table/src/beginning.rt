@@ -1,28 +1,28 @@
 //! A table's header, and the place of its footer.
 
-ghost use Rattle.std.specs.Prelude.{◌≡◌, ◌+◌, ◌-◌, ◌≤◌, ◌↔◌, length, IfOk, IsTrue, OnOk};
+ghost use Rattle.std.specs.Prelude.{◌≡◌, ◌+◌, ◌-◌, ◌≤◌, ℕ, length, IfOk, IfNone, IfSome, OnOk};
 ghost use Rattle.vl_table.specs.Answers.{Answers};
 ghost use Rattle.vl_table.specs.Begun.{HasHeader, IsBegun, IsInside, said_place};
 
 use crate::fault::{TableFault, damaged};
 use crate::reading::fill;
 use byteorder::{BigEndian, ByteOrder};
-use vl_block::TABLE_FORMAT;
 use vl_disk::{HeldFile, Reader};
 use vl_frame::{FileKind, HEADER_BYTES, read_header};
+use vl_model::TABLE_FORMAT;
 
 // A table has a header, a frame without a body and a place at least to be looked at.
 const MIN_TABLE_BYTES: u64 = 24;
 
-/// Tests the header.
+/// Tests the header, and gives the table's format.
 pub fn read_begin<H: HeldFile, R: Reader<Held = H>>(
     reader: &mut R,
     held: &H,
     number: u32,
-) -> Result<(), TableFault>
+) -> Result<u32, TableFault>
     ensures answers { Answers (R.faults reader.old) (R.faults reader.new) number (H.bytes held.now)
-        (λ bytes done. IsBegun number bytes)
-        (λ bytes damage. (IsBegun number bytes → ⊥) × (damage ≡ 0)) result }
+        (λ bytes format. IsBegun format number bytes)
+        (λ bytes damage. ((format : ℕ) → IsBegun format number bytes → ⊥) × (damage ≡ 0)) result }
     ensures long { OnOk result (24 ≤ H.size held.now) }
 {
     if held.len() < MIN_TABLE_BYTES {
@@ -30,16 +30,18 @@ pub fn read_begin<H: HeldFile, R: Reader<Held = H>>(
     }
     let mut header = [0; HEADER_BYTES];
     fill(reader, held, number, 0, &mut header)?;
-    if !has_header(&header, number) {
-        return Err(damaged(number, 0));
+    match format_in(&header, number) {
+        Some(format) => Ok(format),
+        None => Err(damaged(number, 0)),
     }
-    Ok(())
 }
 
-fn has_header(bytes: &[u8], number: u32) -> bool
-    ensures { IsTrue result ↔ HasHeader number bytes.now }
+// The format that the header of the table with this number says, where it is one that is read.
+fn format_in(bytes: &[u8], number: u32) -> Option<u32>
+    ensures found { IfSome result (λ format. HasHeader format number bytes.now) }
+    ensures none { IfNone result ((format : ℕ) → HasHeader format number bytes.now → ⊥) }
 {
-    read_header(bytes, FileKind::Table, number, TABLE_FORMAT).is_some()
+    read_header(bytes, FileKind::Table, number, TABLE_FORMAT)
 }
 
 /// The footer's place, as the last eight bytes say it.

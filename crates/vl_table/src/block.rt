@@ -16,16 +16,17 @@ pub fn read_entries<H: HeldFile, R: Reader<Held = H>>(
     alloc: Global,
     reader: &mut R,
     held: &H,
+    format: u32,
     number: u32,
     block: &BlockPlace,
 ) -> Result<Vec<Entry>, TableFault>
     ensures answers { Answers (R.faults reader.old) (R.faults reader.new) number (H.bytes held.now)
-        (λ bytes read. read.items ≡ block_entries bytes block.now) (NoBlock number block.now) result }
+        (λ bytes read. read.items ≡ block_entries format bytes block.now) (NoBlock format number block.now) result }
     ensures few { IfOk result (λ read. length read.items ≤ block.now.length) }
 {
     let mut buffer = BlockBuffer::new(alloc);
-    buffer.load(reader, held, number, block)?;
-    let entries = block_entries(alloc, buffer.body())?;
+    buffer.load(reader, held, format, number, block)?;
+    let entries = block_entries(alloc, format, buffer.body())?;
     // A block has fewer entries than bytes. So a file that doesn't tell its bytes ends too.
     if entries.len() > block.length as usize {
         return Err(TableFault::Damaged {

@@ -17,6 +17,7 @@ use vl_frame::FrameKind;
 pub struct BlockBuffer {
     // The number of the table, or 0 where no block is in it.
     number: u32,
+    format: u32,
     place: u64,
     frame: Vec<u8>,
 }
@@ -28,6 +29,7 @@ impl BlockBuffer {
     {
         BlockBuffer {
             number: 0,
+            format: 0,
             place: 0,
             frame: Vec::new(alloc),
         }
@@ -38,6 +40,7 @@ impl BlockBuffer {
         &mut self,
         reader: &mut R,
         held: &H,
+        format: u32,
         number: u32,
         block: &BlockPlace,
     ) -> Result<(), TableFault>
@@ -45,10 +48,10 @@ impl BlockBuffer {
             → IsKept files self.new }
         ensures answers { (files : ℕ → Option (List ℕ)) → IsKept files self.old → files number ≡ H.bytes held.now
             → Answers (R.faults reader.old) (R.faults reader.new) number (H.bytes held.now)
-            (λ bytes done. (es : List Entry) × HasBlock self.new number bytes block.now.place block.now.length es)
-            (NoBlock number block.now) result }
+            (λ bytes done. (es : List Entry) × HasBlock self.new format number bytes block.now.place block.now.length es)
+            (NoBlock format number block.now) result }
     {
-        if self.has(number, block) {
+        if self.has(format, number, block) {
             return Ok(());
         }
         self.number = 0;
@@ -61,30 +64,32 @@ impl BlockBuffer {
             FrameKind::Block,
             &mut self.frame,
         )?;
-        if !is_block(body_of(&self.frame)) {
+        if !is_block(format, body_of(&self.frame)) {
             return Err(damaged(number, block.place));
         }
         self.number = number;
+        self.format = format;
         self.place = block.place;
         Ok(())
     }
 
     /// The body of the block that is in it.
     pub fn body(&self) -> &[u8]
-        ensures { (number place size : ℕ) (bytes : List ℕ) (es : List Entry) → HasBlock self.now number bytes place size es
-            → SpellsBlock result.now es }
+        ensures { (format number place size : ℕ) (bytes : List ℕ) (es : List Entry) → HasBlock self.now format number bytes place size es
+            → SpellsBlock format result.now es }
     {
         body_of(&self.frame)
     }
 
     // Whether it has this block of the table with this number.
-    fn has(&self, number: u32, block: &BlockPlace) -> bool
+    fn has(&self, format: u32, number: u32, block: &BlockPlace) -> bool
         ensures { IsTrue result → (self.now.number ≢ 0) × (self.now.number ≡ number) × (self.now.place ≡ block.now.place)
-            × (length self.now.frame.items ≡ block.now.length) }
+            × (length self.now.frame.items ≡ block.now.length) × (self.now.format ≡ format) }
     {
         self.number != 0
             && self.number == number
             && self.place == block.place
             && self.frame.len() == block.length as usize
+            && self.format == format
     }
 }

@@ -107,7 +107,14 @@ impl<'a, H: HeldFile, R: Reader<Held = H> + Drop> TableCursor<'a, H, R> {
         let blocks = table.blocks();
         let block = &blocks[place_on(self.way, self.read, blocks.len())];
         let alloc = *self.entries.allocator();
-        let read = read_entries(alloc, reader, table.held(), table.number(), block)?;
+        let read = read_entries(
+            alloc,
+            reader,
+            table.held(),
+            table.format(),
+            table.number(),
+            block,
+        )?;
         self.entries = to_be_given(read, self.way);
         self.read += 1;
         Ok(())

@@ -1,5 +1,5 @@
 // Laws of the definitions: each is the contract of a function that does nothing.
-ghost use Rattle.std.specs.Prelude.{◌≡◌, ◌∷◌, [], List, ℕ, ◌<◌, ◌^◌, ◌++◌, length};
+ghost use Rattle.std.specs.Prelude.{◌≡◌, ◌≤◌, ◌∷◌, [], List, ℕ, ◌<◌, ◌^◌, ◌++◌, length};
 ghost use Rattle.vl_model.specs.declared.entry.Entry.{Entry};
 ghost use Rattle.vl_block.specs.Blocks.{SpellsBlock};
 ghost use Rattle.vl_block.specs.Footer.{Foot, SpellsFooter};
@@ -10,44 +10,47 @@ ghost use Rattle.vl_block.specs.Bytes.{AreTabled, block_places, foot, table_byte
 ghost use Rattle.vl_table.specs.Opened.{IsOf};
 ghost use Rattle.vl_table.specs.Seeks.{IsBadBlock};
 ghost use Rattle.vl_table.specs.declared.table.Table.{Table};
-ghost use Rattle.vl_table.specs.Opening.{IsDamaged, IsRead};
-ghost use Rattle.vl_table.specs.Worked.{two_entries, worked_bytes};
+ghost use Rattle.vl_model.specs.Formats.{table_format};
+ghost use Rattle.vl_table.specs.Opening.{IsDamaged, IsRead, Said};
+ghost use Rattle.vl_table.specs.Opened.{said_of};
+ghost use Rattle.vl_table.specs.Worked.{filtered_bytes, two_entries, worked_bytes};
 
 use vl_disk::HeldFile;
 
 /// A body spells one block, one index and one footer at most.
 pub fn bodies_are_read_in_one_way()
-    ensures block { (body : List ℕ) (es fs : List Entry) → SpellsBlock body es → SpellsBlock body fs → es ≡ fs }
+    ensures block { (format : ℕ) (body : List ℕ) (es fs : List Entry) → SpellsBlock format body es → SpellsBlock format body fs → es ≡ fs }
     ensures index { (body : List ℕ) (ps qs : List BlockPlace) → SpellsIndex body ps → SpellsIndex body qs → ps ≡ qs }
-    ensures footer { (body : List ℕ) (f g : Foot) → SpellsFooter body f → SpellsFooter body g → f ≡ g }
+    ensures footer { (format : ℕ) (body : List ℕ) (f g : Foot) → SpellsFooter format body f → SpellsFooter format body g → f ≡ g }
 {}
 
 /// The whole bytes of a table with a short value and one whose record stands in a log.
 pub fn a_worked_table()
-    ensures { table_bytes 1 two_entries ≡ worked_bytes }
+    ensures first { table_bytes 1 1 (two_entries 105 73) ≡ worked_bytes }
+    ensures last { table_bytes 3 1 (two_entries 106 74) ≡ filtered_bytes }
 {}
 
 /// A table is as long as the layout says.
 pub fn tables_have_their_length()
-    ensures { (number : ℕ) (es : List Entry) → length (table_bytes number es) ≡ table_length es }
+    ensures { (format number : ℕ) (es : List Entry) → length (table_bytes format number es) ≡ table_length format es }
 {}
 
 /// What a table says is read in one way, and then it isn't damaged.
 pub fn tables_are_read_in_one_way()
-    ensures one { (number : ℕ) (bytes : List ℕ) (f g : Foot) (ps qs : List BlockPlace)
-        → IsRead number bytes f ps → IsRead number bytes g qs → (f ≡ g) × (ps ≡ qs) }
-    ensures whole { (number : ℕ) (bytes : List ℕ) (f : Foot) (ps : List BlockPlace) (place : ℕ)
-        → IsRead number bytes f ps → IsDamaged number bytes place → ⊥ }
+    ensures one { (number : ℕ) (bytes : List ℕ) (said other : Said)
+        → IsRead number bytes said → IsRead number bytes other → said ≡ other }
+    ensures whole { (number : ℕ) (bytes : List ℕ) (said : Said) (place : ℕ)
+        → IsRead number bytes said → IsDamaged number bytes place → ⊥ }
 {}
 
 /// The bytes of a table are read as its footer and its blocks.
 pub fn true_tables_are_read()
-    ensures { (number : ℕ) (es : List Entry) → IsTable number es
-        → IsRead number (table_bytes number es) (foot es (blocks es)) (block_places 16 (blocks es)) }
+    ensures { (format number : ℕ) (es : List Entry) → 1 ≤ format → format ≤ table_format → IsTable format number es
+        → IsRead number (table_bytes format number es) (said_of format es) }
 {}
 
 /// In a true table each block stands where the index says.
 pub fn true_tables_have_no_bad_block<H: HeldFile>()
     ensures { (table : Table H) (es : List Entry) (damage : ℕ) → IsOf H.bytes table es
-        → IsBadBlock table (table_bytes table.number es) damage → ⊥ }
+        → IsBadBlock table (table_bytes table.format table.number es) damage → ⊥ }
 {}

@@ -1,6 +1,8 @@
 //! Tables: entries in order, in a file that never changes, opened, searched, and gone through both ways. docs/FORMATS.md has
 //! their bytes.
 //!
+//! A look-up asks the table's range and its filter first, and reads nothing where one of them says no.
+//!
 //! A `TableCursor` lends its table, and takes no memory when it is made. It reads each block once, and again only after a
 //! fault. A block is read into memory of its own and its entries are copied out of it, once for all; then the block is let
 //! go, and the copies are handed on. So a cursor holds one block at a time. Upwards an entry costs one move more.

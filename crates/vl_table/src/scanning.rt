@@ -22,8 +22,14 @@ pub enum Scan {
 }
 
 /// Looks for a key and a version in a block's body, entry by entry. Only the entry that is found is copied.
-pub fn look_in(alloc: Global, body: &[u8], key: &[u8], version: u64) -> Result<Scan, AllocError>
-    ensures { (es : List Entry) → SpellsBlock body.now es
+pub fn look_in(
+    alloc: Global,
+    format: u32,
+    body: &[u8],
+    key: &[u8],
+    version: u64,
+) -> Result<Scan, AllocError>
+    ensures { (es : List Entry) → SpellsBlock format body.now es
         → IfOk result (IsScan key.now (first_failing (is_ahead key.now version) es)) }
 {
     let Some((_, bytes)) = take_u32(body) else {
@@ -31,7 +37,7 @@ pub fn look_in(alloc: Global, body: &[u8], key: &[u8], version: u64) -> Result<S
     };
     let mut rest = bytes;
     'entries: loop {
-        let Some((entry, after)) = take_entry(rest) else {
+        let Some((entry, after)) = take_entry(format, rest) else {
             return Ok(Scan::Behind);
         };
         if !is_before(&entry, key, version) {

@@ -1,7 +1,7 @@
-ghost use Rattle.std.specs.Prelude.{◌≡◌, ◌≤◌, ℕ, List, Option, Some, IfOk, length};
+ghost use Rattle.std.specs.Prelude.{◌≡◌, ◌≤◌, ℕ, true, false, List, Option, Some, None, Ok, IfOk, length};
 ghost use Rattle.std.specs.List.{prefix_len};
+ghost use Rattle.vl_model.specs.Formats.{table_format};
 ghost use Rattle.vl_model.specs.declared.entry.Entry.{Entry};
-ghost use Rattle.vl_block.specs.Footer.{foot_of};
 ghost use Rattle.vl_table.specs.Answers.{Answers};
 ghost use Rattle.vl_model.specs.Winners.{exact, winner};
 ghost use Rattle.vl_block.specs.Cutting.{blocks};
@@ -9,32 +9,38 @@ ghost use Rattle.vl_run.specs.Lookups.{if_exact, if_of_key, is_below, IsParted, 
 ghost use Rattle.vl_block.specs.declared.index.BlockPlace.{BlockPlace};
 ghost use Rattle.vl_table.specs.Buffers.{IsKept};
 ghost use Rattle.vl_block.specs.Bytes.{table_bytes, IsTable};
+ghost use Rattle.vl_table.specs.MayHold.{may_hold};
 ghost use Rattle.vl_table.specs.Meets.{LooksIn};
 ghost use Rattle.vl_table.specs.Seeks.{IsBadBlock};
 ghost use Rattle.vl_table.specs.Opened.{IsOf, OpensAs};
 ghost use Rattle.vl_table.specs.Opening.{IsDamaged, IsRead};
+ghost use Rattle.vl_table.specs.TableSaid.{said_by};
 
 use crate::TableFault;
 use crate::beginning::{read_begin, read_place};
 use crate::block_buffer::BlockBuffer;
-use crate::opening::{read_blocks, read_foot};
+use crate::opening::read_parts;
 use crate::scanning::{Scan, look_in};
 use std::alloc::Global;
 use vl_block::{BlockPlace, Footer};
 use vl_disk::{HeldFile, Reader};
+use vl_filter::passes;
 use vl_model::Entry;
 
 /// A table in a held file: what its footer says, and where its blocks stand.
 #[derive(Drop)]
 pub struct Table<H> {
     number: u32,
+    format: u32,
     held: H,
     blocks: Vec<BlockPlace>,
     footer: Footer,
+    // The bits of its filter; none where its format has no filter.
+    filter: Vec<u8>,
 }
 
 impl<H: HeldFile> Table<H> {
-    /// Opens the table with this number. It reads the header, the footer and the index, and no block.
+    /// Opens the table with this number. It reads the header, the footer, the index and the filter, and no block.
     pub fn open<R: Reader<Held = H>>(
         alloc: Global,
         reader: &mut R,
@@ -42,13 +48,13 @@ impl<H: HeldFile> Table<H> {
         number: u32,
     ) -> Result<Self, TableFault>
         ensures answers { Answers (R.faults reader.old) (R.faults reader.new) number (H.bytes held)
-            (λ bytes table. IsRead number bytes (foot_of table.footer) table.blocks.items)
+            (λ bytes table. IsRead number bytes (said_by table))
             (IsDamaged number) result }
         ensures number { IfOk result (λ table. table.number ≡ number) }
         ensures held { IfOk result (λ table. table.held ≡ held) }
 
         // A true table is opened as what it is, and never damaged.
-        ensures opens { (es : List Entry) → IsTable number es → H.bytes held ≡ Some (table_bytes number es)
+        ensures opens { (format : ℕ) (es : List Entry) → 1 ≤ format → format ≤ table_format → IsTable format number es → H.bytes held ≡ Some (table_bytes format number es)
             → OpensAs H.bytes es result }
     {
         Table::read(alloc, reader, held, number)
@@ -62,27 +68,21 @@ impl<H: HeldFile> Table<H> {
         number: u32,
     ) -> Result<Self, TableFault>
         ensures answers { Answers (R.faults reader.old) (R.faults reader.new) number (H.bytes held)
-            (λ bytes table. IsRead number bytes (foot_of table.footer) table.blocks.items)
+            (λ bytes table. IsRead number bytes (said_by table))
             (IsDamaged number) result }
         ensures number { IfOk result (λ table. table.number ≡ number) }
         ensures held { IfOk result (λ table. table.held ≡ held) }
     {
-        read_begin(reader, &held, number)?;
+        let format = read_begin(reader, &held, number)?;
         let place = read_place(reader, &held, number)?;
-        let footer = read_foot(alloc, reader, &held, number, place)?;
-        let blocks = read_blocks(
-            alloc,
-            reader,
-            &held,
-            number,
-            footer.index_place,
-            footer.index_length,
-        )?;
+        let parts = read_parts(alloc, reader, &held, format, number, place)?;
         Ok(Table {
             number,
+            format,
             held,
-            blocks,
-            footer,
+            blocks: parts.blocks,
+            footer: parts.footer,
+            filter: parts.filter,
         })
     }
 
@@ -93,6 +93,13 @@ impl<H: HeldFile> Table<H> {
         self.number
     }
 
+    /// Its format.
+    pub fn format(&self) -> u32
+        ensures { result ≡ self.now.format }
+    {
+        self.format
+    }
+
     /// What its footer says: its first and last key, the segments that it leads into, and more.
     pub fn footer(&self) -> &Footer
         ensures { result.now ≡ self.now.footer }
@@ -100,9 +107,18 @@ impl<H: HeldFile> Table<H> {
         &self.footer
     }
 
+    /// Whether it may have a key: false where the key is below the first or above the last, or the filter says no.
+    pub fn may_hold(&self, key: &[u8]) -> bool
+        ensures { result ≡ may_hold key.now self.now }
+    {
+        !key.cmp(&self.footer.first.as_slice()).is_lt()
+            && !key.cmp(&self.footer.last.as_slice()).is_gt()
+            && passes(&self.filter, key)
+    }
+
     /// Of the entries of a key with a version of at most a number the one of the greatest version.
     ///
-    /// It reads the first block whose last key isn't below the key, and goes on to the next while all entries of a block come
+    /// Where it may not have the key nothing is read. Else it reads the first block whose last key isn't below the key, and goes on to the next while all entries of a block come
     /// before the place. A block that the buffer has isn't read again.
     pub fn find<R: Reader<Held = H>>(
         &self,
@@ -121,8 +137,15 @@ impl<H: HeldFile> Table<H> {
 
         // No answer hides a block that doesn't stand, also in a table that isn't true.
         ensures looks { (files : ℕ → Option (List ℕ)) → IsKept files buffer.old → files self.now.number ≡ H.bytes self.now.held
-            → LooksIn H.bytes (if_of_key key.now) self.now key.now number result }
+            → may_hold key.now self.now ≡ true → LooksIn H.bytes (if_of_key key.now) self.now key.now number result }
+
+        // Nothing is read of a table that may not have the key.
+        ensures unread { may_hold key.now self.now ≡ false
+            → (result ≡ Ok None) × (reader.new ≡ reader.old) × (buffer.new ≡ buffer.old) }
     {
+        if !self.may_hold(key) {
+            return Ok(None);
+        }
         self.seek(alloc, reader, buffer, key, number)
     }
 
@@ -142,8 +165,13 @@ impl<H: HeldFile> Table<H> {
             (λ bytes found. (es : List Entry) → IsOf H.bytes self.now es → found ≡ exact es key.now version)
             (λ bytes damage. IsBadBlock self.now bytes damage) result }
         ensures looks { (files : ℕ → Option (List ℕ)) → IsKept files buffer.old → files self.now.number ≡ H.bytes self.now.held
-            → LooksIn H.bytes (if_exact key.now version) self.now key.now version result }
+            → may_hold key.now self.now ≡ true → LooksIn H.bytes (if_exact key.now version) self.now key.now version result }
+        ensures unread { may_hold key.now self.now ≡ false
+            → (result ≡ Ok None) × (reader.new ≡ reader.old) × (buffer.new ≡ buffer.old) }
     {
+        if !self.may_hold(key) {
+            return Ok(None);
+        }
         let found = self.seek(alloc, reader, buffer, key, version)?;
         Ok(of_version(found, version))
     }
@@ -162,14 +190,20 @@ impl<H: HeldFile> Table<H> {
         ensures answers { (files : ℕ → Option (List ℕ)) → IsKept files buffer.old → files self.now.number ≡ H.bytes self.now.held
             → Answers (R.faults reader.old) (R.faults reader.new) self.now.number (H.bytes self.now.held)
             (λ bytes found. (es : List Entry) → IsOf H.bytes self.now es
-            → found ≡ if_of_key key.now (first_over key.now version (blocks es)))
+            → found ≡ if_of_key key.now (first_over key.now version (blocks self.now.format es)))
             (λ bytes damage. IsBadBlock self.now bytes damage) result }
         ensures looks { (files : ℕ → Option (List ℕ)) → IsKept files buffer.old → files self.now.number ≡ H.bytes self.now.held
             → LooksIn H.bytes (if_of_key key.now) self.now key.now version result }
     {
         for at in first_block(&self.blocks, key)..self.blocks.len() {
-            buffer.load(reader, &self.held, self.number, &self.blocks[at])?;
-            match look_in(alloc, buffer.body(), key, version)? {
+            buffer.load(
+                reader,
+                &self.held,
+                self.format,
+                self.number,
+                &self.blocks[at],
+            )?;
+            match look_in(alloc, self.format, buffer.body(), key, version)? {
                 Scan::Behind => {}
                 Scan::Found(entry) => return Ok(Some(entry)),
                 Scan::Other => return Ok(None),

@@ -1,3 +1,4 @@
+ghost use Rattle.vl_model.specs.Formats.{table_format};
 ghost use Rattle.std.specs.Prelude.{◌≡◌, ◌≤◌, ◌++◌, ◌∷◌, ◌==◌, [], List, drop, length, take, IfOk, OnOk};
 ghost use Rattle.byteorder.specs.Endian.{big_bytes};
 ghost use Rattle.vl_frame.specs.Frame.{frame_bytes, frame_length};
@@ -40,7 +41,7 @@ impl BlockWriter {
     /// Adds an entry, which has its place behind the others. Want of memory is the answer too where no table may have it.
     pub fn add(&mut self, entry: &Entry) -> Result<(), AllocError>
         ensures added { (es : List Entry) → HasBody self.old es → OnOk result (HasBody self.new (es ++ entry.now ∷ [])) }
-        ensures lawful { OnOk result (IsEntry entry.now) }
+        ensures lawful { OnOk result (IsEntry table_format entry.now) }
     {
         if self.count == u32::MAX || self.frame.len() < FRONT_BYTES {
             return Err(AllocError);
@@ -53,7 +54,7 @@ impl BlockWriter {
 
     /// The body.
     pub fn as_slice(&self) -> &[u8]
-        ensures { (es : List Entry) → HasBody self.now es → result.now ≡ block_body es }
+        ensures { (es : List Entry) → HasBody self.now es → result.now ≡ block_body table_format es }
     {
         if self.frame.len() < HEAD_BYTES {
             return &[];
@@ -63,7 +64,7 @@ impl BlockWriter {
 
     /// The body's length, in bytes.
     pub fn len(&self) -> usize
-        ensures { (es : List Entry) → HasBody self.now es → result ≡ length (block_body es) }
+        ensures { (es : List Entry) → HasBody self.now es → result ≡ length (block_body table_format es) }
     {
         self.as_slice().len()
     }
@@ -93,9 +94,9 @@ impl BlockWriter {
         place: u64,
     ) -> Result<u32, AllocError>
         ensures written { (es : List Entry) → HasBody self.old es
-            → OnOk result (out.new.items ≡ out.old.items ++ frame_bytes number place kinds.Block (block_body es)) }
+            → OnOk result (out.new.items ≡ out.old.items ++ frame_bytes number place kinds.Block (block_body table_format es)) }
         ensures length { (es : List Entry) → HasBody self.old es
-            → IfOk result (λ n. n ≡ frame_length (length (block_body es))) }
+            → IfOk result (λ n. n ≡ frame_length (length (block_body table_format es))) }
         ensures begun { OnOk result (HasBody self.new []) }
     {
         finish_frame(&mut self.frame, number, place, FrameKind::Block)?;

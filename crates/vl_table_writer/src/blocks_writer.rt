@@ -1,3 +1,4 @@
+ghost use Rattle.vl_model.specs.Formats.{table_format};
 ghost use Rattle.std.specs.Prelude.{◌≡◌, ◌+◌, ◌++◌, ◌∷◌, [], nat_le, List, length, IfOk, OnOk};
 ghost use Rattle.vl_frame.specs.Frame.{frame_bytes};
 ghost use Rattle.vl_frame.specs.declared.kinds.FrameKind.TheVariants as kinds;
@@ -41,7 +42,7 @@ impl BlocksWriter {
     /// Whether the open block has room for an entry.
     pub fn has_room(&self, entry: &Entry) -> bool
         ensures { (closed : List (List Entry)) (open_block : List Entry) → HasBlocks self.now closed open_block
-            → result ≡ nat_le (length (block_body open_block) + entry_length entry.now) max_block_bytes }
+            → result ≡ nat_le (length (block_body table_format open_block) + entry_length table_format entry.now) max_block_bytes }
     {
         let used = self.written.len();
         used <= MAX_BLOCK_BYTES && fits(entry, MAX_BLOCK_BYTES - used)
@@ -52,7 +53,7 @@ impl BlocksWriter {
         ensures blocks { (closed : List (List Entry)) (open_block : List Entry) → HasBlocks self.old closed open_block
             → OnOk result (HasBlocks self.new closed (open_block ++ entry.now ∷ [])) }
         ensures number { self.new.number ≡ self.old.number }
-        ensures lawful { OnOk result (IsEntry entry.now) }
+        ensures lawful { OnOk result (IsEntry table_format entry.now) }
     {
         self.written.add(entry)
     }
@@ -64,7 +65,7 @@ impl BlocksWriter {
         ensures number { self.new.number ≡ self.old.number }
         ensures written { (closed : List (List Entry)) (open_block : List Entry) → HasBlocks self.old closed open_block
             → OnOk result (out.new.items ≡ out.old.items
-            ++ frame_bytes self.old.number self.old.place kinds.Block (block_body open_block)) }
+            ++ frame_bytes self.old.number self.old.place kinds.Block (block_body table_format open_block)) }
     {
         let length = self.written.append_frame(out, self.number, self.place)?;
         if self.place > u64::MAX - length as u64 {
@@ -82,17 +83,17 @@ impl BlocksWriter {
 
 // Whether an entry takes at most so many bytes.
 fn fits(entry: &Entry, room: usize) -> bool
-    ensures { result ≡ nat_le (entry_length entry.now) room }
+    ensures { result ≡ nat_le (entry_length table_format entry.now) room }
 {
     let key = entry.key.len();
     key <= room && 11 <= room - key && body_fits(&entry.body, room - key - 11)
 }
 
 fn body_fits(body: &Body, room: usize) -> bool
-    ensures { result ≡ nat_le (body_length body.now) room }
+    ensures { result ≡ nat_le (body_length table_format body.now) room }
 {
     match body {
-        Body::Inline(value) => value.len() < room,
+        Body::Inline(value) => 2 <= room && value.len() <= room - 2,
         Body::Far(_) => 16 <= room,
         Body::Gone | Body::Logged(_, _) => true,
     }

@@ -2,19 +2,21 @@
 
 ghost use Rattle.std.specs.Prelude.{◌≡◌, ◌++◌, OnOk};
 ghost use Rattle.byteorder.specs.Endian.{big_bytes};
-ghost use Rattle.vl_block.specs.Footer.{foot_of, footer_body, head_bytes, head_of};
+ghost use Rattle.vl_block.specs.Footer.{foot_of, footer_body, frame_place_bytes, head_bytes, head_of};
 
 use crate::keys::write_key;
+use crate::numbers::{u32_bytes, u64_bytes};
 use crate::points::write_points;
 use byteorder::{BigEndian, ByteOrder};
 use std::alloc::AllocError;
-use vl_block::{Footer, FooterHead};
+use vl_block::{Footer, FooterHead, FramePlace};
 
 /// Appends the body of a footer's frame. Want of memory is the answer too where a key has no lawful length.
 pub fn write_footer(out: &mut Vec<u8>, footer: &Footer) -> Result<(), AllocError>
     ensures written { OnOk result (out.new.items ≡ out.old.items ++ footer_body (foot_of footer.now)) }
 {
     let head = FooterHead {
+        filter: footer.filter,
         index_place: footer.index_place,
         index_length: footer.index_length,
         count: footer.count,
@@ -29,9 +31,23 @@ pub fn write_footer(out: &mut Vec<u8>, footer: &Footer) -> Result<(), AllocError
 fn write_head(out: &mut Vec<u8>, head: &FooterHead) -> Result<(), AllocError>
     ensures written { OnOk result (out.new.items ≡ out.old.items ++ head_bytes (head_of head.now)) }
 {
+    write_frame_place(out, &head.filter)?;
     out.extend_from_slice(&number_bytes(head))?;
     write_key(out, head.first)?;
     write_key(out, head.last)
+}
+
+// Appends where a frame stands, where there is one.
+fn write_frame_place(out: &mut Vec<u8>, place: &Option<FramePlace>) -> Result<(), AllocError>
+    ensures { OnOk result (out.new.items ≡ out.old.items ++ frame_place_bytes place.now) }
+{
+    match place {
+        None => Ok(()),
+        Some(place) => {
+            out.extend_from_slice(&u64_bytes(place.place))?;
+            out.extend_from_slice(&u32_bytes(place.length))
+        }
+    }
 }
 
 fn number_bytes(head: &FooterHead) -> [u8; 28]

@@ -11,6 +11,6 @@ pub fn points_grow_behind()
 
 /// Of lawful entries in order there is a table, where it isn't longer than four bytes can say.
 pub fn tables_have_room()
-    ensures { (number : ℕ) (es : List Entry) → number < 2 ^ 32 → AreTabled es → table_length es < 2 ^ 32
-        → IsTable number es }
+    ensures { (format number : ℕ) (es : List Entry) → number < 2 ^ 32 → AreTabled format es
+        → table_length format es < 2 ^ 32 → IsTable format number es }
 {}

@@ -1,4 +1,7 @@
-ghost use Rattle.std.specs.Prelude.{◌≡◌, ◌≤◌, length, ◌++◌, ◌∷◌, [], List, IfOk, OnOk};
+ghost use Rattle.std.specs.Prelude.{◌≡◌, ◌≤◌, length, ◌++◌, ◌∷◌, [], Some, if◌then◌else◌, List, IfOk, OnOk};
+ghost use Rattle.std.specs.Ordering.{eq_by_cmp};
+ghost use Rattle.vl_filter.specs.Places.{hashes_of};
+ghost use Rattle.vl_model.specs.Keys.{key_cmp};
 ghost use Rattle.vl_model.specs.declared.entry.Entry.{Entry};
 ghost use Rattle.vl_block.specs.Cutting.{with_point};
 ghost use Rattle.vl_block.specs.Footer.{foot_of};
@@ -6,7 +9,8 @@ ghost use Rattle.vl_table_writer.specs.Writing.{Sums};
 
 use crate::point_sums::add_point;
 use std::alloc::{AllocError, Global};
-use vl_block::{Footer, Point};
+use vl_block::{Footer, FramePlace, Point};
+use vl_filter::Hashes;
 use vl_model::{Body, Entry, Key};
 
 /// What a table's footer will say of the entries so far.
@@ -17,6 +21,8 @@ pub struct Summary {
     pub count: u64,
     pub greatest: u64,
     pub points: Vec<Point>,
+    // The hashes of the keys, each once.
+    pub keys: Vec<Hashes>,
 }
 
 impl Summary {
@@ -26,12 +32,15 @@ impl Summary {
     {
         let mut points = Vec::new(alloc);
         note(&mut points, &entry.body)?;
+        let mut keys = Vec::new(alloc);
+        keys.push(Hashes::of(entry.key.as_slice()))?;
         Ok(Summary {
             first: entry.key.share()?,
             last: entry.key.share()?,
             count: 1,
             greatest: entry.version,
             points,
+            keys,
         })
     }
 
@@ -44,20 +53,22 @@ impl Summary {
             return Err(AllocError);
         }
         note(&mut self.points, &entry.body)?;
+        note_key(&mut self.keys, self.last.as_slice(), entry.key.as_slice())?;
         self.last = entry.key.share()?;
         self.count += 1;
         self.greatest = self.greatest.max(entry.version);
         Ok(())
     }
 
-    /// The footer, once the index has its place and length.
-    pub fn footer(self, index_place: u64, index_length: u32) -> Footer
+    /// The footer, once filter and index have their places and lengths.
+    pub fn footer(self, filter: FramePlace, index_place: u64, index_length: u32) -> Footer
         ensures { foot_of result ≡ record {
-          head = record { index_place = index_place; index_length = index_length; count = self.count; greatest = self.greatest; first = self.first; last = self.last };
+          head = record { filter = Some filter; index_place = index_place; index_length = index_length; count = self.count; greatest = self.greatest; first = self.first; last = self.last };
           points = self.points.items;
         } }
     {
         Footer {
+            filter: Some(filter),
             index_place,
             index_length,
             count: self.count,
@@ -77,4 +88,16 @@ fn note(points: &mut Vec<Point>, body: &Body) -> Result<(), AllocError>
         Body::Far(pointer) => add_point(points, pointer.segment, pointer.length),
         _ => Ok(()),
     }
+}
+
+// Notes a key behind the last one, where it is another.
+fn note_key(keys: &mut Vec<Hashes>, last: &[u8], key: &[u8]) -> Result<(), AllocError>
+    ensures { OnOk result (keys.new.items
+        ≡ (if eq_by_cmp key_cmp last.now key.now then keys.old.items else keys.old.items ++ hashes_of key.now ∷ [])) }
+{
+    if last.cmp(&key).is_eq() {
+        return Ok(());
+    }
+    keys.push(Hashes::of(key))?;
+    Ok(())
 }

@@ -26,39 +26,39 @@ all_at P [] x back all = all.0
 all_at P (y ∷ front) x back all = all_at P front x back all.1
 
 -- a block of a true table stands where the index says
-pub block_stands : (number : ℕ) (es : List Entry) (i : ℕ) (p : BlockPlace) → IsTable number es → (b : BlockAt 16 (blocks es) i p)
-    → StandsBlock number (table_bytes number es) p.place p.length b.block
-block_stands number es i p is b =
-    let bytes = table_bytes number es in
-    let body = block_body b.block in
+pub block_stands : (format number : ℕ) (es : List Entry) (i : ℕ) (p : BlockPlace) → IsTable format number es → (b : BlockAt format 16 (blocks format es) i p)
+    → StandsBlock format number (table_bytes format number es) p.place p.length b.block
+block_stands format number es i p is b =
+    let bytes = table_bytes format number es in
+    let body = block_body format b.block in
     record {
       body = body;
       frame = record {
         frame = record {
           in_file = refl;
-          short = all_at (λ c. length (block_body c) < 2 ^ 32) b.front b.block b.back (subst (AllByRecursion (λ c. length (block_body c) < 2 ^ 32)) b.split is.short);
+          short = all_at (λ c. length (block_body format c) < 2 ^ 32) b.front b.block b.back (subst (AllByRecursion (λ c. length (block_body format c) < 2 ^ 32)) b.split is.short);
           rest = drop p.length (drop p.place bytes);
-          spelled = sym (take-append-drop p.length (drop p.place bytes)) ∙ ap (λ (l : List ℕ). l ++ drop p.length (drop p.place bytes)) (block_bytes number es (blocks es) i p b);
+          spelled = sym (take-append-drop p.length (drop p.place bytes)) ∙ ap (λ (l : List ℕ). l ++ drop p.length (drop p.place bytes)) (block_bytes format number es (blocks format es) i p b);
         };
-        sized = b.length ∙ sym (length-block number p.place b.block) ∙ length-frame_bytes number p.place kinds.Block body;
+        sized = b.length ∙ sym (length-block format number p.place b.block) ∙ length-frame_bytes number p.place kinds.Block body;
       };
-      says = record { lawful = all_at IsBlock b.front b.block b.back (subst (AllByRecursion IsBlock) b.split is.each); spelled = refl };
+      says = record { lawful = all_at (IsBlock format) b.front b.block b.back (subst (AllByRecursion (IsBlock format)) b.split is.each); spelled = refl };
     }
 
 -- so it is what the buffer has
-pub block_is : (buffer : BlockBuffer) (number : ℕ) (bytes : List ℕ) (place size : ℕ) (es others : List Entry) → HasBlock buffer number bytes place size es
-    → StandsBlock number bytes place size others → es ≡ others
-block_is buffer number bytes place size es others has stands =
+pub block_is : (buffer : BlockBuffer) (format number : ℕ) (bytes : List ℕ) (place size : ℕ) (es others : List Entry) → HasBlock buffer format number bytes place size es
+    → StandsBlock format number bytes place size others → es ≡ others
+block_is buffer format number bytes place size es others has stands =
     let one = one_frame files.Table number place (drop place bytes) kinds.Block kinds.Block has.stands.body stands.body has.stands.frame.frame stands.frame.frame in
-    one_block stands.body es others (subst (λ (l : List ℕ). SpellsBlock l es) one.1 has.stands.says) stands.says
+    one_block format stands.body es others (subst (λ (l : List ℕ). SpellsBlock format l es) one.1 has.stands.says) stands.says
 
 pub named_block : {H : Type 0} (bytes_of : H → Option (List ℕ)) (t : Table H) (es : List Entry) (i : ℕ) (p : BlockPlace) → IsOf bytes_of t es → i < length t.blocks.items
-    → p ≡ get_or t.blocks.items i p → BlockAt 16 (blocks es) i p
+    → p ≡ get_or t.blocks.items i p → BlockAt t.format 16 (blocks t.format es) i p
 named_block bytes_of t es i p is within found =
-    block_at 16 (blocks es) i p (omega (arith, within, ap length is.blocks, length-block_places 16 (blocks es))) (found ∙ ap (λ l. get_or l i p) is.blocks)
+    block_at t.format 16 (blocks t.format es) i p (omega (arith, within, ap length is.blocks, length-block_places t.format 16 (blocks t.format es))) (found ∙ ap (λ l. get_or l i p) is.blocks)
 
 -- a true table has no bad block
-pub no_bad_block : {H : Type 0} (bytes_of : H → Option (List ℕ)) (t : Table H) (es : List Entry) (damage : ℕ) → IsOf bytes_of t es → IsBadBlock t (table_bytes t.number es) damage → ⊥
+pub no_bad_block : {H : Type 0} (bytes_of : H → Option (List ℕ)) (t : Table H) (es : List Entry) (damage : ℕ) → IsOf bytes_of t es → IsBadBlock t (table_bytes t.format t.number es) damage → ⊥
 no_bad_block bytes_of t es damage is bad =
     let b = named_block bytes_of t es bad.at bad.place is bad.named bad.place_is in
-    bad.none.0 b.block (block_stands t.number es bad.at bad.place is.table b)
+    bad.none.0 b.block (block_stands t.format t.number es bad.at bad.place is.table b)

@@ -1,4 +1,5 @@
-use Rattle.vl_filter.proofs.HeldLaws.{bits_of, spells}
+use Rattle.vl_filter.specs.laws.HeldLaws.{bits_of}
+use Rattle.vl_filter.specs.laws.Spelling.{spells}
 use Rattle.vl_filter.proofs.laws.filters_have_the_bits_of_their_keys.Goals as goal
 
 pub returns-clause-bits : goal.returns-clause-bits

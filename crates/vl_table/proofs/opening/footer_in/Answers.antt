@@ -13,7 +13,7 @@ returns-in-Some-clause-none c =
     none_weaker c.read_footer.result _ _
     (λ none f s.
     let same = one_frame files.Table c.args.number c.args.place c.args.bytes.now frame.kind kinds.Footer frame.body.now s.body c.in-Some.ensures.found.0 s.frame in
-    none f (subst (λ (b : List ℕ). SpellsFooter b f) (sym same.1) s.says))
+    none f (subst (λ (b : List ℕ). SpellsFooter c.args.format b f) (sym same.1) s.says))
     c.read_footer.ensures.none
 
 pub returns-in_default-clause-none : goal.returns-in_default-clause-none

@@ -11,7 +11,7 @@ returns g c =
       λ f stands.
           let rest = c.deref.ensures.value ∙ read ∙ whole_rest c.args.place _ bytes (omega (arith, c.len.ensures, g.met.H.HeldFile.sized c.args.held.now bytes told)) in
           let none = rw c.in-None.is at c.in_ok-footer.ensures.none in
-          none f (subst (λ (l : List ℕ). FooterIn c.args.number c.args.place l f) (sym rest) stands),
+          none f (subst (λ (l : List ℕ). FooterIn c.args.format c.args.number c.args.place l f) (sym rest) stands),
       bad,
     ))
     c.in_ok-bytes.ensures

@@ -14,13 +14,13 @@ use Rattle.vl_table.proofs.scanning.look_in.Goals as goal
 pub returns-in_default-take_entry : goal.returns-in_default-take_entry
 returns-in_default-take_entry c = λ es block.
     let p = c.entries.invariant es block in
-    all_passed c.args.key.now c.args.version es p.taken (all_taken entries es p.taken c.entries.rest.now p.behind c.in_default-take_entry.ensures.none) p.ahead
+    all_passed c.args.key.now c.args.version es p.taken (all_taken (entries c.args.format) es p.taken c.entries.rest.now p.behind c.in_default-take_entry.ensures.none) p.ahead
 
 pub returns-then-not-is_before : goal.returns-then-not-is_before
 returns-then-not-is_before c = λ es block.
     let p = c.entries.invariant es block in
     let e = entry_of c.in-Some-take_entry.entry in
-    let n = next entries es p.taken c.entries.rest.now e c.in-Some-take_entry.after.now p.behind (entry_is_some e) c.in-Some-take_entry.ensures.lawful c.in-Some-take_entry.ensures.found in
+    let n = next (entries c.args.format) es p.taken c.entries.rest.now e c.in-Some-take_entry.after.now p.behind (entry_is_some c.args.format e) c.in-Some-take_entry.ensures.lawful c.in-Some-take_entry.ensures.found in
     subst (λ (o : Option Entry). IfOk c.found.result (IsScan c.args.key.now o))
     (sym (stops_at c.args.key.now c.args.version es p.taken e n.later n.split p.ahead (sym c.is_before.ensures ∙ c.if-not-is_before.true))) c.found.ensures
 
@@ -28,9 +28,9 @@ pub entries-preserved : goal.entries-preserved
 entries-preserved c = λ es block.
     let p = c.entries.invariant es block in
     let e = entry_of c.in-Some-take_entry.entry in
-    let n = next entries es p.taken c.entries.rest.now e c.in-Some-take_entry.after.now p.behind (entry_is_some e) c.in-Some-take_entry.ensures.lawful c.in-Some-take_entry.ensures.found in
+    let n = next (entries c.args.format) es p.taken c.entries.rest.now e c.in-Some-take_entry.after.now p.behind (entry_is_some c.args.format e) c.in-Some-take_entry.ensures.lawful c.in-Some-take_entry.ensures.found in
     record {
       taken = p.taken ++ e ∷ [];
-      behind = one_more entries es p.taken e c.in-Some-take_entry.after.now n;
+      behind = one_more (entries c.args.format) es p.taken e c.in-Some-take_entry.after.now n;
       ahead = all-append (λ f. is_ahead c.args.key.now c.args.version f ≡ true) p.taken (e ∷ []) p.ahead ((sym c.is_before.ensures ∙ c.if-not-is_before.false), tt);
     }

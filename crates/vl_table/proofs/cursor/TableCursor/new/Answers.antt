@@ -11,12 +11,13 @@ pub returns-clause-left : goal.returns-clause-left
 returns-clause-left g c = λ es is.
     let way = c.args.way in
     let number = c.args.table.now.number in
+    let format = c.args.table.now.format in
     let ps = c.args.table.now.blocks.items in
-    let bytes = table_bytes number es in
-    ap (λ (l : List Entry). left_from (g.H.HeldFile.bytes c.args.table.now.held) way l (on_way way ps)) c.new.ensures.items
-    ∙ ap (λ told. left_from told way [] (on_way way ps)) is.told
-    ∙ ap (λ (qs : List BlockPlace). Some (blocks_entries way bytes (on_way way qs))) is.blocks
-    ∙ ap Some (table_entries way number es is.table)
+    let bytes = table_bytes format number es in
+    ap (λ (l : List Entry). left_from format (g.H.HeldFile.bytes c.args.table.now.held) way l (on_way way ps)) c.new.ensures.items
+    ∙ ap (λ told. left_from format told way [] (on_way way ps)) is.told
+    ∙ ap (λ (qs : List BlockPlace). Some (blocks_entries format way bytes (on_way way qs))) is.blocks
+    ∙ ap Some (table_entries way format number es is.table)
 
 pub returns-clause-budget : goal.returns-clause-budget
 returns-clause-budget g c =

@@ -49,7 +49,7 @@ returns-in-Found-clause-answers g c = λ files kept file.
     let so = c.loop-at.invariant files kept file in
     found_here g.H.HeldFile.bytes c.args.self.now c.args.key.now c.args.version c.loop-at.at c.index.result.now (let less = c.loop-at-test.true in omega arith) c.index.ensures _ _ _ c.load.new.self c.body.result.now (Some c.in-Found.entry) so.steady
     (c.in_ok-load.ensures.answers files so.kept file)
-    (λ bytes es has. c.body.ensures c.args.self.now.number c.index.result.now.place c.index.result.now.length bytes es has)
+    (λ bytes es has. c.body.ensures c.args.self.now.format c.args.self.now.number c.index.result.now.place c.index.result.now.length bytes es has)
     (λ es spells. let said = rw c.in-Found.is at c.in_ok-look_in.ensures es spells in (c.in-Found.entry, said.0, said.1))
     so.so_far
 
@@ -61,7 +61,7 @@ returns-in-Other-clause-answers g c = λ files kept file.
     let so = c.loop-at.invariant files kept file in
     found_here g.H.HeldFile.bytes c.args.self.now c.args.key.now c.args.version c.loop-at.at c.index.result.now (let less = c.loop-at-test.true in omega arith) c.index.ensures _ _ _ c.load.new.self c.body.result.now None so.steady
     (c.in_ok-load.ensures.answers files so.kept file)
-    (λ bytes es has. c.body.ensures c.args.self.now.number c.index.result.now.place c.index.result.now.length bytes es has)
+    (λ bytes es has. c.body.ensures c.args.self.now.format c.args.self.now.number c.index.result.now.place c.index.result.now.length bytes es has)
     (λ es spells. let said = rw c.in-Other.is at c.in_ok-look_in.ensures es spells in said)
     so.so_far
 
@@ -70,7 +70,7 @@ loop-at-preserved g c = λ files kept file.
     let so = c.loop-at.invariant files kept file in
     moves_on g.H.HeldFile.bytes c.args.self.now c.args.key.now c.args.version c.loop-at.at c.index.result.now (let less = c.loop-at-test.true in omega arith) c.index.ensures _ _ _ files c.loop-at.buffer c.load.new.self c.body.result.now so
     (c.load.ensures.kept files so.kept file) (c.in_ok-load.ensures.answers files so.kept file)
-    (λ bytes es has. c.body.ensures c.args.self.now.number c.index.result.now.place c.index.result.now.length bytes es has)
+    (λ bytes es has. c.body.ensures c.args.self.now.format c.args.self.now.number c.index.result.now.place c.index.result.now.length bytes es has)
     (λ es spells. let said = rw c.in-Behind.is at c.in_ok-look_in.ensures es spells in said)
 
 pub returns-clause-answers : goal.returns-clause-answers
@@ -96,7 +96,7 @@ returns-in-Found-clause-looks g c = λ files kept file.
     let so = c.loop-at.invariant files kept file in
     looks_here g.H.HeldFile.bytes c.args.self.now c.args.key.now c.args.version c.loop-at.at c.index.result.now (let less = c.loop-at-test.true in omega arith) c.index.ensures _ _ c.load.new.self c.body.result.now (Some c.in-Found.entry)
     (c.in_ok-load.ensures.answers files so.kept file)
-    (λ bytes es has. c.body.ensures c.args.self.now.number c.index.result.now.place c.index.result.now.length bytes es has)
+    (λ bytes es has. c.body.ensures c.args.self.now.format c.args.self.now.number c.index.result.now.place c.index.result.now.length bytes es has)
     (λ es spells. let said = rw c.in-Found.is at c.in_ok-look_in.ensures es spells in (c.in-Found.entry, said.0, said.1))
     so.met
 
@@ -105,7 +105,7 @@ returns-in-Other-clause-looks g c = λ files kept file.
     let so = c.loop-at.invariant files kept file in
     looks_here g.H.HeldFile.bytes c.args.self.now c.args.key.now c.args.version c.loop-at.at c.index.result.now (let less = c.loop-at-test.true in omega arith) c.index.ensures _ _ c.load.new.self c.body.result.now None
     (c.in_ok-load.ensures.answers files so.kept file)
-    (λ bytes es has. c.body.ensures c.args.self.now.number c.index.result.now.place c.index.result.now.length bytes es has)
+    (λ bytes es has. c.body.ensures c.args.self.now.format c.args.self.now.number c.index.result.now.place c.index.result.now.length bytes es has)
     (λ es spells. let said = rw c.in-Other.is at c.in_ok-look_in.ensures es spells in said)
     so.met
 

@@ -1,3 +1,4 @@
+use Rattle.vl_model.specs.Formats.{table_format}
 use Rattle.std.proofs.Common.{◌≡◌, ◌∙◌, ◌++◌, [], ◌∷◌, sym, refl, subst, append-nil, List, ℕ}
 use Rattle.std.proofs.lemmas.Result.{on_ok_weaker}
 use Rattle.vl_frame.specs.Frame.{frame_bytes}
@@ -20,7 +21,7 @@ returns-then-has_room c = λ number es given is.
 pub returns : goal.returns
 returns c = λ number es given is.
     let w = c.args.self.now in
-    let frame = frame_bytes w.blocks.number w.blocks.place kinds.Block (block_body is.open_block) in
+    let frame = frame_bytes w.blocks.number w.blocks.place kinds.Block (block_body table_format is.open_block) in
     on_ok_weaker c.close.result
     (λ (both : HasBlocks c.close.new.self (is.closed ++ is.open_block ∷ []) [] × (c.close.new.out.items ≡ c.args.out.now.items ++ frame)). (
       frame,

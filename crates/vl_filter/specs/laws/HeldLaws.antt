@@ -10,7 +10,7 @@ use Rattle.std.proofs.lemmas.List.{length-map}
 use Rattle.vl_filter.specs.Filters.{are_set, byte_count, filter_body, filter_bytes, is_marked, marked_bytes, may_hold, SpellsFilter}
 use Rattle.vl_filter.specs.Places.{has_place, has_place_below, hashes_of, place}
 use Rattle.vl_filter.specs.declared.hashes.Hashes.{Hashes}
-use Rattle.vl_filter.proofs.MarkedLaws.{marked-bits, marked-length}
+use Rattle.vl_filter.specs.laws.MarkedLaws.{marked-bits, marked-length}
 
 same_test : (m : ℕ) → (m == m) ≡ true
 same_test m = grind (arith, nat_tests)
@@ -50,27 +50,6 @@ pub holds_all : (keys : List (List ℕ)) → AllByRecursion (λ key. may_hold (f
 holds_all keys = each (filter_bytes keys) keys (λ p has.
     marked-bits (map hashes_of keys) p
     ∙ ap (λ (n : ℕ). is_marked (8 * n) (map hashes_of keys) p) (sym (marked-length (map hashes_of keys))) ∙ has)
-
--- ---- a body and its filter
-
-one_front : (a b : ℕ) (x y : List ℕ) → a < 2 ^ 32 → b < 2 ^ 32 → big_bytes 4 a ++ x ≡ big_bytes 4 b ++ y → x ≡ y
-one_front a b x y a-fits b-fits e =
-    sym (drop_at (big_bytes 4 a) x 4 (length-bytes_high_first 4 a)) ∙ ap (drop 4) e ∙ drop_at (big_bytes 4 b) y 4 (length-bytes_high_first 4 b)
-
-pub one_filter : (body bytes others : List ℕ) → SpellsFilter body bytes → SpellsFilter body others → bytes ≡ others
-one_filter body bytes others a b =
-    one_front (8 * length bytes) (8 * length others) bytes others a.fits b.fits (sym a.spelled ∙ b.spelled)
-
-pub spells : (keys : List (List ℕ)) → 8 * byte_count (length keys) < 2 ^ 32 → SpellsFilter (filter_body keys) (filter_bytes keys)
-spells keys fits =
-    let list = map hashes_of keys in
-    let long : length (marked_bytes list) ≡ byte_count (length list) = marked-length list in
-    let same : length list ≡ length keys = length-map keys hashes_of in
-    record {
-      some = omega (arith, long);
-      fits = omega (arith, long, fits, ap byte_count same);
-      spelled = ap (λ (n : ℕ). big_bytes 4 (8 * n) ++ marked_bytes list) (sym long);
-    }
 
 pub bits_of : (keys : List (List ℕ)) (p : ℕ) → is_set (filter_bytes keys) p ≡ is_marked (8 * byte_count (length keys)) (map hashes_of keys) p
 bits_of keys p =
