@@ -2,6 +2,7 @@
 pub mod Composing
 pub mod Contents
 pub mod Decided
+pub mod FaultNames
 pub mod Filling
 pub mod Looking
 pub mod Naming

@@ -7,7 +7,7 @@ ghost use Rattle.vl_disk.specs.Disk.{Lists};
 ghost use Rattle.vl_disk.specs.DiskState.{DiskState};
 ghost use Rattle.vl_disk.specs.Name.{IsNumbered};
 ghost use Rattle.vl_disk.specs.Started.{IsRead};
-ghost use Rattle.vl_recover.specs.opening.Finding.{IsFault, IsFaultAt, greatest_of};
+ghost use Rattle.vl_recover.specs.opening.Finding.{IsFault, IsFaultOf, IsReadManifest, greatest_of};
 ghost use Rattle.vl_recover.specs.opening.Leading.{AnswersStage, IsNewestWith, heading_without};
 ghost use Rattle.vl_recover.specs.opening.Named.{AreGreatestIn, AreRising};
 ghost use Rattle.vl_recover.specs.opening.Opening.{Current, Led, Says};
@@ -34,7 +34,7 @@ pub fn current_state<D: Disk>(
     requires greatest { AreGreatestIn names.now (greatest_of greatest) }
     ensures says { (state : DiskState) (read : Image) → D.told disk.old ≡ Some state → IsRead read state
         → AnswersStage (Current read) result }
-    ensures at { IfErr result (IsFaultAt (D.told disk.old)) }
+    ensures at { IfErr result (IsFaultOf (IsReadManifest (D.told disk.old))) }
     ensures no_change { ChangesNothing D.Watched disk.old disk.new (IsFault result) }
 {
     let mut above = u32::MAX;

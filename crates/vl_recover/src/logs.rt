@@ -10,7 +10,7 @@ ghost use Rattle.vl_disk.specs.Started.{IsRead};
 ghost use Rattle.vl_disk.specs.declared.name.Name.TheVariants as kinds;
 ghost use Rattle.vl_model.specs.declared.log_frame.LogFrame.{LogFrame};
 ghost use Rattle.vl_recover.specs.opening.Counting.{walked_log};
-ghost use Rattle.vl_recover.specs.opening.Finding.{IsExcused, IsFault, IsFaultAt};
+ghost use Rattle.vl_recover.specs.opening.Finding.{IsExcused, IsFault, IsFaultOf, IsReadLog};
 ghost use Rattle.vl_recover.specs.opening.LogsSoFar.{AreLogsFound, FindsOneMore, HasOneMore, number_before, walk_of};
 ghost use Rattle.vl_recover.specs.opening.Named.{AreRising, IsGreatestIn};
 ghost use Rattle.vl_recover.specs.opening.ReadLogs.{IsReadAs, held_content, standing_log};
@@ -46,7 +46,7 @@ pub fn read_logs<D: Disk>(
         → IfOk result (AreLogsFound read head covered) }
     ensures last { IfOk result (λ logs. IfSome logs.last (λ q. Contains names.now (kinds.Log q.number))) }
     ensures excused { IfErr result IsExcused }
-    ensures at { IfErr result (IsFaultAt (D.told disk.old)) }
+    ensures at { IfErr result (IsFaultOf (IsReadLog (D.told disk.old))) }
     ensures no_change { ChangesNothing D.Watched disk.old disk.new (IsFault result) }
 {
     let mut so_far = LogsFound {
@@ -78,7 +78,7 @@ fn with_next<D: Disk>(
         → IfOk result (FindsOneMore read number followed so_far) }
     ensures last { IfOk result (λ logs. IfSome logs.last (λ q. q.number ≡ number)) }
     ensures excused { IfErr result IsExcused }
-    ensures at { IfErr result (IsFaultAt (D.told disk.old)) }
+    ensures at { IfErr result (IsFaultOf (λ at. at ≡ kinds.Log number)) }
     ensures no_change { ChangesNothing D.Watched disk.old disk.new (IsFault result) }
 {
     let log = read_log(alloc, disk, number, last_before(so_far.number))?;

@@ -7,7 +7,7 @@ ghost use Rattle.vl_disk.specs.Disk.{Stands};
 ghost use Rattle.vl_disk.specs.DiskState.{DiskState};
 ghost use Rattle.vl_disk.specs.Started.{IsRead};
 ghost use Rattle.vl_disk.specs.declared.name.Name.TheVariants as kinds;
-ghost use Rattle.vl_recover.specs.opening.Finding.{IsExcused, IsFault, IsFaultAt};
+ghost use Rattle.vl_recover.specs.opening.Finding.{IsExcused, IsFault, IsFaultOf};
 ghost use Rattle.vl_recover.specs.opening.LogsSoFar.{FindsLog};
 
 use crate::OpenError;
@@ -30,7 +30,7 @@ pub fn read_log<D: Disk>(
         → IfOk result (FindsLog read number before) }
     ensures number { IfOk result (λ log. log.number ≡ number) }
     ensures excused { IfErr result IsExcused }
-    ensures at { IfErr result (IsFaultAt (D.told disk.old)) }
+    ensures at { IfErr result (IsFaultOf (λ at. at ≡ kinds.Log number)) }
     ensures no_change { ChangesNothing D.Watched disk.old disk.new (IsFault result) }
 {
     let name = Name::Log(number);

@@ -5,7 +5,8 @@ ghost use Rattle.vl_disk.specs.Calls.{ChangesNothing};
 ghost use Rattle.vl_disk.specs.Disk.{IsInside, Lists, Stands};
 ghost use Rattle.vl_disk.specs.DiskState.{bytes_at, file_at};
 ghost use Rattle.vl_disk.specs.Name.{IsNumbered};
-ghost use Rattle.vl_recover.specs.opening.Finding.{IsExcused, IsFault, IsFaultAt};
+ghost use Rattle.vl_recover.specs.opening.Answers.{no_file};
+ghost use Rattle.vl_recover.specs.opening.Finding.{IsExcused, IsFault, IsFaultOf};
 ghost use Rattle.vl_recover.specs.opening.Named.{AreRising};
 
 use crate::OpenError;
@@ -20,7 +21,7 @@ pub fn list_names<D: Disk>(alloc: Global, disk: &mut D) -> Result<Vec<Name>, Ope
     ensures numbered { IfOk result (λ names. All IsNumbered names.items) }
     ensures rising { IfOk result (λ names. AreRising names.items) }
     ensures excused { IfErr result IsExcused }
-    ensures at { IfErr result (IsFaultAt (D.told disk.old)) }
+    ensures at { IfErr result (IsFaultOf (λ at. at ≡ no_file)) }
     ensures no_change { ChangesNothing D.Watched disk.old disk.new (IsFault result) }
 {
     match disk.list(alloc) {
@@ -36,7 +37,7 @@ pub fn read_whole<D: Disk>(alloc: Global, disk: &mut D, name: Name) -> Result<Ve
     ensures bytes { IfOk result (λ bytes. ForSome (D.told disk.old)
         (λ state. bytes.items ≡ (file_at state name).bytes)) }
     ensures excused { IfErr result IsExcused }
-    ensures at { IfErr result (IsFaultAt (D.told disk.old)) }
+    ensures at { IfErr result (IsFaultOf (λ at. at ≡ name)) }
     ensures no_change { ChangesNothing D.Watched disk.old disk.new (IsFault result) }
 {
     match read_file(alloc, disk, name) {
@@ -52,7 +53,7 @@ pub fn size_of<D: Disk>(disk: &mut D, name: Name) -> Result<u64, OpenError>
     ensures size { IfOk result (λ size. ForSome (D.told disk.old)
         (λ state. size ≡ length (file_at state name).bytes)) }
     ensures excused { IfErr result IsExcused }
-    ensures at { IfErr result (IsFaultAt (D.told disk.old)) }
+    ensures at { IfErr result (IsFaultOf (λ at. at ≡ name)) }
     ensures no_change { ChangesNothing D.Watched disk.old disk.new (IsFault result) }
 {
     match disk.size(name) {
@@ -75,7 +76,7 @@ pub fn read_part<D: Disk>(
         (λ state. bytes.items ≡ bytes_at place count (file_at state name).bytes)) }
     ensures count { IfOk result (λ bytes. length bytes.items ≡ count) }
     ensures excused { IfErr result IsExcused }
-    ensures at { IfErr result (IsFaultAt (D.told disk.old)) }
+    ensures at { IfErr result (IsFaultOf (λ at. at ≡ name)) }
     ensures no_change { ChangesNothing D.Watched disk.old disk.new (IsFault result) }
 {
     let mut bytes = Vec::new(alloc);

@@ -1,6 +1,6 @@
 -- What is read of a manifest that was being made of a whole state, and of one without tables.
-use Rattle.std.specs.Prelude.{◌≡◌, ◌⊎◌, ◌+◌, ◌==◌, ◌&&◌, ◌||◌, ◌<◌, ◌≤◌, ◌^◌, ℕ, Bool, true, false, bytes_eq, if◌then◌else◌, zero, suc, List, [], ◌∷◌, ◌++◌, drop, length, take, Option, None, Some, Result, Ok, Err, refl}
-use Rattle.std.specs.List.{AllByRecursion, list_any}
+use Rattle.std.specs.Prelude.{◌≡◌, ◌⊎◌, ◌+◌, ◌==◌, ◌&&◌, ◌<◌, ◌≤◌, ◌^◌, ℕ, Bool, true, false, bytes_eq, if◌then◌else◌, zero, suc, List, [], ◌∷◌, ◌++◌, drop, length, take, Option, None, Some, refl}
+use Rattle.std.specs.List.{AllByRecursion}
 use Rattle.std.proofs.Common.{sym, ap, subst, ◌∙◌, inl, inr, ⊎_elim, arith}
 use Rattle.std.proofs.lemmas.Bool.{cases_Bool, cases_lt}
 use Rattle.std.proofs.lemmas.Bool.Decides.{not_from_Decides}
@@ -15,13 +15,13 @@ use Rattle.vl_model.specs.Formats.{manifest_format}
 use Rattle.vl_manifest.specs.declared.edit.Edit.{Edit}
 use Rattle.vl_manifest.specs.declared.edit.Edit.TheVariants.{Add, Drop, Gone, Head, Keep, Next}
 use Rattle.vl_manifest.specs.declared.state.ManifestState.{ManifestState}
-use Rattle.vl_manifest.specs.Edits.{AreEdits, IsEdit, edits_body}
+use Rattle.vl_manifest.specs.Edits.{IsEdit}
 use Rattle.vl_manifest.specs.Formats.{gone_format, keep_format}
 use Rattle.vl_manifest.specs.Grammar.{edits_grammar}
 use Rattle.vl_manifest.specs.Levels.{no_tables}
-use Rattle.vl_manifest.specs.Manifest.{HasHeader, IsReadable, ReadsManifest, SaysState, manifest_bytes}
-use Rattle.vl_manifest.specs.States.{adds_from, as_read, gone_edits, keep_edits, last_edits, read_in, state_behind, state_then, whole_edits}
-use Rattle.vl_manifest.specs.Tables.{NamesFirst, SaysBareState, names_tables, read}
+use Rattle.vl_manifest.specs.Manifest.{HasHeader, IsReadable, ReadsManifest, manifest_bytes}
+use Rattle.vl_manifest.specs.States.{adds_from, as_read, last_edits, read_in, state_behind, state_then, whole_edits}
+use Rattle.vl_manifest.specs.Tables.{SaysBareState, names_tables, read}
 use Rattle.vl_manifest.specs.laws.EditLaws.{edits_later}
 use Rattle.vl_manifest.specs.laws.ManifestLaws.{manifest_reads}
 use Rattle.vl_manifest.specs.laws.StateLaws.{IsInRange}

@@ -9,6 +9,8 @@ use Rattle.vl_disk.specs.Chance.{HasOnlyHandedOver, NoChanceOne}
 use Rattle.vl_disk.specs.Changes.{changed_there}
 use Rattle.vl_disk.specs.Crash.{Agrees, MayLeaveOne, WhileAppending, WhileSyncing, last_file}
 use Rattle.vl_disk.specs.DiskState.{DiskState, File, appended, lengthened, settled, synced_file}
+use Rattle.vl_disk.specs.MadeFile.{made}
+use Rattle.vl_disk.specs.laws.NameMap.{get_inserted}
 use Rattle.vl_disk.specs.declared.name.Name.{Name}
 use Rattle.vl_disk.specs.declared.name.Name.TheVariants.{Manifest}
 use Rattle.vl_frame.specs.Begins.{SpellsAt}
@@ -20,7 +22,9 @@ use Rattle.vl_model.specs.Formats.{manifest_format}
 use Rattle.vl_manifest.specs.declared.edit.Edit.{Edit}
 use Rattle.vl_manifest.specs.Grammar.{edits_grammar}
 use Rattle.vl_manifest.specs.Manifest.{ReadsManifest, manifest_bytes, manifest_header}
-use Rattle.vl_manifest.specs.Switching.{LeavesFrames, WhileSwitching, switched}
+use Rattle.vl_manifest.specs.declared.manifest_log.ManifestLog.{ManifestLog}
+use Rattle.vl_manifest.specs.Making.{new_manifest}
+use Rattle.vl_manifest.specs.Switching.{HasFrames, LeavesFrames, WhileSwitching, switched}
 use Rattle.vl_manifest.specs.laws.ManifestLaws.{front_header, manifest_reads}
 use Rattle.vl_manifest.specs.laws.TornRuns.{SaysItems, torn_says}
 
@@ -150,3 +154,18 @@ module _ (number : ℕ) (fits : number < 2 ^ 32) (frames : List (List Edit)) (ed
     where
       back : {other : DiskState} → now ≡ other → LeavesFrames number frames edits other → LeavesFrames number frames edits now
       back same leaves = subst (LeavesFrames number frames edits) (sym same) leaves
+
+-- ---- a manifest that was just made
+
+-- It has the frame that it was made of.
+pub made_has_frames : (number : ℕ) (edits : List Edit) (log : ManifestLog) (old : DiskState)
+    → log ≡ record { number = number; length = length (new_manifest number edits) }
+    → ReadsManifest manifest_format number (new_manifest number edits) (edits ∷ [])
+    → HasFrames log (edits ∷ []) (made (Manifest number) (new_manifest number edits) old)
+made_has_frames number edits log old is reads =
+    let stands = reads.reads.1 in
+    subst (λ (l : ManifestLog). HasFrames l (edits ∷ []) (made (Manifest number) (new_manifest number edits) old)) (sym is) (record {
+      length_is = refl;
+      each = (record { lawful = stands.lawful; short = stands.short }, tt);
+      durable = get_inserted old.standing (Manifest number) (settled (new_manifest number edits));
+    })

@@ -1,5 +1,5 @@
 -- What an opening gives, by what was prepared and how the repairing went.
-use Rattle.std.proofs.Common.{◌≡◌, ℕ, ◌+◌, ◌≤◌, List, [], ◌∷◌, length, map, ⊎_elim, refl, sym, ap, subst, ◌∙◌, arith}
+use Rattle.std.proofs.Common.{◌≡◌, ℕ, ◌+◌, ◌≤◌, List, [], ◌∷◌, length, map, refl, sym, ap, subst, ◌∙◌, arith}
 use Rattle.std.specs.Prelude.{Option, None, Some, Result, Ok, Err, IfErr}
 use Rattle.std.specs.Option.{ForSome, option_map}
 use Rattle.vl_disk.specs.Calls.{ChangesNothing}
@@ -20,11 +20,11 @@ use Rattle.vl_manifest.specs.declared.fails.IoFail.TheVariants.{Disk}
 use Rattle.vl_manifest.specs.declared.manifest_log.ManifestLog.{ManifestLog}
 use Rattle.vl_manifest.specs.declared.state.ManifestState.{ManifestState}
 use Rattle.vl_recover.specs.crash.Alike.{OpensAsOf}
-use Rattle.vl_recover.specs.opening.Answers.{Recovery, Faulted, NoMemory, Recovered, Refused, UsedUp, AreStrayNames, Finds, HeldLog, Opened, calls_to_open, held_log, logs_then, no_file, opened_from}
+use Rattle.vl_recover.specs.opening.Answers.{Recovery, Faulted, NoMemory, Recovered, Refused, UsedUp, AreStrayNames, Finds, HeldLog, Opened, calls_to_open, held_log, logs_then, opened_from}
 use Rattle.vl_recover.specs.repairing.Deciding.{IsPrepared, opened_by}
-use Rattle.vl_recover.specs.opening.Finding.{IsFaultAt}
+use Rattle.vl_recover.specs.opening.Finding.{IsFaultAt, IsReadName}
 use Rattle.vl_recover.specs.crash.Held.{HoldsStore}
-use Rattle.vl_recover.specs.crash.Meanwhile.{FaultsAt, IsAsLong, IsFaultName, IsMeanwhile, IsRepaired, Repairing, as_before, at_list, at_repaired, at_repairing, at_read}
+use Rattle.vl_recover.specs.crash.Meanwhile.{FaultsAt, IsAsLong, IsFaultName, IsMeanwhile, IsRepaired, Repairing, as_before, at_repaired, at_repairing, at_read}
 use Rattle.vl_recover.specs.repairing.Repairing.{Plan, WhileRepairing, calls_of_plan, repaired}
 use Rattle.vl_recover.proofs.repairs.RepairingLaws.{plan_calls}
 use Rattle.vl_recover.proofs.crash.RepairingMayOpen.{repairing_may_open}
@@ -81,10 +81,7 @@ read_faults read told state before now is same (why.NewerFormat format) at = tt
 read_faults read told state before now is same (why.Damaged name place) at = tt
 read_faults read told state before now is same (why.Exhausted counter) at = tt
 read_faults read told state before now is same why.NoMemory at = tt
-read_faults read told state before now is same (why.Disk name) at = ⊎_elim
-    (λ (stands : ForSome told (Stands name)). at_read (stands state is) same)
-    (λ (listing : name ≡ no_file). at_list listing same)
-    at
+read_faults read told state before now is same (why.Disk name) at = at_read (subst (λ (t : Option DiskState). IsReadName t name) is at) same
 
 -- and while it was repaired
 pub repaired_faults : (read : Image) (state : DiskState) (before begun now : ℕ) → begun ≡ before → (prepared : Prepared) → IsPrepared read prepared

@@ -1,7 +1,6 @@
 -- What an opening makes of a disk, and what the disk may be meanwhile.
 use Rattle.std.specs.Prelude.{◌≡◌, ℕ, [], ◌∷◌, length, Option, None, Some}
 use Rattle.vl_disk.specs.Crash.{Image}
-use Rattle.vl_disk.specs.Disk.{Stands}
 use Rattle.vl_disk.specs.DiskState.{DiskState}
 use Rattle.vl_disk.specs.Performs.{FailedAt}
 use Rattle.vl_disk.specs.declared.name.Name.{Name}
@@ -9,7 +8,8 @@ use Rattle.vl_manifest.specs.Manifest.{manifest_bytes}
 use Rattle.vl_manifest.specs.States.{whole_edits}
 use Rattle.vl_manifest.specs.declared.manifest_log.ManifestLog.{ManifestLog}
 use Rattle.vl_manifest.specs.declared.state.ManifestState.{ManifestState}
-use Rattle.vl_recover.specs.opening.Answers.{Faulted, Finds, NoMemory, Recovered, Recovery, Refused, UsedUp, no_file, used_up}
+use Rattle.vl_recover.specs.opening.Answers.{Faulted, Finds, NoMemory, Recovered, Recovery, Refused, UsedUp, used_up}
+use Rattle.vl_recover.specs.opening.Finding.{IsReadName}
 use Rattle.vl_recover.specs.repairing.Repairing.{IsPlan, Plan, WhileRepairing, repaired}
 use Rattle.vl_recover.specs.repairing.Steps.{files_of}
 
@@ -34,11 +34,11 @@ pub data IsMeanwhile (read : Image) (old now : DiskState) : Type 0 where
 abbrev pub IsAsLong : ManifestState → ManifestLog → Type 0
 IsAsLong state log = log.length ≡ length (manifest_bytes log.number (whole_edits state ∷ []))
 
--- Where a disk fails, by the counts of changing calls before and now: at a file that stood and was read, or at listing the
--- files, and then no changing call was made; or at the file of the last one that was made, in the order of a repairing.
+-- Where a disk fails, by the counts of changing calls before and now: at a manifest or a log that stood and was read, or at
+-- listing the files, and then no changing call was made; or at the file of the last one that was made, in the order of a
+-- repairing.
 pub data IsFaultName (read : Image) (old : DiskState) (before now : ℕ) (name : Name) : Type 0 where
-  at_read : Stands name old → now ≡ before → IsFaultName read old before now name
-  at_list : name ≡ no_file → now ≡ before → IsFaultName read old before now name
+  at_read : IsReadName (Some old) name → now ≡ before → IsFaultName read old before now name
   at_repaired : (repairing : Repairing read) → FailedAt (files_of repairing.plan) before now name
       → IsFaultName read old before now name
 

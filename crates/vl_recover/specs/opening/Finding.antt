@@ -1,9 +1,11 @@
 -- What the reading half of an opening gives to the half that repairs.
-use Rattle.std.specs.Prelude.{◌≡◌, ◌⊎◌, ◌≤◌, ℕ, List, [], ◌∷◌, map, Option, None, Some, Result, Ok, Err}
+use Rattle.std.specs.Prelude.{◌≡◌, ◌≤◌, ℕ, List, [], ◌∷◌, map, Option, None, Some, Result, Ok, Err}
 use Rattle.std.specs.Option.{ForSome, option_map}
 use Rattle.vl_disk.specs.Crash.{Image}
 use Rattle.vl_disk.specs.Disk.{Stands}
 use Rattle.vl_disk.specs.DiskState.{DiskState}
+use Rattle.vl_disk.specs.declared.name.Name.{Name}
+use Rattle.vl_disk.specs.declared.name.Name.TheVariants.{Log, Manifest}
 use Rattle.vl_model.specs.Limits.{max_file_number}
 use Rattle.vl_recover.specs.declared.fails.OpenError.{OpenError}
 use Rattle.vl_recover.specs.declared.fails.OpenError.TheVariants as why
@@ -76,11 +78,32 @@ IsExcused (why.Exhausted counter) = ⊥
 IsExcused why.NoMemory = Unit {0}
 IsExcused (why.Disk name) = Unit {0}
 
--- where the disk failed while it was only read: at a file that stands, or at listing the files
+-- where the disk failed this is so of the name that is answered
+abbrev pub IsFaultOf : (Name → Type 0) → OpenError → Type 0
+IsFaultOf P why.NotAStore = Unit {0}
+IsFaultOf P (why.NewerFormat format) = Unit {0}
+IsFaultOf P (why.Damaged name place) = Unit {0}
+IsFaultOf P (why.Exhausted counter) = Unit {0}
+IsFaultOf P why.NoMemory = Unit {0}
+IsFaultOf P (why.Disk name) = P name
+
+-- it is that of a manifest that stands,
+pub record IsReadManifest (told : Option DiskState) (name : Name) : Type 0 where
+  pub number : ℕ
+  pub is : name ≡ Manifest number
+  pub stands : ForSome told (Stands name)
+
+-- or of a log that stands
+pub record IsReadLog (told : Option DiskState) (name : Name) : Type 0 where
+  pub number : ℕ
+  pub is : name ≡ Log number
+  pub stands : ForSome told (Stands name)
+
+-- of a file that is read while the disk is only read, or of none, where its files couldn't be listed
+pub data IsReadName (told : Option DiskState) (name : Name) : Type 0 where
+  of_none : name ≡ no_file → IsReadName told name
+  of_manifest : IsReadManifest told name → IsReadName told name
+  of_log : IsReadLog told name → IsReadName told name
+
 abbrev pub IsFaultAt : Option DiskState → OpenError → Type 0
-IsFaultAt told why.NotAStore = Unit {0}
-IsFaultAt told (why.NewerFormat format) = Unit {0}
-IsFaultAt told (why.Damaged name place) = Unit {0}
-IsFaultAt told (why.Exhausted counter) = Unit {0}
-IsFaultAt told why.NoMemory = Unit {0}
-IsFaultAt told (why.Disk name) = ForSome told (Stands name) ⊎ (name ≡ no_file)
+IsFaultAt told = IsFaultOf (IsReadName told)

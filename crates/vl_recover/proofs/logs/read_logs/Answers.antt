@@ -1,7 +1,11 @@
-use Rattle.std.proofs.Common.{◌+◌, drop, get_or, refl, sym, subst, ◌∙◌}
+use Rattle.std.proofs.Common.{◌≡◌, ◌+◌, drop, get_or, refl, sym, subst, ◌∙◌}
 use Rattle.std.specs.Prelude.{nat_lt}
 use Rattle.std.proofs.lemmas.List.{drop_all, drop_more}
+use Rattle.vl_disk.specs.Disk.{Stands}
+use Rattle.vl_disk.specs.declared.name.Name.{Name}
 use Rattle.vl_disk.specs.declared.name.Name.TheVariants.{Log}
+use Rattle.vl_recover.specs.opening.Finding.{IsReadLog}
+use Rattle.vl_recover.proofs.opening.FaultNames.{handed_on}
 use Rattle.vl_recover.proofs.opening.Naming.{LogsToCome, all_to_come, next_come, none_come, not_come}
 use Rattle.vl_recover.proofs.opening.ReadingLogs.{all_read, follows, last_named, listed, none_read, one_read}
 use Rattle.vl_recover.proofs.opening.Unmoved.{no_call, then_call}
@@ -54,3 +58,19 @@ returns-clause-reads g c = λ state read told is.
     all_read read names (listed read state names is (c.requires.lists state told)) c.args.head c.args.covered c.loop-name.least c.loop-name.so_far
     (so.reads state read told is)
     (none_come names c.loop-name.least (subst (LogsToCome names c.loop-name.least) (drop_all c.loop-name.name-index names c.loop-name-test.false) so.come))
+
+pub returns-in_err-so_far-clause-at : goal.returns-in_err-so_far-clause-at
+returns-in_err-so_far-clause-at g c =
+    let names = c.args.names.now in
+    let i = c.loop-name.name-index in
+    let next = next_come names c.loop-name.least (get_or names i (Log 0)) c.in-Some.number (drop (i + 1) names)
+    (subst (LogsToCome names c.loop-name.least) (drop_more names i (Log 0) c.loop-name-test.true) c.loop-name.invariant.come)
+    (sym c.log_from.ensures ∙ c.in-Some.is) in
+    handed_on c.with_next.result c.in_err-so_far.field-0.0 c.from_residual.result (λ at. at ≡ Log c.in-Some.number)
+    (IsReadLog (g.D.Watched.told c.args.disk.now)) c.in_err-so_far.was c.from_residual.ensures.0 c.from_residual.ensures.1
+    (λ name is. record {
+      number = c.in-Some.number;
+      is = is;
+      stands = λ state told. subst (λ (n : Name). Stands n state) (sym is)
+          (((c.requires.lists state told).all (Log c.in-Some.number)).0 next.first.0.0);
+    }) c.with_next.ensures.at

@@ -15,9 +15,9 @@ use Rattle.vl_recover.specs.crash.Held.{GoOn, log_as_held, opening_held}
 use Rattle.vl_recover.specs.opening.Opening.{Opening}
 use Rattle.vl_recover.specs.laws.opening.OpeningLaws.{IsOpened, one_standing, opened}
 use Rattle.vl_recover.specs.opening.Plans.{log_made, new_state}
-use Rattle.vl_recover.specs.laws.repairing.StageLaws.{err_ok, ok_apart, ok_same, ok_with}
+use Rattle.vl_recover.specs.laws.repairing.StageLaws.{err_ok, ok_apart, ok_with}
 use Rattle.vl_recover.specs.opening.Stages.{on_ok}
-use Rattle.vl_recover.specs.opening.Walk.{LogDamage, StandingLog, content_end, counted, counted_behind, counted_whole, filled, format_of, in_log, walked, walked_on, with_frames}
+use Rattle.vl_recover.specs.opening.Walk.{StandingLog, content_end, counted, counted_behind, counted_whole, filled, format_of, in_log, walked, walked_on, with_frames}
 use Rattle.vl_seglog.specs.LogReading.{LogReading}
 
 -- ---- logs that are made whole
