@@ -1,5 +1,5 @@
 // A folder and its open files, as the system has them.
-ghost use Rattle.std.specs.Prelude.{◌≡◌, ◌<◌, IfOk, OnOk, All, vec_len};
+ghost use Rattle.std.specs.Prelude.{◌≡◌, ◌<◌, true, false, IfOk, IfSome, IsSomeAnd, OnOk, All, vec_len};
 ghost use Rattle.vl_disk.specs.Name.{IsNumbered};
 
 use crate::file_name::named;
@@ -9,15 +9,16 @@ use crate::identity::Identity;
 use crate::lent::Lent;
 use crate::making::make_folder;
 use crate::open_file::OpenFile;
+use crate::open_folder::OpenFolder;
 use crate::opening::plain_file;
 use crate::pool::Pool;
 use crate::slot::Slot;
+use crate::slots::place_of;
 use std::alloc::Global;
-use std::fs::{File, TryLockError};
+use std::fs::File;
 use std::io::Read;
 use std::rt::Files;
 use std::sync::Arc;
-use std::sync::atomic::{AtomicBool, Ordering};
 use vl_disk::Name;
 
 /// The bytes of names that are read at a time.
@@ -30,10 +31,8 @@ const MOST_OPEN: usize = 64;
 #[derive(Drop)]
 struct Entered {
     // locked
-    handle: File,
+    folder: OpenFolder,
     pool: Arc<Pool, Global>,
-    // a sync of the folder failed, at the disk or at a writer, so that no later one tells anything
-    names_lost: Arc<AtomicBool, Global>,
 }
 
 /// A folder, of which each call makes calls of the system.
@@ -44,8 +43,6 @@ pub struct Folder<R: Files<File = File>> {
     path: String,
     // once a call has opened the folder
     entered: Option<Entered>,
-    // whether the names that stand in the folder are durable
-    names_durable: bool,
     slots: Vec<Slot>,
     // so many files were opened since those that needn't stay open were closed
     opened: usize,
@@ -58,7 +55,6 @@ impl<R: Files<File = File>> Folder<R> {
             alloc,
             path,
             entered: None,
-            names_durable: false,
             slots: Vec::new(alloc),
             opened: 0,
         }
@@ -73,55 +69,55 @@ impl<R: Files<File = File>> Folder<R> {
         if self.entered.is_some() {
             return Ok(());
         }
-        let handle = File::open(&self.rt, self.path.as_str())?;
-        match handle.try_lock() {
-            Ok(()) => {}
-            Err(TryLockError::WouldBlock) => return Err(FolderError::InUse),
-            Err(TryLockError::Error(error)) => return Err(FolderError::System(error)),
-        }
-        self.entered = Some(Entered {
-            handle,
-            pool: Arc::new(self.alloc, Pool::new(self.alloc))?,
-            names_lost: Arc::new(self.alloc, AtomicBool::new(false))?,
-        });
+        let folder = OpenFolder::open(&self.rt, self.alloc, self.path.as_str())?;
+        folder.lock()?;
+        let pool = Arc::new(self.alloc, Pool::new(self.alloc))?;
+        self.entered = Some(Entered { folder, pool });
         self.sync_names()
-    }
-
-    /// The folder, where it was opened.
-    fn entered(&self) -> Result<&Entered, FolderError> {
-        match &self.entered {
-            Some(entered) => Ok(entered),
-            None => Err(FolderError::Moved),
-        }
     }
 
     /// Whether the path still leads to the folder that was opened.
     fn look_again(&self) -> Result<(), FolderError> {
-        let opened = Identity::of(&self.entered()?.handle.metadata()?);
-        match self.rt.metadata(self.path.as_str()) {
-            Ok(found) if Identity::of(&found) == opened => Ok(()),
-            _ => Err(FolderError::Moved),
+        if let Some(entered) = &self.entered
+            && let Ok(found) = self.rt.metadata(self.path.as_str())
+            && entered.folder.is(Identity::of(&found))
+        {
+            return Ok(());
         }
+        Err(FolderError::Moved)
     }
 
     fn sync_names(&mut self) -> Result<(), FolderError>
-        ensures { self.new.slots ≡ self.old.slots }
+        ensures slots { self.new.slots ≡ self.old.slots }
+        ensures durable { OnOk result (IsSomeAnd self.new.entered (λ e. e.folder.durable ≡ true)) }
     {
-        let durable = self.names_durable;
-        self.names_durable = self.entered()?.sync_names(durable)?;
-        Ok(())
+        match &mut self.entered {
+            Some(entered) => entered.folder.sync(),
+            None => Err(FolderError::Moved),
+        }
+    }
+
+    /// Notes that a name is about to be made.
+    fn change_names(&mut self)
+        ensures slots { self.new.slots ≡ self.old.slots }
+        ensures unsynced { IfSome self.new.entered (λ e. e.folder.durable ≡ false) }
+    {
+        if let Some(entered) = &mut self.entered {
+            entered.folder.change();
+        }
     }
 
     /// Where the slot of this name is.
     fn slot(&mut self, name: Name) -> Result<usize, FolderError>
-        ensures { IfOk result (λ at. at < vec_len self.new.slots) }
+        ensures place { IfOk result (λ at. at < vec_len self.new.slots) }
+        ensures entered { self.new.entered ≡ self.old.entered }
     {
-        if let Some(at) = self.slots.iter().position(|slot| slot.is_of(name)) {
-            return Ok(at);
-        }
-        let at = self.slots.len();
-        self.slots
-            .push(Slot::new(self.alloc, self.path.as_str(), name)?)?;
+        let at = match place_of(&self.slots, name) {
+            Ok(at) => return Ok(at),
+            Err(at) => at,
+        };
+        let slot = Slot::new(self.alloc, self.path.as_str(), name)?;
+        self.slots.insert(at, slot)?;
         Ok(at)
     }
 
@@ -153,7 +149,7 @@ impl<R: Files<File = File>> Folder<R> {
         self.opened = self.opened.saturating_add(1);
     }
 
-    /// The names of the store's files in the folder, which is made where it is missing. Each must be of a plain file.
+    /// The names of the store's files in the folder, which is made where it is missing.
     pub fn list(&mut self, alloc: Global) -> Result<Vec<Name>, FolderError>
         ensures { IfOk result (λ names. All IsNumbered names.items) }
     {
@@ -162,16 +158,23 @@ impl<R: Files<File = File>> Folder<R> {
         }
         self.enter()?;
         self.look_again()?;
-        let names = self.read_names(alloc)?;
-        for name in &names {
-            let at = self.slot(*name)?;
-            match plain_file(&self.rt, self.slots[at].path()) {
-                Ok(_) => {}
-                Err(FolderError::System(error)) => return Err(FolderError::SystemAt(*name, error)),
-                Err(_) => return Err(FolderError::NoFileAt(*name)),
+        self.read_names(alloc)
+    }
+
+    /// Whether each of these names is of a plain file, or else which isn't.
+    pub fn look_at(&mut self, names: &[Name]) -> Result<(), (Name, FolderError)> {
+        for name in names {
+            if let Err(error) = self.look_at_one(*name) {
+                return Err((*name, error));
             }
         }
-        Ok(names)
+        Ok(())
+    }
+
+    fn look_at_one(&mut self, name: Name) -> Result<(), FolderError> {
+        let at = self.slot(name)?;
+        plain_file(&self.rt, self.slots[at].path())?;
+        Ok(())
     }
 
     /// The names of the store's files in the folder. All other names are passed over.
@@ -194,7 +197,8 @@ impl<R: Files<File = File>> Folder<R> {
     }
 
     pub fn ready(&mut self, name: Name) -> Result<(), FolderError> {
-        self.slot(name)?;
+        let at = self.slot(name)?;
+        self.slots[at].make_room(self.alloc)?;
         Ok(())
     }
 
@@ -208,12 +212,15 @@ impl<R: Files<File = File>> Folder<R> {
         self.slots[at].read(place, out)
     }
 
-    pub fn create(&mut self, name: Name) -> Result<(), FolderError> {
+    /// Makes a file. Its name is durable once a sync has passed.
+    pub fn create(&mut self, name: Name) -> Result<(), FolderError>
+        ensures { OnOk result (IfSome self.new.entered (λ e. e.folder.durable ≡ false)) }
+    {
         self.enter()?;
         self.look_again()?;
         let at = self.slot(name)?;
-        self.names_durable = false;
         self.close_idle();
+        self.change_names();
         self.slots[at].create(&self.rt, self.alloc)
     }
 
@@ -222,7 +229,10 @@ impl<R: Files<File = File>> Folder<R> {
         self.slots[at].append(piece)
     }
 
-    pub fn sync(&mut self, name: Name) -> Result<(), FolderError> {
+    /// Makes a file and the names in the folder durable.
+    pub fn sync(&mut self, name: Name) -> Result<(), FolderError>
+        ensures { OnOk result (IsSomeAnd self.new.entered (λ e. e.folder.durable ≡ true)) }
+    {
         let at = self.open(name)?;
         self.slots[at].sync()?;
         let named = self.sync_names();
@@ -248,7 +258,7 @@ impl<R: Files<File = File>> Folder<R> {
         if let Some(entered) = &self.entered {
             self.slots[at].remove(&self.rt, &entered.pool)?;
         }
-        self.slots.swap_remove(at);
+        self.slots.remove(at);
         Ok(())
     }
 
@@ -264,60 +274,23 @@ impl<R: Files<File = File>> Folder<R> {
     /// The file, its name and the folder, for a writer.
     pub fn lend(&mut self, name: Name) -> Result<Lent, FolderError> {
         let at = self.open(name)?;
-        let (folder, names_lost) = self.folder_again()?;
+        let folder = match &self.entered {
+            Some(entered) => entered.folder.again(&self.rt, self.path.as_str())?,
+            None => return Err(FolderError::Moved),
+        };
         let (named, file) = self.slots[at].lend()?;
         Ok(Lent {
             named,
             file,
             folder,
-            names_lost,
         })
-    }
-
-    /// The folder, opened anew for a writer, and whether a sync of it failed, which is shared.
-    fn folder_again(&self) -> Result<(File, Arc<AtomicBool, Global>), FolderError> {
-        let entered = self.entered()?;
-        let folder = entered.open_again(&self.rt, self.path.as_str())?;
-        Ok((folder, entered.names_lost.clone()?))
     }
 
     /// The file comes back from its writer.
     pub fn adopt(&mut self, name: Name, file: OpenFile) {
-        if let Some(at) = self.slots.iter().position(|slot| slot.is_of(name)) {
+        if let Ok(at) = place_of(&self.slots, name) {
             self.slots[at].adopt(file);
         }
-    }
-}
-
-impl Entered {
-    /// Makes the names that stand in the folder durable, where they aren't. Where that fails they are lost.
-    fn sync_names(&self, durable: bool) -> Result<bool, FolderError> {
-        self.refuse_lost()?;
-        if !durable {
-            let synced = self.handle.sync_all();
-            if synced.is_err() {
-                self.names_lost.store(true, Ordering::SeqCst);
-            }
-            synced?;
-        }
-        Ok(true)
-    }
-
-    fn refuse_lost(&self) -> Result<(), FolderError> {
-        if self.names_lost.load(Ordering::SeqCst) {
-            return Err(FolderError::Lost);
-        }
-        Ok(())
-    }
-
-    /// The folder, opened anew, for a writer.
-    fn open_again<R: Files<File = File>>(&self, rt: &R, path: &str) -> Result<File, FolderError> {
-        self.refuse_lost()?;
-        let folder = File::open(rt, path)?;
-        if Identity::of(&folder.metadata()?) != Identity::of(&self.handle.metadata()?) {
-            return Err(FolderError::Moved);
-        }
-        Ok(folder)
     }
 }
 

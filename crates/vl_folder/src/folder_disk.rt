@@ -42,6 +42,7 @@ impl<R: Files<File = File> + Eprint + Copy> FolderDisk<R> {
     fn count(&mut self, name: Option<Name>, error: &FolderError)
         ensures cause { HasCause self.old.faults self.new.faults (Unit {0}) }
         ensures calls { self.new.calls ≡ self.old.calls }
+        ensures folder { self.new.folder ≡ self.old.folder }
     {
         self.faults = self.faults.saturating_add(1);
         let folder = self.folder.path();
@@ -59,6 +60,7 @@ impl<R: Files<File = File> + Eprint + Copy> FolderDisk<R> {
         ensures failed { IsErr result ↔ IsErr answer }
         ensures cause { HasCause self.old.faults self.new.faults (IsErr result) }
         ensures calls { self.new.calls ≡ self.old.calls }
+        ensures folder { self.new.folder ≡ self.old.folder }
     {
         match answer {
             Ok(found) => Ok(found),
@@ -74,6 +76,7 @@ impl<R: Files<File = File> + Eprint + Copy> FolderDisk<R> {
         ensures failed { IsErr result ↔ IsErr answer }
         ensures cause { HasCause self.old.faults self.new.faults (IsErr result) }
         ensures calls { self.new.calls ≡ one_more self.old.calls }
+        ensures folder { self.new.folder ≡ self.old.folder }
     {
         self.calls = self.calls.saturating_add(1);
         self.answer(name, answer)
@@ -107,6 +110,8 @@ impl<R: Files<File = File> + Eprint + Copy> Disk for FolderDisk<R> {
 
     type Writer = FolderWriter<R>;
 
+    ghost use Rattle.std.specs.Prelude.{true, IsSomeAnd, OnOk};
+    ghost use Rattle.vl_disk.specs.Calls.{Syncs};
     ghost use Rattle.vl_folder.specs.Untold.{untold};
 
     ghost lawful = { λ _ state told. untold state told };
@@ -118,22 +123,19 @@ impl<R: Files<File = File> + Eprint + Copy> Disk for FolderDisk<R> {
     ghost counts_past = { λ _ _ past. absurd past };
 
     fn list(&mut self, alloc: Global) -> Result<Vec<Name>, DiskFail> {
-        match self.folder.list(alloc) {
-            Ok(names) => Ok(names),
-            Err(FolderError::NoMemory) => Err(DiskFail::NoMemory),
-            Err(FolderError::NoFileAt(name)) => {
-                self.count(Some(name), &FolderError::NoFile);
-                Err(DiskFail::Failed)
-            }
-            Err(FolderError::SystemAt(name, error)) => {
-                self.count(Some(name), &FolderError::System(error));
-                Err(DiskFail::Failed)
-            }
+        let names = match self.folder.list(alloc) {
+            Ok(names) => names,
+            Err(FolderError::NoMemory) => return Err(DiskFail::NoMemory),
             Err(error) => {
                 self.count(None, &error);
-                Err(DiskFail::Failed)
+                return Err(DiskFail::Failed);
             }
+        };
+        if let Err((name, error)) = self.folder.look_at(&names) {
+            self.count(Some(name), &error);
+            return Err(DiskFail::Failed);
         }
+        Ok(names)
     }
 
     fn size(&mut self, name: Name) -> Result<u64, Failed> {
@@ -163,7 +165,12 @@ impl<R: Files<File = File> + Eprint + Copy> Disk for FolderDisk<R> {
         self.answer_change(name, appended)
     }
 
-    fn sync(&mut self, name: Name) -> Result<(), Failed> {
+    fn sync(&mut self, name: Name) -> Result<(), Failed>
+        ensures disk { Syncs ⟦<FolderDisk<R> as Watched>⟧ name self.old self.new result }
+
+        // The names of the folder are durable too.
+        ensures folder { OnOk result (IsSomeAnd self.new.folder.entered (λ e. e.folder.durable ≡ true)) }
+    {
         let synced = self.folder.sync(name);
         self.answer_change(name, synced)
     }

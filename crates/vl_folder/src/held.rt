@@ -6,8 +6,10 @@ use crate::identity::Identity;
 use crate::named::Named;
 use crate::opening::open_file;
 use crate::pool::Pool;
+use crate::shared_file::SharedFile;
 use std::alloc::{AllocError, Global};
 use std::fs::File;
+use std::io;
 use std::os::unix::fs::FileExt;
 use std::rt::Files;
 use std::sync::Arc;
@@ -49,31 +51,60 @@ impl FolderHeld {
         out: &mut [u8],
     ) -> Result<(), FolderError> {
         let shared = &self.shared;
-        if let Some(file) = shared.named.removed(shared.identity) {
-            return Ok(file.read_exact_at(out, place)?);
+        if shared.read_removed(place, out)? || shared.read_open(place, out)? {
+            return Ok(());
         }
-        if let Some(file) = shared.pool.find(shared.identity) {
-            return Ok(file.read_exact_at(out, place)?);
+        match shared.open(rt) {
+            Ok(file) => shared.read_again(alloc, file, place, out),
+            // It may have been removed meanwhile.
+            Err(error) => match shared.read_removed(place, out)? {
+                true => Ok(()),
+                false => Err(error),
+            },
         }
-        let file = match shared.open(rt) {
-            Ok(file) => file,
-            Err(error) => {
-                // It may have been removed meanwhile.
-                let Some(file) = shared.named.removed(shared.identity) else {
-                    return Err(error);
-                };
-                return Ok(file.read_exact_at(out, place)?);
-            }
-        };
-        file.read_exact_at(out, place)?;
-        if let Ok(file) = Arc::new(alloc, file) {
-            shared.keep_open(file);
-        }
-        Ok(())
     }
 }
 
 impl Shared {
+    /// Reads the file if it was removed, and says whether it was.
+    fn read_removed(&self, place: u64, out: &mut [u8]) -> io::Result<bool> {
+        match self.named.removed(self.identity) {
+            Some(file) => {
+                file.read_exact_at(out, place)?;
+                Ok(true)
+            }
+            None => Ok(false),
+        }
+    }
+
+    /// Reads the file if the pool has it open, and says whether it has.
+    fn read_open(&self, place: u64, out: &mut [u8]) -> io::Result<bool> {
+        let Some(found) = self.pool.find(self.identity) else {
+            return Ok(false);
+        };
+        let Some(file) = found.get() else {
+            return Ok(false);
+        };
+        file.read_exact_at(out, place)?;
+        Ok(true)
+    }
+
+    /// Reads the file, which was opened again, and has the pool keep it open.
+    fn read_again(
+        &self,
+        alloc: Global,
+        file: File,
+        place: u64,
+        out: &mut [u8],
+    ) -> Result<(), FolderError> {
+        file.read_exact_at(out, place)?;
+        if let Ok(room) = SharedFile::room(alloc) {
+            room.fill(file);
+            self.keep_open(room);
+        }
+        Ok(())
+    }
+
     /// Opens the file by its name.
     fn open<R: Files<File = File>>(&self, rt: &R) -> Result<File, FolderError> {
         let file = open_file(rt, self.named.path.as_str())?;
@@ -84,7 +115,7 @@ impl Shared {
     }
 
     /// Has the pool keep the file open, unless it was removed.
-    pub fn keep_open(&self, file: Arc<File, Global>) {
+    pub fn keep_open(&self, file: SharedFile) {
         self.pool.keep(self.identity, file, &self.named);
         if self.named.is_gone() {
             self.pool.close_removed();

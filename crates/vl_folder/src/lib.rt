@@ -12,9 +12,12 @@ mod lent;
 mod making;
 mod named;
 mod open_file;
+mod open_folder;
 mod opening;
 mod pool;
+mod shared_file;
 mod slot;
+mod slots;
 mod writer;
 
 pub use folder_disk::FolderDisk;

@@ -1,6 +1,7 @@
 use crate::file_name::path_of;
 use crate::folder_error::FolderError;
 use crate::identity::Identity;
+use crate::shared_file::SharedFile;
 use std::alloc::{AllocError, Global};
 use std::fs::File;
 use std::sync::atomic::{AtomicBool, Ordering};
@@ -21,7 +22,7 @@ pub struct Named {
 #[derive(Drop)]
 struct Removed {
     identity: Identity,
-    file: Arc<File, Global>,
+    file: SharedFile,
 }
 
 impl Named {
@@ -46,18 +47,14 @@ impl Named {
     pub fn removed(&self, identity: Identity) -> Option<&File> {
         let removed = self.removed.get()?;
         if removed.identity == identity {
-            Some(&removed.file)
+            removed.file.get()
         } else {
             None
         }
     }
 
     /// Keeps the file open that is about to be removed. Only its disk does so.
-    pub fn keep_removed(
-        &self,
-        identity: Identity,
-        file: Arc<File, Global>,
-    ) -> Result<(), FolderError> {
+    pub fn keep_removed(&self, identity: Identity, file: SharedFile) -> Result<(), FolderError> {
         let kept = self.removed.try_set(Removed { identity, file });
         if kept.is_err() && self.removed(identity).is_none() {
             return Err(FolderError::Replaced);

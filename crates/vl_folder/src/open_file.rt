@@ -1,17 +1,16 @@
 // An open file that is written, by the disk or by a writer.
 use crate::folder_error::FolderError;
 use crate::identity::Identity;
-use std::alloc::Global;
+use crate::shared_file::SharedFile;
 use std::fs::File;
 use std::io;
 use std::io::ErrorKind;
 use std::os::unix::fs::FileExt;
-use std::sync::Arc;
 
 /// An open file.
 #[derive(Drop)]
 pub struct OpenFile {
-    file: Arc<File, Global>,
+    file: SharedFile,
     identity: Identity,
     // where the file ends, if that is known
     end: Option<u64>,
@@ -22,10 +21,13 @@ pub struct OpenFile {
 }
 
 impl OpenFile {
-    pub fn new(alloc: Global, file: File) -> io::Result<Self> {
+    /// A file that was opened, in the room that was made for it.
+    pub fn new(room: SharedFile, file: File) -> io::Result<Self> {
+        let identity = Identity::of(&file.metadata()?);
+        room.fill(file);
         Ok(OpenFile {
-            identity: Identity::of(&file.metadata()?),
-            file: Arc::new(alloc, file)?,
+            identity,
+            file: room,
             end: None,
             lost: false,
             idle: false,
@@ -34,10 +36,10 @@ impl OpenFile {
 
     /// The file, where it isn't lost.
     fn file(&self) -> Result<&File, FolderError> {
-        if self.lost {
-            return Err(FolderError::Lost);
+        match self.file.get() {
+            Some(file) if !self.lost => Ok(file),
+            _ => Err(FolderError::Lost),
         }
-        Ok(&self.file)
     }
 
     /// Notes where a file ends that was changed, if that is known.
@@ -74,7 +76,7 @@ impl OpenFile {
 
     pub fn cut(&mut self, len: u64) -> Result<(), FolderError> {
         if len > self.size()? {
-            return Err(FolderError::System(io::Error::from(ErrorKind::InvalidInput)));
+            return Err(FolderError::from(io::Error::from(ErrorKind::InvalidInput)));
         }
         let cut = self.file()?.set_len(len);
         self.changed(match cut {
@@ -109,7 +111,7 @@ impl OpenFile {
     }
 
     /// The file, shared.
-    pub fn share(&self) -> Result<Arc<File, Global>, FolderError> {
-        Ok(self.file.clone()?)
+    pub fn share(&self) -> Result<SharedFile, FolderError> {
+        Ok(self.file.again()?)
     }
 }

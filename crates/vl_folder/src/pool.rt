@@ -1,8 +1,8 @@
 // The open files of those that are held: a bounded number, which all readers share.
 use crate::identity::Identity;
 use crate::named::Named;
+use crate::shared_file::SharedFile;
 use std::alloc::Global;
-use std::fs::File;
 use std::sync::atomic::{AtomicBool, Ordering};
 use std::sync::{Arc, Mutex};
 
@@ -12,7 +12,7 @@ const MOST_OPEN: usize = 128;
 #[derive(Drop)]
 struct Open {
     identity: Identity,
-    file: Arc<File, Global>,
+    file: SharedFile,
     // it was removed: who holds it still has it open, and the pool needn't
     gone: Arc<AtomicBool, Global>,
 }
@@ -32,18 +32,18 @@ impl Pool {
     }
 
     /// The file, if it is open and nobody else uses the pool.
-    pub fn find(&self, identity: Identity) -> Option<Arc<File, Global>> {
+    pub fn find(&self, identity: Identity) -> Option<SharedFile> {
         let mut guard = self.open.try_lock()?;
         let open = &mut *guard;
         let at = open.iter().position(|one| one.identity == identity)?;
         let found = open.remove(at);
-        let file = Arc::try_clone(&found.file).ok();
+        let file = found.file.again().ok();
         let _ = open.push(found);
         file
     }
 
     /// Keeps a file open, where there is memory for it and nobody else uses the pool.
-    pub fn keep(&self, identity: Identity, file: Arc<File, Global>, named: &Named) {
+    pub fn keep(&self, identity: Identity, file: SharedFile, named: &Named) {
         let Ok(gone) = named.gone.clone() else {
             return;
         };

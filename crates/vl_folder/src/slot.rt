@@ -6,6 +6,7 @@ use crate::named::Named;
 use crate::open_file::OpenFile;
 use crate::opening::{make_file, open_file, plain_file};
 use crate::pool::Pool;
+use crate::shared_file::SharedFile;
 use std::alloc::{AllocError, Global};
 use std::fs::File;
 use std::rt::Files;
@@ -20,6 +21,8 @@ pub struct Slot {
     file: Option<OpenFile>,
     // the file that a writer has
     lent: Option<Identity>,
+    // the room for the file
+    room: Option<SharedFile>,
 }
 
 impl Slot {
@@ -29,11 +32,27 @@ impl Slot {
             name,
             file: None,
             lent: None,
+            room: None,
         })
     }
 
-    pub fn is_of(&self, name: Name) -> bool {
-        self.name == name
+    pub fn name(&self) -> Name {
+        self.name
+    }
+
+    /// Makes room for the file, so that to make or open it wants no memory.
+    pub fn make_room(&mut self, alloc: Global) -> Result<(), AllocError> {
+        if self.room.is_none() && self.file.is_none() {
+            self.room = Some(SharedFile::room(alloc)?);
+        }
+        Ok(())
+    }
+
+    fn take_room(&mut self, alloc: Global) -> Result<SharedFile, AllocError> {
+        match self.room.take() {
+            Some(room) => Ok(room),
+            None => SharedFile::room(alloc),
+        }
     }
 
     pub fn is_open(&self) -> bool {
@@ -50,7 +69,8 @@ impl Slot {
         rt: &R,
         alloc: Global,
     ) -> Result<(), FolderError> {
-        let file = OpenFile::new(alloc, make_file(rt, self.named.path.as_str())?)?;
+        let room = self.take_room(alloc)?;
+        let file = OpenFile::new(room, make_file(rt, self.named.path.as_str())?)?;
         if self.is_held() {
             // An earlier file of this name is.
             self.named = Arc::new(alloc, self.named.again(alloc)?)?;
@@ -69,8 +89,8 @@ impl Slot {
         if self.lent.is_some() {
             return Err(FolderError::Lent);
         }
-        let file = open_file(rt, self.named.path.as_str())?;
-        let mut file = OpenFile::new(alloc, file)?;
+        let room = self.take_room(alloc)?;
+        let mut file = OpenFile::new(room, open_file(rt, self.named.path.as_str())?)?;
         let synced = file.sync();
         self.file = Some(file);
         synced

@@ -36,6 +36,9 @@ impl<R: Eprint + Drop> FolderWriter<R> {
 }
 
 impl<R: Eprint + Drop> Writer for FolderWriter<R> {
+    ghost use Rattle.std.specs.Prelude.{true, IsErr, OnOk};
+    ghost use Rattle.vl_disk.specs.Faults.{HasCause};
+
     ghost named = { λ writer. writer.name };
 
     ghost file = { λ _. None };
@@ -51,7 +54,13 @@ impl<R: Eprint + Drop> Writer for FolderWriter<R> {
         Ok(())
     }
 
-    fn sync(&mut self) -> Result<(), Failed> {
+    fn sync(&mut self) -> Result<(), Failed>
+        ensures named { self.new.name ≡ self.old.name }
+        ensures cause { HasCause self.old.faults self.new.faults (IsErr result) }
+
+        // The names of the file's folder are durable too, and so its own.
+        ensures folder { OnOk result (self.new.lent.folder.durable ≡ true) }
+    {
         if let Err(error) = self.lent.sync() {
             self.faults = self.faults.saturating_add(1);
             tell(&self.rt, self.lent.path(), &error);

@@ -2,4 +2,14 @@
 #![tactic(auto)]
 
 #[cfg(test)]
-mod folders;
+mod files;
+#[cfg(test)]
+mod lending;
+#[cfg(test)]
+mod many;
+#[cfg(test)]
+mod setting;
+#[cfg(test)]
+mod syncing;
+#[cfg(test)]
+mod theirs;

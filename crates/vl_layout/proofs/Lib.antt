@@ -2,3 +2,4 @@ mod GarbageLaws
 mod Rows
 mod Scripts
 mod Uncovered
+mod Views

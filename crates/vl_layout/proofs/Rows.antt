@@ -1,8 +1,10 @@
 -- Worked layouts, which hold by computing: what scripts don't print of places, sources and shares.
-use Rattle.std.proofs.Common.{◌≡◌, ℕ, List, [], ◌∷◌, map, length, refl}
+use Rattle.std.proofs.Common.{◌≡◌, ℕ, ◌+◌, List, [], ◌∷◌, map, length, refl}
 use Rattle.std.specs.Prelude.{Option, Some, None, replicate}
 use Rattle.std.specs.FinMap.{empty}
-use Rattle.vl_model.specs.Formats.{log_format}
+use Rattle.std.specs.List.{sum_by}
+use Rattle.vl_block.specs.Cutting.{block_frame_length, blocks, filter_frame_length, footer_frame_length, index_frame_length}
+use Rattle.vl_model.specs.Formats.{log_format, table_format}
 use Rattle.vl_model.specs.Keys.{Stored, untagged}
 use Rattle.vl_model.specs.History.{History}
 use Rattle.vl_model.specs.Frames.{frame_length}
@@ -75,6 +77,11 @@ two_values_shown : sources (flushed (rotated two_values)) ≡
     record { key = 0x61 ∷ []; version = 1; body = Inline short }
     ∷ record { key = 0x62 ∷ []; version = 1; body = Far (record { segment = 1; place = 106; length = 74 }) } ∷ []
 two_values_shown = refl
+
+-- where its table has its filter and its footer, behind its block and its index
+two_values_table : (16 + sum_by (block_frame_length table_format) (blocks table_format (sources (flushed (rotated two_values)))) + index_frame_length (blocks table_format (sources (flushed (rotated two_values)))) ≡ 171)
+    × (filter_frame_length table_format (sources (flushed (rotated two_values))) ≡ 25) × (footer_frame_length table_format (sources (flushed (rotated two_values))) ≡ 75)
+two_values_table = (refl, refl, refl)
 
 -- a frame of one short write
 one_write : frame_length log_format (Committed 3 ((0x61 ∷ [], Set (untagged (1 ∷ []))) ∷ [])) ≡ 35

@@ -1,5 +1,5 @@
 -- Worked scripts, which hold by computing: what each line is answered.
-use Rattle.std.proofs.Common.{◌≡◌, ℕ, zero, suc, ◌+◌, List, [], ◌∷◌, ◌++◌, map, length, refl}
+use Rattle.std.proofs.Common.{◌≡◌, ℕ, List, [], ◌∷◌, ◌++◌, map, length, refl}
 use Rattle.std.specs.Prelude.{replicate}
 use Rattle.vl_model.specs.Keys.{tagged, untagged}
 use Rattle.vl_model.specs.Placement.{placed}
@@ -8,14 +8,12 @@ use Rattle.vl_model.specs.declared.log_frame.LogFrame.{LogFrame}
 use Rattle.vl_model.specs.declared.log_frame.LogFrame.TheVariants.{Committed}
 use Rattle.vl_model.specs.declared.way.Way.TheVariants.{Up, Down}
 use Rattle.vl_layout.specs.Logs.{memtable, new_segment}
-use Rattle.vl_layout.specs.Ruling.{pin_of}
 use Rattle.vl_layout.specs.Start.{layout_at_start}
 use Rattle.vl_layout.specs.Tables.{new_table}
 use Rattle.vl_layout.specs.Sources.{tables}
-use Rattle.vl_layout.specs.Store.Lines.{Line, Begin, View, Get, GetTagged, GetAt, Set, SetTagged, Delete, Scan, Commit, Drop, Rotate, Flush, Plan, Drain, Install, Pick, Batch, Move, Sweep, Stats, Keep, Answer, Done, Number, Value, ValueTagged, NoValue, Dropped, Rows, Taken, Unknown, ReadOnly, Invalid, TooMany, Nothing, Conflict, Full, Raced, Rejected, NoRewrite, Found, End, Moved, Removed, Segments}
-use Rattle.vl_layout.specs.Store.Dispatch.{answers, answers_until, new_store, state_behind}
+use Rattle.vl_layout.specs.Store.Lines.{Line, Begin, View, Get, GetTagged, GetAt, Set, SetTagged, Delete, Scan, Commit, Drop, Rotate, Flush, Plan, Drain, Install, Pick, Batch, Move, Sweep, Stats, Keep, Answer, Done, Number, Value, ValueTagged, NoValue, Dropped, Rows, Taken, Unknown, ReadOnly, Invalid, Nothing, Conflict, Full, Raced, Rejected, NoRewrite, Found, End, Moved, Removed, Segments}
+use Rattle.vl_layout.specs.Store.Dispatch.{answers, answers_until, calls_of, new_store, state_behind}
 use Rattle.vl_layout.specs.Store.Things.{State}
-use Rattle.vl_layout.specs.declared.live.Live.{Live}
 use Rattle.vl_layout.specs.declared.segment.SegmentStat.{SegmentStat}
 use Rattle.vl_layout.specs.declared.table.Table.{Table}
 
@@ -194,7 +192,15 @@ pinned : answers store (first_version ++ View o ∷ moved_once ++ Drop g ∷ Swe
     ≡ first_answers ++ Number 1 ∷ Number 1 ∷ Found 1 ∷ Moved 1 ∷ Done ∷ Removed 0 ∷ Number 0 ∷ Done ∷ Removed 0 ∷ Value long ∷ Done ∷ Removed 2 ∷ []
 pinned = refl
 
--- the move's append is the seventeenth call that changes files, its sync the next
+-- behind the six calls of an opening; the move's append is the seventeenth call that changes files, its sync the next
+calls_made : calls_of store (first_version ++ moved_once) ≡ 0 ∷ 0 ∷ 2 ∷ 3 ∷ 5 ∷ 0 ∷ 0 ∷ 2 ∷ []
+calls_made = refl
+
+-- and with a merge, two removals, and a second rotation and flush thirty are made
+calls_to_the_end : calls_of (state_behind store (first_version ++ moved_once)) (Drop g ∷ Sweep ∷ Drain j 1 ∷ Install j ∷ Sweep ∷ View v ∷ Get v k1 ∷ Rotate ∷ Flush ∷ [])
+    ≡ 0 ∷ 0 ∷ 0 ∷ 2 ∷ 2 ∷ 0 ∷ 0 ∷ 3 ∷ 5 ∷ []
+calls_to_the_end = refl
+
 stopped_in_a_move : map (λ (stop : ℕ). length (answers_until stop 6 store (first_version ++ moved_once))) (16 ∷ 17 ∷ 18 ∷ []) ≡ 7 ∷ 7 ∷ 8 ∷ []
 stopped_in_a_move = refl
 
@@ -211,6 +217,11 @@ picked_once = refl
 full_log : answers (new_store 100) (sets k1 n1 ++ sets k1 n1 ++ sets k1 n1 ++ Rotate ∷ Commit t ∷ [])
     ≡ Number 0 ∷ Done ∷ Number 1 ∷ Number 1 ∷ Done ∷ Number 2 ∷ Number 2 ∷ Done ∷ Full 86 35 ∷ Number 1 ∷ Number 3 ∷ []
 full_log = refl
+
+-- ---- one long write
+
+one_write_told : answers store (sets (1 ∷ 0xbf ∷ []) (replicate 123 1) ++ Stats ∷ []) ≡ Number 0 ∷ Done ∷ Number 1 ∷ Segments (stat 1 158 0 ∷ []) ∷ []
+one_write_told = refl
 
 -- ---- own writes in a scan
 
@@ -282,16 +293,3 @@ one_is_kept = refl
 kept_by_a_merge : answers store (Keep 2 ∷ four ++ Plan j ∷ Install j ∷ View v ∷ GetAt v k1 1 ∷ Get v k1 ∷ Keep 0 ∷ [])
     ≡ Done ∷ first_answers ++ three_answers ++ Number 4 ∷ Done ∷ Number 4 ∷ Value long ∷ NoValue ∷ Invalid ∷ []
 kept_by_a_merge = refl
-
--- ---- as many as may live
-
--- so many that live, of which the first has this ticket
-abbrev living : ℕ → ℕ → List Live
-living ticket zero = []
-living ticket (suc count) = record { ticket = ticket; number = 0; pin = pin_of store.layout } ∷ living (ticket + 1) count
-
-abbrev crowded : ℕ → State
-crowded count = record store { layout = record store.layout { live = living 0 count } }
-
-as_many_as_live : (answers (crowded 1023) (View v ∷ View w ∷ []) ≡ Number 0 ∷ TooMany ∷ []) × (answers (crowded 1024) (View v ∷ []) ≡ TooMany ∷ [])
-as_many_as_live = (refl, refl)

@@ -3,7 +3,7 @@ use Rattle.std.specs.Prelude.{◌≡◌, ℕ, Bool, true, false, ◌&&◌, not, 
 use Rattle.std.specs.List.{list_any}
 use Rattle.vl_model.specs.Winners.{counts}
 use Rattle.vl_model.specs.declared.entry.Entry.{Entry}
-use Rattle.vl_layout.specs.Merging.{Sourced, if_so, inputs_of as sourced_inputs, outside_of as sourced_outside, is_outdated, is_dropped}
+use Rattle.vl_layout.specs.Merging.{Sourced, if_so, inputs_of, outside_of, is_outdated, is_dropped}
 
 -- an entry of the sources: whether an input of the merge has it, and whether it is kept
 pub record Marked : Type 0 where
@@ -20,13 +20,13 @@ abbrev pub kept_of : List Marked → List Entry
 kept_of [] = []
 kept_of (m ∷ ms) = if_so m.kept m.entry (kept_of ms)
 
-abbrev pub inputs_of : List Marked → List Entry
-inputs_of [] = []
-inputs_of (m ∷ ms) = if_so m.input m.entry (inputs_of ms)
+abbrev pub marked_inputs : List Marked → List Entry
+marked_inputs [] = []
+marked_inputs (m ∷ ms) = if_so m.input m.entry (marked_inputs ms)
 
-abbrev pub outside_of : List Marked → List Entry
-outside_of [] = []
-outside_of (m ∷ ms) = if_so (not m.input) m.entry (outside_of ms)
+abbrev pub marked_outside : List Marked → List Entry
+marked_outside [] = []
+marked_outside (m ∷ ms) = if_so (not m.input) m.entry (marked_outside ms)
 
 -- ---- of a plan over the sources that it was made of
 
@@ -41,7 +41,7 @@ marks_from keep inputs outside floor newer (s ∷ ss) =
 
 -- what a merge of these sources keeps of its inputs, and all that is outside them
 abbrev pub marks : ℕ → List Sourced → ℕ → List Marked
-marks keep ss floor = marks_from keep (sourced_inputs ss) (sourced_outside ss) floor [] ss
+marks keep ss floor = marks_from keep (inputs_of ss) (outside_of ss) floor [] ss
 
 -- ---- of a merge that is put in place later
 

@@ -1,5 +1,5 @@
 -- What is so of an open job, whatever was done since it was planned.
-use Rattle.std.specs.Prelude.{◌≡◌, ◌⊎◌, ℕ, ◌+◌, ◌-◌, ◌<◌, ◌≤◌, ◌==◌, Bool, true, false, List, [], ◌∷◌, ◌++◌, is_some, length}
+use Rattle.std.specs.Prelude.{◌≡◌, ◌⊎◌, ℕ, ◌-◌, ◌<◌, ◌≤◌, ◌==◌, Bool, true, false, List, [], ◌∷◌, ◌++◌, is_some, length}
 use Rattle.std.specs.List.{AllZip, AllByRecursion, flat_map, list_any}
 use Rattle.std.specs.FinMap.{find}
 use Rattle.std.specs.Ordering.{eq_by_cmp, is_lt}
@@ -23,18 +23,18 @@ use Rattle.vl_layout.specs.declared.table.Table.{Table}
 -- ---- the sources of a moment
 
 -- an input's entry, and the entries before it in the sources, the nearest first
-pub record Place : Type 0 where
+pub record Preceded : Type 0 where
   pub entry : Entry
   pub newer : List Entry
 
-abbrev pub place_if : Bool → Entry → List Entry → List Place → List Place
-place_if true e newer ps = record { entry = e; newer = newer } ∷ ps
-place_if false e newer ps = ps
+abbrev pub preceded_if : Bool → Entry → List Entry → List Preceded → List Preceded
+preceded_if true e newer ps = record { entry = e; newer = newer } ∷ ps
+preceded_if false e newer ps = ps
 
 -- the inputs' entries with what stands before them, behind these
-abbrev pub places : List Entry → List Sourced → List Place
-places newer [] = []
-places newer (s ∷ ss) = place_if s.0 s.1 newer (places (s.1 ∷ newer) ss)
+abbrev pub preceded : List Entry → List Sourced → List Preceded
+preceded newer [] = []
+preceded newer (s ∷ ss) = preceded_if s.0 s.1 newer (preceded (s.1 ∷ newer) ss)
 
 -- each key and version that stands in the one stands in the other
 abbrev pub Covers : List Entry → List Entry → Type 0
@@ -42,7 +42,7 @@ Covers old new = (key : List ℕ) (version : ℕ) → list_any (is_at key versio
     → list_any (is_at key version) new ≡ true
 
 -- the entry is the same, and whatever key and version stood before it still does
-pub record IsStillBehind (old new : Place) : Type 0 where
+pub record IsStillBehind (old new : Preceded) : Type 0 where
   pub same : new.entry ≡ old.entry
   pub covers : Covers old.newer new.newer
 
@@ -55,7 +55,7 @@ IsAccounted outside floor moved e =
 
 -- the sources of a moment, each entry with whether an input has it, are still what the job may be put into
 pub record IsKeptFor (job : Job) (moved : List Named) (now : List Sourced) : Type 0 where
-  pub inputs : AllZip IsStillBehind (places [] job.base) (places [] now)
+  pub inputs : AllZip IsStillBehind (preceded [] job.base) (preceded [] now)
   pub outside : AllByRecursion (IsAccounted (outside_of job.base) job.floor moved) (outside_of now)
 
 -- ---- where the inputs stand

@@ -1,5 +1,5 @@
 -- What a pass over a segment finds, and what a relocation moves of it.
-use Rattle.std.specs.Prelude.{ℕ, ◌+◌, ◌==◌, Bool, true, false, ◌&&◌, ◌||◌, nat_le, nat_lt, if◌then◌else◌, List, [], ◌∷◌, map, length, Option, Some, None}
+use Rattle.std.specs.Prelude.{ℕ, ◌+◌, ◌==◌, Bool, true, false, ◌&&◌, ◌||◌, nat_le, nat_lt, if◌then◌else◌, List, [], ◌∷◌, map, Option, Some, None}
 use Rattle.std.specs.List.{filter, sum_by}
 use Rattle.vl_model.specs.Keys.{value_length}
 use Rattle.vl_model.specs.Limits.{max_batch_records, max_batch_bytes}
@@ -38,18 +38,18 @@ has_room count bytes more =
     (count == 0) || (nat_lt count max_batch_records && nat_le (bytes + more) max_batch_bytes)
 
 -- what stands before the first record that doesn't fit, and what is left from it on
-abbrev pub Taken : Type 0
-Taken = List Candidate × List LogRecord
+abbrev pub Batched : Type 0
+Batched = List Candidate × List LogRecord
 
 abbrev pub if_any : List Candidate → Option (List Candidate)
 if_any [] = None
 if_any (c ∷ cs) = Some (c ∷ cs)
 
-abbrev pub with_first : Candidate → Taken → Taken
+abbrev pub with_first : Candidate → Batched → Batched
 with_first c taken = (c ∷ taken.0, taken.1)
 
 -- a record that was found, before what is taken behind it, where it fits
-abbrev pub batch_with : Bool → List Candidate → Taken → Taken → Taken → Taken
+abbrev pub batch_with : Bool → List Candidate → Batched → Batched → Batched → Batched
 batch_with fits [] passed with_it before = passed
 batch_with true (c ∷ cs) passed with_it before = with_first c with_it
 batch_with false (c ∷ cs) passed with_it before = before
@@ -58,7 +58,7 @@ abbrev pub value_lengths : List Candidate → ℕ
 value_lengths cs = sum_by (λ (c : Candidate). value_length c.moved.value) cs
 
 -- the next records that win exactly, as many as fit behind so many with so many bytes of values
-abbrev pub taken_from : List Entry → ℕ → ℕ → ℕ → List LogRecord → Taken
+abbrev pub taken_from : List Entry → ℕ → ℕ → ℕ → List LogRecord → Batched
 taken_from base segment count bytes [] = ([], [])
 taken_from base segment count bytes (r ∷ rs) =
     let found = found_in base segment r in

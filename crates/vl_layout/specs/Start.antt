@@ -1,5 +1,5 @@
 -- The layout that an opening leaves. Only here are all of its parts written.
-use Rattle.std.specs.Prelude.{◌≡◌, ℕ, ◌+◌, ◌<◌, max, Bool, true, false, not, List, [], ◌∷◌, ◌++◌, None}
+use Rattle.std.specs.Prelude.{ℕ, ◌+◌, ◌<◌, max, Bool, true, false, not, List, [], ◌∷◌, ◌++◌, None}
 use Rattle.std.specs.List.{AllByRecursion, filter, flat_map}
 use Rattle.vl_model.specs.Formats.{log_format}
 use Rattle.vl_model.specs.declared.log_frame.LogFrame.{LogFrame}
@@ -68,9 +68,9 @@ layout_at_start room found = record {
 abbrev pub no_tables : List (List Table)
 no_tables = [] ∷ [] ∷ [] ∷ [] ∷ [] ∷ [] ∷ [] ∷ []
 
--- of a new store
-abbrev pub fresh_layout : ℕ → Layout
-fresh_layout room = layout_at_start room (record {
+-- an opening found nothing, and made the first log
+abbrev pub nothing_found : Recovered
+nothing_found = record {
   levels = no_tables;
   logs = [];
   below = [];
@@ -81,12 +81,19 @@ fresh_layout room = layout_at_start room (record {
   keep = 1;
   since = 0;
   gone = 0;
-})
+}
+
+-- of a new store
+abbrev pub fresh_layout : ℕ → Layout
+fresh_layout room = layout_at_start room nothing_found
 
 -- ---- what is so of what an opening found
 
 abbrev pub number_of_log : Segment → ℕ
 number_of_log s = s.number
+
+abbrev pub tables_found : Recovered → List Table
+tables_found found = flat_map (λ ts. ts) found.levels
 
 -- its logs rise up to the active one; tables have true footers, and numbers below the next ones, as the
 -- logs below head and those that points tell have
@@ -94,6 +101,6 @@ pub record IsWellRecovered (found : Recovered) : Type 0 where
   pub rising : IsRising number_of_log found.logs
   pub before : AllByRecursion (λ (s : Segment). s.number < found.active) found.logs
   pub below : AllByRecursion (λ (s : Segment). s.number < max found.next_log (found.active + 1)) found.below
-  pub tables : AllByRecursion (λ (t : Table). t.number < found.next_table) (flat_map (λ ts. ts) found.levels)
-  pub footed : AllByRecursion IsFooted (flat_map (λ ts. ts) found.levels)
-  pub points : AllByRecursion (PointsDrawn (max found.next_log (found.active + 1))) (flat_map (λ ts. ts) found.levels)
+  pub tables : AllByRecursion (λ (t : Table). t.number < found.next_table) (tables_found found)
+  pub footed : AllByRecursion IsFooted (tables_found found)
+  pub points : AllByRecursion (PointsDrawn (max found.next_log (found.active + 1))) (tables_found found)

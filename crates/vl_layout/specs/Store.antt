@@ -5,3 +5,4 @@ pub mod Commits
 pub mod Things
 pub mod Reading
 pub mod Dispatch
+pub mod Proper

@@ -51,7 +51,8 @@ IsTrueTable t = t ≡ new_table t.format t.number t.entries
 abbrev pub IsPlacedAt : List Segment → List ℕ → Body → Type 0
 IsPlacedAt ss key (Inline value) = is_body_placed 1 key (Inline value) ≡ true
 IsPlacedAt ss key Gone = Unit {0}
-IsPlacedAt ss key (Far pointer) = (format : ℕ) × (format_of ss pointer.segment ≡ Some format) × (is_body_placed format key (Far pointer) ≡ true)
+IsPlacedAt ss key (Far pointer) = (format : ℕ) × (format_of ss pointer.segment ≡ Some format)
+    × (is_body_placed format key (Far pointer) ≡ true)
 IsPlacedAt ss key (Logged value pointer) = ⊥
 
 abbrev pub IsPlacedIn : List Segment → Entry → Type 0

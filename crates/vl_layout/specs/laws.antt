@@ -12,5 +12,6 @@ pub mod RelocationShows
 pub mod RisingLaws
 pub mod RulingShows
 pub mod ShowsLaws
+pub mod StoreLaws
 pub mod TableLaws
 pub mod TicketLaws

@@ -1,5 +1,5 @@
 // Laws of the definitions: each is the contract of a function that does nothing.
-ghost use Rattle.std.specs.Prelude.{IsTrue, ◌≡◌, ◌≤◌, ◌<◌, ◌++◌, ◌∷◌, [], ℕ, List, Some, None, false};
+ghost use Rattle.std.specs.Prelude.{IsTrue, ◌≡◌, ◌≤◌, ◌<◌, ◌++◌, ◌∷◌, [], ℕ, List, Some, false};
 ghost use Rattle.std.specs.FinMap.{entries, is_sorted};
 ghost use Rattle.std.specs.List.{AllZip, AllByRecursion};
 ghost use Rattle.vl_model.specs.Entries.{in_order};
@@ -9,8 +9,11 @@ ghost use Rattle.vl_model.specs.Winners.{Logs, resolved};
 ghost use Rattle.vl_model.specs.declared.entry.Entry.{Entry};
 ghost use Rattle.vl_layout.specs.AtAnswer.{Beginning, at_answer};
 ghost use Rattle.vl_layout.specs.Garbage.{far_bytes, pointed_bytes, best_of, is_better as is_better_than};
-ghost use Rattle.vl_layout.specs.Logs.{memtable};
-ghost use Rattle.vl_layout.specs.Merging.{Sourced, inputs_of as sourced_inputs};
+ghost use Rattle.vl_layout.specs.Logs.{frame_entries, frame_records, logged_entries, memtable, records};
+ghost use Rattle.vl_layout.specs.Ruling.{logged};
+ghost use Rattle.vl_layout.specs.Tidy.{IsTrueLog};
+ghost use Rattle.vl_model.specs.declared.log_frame.LogFrame.{LogFrame};
+ghost use Rattle.vl_layout.specs.Merging.{Sourced, inputs_of};
 ghost use Rattle.vl_model.specs.Versions.{low};
 ghost use Rattle.vl_layout.specs.Relocation.{Pass, Candidate};
 ghost use Rattle.vl_layout.specs.Rulings.Commit.{Transaction, commit_ruling};
@@ -29,7 +32,7 @@ ghost use Rattle.vl_layout.specs.declared.segment.Segment.{Segment};
 ghost use Rattle.vl_layout.specs.declared.segment.SegmentStat.{SegmentStat};
 ghost use Rattle.vl_layout.specs.declared.table.Table.{Table};
 ghost use Rattle.vl_layout.specs.Shown.{ArePlaced, AreOf, Fits, of_key, Gathers, ShowsRuled, IsThere};
-ghost use Rattle.vl_layout.specs.Marks.{Marked, AreJustified, all_of, kept_of, inputs_of, outside_of, marks, plain};
+ghost use Rattle.vl_layout.specs.Marks.{Marked, AreJustified, all_of, kept_of, marked_inputs, marked_outside, marks, plain};
 
 /// Where each entry stands for the one in whose place it is, the same is shown: as after a flush,
 /// or in other logs.
@@ -96,11 +99,11 @@ pub fn shown_after_a_relocation()
 /// isn't above since.
 pub fn shown_after_a_merge()
     ensures at_once { (logs : Logs) (keep : ℕ) (ss : List Sourced) (floor : ℕ) (h : History) (since to : ℕ)
-        → 1 ≤ keep → AreOf h (sourced_inputs ss) → Shows logs (plain ss) h (low h floor keep since) to
+        → 1 ≤ keep → AreOf h (inputs_of ss) → Shows logs (plain ss) h (low h floor keep since) to
         → Shows logs (kept_of (marks keep ss floor)) h (low h floor keep since) to }
     ensures later { (logs : Logs) (ms : List Marked) (keep floor : ℕ) (h : History) (now v since to : ℕ)
-        → 1 ≤ keep → floor ≤ now → Fits keep floor v since → AreOf h (inputs_of ms)
-        → AreJustified keep (inputs_of ms) (outside_of ms) floor [] ms
+        → 1 ≤ keep → floor ≤ now → Fits keep floor v since → AreOf h (marked_inputs ms)
+        → AreJustified keep (marked_inputs ms) (marked_outside ms) floor [] ms
         → Shows logs (all_of ms) h (low h now v since) to → Shows logs (kept_of ms) h (low h now v since) to }
 {}
 
@@ -123,6 +126,16 @@ pub fn best_has_the_greatest_share()
 pub fn cutting_keeps_all_entries()
     ensures blocks { (format : ℕ) (es : List Entry) → joined (blocks format es) ≡ es }
     ensures tables { (es : List Entry) → joined (cut_into_tables es) ≡ es }
+{}
+
+/// A frame more, of a commit or a relocation, stands where its log ended before: its records lie there,
+/// and their entries lead there.
+pub fn a_frame_stands_at_its_logs_end()
+    ensures records { (l : Layout) (f : LogFrame) → IsTrueLog l.active
+        → records (logged f l).active ≡ records l.active ++ frame_records l.active.format l.active.length f }
+    ensures entries { (l : Layout) (f : LogFrame) → IsTrueLog l.active
+        → logged_entries l.active.format l.active.number 16 (logged f l).active.frames
+        ≡ frame_entries l.active.format l.active.number l.active.length f ++ logged_entries l.active.format l.active.number 16 l.active.frames }
 {}
 
 /// Plain lists of commits give the values, rows, least numbers and conflicts of the history that they

@@ -24,6 +24,7 @@ pub mod PlanOpen
 pub mod Planned
 pub mod Roomy
 pub mod RulingStocked
+pub mod Starting
 pub mod Steps
 pub mod Stock
 pub mod Streaming
@@ -31,4 +32,5 @@ pub mod Switches
 pub mod TidyLogs
 pub mod TidyRulings
 pub mod TidySteps
+pub mod WellInstalled
 pub mod WellStocked

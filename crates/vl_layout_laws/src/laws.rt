@@ -1,6 +1,6 @@
 // Laws of what an engine keeps tidy: each is the contract of a function that does nothing.
-ghost use Rattle.std.specs.Prelude.{IsTrue, Some, [], ◌≡◌, ◌≤◌, ◌<◌, ◌+◌, ◌==◌, ◌++◌, ◌∷◌, ℕ, List, Option, true, length};
-ghost use Rattle.std.specs.List.{AllByRecursion, filter, list_any};
+ghost use Rattle.std.specs.Prelude.{IsTrue, Some, [], ◌≡◌, ◌≤◌, ◌<◌, ◌+◌, ◌++◌, ◌∷◌, ℕ, List, Option, true, length};
+ghost use Rattle.std.specs.List.{AllByRecursion, filter};
 ghost use Rattle.std.specs.FinMap.{from_sorted, is_sorted};
 ghost use Rattle.vl_model.specs.Conflicts.{Named};
 ghost use Rattle.vl_model.specs.History.{History, last_number, with_commit};
@@ -11,9 +11,8 @@ ghost use Rattle.vl_model.specs.declared.log_frame.Moved.{Moved};
 ghost use Rattle.vl_model.specs.declared.entry.Entry.{Entry};
 ghost use Rattle.vl_layout.specs.Garbage.{live_bytes, pointed_bytes};
 ghost use Rattle.vl_layout.specs.Jobs.{Made, AreLent, AreOutputs, lent_numbers};
-ghost use Rattle.vl_layout.specs.Levels.{first_into, inputs_at, is_among};
+ghost use Rattle.vl_layout.specs.Levels.{is_among};
 ghost use Rattle.vl_layout.specs.Logs.{LogRecord, memtable};
-ghost use Rattle.vl_layout.specs.Merging.{inputs_of};
 ghost use Rattle.vl_layout.specs.TidyLevels.{AreLevels};
 ghost use Rattle.vl_layout.specs.OpenJobs.{IsOpenWell};
 ghost use Rattle.vl_layout.specs.Ruling.{ended, logged};
@@ -33,14 +32,14 @@ ghost use Rattle.vl_layout.specs.Rulings.Fresh.{Drawn, drawn, fresh_ruling};
 ghost use Rattle.vl_layout.specs.Rulings.Install.{install_ruling, installed};
 ghost use Rattle.vl_layout.specs.Rulings.Keep.{keep_ruling, keeping};
 ghost use Rattle.vl_layout.specs.Rulings.Pick.{pick_ruling, with_pass};
-ghost use Rattle.vl_layout.specs.Rulings.Plan.{job_of, plan_ruling, sourced};
+ghost use Rattle.vl_layout.specs.Rulings.Plan.{plan_ruling};
 ghost use Rattle.vl_layout.specs.Rulings.Release.{release_ruling};
 ghost use Rattle.vl_layout.specs.Rulings.Relocate.{moves_at, relocate_ruling, relocated};
 ghost use Rattle.vl_layout.specs.Rulings.Rotate.{rotate_ruling, rotated};
 ghost use Rattle.vl_layout.specs.Rulings.Sweep.{swept, sweep_ruling, sweep_to_ruling, without_files};
 ghost use Rattle.vl_layout.specs.Rulings.View.{View};
-ghost use Rattle.vl_layout.specs.Sources.{numbers_of, oldest, sources, tables};
-ghost use Rattle.vl_layout.specs.Stock.{HaveRisen, IsFooted, IsLoose, IsWellStocked, PointsDrawn, leads};
+ghost use Rattle.vl_layout.specs.Sources.{oldest, sources, tables};
+ghost use Rattle.vl_layout.specs.Stock.{HaveRisen, IsLoose, IsWellStocked};
 ghost use Rattle.vl_layout.specs.declared.job.Job.{Job};
 ghost use Rattle.vl_layout.specs.declared.job.Target.TheVariants.{Level, InPlace};
 ghost use Rattle.vl_layout.specs.declared.layout.Layout.{Layout};
@@ -73,8 +72,8 @@ pub fn jobs_leave_files_tidy()
     ensures plan { (l : Layout) (h : History) → IsWellStocked l → IsWellStocked (plan_ruling l h).layout }
     ensures drain { (l : Layout) (h : History) (segment : ℕ) → IsWellStocked l → IsWellStocked (drain_ruling l h segment).layout }
     ensures fresh { (l : Layout) (h : History) → IsWellStocked l → IsWellStocked (fresh_ruling l h).layout }
-    ensures abandon { (l : Layout) (h : History) (made : Made) → AreLent (lent_numbers l.job) made → IsWellStocked l
-        → IsWellStocked (abandon_ruling l h made).layout }
+    ensures abandon { (l : Layout) (h : History) (job : Job) (made : Made) → AreLent (lent_numbers l.job) made → IsWellStocked l
+        → IsWellStocked (abandon_ruling l h job made).layout }
     ensures install { (l : Layout) (h : History) (o : OpenJob) (made : Made) → l.job ≡ Some o → AreLent o.lent made → AreOutputs o.job made
         → IsOpenWell l h o.job o.moved → AreLevels l.levels → IsWellStocked l → IsWellStocked (install_ruling l h o.job made).layout }
 {}
@@ -180,7 +179,7 @@ pub fn numbers_are_drawn_once()
     ensures plan { (l : Layout) (h : History) → HaveRisen l (plan_ruling l h).layout }
     ensures drain { (l : Layout) (h : History) (segment : ℕ) → HaveRisen l (drain_ruling l h segment).layout }
     ensures fresh { (l : Layout) (h : History) → HaveRisen l (fresh_ruling l h).layout }
-    ensures abandon { (l : Layout) (h : History) (made : Made) → HaveRisen l (abandon_ruling l h made).layout }
+    ensures abandon { (l : Layout) (h : History) (job : Job) (made : Made) → HaveRisen l (abandon_ruling l h job made).layout }
     ensures install { (l : Layout) (h : History) (job : Job) (made : Made) → HaveRisen l (install_ruling l h job made).layout }
     ensures pick { (l : Layout) (h : History) (percent : ℕ) → HaveRisen l (pick_ruling l h percent).layout }
     ensures end_pass { (l : Layout) (h : History) (pass : Pass) → HaveRisen l (end_pass_ruling l h pass).layout }

@@ -7,7 +7,7 @@ mod tidy;
 pub use laws::{
     a_moved_batch_wins_no_more, a_planned_job_is_open_well, a_sweep_removes_what_nothing_needs,
     an_install_shows_what_was_shown, an_open_job_stays_open_well, batches_are_all_found_records,
-    files_stay_tidy, jobs_leave_files_tidy, levels_stay_tidy, live_bytes_after_a_switch, numbers_are_drawn_once,
-    shown_from_low_stays,
+    files_stay_tidy, jobs_leave_files_tidy, levels_stay_tidy, live_bytes_after_a_switch,
+    numbers_are_drawn_once, shown_from_low_stays,
 };
-pub use tidy::an_engine_stays_tidy;
+pub use tidy::{a_start_is_tidy, an_engine_stays_tidy};

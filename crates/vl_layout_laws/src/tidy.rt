@@ -1,8 +1,8 @@
-// What an engine keeps tidy stays so: the contract of a function that does nothing.
+// What an engine keeps tidy, from its start on: the contracts of functions that do nothing.
 ghost use Rattle.std.specs.Prelude.{IsTrue, Some, ◌≡◌, ℕ, List};
 ghost use Rattle.std.specs.FinMap.{is_sorted};
 ghost use Rattle.std.specs.List.{AllByRecursion};
-ghost use Rattle.vl_model.specs.History.{History};
+ghost use Rattle.vl_model.specs.History.{History, no_history};
 ghost use Rattle.vl_model.specs.Keys.{key_cmp};
 ghost use Rattle.vl_model.specs.Winners.{Logs};
 ghost use Rattle.vl_layout.specs.Jobs.{AreLent, AreOutputs, Made, lent_numbers};
@@ -27,7 +27,10 @@ ghost use Rattle.vl_layout.specs.Rulings.Sweep.{sweep_ruling, sweep_to_ruling};
 ghost use Rattle.vl_layout.specs.Rulings.View.{View};
 ghost use Rattle.vl_layout.specs.Shown.{ArePlaced, IsThere};
 ghost use Rattle.vl_layout.specs.Sources.{oldest};
+ghost use Rattle.vl_layout.specs.Start.{IsWellRecovered, Recovered, fresh_layout, layout_at_start};
+ghost use Rattle.vl_layout.specs.Stock.{IsWellStocked};
 ghost use Rattle.vl_layout.specs.Tidy.{IsRuledTidy, IsTidy};
+ghost use Rattle.vl_layout.specs.declared.job.Job.{Job};
 ghost use Rattle.vl_layout.specs.declared.job.OpenJob.{OpenJob};
 ghost use Rattle.vl_layout.specs.declared.layout.Layout.{Layout};
 ghost use Rattle.vl_layout.specs.declared.segment.Segment.{Segment};
@@ -49,8 +52,8 @@ pub fn an_engine_stays_tidy()
     ensures plan { (logs : Logs) (l : Layout) (h : History) → IsTidy logs l h → IsRuledTidy logs (plan_ruling l h) }
     ensures drain { (logs : Logs) (l : Layout) (h : History) (segment : ℕ) → IsTidy logs l h → IsRuledTidy logs (drain_ruling l h segment) }
     ensures fresh { (logs : Logs) (l : Layout) (h : History) → IsTidy logs l h → IsRuledTidy logs (fresh_ruling l h) }
-    ensures abandon { (logs : Logs) (l : Layout) (h : History) (made : Made) → AreLent (lent_numbers l.job) made → IsTidy logs l h
-        → IsRuledTidy logs (abandon_ruling l h made) }
+    ensures abandon { (logs : Logs) (l : Layout) (h : History) (job : Job) (made : Made) → AreLent (lent_numbers l.job) made → IsTidy logs l h
+        → IsRuledTidy logs (abandon_ruling l h job made) }
     ensures install { (logs : Logs) (l : Layout) (h : History) (o : OpenJob) (made : Made) → l.job ≡ Some o → AreLent o.lent made → AreOutputs o.job made
         → IsTidy logs l h → IsRuledTidy logs (install_ruling l h o.job made) }
     ensures pick { (logs : Logs) (l : Layout) (h : History) (percent : ℕ) → IsTidy logs l h → IsRuledTidy logs (pick_ruling l h percent) }
@@ -58,4 +61,10 @@ pub fn an_engine_stays_tidy()
     ensures sweep { (logs : Logs) (l : Layout) (h : History) → IsTidy logs l h → IsRuledTidy logs (sweep_ruling l h) }
     ensures sweep_to { (logs : Logs) (l : Layout) (h : History) (least : ℕ) → IsTidy logs l h → IsRuledTidy logs (sweep_to_ruling l h least) }
     ensures keep { (logs : Logs) (l : Layout) (h : History) (v : ℕ) → IsTidy logs l h → IsRuledTidy logs (keep_ruling l h v) }
+{}
+
+/// A new store is tidy; and the files that an opening leaves are, where what it found is in order.
+pub fn a_start_is_tidy()
+    ensures new { (logs : Logs) (room : ℕ) → IsTidy logs (fresh_layout room) no_history }
+    ensures opened { (room : ℕ) (found : Recovered) → IsWellRecovered found → IsWellStocked (layout_at_start room found) }
 {}

@@ -24,7 +24,7 @@ use Rattle.vl_mem.specs.declared.entry.Presence.TheVariants.{Absent, Standing, R
 use Rattle.vl_mem.specs.declared.event.Event.{Event}
 use Rattle.vl_mem.specs.declared.event.Event.TheVariants.{Found, Create, Remove, Adopt}
 use Rattle.vl_mem.specs.Event.{IsSound, after_event, replayed-push, state_after}
-use Rattle.vl_mem.specs.Entry.{Entries, Fits, HasFiles, Matches, Becomes, KeepsFile, entry_of, file_of, if_standing, if_removed, is_lent, plain, slots, spare_of, standing_in, removed_in, appends, removes, IsBlank}
+use Rattle.vl_mem.specs.Entry.{Entries, Fits, HasFiles, failing_of, Matches, Becomes, KeepsFile, entry_of, file_of, if_standing, if_removed, is_lent, plain, slots, spare_of, standing_in, removed_in, appends, removes, IsBlank}
 use Rattle.vl_mem.specs.Kept.{IsKept, slots_of}
 use Rattle.vl_mem.specs.declared.written.Written.{Written}
 use Rattle.vl_mem.specs.Written.{file_written}
@@ -222,6 +222,16 @@ module _ (name : Name) (entries next : Entries) (old new : Entry) (found : entry
 
   pub uses_adopt : new.hold ≡ true → UsesAdopt name before after
   uses_adopt hold = record { hold = ap (λ s. s.hold) spare_there ∙ hold; elsewhere = spare_elsewhere }
+
+  pub failing_elsewhere : (other : Name) → other ≢ name → failing_of (entry_of next other) ≡ failing_of (entry_of entries other)
+  failing_elsewhere other apart = ap failing_of (elsewhere name entries next new updates other apart)
+
+  pub same_failing : new.failing ≡ old.failing → (q : Name) → failing_of (entry_of next q) ≡ failing_of (entry_of entries q)
+  same_failing same q = ⊎_elim
+      (λ (here : q ≡ name). ap (λ n. failing_of (entry_of next n)) here ∙ ap failing_of updates.1 ∙ ap (λ fs. fs.items) same
+          ∙ sym (ap failing_of found) ∙ sym (ap (λ n. failing_of (entry_of entries n)) here))
+      (λ (other : q ≢ name). failing_elsewhere q other)
+      (same_or_other q name)
 
   pub same_spare : spare_of (Some new) ≡ spare_of (Some old) → SameSpare before after
   same_spare same q = ⊎_elim

@@ -142,5 +142,6 @@ pub record KeepsFile (old new : Entry) : Type 0 where
 pub record IsBlank (entry : Entry) : Type 0 where
   pub presence : entry.presence ≡ Absent
   pub spare : spare_of (Some entry) ≡ spare_of None
+  pub failing : failing_of (Some entry) ≡ []
   pub fits : Fits entry
   pub slots : slots entry ≡ 0

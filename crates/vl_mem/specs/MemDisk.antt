@@ -1,5 +1,5 @@
 -- A disk in memory as its callers see it.
-use Rattle.std.specs.Prelude.{◌≡◌, ◌↔◌, ℕ, ◌+◌, List, [], ◌∷◌, ◌++◌, length, Option, Some}
+use Rattle.std.specs.Prelude.{◌≡◌, ◌≢◌, ◌↔◌, ℕ, ◌+◌, List, [], ◌∷◌, ◌++◌, length, Option, Some}
 use Rattle.vl_disk.specs.declared.name.Name.{Name}
 use Rattle.vl_disk.specs.DiskState.{DiskState, File}
 use Rattle.vl_disk.specs.FaultPlan.{Follows, Plan}
@@ -69,6 +69,15 @@ pub record CountsRead (old new : MemDisk) (failed : Type 0) : Type 0 where
   pub changes : changes_of new ≡ changes_of old
   pub reads : Follows (reads_of old) (reads_of new) failed
 
+-- the calls at which writers are to fail are as they were: those that are listed, and those of each name
+abbrev pub KeepsWriters : MemDisk → MemDisk → Type 0
+KeepsWriters old new = (writers_of new ≡ writers_of old) × ((name : Name) → failing_at new name ≡ failing_at old name)
+
+-- the same, but for this name
+abbrev pub KeepsOtherWriters : Name → MemDisk → MemDisk → Type 0
+KeepsOtherWriters name old new =
+    (writers_of new ≡ writers_of old) × ((other : Name) → other ≢ name → failing_at new other ≡ failing_at old other)
+
 -- its files, its past and its room are as they were, and which of the other calls fail
 pub record KeepsFiles (old new : MemDisk) : Type 0 where
   pub told : told_by new ≡ told_by old
@@ -90,4 +99,3 @@ pub record Stays (old new : MemDisk) : Type 0 where
   pub events : new.events.items ≡ old.events.items
   pub changes : new.changes ≡ old.changes
   pub reads : new.reads ≡ old.reads
-  pub writers : writers_of new ≡ writers_of old

@@ -114,6 +114,7 @@ impl Entry {
         ensures lend { OnOk result (self.new.lend ≡ true) }
         ensures failing { OnOk result (self.new.failing.items ≡ failing.now) }
         ensures refused { OnErr result (spare_of (Some self.new) ≡ spare_of (Some self.old)) }
+        ensures not_failing { OnErr result (self.new.failing ≡ self.old.failing) }
         ensures keeps { KeepsFile self.old self.new }
     {
         let Ok(buffer) = Vec::with_capacity(alloc, bytes) else {
@@ -140,6 +141,7 @@ impl Entry {
     pub fn make_hold_room(&mut self) -> Result<(), NoMemory>
         ensures hold { OnOk result (self.new.hold ≡ true) }
         ensures has_room { self.old.hold ≡ true → result ≡ Ok tt }
+        ensures failing { self.new.failing ≡ self.old.failing }
         ensures keeps { KeepsFile self.old self.new }
         ensures slots { slots self.new ≤ slots self.old }
         ensures change { self.new.change ≡ self.old.change }
@@ -159,6 +161,7 @@ impl Entry {
     pub fn create(&mut self)
         requires { self.old.change ≡ true }
         ensures becomes { Becomes self.old self.new Standing new_file }
+        ensures failing { self.new.failing ≡ self.old.failing }
         ensures buffer { self.new.buffer ≡ self.old.buffer }
         ensures hold { self.new.hold ≡ self.old.hold }
         ensures lend { self.new.lend ≡ self.old.lend }
@@ -177,6 +180,7 @@ impl Entry {
         requires part { taken ≤ length piece.now }
         requires fits { Fits self.old }
         ensures piece { result.items ≡ piece.now }
+        ensures failing { self.new.failing ≡ self.old.failing }
         ensures becomes { Becomes self.old self.new self.old.presence
             (plain (lengthened result.items taken (file_of self.old))) }
         ensures change { self.new.change ≡ self.old.change }
@@ -194,6 +198,7 @@ impl Entry {
     pub fn sync(&mut self)
         requires { self.old.wholly_synced ≡ false }
         ensures becomes { Becomes self.old self.new self.old.presence (synced_file (file_of self.old)) }
+        ensures failing { self.new.failing ≡ self.old.failing }
         ensures spare { spare_of (Some self.new) ≡ spare_of (Some self.old) }
     {
         self.synced = self.bytes.len();
@@ -205,6 +210,7 @@ impl Entry {
     pub fn cut(&mut self, len: usize, left: usize)
         requires { self.old.change ≡ true }
         ensures becomes { Becomes self.old self.new self.old.presence (shortened len left (file_of self.old)) }
+        ensures failing { self.new.failing ≡ self.old.failing }
         ensures buffer { self.new.buffer ≡ self.old.buffer }
         ensures hold { self.new.hold ≡ self.old.hold }
         ensures lend { self.new.lend ≡ self.old.lend }
@@ -219,6 +225,7 @@ impl Entry {
     pub fn remove(&mut self)
         requires { self.old.presence ≡ Standing }
         ensures becomes { Becomes self.old self.new Removed (file_of self.old) }
+        ensures failing { self.new.failing ≡ self.old.failing }
         ensures spare { spare_of (Some self.new) ≡ spare_of (Some self.old) }
     {
         self.presence = Presence::Removed;
@@ -244,6 +251,7 @@ impl Entry {
         requires lent { self.old.presence ≡ Lent }
         requires doubled { IsDoubled written.now bytes copy }
         ensures becomes { Becomes self.old self.new Standing (plain (file_written written.now)) }
+        ensures failing { self.new.failing ≡ self.old.failing }
         ensures hold { self.new.hold ≡ true }
     {
         self.presence = Presence::Standing;
@@ -261,6 +269,7 @@ impl Entry {
         requires room { self.old.hold ≡ true }
         requires fits { Fits self.old }
         ensures copied { result.items ≡ self.old.bytes.items }
+        ensures failing { self.new.failing ≡ self.old.failing }
         ensures keeps { KeepsFile self.old self.new }
         ensures slots { slots self.new ≤ slots self.old }
         ensures change { self.new.change ≡ self.old.change }

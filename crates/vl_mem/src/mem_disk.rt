@@ -51,7 +51,8 @@ impl MemDisk {
     ghost use Rattle.vl_mem.specs.ChangePlan.{new_changes, stopping_after};
     ghost use Rattle.vl_mem.specs.CrashImage.{crash_image};
     ghost use Rattle.vl_mem.specs.Kept.{image_of};
-    ghost use Rattle.vl_mem.specs.MemDisk.{state_of, told_by, moment_of, changes_of, reads_of, writers_of, KeepsFiles};
+    ghost use Rattle.vl_mem.specs.MemDisk.{state_of, told_by, moment_of, changes_of, reads_of, writers_of, failing_at, KeepsFiles, KeepsWriters};
+    ghost use Rattle.vl_disk.specs.declared.name.Name.{Name};
 
     /// An empty disk. Of its changing calls exactly those fail that `faults` lists, by their numbers from 1, and of its
     /// other calls that can fail those that `read_faults` lists.
@@ -60,6 +61,7 @@ impl MemDisk {
         ensures moment { moment_of result ≡ 0 }
         ensures changes { changes_of result ≡ new_changes faults.items }
         ensures reads { reads_of result ≡ new_plan read_faults.items }
+        ensures writers { writers_of result ≡ [] }
     {
         MemDisk {
             alloc,
@@ -82,6 +84,7 @@ impl MemDisk {
         ensures started { IfOk result (λ disk. ForSome (told_by disk) (Started (image_of files.items))) }
         ensures changes { IfOk result (λ disk. changes_of disk ≡ new_changes faults.items) }
         ensures reads { IfOk result (λ disk. reads_of disk ≡ new_plan read_faults.items) }
+        ensures writers { IfOk result (λ disk. writers_of disk ≡ []) }
     {
         let mut entries = BTreeMap::new(alloc);
         let mut events = Vec::new(alloc);
@@ -103,6 +106,7 @@ impl MemDisk {
     pub fn stop_after(&mut self, calls: u64)
         ensures changes { changes_of self.new ≡ stopping_after calls (changes_of self.old) }
         ensures keeps { KeepsFiles self.old self.new }
+        ensures writers { KeepsWriters self.old self.new }
     {
         self.changes.stop_after(calls);
     }
@@ -111,6 +115,7 @@ impl MemDisk {
     /// `stop_after` doesn't count them.
     pub fn fail_writers(&mut self, calls: Vec<u64>)
         ensures writers { writers_of self.new ≡ calls.items }
+        ensures ready { (name : Name) → failing_at self.new name ≡ failing_at self.old name }
         ensures changes { changes_of self.new ≡ changes_of self.old }
         ensures keeps { KeepsFiles self.old self.new }
     {
@@ -124,6 +129,7 @@ impl MemDisk {
         ensures left { MayLeave (state_of self) (crash_image outcome (state_of self)) }
         ensures changes { IfOk result (λ disk. changes_of disk ≡ new_changes []) }
         ensures reads { IfOk result (λ disk. reads_of disk ≡ new_plan []) }
+        ensures writers { IfOk result (λ disk. writers_of disk ≡ []) }
     {
         let MemDisk { alloc, entries, .. } = self;
         let files = files_left(alloc, entries, outcome)?;
@@ -185,7 +191,7 @@ impl Disk for MemDisk {
     ghost use Rattle.vl_disk.specs.FaultPlan.{new_plan};
     ghost use Rattle.vl_disk.specs.Spare.{IsReady, CanAppend, SameSpare, SameSpareElsewhere, UsesHold};
     ghost use Rattle.vl_mem.specs.Event.{told_lawful, counts_present, only_present};
-    ghost use Rattle.vl_mem.specs.MemDisk.{told_by, room_of, changes_of, reads_of, reads_by, writers_of, failing_at, writes_of, file_by, CountsChange, CountsRead};
+    ghost use Rattle.vl_mem.specs.MemDisk.{told_by, room_of, changes_of, reads_of, reads_by, writers_of, failing_at, writes_of, file_by, CountsChange, CountsRead, KeepsOtherWriters, KeepsWriters};
     ghost use Rattle.vl_mem.specs.FailsPast.{counted_past};
 
     ghost lawful = { λ m. told_lawful m.events.items m.kept.sound };
@@ -202,6 +208,7 @@ impl Disk for MemDisk {
         ensures no_change { ChangesNothing ⟦<MemDisk as Watched>⟧ self.old self.new (IsErrOf result DiskFail.Failed) }
         ensures spare { SameSpare (room_of self.old) (room_of self.new) }
         ensures counts { CountsRead self.old self.new (IsErrOf result DiskFail.Failed) }
+        ensures writers { KeepsWriters self.old self.new }
     {
         if self.reads.fails() {
             return Err(DiskFail::Failed);
@@ -216,6 +223,7 @@ impl Disk for MemDisk {
         ensures no_change { ChangesNothing ⟦<MemDisk as Watched>⟧ self.old self.new (IsErr result) }
         ensures spare { SameSpare (room_of self.old) (room_of self.new) }
         ensures counts { CountsRead self.old self.new (IsErr result) }
+        ensures writers { KeepsWriters self.old self.new }
     {
         if self.reads.fails() {
             return Err(Failed);
@@ -233,6 +241,7 @@ impl Disk for MemDisk {
 
         // Where it fails, it reads nothing.
         ensures counts { CountsRead self.old self.new (IsErr result) }
+        ensures writers { KeepsWriters self.old self.new }
         ensures nothing { OnErr result (out.new ≡ out.old) }
     {
         if self.reads.fails() {
@@ -254,6 +263,8 @@ impl Disk for MemDisk {
 
         // A writer of this name fails at the calls that are listed now.
         ensures writers { OnOk result (failing_at self.new name ≡ writers_of self.old) }
+        ensures other_writers { KeepsOtherWriters name self.old self.new }
+        ensures refused_writers { OnErr result (KeepsWriters self.old self.new) }
     {
         self.know(name)?;
         make_room(&mut self.events, self.entries.len())?;
@@ -267,6 +278,7 @@ impl Disk for MemDisk {
         requires room { IsTrue (room_of self.old name).change }
         ensures disk { Creates ⟦<MemDisk as Watched>⟧ name self.old self.new result }
         ensures counts { CountsChange self.old self.new (IsErr result) }
+        ensures writers { KeepsWriters self.old self.new }
     {
         if self.changes.fails() {
             return Err(Failed);
@@ -280,6 +292,7 @@ impl Disk for MemDisk {
         requires room { CanAppend (length piece.now) (room_of self.old name) }
         ensures disk { Appends ⟦<MemDisk as Watched>⟧ name piece.now self.old self.new result }
         ensures counts { CountsChange self.old self.new (IsErr result) }
+        ensures writers { KeepsWriters self.old self.new }
     {
         if self.changes.fails() {
             self.hand(name, piece, 0);
@@ -293,6 +306,7 @@ impl Disk for MemDisk {
         requires { ForSome (told_by self.old) (Stands name) }
         ensures disk { Syncs ⟦<MemDisk as Watched>⟧ name self.old self.new result }
         ensures counts { CountsChange self.old self.new (IsErr result) }
+        ensures writers { KeepsWriters self.old self.new }
     {
         if self.changes.fails() {
             return Err(Failed);
@@ -310,6 +324,7 @@ impl Disk for MemDisk {
         requires room { IsTrue (room_of self.old name).change }
         ensures disk { Cuts ⟦<MemDisk as Watched>⟧ name len self.old self.new result }
         ensures counts { CountsChange self.old self.new (IsErr result) }
+        ensures writers { KeepsWriters self.old self.new }
     {
         if self.changes.fails() {
             let whole = self.entry(name).bytes.len();
@@ -324,6 +339,7 @@ impl Disk for MemDisk {
         requires { ForSome (told_by self.old) (Stands name) }
         ensures disk { Removes ⟦<MemDisk as Watched>⟧ name self.old self.new result }
         ensures counts { CountsChange self.old self.new (IsErr result) }
+        ensures writers { KeepsWriters self.old self.new }
     {
         if self.changes.fails() {
             return Err(Failed);
@@ -341,6 +357,7 @@ impl Disk for MemDisk {
         ensures memory { IsTrue (room_of self.old name).hold → IsErrOf result DiskFail.NoMemory → ⊥ }
         ensures spare { UsesHold name (room_of self.old) (room_of self.new) }
         ensures counts { CountsRead self.old self.new (IsErrOf result DiskFail.Failed) }
+        ensures writers { KeepsWriters self.old self.new }
     {
         if self.reads.fails() {
             return Err(DiskFail::Failed);
@@ -358,6 +375,8 @@ impl Disk for MemDisk {
             (λ _. ⟦<MemWriter as Writer>⟧.file writer ≡ Some new_file)) }
         ensures faults { IfOk result (λ writer. ⟦<MemWriter as Writer>⟧.faults writer ≡ 0) }
         ensures counts { CountsRead self.old self.new (IsErr result) }
+        ensures writers { OnErr result (KeepsWriters self.old self.new) }
+        ensures other_writers { KeepsOtherWriters name self.old self.new }
 
         // Of its calls those fail that were listed when the name was made ready.
         ensures plan { IfOk result (λ writer. writes_of writer ≡ new_plan (failing_at self.old name)) }
@@ -375,6 +394,7 @@ impl Disk for MemDisk {
         ensures disk { Adopts ⟦<MemDisk as Watched>⟧ (⟦<MemWriter as Writer>⟧.named writer) (file_by writer) self.old self.new }
         ensures changes { changes_of self.new ≡ changes_of self.old }
         ensures reads { reads_of self.new ≡ reads_of self.old }
+        ensures writers { KeepsWriters self.old self.new }
     {
         self.take_back(writer.into_returned());
     }

@@ -1,18 +1,17 @@
 -- The value that a pointer leads to, found by its record's head and key.
-use Rattle.std.specs.Prelude.{◌≡◌, ◌+◌, ◌-◌, ◌<◌, ◌≤◌, ◌^◌, ℕ, true, List, ◌++◌, length, take, drop, Option, Some, None}
+use Rattle.std.specs.Prelude.{◌≡◌, ◌+◌, ◌≤◌, ℕ, true, List, ◌++◌, length, take, drop, Option, Some, None}
 use Rattle.std.proofs.Common.{refl, ap, sym, subst, ◌∙◌, append_assoc, length-append, arith}
 use Rattle.std.proofs.Math.Seq.{drop-drop}
-use Rattle.std.proofs.lemmas.List.{drop_at, take_at, take-append-drop, length-drop, length-take-le}
+use Rattle.std.proofs.lemmas.List.{take_at, take-append-drop, length-drop, length-take-le}
 use Rattle.vl_disk.specs.DiskState.{bytes_at}
 use Rattle.vl_model.specs.Formats.{record_head}
-use Rattle.vl_model.specs.Frames.{record_length}
 use Rattle.vl_model.specs.Keys.{Stored, is_key_length, is_value_length, tagged, value_length}
 use Rattle.vl_model.specs.declared.change.Change.TheVariants.{Set}
 use Rattle.vl_model.specs.declared.pointer.Pointer.{Pointer}
 use Rattle.vl_seglog.specs.Record.{IsTag, head_bytes, record_bytes}
 use Rattle.vl_seglog.specs.Stored.{LeadsTo, stored_at}
 use Rattle.vl_seglog.specs.laws.RecordLaws.{least_record, length-head_bytes, length-record_bytes}
-use Rattle.vl_seglog.proofs.StoredLaws.{leads_stored, stored_leads}
+use Rattle.vl_seglog.specs.laws.StoredLaws.{leads_stored, stored_leads}
 
 none_or : (found : Option Stored) → ((value : Stored) → found ≡ Some value → ⊥) → found ≡ None
 none_or None other = refl

@@ -15,5 +15,4 @@ pub mod Records
 pub mod Runs
 pub mod Scanning
 pub mod Staging
-pub mod StoredLaws
 mod Worked

@@ -1,6 +1,6 @@
 -- A frame that stands at a place of a log, by the length that its head says.
 use Rattle.std.specs.Prelude.{◌≡◌, ◌+◌, ◌≤◌, ℕ, List, [], ◌∷◌, ◌++◌, length, take, drop}
-use Rattle.std.proofs.Common.{refl, ap, sym, ◌∙◌, append_assoc, length-append, arith}
+use Rattle.std.proofs.Common.{ap, sym, ◌∙◌, append_assoc, length-append, arith}
 use Rattle.std.proofs.lemmas.List.{append-nil, length-drop, take_at, take-append-drop}
 use Rattle.byteorder.specs.Endian.{big_bytes}
 use Rattle.vl_disk.specs.DiskState.{bytes_at}

@@ -6,4 +6,6 @@ pub mod LogReadingLaws
 pub mod MoveLaws
 pub mod RecordLaws
 pub mod RelocationLaws
+pub mod ScanLaws
 pub mod SeriesLaws
+pub mod StoredLaws

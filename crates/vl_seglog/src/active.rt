@@ -53,6 +53,7 @@ impl ActiveLog {
         ensures staged_for { IfOk result (IsStagedFor self.now) }
         ensures room { IfOk result (λ staged.
             CanAppend (length staged.frame.items) (D.spare disk.new (names.Log self.now.number))) }
+        ensures hold { OnOk result (IsTrue (D.spare disk.new (names.Log self.now.number)).hold) }
         ensures elsewhere { SameSpareElsewhere (names.Log self.now.number) (D.spare disk.old) (D.spare disk.new) }
         ensures refused { OnErr result (SameSpare (D.spare disk.old) (D.spare disk.new)) }
         ensures no_change { ChangesNothing D.Watched disk.old disk.new ⊥ }
@@ -74,6 +75,7 @@ impl ActiveLog {
         ensures staged_for { IfOk result (IsStagedFor self.now) }
         ensures room { IfOk result (λ staged.
             CanAppend (length staged.frame.items) (D.spare disk.new (names.Log self.now.number))) }
+        ensures hold { OnOk result (IsTrue (D.spare disk.new (names.Log self.now.number)).hold) }
         ensures elsewhere { SameSpareElsewhere (names.Log self.now.number) (D.spare disk.old) (D.spare disk.new) }
         ensures refused { OnErr result (SameSpare (D.spare disk.old) (D.spare disk.new)) }
         ensures no_change { ChangesNothing D.Watched disk.old disk.new ⊥ }
@@ -109,8 +111,8 @@ impl ActiveLog {
         disk.sync(Name::Log(self.number))
     }
 
-    /// Holds the log's file: what is appended to no more. The room that `stage_commit` and `stage_move` make is enough
-    /// for it.
+    /// The log as one that is appended to no more: its file is held. With the room that `stage_commit` and `stage_move`
+    /// make it wants no memory.
     pub fn seal<D: Disk>(self, disk: &mut D) -> Result<SealedLog<D::Held>, DiskFail>
         requires { ForSome (D.told disk.old) (Stands (names.Log self.number)) }
         ensures number { IfOk result (λ log. log.number ≡ self.number) }

@@ -64,7 +64,7 @@ impl<H: HeldFile> SealedLog<H> {
         ensures { Answers (R.faults reader.old) (R.faults reader.new) self.now.number (H.bytes self.now.held)
             (λ bytes value. stored_at self.now.format bytes pointer key.now ≡ Some value)
             (λ bytes place. (stored_at self.now.format bytes pointer key.now ≡ None)
-                × (place ≡ pointer.place)) result }
+            × (place ≡ pointer.place)) result }
     {
         let lying = self.find(reader, pointer, key)?;
         let mut bytes = Vec::new(alloc);
@@ -85,7 +85,7 @@ impl<H: HeldFile> SealedLog<H> {
         ensures answers { Answers (R.faults reader.old) (R.faults reader.new) self.now.number (H.bytes self.now.held)
             (λ bytes filled. IsFilled (stored_at self.now.format bytes pointer key.now) out.old out.new filled)
             (λ bytes place. (stored_at self.now.format bytes pointer key.now ≡ None)
-                × (place ≡ pointer.place)) result }
+            × (place ≡ pointer.place)) result }
         ensures no_memory { IsErrOf result why.NoMemory → ⊥ }
     {
         let lying = self.find(reader, pointer, key)?;
@@ -111,9 +111,9 @@ impl<H: HeldFile> SealedLog<H> {
     ) -> Result<Lying, LogFault>
         ensures answers { Answers (R.faults reader.old) (R.faults reader.new) self.now.number (H.bytes self.now.held)
             (λ bytes lying. stored_at self.now.format bytes pointer key.now
-                ≡ Some (tagged (bytes_at lying.place lying.length bytes) lying.tag))
+            ≡ Some (tagged (bytes_at lying.place lying.length bytes) lying.tag))
             (λ bytes place. (stored_at self.now.format bytes pointer key.now ≡ None)
-                × (place ≡ pointer.place)) result }
+            × (place ≡ pointer.place)) result }
         ensures inside { IfOk result (λ lying. lying.place + lying.length ≤ H.size self.now.held) }
         ensures no_memory { IsErrOf result why.NoMemory → ⊥ }
     {
@@ -146,9 +146,9 @@ impl<H: HeldFile> SealedLog<H> {
         requires fits { pointer.place + pointer.length < 2 ^ 64 }
         ensures answers { Answers (R.faults reader.old) (R.faults reader.new) self.now.number (H.bytes self.now.held)
             (λ bytes lying. stored_at self.now.format bytes pointer key.now
-                ≡ Some (tagged (bytes_at lying.place lying.length bytes) lying.tag))
+            ≡ Some (tagged (bytes_at lying.place lying.length bytes) lying.tag))
             (λ bytes place. (stored_at self.now.format bytes pointer key.now ≡ None)
-                × (place ≡ pointer.place)) result }
+            × (place ≡ pointer.place)) result }
         ensures inside { IfOk result (λ lying. lying.place + lying.length ≤ H.size self.now.held) }
         ensures no_memory { IsErrOf result why.NoMemory → ⊥ }
     {

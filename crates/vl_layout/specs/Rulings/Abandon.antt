@@ -2,7 +2,9 @@
 use Rattle.vl_model.specs.History.{History}
 use Rattle.vl_layout.specs.Jobs.{Made, job_ended}
 use Rattle.vl_layout.specs.Ruling.{Ruling, leaving}
+use Rattle.vl_layout.specs.declared.job.Job.{Job}
 use Rattle.vl_layout.specs.declared.layout.Layout.{Layout}
 
-abbrev pub abandon_ruling : Layout → History → Made → Ruling (Unit {0})
-abandon_ruling l h made = leaving tt h (job_ended made l)
+-- of the open job, which has these tables
+abbrev pub abandon_ruling : Layout → History → Job → Made → Ruling (Unit {0})
+abandon_ruling l h job made = leaving tt h (job_ended made l)

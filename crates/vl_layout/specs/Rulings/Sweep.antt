@@ -34,14 +34,14 @@ abbrev pub is_held : List Pin → Retired → Bool
 is_held ps file = list_any (λ (p : Pin). nat_lt p.version_number file.version_number) ps
 
 -- where there is a least number that is still looked at, the file retired at one up to it
-abbrev pub is_up_to : Option ℕ → Retired → Bool
-is_up_to None file = true
-is_up_to (Some least) file = nat_le file.version_number least
+abbrev pub is_retired_up_to : Option ℕ → Retired → Bool
+is_retired_up_to None file = true
+is_retired_up_to (Some least) file = nat_le file.version_number least
 
 -- the files that a sweep removes, the earliest retired first
 abbrev pub swept : Option ℕ → Layout → List FileName
 swept least l =
-    map (λ (r : Retired). r.file) (filter (λ r. not (is_held (pins l) r) && is_up_to least r) l.retired)
+    map (λ (r : Retired). r.file) (filter (λ r. not (is_held (pins l) r) && is_retired_up_to least r) l.retired)
 
 abbrev pub is_same : FileName → FileName → Bool
 is_same (Log a) (Log b) = a == b

@@ -33,15 +33,15 @@ abbrev pub with_changes : Commits → Changes → Commits
 with_changes p changes = record p { commits = p.commits ++ changes ∷ [] }
 
 -- these commits with their numbers, of which this is the first
-abbrev pub numbered : ℕ → List Changes → List (ℕ × Changes)
-numbered number [] = []
-numbered number (changes ∷ later) = (number, changes) ∷ numbered (number + 1) later
+abbrev pub numbered_changes : ℕ → List Changes → List (ℕ × Changes)
+numbered_changes number [] = []
+numbered_changes number (changes ∷ later) = (number, changes) ∷ numbered_changes (number + 1) later
 
 -- all that is known of versions, by rising numbers
 abbrev pub all_changes : Commits → List (ℕ × Changes)
-all_changes p = filter (λ (c : ℕ × Changes). nat_le c.0 p.first) p.base ++ numbered (p.first + 1) p.commits
+all_changes p = filter (λ (c : ℕ × Changes). nat_le c.0 p.first) p.base ++ numbered_changes (p.first + 1) p.commits
 
--- those numbered at most n
+-- those numbered_changes at most n
 abbrev pub changes_up_to : Commits → ℕ → List (ℕ × Changes)
 changes_up_to p n = filter (λ (c : ℕ × Changes). nat_le c.0 n) (all_changes p)
 
@@ -62,13 +62,13 @@ abbrev pub rows_in : Commits → ℕ → List Row
 rows_in p n = rows_after [] (changes_up_to p n)
 
 -- the numbers of a key's versions
-abbrev pub versions_in : Commits → List ℕ → List ℕ
-versions_in p key =
+abbrev pub known_versions : Commits → List ℕ → List ℕ
+known_versions p key =
     map (λ (c : ℕ × Changes). c.0) (filter (λ (c : ℕ × Changes). is_some (find key_cmp key c.1)) (all_changes p))
 
 -- the least number at which the key can be read
 abbrev pub low_in : Commits → ℕ → ℕ → ℕ → List ℕ → ℕ
-low_in p floor keep since key = low_of (versions_in p key) floor keep since
+low_in p floor keep since key = low_of (known_versions p key) floor keep since
 
 -- what a read at an older number is answered
 abbrev pub at_answer_in : Commits → Beginning → ℕ → List ℕ → ℕ → AtAnswer

@@ -46,26 +46,32 @@ abbrev pub drop_by : State → Name → Option Thing → Step
 drop_by s name None = only (Unknown name) s
 drop_by s name (Some (ATransaction t b)) = ended_by s name (forget_ruling s.layout (history_in s.commits) t)
 drop_by s name (Some (AView v b)) = ended_by s name (release_ruling s.layout (history_in s.commits) v)
-drop_by s name (Some (AJob job made)) = ended_by s name (abandon_ruling s.layout (history_in s.commits) made)
+drop_by s name (Some (AJob job made)) = ended_by s name (abandon_ruling s.layout (history_in s.commits) job made)
 drop_by s name (Some (APass pass batch)) = ended_by s name (end_pass_ruling s.layout (history_in s.commits) pass)
 
 -- ---- rotate and flush
 
-abbrev pub stepped : StepAnswer → Answer
-stepped (step.Stepped n) = Number n
-stepped step.Idle = Idle
-stepped (step.Halted file) = Halted file
-stepped (step.Exhausted c) = Exhausted c
+abbrev pub step_told : StepAnswer → Answer
+step_told (step.Stepped n) = Number n
+step_told step.Idle = Idle
+step_told (step.Halted file) = Halted file
+step_told (step.Exhausted c) = Exhausted c
 
 abbrev pub step_by : State → Ruling StepAnswer → Step
-step_by s r = record { answer = stepped r.answer; state = record s { layout = r.layout }; calls = r.calls }
+step_by s r = record { answer = step_told r.answer; state = record s { layout = r.layout }; calls = r.calls }
 
 -- ---- jobs
 
 abbrev pub made_of : Job → List ℕ → Made
 made_of job numbers = record { tables = tables_made numbers (outputs job); leavings = [] }
 
--- A job draws a number for each table, and fills it. Where one is refused it ends, and its name is free.
+-- by what drawing a number answers; where it is refused the job ends, and its name is free
+abbrev pub filled : State → Layout → Made → ℕ → Step → FreshAnswer → Step
+filled s l made calls more (fresh.Drawn n) = more
+filled s l made calls more (fresh.Halted file) = record { answer = Halted file; state = record s { layout = job_ended made l }; calls = calls }
+filled s l made calls more (fresh.Exhausted c) = record { answer = Exhausted c; state = record s { layout = job_ended made l }; calls = calls }
+
+-- a job draws a number for each table, and fills it
 abbrev pub fill : State → Name → Job → Layout → List (List Entry) → List ℕ → ℕ → Step
 fill s name job l [] numbers calls = record {
   answer = Number (length (kept job));
@@ -73,12 +79,9 @@ fill s name job l [] numbers calls = record {
   calls = calls;
 }
 fill s name job l (es ∷ output) numbers calls =
-    filled (fill s name job (fresh_ruling l (history_in s.commits)).layout output (numbers ++ l.next_table ∷ []) (calls + 1)) (fresh_ruling l (history_in s.commits)).answer
-  where
-    filled : Step → FreshAnswer → Step
-    filled more (fresh.Drawn n) = more
-    filled more (fresh.Halted file) = record { answer = Halted file; state = record s { layout = job_ended (made_of job numbers) l }; calls = calls }
-    filled more (fresh.Exhausted c) = record { answer = Exhausted c; state = record s { layout = job_ended (made_of job numbers) l }; calls = calls }
+    filled s l (made_of job numbers) calls
+    (fill s name job (fresh_ruling l (history_in s.commits)).layout output (numbers ++ l.next_table ∷ []) (calls + 1))
+    (fresh_ruling l (history_in s.commits)).answer
 
 abbrev pub planned_by : State → Name → Ruling (Option Job) → Option Job → Step
 planned_by s name r None = only Idle s
@@ -88,11 +91,11 @@ abbrev pub plan_as : State → Name → Ruling (Option Job) → Option Thing →
 plan_as s name r (Some other) = only (Taken name) s
 plan_as s name r None = planned_by s name r r.answer
 
-abbrev pub installed : InstallAnswer → Answer
-installed install.Installed = Done
-installed (install.Halted file) = Halted file
-installed (install.Raced key number) = Raced key
-installed (install.Exhausted c) = Exhausted c
+abbrev pub install_told : InstallAnswer → Answer
+install_told install.Installed = Done
+install_told (install.Halted file) = Halted file
+install_told (install.Raced key number) = Raced key
+install_told (install.Exhausted c) = Exhausted c
 
 -- the name is free again whatever it answers
 abbrev pub install_by : State → Name → Option Thing → Step
@@ -102,7 +105,7 @@ install_by s name (Some (AView v b)) = only (Unknown name) s
 install_by s name (Some (APass pass batch)) = only (Unknown name) s
 install_by s name (Some (AJob job made)) =
     let r = install_ruling s.layout (history_in s.commits) job made in
-    record { answer = installed r.answer; state = without_thing s r.layout name; calls = r.calls }
+    record { answer = install_told r.answer; state = without_thing s r.layout name; calls = r.calls }
 
 -- ---- passes
 
@@ -151,20 +154,20 @@ move_by s name (Some (APass pass (Some batch))) =
 
 -- ---- removal, and how many versions are kept
 
-abbrev pub removed : SweepAnswer → Answer
-removed (sweep.Removed count) = Removed count
-removed (sweep.Halted file) = Halted file
+abbrev pub sweep_told : SweepAnswer → Answer
+sweep_told (sweep.Removed count) = Removed count
+sweep_told (sweep.Halted file) = Halted file
 
 abbrev pub sweep_by : State → Ruling SweepAnswer → Step
-sweep_by s r = record { answer = removed r.answer; state = record s { layout = r.layout }; calls = r.calls }
+sweep_by s r = record { answer = sweep_told r.answer; state = record s { layout = r.layout }; calls = r.calls }
 
-abbrev pub keeping : KeepAnswer → Answer
-keeping keep.Kept = Done
-keeping (keep.Halted file) = Halted file
-keeping keep.InvalidRequest = Invalid
+abbrev pub keep_told : KeepAnswer → Answer
+keep_told keep.Kept = Done
+keep_told (keep.Halted file) = Halted file
+keep_told keep.InvalidRequest = Invalid
 
 abbrev pub keep_by : State → Ruling KeepAnswer → Step
-keep_by s r = record { answer = keeping r.answer; state = record s { layout = r.layout }; calls = r.calls }
+keep_by s r = record { answer = keep_told r.answer; state = record s { layout = r.layout }; calls = r.calls }
 
 -- ---- all lines
 
@@ -211,6 +214,11 @@ answers s (line ∷ lines) = (step_of s line).answer ∷ answers (step_of s line
 abbrev pub state_behind : State → List Line → State
 state_behind s [] = s
 state_behind s (line ∷ lines) = state_behind (step_of s line).state lines
+
+-- how many calls of each line change files
+abbrev pub calls_of : State → List Line → List ℕ
+calls_of s [] = []
+calls_of s (line ∷ lines) = (step_of s line).calls ∷ calls_of (step_of s line).state lines
 
 -- the answers before the line whose calls pass a stop, where so many calls were made before
 abbrev pub answers_until : ℕ → ℕ → State → List Line → List Answer

@@ -125,8 +125,8 @@ scan_by s way name low high limit (Some (ATransaction t b)) =
 -- ---- writes
 
 -- whether one transaction may have these writes
-abbrev pub fits : Changes → Bool
-fits writes =
+abbrev pub is_small_enough : Changes → Bool
+is_small_enough writes =
     nat_le (length writes) max_transaction_keys
     && nat_le (sum_by (λ (write : List ℕ × Change). length write.0 + length (value_bytes write.1)) writes) max_transaction_bytes
 
@@ -138,7 +138,7 @@ write_by s name key change (Some (AView v b)) = only ReadOnly s
 write_by s name key change (Some (ATransaction t b)) =
     let writes = put key_cmp key change t.writes in
     if not (is_key_length (length key) && is_value_length log_format (length (value_bytes change))) then only Invalid s
-    else (if fits writes then record { answer = Done; state = with_thing s s.layout name (ATransaction (record t { writes = writes }) b); calls = 0 }
+    else (if is_small_enough writes then record { answer = Done; state = with_thing s s.layout name (ATransaction (record t { writes = writes }) b); calls = 0 }
     else only TooBig s)
 
 -- ---- commits

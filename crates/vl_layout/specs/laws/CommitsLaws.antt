@@ -1,25 +1,25 @@
 -- A history as plain lists has the values, contents, versions and conflicts of the history that it is.
-use Rattle.std.proofs.Common.{◌≡◌, ℕ, zero, suc, ◌+◌, ◌-◌, ◌≤◌, ◌<◌, Bool, true, false, cond, not, List, [], ◌∷◌, ◌++◌, map, length, take, refl, ap, sym, ◌∙◌, subst, arith}
+use Rattle.std.proofs.Common.{◌≡◌, ℕ, zero, suc, ◌+◌, ◌-◌, ◌≤◌, ◌<◌, Bool, true, false, cond, not, List, [], ◌∷◌, ◌++◌, map, take, refl, ap, sym, ◌∙◌, arith}
 use Rattle.std.proofs.lemmas.Bool.{false≢true}
 use Rattle.std.proofs.lemmas.Bool.Decides.{nat_tests}
 use Rattle.std.specs.Prelude.{T, min, nat_le, is_some, Option, Some, None, ◌&&◌}
 use Rattle.std.specs.declared.cmp.Ordering.TheVariants.{Equal}
 use Rattle.std.specs.Cmp.Lexicographic.{nat_list_cmp_total}
 use Rattle.std.specs.List.{AllByRecursion, filter}
-use Rattle.std.specs.Ordering.{eq_by_cmp, is_eq, is_lt, nat_cmp}
-use Rattle.std.specs.FinMap.{FinMap, empty, entries, entries_sorted, find, from_sorted, get, get-entries, get-from_sorted, entries-from_sorted, nat_cmp-IsAntisymmetric, slice_cmp-IsAntisymmetric}
-use Rattle.std.specs.FinMap.Entries.{is_sorted, below_all, put, is_sorted-put, is_sorted-where_key, find-put, find-where_key, same_entries}
-use Rattle.vl_model.specs.Conflicts.{Named, last_named, named_from, is_overwritten, first_of, first_conflict}
-use Rattle.vl_model.specs.History.{History, Past, contents_at, commits_up_to, known_up_to, last_change, newer, past_value, value_at, value_left}
-use Rattle.vl_model.specs.Keys.{Stored, Row, Writes, key_cmp}
-use Rattle.vl_model.specs.Reads.{Read, row_written, rows_written}
+use Rattle.std.specs.Ordering.{eq_by_cmp, is_eq, nat_cmp}
+use Rattle.std.specs.FinMap.{entries, entries_sorted, find, from_sorted, get, get-entries, get-from_sorted, entries-from_sorted}
+use Rattle.std.specs.FinMap.Entries.{is_sorted, is_sorted-put, is_sorted-where_key, find-put, find-where_key, same_entries}
+use Rattle.vl_model.specs.Conflicts.{named_from, is_overwritten, first_of, first_conflict}
+use Rattle.vl_model.specs.History.{contents_at, commits_up_to, known_up_to, last_change, newer, value_at, value_left}
+use Rattle.vl_model.specs.Keys.{Row, Writes, key_cmp}
+use Rattle.vl_model.specs.Reads.{Read, rows_written}
 use Rattle.vl_model.specs.declared.change.Change.{Change}
 use Rattle.vl_model.specs.declared.change.Change.TheVariants.{Set, Delete}
 use Rattle.vl_model.specs.Numbers.{low_of}
-use Rattle.vl_model.specs.Versions.{naming, versions, low, numbered as numbered_maps}
+use Rattle.vl_model.specs.Versions.{naming, versions, low, numbered}
 use Rattle.vl_model.specs.laws.HistoryLaws.{get-contents_at, value_left-newer}
 use Rattle.vl_model.specs.laws.WinnerLaws.{key_exact, key_tied, same_key}
-use Rattle.vl_layout.specs.Store.Commits.{Changes, Commits, history_in, numbered, all_changes, changes_up_to, last_in, value_in, rows_after, rows_in, conflict_in, versions_in, low_in, AreProper}
+use Rattle.vl_layout.specs.Store.Commits.{Changes, Commits, history_in, numbered_changes, changes_up_to, last_in, value_in, rows_after, rows_in, conflict_in, known_versions, low_in, AreProper}
 
 first_part : (a b : Bool) → T (a && b) → T a
 first_part true b both = tt
@@ -117,7 +117,7 @@ module _ (key : List ℕ) where
 
   -- and the last of the commits up to a number
   made : (n m : ℕ) (cs : List Changes) → AllByRecursion (λ (c : Changes). T (is_sorted key_cmp c)) cs
-      → last_in (filter (λ (c : ℕ × Changes). nat_le c.0 n) (numbered m cs)) key ≡ last_change (take ((n + 1) - m) (map from_sorted cs)) key
+      → last_in (filter (λ (c : ℕ × Changes). nat_le c.0 n) (numbered_changes m cs)) key ≡ last_change (take ((n + 1) - m) (map from_sorted cs)) key
   made n m [] all = sym (nothing ((n + 1) - m))
     where
       nothing : (k : ℕ) → last_change (take k []) key ≡ None
@@ -125,19 +125,19 @@ module _ (key : List ℕ) where
       nothing (suc k) = refl
   made n m (c ∷ cs) all = by_test (nat_le m n) refl (made n (m + 1) cs all.1)
     where
-      none_above : (k : ℕ) (ds : List Changes) → n < k → last_in (filter (λ (d : ℕ × Changes). nat_le d.0 n) (numbered k ds)) key ≡ None
+      none_above : (k : ℕ) (ds : List Changes) → n < k → last_in (filter (λ (d : ℕ × Changes). nat_le d.0 n) (numbered_changes k ds)) key ≡ None
       none_above k [] less = refl
       none_above k (d ∷ ds) less =
           let no_more : nat_le k n ≡ false = grind (arith, nat_tests) in
-          ap (λ b. last_in (cond b ((k, d) ∷ filter (λ (x : ℕ × Changes). nat_le x.0 n) (numbered (k + 1) ds)) (filter (λ (x : ℕ × Changes). nat_le x.0 n) (numbered (k + 1) ds))) key) no_more
+          ap (λ b. last_in (cond b ((k, d) ∷ filter (λ (x : ℕ × Changes). nat_le x.0 n) (numbered_changes (k + 1) ds)) (filter (λ (x : ℕ × Changes). nat_le x.0 n) (numbered_changes (k + 1) ds))) key) no_more
           ∙ none_above (k + 1) ds (omega (arith, less))
 
       by_test : (b : Bool) → nat_le m n ≡ b
-          → last_in (filter (λ (d : ℕ × Changes). nat_le d.0 n) (numbered (m + 1) cs)) key ≡ last_change (take ((n + 1) - (m + 1)) (map from_sorted cs)) key
-          → last_in (cond b ((m, c) ∷ filter (λ (d : ℕ × Changes). nat_le d.0 n) (numbered (m + 1) cs)) (filter (λ (d : ℕ × Changes). nat_le d.0 n) (numbered (m + 1) cs))) key ≡ last_change (take ((n + 1) - m) (from_sorted c ∷ map from_sorted cs)) key
+          → last_in (filter (λ (d : ℕ × Changes). nat_le d.0 n) (numbered_changes (m + 1) cs)) key ≡ last_change (take ((n + 1) - (m + 1)) (map from_sorted cs)) key
+          → last_in (cond b ((m, c) ∷ filter (λ (d : ℕ × Changes). nat_le d.0 n) (numbered_changes (m + 1) cs)) (filter (λ (d : ℕ × Changes). nat_le d.0 n) (numbered_changes (m + 1) cs))) key ≡ last_change (take ((n + 1) - m) (from_sorted c ∷ map from_sorted cs)) key
       by_test true is later =
           let one_more : (n + 1) - m ≡ suc ((n + 1) - (m + 1)) = let le : m ≤ n = grind (arith, nat_tests) in omega (arith, le) in
-          ap (λ o. newer o (last_in (filter (λ (d : ℕ × Changes). nat_le d.0 n) (numbered (m + 1) cs)) key)) (sym (get-from_sorted key_cmp c key all.0))
+          ap (λ o. newer o (last_in (filter (λ (d : ℕ × Changes). nat_le d.0 n) (numbered_changes (m + 1) cs)) key)) (sym (get-from_sorted key_cmp c key all.0))
           ∙ ap (newer (get (from_sorted c) key)) later
           ∙ sym (ap (λ k. last_change (take k (from_sorted c ∷ map from_sorted cs)) key) one_more)
       by_test false is later =
@@ -149,10 +149,10 @@ module _ (p : Commits) (proper : AreProper p) where
   last_up_to : (n : ℕ) (key : List ℕ)
       → last_in (changes_up_to p n) key ≡ newer (last_change (known_up_to (min n p.first) (history_in p).base) key) (last_change (commits_up_to (history_in p) n) key)
   last_up_to n key =
-      ap (λ (cs : List (ℕ × Changes)). last_in cs key) (filter-append (λ (c : ℕ × Changes). nat_le c.0 n) (filter (λ (c : ℕ × Changes). nat_le c.0 p.first) p.base) (numbered (p.first + 1) p.commits))
-      ∙ last_in-append (filter (λ (c : ℕ × Changes). nat_le c.0 n) (filter (λ (c : ℕ × Changes). nat_le c.0 p.first) p.base)) (filter (λ (c : ℕ × Changes). nat_le c.0 n) (numbered (p.first + 1) p.commits)) key
-      ∙ ap (λ (cs : List (ℕ × Changes)). newer (last_in cs key) (last_in (filter (λ (c : ℕ × Changes). nat_le c.0 n) (numbered (p.first + 1) p.commits)) key)) (filter-twice p.first n p.base)
-      ∙ ap (λ o. newer o (last_in (filter (λ (c : ℕ × Changes). nat_le c.0 n) (numbered (p.first + 1) p.commits)) key))
+      ap (λ (cs : List (ℕ × Changes)). last_in cs key) (filter-append (λ (c : ℕ × Changes). nat_le c.0 n) (filter (λ (c : ℕ × Changes). nat_le c.0 p.first) p.base) (numbered_changes (p.first + 1) p.commits))
+      ∙ last_in-append (filter (λ (c : ℕ × Changes). nat_le c.0 n) (filter (λ (c : ℕ × Changes). nat_le c.0 p.first) p.base)) (filter (λ (c : ℕ × Changes). nat_le c.0 n) (numbered_changes (p.first + 1) p.commits)) key
+      ∙ ap (λ (cs : List (ℕ × Changes)). newer (last_in cs key) (last_in (filter (λ (c : ℕ × Changes). nat_le c.0 n) (numbered_changes (p.first + 1) p.commits)) key)) (filter-twice p.first n p.base)
+      ∙ ap (λ o. newer o (last_in (filter (λ (c : ℕ × Changes). nat_le c.0 n) (numbered_changes (p.first + 1) p.commits)) key))
       (known key (min n p.first) p.base proper.base
       ∙ sym (ap (λ (cs : List (ℕ × Writes)). last_change (map (λ (c : ℕ × Writes). c.1) (filter (λ (c : ℕ × Writes). nat_le c.0 (min n p.first)) cs)) key) (entries-from_sorted nat_cmp (map (λ (c : ℕ × Changes). (c.0, from_sorted c.1)) p.base) proper.numbers)))
       ∙ ap (newer (last_change (known_up_to (min n p.first) (history_in p).base) key))
@@ -281,23 +281,23 @@ module _ (key : List ℕ) where
           ∙ sym (chosen (λ (d : ℕ × Writes). d.0) (is_some (get (from_sorted {R = key_cmp} c.1) key)) (c.0, from_sorted c.1) (filter (λ (d : ℕ × Writes). is_some (get d.1 key)) (filter (λ (d : ℕ × Writes). nat_le d.0 m) (map (λ (d : ℕ × Changes). (d.0, from_sorted d.1)) cs))))
 
   named_commits : (m : ℕ) (cs : List Changes) → AllByRecursion (λ (c : Changes). T (is_sorted key_cmp c)) cs
-      → map (λ (c : ℕ × Changes). c.0) (filter (λ (c : ℕ × Changes). is_some (find key_cmp key c.1)) (numbered m cs))
-      ≡ naming key (numbered_maps m (map from_sorted cs))
+      → map (λ (c : ℕ × Changes). c.0) (filter (λ (c : ℕ × Changes). is_some (find key_cmp key c.1)) (numbered_changes m cs))
+      ≡ naming key (numbered m (map from_sorted cs))
   named_commits m [] all = refl
   named_commits m (c ∷ cs) all =
-      chosen (λ (d : ℕ × Changes). d.0) (is_some (find key_cmp key c)) (m, c) (filter (λ (d : ℕ × Changes). is_some (find key_cmp key d.1)) (numbered (m + 1) cs))
+      chosen (λ (d : ℕ × Changes). d.0) (is_some (find key_cmp key c)) (m, c) (filter (λ (d : ℕ × Changes). is_some (find key_cmp key d.1)) (numbered_changes (m + 1) cs))
       ∙ named_one m c _ _ all.0 (named_commits (m + 1) cs all.1)
-      ∙ sym (chosen (λ (d : ℕ × Writes). d.0) (is_some (get (from_sorted {R = key_cmp} c) key)) (m, from_sorted c) (filter (λ (d : ℕ × Writes). is_some (get d.1 key)) (numbered_maps (m + 1) (map from_sorted cs))))
+      ∙ sym (chosen (λ (d : ℕ × Writes). d.0) (is_some (get (from_sorted {R = key_cmp} c) key)) (m, from_sorted c) (filter (λ (d : ℕ × Writes). is_some (get d.1 key)) (numbered (m + 1) (map from_sorted cs))))
 
 module _ (p : Commits) (proper : AreProper p) where
-  pub versions_in-are : (key : List ℕ) → versions_in p key ≡ versions (history_in p) key
-  versions_in-are key =
-      numbers-append key (filter (λ (c : ℕ × Changes). nat_le c.0 p.first) p.base) (numbered (p.first + 1) p.commits)
-      ∙ ap (λ ns. ns ++ map (λ (c : ℕ × Changes). c.0) (filter (λ (c : ℕ × Changes). is_some (find key_cmp key c.1)) (numbered (p.first + 1) p.commits)))
+  pub known_versions-are : (key : List ℕ) → known_versions p key ≡ versions (history_in p) key
+  known_versions-are key =
+      numbers-append key (filter (λ (c : ℕ × Changes). nat_le c.0 p.first) p.base) (numbered_changes (p.first + 1) p.commits)
+      ∙ ap (λ ns. ns ++ map (λ (c : ℕ × Changes). c.0) (filter (λ (c : ℕ × Changes). is_some (find key_cmp key c.1)) (numbered_changes (p.first + 1) p.commits)))
       (named_base key p.first p.base proper.base
       ∙ sym (ap (λ (cs : List (ℕ × Writes)). naming key (filter (λ (c : ℕ × Writes). nat_le c.0 p.first) cs)) (entries-from_sorted nat_cmp (map (λ (c : ℕ × Changes). (c.0, from_sorted c.1)) p.base) proper.numbers)))
       ∙ ap (λ ns. naming key (filter (λ (c : ℕ × Writes). nat_le c.0 p.first) (entries (history_in p).base)) ++ ns) (named_commits key (p.first + 1) p.commits proper.commits)
-      ∙ sym (naming-append key (filter (λ (c : ℕ × Writes). nat_le c.0 p.first) (entries (history_in p).base)) (numbered_maps (p.first + 1) (history_in p).commits))
+      ∙ sym (naming-append key (filter (λ (c : ℕ × Writes). nat_le c.0 p.first) (entries (history_in p).base)) (numbered (p.first + 1) (history_in p).commits))
 
   pub low_in-is : (floor keep since : ℕ) (key : List ℕ) → low_in p floor keep since key ≡ low (history_in p) floor keep since key
-  low_in-is floor keep since key = ap (λ ns. low_of ns floor keep since) (versions_in-are key)
+  low_in-is floor keep since key = ap (λ ns. low_of ns floor keep since) (known_versions-are key)

@@ -1,9 +1,10 @@
 -- The rulings that change sources keep what these show: a rotation, a commit, a flush and a
 -- relocation.
-use Rattle.std.proofs.Common.{◌≡◌, ℕ, ◌+◌, ◌≤◌, Bool, true, false, ◌||◌, List, [], ◌∷◌, ◌++◌, map, refl, ap, sym, ◌∙◌, subst, append_assoc}
+use Rattle.std.proofs.Common.{◌≡◌, ℕ, ◌+◌, ◌≤◌, Bool, true, false, ◌||◌, List, [], ◌∷◌, ◌++◌, map, refl, ap, sym, ◌∙◌, subst, arith, append_assoc}
+use Rattle.std.proofs.lemmas.List.Sums.{sum_by-cons}
 use Rattle.std.specs.Prelude.{Option, Some}
 use Rattle.std.specs.FinMap.{entries}
-use Rattle.std.specs.List.{AllZip, AllByRecursion, flat_map, list_any}
+use Rattle.std.specs.List.{AllZip, AllByRecursion, flat_map, list_any, sum_by}
 use Rattle.vl_model.specs.Keys.{Stored, Writes}
 use Rattle.vl_model.specs.Entries.{is_at, in_order}
 use Rattle.vl_model.specs.Frames.{moved_length, frame_length}
@@ -17,7 +18,7 @@ use Rattle.vl_model.specs.declared.log_frame.LogFrame.TheVariants.{Relocated}
 use Rattle.vl_model.specs.declared.log_frame.Moved.{Moved}
 use Rattle.vl_layout.specs.laws.CommitShows.{shows_committed}
 use Rattle.vl_layout.specs.Levels.{in_front}
-use Rattle.vl_layout.specs.Logs.{record_entry, relocated_records, frame_entries, logged_entries, memtable}
+use Rattle.vl_layout.specs.Logs.{LogRecord, record_entry, records_from, relocated_records, frame_entries, frame_records, logged_entries, memtable}
 use Rattle.vl_layout.specs.laws.OrderShows.{shows_taken_in}
 use Rattle.vl_layout.specs.laws.RelocationShows.{shows_moved}
 use Rattle.vl_layout.specs.Ruling.{logged, ended}
@@ -44,6 +45,24 @@ sources-rotated l = append_assoc (memtable l.active) (flat_map memtable l.frozen
 abbrev pub place_behind : (format place : ℕ) → List LogFrame → ℕ
 place_behind format place [] = place
 place_behind format place (f ∷ fs) = place_behind format (place + frame_length format f) fs
+
+pub place_behind-is : (format place : ℕ) (fs : List LogFrame) → place_behind format place fs ≡ place + sum_by (frame_length format) fs
+place_behind-is format place [] = omega arith
+place_behind-is format place (f ∷ fs) =
+    let later = place_behind-is format (place + frame_length format f) fs in
+    let both = sum_by-cons (frame_length format) f fs in omega (arith, later, both)
+
+-- and its records behind theirs
+pub records_from-more : (format place : ℕ) (fs : List LogFrame) (f : LogFrame)
+    → records_from format place (fs ++ f ∷ []) ≡ records_from format place fs ++ frame_records format (place_behind format place fs) f
+records_from-more format place [] f = nothing_behind (frame_records format place f)
+  where
+    nothing_behind : (rs : List LogRecord) → rs ++ [] ≡ rs
+    nothing_behind [] = refl
+    nothing_behind (r ∷ rs) = ap (λ xs. r ∷ xs) (nothing_behind rs)
+records_from-more format place (g ∷ gs) f =
+    ap (λ rs. frame_records format place g ++ rs) (records_from-more format (place + frame_length format g) gs f)
+    ∙ sym (append_assoc (frame_records format place g) (records_from format (place + frame_length format g) gs) (frame_records format (place_behind format (place + frame_length format g) gs) f))
 
 -- a frame behind the others has its entries in front of theirs
 pub logged_entries-more : (format segment place : ℕ) (fs : List LogFrame) (f : LogFrame)

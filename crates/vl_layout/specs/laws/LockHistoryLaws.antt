@@ -11,7 +11,6 @@ use Rattle.vl_model.specs.declared.change.Change.{Change}
 use Rattle.vl_layout.specs.LockHistory.{OpenTicket, OpenThings, nothing_open, is_of, closed, opened, tickets_after, things_after, open_things, open_tickets, put_after, commits_of, history_of, last_layout, number_after, last_from, tickets_in, IsOpen, IsLegalStep, HasOpen, IsLegalFrom, IsLegal, entries_by, tickets_by, number_of}
 use Rattle.vl_layout.specs.Rising.{IsRising}
 use Rattle.vl_layout.specs.Tickets.{has_ticket}
-use Rattle.vl_layout.specs.declared.job.Job.{Job}
 use Rattle.vl_layout.specs.declared.layout.Layout.{Layout}
 use Rattle.vl_layout.specs.declared.live.Live.{Live}
 use Rattle.vl_layout.specs.declared.lock_history.LockEntry.{LockEntry}

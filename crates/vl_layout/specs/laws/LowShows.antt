@@ -7,7 +7,7 @@ use Rattle.vl_model.specs.History.{History, Extends, last_number, value_at}
 use Rattle.vl_model.specs.laws.HistoryLaws.{last_number-extends, value_at-extends}
 use Rattle.vl_model.specs.Winners.{Logs, winner, resolved_at}
 use Rattle.vl_model.specs.declared.entry.Entry.{Entry}
-use Rattle.vl_layout.specs.Merging.{Sourced, inputs_of as sourced_inputs}
+use Rattle.vl_layout.specs.Merging.{Sourced, inputs_of}
 use Rattle.vl_layout.specs.Rising.{put_by}
 use Rattle.vl_layout.specs.Shows.{Shows}
 use Rattle.vl_layout.specs.Sources.{floor, least_number}
@@ -19,7 +19,7 @@ use Rattle.vl_model.specs.Versions.{versions, low}
 use Rattle.vl_model.specs.laws.VersionLaws.{versions-stay}
 use Rattle.vl_layout.specs.laws.MergeShows.{shows_installed, shows_merged}
 use Rattle.vl_layout.specs.laws.FromLow.{past_low}
-use Rattle.vl_layout.specs.Marks.{Marked, all_of, kept_of, inputs_of, outside_of, AreJustified, plain, marks}
+use Rattle.vl_layout.specs.Marks.{Marked, all_of, kept_of, marked_inputs, marked_outside, AreJustified, plain, marks}
 use Rattle.vl_layout.specs.Shown.{AreOf, Fits}
 
 -- what is shown is shown from a greater number on
@@ -72,18 +72,18 @@ shows_keep logs es h f keep since v to le =
 
 -- a merge that is put in place, at once or later, where v and the floor may be others by then
 pub shows_merge : (logs : Logs) (ms : List Marked) (keep at : ℕ) → 1 ≤ keep → (h : History) (f v since to : ℕ)
-    → at ≤ f → (v ≤ keep) ⊎ (at ≤ since) → AreOf h (inputs_of ms)
-    → AreJustified keep (inputs_of ms) (outside_of ms) at [] ms
+    → at ≤ f → (v ≤ keep) ⊎ (at ≤ since) → AreOf h (marked_inputs ms)
+    → AreJustified keep (marked_inputs ms) (marked_outside ms) at [] ms
     → Shows logs (all_of ms) h (low h f v since) to → Shows logs (kept_of ms) h (low h f v since) to
 shows_merge logs ms keep at some h f v since to up kept of =
     shows_installed keep logs ms at h (low h f v since) to
-    (λ key number from. past_low keep some (inputs_of ms) at key (versions h key) (of key) f v since up kept number from)
+    (λ key number from. past_low keep some (marked_inputs ms) at key (versions h key) (of key) f v since up kept number from)
 
 pub shows_merge_at_once : (logs : Logs) (keep : ℕ) (ss : List Sourced) (at : ℕ) (h : History) (since to : ℕ) → 1 ≤ keep
-    → AreOf h (sourced_inputs ss) → Shows logs (plain ss) h (low h at keep since) to → Shows logs (kept_of (marks keep ss at)) h (low h at keep since) to
+    → AreOf h (inputs_of ss) → Shows logs (plain ss) h (low h at keep since) to → Shows logs (kept_of (marks keep ss at)) h (low h at keep since) to
 shows_merge_at_once logs keep ss at h since to some of =
     shows_merged keep logs ss at h (low h at keep since) to
-    (λ key number from. past_low keep some (sourced_inputs ss) at key (versions h key) (of key) at keep since (omega arith) (inl (omega arith)) number from)
+    (λ key number from. past_low keep some (inputs_of ss) at key (versions h key) (of key) at keep since (omega arith) (inl (omega arith)) number from)
 
 -- a read of the past
 pub shows_at : (logs : Logs) (es : List Entry) (h : History) (f v since to : ℕ) → Shows logs es h (low h f v since) to

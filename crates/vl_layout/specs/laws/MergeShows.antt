@@ -14,11 +14,11 @@ use Rattle.vl_model.specs.laws.WinnerLaws.{same_key, key_tied}
 use Rattle.vl_model.specs.declared.entry.Entry.{Entry}
 use Rattle.vl_model.specs.declared.entry.Body.{Body}
 use Rattle.vl_model.specs.declared.entry.Body.TheVariants.{Inline, Gone, Far, Logged}
-use Rattle.vl_layout.specs.Merging.{Sourced, if_so, inputs_of as sourced_inputs, outside_of as sourced_outside, is_shadowed, is_below, is_outdated, is_needless_one, is_needless, is_dropped}
+use Rattle.vl_layout.specs.Merging.{Sourced, if_so, inputs_of, outside_of, is_shadowed, is_below, is_outdated, is_needless_one, is_needless, is_dropped}
 use Rattle.vl_layout.specs.laws.RelocationShows.{Has, Reaches, winner_has, winner_reaches}
 use Rattle.vl_layout.specs.Shows.{Shows, Meaning, Means, times}
 use Rattle.vl_layout.specs.laws.ShowsLaws.{shows_as, is_at-itself}
-use Rattle.vl_layout.specs.Marks.{Marked, all_of, kept_of, inputs_of, outside_of, plain, marks_from, marks, IsJustified, AreJustified, IsPast}
+use Rattle.vl_layout.specs.Marks.{Marked, all_of, kept_of, marked_inputs, marked_outside, plain, marks_from, marks, IsJustified, AreJustified, IsPast}
 
 -- ---- one of them
 
@@ -73,9 +73,9 @@ of_kept P [] all = tt
 of_kept P (m ∷ ms) all = all_if_so P m.kept m.entry (kept_of ms) all.0 (of_kept P ms all.1)
 
 pub of_inputs : (P : Entry → Type 0) (ms : List Marked) → AllByRecursion P (all_of ms)
-    → AllByRecursion P (inputs_of ms)
+    → AllByRecursion P (marked_inputs ms)
 of_inputs P [] all = tt
-of_inputs P (m ∷ ms) all = all_if_so P m.input m.entry (inputs_of ms) all.0 (of_inputs P ms all.1)
+of_inputs P (m ∷ ms) all = all_if_so P m.input m.entry (marked_inputs ms) all.0 (of_inputs P ms all.1)
 
 times_if_so : (key : List ℕ) (version : ℕ) (b : Bool) (e : Entry) (es fs : List Entry)
     → times key version es ≤ times key version fs
@@ -89,22 +89,22 @@ times-kept key version [] = omega arith
 times-kept key version (m ∷ ms) = times_if_so key version m.kept m.entry (kept_of ms) (all_of ms) (times-kept key version ms)
 
 pub head_input : (inputs : List Entry) (m : Marked) (ms : List Marked)
-    → AllByRecursion (IsIn inputs) (inputs_of (m ∷ ms))
-    → (m.input ≡ true → IsIn inputs m.entry) × AllByRecursion (IsIn inputs) (inputs_of ms)
+    → AllByRecursion (IsIn inputs) (marked_inputs (m ∷ ms))
+    → (m.input ≡ true → IsIn inputs m.entry) × AllByRecursion (IsIn inputs) (marked_inputs ms)
 head_input inputs m ms = by_test m.input
   where
-    by_test : (b : Bool) → AllByRecursion (IsIn inputs) (if_so b m.entry (inputs_of ms))
-        → (b ≡ true → IsIn inputs m.entry) × AllByRecursion (IsIn inputs) (inputs_of ms)
+    by_test : (b : Bool) → AllByRecursion (IsIn inputs) (if_so b m.entry (marked_inputs ms))
+        → (b ≡ true → IsIn inputs m.entry) × AllByRecursion (IsIn inputs) (marked_inputs ms)
     by_test true all = ((λ is. all.0), all.1)
     by_test false all = ((λ is. absurd (true_false (sym is))), all)
 
 head_outside : (outside : List Entry) (m : Marked) (ms : List Marked)
-    → AllByRecursion (IsIn outside) (outside_of (m ∷ ms))
-    → (m.input ≡ false → IsIn outside m.entry) × AllByRecursion (IsIn outside) (outside_of ms)
+    → AllByRecursion (IsIn outside) (marked_outside (m ∷ ms))
+    → (m.input ≡ false → IsIn outside m.entry) × AllByRecursion (IsIn outside) (marked_outside ms)
 head_outside outside m ms = by_test m.input
   where
-    by_test : (b : Bool) → AllByRecursion (IsIn outside) (if_so (not b) m.entry (outside_of ms))
-        → (b ≡ false → IsIn outside m.entry) × AllByRecursion (IsIn outside) (outside_of ms)
+    by_test : (b : Bool) → AllByRecursion (IsIn outside) (if_so (not b) m.entry (marked_outside ms))
+        → (b ≡ false → IsIn outside m.entry) × AllByRecursion (IsIn outside) (marked_outside ms)
     by_test true all = ((λ is. absurd (true_false is)), all)
     by_test false all = ((λ is. all.0), all.1)
 
@@ -117,7 +117,7 @@ module _ (keep : ℕ) (inputs outside : List Entry) (floor : ℕ) where
   -- where no entry of a key and version is kept, the first of them was dropped by the second or the
   -- third rule
   pub first_dropped : (key : List ℕ) (version : ℕ) (newer : List Entry) (ms : List Marked)
-      → AreJustified keep inputs outside floor newer ms → AllByRecursion (IsIn inputs) (inputs_of ms)
+      → AreJustified keep inputs outside floor newer ms → AllByRecursion (IsIn inputs) (marked_inputs ms)
       → list_any (is_at key version) newer ≡ false → list_any (is_at key version) (all_of ms) ≡ true
       → list_any (is_at key version) (kept_of ms) ≡ false
       → (e : Entry) × (is_at key version e ≡ true) × Reason e
@@ -166,7 +166,7 @@ module _ (keep : ℕ) (inputs outside : List Entry) (floor : ℕ) where
   kept_one newer m j out keep = ⊎_elim (λ (input : m.input ≡ true). inl (j.keeps keep input)) (λ (other : m.input ≡ false). inr (out other)) (cases_Bool m.input)
 
   all_kept : (newer : List Entry) (ms : List Marked) → AreJustified keep inputs outside floor newer ms
-      → AllByRecursion (IsIn outside) (outside_of ms) → AllByRecursion IsKept (kept_of ms)
+      → AllByRecursion (IsIn outside) (marked_outside ms) → AllByRecursion IsKept (kept_of ms)
   all_kept newer [] j within = tt
   all_kept newer (m ∷ ms) j within =
       let all = head_outside outside m ms within in
@@ -202,7 +202,7 @@ counts_parts key number e counted =
     (same_key key e.key both.0, le)
 
 module _ (keep : ℕ) (logs : Logs) (meaning : Meaning) (ms : List Marked) (floor : ℕ) (resolves : AllByRecursion (Means logs meaning) (all_of ms))
-    (justified : AreJustified keep (inputs_of ms) (outside_of ms) floor [] ms) (key : List ℕ) (number : ℕ) (past : IsPast keep (inputs_of ms) floor key number) where
+    (justified : AreJustified keep (marked_inputs ms) (marked_outside ms) floor [] ms) (key : List ℕ) (number : ℕ) (past : IsPast keep (marked_inputs ms) floor key number) where
   -- some entry of this key and version counts, so the winner is of at least that version
   reaches : (f : Entry) → counts key number f ≡ true → IsIn (all_of ms) f
       → Reaches key number (Means logs meaning) f.version (winner (all_of ms) key number)
@@ -231,21 +231,21 @@ module _ (keep : ℕ) (logs : Logs) (meaning : Meaning) (ms : List Marked) (floo
 
   -- what is so of the winner of those kept
   Left : Entry → Type 0
-  Left g = IsKept keep (inputs_of ms) (outside_of ms) floor g × (Means logs meaning g × (IsIn (all_of ms) g × IsIn (kept_of ms) g))
+  Left g = IsKept keep (marked_inputs ms) (marked_outside ms) floor g × (Means logs meaning g × (IsIn (all_of ms) g × IsIn (kept_of ms) g))
 
   left_all : AllByRecursion Left (kept_of ms)
   unfolding Left
   left_all =
-      all_pairs (IsKept keep (inputs_of ms) (outside_of ms) floor) (λ g. Means logs meaning g × (IsIn (all_of ms) g × IsIn (kept_of ms) g)) (kept_of ms)
-      (all_kept keep (inputs_of ms) (outside_of ms) floor [] ms justified (members (outside_of ms)))
+      all_pairs (IsKept keep (marked_inputs ms) (marked_outside ms) floor) (λ g. Means logs meaning g × (IsIn (all_of ms) g × IsIn (kept_of ms) g)) (kept_of ms)
+      (all_kept keep (marked_inputs ms) (marked_outside ms) floor [] ms justified (members (marked_outside ms)))
       (all_pairs (Means logs meaning) (λ g. IsIn (all_of ms) g × IsIn (kept_of ms) g) (kept_of ms) (of_kept (Means logs meaning) ms resolves)
       (all_pairs (IsIn (all_of ms)) (IsIn (kept_of ms)) (kept_of ms) (of_kept (IsIn (all_of ms)) ms (members (all_of ms))) (members (kept_of ms))))
 
   -- the winner isn't outdated: what makes it so would be newer
   not_outdated : (won e : Entry) → winner (all_of ms) key number ≡ Some won → e.key ≡ key
-      → e.version ≡ won.version → is_outdated keep (inputs_of ms) floor e ≡ true → ⊥
+      → e.version ≡ won.version → is_outdated keep (marked_inputs ms) floor e ≡ true → ⊥
   not_outdated won e is keys versions outdated =
-      let f = picked (IsIn (all_of ms)) (λ (g : Entry). counts key number g && nat_lt e.version g.version) (inputs_of ms) (of_inputs (IsIn (all_of ms)) ms (members (all_of ms))) (past.outdates e keys outdated) in
+      let f = picked (IsIn (all_of ms)) (λ (g : Entry). counts key number g && nat_lt e.version g.version) (marked_inputs ms) (of_inputs (IsIn (all_of ms)) ms (members (all_of ms))) (past.outdates e keys outdated) in
       let both = and_parts (counts key number f.0) (nat_lt e.version f.0.version) f.1 in
       let most : f.0.version ≤ won.version = won_at_most won f.0 is both.0 f.2 in
       let more : e.version < f.0.version = grind (arith, nat_tests, both.1) in
@@ -253,23 +253,23 @@ module _ (keep : ℕ) (logs : Logs) (meaning : Meaning) (ms : List Marked) (floo
 
   -- a kept entry below a needless deletion would make it needed, or be outdated by it
   none_below : (e g : Entry) → e.key ≡ key → counts key number g ≡ true → g.version < e.version
-      → IsIn (inputs_of ms) e → is_needless keep (outside_of ms) floor e ≡ true
-      → IsKept keep (inputs_of ms) (outside_of ms) floor g → ⊥
+      → IsIn (marked_inputs ms) e → is_needless keep (marked_outside ms) floor e ≡ true
+      → IsKept keep (marked_inputs ms) (marked_outside ms) floor g → ⊥
   none_below e g keys counted less within needless kept =
-      let first = and_parts (keep == 1) (is_needless_one (outside_of ms) floor e) needless in
+      let first = and_parts (keep == 1) (is_needless_one (marked_outside ms) floor e) needless in
       let one : keep ≡ 1 = grind (arith, nat_tests, first.0) in
-      let gone = and_parts (is_gone e.body) (nat_le e.version floor && not (list_any (is_below e) (outside_of ms))) first.1 in
-      let more = and_parts (nat_le e.version floor) (not (list_any (is_below e) (outside_of ms))) gone.1 in
+      let gone = and_parts (is_gone e.body) (nat_le e.version floor && not (list_any (is_below e) (marked_outside ms))) first.1 in
+      let more = and_parts (nat_le e.version floor) (not (list_any (is_below e) (marked_outside ms))) gone.1 in
       let of_g : key ≡ g.key = (counts_parts key number g counted).0 in
       let lt : nat_lt g.version e.version ≡ true = grind (arith, nat_tests) in
       ⊎_elim
-      (λ (fresh : is_outdated keep (inputs_of ms) floor g ≡ false).
+      (λ (fresh : is_outdated keep (marked_inputs ms) floor g ≡ false).
       let tied : eq_by_cmp key_cmp g.key e.key ≡ true = ap (λ k. eq_by_cmp key_cmp k e.key) (sym of_g ∙ sym keys) ∙ (and_parts _ _ (is_at-itself e)).0 in
       let passes : (counts g.key floor e && nat_lt g.version e.version) ≡ true = and_from (counts g.key floor e) (nat_lt g.version e.version) (and_from (eq_by_cmp key_cmp g.key e.key) (nat_le e.version floor) tied more.0) lt in
-      true_false (sym (within (λ (f : Entry). counts g.key floor f && nat_lt g.version f.version) passes) ∙ subst (λ (k : ℕ). is_outdated k (inputs_of ms) floor g ≡ false) one fresh))
-      (λ (out : IsIn (outside_of ms) g).
+      true_false (sym (within (λ (f : Entry). counts g.key floor f && nat_lt g.version f.version) passes) ∙ subst (λ (k : ℕ). is_outdated k (marked_inputs ms) floor g ≡ false) one fresh))
+      (λ (out : IsIn (marked_outside ms) g).
       let tied : eq_by_cmp key_cmp e.key g.key ≡ true = ap (λ k. eq_by_cmp key_cmp k g.key) keys ∙ (and_parts _ _ counted).0 in
-      true_false (sym (out (is_below e) (and_from (eq_by_cmp key_cmp e.key g.key) (nat_lt g.version e.version) tied lt)) ∙ not_true (list_any (is_below e) (outside_of ms)) more.1))
+      true_false (sym (out (is_below e) (and_from (eq_by_cmp key_cmp e.key g.key) (nat_lt g.version e.version) tied lt)) ∙ not_true (list_any (is_below e) (marked_outside ms)) more.1))
       kept
 
   -- an entry of the winner's key and version is kept: it leads to the same
@@ -288,14 +288,14 @@ module _ (keep : ℕ) (logs : Logs) (meaning : Meaning) (ms : List Marked) (floo
 
   -- none is kept, so that it was a needless deletion, below which nothing is kept
   none_kept : (won : Entry) → winner (all_of ms) key number ≡ Some won → (e : Entry)
-      → is_at key won.version e ≡ true → Reason keep (inputs_of ms) (outside_of ms) floor e
+      → is_at key won.version e ≡ true → Reason keep (marked_inputs ms) (marked_outside ms) floor e
       → list_any (is_at key won.version) (kept_of ms) ≡ false
       → (w : Option Entry) → Has key number Left w
       → resolved_at logs w ≡ resolved_at logs (Some won)
   unfolding Left
   none_kept won is e at reason gone w has = ⊎_elim
-      (λ (outdated : is_outdated keep (inputs_of ms) floor e ≡ true). absurd (not_outdated won e is keys versions outdated))
-      (λ (needless : is_needless keep (outside_of ms) floor e ≡ true). by_winner needless w has)
+      (λ (outdated : is_outdated keep (marked_inputs ms) floor e ≡ true). absurd (not_outdated won e is keys versions outdated))
+      (λ (needless : is_needless keep (marked_outside ms) floor e ≡ true). by_winner needless w has)
       reason.1
     where
       keys : e.key ≡ key
@@ -308,12 +308,12 @@ module _ (keep : ℕ) (logs : Logs) (meaning : Meaning) (ms : List Marked) (floo
       of_won = won_has won is
 
       -- that version is a deletion's
-      meant_none : is_needless keep (outside_of ms) floor e ≡ true
+      meant_none : is_needless keep (marked_outside ms) floor e ≡ true
           → Some (meaning key won.version) ≡ Some None
       meant_none needless =
-          let gone_body : is_gone e.body ≡ true = (and_parts (is_gone e.body) (nat_le e.version floor && not (list_any (is_below e) (outside_of ms))) (and_parts (keep == 1) (is_needless_one (outside_of ms) floor e) needless).1).0 in
+          let gone_body : is_gone e.body ≡ true = (and_parts (is_gone e.body) (nat_le e.version floor && not (list_any (is_below e) (marked_outside ms))) (and_parts (keep == 1) (is_needless_one (marked_outside ms) floor e) needless).1).0 in
           let passes : (is_at key won.version e && is_gone e.body) ≡ true = and_from (is_at key won.version e) (is_gone e.body) at gone_body in
-          let f = picked (Means logs meaning) (λ (g : Entry). is_at key won.version g && is_gone g.body) (inputs_of ms) (of_inputs (Means logs meaning) ms resolves)
+          let f = picked (Means logs meaning) (λ (g : Entry). is_at key won.version g && is_gone g.body) (marked_inputs ms) (of_inputs (Means logs meaning) ms resolves)
           (reason.0 (λ (g : Entry). is_at key won.version g && is_gone g.body) passes) in
           let both = and_parts (is_at key won.version f.0) (is_gone f.0.body) f.1 in
           let parts = and_parts (eq_by_cmp key_cmp key f.0.key) (f.0.version == won.version) both.0 in
@@ -321,10 +321,10 @@ module _ (keep : ℕ) (logs : Logs) (meaning : Meaning) (ms : List Marked) (floo
           let f_version : f.0.version ≡ won.version = grind (arith, nat_tests, parts.1) in
           ap Some (ap (λ k. meaning k won.version) (sym f_key) ∙ ap (meaning f.0.key) (sym f_version)) ∙ sym f.2 ∙ gone_leads logs f.0.key f.0.body both.1
 
-      none : is_needless keep (outside_of ms) floor e ≡ true → resolved_at logs (Some won) ≡ Some None
+      none : is_needless keep (marked_outside ms) floor e ≡ true → resolved_at logs (Some won) ≡ Some None
       none needless = of_won.1 ∙ ap Some (ap (λ k. meaning k won.version) (sym (counts_parts key number won of_won.0).0)) ∙ meant_none needless
 
-      by_winner : is_needless keep (outside_of ms) floor e ≡ true → (w : Option Entry)
+      by_winner : is_needless keep (marked_outside ms) floor e ≡ true → (w : Option Entry)
           → Has key number Left w → resolved_at logs w ≡ resolved_at logs (Some won)
       by_winner needless None has = sym (none needless)
       by_winner needless (Some g) has = ⊎_elim
@@ -364,7 +364,7 @@ module _ (keep : ℕ) (logs : Logs) (meaning : Meaning) (ms : List Marked) (floo
           same_version won is (winner (kept_of ms) key number) has
           (winner_reaches key number (Means logs meaning) key won.version (kept_of ms) (and_from (eq_by_cmp key_cmp key key) (nat_le won.version number) (tied_itself key) (and_parts (eq_by_cmp key_cmp key won.key) (nat_le won.version number) of_won.0).1) kept (of_kept (Means logs meaning) ms resolves))
       by_kept false gone =
-          let first = first_dropped keep (inputs_of ms) (outside_of ms) floor key won.version [] ms justified (members (inputs_of ms)) refl there gone in
+          let first = first_dropped keep (marked_inputs ms) (marked_outside ms) floor key won.version [] ms justified (members (marked_inputs ms)) refl there gone in
           none_kept won is first.0 first.1 first.2 gone (winner (kept_of ms) key number) has
 
   -- from the floor on, what is left leads each key to what all led it to
@@ -374,8 +374,8 @@ module _ (keep : ℕ) (logs : Logs) (meaning : Meaning) (ms : List Marked) (floo
 -- What is left of the sources by the marks of an earlier plan shows what they show, at each number at which the
 -- merge may be seen.
 pub shows_installed : (keep : ℕ) (logs : Logs) (ms : List Marked) (floor : ℕ) (h : History) (from : List ℕ → ℕ) (to : ℕ)
-    → ((key : List ℕ) (number : ℕ) → from key ≤ number → IsPast keep (inputs_of ms) floor key number)
-    → AreJustified keep (inputs_of ms) (outside_of ms) floor [] ms
+    → ((key : List ℕ) (number : ℕ) → from key ≤ number → IsPast keep (marked_inputs ms) floor key number)
+    → AreJustified keep (marked_inputs ms) (marked_outside ms) floor [] ms
     → Shows logs (all_of ms) h from to → Shows logs (kept_of ms) h from to
 shows_installed keep logs ms floor h from to past justified shows =
     shows_as logs logs (all_of ms) (kept_of ms) h from to shows
@@ -391,15 +391,15 @@ module _ (keep : ℕ) (inputs outside : List Entry) (floor : ℕ) where
   all_of-marks newer [] = refl
   all_of-marks newer (s ∷ ss) = ap (λ es. s.1 ∷ es) (all_of-marks (s.1 ∷ newer) ss)
 
-  inputs_of-marks : (newer : List Entry) (ss : List Sourced)
-      → inputs_of (marks_from keep inputs outside floor newer ss) ≡ sourced_inputs ss
-  inputs_of-marks newer [] = refl
-  inputs_of-marks newer (s ∷ ss) = ap (if_so s.0 s.1) (inputs_of-marks (s.1 ∷ newer) ss)
+  marked_inputs-marks : (newer : List Entry) (ss : List Sourced)
+      → marked_inputs (marks_from keep inputs outside floor newer ss) ≡ inputs_of ss
+  marked_inputs-marks newer [] = refl
+  marked_inputs-marks newer (s ∷ ss) = ap (if_so s.0 s.1) (marked_inputs-marks (s.1 ∷ newer) ss)
 
-  outside_of-marks : (newer : List Entry) (ss : List Sourced)
-      → outside_of (marks_from keep inputs outside floor newer ss) ≡ sourced_outside ss
-  outside_of-marks newer [] = refl
-  outside_of-marks newer (s ∷ ss) = ap (if_so (not s.0) s.1) (outside_of-marks (s.1 ∷ newer) ss)
+  marked_outside-marks : (newer : List Entry) (ss : List Sourced)
+      → marked_outside (marks_from keep inputs outside floor newer ss) ≡ outside_of ss
+  marked_outside-marks newer [] = refl
+  marked_outside-marks newer (s ∷ ss) = ap (if_so (not s.0) s.1) (marked_outside-marks (s.1 ∷ newer) ss)
 
   drops_both : (i d : Bool) → not (i && d) ≡ false → (i ≡ true) × (d ≡ true)
   drops_both true true is = (refl, refl)
@@ -425,15 +425,15 @@ module _ (keep : ℕ) (inputs outside : List Entry) (floor : ℕ) where
 
 -- A merge that is put in place of its inputs at once leaves what shows the same.
 pub shows_merged : (keep : ℕ) (logs : Logs) (ss : List Sourced) (floor : ℕ) (h : History) (from : List ℕ → ℕ) (to : ℕ)
-    → ((key : List ℕ) (number : ℕ) → from key ≤ number → IsPast keep (sourced_inputs ss) floor key number)
+    → ((key : List ℕ) (number : ℕ) → from key ≤ number → IsPast keep (inputs_of ss) floor key number)
     → Shows logs (plain ss) h from to → Shows logs (kept_of (marks keep ss floor)) h from to
 shows_merged keep logs ss floor h from to past shows =
     let ms = marks keep ss floor in
-    let inputs = sourced_inputs ss in
-    let outside = sourced_outside ss in
-    let justified : AreJustified keep (inputs_of ms) (outside_of ms) floor [] ms =
-    subst (λ (es : List Entry). AreJustified keep es (outside_of ms) floor [] ms) (sym (inputs_of-marks keep inputs outside floor [] ss))
-    (subst (λ (es : List Entry). AreJustified keep inputs es floor [] ms) (sym (outside_of-marks keep inputs outside floor [] ss)) (marks_justified keep inputs outside floor [] ss)) in
+    let inputs = inputs_of ss in
+    let outside = outside_of ss in
+    let justified : AreJustified keep (marked_inputs ms) (marked_outside ms) floor [] ms =
+    subst (λ (es : List Entry). AreJustified keep es (marked_outside ms) floor [] ms) (sym (marked_inputs-marks keep inputs outside floor [] ss))
+    (subst (λ (es : List Entry). AreJustified keep inputs es floor [] ms) (sym (marked_outside-marks keep inputs outside floor [] ss)) (marks_justified keep inputs outside floor [] ss)) in
     shows_installed keep logs ms floor h from to
-    (λ key number low. subst (λ (es : List Entry). IsPast keep es floor key number) (sym (inputs_of-marks keep inputs outside floor [] ss)) (past key number low))
+    (λ key number low. subst (λ (es : List Entry). IsPast keep es floor key number) (sym (marked_inputs-marks keep inputs outside floor [] ss)) (past key number low))
     justified (subst (λ (es : List Entry). Shows logs es h from to) (sym (all_of-marks keep inputs outside floor [] ss)) shows)

@@ -9,7 +9,7 @@ use Rattle.vl_model.specs.Keys.{key_cmp}
 use Rattle.vl_model.specs.declared.entry.Entry.{Entry}
 use Rattle.vl_layout.specs.Levels.{is_among}
 use Rattle.vl_layout.specs.Logs.{memtable}
-use Rattle.vl_layout.specs.Merging.{Sourced, if_so, inputs_of as sourced_inputs, outside_of as sourced_outside, is_dropped, kept_from, kept}
+use Rattle.vl_layout.specs.Merging.{Sourced, if_so, inputs_of, outside_of, is_dropped, kept_from, kept}
 use Rattle.vl_layout.specs.Rulings.Plan.{marked_as, sourced}
 use Rattle.vl_layout.specs.Sources.{sources, tables, table_entries}
 use Rattle.vl_block.specs.Cutting.{joined, max_block_bytes, entry_length, begun_length, around}
@@ -103,5 +103,5 @@ kept_from-marks keep inputs outside floor newer (s ∷ ss) =
 
 -- what a job keeps of its inputs is what its marks keep of them
 pub kept-marks : (job : Job)
-    → kept_inputs (marks_from job.keep (sourced_inputs job.base) (sourced_outside job.base) job.floor [] job.base) ≡ kept job
-kept-marks job = kept_from-marks job.keep (sourced_inputs job.base) (sourced_outside job.base) job.floor [] job.base
+    → kept_inputs (marks_from job.keep (inputs_of job.base) (outside_of job.base) job.floor [] job.base) ≡ kept job
+kept-marks job = kept_from-marks job.keep (inputs_of job.base) (outside_of job.base) job.floor [] job.base

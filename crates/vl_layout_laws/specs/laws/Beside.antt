@@ -53,16 +53,16 @@ use Rattle.vl_model.specs.laws.VersionLaws.{versions-stay}
 use Rattle.vl_model.specs.laws.HistoryLaws.{with_commit-extends}
 use Rattle.vl_model.specs.declared.change.Change.{Change}
 use Rattle.std.specs.FinMap.{from_sorted}
-use Rattle.vl_layout.specs.OpenJobs.{place_if, places, IsStillBehind, IsAccounted, IsKeptFor, IsFitted, IsRoomy, IsBesideAll, AreStanding, IsOpenWell}
+use Rattle.vl_layout.specs.OpenJobs.{preceded_if, preceded, IsStillBehind, IsAccounted, IsKeptFor, IsFitted, IsRoomy, IsBesideAll, AreStanding, IsOpenWell}
 
 -- ---- when it is made
 
-still_itself : (newer : List Entry) (ss : List Sourced) → AllZip IsStillBehind (places newer ss) (places newer ss)
+still_itself : (newer : List Entry) (ss : List Sourced) → AllZip IsStillBehind (preceded newer ss) (preceded newer ss)
 still_itself newer [] = tt
 still_itself newer (s ∷ ss) = by s.0 (still_itself (s.1 ∷ newer) ss)
   where
-    by : (b : Bool) → AllZip IsStillBehind (places (s.1 ∷ newer) ss) (places (s.1 ∷ newer) ss)
-        → AllZip IsStillBehind (place_if b s.1 newer (places (s.1 ∷ newer) ss)) (place_if b s.1 newer (places (s.1 ∷ newer) ss))
+    by : (b : Bool) → AllZip IsStillBehind (preceded (s.1 ∷ newer) ss) (preceded (s.1 ∷ newer) ss)
+        → AllZip IsStillBehind (preceded_if b s.1 newer (preceded (s.1 ∷ newer) ss)) (preceded_if b s.1 newer (preceded (s.1 ∷ newer) ss))
     by true later = (record { same = refl; covers = λ key version there. there }, later)
     by false later = later
 

@@ -13,10 +13,10 @@ use Rattle.vl_layout.specs.Rulings.Plan.{marked_as}
 use Rattle.vl_layout.specs.laws.TableLaws.{kept_inputs}
 use Rattle.vl_layout.specs.declared.table.Table.{Table}
 use Rattle.vl_layout_laws.specs.laws.Keeps.{marked_tables}
-use Rattle.vl_layout_laws.specs.laws.OpenJobs.{drops_at, head_mark, rest_places, marked_by}
+use Rattle.vl_layout_laws.specs.laws.OpenJobs.{drops_at, head_mark, rest_preceded, marked_by}
 use Rattle.vl_layout.specs.Marks.{Marked, kept_of}
 use Rattle.vl_layout.specs.Shown.{of_key}
-use Rattle.vl_layout.specs.OpenJobs.{Place}
+use Rattle.vl_layout.specs.OpenJobs.{Preceded}
 
 abbrev pub entries_of : Table → List Entry
 entries_of t = t.entries
@@ -52,18 +52,18 @@ without_both key (e ∷ es) fs a b = (a.0, without_both key es fs a.1 b)
 -- ---- what is left of a table
 
 module _ (keep : ℕ) (I O : List Entry) (floor : ℕ) (inputs : List ℕ) where
-  -- what the plan's marks leave of some entries, and the places behind them
-  left_of : List Place → List Sourced → List Entry
+  -- what the plan's marks leave of some entries, and the preceded behind them
+  left_of : List Preceded → List Sourced → List Entry
   left_of ps ss = kept_of (marked_by keep I O floor ps ss)
 
-  abbrev pub rest_of : List Place → List Sourced → List Place
+  abbrev pub rest_of : List Preceded → List Sourced → List Preceded
   rest_of ps [] = ps
-  rest_of ps (s ∷ ss) = rest_of (rest_places s.0 ps) ss
+  rest_of ps (s ∷ ss) = rest_of (rest_preceded s.0 ps) ss
 
-  pub marked-append : (ps : List Place) (ss ts : List Sourced)
+  pub marked-append : (ps : List Preceded) (ss ts : List Sourced)
       → marked_by keep I O floor ps (ss ++ ts) ≡ marked_by keep I O floor ps ss ++ marked_by keep I O floor (rest_of ps ss) ts
   marked-append ps [] ts = refl
-  marked-append ps (s ∷ ss) ts = ap (λ (ms : List Marked). head_mark keep I O floor s.0 ps s.1 ∷ ms) (marked-append (rest_places s.0 ps) ss ts)
+  marked-append ps (s ∷ ss) ts = ap (λ (ms : List Marked). head_mark keep I O floor s.0 ps s.1 ∷ ms) (marked-append (rest_preceded s.0 ps) ss ts)
 
   pub kept_of-append : (ms ns : List Marked) → kept_of (ms ++ ns) ≡ kept_of ms ++ kept_of ns
   kept_of-append [] ns = refl
@@ -82,61 +82,61 @@ module _ (keep : ℕ) (I O : List Entry) (floor : ℕ) (inputs : List ℕ) where
       by false later = later
 
   -- outside the inputs all is left
-  pub outside_left : (ps : List Place) (es : List Entry) → kept_of (marked_by keep I O floor ps (marked_as false es)) ≡ es
+  pub outside_left : (ps : List Preceded) (es : List Entry) → kept_of (marked_by keep I O floor ps (marked_as false es)) ≡ es
   outside_left ps [] = refl
   outside_left ps (e ∷ es) = ap (λ xs. e ∷ xs) (outside_left ps es)
 
-  pub outside_kept : (ps : List Place) (es : List Entry) → kept_inputs (marked_by keep I O floor ps (marked_as false es)) ≡ []
+  pub outside_kept : (ps : List Preceded) (es : List Entry) → kept_inputs (marked_by keep I O floor ps (marked_as false es)) ≡ []
   outside_kept ps [] = refl
   outside_kept ps (e ∷ es) = outside_kept ps es
 
-  pub outside_rest : (ps : List Place) (es : List Entry) → rest_of ps (marked_as false es) ≡ ps
+  pub outside_rest : (ps : List Preceded) (es : List Entry) → rest_of ps (marked_as false es) ≡ ps
   outside_rest ps [] = refl
   outside_rest ps (e ∷ es) = outside_rest ps es
 
   -- of an input what is left is what is kept
-  input_left : (ps : List Place) (es : List Entry)
+  input_left : (ps : List Preceded) (es : List Entry)
       → kept_inputs (marked_by keep I O floor ps (marked_as true es)) ≡ kept_of (marked_by keep I O floor ps (marked_as true es))
   input_left ps [] = refl
   input_left [] (e ∷ es) = ap (λ xs. e ∷ xs) (input_left [] es)
   input_left (p ∷ ps) (e ∷ es) = ap (if_so (not (drops_at keep I O floor p)) e) (input_left ps es)
 
-  left_without : (key : List ℕ) (ps : List Place) (b : Bool) (es : List Entry) → IsWithout key es
+  left_without : (key : List ℕ) (ps : List Preceded) (b : Bool) (es : List Entry) → IsWithout key es
       → IsWithout key (kept_of (marked_by keep I O floor ps (marked_as b es)))
   left_without key ps b [] out = tt
   left_without key ps b (e ∷ es) out =
       by (head_mark keep I O floor b ps e).kept
       (subst (λ (x : Entry). eq_by_cmp key_cmp key x.key ≡ false) (sym (mark_entry b ps)) out.0)
-      (left_without key (rest_places b ps) b es out.1)
+      (left_without key (rest_preceded b ps) b es out.1)
     where
-      mark_entry : (c : Bool) (qs : List Place) → (head_mark keep I O floor c qs e).entry ≡ e
+      mark_entry : (c : Bool) (qs : List Preceded) → (head_mark keep I O floor c qs e).entry ≡ e
       mark_entry true (p ∷ qs) = refl
       mark_entry true [] = refl
       mark_entry false qs = refl
 
       by : (k : Bool) → eq_by_cmp key_cmp key (head_mark keep I O floor b ps e).entry.key ≡ false
-          → IsWithout key (kept_of (marked_by keep I O floor (rest_places b ps) (marked_as b es)))
-          → IsWithout key (if_so k (head_mark keep I O floor b ps e).entry (kept_of (marked_by keep I O floor (rest_places b ps) (marked_as b es))))
+          → IsWithout key (kept_of (marked_by keep I O floor (rest_preceded b ps) (marked_as b es)))
+          → IsWithout key (if_so k (head_mark keep I O floor b ps e).entry (kept_of (marked_by keep I O floor (rest_preceded b ps) (marked_as b es))))
       by true here later = (here, later)
       by false here later = later
 
   -- ---- of a list of tables
 
-  abbrev pub left_level : List Place → List Table → List Entry
+  abbrev pub left_level : List Preceded → List Table → List Entry
   left_level ps [] = []
   left_level ps (t ∷ ts) =
       kept_of (marked_by keep I O floor ps (marked_as (is_among inputs t) t.entries)) ++ left_level (rest_of ps (marked_as (is_among inputs t) t.entries)) ts
 
-  abbrev pub kept_level : List Place → List Table → List Entry
+  abbrev pub kept_level : List Preceded → List Table → List Entry
   kept_level ps [] = []
   kept_level ps (t ∷ ts) =
       kept_inputs (marked_by keep I O floor ps (marked_as (is_among inputs t) t.entries)) ++ kept_level (rest_of ps (marked_as (is_among inputs t) t.entries)) ts
 
-  abbrev pub rest_level : List Place → List Table → List Place
+  abbrev pub rest_level : List Preceded → List Table → List Preceded
   rest_level ps [] = ps
   rest_level ps (t ∷ ts) = rest_level (rest_of ps (marked_as (is_among inputs t) t.entries)) ts
 
-  pub left_is : (ps : List Place) (ts : List Table) → kept_of (marked_by keep I O floor ps (marked_tables inputs ts)) ≡ left_level ps ts
+  pub left_is : (ps : List Preceded) (ts : List Table) → kept_of (marked_by keep I O floor ps (marked_tables inputs ts)) ≡ left_level ps ts
   left_is ps [] = refl
   left_is ps (t ∷ ts) =
       let ss = marked_as (is_among inputs t) t.entries in
@@ -144,7 +144,7 @@ module _ (keep : ℕ) (I O : List Entry) (floor : ℕ) (inputs : List ℕ) where
       ∙ kept_of-append (marked_by keep I O floor ps ss) (marked_by keep I O floor (rest_of ps ss) (marked_tables inputs ts))
       ∙ ap (λ xs. kept_of (marked_by keep I O floor ps ss) ++ xs) (left_is (rest_of ps ss) ts)
 
-  pub kept_is : (ps : List Place) (ts : List Table) → kept_inputs (marked_by keep I O floor ps (marked_tables inputs ts)) ≡ kept_level ps ts
+  pub kept_is : (ps : List Preceded) (ts : List Table) → kept_inputs (marked_by keep I O floor ps (marked_tables inputs ts)) ≡ kept_level ps ts
   kept_is ps [] = refl
   kept_is ps (t ∷ ts) =
       let ss = marked_as (is_among inputs t) t.entries in
@@ -152,14 +152,14 @@ module _ (keep : ℕ) (I O : List Entry) (floor : ℕ) (inputs : List ℕ) where
       ∙ kept_inputs-append (marked_by keep I O floor ps ss) (marked_by keep I O floor (rest_of ps ss) (marked_tables inputs ts))
       ∙ ap (λ xs. kept_inputs (marked_by keep I O floor ps ss) ++ xs) (kept_is (rest_of ps ss) ts)
 
-  left-append : (ps : List Place) (ts us : List Table) → left_level ps (ts ++ us) ≡ left_level ps ts ++ left_level (rest_level ps ts) us
+  left-append : (ps : List Preceded) (ts us : List Table) → left_level ps (ts ++ us) ≡ left_level ps ts ++ left_level (rest_level ps ts) us
   left-append ps [] us = refl
   left-append ps (t ∷ ts) us =
       let ss = marked_as (is_among inputs t) t.entries in
       ap (λ xs. kept_of (marked_by keep I O floor ps ss) ++ xs) (left-append (rest_of ps ss) ts us)
       ∙ sym (append_assoc (kept_of (marked_by keep I O floor ps ss)) (left_level (rest_of ps ss) ts) (left_level (rest_level (rest_of ps ss) ts) us))
 
-  kept-append : (ps : List Place) (ts us : List Table) → kept_level ps (ts ++ us) ≡ kept_level ps ts ++ kept_level (rest_level ps ts) us
+  kept-append : (ps : List Preceded) (ts us : List Table) → kept_level ps (ts ++ us) ≡ kept_level ps ts ++ kept_level (rest_level ps ts) us
   kept-append ps [] us = refl
   kept-append ps (t ∷ ts) us =
       let ss = marked_as (is_among inputs t) t.entries in
@@ -170,26 +170,26 @@ module _ (keep : ℕ) (I O : List Entry) (floor : ℕ) (inputs : List ℕ) where
   abbrev pub IsIdle : List Table → Type 0
   IsIdle ts = spec.IsIdle inputs ts
 
-  idle_left : (ps : List Place) (ts : List Table) → IsIdle ts → left_level ps ts ≡ all_entries ts
+  idle_left : (ps : List Preceded) (ts : List Table) → IsIdle ts → left_level ps ts ≡ all_entries ts
   idle_left ps [] idle = refl
   idle_left ps (t ∷ ts) idle =
       ap (λ (b : Bool). kept_of (marked_by keep I O floor ps (marked_as b t.entries)) ++ left_level (rest_of ps (marked_as b t.entries)) ts) idle.0
       ∙ ap (λ (xs : List Entry). xs ++ left_level (rest_of ps (marked_as false t.entries)) ts) (outside_left ps t.entries)
-      ∙ ap (λ (qs : List Place). t.entries ++ left_level qs ts) (outside_rest ps t.entries)
+      ∙ ap (λ (qs : List Preceded). t.entries ++ left_level qs ts) (outside_rest ps t.entries)
       ∙ ap (λ (xs : List Entry). t.entries ++ xs) (idle_left ps ts idle.1)
 
-  idle_kept : (ps : List Place) (ts : List Table) → IsIdle ts → kept_level ps ts ≡ []
+  idle_kept : (ps : List Preceded) (ts : List Table) → IsIdle ts → kept_level ps ts ≡ []
   idle_kept ps [] idle = refl
   idle_kept ps (t ∷ ts) idle =
       ap (λ (b : Bool). kept_inputs (marked_by keep I O floor ps (marked_as b t.entries)) ++ kept_level (rest_of ps (marked_as b t.entries)) ts) idle.0
       ∙ ap (λ (xs : List Entry). xs ++ kept_level (rest_of ps (marked_as false t.entries)) ts) (outside_kept ps t.entries)
       ∙ idle_kept (rest_of ps (marked_as false t.entries)) ts idle.1
 
-  idle_rest : (ps : List Place) (ts : List Table) → IsIdle ts → rest_level ps ts ≡ ps
+  idle_rest : (ps : List Preceded) (ts : List Table) → IsIdle ts → rest_level ps ts ≡ ps
   idle_rest ps [] idle = refl
   idle_rest ps (t ∷ ts) idle =
       ap (λ (b : Bool). rest_level (rest_of ps (marked_as b t.entries)) ts) idle.0
-      ∙ ap (λ (qs : List Place). rest_level qs ts) (outside_rest ps t.entries)
+      ∙ ap (λ (qs : List Preceded). rest_level qs ts) (outside_rest ps t.entries)
       ∙ idle_rest ps ts idle.1
 
   idle_without : (ts : List Table) → IsIdle ts → without inputs ts ≡ ts
@@ -218,7 +218,7 @@ module _ (keep : ℕ) (I O : List Entry) (floor : ℕ) (inputs : List ℕ) where
         by true is later = later
         by false is later = without_both key t.entries (all_entries (without inputs ts)) (clear.0 is) later
 
-    untouched_kept : (ps : List Place) (ts : List Table) → IsUntouched ts → IsWithout key (kept_level ps ts)
+    untouched_kept : (ps : List Preceded) (ts : List Table) → IsUntouched ts → IsWithout key (kept_level ps ts)
     untouched_kept ps [] out = tt
     untouched_kept ps (t ∷ ts) out = by (is_among inputs t) refl
         (λ (b : Bool). untouched_kept (rest_of ps (marked_as b t.entries)) ts out.1)
@@ -231,7 +231,7 @@ module _ (keep : ℕ) (I O : List Entry) (floor : ℕ) (inputs : List ℕ) where
         by false is later = subst (λ (xs : List Entry). IsWithout key (xs ++ kept_level (rest_of ps (marked_as false t.entries)) ts)) (sym (outside_kept ps t.entries)) (later false)
 
     -- where it is parted, what is left of the key are the other tables' entries, and then what is kept
-    parted_left : (ps : List Place) (ts : List Table) → IsParted ts
+    parted_left : (ps : List Preceded) (ts : List Table) → IsParted ts
         → of_key key (left_level ps ts) ≡ of_key key (all_entries (without inputs ts)) ++ of_key key (kept_level ps ts)
     parted_left ps [] parted = refl
     parted_left ps (t ∷ ts) parted = by (is_among inputs t) refl (λ (b : Bool). parted_left (rest_of ps (marked_as b t.entries)) ts parted.1)
@@ -336,7 +336,7 @@ module _ (keep : ℕ) (I O : List Entry) (floor : ℕ) (inputs : List ℕ) where
           split [] ys all = (tt, all)
           split (x ∷ xs) ys all = let both = split xs ys all.1 in ((all.0, both.0), both.1)
 
-      pair_placed : (first second : List Table) (deeper : List (List Table)) (ps : List Place)
+      pair_placed : (first second : List Table) (deeper : List (List Table)) (ps : List Preceded)
           → IsPair first second deeper
           → (IsWithout key (kept_level ps (first ++ (second ++ flat_map (λ ts. ts) deeper))) → IsWithout key out)
           → IsPlaced (left_level ps (first ++ (second ++ flat_map (λ ts. ts) deeper))) (kept_level ps (first ++ (second ++ flat_map (λ ts. ts) deeper)))
@@ -398,7 +398,7 @@ module _ (keep : ℕ) (I O : List Entry) (floor : ℕ) (inputs : List ℕ) where
               by true at is later = absurd (let some : e ∷ of_key key es ≡ [] = sym (ap (λ b. cond b (e ∷ of_key key es) (of_key key es)) at) ∙ is in cc)
               by false at is later = (at, later (sym (ap (λ b. cond b (e ∷ of_key key es) (of_key key es)) at) ∙ is))
 
-      pub levels_placed : (n : ℕ) (levels : List (List Table)) (ps : List Place) → IsShaped n levels
+      pub levels_placed : (n : ℕ) (levels : List (List Table)) (ps : List Preceded) → IsShaped n levels
           → (IsWithout key (kept_level ps (flat_map (λ ts. ts) levels)) → IsWithout key out)
           → IsPlaced (left_level ps (flat_map (λ ts. ts) levels)) (kept_level ps (flat_map (λ ts. ts) levels))
           (all_entries (flat_map (λ ts. ts) (at_level n (in_key_order new) (map (without inputs) levels))))
@@ -410,14 +410,14 @@ module _ (keep : ℕ) (I O : List Entry) (floor : ℕ) (inputs : List ℕ) where
       levels_placed n (first ∷ second ∷ deeper) ps (inr there) gone =
           let rest = flat_map (λ ts. ts) (second ∷ deeper) in
           let idle = there.1.0 in
-          let same : kept_level ps (first ++ rest) ≡ kept_level ps rest = kept-append ps first rest ∙ ap (λ (xs : List Entry). xs ++ kept_level (rest_level ps first) rest) (idle_kept ps first idle) ∙ ap (λ (qs : List Place). kept_level qs rest) (idle_rest ps first idle) in
+          let same : kept_level ps (first ++ rest) ≡ kept_level ps rest = kept-append ps first rest ∙ ap (λ (xs : List Entry). xs ++ kept_level (rest_level ps first) rest) (idle_kept ps first idle) ∙ ap (λ (qs : List Preceded). kept_level qs rest) (idle_rest ps first idle) in
           let later = levels_placed (n - 1) (second ∷ deeper) ps there.1.1 (λ none. gone (subst (IsWithout key) (sym same) none)) in
           let X = of_key key (all_entries first) in
           let not_first : (n == 0) ≡ false = let above = there.0 in grind (arith, nat_tests) in
           record {
             front = X ++ later.front;
             behind = later.behind;
-            apart = ap (of_key key) (left-append ps first rest ∙ ap (λ (xs : List Entry). xs ++ left_level (rest_level ps first) rest) (idle_left ps first idle) ∙ ap (λ (qs : List Place). all_entries first ++ left_level qs rest) (idle_rest ps first idle))
+            apart = ap (of_key key) (left-append ps first rest ∙ ap (λ (xs : List Entry). xs ++ left_level (rest_level ps first) rest) (idle_left ps first idle) ∙ ap (λ (qs : List Preceded). all_entries first ++ left_level qs rest) (idle_rest ps first idle))
                 ∙ of-append key (all_entries first) (left_level ps rest)
                 ∙ ap (λ (xs : List Entry). X ++ xs) later.apart
                 ∙ sym (append_assoc X later.front (of_key key (kept_level ps rest) ++ later.behind))
@@ -431,7 +431,7 @@ module _ (keep : ℕ) (I O : List Entry) (floor : ℕ) (inputs : List ℕ) where
           }
 
       -- in place of the one input that stands among these tables
-      pub in_place_placed : (xs : List Table) (t : Table) (ys : List Table) (ps : List Place) → IsIdle xs → is_among inputs t ≡ true → IsIdle ys
+      pub in_place_placed : (xs : List Table) (t : Table) (ys : List Table) (ps : List Preceded) → IsIdle xs → is_among inputs t ≡ true → IsIdle ys
           → IsPlaced (left_level ps (xs ++ t ∷ ys)) (kept_level ps (xs ++ t ∷ ys)) (all_entries (xs ++ (new ++ ys)))
       in_place_placed xs t ys ps before is after =
           let qs = rest_level ps xs in

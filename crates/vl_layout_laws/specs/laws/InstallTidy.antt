@@ -1,12 +1,12 @@
 -- A flush, and an install of an open job, whatever they answer, leave files and levels as they should be.
-use Rattle.std.proofs.Common.{◌≡◌, ◌≢◌, ℕ, Bool, true, false, ◌||◌, List, [], ◌∷◌, ◌++◌, map, sym, ◌∙◌, subst, arith}
+use Rattle.std.proofs.Common.{◌≡◌, ◌≢◌, ℕ, Bool, true, false, List, [], ◌∷◌, ◌++◌, sym, ◌∙◌, subst, arith}
 use Rattle.std.proofs.lemmas.Bool.Decides.{nat_tests}
 use Rattle.std.specs.Prelude.{Option, Some, None, ◌==◌, if◌then◌else◌}
 use Rattle.std.specs.List.{AllByRecursion, list_any}
 use Rattle.vl_model.specs.Conflicts.{Named}
 use Rattle.vl_model.specs.History.{History}
 use Rattle.vl_model.specs.Numbers.{has}
-use Rattle.vl_layout.specs.Jobs.{AreDistinct, AreLent, AreOutputs, Made, job_ended, lent_numbers}
+use Rattle.vl_layout.specs.Jobs.{AreDistinct, AreLent, AreOutputs, Made, lent_numbers}
 use Rattle.vl_layout.specs.OpenJobs.{IsOpenWell}
 use Rattle.vl_layout.specs.Ruling.{Ruling, StepAnswer, has_no_number, has_no_version}
 use Rattle.vl_layout.specs.Rulings.Flush.{flush_of, flush_ruling, flush_unless}
@@ -24,7 +24,7 @@ use Rattle.vl_layout_laws.specs.laws.JobTables.{made_below, made_footed, made_in
 use Rattle.vl_layout_laws.specs.laws.LevelsKept.{levels_flushed, levels_replaced}
 use Rattle.vl_layout_laws.specs.laws.Pairs.{AreOther}
 use Rattle.vl_layout_laws.specs.laws.RulingStocked.{install_well}
-use Rattle.vl_layout_laws.specs.laws.WellStocked.{not_standing}
+use Rattle.vl_layout_laws.specs.laws.WellInstalled.{not_standing}
 
 distinct_tables : (ts : List Table) (more : List ℕ) → AreDistinct (numbers_of ts ++ more) → IsDistinct ts
 distinct_tables [] more distinct = tt

@@ -30,38 +30,38 @@ use Rattle.vl_layout.specs.declared.table.Table.{Table}
 use Rattle.vl_layout_laws.specs.laws.Gathered.{all_entries, nothing_more, IsWithout, of-append, outside_left, outside_rest, outside_kept, marked-append, kept_of-append, kept_inputs-append, left_level, kept_level, left_is, kept_is, IsIdle, IsShaped, IsPlaced, levels_placed, in_place_placed}
 use Rattle.vl_layout_laws.specs.laws.Justified.{marks_shown}
 use Rattle.vl_layout_laws.specs.laws.Keeps.{marked_tables, in_memory}
-use Rattle.vl_layout_laws.specs.laws.OpenJobs.{drops_at, head_mark, rest_places, marked_by, marks_now}
+use Rattle.vl_layout_laws.specs.laws.OpenJobs.{drops_at, head_mark, rest_preceded, marked_by, marks_now}
 use Rattle.vl_layout.specs.Marks.{kept_of, IsPast}
 use Rattle.vl_layout.specs.Shown.{of_key, Gathers, ShowsRuled}
-use Rattle.vl_layout.specs.OpenJobs.{Place, place_if, places, IsStillBehind, IsKeptFor}
+use Rattle.vl_layout.specs.OpenJobs.{Preceded, preceded_if, preceded, IsStillBehind, IsKeptFor}
 
 -- ---- what is kept is what the plan keeps
 
 module _ (keep : ℕ) (I O : List Entry) (floor : ℕ) where
-  kept_places : List Place → List Entry
+  kept_places : List Preceded → List Entry
   kept_places [] = []
   kept_places (p ∷ ps) = if_so (not (drops_at keep I O floor p)) p.entry (kept_places ps)
 
-  kept_then : (newer : List Entry) (ss : List Sourced) → kept_from keep I O floor newer ss ≡ kept_places (places newer ss)
+  kept_then : (newer : List Entry) (ss : List Sourced) → kept_from keep I O floor newer ss ≡ kept_places (preceded newer ss)
   unfolding kept_places
   kept_then newer [] = refl
   kept_then newer (s ∷ ss) = by s.0 (kept_then (s.1 ∷ newer) ss)
     where
-      by : (b : Bool) → kept_from keep I O floor (s.1 ∷ newer) ss ≡ kept_places (places (s.1 ∷ newer) ss)
-          → if_so (b && not (is_dropped keep I O floor newer s.1)) s.1 (kept_from keep I O floor (s.1 ∷ newer) ss) ≡ kept_places (place_if b s.1 newer (places (s.1 ∷ newer) ss))
+      by : (b : Bool) → kept_from keep I O floor (s.1 ∷ newer) ss ≡ kept_places (preceded (s.1 ∷ newer) ss)
+          → if_so (b && not (is_dropped keep I O floor newer s.1)) s.1 (kept_from keep I O floor (s.1 ∷ newer) ss) ≡ kept_places (preceded_if b s.1 newer (preceded (s.1 ∷ newer) ss))
       by true later = ap (if_so (not (is_dropped keep I O floor newer s.1)) s.1) later
       by false later = later
 
-  kept_now : (newer : List Entry) (ps : List Place) (ss : List Sourced) → AllZip IsStillBehind ps (places newer ss)
+  kept_now : (newer : List Entry) (ps : List Preceded) (ss : List Sourced) → AllZip IsStillBehind ps (preceded newer ss)
       → kept_inputs (marked_by keep I O floor ps ss) ≡ kept_places ps
   unfolding kept_places
   kept_now newer [] [] zip = refl
   kept_now newer (p ∷ ps) [] zip = absurd zip
-  kept_now newer ps (s ∷ ss) zip = by s.0 ps zip (λ (qs : List Place) (z : AllZip IsStillBehind qs (places (s.1 ∷ newer) ss)). kept_now (s.1 ∷ newer) qs ss z)
+  kept_now newer ps (s ∷ ss) zip = by s.0 ps zip (λ (qs : List Preceded) (z : AllZip IsStillBehind qs (preceded (s.1 ∷ newer) ss)). kept_now (s.1 ∷ newer) qs ss z)
     where
-      by : (b : Bool) (qs : List Place) → AllZip IsStillBehind qs (place_if b s.1 newer (places (s.1 ∷ newer) ss))
-          → ((rs : List Place) → AllZip IsStillBehind rs (places (s.1 ∷ newer) ss) → kept_inputs (marked_by keep I O floor rs ss) ≡ kept_places rs)
-          → if_so ((head_mark keep I O floor b qs s.1).input && (head_mark keep I O floor b qs s.1).kept) (head_mark keep I O floor b qs s.1).entry (kept_inputs (marked_by keep I O floor (rest_places b qs) ss)) ≡ kept_places qs
+      by : (b : Bool) (qs : List Preceded) → AllZip IsStillBehind qs (preceded_if b s.1 newer (preceded (s.1 ∷ newer) ss))
+          → ((rs : List Preceded) → AllZip IsStillBehind rs (preceded (s.1 ∷ newer) ss) → kept_inputs (marked_by keep I O floor rs ss) ≡ kept_places rs)
+          → if_so ((head_mark keep I O floor b qs s.1).input && (head_mark keep I O floor b qs s.1).kept) (head_mark keep I O floor b qs s.1).entry (kept_inputs (marked_by keep I O floor (rest_preceded b qs) ss)) ≡ kept_places qs
       by false qs zip later = later qs zip
       by true [] zip later = absurd zip
       by true (q ∷ qs) zip later =
@@ -73,7 +73,7 @@ pub kept_is_kept : (job : Job) (moved : List Named) (now : List Sourced) → IsK
 kept_is_kept job moved now k =
     let I = inputs_of job.base in
     let O = outside_of job.base in
-    kept_now job.keep I O job.floor [] (places [] job.base) now k.inputs ∙ sym (kept_then job.keep I O job.floor [] job.base)
+    kept_now job.keep I O job.floor [] (preceded [] job.base) now k.inputs ∙ sym (kept_then job.keep I O job.floor [] job.base)
 
 -- ---- the sources behind an install
 
@@ -83,45 +83,45 @@ made_entries job made all =
 
 module _ (l : Layout) (job : Job) (moved : List Named) (k : IsKeptFor job moved (sourced l job.inputs)) (made : Made) (all : AreOutputs job made) where
   abbrev pub left_tables : List Entry
-  left_tables = left_level job.keep (inputs_of job.base) (outside_of job.base) job.floor job.inputs (places [] job.base) (tables l)
+  left_tables = left_level job.keep (inputs_of job.base) (outside_of job.base) job.floor job.inputs (preceded [] job.base) (tables l)
 
-  front_left : kept_of (marks_now job (sourced l job.inputs)) ≡ in_memory l ++ left_level job.keep (inputs_of job.base) (outside_of job.base) job.floor job.inputs (places [] job.base) (tables l)
+  front_left : kept_of (marks_now job (sourced l job.inputs)) ≡ in_memory l ++ left_level job.keep (inputs_of job.base) (outside_of job.base) job.floor job.inputs (preceded [] job.base) (tables l)
   front_left =
       let I = inputs_of job.base in
       let O = outside_of job.base in
-      let ps = places [] job.base in
+      let ps = preceded [] job.base in
       let mem = marked_as false (in_memory l) in
       ap kept_of (marked-append job.keep I O job.floor job.inputs ps mem (marked_tables job.inputs (tables l)))
       ∙ kept_of-append job.keep I O job.floor job.inputs (marked_by job.keep I O job.floor ps mem) (marked_by job.keep I O job.floor (Rattle.vl_layout_laws.specs.laws.Gathered.rest_of job.keep I O job.floor job.inputs ps mem) (marked_tables job.inputs (tables l)))
       ∙ ap (λ (es : List Entry). es ++ kept_of (marked_by job.keep I O job.floor (Rattle.vl_layout_laws.specs.laws.Gathered.rest_of job.keep I O job.floor job.inputs ps mem) (marked_tables job.inputs (tables l)))) (outside_left job.keep I O job.floor job.inputs ps (in_memory l))
-      ∙ ap (λ (qs : List Place). in_memory l ++ kept_of (marked_by job.keep I O job.floor qs (marked_tables job.inputs (tables l)))) (outside_rest job.keep I O job.floor job.inputs ps (in_memory l))
+      ∙ ap (λ (qs : List Preceded). in_memory l ++ kept_of (marked_by job.keep I O job.floor qs (marked_tables job.inputs (tables l)))) (outside_rest job.keep I O job.floor job.inputs ps (in_memory l))
       ∙ ap (λ (es : List Entry). in_memory l ++ es) (left_is job.keep I O job.floor job.inputs ps (tables l))
 
-  front_kept : kept_level job.keep (inputs_of job.base) (outside_of job.base) job.floor job.inputs (places [] job.base) (tables l) ≡ kept job
+  front_kept : kept_level job.keep (inputs_of job.base) (outside_of job.base) job.floor job.inputs (preceded [] job.base) (tables l) ≡ kept job
   front_kept =
       let I = inputs_of job.base in
       let O = outside_of job.base in
-      let ps = places [] job.base in
+      let ps = preceded [] job.base in
       let mem = marked_as false (in_memory l) in
       sym (ap kept_inputs (marked-append job.keep I O job.floor job.inputs ps mem (marked_tables job.inputs (tables l)))
       ∙ kept_inputs-append job.keep I O job.floor job.inputs (marked_by job.keep I O job.floor ps mem) (marked_by job.keep I O job.floor (Rattle.vl_layout_laws.specs.laws.Gathered.rest_of job.keep I O job.floor job.inputs ps mem) (marked_tables job.inputs (tables l)))
       ∙ ap (λ (es : List Entry). es ++ kept_inputs (marked_by job.keep I O job.floor (Rattle.vl_layout_laws.specs.laws.Gathered.rest_of job.keep I O job.floor job.inputs ps mem) (marked_tables job.inputs (tables l)))) (outside_kept job.keep I O job.floor job.inputs ps (in_memory l))
-      ∙ ap (λ (qs : List Place). kept_inputs (marked_by job.keep I O job.floor qs (marked_tables job.inputs (tables l)))) (outside_rest job.keep I O job.floor job.inputs ps (in_memory l))
+      ∙ ap (λ (qs : List Preceded). kept_inputs (marked_by job.keep I O job.floor qs (marked_tables job.inputs (tables l)))) (outside_rest job.keep I O job.floor job.inputs ps (in_memory l))
       ∙ kept_is job.keep I O job.floor job.inputs ps (tables l))
       ∙ kept_is_kept job moved (sourced l job.inputs) k
 
-  gone_in_order : (key : List ℕ) → IsWithout key (kept_level job.keep (inputs_of job.base) (outside_of job.base) job.floor job.inputs (places [] job.base) (tables l)) → IsWithout key (merged_entries job)
+  gone_in_order : (key : List ℕ) → IsWithout key (kept_level job.keep (inputs_of job.base) (outside_of job.base) job.floor job.inputs (preceded [] job.base) (tables l)) → IsWithout key (merged_entries job)
   gone_in_order key none = all-in_order (λ (e : Entry). eq_by_cmp key_cmp key e.key ≡ false) (kept job) (subst (IsWithout key) front_kept none)
 
   gathers : (key : List ℕ) (after : List Entry)
       → IsPlaced job.keep (inputs_of job.base) (outside_of job.base) job.floor job.inputs key made.tables (merged_entries job) (made_entries job made all)
-      (left_level job.keep (inputs_of job.base) (outside_of job.base) job.floor job.inputs (places [] job.base) (tables l))
-      (kept_level job.keep (inputs_of job.base) (outside_of job.base) job.floor job.inputs (places [] job.base) (tables l)) after
+      (left_level job.keep (inputs_of job.base) (outside_of job.base) job.floor job.inputs (preceded [] job.base) (tables l))
+      (kept_level job.keep (inputs_of job.base) (outside_of job.base) job.floor job.inputs (preceded [] job.base) (tables l)) after
       → Gathers key (kept_of (marks_now job (sourced l job.inputs))) (kept job) (in_memory l ++ after)
   gathers key after p = record {
     front = of_key key (in_memory l) ++ p.front;
     behind = p.behind;
-    apart = ap (of_key key) front_left ∙ of-append key (in_memory l) (left_level job.keep (inputs_of job.base) (outside_of job.base) job.floor job.inputs (places [] job.base) (tables l))
+    apart = ap (of_key key) front_left ∙ of-append key (in_memory l) (left_level job.keep (inputs_of job.base) (outside_of job.base) job.floor job.inputs (preceded [] job.base) (tables l))
         ∙ ap (λ (es : List Entry). of_key key (in_memory l) ++ es) p.apart
         ∙ ap (λ (es : List Entry). of_key key (in_memory l) ++ (p.front ++ (of_key key es ++ p.behind))) front_kept
         ∙ sym (append_assoc (of_key key (in_memory l)) p.front (of_key key (kept job) ++ p.behind))
@@ -169,20 +169,20 @@ module _ (l : Layout) (job : Job) (moved : List Named) (k : IsKeptFor job moved 
 
   fit_placed : (target : Target) → IsFit target → (key : List ℕ)
       → IsPlaced job.keep (inputs_of job.base) (outside_of job.base) job.floor job.inputs key made.tables (merged_entries job) (made_entries job made all)
-      (left_level job.keep (inputs_of job.base) (outside_of job.base) job.floor job.inputs (places [] job.base) (tables l))
-      (kept_level job.keep (inputs_of job.base) (outside_of job.base) job.floor job.inputs (places [] job.base) (tables l))
+      (left_level job.keep (inputs_of job.base) (outside_of job.base) job.floor job.inputs (preceded [] job.base) (tables l))
+      (kept_level job.keep (inputs_of job.base) (outside_of job.base) job.floor job.inputs (preceded [] job.base) (tables l))
       (all_entries (flat_map (λ ts. ts) (replaced target job.inputs made.tables l.levels)))
   fit_placed (Level n) fit key =
-      levels_placed job.keep (inputs_of job.base) (outside_of job.base) job.floor job.inputs key made.tables (merged_entries job) (made_entries job made all) n l.levels (places [] job.base) (fit key) (gone_in_order key)
+      levels_placed job.keep (inputs_of job.base) (outside_of job.base) job.floor job.inputs key made.tables (merged_entries job) (made_entries job made all) n l.levels (preceded [] job.base) (fit key) (gone_in_order key)
   fit_placed InPlace fit key =
       let xs = fit.0 in
       let t = fit.1 in
       let ys = fit.2 in
       let I = inputs_of job.base in
       let O = outside_of job.base in
-      let P : List Table → List Entry → Type 0 = λ ts after. IsPlaced job.keep I O job.floor job.inputs key made.tables (merged_entries job) (made_entries job made all) (left_level job.keep I O job.floor job.inputs (places [] job.base) ts) (kept_level job.keep I O job.floor job.inputs (places [] job.base) ts) after in
+      let P : List Table → List Entry → Type 0 = λ ts after. IsPlaced job.keep I O job.floor job.inputs key made.tables (merged_entries job) (made_entries job made all) (left_level job.keep I O job.floor job.inputs (preceded [] job.base) ts) (kept_level job.keep I O job.floor job.inputs (preceded [] job.base) ts) after in
       let there : P (xs ++ t ∷ ys) (all_entries (xs ++ (made.tables ++ ys))) =
-      in_place_placed job.keep I O job.floor job.inputs key made.tables (merged_entries job) (made_entries job made all) xs t ys (places [] job.base) fit.4.0 fit.4.1.0 fit.4.1.1 in
+      in_place_placed job.keep I O job.floor job.inputs key made.tables (merged_entries job) (made_entries job made all) xs t ys (preceded [] job.base) fit.4.0 fit.4.1.0 fit.4.1.1 in
       let same : flat_map (λ ts. ts) (replaced InPlace job.inputs made.tables l.levels) ≡ xs ++ (made.tables ++ ys) =
       flat_flat (λ u. if is_among job.inputs u then made.tables else u ∷ []) l.levels
       ∙ ap (flat_map (λ u. if is_among job.inputs u then made.tables else u ∷ [])) fit.3

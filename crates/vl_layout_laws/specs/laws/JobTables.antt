@@ -1,5 +1,5 @@
 -- The tables that a job makes have true footers, lead only where its inputs lead, and are wide and apart.
-use Rattle.std.proofs.Common.{◌≡◌, ℕ, ◌≤◌, ◌<◌, Bool, true, false, List, [], ◌∷◌, ◌++◌, refl, sym, ◌∙◌, subst, arith, length}
+use Rattle.std.proofs.Common.{◌≡◌, ℕ, ◌<◌, true, List, [], ◌∷◌, refl, sym, ◌∙◌, subst, arith}
 use Rattle.std.proofs.lemmas.Bool.Decides.{nat_tests}
 use Rattle.std.specs.Prelude.{◌==◌}
 use Rattle.std.specs.List.{AllByRecursion, list_any}
@@ -9,16 +9,13 @@ use Rattle.vl_model.specs.History.{History}
 use Rattle.vl_block.specs.Cutting.{first_key, joined, last_key, points_of}
 use Rattle.vl_block.specs.declared.points.Point.{Point}
 use Rattle.vl_layout.specs.Jobs.{AreOutputs, Made, tables_made}
-use Rattle.vl_layout.specs.Levels.{is_among}
 use Rattle.vl_layout.specs.Merging.{inputs_of, kept, merged_entries, outputs}
 use Rattle.vl_layout.specs.OpenJobs.{IsOpenWell}
-use Rattle.vl_layout.specs.Rulings.Plan.{sourced}
 use Rattle.vl_layout.specs.Sources.{tables}
 use Rattle.vl_layout.specs.Stock.{HasBytes, IsFooted, PointsDrawn, is_into, leads}
 use Rattle.vl_layout.specs.Tables.{new_table}
-use Rattle.vl_layout.specs.TidyLevels.{IsApart, IsRanged, IsWide, Le}
+use Rattle.vl_layout.specs.TidyLevels.{IsWide, Le}
 use Rattle.vl_layout.specs.declared.job.Job.{Job}
-use Rattle.vl_layout.specs.declared.job.OpenJob.{OpenJob}
 use Rattle.vl_layout.specs.declared.layout.Layout.{Layout}
 use Rattle.vl_layout.specs.declared.table.Table.{Table}
 use Rattle.vl_layout.specs.laws.OrderShows.{all-in_order}
@@ -26,9 +23,7 @@ use Rattle.vl_layout.specs.laws.TableLaws.{cut-whole}
 use Rattle.vl_layout_laws.specs.laws.Beside.{all_kept_from, outputs_from}
 use Rattle.vl_layout_laws.specs.laws.Files.{all_both, all_weaker, leads-points, or_left, or_right, picked, seen_by}
 use Rattle.vl_layout_laws.specs.laws.Gathered.{all_entries}
-use Rattle.vl_layout_laws.specs.laws.Justified.{same_inputs}
-use Rattle.vl_layout_laws.specs.laws.Outputs.{IsCutWell, IsSorted, Lt, cut_well, from_first, of_first, of_last, outputs_apart, sorted_in_order}
-use Rattle.vl_layout_laws.specs.laws.Roomy.{sourced_inputs}
+use Rattle.vl_layout_laws.specs.laws.Outputs.{IsCutWell, IsSorted, cut_well, from_first, of_first, of_last, sorted_in_order}
 use Rattle.vl_layout_laws.specs.laws.Switches.{each_of}
 use Rattle.vl_model.specs.Formats.{table_format}
 

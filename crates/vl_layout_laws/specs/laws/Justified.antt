@@ -21,9 +21,9 @@ use Rattle.vl_layout.specs.Rulings.Install.{with_move, moved_among, race}
 use Rattle.vl_layout.specs.Shows.{Shows}
 use Rattle.vl_layout.specs.declared.job.Job.{Job}
 use Rattle.vl_layout_laws.specs.laws.Lists.{true_false, or_cases, or_left, or_right, picked, at_parts}
-use Rattle.vl_layout_laws.specs.laws.OpenJobs.{drops_at, head_mark, rest_places, marked_by, marks_now}
-use Rattle.vl_layout.specs.Marks.{all_of, kept_of, inputs_of as marked_inputs, outside_of as marked_outside, IsJustified, AreJustified, IsPast, plain}
-use Rattle.vl_layout.specs.OpenJobs.{Place, place_if, places, IsStillBehind, IsAccounted, IsKeptFor}
+use Rattle.vl_layout_laws.specs.laws.OpenJobs.{drops_at, head_mark, rest_preceded, marked_by, marks_now}
+use Rattle.vl_layout.specs.Marks.{all_of, kept_of, marked_inputs, marked_outside, IsJustified, AreJustified, IsPast, plain}
+use Rattle.vl_layout.specs.OpenJobs.{Preceded, preceded_if, preceded, IsStillBehind, IsAccounted, IsKeptFor}
 
 -- ---- no race
 
@@ -55,13 +55,13 @@ none_moved moved (e ∷ es) none = by_found (find key_cmp e.key moved) refl (λ 
 
 module _ (keep : ℕ) (inputs outside : List Entry) (floor : ℕ) (moved : List Named) where
   -- a place whose deletion the third rule alone drops is of a key that wasn't moved
-  abbrev pub IsFree : Place → Type 0
+  abbrev pub IsFree : Preceded → Type 0
   IsFree p = drops_by_need keep inputs outside floor p.newer p.entry ≡ true → IsUnmoved moved p.entry
 
-  free_if : (b : Bool) (e : Entry) (newer : List Entry) (ps : List Place) (es : List Entry)
+  free_if : (b : Bool) (e : Entry) (newer : List Entry) (ps : List Preceded) (es : List Entry)
       → AllByRecursion (IsUnmoved moved) (if_so (b && drops_by_need keep inputs outside floor newer e) e es)
       → (AllByRecursion (IsUnmoved moved) es → AllByRecursion IsFree ps)
-      → AllByRecursion IsFree (place_if b e newer ps)
+      → AllByRecursion IsFree (preceded_if b e newer ps)
   free_if false e newer ps es all later = later all
   free_if true e newer ps es all later = by_test (drops_by_need keep inputs outside floor newer e) refl all
     where
@@ -73,77 +73,77 @@ module _ (keep : ℕ) (inputs outside : List Entry) (floor : ℕ) (moved : List 
 
   frees : (newer : List Entry) (ss : List Sourced)
       → AllByRecursion (IsUnmoved moved) (needless_from keep inputs outside floor newer ss)
-      → AllByRecursion IsFree (places newer ss)
+      → AllByRecursion IsFree (preceded newer ss)
   frees newer [] all = tt
   frees newer (s ∷ ss) all =
-      free_if s.0 s.1 newer (places (s.1 ∷ newer) ss) (needless_from keep inputs outside floor (s.1 ∷ newer) ss) all (frees (s.1 ∷ newer) ss)
+      free_if s.0 s.1 newer (preceded (s.1 ∷ newer) ss) (needless_from keep inputs outside floor (s.1 ∷ newer) ss) all (frees (s.1 ∷ newer) ss)
 
 pub race_frees : (job : Job) (moved : List Named) → race job moved ≡ None
-    → AllByRecursion (IsFree job.keep (inputs_of job.base) (outside_of job.base) job.floor moved) (places [] job.base)
+    → AllByRecursion (IsFree job.keep (inputs_of job.base) (outside_of job.base) job.floor moved) (preceded [] job.base)
 race_frees job moved none =
     frees job.keep (inputs_of job.base) (outside_of job.base) job.floor moved [] job.base (none_moved moved (needless job) none)
 
 -- ---- the marks over the sources of a moment
 
 module _ (keep : ℕ) (inputs outside : List Entry) (floor : ℕ) where
-  mark_entry : (b : Bool) (ps : List Place) (e : Entry)
+  mark_entry : (b : Bool) (ps : List Preceded) (e : Entry)
       → (head_mark keep inputs outside floor b ps e).entry ≡ e
   mark_entry true (p ∷ ps) e = refl
   mark_entry true [] e = refl
   mark_entry false ps e = refl
 
-  mark_input : (b : Bool) (ps : List Place) (e : Entry)
+  mark_input : (b : Bool) (ps : List Preceded) (e : Entry)
       → (head_mark keep inputs outside floor b ps e).input ≡ b
   mark_input true (p ∷ ps) e = refl
   mark_input true [] e = refl
   mark_input false ps e = refl
 
-  pub all_of-marked : (ps : List Place) (ss : List Sourced)
+  pub all_of-marked : (ps : List Preceded) (ss : List Sourced)
       → all_of (marked_by keep inputs outside floor ps ss) ≡ plain ss
   all_of-marked ps [] = refl
   all_of-marked ps (s ∷ ss) =
-      ap (λ (e : Entry). e ∷ all_of (marked_by keep inputs outside floor (rest_places s.0 ps) ss)) (mark_entry s.0 ps s.1)
-      ∙ ap (λ (es : List Entry). s.1 ∷ es) (all_of-marked (rest_places s.0 ps) ss)
+      ap (λ (e : Entry). e ∷ all_of (marked_by keep inputs outside floor (rest_preceded s.0 ps) ss)) (mark_entry s.0 ps s.1)
+      ∙ ap (λ (es : List Entry). s.1 ∷ es) (all_of-marked (rest_preceded s.0 ps) ss)
 
-  pub inputs_of-marked : (ps : List Place) (ss : List Sourced)
+  pub inputs_of-marked : (ps : List Preceded) (ss : List Sourced)
       → marked_inputs (marked_by keep inputs outside floor ps ss) ≡ inputs_of ss
   inputs_of-marked ps [] = refl
   inputs_of-marked ps (s ∷ ss) =
-      ap (λ (b : Bool). if_so b (head_mark keep inputs outside floor s.0 ps s.1).entry (marked_inputs (marked_by keep inputs outside floor (rest_places s.0 ps) ss))) (mark_input s.0 ps s.1)
-      ∙ ap (λ (e : Entry). if_so s.0 e (marked_inputs (marked_by keep inputs outside floor (rest_places s.0 ps) ss))) (mark_entry s.0 ps s.1)
-      ∙ ap (if_so s.0 s.1) (inputs_of-marked (rest_places s.0 ps) ss)
+      ap (λ (b : Bool). if_so b (head_mark keep inputs outside floor s.0 ps s.1).entry (marked_inputs (marked_by keep inputs outside floor (rest_preceded s.0 ps) ss))) (mark_input s.0 ps s.1)
+      ∙ ap (λ (e : Entry). if_so s.0 e (marked_inputs (marked_by keep inputs outside floor (rest_preceded s.0 ps) ss))) (mark_entry s.0 ps s.1)
+      ∙ ap (if_so s.0 s.1) (inputs_of-marked (rest_preceded s.0 ps) ss)
 
-  pub outside_of-marked : (ps : List Place) (ss : List Sourced)
+  pub outside_of-marked : (ps : List Preceded) (ss : List Sourced)
       → marked_outside (marked_by keep inputs outside floor ps ss) ≡ outside_of ss
   outside_of-marked ps [] = refl
   outside_of-marked ps (s ∷ ss) =
-      ap (λ (b : Bool). if_so (not b) (head_mark keep inputs outside floor s.0 ps s.1).entry (marked_outside (marked_by keep inputs outside floor (rest_places s.0 ps) ss))) (mark_input s.0 ps s.1)
-      ∙ ap (λ (e : Entry). if_so (not s.0) e (marked_outside (marked_by keep inputs outside floor (rest_places s.0 ps) ss))) (mark_entry s.0 ps s.1)
-      ∙ ap (if_so (not s.0) s.1) (outside_of-marked (rest_places s.0 ps) ss)
+      ap (λ (b : Bool). if_so (not b) (head_mark keep inputs outside floor s.0 ps s.1).entry (marked_outside (marked_by keep inputs outside floor (rest_preceded s.0 ps) ss))) (mark_input s.0 ps s.1)
+      ∙ ap (λ (e : Entry). if_so (not s.0) e (marked_outside (marked_by keep inputs outside floor (rest_preceded s.0 ps) ss))) (mark_entry s.0 ps s.1)
+      ∙ ap (if_so (not s.0) s.1) (outside_of-marked (rest_preceded s.0 ps) ss)
 
 -- the inputs' entries are the same ones
 inputs_by_places : (newer : List Entry) (ss : List Sourced)
-    → Rattle.std.proofs.Common.map (λ (p : Place). p.entry) (places newer ss) ≡ inputs_of ss
+    → Rattle.std.proofs.Common.map (λ (p : Preceded). p.entry) (preceded newer ss) ≡ inputs_of ss
 inputs_by_places newer [] = refl
 inputs_by_places newer (s ∷ ss) = by_test s.0 (inputs_by_places (s.1 ∷ newer) ss)
   where
     by_test : (b : Bool)
-        → Rattle.std.proofs.Common.map (λ (p : Place). p.entry) (places (s.1 ∷ newer) ss) ≡ inputs_of ss
-        → Rattle.std.proofs.Common.map (λ (p : Place). p.entry) (place_if b s.1 newer (places (s.1 ∷ newer) ss)) ≡ if_so b s.1 (inputs_of ss)
+        → Rattle.std.proofs.Common.map (λ (p : Preceded). p.entry) (preceded (s.1 ∷ newer) ss) ≡ inputs_of ss
+        → Rattle.std.proofs.Common.map (λ (p : Preceded). p.entry) (preceded_if b s.1 newer (preceded (s.1 ∷ newer) ss)) ≡ if_so b s.1 (inputs_of ss)
     by_test true later = ap (λ (es : List Entry). s.1 ∷ es) later
     by_test false later = later
 
-same_entries : (ps qs : List Place) → AllZip IsStillBehind ps qs
-    → Rattle.std.proofs.Common.map (λ (p : Place). p.entry) qs ≡ Rattle.std.proofs.Common.map (λ (p : Place). p.entry) ps
+same_entries : (ps qs : List Preceded) → AllZip IsStillBehind ps qs
+    → Rattle.std.proofs.Common.map (λ (p : Preceded). p.entry) qs ≡ Rattle.std.proofs.Common.map (λ (p : Preceded). p.entry) ps
 same_entries [] [] zip = refl
 same_entries [] (q ∷ qs) zip = absurd zip
 same_entries (p ∷ ps) [] zip = absurd zip
-same_entries (p ∷ ps) (q ∷ qs) zip = ap (λ (e : Entry). e ∷ Rattle.std.proofs.Common.map (λ (x : Place). x.entry) qs) zip.0.same ∙ ap (λ (es : List Entry). p.entry ∷ es) (same_entries ps qs zip.1)
+same_entries (p ∷ ps) (q ∷ qs) zip = ap (λ (e : Entry). e ∷ Rattle.std.proofs.Common.map (λ (x : Preceded). x.entry) qs) zip.0.same ∙ ap (λ (es : List Entry). p.entry ∷ es) (same_entries ps qs zip.1)
 
 pub same_inputs : (job : Job) (moved : List Named) (now : List Sourced) → IsKeptFor job moved now
     → inputs_of now ≡ inputs_of job.base
 same_inputs job moved now k =
-    sym (inputs_by_places [] now) ∙ same_entries (places [] job.base) (places [] now) k.inputs ∙ inputs_by_places [] job.base
+    sym (inputs_by_places [] now) ∙ same_entries (preceded [] job.base) (preceded [] now) k.inputs ∙ inputs_by_places [] job.base
 
 -- ---- the rules of the moment
 
@@ -210,7 +210,7 @@ module _ (keep : ℕ) (inputs outside now : List Entry) (floor : ℕ) (moved : L
       let both = and_parts (keep == 1) (is_needless_one outside floor e) needless in
       and_from (keep == 1) (is_needless_one now floor e) both.0 (still_one outside now floor moved accounted e both.1 unmoved)
 
-  dropped_still : (p q : Place) → IsStillBehind p q → IsFree keep inputs outside floor moved p
+  dropped_still : (p q : Preceded) → IsStillBehind p q → IsFree keep inputs outside floor moved p
       → drops_at keep inputs outside floor p ≡ true → is_dropped keep inputs now floor q.newer q.entry ≡ true
   dropped_still p q still free drops =
       subst (λ (e : Entry). is_dropped keep inputs now floor q.newer e ≡ true) (sym still.same)
@@ -242,11 +242,11 @@ module _ (keep : ℕ) (inputs outside now : List Entry) (floor : ℕ) (moved : L
   none_outdated false true n h = absurd (true_false h)
   none_outdated false false n h = refl
 
-  justified_one : (b : Bool) (ps : List Place) (e : Entry) (newer : List Entry) (qs : List Place)
-      → AllZip IsStillBehind ps (place_if b e newer qs)
+  justified_one : (b : Bool) (ps : List Preceded) (e : Entry) (newer : List Entry) (qs : List Preceded)
+      → AllZip IsStillBehind ps (preceded_if b e newer qs)
       → AllByRecursion (IsFree keep inputs outside floor moved) ps
       → IsJustified keep inputs now floor newer (head_mark keep inputs outside floor b ps e)
-      × (AllZip IsStillBehind (rest_places b ps) qs × AllByRecursion (IsFree keep inputs outside floor moved) (rest_places b ps))
+      × (AllZip IsStillBehind (rest_preceded b ps) qs × AllByRecursion (IsFree keep inputs outside floor moved) (rest_preceded b ps))
   justified_one false ps e newer qs zip free = (
     record { drops = λ dropped. absurd (true_false dropped); keeps = λ kept_now input. absurd (true_false (sym input)) },
     (zip, free),
@@ -260,16 +260,16 @@ module _ (keep : ℕ) (inputs outside now : List Entry) (floor : ℕ) (moved : L
     (zip.1, free.1),
   )
 
-  justified_from : (newer : List Entry) (ps : List Place) (ss : List Sourced)
-      → AllZip IsStillBehind ps (places newer ss)
+  justified_from : (newer : List Entry) (ps : List Preceded) (ss : List Sourced)
+      → AllZip IsStillBehind ps (preceded newer ss)
       → AllByRecursion (IsFree keep inputs outside floor moved) ps
       → AreJustified keep inputs now floor newer (marked_by keep inputs outside floor ps ss)
   justified_from newer ps [] zip free = tt
   justified_from newer ps (s ∷ ss) zip free =
-      let one = justified_one s.0 ps s.1 newer (places (s.1 ∷ newer) ss) zip free in (
+      let one = justified_one s.0 ps s.1 newer (preceded (s.1 ∷ newer) ss) zip free in (
         one.0,
-        subst (λ (e : Entry). AreJustified keep inputs now floor (e ∷ newer) (marked_by keep inputs outside floor (rest_places s.0 ps) ss)) (sym (mark_entry keep inputs outside floor s.0 ps s.1))
-            (justified_from (s.1 ∷ newer) (rest_places s.0 ps) ss one.1.0 one.1.1),
+        subst (λ (e : Entry). AreJustified keep inputs now floor (e ∷ newer) (marked_by keep inputs outside floor (rest_preceded s.0 ps) ss)) (sym (mark_entry keep inputs outside floor s.0 ps s.1))
+            (justified_from (s.1 ∷ newer) (rest_preceded s.0 ps) ss one.1.0 one.1.1),
       )
 
 -- Where nothing raced, what a kept job leaves of the sources shows what they show.
@@ -279,7 +279,7 @@ pub marks_shown : (logs : Logs) (job : Job) (moved : List Named) (now : List Sou
 marks_shown logs job moved now h from to past k none shows =
     let I = inputs_of job.base in
     let O = outside_of job.base in
-    let ps = places [] job.base in
+    let ps = preceded [] job.base in
     let ms = marks_now job now in
     let justified : AreJustified job.keep I (outside_of now) job.floor [] ms =
     justified_from job.keep I O (outside_of now) job.floor moved k.outside [] ps now k.inputs (race_frees job moved none) in

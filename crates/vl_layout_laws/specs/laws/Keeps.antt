@@ -35,7 +35,7 @@ use Rattle.vl_layout.specs.declared.layout.Layout.{Layout}
 use Rattle.vl_layout.specs.declared.segment.Segment.{Segment}
 use Rattle.vl_layout.specs.declared.table.Table.{Table}
 use Rattle.vl_layout_laws.specs.laws.Lists.{or_cases, or_left, or_right, any-append, any-in_order}
-use Rattle.vl_layout.specs.OpenJobs.{Place, place_if, places, Covers, IsStillBehind, IsAccounted, IsKeptFor}
+use Rattle.vl_layout.specs.OpenJobs.{Preceded, preceded_if, preceded, Covers, IsStillBehind, IsAccounted, IsKeptFor}
 
 -- ---- sources in front of the tables
 
@@ -43,10 +43,10 @@ abbrev pub behind : List Entry → List Entry → List Entry
 behind newer [] = newer
 behind newer (e ∷ es) = behind (e ∷ newer) es
 
-places-front : (newer es : List Entry) (ss : List Sourced)
-    → places newer (marked_as false es ++ ss) ≡ places (behind newer es) ss
-places-front newer [] ss = refl
-places-front newer (e ∷ es) ss = places-front (e ∷ newer) es ss
+preceded-front : (newer es : List Entry) (ss : List Sourced)
+    → preceded newer (marked_as false es ++ ss) ≡ preceded (behind newer es) ss
+preceded-front newer [] ss = refl
+preceded-front newer (e ∷ es) ss = preceded-front (e ∷ newer) es ss
 
 outside-front : (es : List Entry) (ss : List Sourced)
     → outside_of (marked_as false es ++ ss) ≡ es ++ outside_of ss
@@ -80,18 +80,18 @@ covers-more e es fs covers key version there = ⊎_elim
     (or_cases (is_at key version e) (list_any (is_at key version) es) there)
 
 still_more : (newer newer' : List Entry) → Covers newer newer' → (ss : List Sourced)
-    → AllZip IsStillBehind (places newer ss) (places newer' ss)
+    → AllZip IsStillBehind (preceded newer ss) (preceded newer' ss)
 still_more newer newer' covers [] = tt
 still_more newer newer' covers (s ∷ ss) =
     by_test s.0 (still_more (s.1 ∷ newer) (s.1 ∷ newer') (covers-more s.1 newer newer' covers) ss)
   where
     by_test : (b : Bool)
-        → AllZip IsStillBehind (places (s.1 ∷ newer) ss) (places (s.1 ∷ newer') ss)
-        → AllZip IsStillBehind (place_if b s.1 newer (places (s.1 ∷ newer) ss)) (place_if b s.1 newer' (places (s.1 ∷ newer') ss))
+        → AllZip IsStillBehind (preceded (s.1 ∷ newer) ss) (preceded (s.1 ∷ newer') ss)
+        → AllZip IsStillBehind (preceded_if b s.1 newer (preceded (s.1 ∷ newer) ss)) (preceded_if b s.1 newer' (preceded (s.1 ∷ newer') ss))
     by_test true later = (record { same = refl; covers = covers }, later)
     by_test false later = later
 
-still_then : (ps qs rs : List Place) → AllZip IsStillBehind ps qs → AllZip IsStillBehind qs rs
+still_then : (ps qs rs : List Preceded) → AllZip IsStillBehind ps qs → AllZip IsStillBehind qs rs
     → AllZip IsStillBehind ps rs
 still_then [] [] [] a b = tt
 still_then [] [] (r ∷ rs) a b = absurd b
@@ -122,9 +122,9 @@ module _ (job : Job) (moved moved' : List Named) (es fs : List Entry) (ts : List
       subst (AllByRecursion (IsAccounted (outside_of job.base) job.floor moved)) (outside-front es ts) k.outside in
       let parts = all_parts (IsAccounted (outside_of job.base) job.floor moved) es (outside_of ts) before in
       record {
-        inputs = subst (AllZip IsStillBehind (places [] job.base)) (sym (places-front [] fs ts))
-            (still_then (places [] job.base) (places (behind [] es) ts) (places (behind [] fs) ts)
-            (subst (AllZip IsStillBehind (places [] job.base)) (places-front [] es ts) k.inputs)
+        inputs = subst (AllZip IsStillBehind (preceded [] job.base)) (sym (preceded-front [] fs ts))
+            (still_then (preceded [] job.base) (preceded (behind [] es) ts) (preceded (behind [] fs) ts)
+            (subst (AllZip IsStillBehind (preceded [] job.base)) (preceded-front [] es ts) k.inputs)
             (still_more (behind [] es) (behind [] fs) (covers-behind es fs covers) ts));
         outside = subst (AllByRecursion (IsAccounted (outside_of job.base) job.floor moved')) (sym (outside-front fs ts))
             (all_both (IsAccounted (outside_of job.base) job.floor moved') fs (outside_of ts) (front parts.0)

@@ -1,23 +1,21 @@
 -- A flush and an install leave levels as they should be: seven, no table twice, true ranges, and apart from level 1 on.
-use Rattle.std.proofs.Common.{◌≡◌, ◌≢◌, ◌⊎◌, inl, inr, ⊎_elim, ℕ, ◌+◌, ◌-◌, ◌≤◌, ◌<◌, Bool, true, false, cond, not, ◌&&◌, List, [], ◌∷◌, ◌++◌, map, refl, ap, sym, ◌∙◌, subst, arith, length, append_assoc}
+use Rattle.std.proofs.Common.{◌≡◌, ◌≢◌, inl, inr, ⊎_elim, ℕ, ◌-◌, ◌<◌, Bool, true, false, cond, not, List, [], ◌∷◌, ◌++◌, map, refl, ap, sym, ◌∙◌, subst, arith, length, append_assoc}
 use Rattle.std.proofs.lemmas.Bool.Decides.{nat_tests}
-use Rattle.std.specs.Prelude.{◌==◌, Some, Option, None}
+use Rattle.std.specs.Prelude.{◌==◌}
 use Rattle.std.specs.List.{AllByRecursion, filter, flat_map}
 use Rattle.vl_model.specs.Conflicts.{Named}
 use Rattle.vl_model.specs.History.{History}
-use Rattle.vl_model.specs.Limits.{max_level}
 use Rattle.vl_model.specs.Placement.{placed}
 use Rattle.vl_model.specs.declared.entry.Entry.{Entry}
 use Rattle.vl_block.specs.Cutting.{first_key, last_key}
-use Rattle.vl_layout.specs.Jobs.{AreLent, AreOutputs, Made, lent_numbers, tables_made}
+use Rattle.vl_layout.specs.Jobs.{AreOutputs, Made, tables_made}
 use Rattle.vl_layout.specs.Levels.{at_level, in_front, in_key_order, is_among, level_at, replaced, without}
 use Rattle.vl_layout.specs.Logs.{logged_entries, memtable}
 use Rattle.vl_layout.specs.Merging.{inputs_of, outputs}
 use Rattle.vl_layout.specs.OpenJobs.{IsBesideAll, IsFitted, IsIdle, IsOpenWell, IsRoomy}
 use Rattle.vl_layout.specs.Rulings.Flush.{flushed, flushed_table}
 use Rattle.vl_layout.specs.Rulings.Plan.{sourced}
-use Rattle.vl_layout.specs.Sources.{numbers_of, tables}
-use Rattle.vl_layout.specs.Stock.{IsStocked}
+use Rattle.vl_layout.specs.Sources.{tables}
 use Rattle.vl_layout.specs.TidyLevels.{AreLevels, IsApart, IsDistinct, IsRanged, IsWide, Le}
 use Rattle.vl_layout.specs.declared.job.Job.{Job}
 use Rattle.vl_layout.specs.declared.job.Target.{Target}
@@ -30,10 +28,10 @@ use Rattle.vl_layout_laws.specs.laws.JobTables.{first_last, job_ends, job_wide}
 use Rattle.vl_layout_laws.specs.laws.Justified.{same_inputs}
 use Rattle.vl_layout_laws.specs.laws.KeyOrder.{IsAside, all_among, key_order_apart}
 use Rattle.vl_layout_laws.specs.laws.Once.{distinct_filtered}
-use Rattle.vl_layout_laws.specs.laws.Outputs.{IsSorted, Lt, from_first, le_lt, lt_le, lt_le_then, outputs_apart, sorted_in_order, up_to_last}
-use Rattle.vl_layout_laws.specs.laws.Pairs.{AreOther, all_both, all_filtered, all_parts, all_weaker, distinct_parts, le_then, others_turned}
+use Rattle.vl_layout_laws.specs.laws.Outputs.{IsSorted, Lt, from_first, le_lt, lt_le_then, outputs_apart, sorted_in_order, up_to_last}
+use Rattle.vl_layout_laws.specs.laws.Pairs.{AreOther, all_both, all_filtered, all_parts, all_weaker, distinct_parts, others_turned}
 use Rattle.vl_layout_laws.specs.laws.Roomy.{sourced_inputs}
-use Rattle.vl_layout_laws.specs.laws.Switches.{all_at_level, all_replaced, all_swapped}
+use Rattle.vl_layout_laws.specs.laws.Switches.{all_at_level, all_replaced}
 
 abbrev pub flat : List (List Table) → List Table
 flat levels = flat_map (λ ts. ts) levels

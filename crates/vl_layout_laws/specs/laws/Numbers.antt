@@ -158,8 +158,8 @@ module _ (l : Layout) (h : History) where
   pub fresh_rises : Rises l (fresh_ruling l h)
   fresh_rises = fresh_unless-rises l.halted
 
-  pub abandon_rises : (made : Made) → Rises l (abandon_ruling l h made)
-  abandon_rises made = record { log = omega arith; table = omega arith }
+  pub abandon_rises : (job : Job) (made : Made) → Rises l (abandon_ruling l h job made)
+  abandon_rises job made = record { log = omega arith; table = omega arith }
 
   module _ (job : Job) (made : Made) where
     install_checked-rises : (o : Option Named) → Rises l (install_checked l h job made o)

@@ -1,5 +1,5 @@
 -- No file is retired twice: what a switch retires wasn't retired, and stands once.
-use Rattle.std.proofs.Common.{◌≡◌, ℕ, ◌<◌, Bool, true, false, cond, not, ◌||◌, List, [], ◌∷◌, ◌++◌, map, refl, ap, sym, ◌∙◌, subst, arith, append_assoc}
+use Rattle.std.proofs.Common.{◌≡◌, ℕ, ◌<◌, Bool, true, false, cond, not, List, [], ◌∷◌, ◌++◌, map, refl, ap, sym, ◌∙◌, subst, arith, append_assoc}
 use Rattle.std.proofs.lemmas.Bool.Decides.{nat_tests}
 use Rattle.std.proofs.lemmas.Cmp.{ranked}
 use Rattle.std.proofs.lemmas.List.{map-append}
@@ -14,7 +14,7 @@ use Rattle.vl_layout.specs.Jobs.{AreDistinct, loose}
 use Rattle.vl_layout.specs.Ruling.{is_idle, retired_at, switched}
 use Rattle.vl_layout.specs.Rulings.Sweep.{is_same}
 use Rattle.vl_layout.specs.Sources.{head, log_of, put_segment, rising, table_of, tables}
-use Rattle.vl_layout.specs.Stock.{AreOnce, IsLogOff, IsNotLent, files_of, is_in}
+use Rattle.vl_layout.specs.Stock.{AreOnce, IsLogOff, files_of, is_in}
 use Rattle.vl_layout.specs.TidyLevels.{IsDistinct}
 use Rattle.vl_layout.specs.declared.file_name.FileName.{FileName}
 use Rattle.vl_layout.specs.declared.file_name.FileName.TheVariants.{Log, Table as TableFile, Manifest}

@@ -5,7 +5,6 @@ use Rattle.std.proofs.lemmas.Bool.Decides.{nat_tests}
 use Rattle.std.specs.Prelude.{Option, Some, None, ◌==◌, nat_le, nat_lt, if◌then◌else◌}
 use Rattle.std.specs.List.{AllByRecursion, filter, list_any, sum_by}
 use Rattle.std.specs.Ordering.{eq_by_cmp}
-use Rattle.vl_model.specs.Conflicts.{Named}
 use Rattle.vl_model.specs.History.{History}
 use Rattle.vl_model.specs.Keys.{key_cmp}
 use Rattle.vl_model.specs.Numbers.{has}

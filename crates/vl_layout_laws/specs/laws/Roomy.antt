@@ -1,10 +1,10 @@
 -- Of the level into which a merge is planned each table that isn't an input lies on one side of all keys of the inputs.
 use Rattle.std.proofs.Common.{◌≡◌, ◌≢◌, inl, inr, ⊎_elim, ℕ, ◌+◌, ◌<◌, Bool, true, false, List, [], ◌∷◌, ◌++◌, ap, sym, ◌∙◌, refl, subst, arith, length}
 use Rattle.std.specs.Prelude.{Option, Some, None}
-use Rattle.std.specs.List.{AllByRecursion, filter, flat_map}
+use Rattle.std.specs.List.{AllByRecursion, flat_map}
 use Rattle.vl_model.specs.History.{History}
 use Rattle.vl_model.specs.declared.entry.Entry.{Entry}
-use Rattle.vl_layout.specs.Levels.{Range, due_inputs, inputs_at, is_among, level_at, meets, range_of, widened, with_next}
+use Rattle.vl_layout.specs.Levels.{Range, due_inputs, inputs_at, is_among, level_at, range_of, with_next}
 use Rattle.vl_layout.specs.Merging.{Sourced, if_so, inputs_of}
 use Rattle.vl_layout.specs.OpenJobs.{IsBesideAll, IsRoomy}
 use Rattle.vl_layout.specs.Rulings.Plan.{job_of, marked_as, sourced}
@@ -60,9 +60,14 @@ idle_have Q inputs ts idle = all_weaker (λ (t : Table). is_among inputs t ≡ f
 -- The level into which a level is merged has room for what the merge makes.
 pub plan_roomy : (l : Layout) (h : History) (n : ℕ) → AreLevels l.levels → n + 1 < length l.levels
     → IsRoomy l.levels (job_of l h (inputs_at n l.levels) (Level (n + 1))) (Level (n + 1))
-plan_roomy l h n are within =
-    (omega arith, (within, subst (λ (us : List Table). AllByRecursion (λ (u : Table). is_among (numbers_of (inputs_at n l.levels)) u ≡ false → IsBesideAll (inputs_of (sourced l (numbers_of (inputs_at n l.levels)))) u) us) (sym c.second_is)
-    (subst (λ (ns : List ℕ). AllByRecursion (λ (u : Table). is_among ns u ≡ false → IsBesideAll (inputs_of (sourced l ns)) u) B) (sym same) (by (range_of (due_inputs n A)) refl))))
+plan_roomy l h n are within = (
+  omega arith,
+  (
+    within,
+    subst (λ (us : List Table). AllByRecursion (λ (u : Table). is_among (numbers_of (inputs_at n l.levels)) u ≡ false → IsBesideAll (inputs_of (sourced l (numbers_of (inputs_at n l.levels)))) u) us) (sym c.second_is)
+        (subst (λ (ns : List ℕ). AllByRecursion (λ (u : Table). is_among ns u ≡ false → IsBesideAll (inputs_of (sourced l ns)) u) B) (sym same) (by (range_of (due_inputs n A)) refl)),
+  ),
+)
   where
     c : IsCut n l.levels
     c = cut_at n l.levels within

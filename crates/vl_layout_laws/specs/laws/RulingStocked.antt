@@ -19,7 +19,7 @@ use Rattle.vl_layout.specs.Rulings.Fresh.{fresh_unless, fresh_ruling}
 use Rattle.vl_layout.specs.Rulings.Keep.{keep_unless, keep_ruling}
 use Rattle.vl_layout.specs.Rulings.Relocate.{relocate_of, relocate_unless, relocate_ruling}
 use Rattle.vl_layout.specs.Rulings.Rotate.{rotate_of, rotate_unless, rotate_ruling}
-use Rattle.vl_layout.specs.Rulings.Sweep.{pins, is_held, is_up_to, swept, sweep_unless}
+use Rattle.vl_layout.specs.Rulings.Sweep.{pins, is_held, is_retired_up_to, swept, sweep_unless}
 use Rattle.vl_layout.specs.Sources.{oldest, sources, tables}
 use Rattle.vl_layout.specs.Stock.{leads, IsFooted, PointsDrawn, with_lent, IsWellStocked, IsLoose}
 use Rattle.vl_layout.specs.TidyLevels.{IsDistinct}
@@ -46,7 +46,8 @@ use Rattle.vl_layout.specs.Rulings.Sweep.{sweep_ruling, sweep_to_ruling}
 use Rattle.vl_layout.specs.Rulings.View.{View}
 use Rattle.vl_layout.specs.declared.job.OpenPass.{OpenPass}
 use Rattle.vl_layout.specs.declared.segment.SegmentStat.{SegmentStat}
-use Rattle.vl_layout_laws.specs.laws.WellStocked.{well_begun, well_ended, well_picked, well_pass_ended, well_logged, well_keeping, well_rotated, well_relocated, well_flushed, well_swept, well_planned, well_drawn, well_job_ended, well_installed}
+use Rattle.vl_layout_laws.specs.laws.WellInstalled.{well_installed}
+use Rattle.vl_layout_laws.specs.laws.WellStocked.{well_begun, well_ended, well_picked, well_pass_ended, well_logged, well_keeping, well_rotated, well_relocated, well_flushed, well_swept, well_planned, well_drawn, well_job_ended}
 
 abbrev pub LeavesWell : {A : Type 0} → Ruling A → Type 0
 LeavesWell r = IsWellStocked r.layout
@@ -154,8 +155,8 @@ module _ (l : Layout) (h : History) (w : IsWellStocked l) where
   pub fresh_well : LeavesWell (fresh_ruling l h)
   fresh_well = fresh_unless-well l.halted
 
-  pub abandon_well : (made : Made) → AreLent (lent_numbers l.job) made → LeavesWell (abandon_ruling l h made)
-  abandon_well made are = well_job_ended l w made are
+  pub abandon_well : (job : Job) (made : Made) → AreLent (lent_numbers l.job) made → LeavesWell (abandon_ruling l h job made)
+  abandon_well job made are = well_job_ended l w made are
 
   module _ (job : Job) (made : Made) (are : AreLent (lent_numbers l.job) made)
       (standing : AllByRecursion (λ (n : ℕ). list_any (λ (t : Table). n == t.number) (tables l) ≡ true) job.inputs)
@@ -212,17 +213,17 @@ module _ (l : Layout) (h : History) (w : IsWellStocked l) where
   pub removed_are_loose : (least : Option ℕ) → AllByRecursion (IsLoose l) (swept least l)
   removed_are_loose least = all_weaker (IsLoose (with_lent l)) (IsLoose l) (λ f is. record { sources = is.sources; pins_off = is.pins_off; drawn = is.drawn }) (swept least l) (more l.retired (swept_are_loose least (with_lent l) w.stocked))
     where
-      more : (rs : List Retired) → AllByRecursion (IsLoose (with_lent l)) (map (λ (r : Retired). r.file) (filter (λ r. not (is_held (pins l) r) && is_up_to least r) (loose (lent_numbers l.job) ++ rs)))
-          → AllByRecursion (IsLoose (with_lent l)) (map (λ (r : Retired). r.file) (filter (λ r. not (is_held (pins l) r) && is_up_to least r) rs))
+      more : (rs : List Retired) → AllByRecursion (IsLoose (with_lent l)) (map (λ (r : Retired). r.file) (filter (λ r. not (is_held (pins l) r) && is_retired_up_to least r) (loose (lent_numbers l.job) ++ rs)))
+          → AllByRecursion (IsLoose (with_lent l)) (map (λ (r : Retired). r.file) (filter (λ r. not (is_held (pins l) r) && is_retired_up_to least r) rs))
       more rs all = behind (loose (lent_numbers l.job)) all
         where
-          behind : (xs : List Retired) → AllByRecursion (IsLoose (with_lent l)) (map (λ (r : Retired). r.file) (filter (λ r. not (is_held (pins l) r) && is_up_to least r) (xs ++ rs)))
-              → AllByRecursion (IsLoose (with_lent l)) (map (λ (r : Retired). r.file) (filter (λ r. not (is_held (pins l) r) && is_up_to least r) rs))
+          behind : (xs : List Retired) → AllByRecursion (IsLoose (with_lent l)) (map (λ (r : Retired). r.file) (filter (λ r. not (is_held (pins l) r) && is_retired_up_to least r) (xs ++ rs)))
+              → AllByRecursion (IsLoose (with_lent l)) (map (λ (r : Retired). r.file) (filter (λ r. not (is_held (pins l) r) && is_retired_up_to least r) rs))
           behind [] all = all
-          behind (x ∷ xs) all = by_test (not (is_held (pins l) x) && is_up_to least x) all (behind xs)
+          behind (x ∷ xs) all = by_test (not (is_held (pins l) x) && is_retired_up_to least x) all (behind xs)
             where
-              by_test : (b : Bool) → AllByRecursion (IsLoose (with_lent l)) (map (λ (r : Retired). r.file) (cond b (x ∷ filter (λ r. not (is_held (pins l) r) && is_up_to least r) (xs ++ rs)) (filter (λ r. not (is_held (pins l) r) && is_up_to least r) (xs ++ rs))))
-                  → (AllByRecursion (IsLoose (with_lent l)) (map (λ (r : Retired). r.file) (filter (λ r. not (is_held (pins l) r) && is_up_to least r) (xs ++ rs))) → AllByRecursion (IsLoose (with_lent l)) (map (λ (r : Retired). r.file) (filter (λ r. not (is_held (pins l) r) && is_up_to least r) rs)))
-                  → AllByRecursion (IsLoose (with_lent l)) (map (λ (r : Retired). r.file) (filter (λ r. not (is_held (pins l) r) && is_up_to least r) rs))
+              by_test : (b : Bool) → AllByRecursion (IsLoose (with_lent l)) (map (λ (r : Retired). r.file) (cond b (x ∷ filter (λ r. not (is_held (pins l) r) && is_retired_up_to least r) (xs ++ rs)) (filter (λ r. not (is_held (pins l) r) && is_retired_up_to least r) (xs ++ rs))))
+                  → (AllByRecursion (IsLoose (with_lent l)) (map (λ (r : Retired). r.file) (filter (λ r. not (is_held (pins l) r) && is_retired_up_to least r) (xs ++ rs))) → AllByRecursion (IsLoose (with_lent l)) (map (λ (r : Retired). r.file) (filter (λ r. not (is_held (pins l) r) && is_retired_up_to least r) rs)))
+                  → AllByRecursion (IsLoose (with_lent l)) (map (λ (r : Retired). r.file) (filter (λ r. not (is_held (pins l) r) && is_retired_up_to least r) rs))
               by_test true all goes = goes all.1
               by_test false all goes = goes all

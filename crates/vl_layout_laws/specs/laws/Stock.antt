@@ -4,7 +4,7 @@ use Rattle.std.proofs.lemmas.Bool.{and_parts}
 use Rattle.std.proofs.lemmas.Bool.Decides.{nat_tests}
 use Rattle.std.specs.Prelude.{Option, nat_lt}
 use Rattle.std.specs.List.{AllByRecursion, filter}
-use Rattle.vl_layout.specs.Rulings.Sweep.{pins, is_held, is_up_to, swept}
+use Rattle.vl_layout.specs.Rulings.Sweep.{pins, is_held, is_retired_up_to, swept}
 use Rattle.vl_layout.specs.Sources.{needed, oldest, number_or, head}
 use Rattle.vl_layout.specs.declared.file_name.Retired.{Retired}
 use Rattle.vl_layout.specs.declared.layout.Layout.{Layout}
@@ -50,12 +50,12 @@ not_true false h = refl
 -- What a sweep removes is needed by no table, no memtable and nothing that lives.
 pub swept_are_loose : (least : Option ℕ) (l : Layout) → IsStocked l → AllByRecursion (IsLoose l) (swept least l)
 swept_are_loose least l s =
-    all_mapped (IsLoose l) (λ (r : Retired). r.file) (filter (λ r. not (is_held (pins l) r) && is_up_to least r) l.retired)
+    all_mapped (IsLoose l) (λ (r : Retired). r.file) (filter (λ r. not (is_held (pins l) r) && is_retired_up_to least r) l.retired)
     (all_passed
     (λ (r : Retired). IsUnneeded (needed l) r × (IsDrawn l.next_log l.next_table r.file × AllByRecursion (λ (p : Pin). IsOff p r) (pins l)))
     (λ (r : Retired). IsLoose l r.file)
-    (λ r. not (is_held (pins l) r) && is_up_to least r)
-    (λ r is free. record { sources = is.0; pins_off = not_needed r (pins l) is.1.1 (not_true (is_held (pins l) r) (and_parts (not (is_held (pins l) r)) (is_up_to least r) free).0); drawn = is.1.0 })
+    (λ r. not (is_held (pins l) r) && is_retired_up_to least r)
+    (λ r is free. record { sources = is.0; pins_off = not_needed r (pins l) is.1.1 (not_true (is_held (pins l) r) (and_parts (not (is_held (pins l) r)) (is_retired_up_to least r) free).0); drawn = is.1.0 })
     l.retired
     (three l.retired s.unneeded s.retired_drawn
     (transposed IsOff (pins l) l.retired (all_weaker (IsPinned l.version_number l.retired) (λ (p : Pin). AllByRecursion (IsOff p) l.retired) (λ p is. is.off) (pins l) s.pinned))))

@@ -1,26 +1,24 @@
 -- Logs and what is placed in them: behind a rotation, and behind a switch that retires some.
-use Rattle.std.proofs.Common.{◌≡◌, ℕ, ◌+◌, ◌-◌, ◌≤◌, ◌<◌, Bool, true, false, cond, not, ◌&&◌, ◌||◌, List, [], ◌∷◌, ◌++◌, map, length, refl, ap, sym, ◌∙◌, subst, arith, append_assoc}
+use Rattle.std.proofs.Common.{◌≡◌, ℕ, ◌+◌, ◌-◌, ◌<◌, Bool, true, false, cond, not, ◌&&◌, ◌||◌, List, [], ◌∷◌, ◌++◌, map, length, refl, ap, sym, ◌∙◌, subst, arith, append_assoc}
 use Rattle.std.proofs.lemmas.Bool.Decides.{nat_tests}
-use Rattle.std.specs.Prelude.{Option, Some, None, ◌==◌, nat_le, nat_lt}
-use Rattle.std.specs.List.{AllByRecursion, filter, flat_map, list_any}
-use Rattle.vl_model.specs.Entries.{in_order}
+use Rattle.std.specs.Prelude.{Some, ◌==◌, nat_le, nat_lt}
+use Rattle.std.specs.List.{AllByRecursion, filter, list_any}
 use Rattle.vl_model.specs.Formats.{record_head}
 use Rattle.vl_model.specs.Frames.{frame_length, record_length}
 use Rattle.vl_model.specs.Keys.{value_length}
 use Rattle.vl_model.specs.Limits.{max_inline_bytes}
 use Rattle.vl_model.specs.Numbers.{has}
-use Rattle.vl_model.specs.Placement.{is_body_placed, placed, placement}
+use Rattle.vl_model.specs.Placement.{placed, placement}
 use Rattle.vl_model.specs.declared.change.Change.{Change}
 use Rattle.vl_model.specs.declared.change.Change.TheVariants.{Set, Delete}
 use Rattle.vl_model.specs.declared.entry.Entry.{Entry}
 use Rattle.vl_model.specs.declared.entry.Body.{Body}
 use Rattle.vl_model.specs.declared.entry.Body.TheVariants.{Inline, Gone, Far, Logged}
 use Rattle.vl_model.specs.declared.log_frame.LogFrame.{LogFrame}
-use Rattle.vl_model.specs.declared.pointer.Pointer.{Pointer}
 use Rattle.vl_layout.specs.Garbage.{live_bytes}
 use Rattle.vl_layout.specs.Jobs.{AreDistinct}
-use Rattle.vl_layout.specs.Logs.{LogRecord, frame_entries, frame_records, logged_body, logged_entries, memtable, pointer_to, record_entry}
-use Rattle.vl_layout.specs.Ruling.{is_idle, switched}
+use Rattle.vl_layout.specs.Logs.{LogRecord, frame_entries, frame_records, logged_body, logged_entries, memtable, record_entry}
+use Rattle.vl_layout.specs.Ruling.{switched}
 use Rattle.vl_layout.specs.Sources.{but_oldest, head, oldest, tables}
 use Rattle.vl_layout.specs.Stock.{IsFooted, is_into, leads}
 use Rattle.vl_layout.specs.Tidy.{IsPlacedAt, IsPlacedIn, format_of, log_numbers, sealed}
@@ -28,7 +26,7 @@ use Rattle.vl_layout.specs.declared.layout.Layout.{Layout}
 use Rattle.vl_layout.specs.declared.segment.Segment.{Segment}
 use Rattle.vl_layout.specs.declared.table.Table.{Table}
 use Rattle.vl_layout.specs.laws.OrderShows.{all-in_order}
-use Rattle.vl_layout_laws.specs.laws.Files.{all_both, all_weaker, any_alike, leads-points, neither, none_live, or_cases, or_false, or_left, or_right, seen_by, true_false}
+use Rattle.vl_layout_laws.specs.laws.Files.{all_both, leads-points, neither, none_live, or_false, or_left, or_right, seen_by, true_false}
 
 -- ---- the oldest frozen log
 

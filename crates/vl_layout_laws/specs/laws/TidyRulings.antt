@@ -1,5 +1,5 @@
 -- What is kept tidy stays so, whatever a call answers.
-use Rattle.std.proofs.Common.{◌≡◌, ℕ, ◌+◌, ◌≤◌, ◌<◌, Bool, true, false, not, ◌||◌, List, [], ◌∷◌, ◌++◌, length, refl, sym, ◌∙◌, subst, arith}
+use Rattle.std.proofs.Common.{◌≡◌, ℕ, ◌+◌, ◌≤◌, ◌<◌, Bool, true, false, not, ◌||◌, List, [], ◌∷◌, length, refl, sym, subst, arith}
 use Rattle.std.proofs.lemmas.Bool.Decides.{nat_tests}
 use Rattle.std.specs.Prelude.{Option, Some, None, T, ◌==◌, nat_le, nat_lt, if◌then◌else◌}
 use Rattle.std.specs.FinMap.{is_sorted}
@@ -24,7 +24,7 @@ use Rattle.vl_layout.specs.Logs.{memtable}
 use Rattle.vl_layout.specs.Merging.{outputs}
 use Rattle.vl_layout.specs.OpenJobs.{IsOpenWell}
 use Rattle.vl_layout.specs.Relocation.{Candidate, Pass, moved_of}
-use Rattle.vl_layout.specs.Ruling.{Ruling, ended, has_no_number, has_no_version, is_idle}
+use Rattle.vl_layout.specs.Ruling.{Ruling, has_no_number, has_no_version, is_idle}
 use Rattle.vl_layout.specs.Rulings.Abandon.{abandon_ruling}
 use Rattle.vl_layout.specs.Rulings.Begin.{begin_ruling}
 use Rattle.vl_layout.specs.Rulings.Commit.{Transaction, commit_checked, commit_frame, commit_ruling, commit_running, commit_unless, committed}
@@ -45,11 +45,11 @@ use Rattle.vl_layout.specs.Rulings.View.{View}
 use Rattle.vl_layout.specs.Shown.{ArePlaced, IsOf, IsThere, ShowsLow}
 use Rattle.vl_layout.specs.Sources.{behind_active, oldest, sources, table_entries, tables}
 use Rattle.vl_layout.specs.Stock.{IsWellStocked}
-use Rattle.vl_layout.specs.Tables.{new_table}
 use Rattle.vl_layout.specs.Tickets.{free_ticket, tickets_of}
 use Rattle.vl_layout.specs.Tidy.{IsPlacedIn, IsTidy, IsTrueLog, IsTrueTable, sealed}
 use Rattle.vl_layout.specs.TidyLevels.{AreLevels}
 use Rattle.vl_layout.specs.declared.file_name.FileName.{FileName}
+use Rattle.vl_layout.specs.declared.job.Job.{Job}
 use Rattle.vl_layout.specs.declared.job.OpenJob.{OpenJob}
 use Rattle.vl_layout.specs.declared.job.OpenPass.{OpenPass}
 use Rattle.vl_layout.specs.declared.job.Target.TheVariants.{Level, InPlace}
@@ -67,7 +67,7 @@ use Rattle.vl_layout_laws.specs.laws.PlanOpen.{drain_of-well, plan_of-well}
 use Rattle.vl_layout_laws.specs.laws.Switches.{all_replaced}
 use Rattle.vl_layout_laws.specs.laws.TidyLogs.{distinct_fewer, switched_placed}
 use Rattle.vl_layout_laws.specs.laws.TidySteps.{each_table, moved_known, of_tables, tidy_begun, tidy_committed, tidy_drawn, tidy_ended, tidy_flushed, tidy_job_ended, tidy_keeping, tidy_pass_ended, tidy_picked, tidy_planned, tidy_relocated, tidy_rotated, tidy_swept}
-use Rattle.vl_layout_laws.specs.laws.WellStocked.{well_installed}
+use Rattle.vl_layout_laws.specs.laws.WellInstalled.{well_installed}
 
 first_level : (levels : List (List Table)) → AreLevels levels → (level : List Table) × (deeper : List (List Table)) × (levels ≡ level ∷ deeper)
 first_level [] are = absurd (let seven = are.seven in omega (arith, seven))
@@ -207,8 +207,8 @@ module _ (logs : Logs) (l : Layout) (h : History) (t : IsTidy logs l h) where
   pub fresh_tidy : StaysTidy (fresh_ruling l h)
   fresh_tidy = fresh_unless-tidy l.halted
 
-  pub abandon_tidy : (made : Made) → AreLent (lent_numbers l.job) made → StaysTidy (abandon_ruling l h made)
-  abandon_tidy made are = tidy_job_ended logs l h t made are
+  pub abandon_tidy : (job : Job) (made : Made) → AreLent (lent_numbers l.job) made → StaysTidy (abandon_ruling l h job made)
+  abandon_tidy job made are = tidy_job_ended logs l h t made are
 
   module _ (o : OpenJob) (is : l.job ≡ Some o) (made : Made) (all : AreOutputs o.job made) (lent : AreLent o.lent made) where
     k : IsOpenWell l h o.job o.moved
@@ -240,8 +240,11 @@ module _ (logs : Logs) (l : Layout) (h : History) (t : IsTidy logs l h) where
           (subst (AllByRecursion IsTrueTable) (sym all.tables) (all_made (λ es. Unit {0}) IsTrueTable (λ n es any. refl) all.numbers (outputs o.job) (everything (outputs o.job))))
           o.job.target l.levels
           (all_weaker IsTrueTable (λ (u : Table). is_among o.job.inputs u ≡ false → IsTrueTable u) (λ u these out. these) (tables l) t.true_tables);
-      true_logs = (t.true_logs.0, (let parts = all_parts IsTrueLog l.frozen l.flushed t.true_logs.1 in
-          all_both IsTrueLog l.frozen (installed o.job made l).flushed parts.0 (all_filtered IsTrueLog (λ (x : Segment). not (is_idle (put_in o.job made l) x)) l.flushed parts.1)));
+      true_logs = (
+        t.true_logs.0,
+        (let parts = all_parts IsTrueLog l.frozen l.flushed t.true_logs.1 in
+            all_both IsTrueLog l.frozen (installed o.job made l).flushed parts.0 (all_filtered IsTrueLog (λ (x : Segment). not (is_idle (put_in o.job made l) x)) l.flushed parts.1)),
+      );
       distinct = distinct_fewer (λ (x : Segment). not (is_idle (put_in o.job made l) x)) (l.active ∷ l.frozen) l.flushed t.distinct;
       placed = switched_placed (put_in o.job made l) (filter (is_among o.job.inputs) (tables l)) stocked.stocked.footed (of_all (IsPlacedIn (sealed l)) t.placed);
       versions = (let parts = all_parts (IsOf h) (memtable l.active) (behind_active l) t.versions in

@@ -1,33 +1,33 @@
 -- What is kept tidy stays so behind each change of a layout, where what is left shows what it should.
-use Rattle.std.proofs.Common.{◌≡◌, ⊎_elim, ℕ, ◌+◌, ◌≤◌, ◌<◌, Bool, true, false, cond, not, ◌&&◌, ◌||◌, List, [], ◌∷◌, ◌++◌, map, length, refl, ap, sym, ◌∙◌, subst, arith, length-append}
+use Rattle.std.proofs.Common.{◌≡◌, ℕ, ◌+◌, ◌≤◌, ◌<◌, Bool, true, false, cond, not, List, [], ◌∷◌, ◌++◌, map, refl, ap, sym, ◌∙◌, subst, arith, length-append}
 use Rattle.std.proofs.lemmas.Bool.{and_parts}
 use Rattle.std.proofs.lemmas.Bool.Decides.{nat_tests}
 use Rattle.std.proofs.lemmas.List.Sums.{sum_by-append}
 use Rattle.std.specs.Prelude.{Option, Some, None, T, is_some, ◌==◌, nat_le, nat_lt}
-use Rattle.std.specs.FinMap.{find, from_sorted, get, get-from_sorted, is_sorted}
-use Rattle.std.specs.List.{AllByRecursion, filter, flat_map, list_any}
+use Rattle.std.specs.FinMap.{find, from_sorted, get-from_sorted, is_sorted}
+use Rattle.std.specs.List.{AllByRecursion, filter, flat_map}
 use Rattle.std.specs.Ordering.{eq_by_cmp}
 use Rattle.vl_model.specs.Entries.{in_order, is_at}
 use Rattle.vl_model.specs.Frames.{frame_length, moved_length, record_length}
 use Rattle.vl_model.specs.History.{History, last_number, with_commit}
-use Rattle.vl_model.specs.Keys.{Writes, key_cmp}
+use Rattle.vl_model.specs.Keys.{key_cmp}
 use Rattle.vl_model.specs.Limits.{max_commit_number}
-use Rattle.vl_model.specs.Numbers.{has, since_kept}
+use Rattle.vl_model.specs.Numbers.{has}
 use Rattle.vl_model.specs.Placement.{placed}
 use Rattle.vl_model.specs.Versions.{versions}
 use Rattle.vl_model.specs.Winners.{Logs, exact, leads_to, wins_exactly}
 use Rattle.vl_model.specs.declared.change.Change.{Change}
 use Rattle.vl_model.specs.declared.entry.Entry.{Entry}
 use Rattle.vl_model.specs.declared.log_frame.LogFrame.{LogFrame}
-use Rattle.vl_model.specs.declared.log_frame.LogFrame.TheVariants.{Committed, Relocated}
+use Rattle.vl_model.specs.declared.log_frame.LogFrame.TheVariants.{Relocated}
 use Rattle.vl_model.specs.declared.log_frame.Moved.{Moved}
 use Rattle.vl_model.specs.laws.HistoryLaws.{with_commit-extends}
 use Rattle.vl_model.specs.laws.VersionLaws.{has-commit, versions-stay}
 use Rattle.vl_layout.specs.Jobs.{AreDistinct, AreLent, Made, job_ended, lent_numbers}
-use Rattle.vl_layout.specs.Levels.{in_front, is_among}
+use Rattle.vl_layout.specs.Levels.{in_front}
 use Rattle.vl_layout.specs.Logs.{committed_records, logged_entries, memtable, record_entry, relocated_records}
 use Rattle.vl_layout.specs.OpenJobs.{IsFitted, IsOpenWell}
-use Rattle.vl_layout.specs.Relocation.{Candidate, Pass, is_moved, moved_of}
+use Rattle.vl_layout.specs.Relocation.{Candidate, is_moved, moved_of}
 use Rattle.vl_layout.specs.Ruling.{ended, is_idle, logged}
 use Rattle.vl_layout.specs.Rulings.Begin.{begun}
 use Rattle.vl_layout.specs.Rulings.Commit.{commit_frame}
@@ -42,7 +42,7 @@ use Rattle.vl_layout.specs.Rulings.Rotate.{rotated}
 use Rattle.vl_layout.specs.Rulings.Sweep.{without_files}
 use Rattle.vl_layout.specs.Shown.{IsOf, ShowsLow}
 use Rattle.vl_layout.specs.Sources.{behind_active, but_oldest, oldest, sources, table_entries, tables}
-use Rattle.vl_layout.specs.Tidy.{IsPlacedIn, IsTidy, IsTrueLog, IsTrueTable, format_of, log_numbers, sealed}
+use Rattle.vl_layout.specs.Tidy.{IsPlacedIn, IsTidy, IsTrueLog, IsTrueTable, log_numbers, sealed}
 use Rattle.vl_layout.specs.declared.file_name.FileName.{FileName}
 use Rattle.vl_layout.specs.declared.job.Job.{Job}
 use Rattle.vl_layout.specs.declared.job.OpenJob.{OpenJob}
@@ -60,7 +60,7 @@ use Rattle.vl_layout_laws.specs.laws.Files.{all_both, all_filtered, all_parts, a
 use Rattle.vl_layout_laws.specs.laws.Keeps.{frozen_parts}
 use Rattle.vl_layout_laws.specs.laws.LevelsKept.{levels_flushed}
 use Rattle.vl_layout_laws.specs.laws.Switches.{flushing}
-use Rattle.vl_layout_laws.specs.laws.TidyLogs.{all_placed_so, distinct_fewer, format_behind, format_there, frozen_split, memtable_placed, none_drawn, sealed_same, switched_placed}
+use Rattle.vl_layout_laws.specs.laws.TidyLogs.{all_placed_so, distinct_fewer, format_behind, format_there, memtable_placed, none_drawn, sealed_same, switched_placed}
 use Rattle.vl_layout_laws.specs.laws.WellStocked.{well_begun, well_drawn, well_ended, well_flushed, well_job_ended, well_keeping, well_logged, well_pass_ended, well_picked, well_planned, well_relocated, well_rotated, well_swept}
 
 -- ---- entries of all sources
@@ -386,13 +386,17 @@ module _ (logs : Logs) (l : Layout) (h : History) (t : IsTidy logs l h) where
     files = well_flushed l t.files s level deeper waits are;
     levels = levels_flushed l s t.levels t.files.stocked.tables_drawn;
     true_tables = subst (AllByRecursion IsTrueTable) (sym new) (refl, t.true_tables);
-    true_logs = (t.true_logs.0, (let parts = all_parts IsTrueLog (but_oldest l.frozen) (s ∷ l.flushed) (subst (AllByRecursion IsTrueLog) (sym (sealed_same l s waits)) t.true_logs.1) in
-        all_both IsTrueLog (but_oldest l.frozen) (flushed l s).flushed parts.0 (all_filtered IsTrueLog (λ (x : Segment). not (is_idle (flushing l s) x)) (s ∷ l.flushed) parts.1)));
+    true_logs = (
+      t.true_logs.0,
+      (let parts = all_parts IsTrueLog (but_oldest l.frozen) (s ∷ l.flushed) (subst (AllByRecursion IsTrueLog) (sym (sealed_same l s waits)) t.true_logs.1) in
+          all_both IsTrueLog (but_oldest l.frozen) (flushed l s).flushed parts.0 (all_filtered IsTrueLog (λ (x : Segment). not (is_idle (flushing l s) x)) (s ∷ l.flushed) parts.1)),
+    );
     distinct = distinct_fewer (λ (x : Segment). not (is_idle (flushing l s) x)) (l.active ∷ but_oldest l.frozen) (s ∷ l.flushed) there;
     placed = switched_placed (flushing l s) [] (well_flushed l t.files s level deeper waits are).stocked.footed
-        (subst (AllByRecursion (λ (u : Table). AllByRecursion (IsPlacedIn (sealed (flushing l s))) u.entries)) (sym new)
-        (memtable_placed (sealed (flushing l s)) s (format_there (but_oldest l.frozen) s l.flushed there.1),
-        subst (λ (ss : List Segment). AllByRecursion (λ (u : Table). AllByRecursion (IsPlacedIn ss) u.entries) (tables l)) (sym (sealed_same l s waits)) t.placed));
+        (subst (AllByRecursion (λ (u : Table). AllByRecursion (IsPlacedIn (sealed (flushing l s))) u.entries)) (sym new) (
+          memtable_placed (sealed (flushing l s)) s (format_there (but_oldest l.frozen) s l.flushed there.1),
+          subst (λ (ss : List Segment). AllByRecursion (λ (u : Table). AllByRecursion (IsPlacedIn ss) u.entries) (tables l)) (sym (sealed_same l s waits)) t.placed,
+        ));
     versions = (let parts = all_parts (IsOf h) (memtable l.active) (behind_active l) t.versions in
         let behind = all_parts (IsOf h) (flat_map memtable l.frozen) (flat_map table_entries (tables l)) parts.1 in
         let frozen = all_parts (IsOf h) (flat_map memtable (but_oldest l.frozen)) (memtable s) (subst (AllByRecursion (IsOf h)) (frozen_parts l.frozen s waits) behind.0) in

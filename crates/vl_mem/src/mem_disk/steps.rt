@@ -7,7 +7,7 @@ ghost use Rattle.vl_disk.specs.Name.{IsNumbered};
 ghost use Rattle.vl_disk.specs.Spare.{CanAppend, SameSpare, UsesChange, UsesAppend, UsesHold, UsesLend, UsesAdopt};
 ghost use Rattle.vl_disk.specs.Lending.{adopted};
 ghost use Rattle.vl_mem.specs.Entry.{entry_of};
-ghost use Rattle.vl_mem.specs.MemDisk.{told_by, room_of, failing_at, Goes, Stays};
+ghost use Rattle.vl_mem.specs.MemDisk.{told_by, room_of, failing_at, Goes, KeepsOtherWriters, KeepsWriters, Stays};
 ghost use Rattle.vl_mem.specs.Written.{IsReady, file_written};
 
 use super::MemDisk;
@@ -30,6 +30,7 @@ impl MemDisk {
         requires numbered { IsNumbered name }
         requires room { IsTrue (room_of self.old name).change }
         ensures goes { Goes self.old self.new (created name) }
+        ensures writers { KeepsWriters self.old self.new }
         ensures spare { UsesChange name (room_of self.old) (room_of self.new) }
     {
         let entry = self.entries.get_mut(&name).unwrap();
@@ -43,6 +44,7 @@ impl MemDisk {
         requires room { CanAppend (length piece.now) (room_of self.old name) }
         requires part { taken ≤ length piece.now }
         ensures goes { Goes self.old self.new (appended name piece.now taken) }
+        ensures writers { KeepsWriters self.old self.new }
         ensures spare { UsesAppend name (room_of self.old) (room_of self.new) }
     {
         let entry = self.entries.get_mut(&name).unwrap();
@@ -55,6 +57,7 @@ impl MemDisk {
         requires stands { ForSome (told_by self.old) (Stands name) }
         requires torn { ForSome (told_by self.old) (λ disk. (file_at disk name).wholly_synced ≡ false) }
         ensures goes { Goes self.old self.new (synced name) }
+        ensures writers { KeepsWriters self.old self.new }
         ensures spare { SameSpare (room_of self.old) (room_of self.new) }
     {
         let entry = self.entries.get_mut(&name).unwrap();
@@ -68,6 +71,7 @@ impl MemDisk {
         requires room { IsTrue (room_of self.old name).change }
         requires short { len ≤ left }
         ensures goes { Goes self.old self.new (cut_to name len left) }
+        ensures writers { KeepsWriters self.old self.new }
         ensures spare { UsesChange name (room_of self.old) (room_of self.new) }
     {
         let entry = self.entries.get_mut(&name).unwrap();
@@ -79,6 +83,7 @@ impl MemDisk {
     pub(super) fn take_away(&mut self, name: Name)
         requires { ForSome (told_by self.old) (Stands name) }
         ensures goes { Goes self.old self.new (without name) }
+        ensures writers { KeepsWriters self.old self.new }
         ensures spare { SameSpare (room_of self.old) (room_of self.new) }
     {
         let entry = self.entries.get_mut(&name).unwrap();
@@ -92,6 +97,7 @@ impl MemDisk {
         requires room { IsTrue (room_of self.old name).lend }
         ensures failing { result.items ≡ failing_at self.old name }
         ensures goes { Goes self.old self.new (without name) }
+        ensures writers { KeepsOtherWriters name self.old self.new }
         ensures spare { UsesLend name (room_of self.old) (room_of self.new) }
     {
         let entry = self.entries.get_mut(&name).unwrap();
@@ -105,6 +111,7 @@ impl MemDisk {
         requires room { IsTrue (room_of self.old file.name).adopt }
         requires ready { IsReady file.name file.written file.bytes file.copy }
         ensures goes { Goes self.old self.new (adopted file.name (file_written file.written)) }
+        ensures writers { KeepsWriters self.old self.new }
         ensures spare { UsesAdopt file.name (room_of self.old) (room_of self.new) }
     {
         let Returned {
@@ -122,15 +129,17 @@ impl MemDisk {
     pub(super) fn know(&mut self, name: Name) -> Result<(), NoMemory>
         ensures known { OnOk result (IsSome (entry_of self.new.entries name)) }
         ensures stays { Stays self.old self.new }
+        ensures writers { KeepsWriters self.old self.new }
         ensures spare { SameSpare (room_of self.old) (room_of self.new) }
         ensures room { vec_capacity self.new.events ≡ vec_capacity self.old.events }
     {
-        if !self.entries.contains_key(&name)
-            && self.entries.insert(name, Entry::blank(self.alloc)).is_err()
-        {
-            return Err(NoMemory);
+        if self.entries.contains_key(&name) {
+            return Ok(());
         }
-        Ok(())
+        match self.entries.insert(name, Entry::blank(self.alloc)) {
+            Ok(_) => Ok(()),
+            Err(_) => Err(NoMemory),
+        }
     }
 
     // A copy of a file, in the room that was made for it, or that is made where there is none.
@@ -140,6 +149,7 @@ impl MemDisk {
             (λ disk. copy.items ≡ (file_at disk name).bytes)) }
         ensures has_room { IsTrue (room_of self.old name).hold → IsOk result }
         ensures stays { Stays self.old self.new }
+        ensures writers { KeepsWriters self.old self.new }
         ensures spare { UsesHold name (room_of self.old) (room_of self.new) }
     {
         let entry = self.entries.get_mut(&name).unwrap();

@@ -156,9 +156,6 @@ module _ (key : List ℕ) (version : ℕ) where
   first_of [] = None
   first_of (e ∷ es) = Some e
 
-  below : Entry → Entry → Bool
-  below x y = is_lt (entry_cmp x y)
-
   ties-at : (e : Entry) → ties (λ x y. is_lt (entry_cmp x y)) (place_of key version) e ≡ is_at key version e
   ties-at e =
       ap (λ r. not (is_lt (entry_cmp (place_of key version) e)) && not (is_lt r)) (turned (place_of key version) e (entry_cmp (place_of key version) e) refl)

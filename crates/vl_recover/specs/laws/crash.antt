@@ -4,3 +4,4 @@ pub mod AppendLaws
 pub mod OneName
 pub mod Torn
 pub mod TornFrames
+pub mod Headers

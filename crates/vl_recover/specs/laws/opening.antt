@@ -1,4 +1,5 @@
 -- Laws of what is found.
+pub mod ContentLaws
 pub mod LeadsLaws
 pub mod LogsLaws
 pub mod OneFinding

@@ -153,8 +153,8 @@ one_write format a b rest other p q e =
 
 -- ---- pointers
 
--- The pointer to the nine bytes from place 33 of log 1.
-pub worked_pointer : pointer_bytes (record { segment = 1; place = 33; length = 9 }) ≡ 0 ∷ 0 ∷ 0 ∷ 1 ∷ 0 ∷ 0 ∷ 0 ∷ 0 ∷ 0 ∷ 0 ∷ 0 ∷ 33 ∷ 0 ∷ 0 ∷ 0 ∷ 9 ∷ []
+-- The pointer to the ten bytes from place 33 of log 1.
+pub worked_pointer : pointer_bytes (record { segment = 1; place = 33; length = 10 }) ≡ 0 ∷ 0 ∷ 0 ∷ 1 ∷ 0 ∷ 0 ∷ 0 ∷ 0 ∷ 0 ∷ 0 ∷ 0 ∷ 33 ∷ 0 ∷ 0 ∷ 0 ∷ 10 ∷ []
 unfolding pointer_bytes
 worked_pointer = refl
 

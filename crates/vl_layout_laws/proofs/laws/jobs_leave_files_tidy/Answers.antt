@@ -12,7 +12,7 @@ pub returns-clause-fresh : goal.returns-clause-fresh
 returns-clause-fresh c l h w = fresh_well l h w
 
 pub returns-clause-abandon : goal.returns-clause-abandon
-returns-clause-abandon c l h made are w = abandon_well l h w made are
+returns-clause-abandon c l h job made are w = abandon_well l h w job made are
 
 pub returns-clause-install : goal.returns-clause-install
 returns-clause-install c l h o made is lent all k are w = install_stocked l h o is made w are k all lent

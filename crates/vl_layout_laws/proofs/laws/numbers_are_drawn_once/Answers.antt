@@ -55,7 +55,7 @@ pub returns-clause-fresh : goal.returns-clause-fresh
 returns-clause-fresh c l h = fresh_rises l h
 
 pub returns-clause-abandon : goal.returns-clause-abandon
-returns-clause-abandon c l h made = abandon_rises l h made
+returns-clause-abandon c l h job made = abandon_rises l h job made
 
 pub returns-clause-install : goal.returns-clause-install
 returns-clause-install c l h job made = install_rises l h job made

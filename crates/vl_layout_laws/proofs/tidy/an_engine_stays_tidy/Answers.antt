@@ -40,7 +40,7 @@ pub returns-clause-fresh : goal.returns-clause-fresh
 returns-clause-fresh c logs l h t = fresh_tidy logs l h t
 
 pub returns-clause-abandon : goal.returns-clause-abandon
-returns-clause-abandon c logs l h made are t = abandon_tidy logs l h t made are
+returns-clause-abandon c logs l h job made are t = abandon_tidy logs l h t job made are
 
 pub returns-clause-install : goal.returns-clause-install
 returns-clause-install c logs l h o made is lent all t = install_tidy logs l h t o is made all lent

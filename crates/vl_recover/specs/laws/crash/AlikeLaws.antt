@@ -7,7 +7,6 @@ use Rattle.vl_disk.specs.Crash.{Image}
 use Rattle.vl_disk.specs.laws.NameMap.{same_or_other}
 use Rattle.vl_disk.specs.declared.name.Name.{Name}
 use Rattle.vl_disk.specs.declared.name.Name.TheVariants.{Log, Table, Manifest}
-use Rattle.vl_layout.specs.declared.segment.Segment.{Segment}
 use Rattle.vl_manifest.specs.Current.{IsCurrent, StandsReadable}
 use Rattle.vl_manifest.specs.Formats.{gone_format}
 use Rattle.vl_manifest.specs.States.{as_read}
@@ -21,8 +20,8 @@ use Rattle.vl_seglog.specs.laws.LogReadingLaws.{one_log_reading}
 use Rattle.vl_recover.specs.opening.Opening.{Bare, Current, Headless, Heading, IsBare, IsHeaded, IsNextLog, Led, LogsFrom, Newest, NewerFormat, NotAStore, Opening, Opens, Refusal, Says, StandingLogs}
 use Rattle.vl_recover.specs.laws.opening.OpeningLaws.{IsOpened, OpensBy, one_heading, opened, opens_by, some_none, some_same}
 use Rattle.vl_recover.specs.laws.repairing.StageLaws.{ok_with, then_kept}
-use Rattle.vl_recover.specs.opening.Stages.{on_ok}
-use Rattle.vl_recover.specs.opening.Walk.{LogDamage, StandingLog, content_end, counted_behind, counted_whole, filled, in_log, standing_log, walked, with_frames}
+use Rattle.vl_recover.specs.laws.opening.ContentLaws.{SameContent, same_counted, same_filled, walk_more}
+use Rattle.vl_recover.specs.opening.Walk.{StandingLog, counted_behind, counted_whole, filled, in_log, standing_log, walked, with_frames}
 
 -- ---- states and images that are alike
 
@@ -170,49 +169,6 @@ module _ (image other : Image) where
   }
 
 -- ---- logs
-
--- a log that is whole gives what its frames give
-pub whole_log : (n : ℕ) (r : LogReading) → r.whole ≡ true → counted_whole n r ≡ counted_behind r.header n r.frames
-whole_log n r whole =
-    ap (λ (b : Bool). on_ok (λ m. if b then Ok m else Err (content_end r)) (counted_behind r.header n r.frames)) whole
-    ∙ stays (counted_behind r.header n r.frames)
-  where
-    stays : (w : Result ℕ ℕ) → on_ok (λ m. if true then Ok m else Err (content_end r)) w ≡ w
-    stays (Ok m) = refl
-    stays (Err place) = refl
-
--- a log without frames behind a whole one gives no more
-pub walk_more : (k n number log : ℕ) (r s : LogReading) → s.frames ≡ [] → r.whole ≡ true
-    → in_log log (counted_behind r.header n r.frames) ≡ Ok number
-    → on_ok (λ m. in_log k (counted_behind s.header m s.frames)) (in_log log (counted_whole n r)) ≡ Ok number
-walk_more k n number log r s empty whole e =
-    ap (λ (w : Result ℕ ℕ). on_ok (λ m. in_log k (counted_behind s.header m s.frames)) (in_log log w)) (whole_log n r whole)
-    ∙ stays (in_log log (counted_behind r.header n r.frames)) ∙ e
-  where
-    gives : (m : ℕ) → in_log k (counted_behind s.header m s.frames) ≡ Ok m
-    gives m = ap (λ (fs : List LogFrame). in_log k (counted_behind s.header m fs)) empty
-
-    stays : (w : Result ℕ LogDamage) → on_ok (λ m. in_log k (counted_behind s.header m s.frames)) w ≡ w
-    stays (Ok m) = gives m
-    stays (Err damage) = refl
-
--- two readings have no frames, or the same in the same format
-pub data SameContent (r s : LogReading) : Type 0 where
-  none_each : r.frames ≡ [] → s.frames ≡ [] → SameContent r s
-  same_each : r.header ≡ s.header → r.frames ≡ s.frames → SameContent r s
-
-pub same_counted : (r s : LogReading) → SameContent r s → (n : ℕ)
-    → counted_behind r.header n r.frames ≡ counted_behind s.header n s.frames
-same_counted r s (none_each p q) n =
-    ap (counted_behind r.header n) p ∙ sym (ap (counted_behind s.header n) q)
-same_counted r s (same_each h f) n = λ i. counted_behind (h i) n (f i)
-
-pub same_filled : (r s : LogReading) → SameContent r s → (k : ℕ) (others : List Segment)
-    → with_frames k r.header r.frames others ≡ with_frames k s.header s.frames others
-same_filled r s (none_each p q) k others =
-    ap (λ (fs : List LogFrame). with_frames k r.header fs others) p
-    ∙ sym (ap (λ (fs : List LogFrame). with_frames k s.header fs others) q)
-same_filled r s (same_each h f) k others = λ i. with_frames k (h i) (f i) others
 
 -- The log with this number stands in both images, with the same content each time.
 pub record SameFrames (image other : Image) (number : ℕ) : Type 0 where

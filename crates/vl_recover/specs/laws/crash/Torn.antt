@@ -1,10 +1,8 @@
 -- What bytes say that a crash left of a file that isn't durable.
-use Rattle.std.specs.Prelude.{◌≡◌, ◌⊎◌, ℕ, ◌+◌, ◌-◌, ◌^◌, ◌<◌, ◌≤◌, ◌==◌, min, max, true, false, bytes_eq, List, [], ◌∷◌, ◌++◌, length, take, drop, All, Any, Option, None, Some, refl}
-use Rattle.std.proofs.Common.{append_assoc, ap, arith, inl, inr, length-append, subst, sym, zero-le, ◌∙◌, ⊎_elim}
+use Rattle.std.specs.Prelude.{◌≡◌, ◌⊎◌, ℕ, ◌+◌, ◌-◌, ◌^◌, ◌<◌, ◌≤◌, ◌==◌, min, max, true, false, List, [], ◌∷◌, ◌++◌, length, take, drop, All, Any, Option, None, Some, refl}
+use Rattle.std.proofs.Common.{append_assoc, ap, arith, length-append, subst, sym, zero-le, ◌∙◌, ⊎_elim}
 use Rattle.std.proofs.lemmas.Bool.{cases_Bool, cases_lt, true≢false}
-use Rattle.std.proofs.lemmas.Bool.Decides.{not_from_Decides}
 use Rattle.std.proofs.lemmas.List.{append-nil, drop-append-le, drop-drop, drop_all, drop_at, length-take, take-append-drop, take-take, take_all, take_at}
-use Rattle.std.proofs.lemmas.Slice.Eq.{bytes_eq-Decides}
 use Rattle.vl_disk.specs.Chance.{HasOnlyHandedOver, NoChanceOne, StandsIn, WasHandedOver, torn_from}
 use Rattle.vl_disk.specs.Crash.{Agrees}
 use Rattle.vl_disk.specs.DiskState.{File, IsLawfulFile, Piece, shortened}
@@ -23,10 +21,11 @@ use Rattle.vl_manifest.specs.States.{whole_edits}
 use Rattle.vl_manifest.specs.declared.edit.Edit.{Edit}
 use Rattle.vl_manifest.specs.declared.state.ManifestState.{ManifestState}
 use Rattle.vl_model.specs.Formats.{log_format, manifest_format}
-use Rattle.vl_recover.specs.laws.crash.AlikeLaws.{SameContent, none_each, same_each}
+use Rattle.vl_recover.specs.laws.opening.ContentLaws.{SameContent, none_each, same_each}
 use Rattle.vl_recover.specs.crash.Alike.{Spells}
 use Rattle.vl_recover.specs.laws.crash.OneName.{IsPart, part_empty, part_some}
 use Rattle.vl_recover.specs.crash.Starts.{HasWrongHeader, MayStand}
+use Rattle.vl_recover.specs.laws.crash.Headers.{said_format}
 use Rattle.vl_recover.specs.laws.crash.TornFrames.{headed_front, one_due}
 use Rattle.vl_seglog.specs.laws.FrameLaws.{length-log_bytes, length-log_header}
 use Rattle.vl_seglog.specs.Frames.{frames_end, frames_grammar, log_bytes, log_header}
@@ -206,32 +205,6 @@ module _ (number : ℕ) (s : ManifestState) (fits : number < 2 ^ 32) (range : Is
               omega (arith, frame_is_some (edits_grammar manifest_format) number place more, ap length empty)
 
 -- ---- logs
-
-header_or_not : (format number : ℕ) (bytes : List ℕ)
-    → HasHeader format number bytes ⊎ (HasHeader format number bytes → ⊥)
-header_or_not format number bytes =
-    let test = bytes_eq (take 16 bytes) (log_header format number) in
-    let decides = bytes_eq-Decides (take 16 bytes) (log_header format number) in
-    ⊎_elim (λ (yes : test ≡ true). inl (decides.0 yes))
-    (λ (no : test ≡ false). inr (not_from_Decides test decides no)) (cases_Bool test)
-
--- the bytes say a format that is read, or none
-pub said_format : (number : ℕ) (bytes : List ℕ) → (header : Option ℕ) × SaysFormat header number bytes
-said_format number bytes = ⊎_elim
-    (λ (first : HasHeader 1 number bytes). (Some 1, (record { least = omega arith; greatest = omega arith }, first)))
-    (λ (not_first : HasHeader 1 number bytes → ⊥). ⊎_elim
-    (λ (second : HasHeader 2 number bytes). (Some 2, (record { least = omega arith; greatest = omega arith }, second)))
-    (λ (not_second : HasHeader 2 number bytes → ⊥). (
-      None,
-      λ format is has. ⊎_elim
-          (λ (low : format < 2). let one : format ≡ 1 = (let least = is.least in omega (arith, low, least)) in
-          not_first (subst (λ (n : ℕ). HasHeader n number bytes) one has))
-          (λ (high : 2 ≤ format). let two : format ≡ 2 = (let most = is.greatest in omega (arith, high, most)) in
-          not_second (subst (λ (n : ℕ). HasHeader n number bytes) two has))
-          (cases_lt format 2),
-    ))
-    (header_or_not 2 number bytes))
-    (header_or_not 1 number bytes)
 
 -- the bytes of a log have the content of a reading, with its header and to their end or not
 pub record ReadsFrames (number : ℕ) (bytes : List ℕ) (like : LogReading) : Type 0 where

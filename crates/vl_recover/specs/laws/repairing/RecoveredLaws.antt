@@ -9,7 +9,7 @@ use Rattle.vl_model.specs.declared.log_frame.LogFrame.{LogFrame}
 use Rattle.vl_seglog.specs.Frames.{frames_end}
 use Rattle.vl_layout.specs.declared.segment.Segment.{Segment}
 use Rattle.vl_recover.specs.crash.Alike.{ShowsAs}
-use Rattle.vl_recover.specs.laws.crash.AlikeLaws.{walk_more}
+use Rattle.vl_recover.specs.laws.opening.ContentLaws.{walk_more}
 use Rattle.vl_recover.specs.opening.Answers.{Finds, and_made, as_segments, last_format, logs_then}
 use Rattle.vl_recover.specs.crash.Held.{GoOn, log_as_held, opening_held}
 use Rattle.vl_recover.specs.opening.Opening.{Opening}

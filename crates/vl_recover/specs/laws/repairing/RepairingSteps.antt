@@ -25,7 +25,8 @@ use Rattle.vl_manifest.specs.laws.StateLaws.{IsInRange}
 use Rattle.vl_manifest.specs.States.{whole_edits}
 use Rattle.vl_manifest.specs.declared.state.ManifestState.{ManifestState}
 use Rattle.vl_recover.specs.crash.Alike.{IsLeft, OpensAsOf, OpensLike, SameState, Spells}
-use Rattle.vl_recover.specs.laws.crash.AlikeLaws.{LastIsWhole, SameBut, SameContent, last_alike, lead_over, led_anew, like_lead, like_new, log_manifest, none_each, one_more, read_same, same_each, state_then}
+use Rattle.vl_recover.specs.laws.crash.AlikeLaws.{LastIsWhole, SameBut, last_alike, lead_over, led_anew, like_lead, like_new, log_manifest, one_more, read_same, state_then}
+use Rattle.vl_recover.specs.laws.opening.ContentLaws.{SameContent, none_each, same_each}
 use Rattle.vl_recover.specs.crash.Held.{IsNowhere}
 use Rattle.vl_recover.specs.laws.opening.HeldLaws.{left_nowhere}
 use Rattle.vl_recover.specs.laws.opening.LeadsLaws.{Leads, current_kept, leads_image, led_like, led_same}

@@ -2,7 +2,7 @@ use Rattle.std.proofs.Common.{refl, sym, ap, ◌∙◌, vec_capacity}
 use Rattle.std.specs.Option.{option_copied_mut}
 use Rattle.vl_disk.specs.DiskState.{lengthened}
 use Rattle.vl_mem.specs.declared.event.Event.TheVariants.{Append}
-use Rattle.vl_mem.proofs.Steps.{kept_changed, uses_append}
+use Rattle.vl_mem.proofs.Steps.{kept_changed, uses_append, same_failing}
 use Rattle.vl_mem.proofs.mem_disk.MemDisk.hand.Goals as goal
 
 pub append-kept-requires-clause-fits : goal.append-kept-requires-clause-fits
@@ -20,3 +20,7 @@ invariant_of-self c = record {
 pub returns-clause-spare : goal.returns-clause-spare
 returns-clause-spare c = uses_append c.args.name c.args.self.now.entries (c.get_mut.follows.lender c.append-kept.new.self) c.unwrap-entry.result.now c.append-kept.new.self
     (sym c.get_mut.ensures.value ∙ ap option_copied_mut c.unwrap-entry.ensures) (c.get_mut.follows.holds c.append-kept.new.self) c.append-kept.ensures.change c.append-kept.ensures.hold c.append-kept.ensures.lend
+
+pub returns-clause-writers : goal.returns-clause-writers
+returns-clause-writers c = (refl, same_failing c.args.name c.args.self.now.entries (c.get_mut.follows.lender c.append-kept.new.self) c.unwrap-entry.result.now c.append-kept.new.self
+    (sym c.get_mut.ensures.value ∙ ap option_copied_mut c.unwrap-entry.ensures) (c.get_mut.follows.holds c.append-kept.new.self) c.append-kept.ensures.failing)

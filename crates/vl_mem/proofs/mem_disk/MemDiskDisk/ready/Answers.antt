@@ -21,4 +21,4 @@ returns-clause-refused c = on_err_weaker c.make_room-2.result (λ same q. same_s
 
 pub returns-clause-writers : goal.returns-clause-writers
 returns-clause-writers c = on_ok_weaker c.make_room-2.result (λ same. ap failing_of (updated_there c.args.name c.know.new.self.entries (c.get_mut.follows.lender c.make_room-2.new.self) c.unwrap-entry.result.now c.make_room-2.new.self
-    (sym c.get_mut.ensures.value ∙ ap option_copied_mut c.unwrap-entry.ensures) (c.get_mut.follows.holds c.make_room-2.new.self)) ∙ same ∙ c.deref.ensures.value ∙ c.know.ensures.stays.writers) c.make_room-2.ensures.failing
+    (sym c.get_mut.ensures.value ∙ ap option_copied_mut c.unwrap-entry.ensures) (c.get_mut.follows.holds c.make_room-2.new.self)) ∙ same ∙ c.deref.ensures.value ∙ c.know.ensures.writers.0) c.make_room-2.ensures.failing

@@ -1,4 +1,4 @@
-use Rattle.std.proofs.Common.{◌≡◌, ◌+◌, ℕ, Some, length, refl, sym, ap, ◌∙◌, arith}
+use Rattle.std.proofs.Common.{◌+◌, ℕ, Some, length, refl, sym, ap, ◌∙◌, arith}
 use Rattle.vl_disk.specs.DiskState.{bytes_at}
 use Rattle.vl_model.specs.Formats.{record_head}
 use Rattle.vl_model.specs.Keys.{tagged}
@@ -11,11 +11,14 @@ use Rattle.vl_seglog.proofs.sealed.SealedLog.find_in.Goals as goal
 pub returns-in_default-clause-answers : goal.returns-in_default-clause-answers
 returns-in_default-clause-answers g c =
     then_refuses _ _ c.args.self.now.number c.args.pointer.place _ _ _ _ _ c.in_ok-fill.field-0 _ c.damaged.ensures
-    (λ bytes told read. (gives_none c.args.self.now.format bytes c.args.pointer c.args.key.now
-    (λ value leads.
-    let front = leads_front c.args.self.now.format bytes c.args.pointer c.args.key.now value c.args.value_len leads (omega arith) in
-    c.in_default.ensures.none value.tag leads.stands.lawful.tag
-    (read_so _ bytes c.args.pointer.place _ (record_head c.args.self.now.format + length c.args.key.now) read (omega arith) ∙ front)), refl))
+    (λ bytes told read. (
+      gives_none c.args.self.now.format bytes c.args.pointer c.args.key.now
+          (λ value leads.
+          let front = leads_front c.args.self.now.format bytes c.args.pointer c.args.key.now value c.args.value_len leads (omega arith) in
+          c.in_default.ensures.none value.tag leads.stands.lawful.tag
+          (read_so _ bytes c.args.pointer.place _ (record_head c.args.self.now.format + length c.args.key.now) read (omega arith) ∙ front)),
+      refl,
+    ))
     c.in_ok-fill.ensures.answers
 
 pub returns-clause-answers : goal.returns-clause-answers

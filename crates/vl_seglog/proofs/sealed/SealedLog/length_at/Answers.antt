@@ -1,7 +1,7 @@
-use Rattle.std.proofs.Common.{ℕ, ◌+◌, refl, ap, sym, ◌∙◌, arith}
+use Rattle.std.proofs.Common.{ℕ, ◌+◌, refl, ap, ◌∙◌, arith}
 use Rattle.vl_frame.specs.Frame.{frame_code}
 use Rattle.vl_frame.specs.laws.RunLaws.{frame_of}
-use Rattle.vl_seglog.specs.Bodies.{frame_body, frame_kind}
+use Rattle.vl_seglog.specs.Bodies.{frame_kind}
 use Rattle.vl_seglog.specs.Frames.{frames_grammar}
 use Rattle.vl_seglog.proofs.AnswerSteps.{refuses, then_gives, then_refuses}
 use Rattle.vl_seglog.proofs.Scanning.{frame_head, frame_inside}

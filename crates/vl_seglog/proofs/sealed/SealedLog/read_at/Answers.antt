@@ -15,7 +15,7 @@ returns g c =
     (then_gives _ _ c.args.self.now.number _ _ _ _ _ c.in_ok-fill.field-0 _
     (λ bytes told read.
     let cut = cut_from lying.place lying.length bytes c.resize.new.self c.fill.new.out (length c.deref_mut.result.now) read
-    (omega (arith, c.deref_mut.ensures.len, c.in_ok-resize.ensures.len, c.deref_mut.ensures.value)) (omega (arith, c.deref_mut.ensures.len))
+    (omega (arith, c.deref_mut.ensures.len, c.in_ok-resize.ensures.len)) (omega (arith, c.deref_mut.ensures.len))
     (omega (arith, g.met.H.HeldFile.sized c.args.self.now.held bytes told, c.in_ok-lying.ensures.inside)) in
     c.in_ok-new.ensures ∙ ap (λ (l : List ℕ). tagged l lying.tag) cut)
     c.in_ok-fill.ensures.answers)

@@ -1,4 +1,4 @@
-use Rattle.std.proofs.Common.{◌≡◌, ◌++◌, ℕ, List, drop, ap, subst, sym, refl, ◌∙◌, length, arith}
+use Rattle.std.proofs.Common.{◌≡◌, ◌++◌, ℕ, List, drop, ap, subst, sym, refl, arith}
 use Rattle.std.proofs.lemmas.List.{length-take-le}
 use Rattle.vl_disk.specs.DiskState.{bytes_at}
 use Rattle.vl_model.specs.Keys.{tagged}

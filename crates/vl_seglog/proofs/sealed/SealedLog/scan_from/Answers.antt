@@ -1,4 +1,4 @@
-use Rattle.std.proofs.Common.{◌≡◌, ℕ, List, Some, refl, sym, subst, ◌∙◌, length, arith}
+use Rattle.std.proofs.Common.{◌≡◌, Some, refl, sym, subst, ◌∙◌, length, arith}
 use Rattle.vl_disk.specs.DiskState.{bytes_at}
 use Rattle.vl_seglog.proofs.AnswerSteps.{and_then, then_gives, then_refuses}
 use Rattle.vl_seglog.proofs.Cut.{cut_from}
@@ -11,15 +11,18 @@ pub returns-in-None-clause-answers : goal.returns-in-None-clause-answers
 returns-in-None-clause-answers g c =
     and_then _ _ _ c.args.self.now.number _ _ _ _ _ (λ bytes at. (c.deref.result.now ≡ bytes_at c.args.place c.in_ok-length.length bytes) × (at ≡ c.args.place)) _ c.in_ok-length.length _
     (λ bytes told has x good. good)
-    (λ bytes told has at cut. (record {
-      within = omega (arith, g.met.H.HeldFile.sized c.args.self.now.held bytes told, c.len.ensures);
-      none = none_there c.args.self.now.format c.args.self.now.number c.args.place bytes c.in_ok-length.length c.deref.result.now cut.0 has (rw c.in-None.is at c.in_ok-read_next.ensures.none);
-    }, cut.1))
+    (λ bytes told has at cut. (
+      record {
+        within = omega (arith, g.met.H.HeldFile.sized c.args.self.now.held bytes told, c.len.ensures);
+        none = none_there c.args.self.now.format c.args.self.now.number c.args.place bytes c.in_ok-length.length c.deref.result.now cut.0 has (rw c.in-None.is at c.in_ok-read_next.ensures.none);
+      },
+      cut.1,
+    ))
     c.in_ok-length.ensures.answers
     (then_refuses _ _ c.args.self.now.number c.args.place _ _ _ _ _ c.in_ok-fill.field-0 _ c.damaged.ensures
     (λ bytes told read. (
       c.deref.ensures.value ∙ cut_from c.args.place c.in_ok-length.length bytes c.resize.new.self c.fill.new.out (length c.deref_mut.result.now) read
-          (omega (arith, c.deref_mut.ensures.len, c.in_ok-resize.ensures.len, c.deref_mut.ensures.value)) (omega (arith, c.deref_mut.ensures.len))
+          (omega (arith, c.deref_mut.ensures.len, c.in_ok-resize.ensures.len)) (omega (arith, c.deref_mut.ensures.len))
           (omega (arith, g.met.H.HeldFile.sized c.args.self.now.held bytes told, c.in_ok-length.ensures.inside)),
       refl,
     )) c.in_ok-fill.ensures.answers)
@@ -34,7 +37,7 @@ returns-clause-answers g c =
     (then_gives _ _ c.args.self.now.number _ _ _ _ _ c.in_ok-fill.field-0 _
     (λ bytes told read. (
       c.deref.ensures.value ∙ cut_from c.args.place c.in_ok-length.length bytes c.resize.new.self c.fill.new.out (length c.deref_mut.result.now) read
-          (omega (arith, c.deref_mut.ensures.len, c.in_ok-resize.ensures.len, c.deref_mut.ensures.value)) (omega (arith, c.deref_mut.ensures.len))
+          (omega (arith, c.deref_mut.ensures.len, c.in_ok-resize.ensures.len)) (omega (arith, c.deref_mut.ensures.len))
           (omega (arith, g.met.H.HeldFile.sized c.args.self.now.held bytes told, c.in_ok-length.ensures.inside)),
       refl,
     )) c.in_ok-fill.ensures.answers)
