@@ -229,7 +229,7 @@ module _ (name : Name) (entries next : Entries) (old new : Entry) (found : entry
   pub same_failing : new.failing ≡ old.failing → (q : Name) → failing_of (entry_of next q) ≡ failing_of (entry_of entries q)
   same_failing same q = ⊎_elim
       (λ (here : q ≡ name). ap (λ n. failing_of (entry_of next n)) here ∙ ap failing_of updates.1 ∙ ap (λ fs. fs.items) same
-          ∙ sym (ap failing_of found) ∙ sym (ap (λ n. failing_of (entry_of entries n)) here))
+      ∙ sym (ap failing_of found) ∙ sym (ap (λ n. failing_of (entry_of entries n)) here))
       (λ (other : q ≢ name). failing_elsewhere q other)
       (same_or_other q name)
 

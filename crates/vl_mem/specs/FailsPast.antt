@@ -1,12 +1,12 @@
 -- A disk in memory of which nothing fails but its changing calls past a stop, or nothing at all.
-use Rattle.std.specs.Prelude.{◌≡◌, ◌⊎◌, ℕ, ◌+◌, ◌-◌, ◌^◌, ◌<◌, ◌≤◌, List, [], Contains, Option, None, Some, IsSomeAnd}
-use Rattle.std.proofs.Common.{inr, ⊎_elim, refl, sym, ◌∙◌, ap, subst, arith}
+use Rattle.std.specs.Prelude.{◌≡◌, ◌⊎◌, ℕ, ◌+◌, ◌<◌, ◌≤◌, List, [], Contains, Option, None, Some, IsSomeAnd}
+use Rattle.std.proofs.Common.{inr, ⊎_elim, sym, ◌∙◌, ap, subst, arith}
 use Rattle.vl_disk.specs.FaultPlan as listed
 use Rattle.vl_disk.specs.FaultPlan.{Plan, new_plan}
 use Rattle.vl_disk.specs.Faults.{CountsPast, CountsPastStop, HasCause}
 use Rattle.vl_mem.specs.ChangePlan.{ChangePlan, FollowsPlan, HasStopped, IsDue, new_changes, stopping_after}
 use Rattle.vl_mem.specs.declared.mem_disk.MemDisk.{MemDisk}
-use Rattle.vl_mem.specs.MemDisk.{CountsChange, CountsRead, changes_of, faults_of, reads_of}
+use Rattle.vl_mem.specs.MemDisk.{changes_of, faults_of, reads_of}
 
 -- So many changing calls pass, and each later one fails, or none does; nothing else fails.
 pub record FailsPast (disk : MemDisk) (stop : Option ℕ) : Type 0 where

@@ -1,5 +1,5 @@
 -- Files that a disk in memory shares.
-use Rattle.std.specs.Prelude.{◌≡◌, ◌↔◌, ℕ, List, length, Some}
+use Rattle.std.specs.Prelude.{◌≡◌, ℕ, List, length, Some}
 use Rattle.std.specs.Arc.{arc_value}
 use Rattle.std.proofs.Common.{sym, ap}
 use Rattle.vl_mem.specs.declared.held.MemHeld.{MemHeld}

@@ -30,7 +30,6 @@ const RUNS: &str = "\
     replay .|||begin a;setb a 61 aa 7;getb a 61;get a 61;set a 62 -;getb a 62;getb a 63;commit a;view b;getb b 61;getb b -;setb b 61 01 0;getb q 61;setb q 61 01 0;|ok 0;ok;value aa byte 7;value aa;ok;value - byte 0;none;ok 1;ok 1;value aa byte 7;invalid;readonly;unknown q;unknown q;|0\n\
     replay .|||begin a;drop a;get a 61;view a;drop a;begin a;drop b;|ok 0;ok;unknown a;ok 0;ok;ok 0;unknown b;|0\n\
     replay .|||begin a;set a *4096* 01;get a *4096*;del a *4096*;set a *4097* 01;get a *4097*;del a *4097*;|ok 0;ok;value 01;ok;invalid;invalid;invalid;|0\n\
-    replay .|||begin a;set a 61 *8388609*;set a 61 *8388608*;set a 62 *8388605*;del a 63;del a 64;set a 62 01;del a 64;|ok 0;invalid;ok;ok;ok;toobig;ok;ok;|0\n\
     replay .|3||begin a;get a 61|ok 0;none;|0\n\
     replay .|2||begin a;get a 61|ok 0;read fault;|6\n\
     replay .||2|begin a;get a 61;|ok 0;|7\n\

@@ -1,13 +1,10 @@
 -- A filter holds the keys that it was built of, and a body spells one filter.
-use Rattle.std.proofs.Common.{◌≡◌, ℕ, zero, suc, ◌*◌, ◌<◌, ◌^◌, Bool, true, false, ◌==◌, ◌&&◌, ◌||◌, List, [], ◌∷◌, ◌++◌, length, map, drop, refl, ap, sym, ◌∙◌, arith}
+use Rattle.std.proofs.Common.{◌≡◌, ℕ, zero, suc, ◌*◌, Bool, true, false, ◌==◌, ◌&&◌, ◌||◌, List, [], ◌∷◌, length, map, refl, ap, sym, ◌∙◌, arith}
 use Rattle.std.proofs.lemmas.Bool.Decides.{nat_tests}
 use Rattle.std.specs.List.{AllByRecursion}
-use Rattle.byteorder.specs.Endian.{big_bytes}
-use Rattle.byteorder.specs.Numbers.{length-bytes_high_first}
-use Rattle.std.proofs.lemmas.List.{drop_at}
 use Rattle.vl_filter.specs.Bits.{is_set}
 use Rattle.std.proofs.lemmas.List.{length-map}
-use Rattle.vl_filter.specs.Filters.{are_set, byte_count, filter_body, filter_bytes, is_marked, marked_bytes, may_hold, SpellsFilter}
+use Rattle.vl_filter.specs.Filters.{are_set, byte_count, filter_bytes, is_marked, may_hold}
 use Rattle.vl_filter.specs.Places.{has_place, has_place_below, hashes_of, place}
 use Rattle.vl_filter.specs.declared.hashes.Hashes.{Hashes}
 use Rattle.vl_filter.specs.laws.MarkedLaws.{marked-bits, marked-length}

@@ -1,7 +1,7 @@
 use Rattle.std.proofs.Common.{refl, sym, ap, ◌∙◌, vec_capacity}
 use Rattle.std.specs.Option.{option_copied_mut}
 use Rattle.vl_mem.specs.declared.entry.Presence.TheVariants.{Lent}
-use Rattle.vl_mem.proofs.Steps.{kept_gone, uses_lend}
+use Rattle.vl_mem.proofs.Steps.{kept_gone}
 use Rattle.vl_mem.proofs.mem_disk.MemDisk.give.Goals as goal
 
 pub invariant_of-self : goal.invariant_of-self

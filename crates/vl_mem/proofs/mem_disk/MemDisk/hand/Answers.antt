@@ -22,5 +22,8 @@ returns-clause-spare c = uses_append c.args.name c.args.self.now.entries (c.get_
     (sym c.get_mut.ensures.value ∙ ap option_copied_mut c.unwrap-entry.ensures) (c.get_mut.follows.holds c.append-kept.new.self) c.append-kept.ensures.change c.append-kept.ensures.hold c.append-kept.ensures.lend
 
 pub returns-clause-writers : goal.returns-clause-writers
-returns-clause-writers c = (refl, same_failing c.args.name c.args.self.now.entries (c.get_mut.follows.lender c.append-kept.new.self) c.unwrap-entry.result.now c.append-kept.new.self
-    (sym c.get_mut.ensures.value ∙ ap option_copied_mut c.unwrap-entry.ensures) (c.get_mut.follows.holds c.append-kept.new.self) c.append-kept.ensures.failing)
+returns-clause-writers c = (
+  refl,
+  same_failing c.args.name c.args.self.now.entries (c.get_mut.follows.lender c.append-kept.new.self) c.unwrap-entry.result.now c.append-kept.new.self
+      (sym c.get_mut.ensures.value ∙ ap option_copied_mut c.unwrap-entry.ensures) (c.get_mut.follows.holds c.append-kept.new.self) c.append-kept.ensures.failing,
+)

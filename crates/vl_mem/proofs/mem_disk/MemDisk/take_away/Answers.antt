@@ -17,5 +17,8 @@ returns-clause-spare c = same_spare c.args.name c.args.self.now.entries (c.get_m
     (sym c.get_mut.ensures.value ∙ ap option_copied_mut c.unwrap-entry.ensures) (c.get_mut.follows.holds c.remove.new.self) c.remove.ensures.spare
 
 pub returns-clause-writers : goal.returns-clause-writers
-returns-clause-writers c = (refl, same_failing c.args.name c.args.self.now.entries (c.get_mut.follows.lender c.remove.new.self) c.unwrap-entry.result.now c.remove.new.self
-    (sym c.get_mut.ensures.value ∙ ap option_copied_mut c.unwrap-entry.ensures) (c.get_mut.follows.holds c.remove.new.self) c.remove.ensures.failing)
+returns-clause-writers c = (
+  refl,
+  same_failing c.args.name c.args.self.now.entries (c.get_mut.follows.lender c.remove.new.self) c.unwrap-entry.result.now c.remove.new.self
+      (sym c.get_mut.ensures.value ∙ ap option_copied_mut c.unwrap-entry.ensures) (c.get_mut.follows.holds c.remove.new.self) c.remove.ensures.failing,
+)

@@ -12,5 +12,8 @@ invariant_of-self c = record {
 }
 
 pub returns-clause-writers : goal.returns-clause-writers
-returns-clause-writers c = (refl, same_failing c.args.file.name c.args.self.now.entries (c.get_mut.follows.lender c.adopt.new.self) c.unwrap-entry.result.now c.adopt.new.self
-    (sym c.get_mut.ensures.value ∙ ap option_copied_mut c.unwrap-entry.ensures) (c.get_mut.follows.holds c.adopt.new.self) c.adopt.ensures.failing)
+returns-clause-writers c = (
+  refl,
+  same_failing c.args.file.name c.args.self.now.entries (c.get_mut.follows.lender c.adopt.new.self) c.unwrap-entry.result.now c.adopt.new.self
+      (sym c.get_mut.ensures.value ∙ ap option_copied_mut c.unwrap-entry.ensures) (c.get_mut.follows.holds c.adopt.new.self) c.adopt.ensures.failing,
+)
