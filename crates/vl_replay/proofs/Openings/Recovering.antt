@@ -109,8 +109,9 @@ module _ {D : Type 0} (g : Ghosts D) (disk : D) (s : State) (starts : StartsIn g
       → (before : List Segment) × (as_segments logs ≡ before ++ new_segment log_format (last_log none logs) [] ∷ [])
   ends state none [] is = absurd cc
   ends state none (q ∷ []) is = (
-      [],
-      ap (λ (fs : List LogFrame). new_segment (last_format q.reading.header fs) q.number fs ∷ []) (by q.reading.frames is),
+    [],
+    ap (λ (fs : List LogFrame). new_segment (last_format q.reading.header fs) q.number fs ∷ [])
+        (by q.reading.frames is),
   )
     where
       by : (frames : List LogFrame) → log_behind state frames ≡ None → frames ≡ []
@@ -122,7 +123,8 @@ module _ {D : Type 0} (g : Ghosts D) (disk : D) (s : State) (starts : StartsIn g
       (first ∷ before, ap (λ (ss : List Segment). first ∷ ss) rest)
 
   stands_last : (made : Option ℕ) → log_made (new_state found.greatest found.opening.state) found.logs ≡ made
-      → (frozen : List Segment) × (as_segments found.logs ++ and_made made ≡ frozen ++ new_segment log_format (active_of made found.logs) [] ∷ [])
+      → (frozen : List Segment)
+      × (as_segments found.logs ++ and_made made ≡ frozen ++ new_segment log_format (active_of made found.logs) [] ∷ [])
   stands_last None none =
       let (before, rest) = ends (new_state found.greatest found.opening.state) 0 found.logs none in
       (before, nothing_behind (as_segments found.logs) ∙ rest)
