@@ -28,7 +28,7 @@ use Rattle.vl_model.specs.History.{last_number}
 use Rattle.vl_model.specs.Limits.{max_file_number}
 use Rattle.vl_model.specs.declared.log_frame.LogFrame.{LogFrame}
 use Rattle.vl_recover.specs.opening.Walk.{standing_log}
-use Rattle.vl_recover.specs.laws.crash.AppendLaws.{filled_with, last_held, manifest_kept, standing_with, walked_with}
+use Rattle.vl_recover.specs.laws.crash.AppendLaws.{last_held, manifest_kept, standing_with, walked_with}
 use Rattle.vl_recover.specs.crash.Held.{HoldsStore}
 use Rattle.vl_recover.specs.laws.opening.HeldLaws.{held_current, held_opens, held_says}
 use Rattle.vl_recover.specs.crash.Held.{GoOn, log_as_held, opening_held}
@@ -36,7 +36,7 @@ use Rattle.vl_recover.specs.opening.Opening.{Led, Opening, Opens, Refusal, Stand
 use Rattle.vl_recover.specs.laws.opening.OpeningLaws.{opens_by, single_opening, some_none}
 use Rattle.vl_recover.specs.laws.repairing.StageLaws.{ok_same}
 use Rattle.vl_recover.specs.laws.crash.TornFrames.{frame_behind, torn_log}
-use Rattle.vl_recover.specs.opening.Walk.{StandingLog, filled, walked}
+use Rattle.vl_recover.specs.opening.Walk.{StandingLog, filled, walked, with_frames}
 use Rattle.vl_seglog.specs.Frames.{frame_at, frames_end, frames_grammar, log_bytes}
 use Rattle.vl_seglog.specs.LogReading.{IsLogFormat}
 use Rattle.vl_seglog.specs.laws.LogReadingLaws.{SaysFrames, reads_with_tail}
@@ -71,6 +71,14 @@ module _ (format number : ℕ) (is_read : IsLogFormat format) (frames : List Log
   -- so the log says the frames before it
   part_says : k < length whole → AllByRecursion (HasFrame (frames_grammar format)) frames → SaysFrames format number (log_bytes format number frames ++ take k whole) frames
   part_says less have = (_, reads_with_tail format number is_read frames have (take k whole) (part_says_none less))
+
+-- the logs with frames are the same where the last one has the same, in the same format
+filled_with : (a b : StandingLog) → a.number ≡ b.number → a.reading.header ≡ b.reading.header
+    → a.reading.frames ≡ b.reading.frames → (logs : List StandingLog)
+    → filled (logs ++ a ∷ []) ≡ filled (logs ++ b ∷ [])
+filled_with a b number header frames [] = λ i. with_frames (number i) (header i) (frames i) []
+filled_with a b number header frames (q ∷ logs) =
+    ap (with_frames q.number q.reading.header q.reading.frames) (filled_with a b number header frames logs)
 
 -- ---- images of a disk whose log took a part of a frame
 
