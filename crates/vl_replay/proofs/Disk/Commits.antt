@@ -62,9 +62,9 @@ on_ok_at_err (Err halt) P err = tt
 -- ---- the commit that is written
 
 -- what a transaction may write can be spelled
-are_records : (list : List (List ℕ × Change)) → AllByRecursion IsLawful list → AreRecords list
+are_records : (list : List (List ℕ × Change)) → AllByRecursion IsLawful list → AreRecords log_format list
 are_records [] all = tt
-are_records (write ∷ list) all = (record { key_length = all.0.key; value_length = all.0.value }, are_records list all.1)
+are_records (write ∷ list) all = (record { key_length = all.0.key; value_length = all.0.value; tag = refl }, are_records list all.1)
 
 pub is_commit : (last : ℕ) (writes : Writes) (list : List (List ℕ × Change)) → list ≡ entries writes → (len writes == 0) ≡ false → last < max_commit_number → IsTrue (is_sorted key_cmp list) → AllByRecursion IsLawful list
     → IsCommit log_format (record { number = last + 1; writes = list })
@@ -77,7 +77,7 @@ is_commit last writes list is some left rising lawful =
 -- the staged frame is that of the next commit, at the log's end
 pub frame_staged : (r : Store) (s : State) (disk : DiskState) (writes : Writes) (list : List (List ℕ × Change)) (staged : Staged) → Represents r s → (stored : IsStored s disk) → list ≡ entries writes
     → IsStaged r.log.number r.log.length (staged_frame r list) staged
-    → HasFrame (frames_grammar log_format) (next_frame s.history writes) × (staged.frame.items ≡ frame_behind s.log.number stored.frames (next_frame s.history writes))
+    → HasFrame (frames_grammar log_format) (next_frame s.history writes) × (staged.frame.items ≡ frame_behind log_format s.log.number stored.frames (next_frame s.history writes))
 frame_staged r s disk writes list staged rep stored listed is =
     let same = same_frame r s writes list rep listed in
     let number : r.log.number ≡ s.log.number = ap (λ (l : ActiveLog). l.number) rep.log in
@@ -128,7 +128,7 @@ module _ {D : Type 0} (g : Ghosts D) (watched : IsWatched g) where
       }
 
   module _ (s : State) (name : List ℕ) (writes : Writes) (old mid new : D) (failed : Type 0) (no_change : ChangesNothing g old mid failed) (held : HoldsState g IsStored s old)
-      (bytes : List ℕ) (staged : HasFrame (frames_grammar log_format) (next_frame s.history writes) × (bytes ≡ frame_behind s.log.number held.there.2.frames (next_frame s.history writes)))
+      (bytes : List ℕ) (staged : HasFrame (frames_grammar log_format) (next_frame s.history writes) × (bytes ≡ frame_behind log_format s.log.number held.there.2.frames (next_frame s.history writes)))
       (time : Elapses g mid new (WhileWriting (names.Log s.log.number) bytes)) where
     abbrev after : State
     after = after_commit s name writes
@@ -172,9 +172,9 @@ module _ {D : Type 0} (g : Ghosts D) (watched : IsWatched g) where
         either
 
     -- what a crash leaves while the frame is written
-    frame_leaves : (now : DiskState) → WhileWriting (names.Log s.log.number) (frame_behind s.log.number stored.frames (next_frame s.history writes)) state now → Leaves between now
+    frame_leaves : (now : DiskState) → WhileWriting (names.Log s.log.number) (frame_behind log_format s.log.number stored.frames (next_frame s.history writes)) state now → Leaves between now
     frame_leaves now during image left = shown_either image (⊎_elim
-        (λ (w : WhileAppending (names.Log s.log.number) (frame_behind s.log.number stored.frames (next_frame s.history writes)) state now).
+        (λ (w : WhileAppending (names.Log s.log.number) (frame_behind log_format s.log.number stored.frames (next_frame s.history writes)) state now).
         append_leaves stored.manifest stored.frozen (new_segment log_format s.log.number stored.frames) (next_frame s.history writes) state stored.holds staged.0
         (last_number s.history) (last_number s.history + 1) stored.numbers (numbers_next s name writes state stored staged.0) now w image left)
         (λ (w : WhileSyncing (names.Log s.log.number) _ now).
@@ -193,12 +193,12 @@ module _ {D : Type 0} (g : Ghosts D) (watched : IsWatched g) where
         (λ now during. frame_leaves now (subst (λ (frame : List ℕ). WhileWriting (names.Log s.log.number) frame state now) staged.1 during)))
 
     -- a store may be opened on what stands while the frame is written,
-    frame_may_open : (now : DiskState) → WhileWriting (names.Log s.log.number) (frame_behind s.log.number stored.frames (next_frame s.history writes)) state now → MayOpen now
+    frame_may_open : (now : DiskState) → WhileWriting (names.Log s.log.number) (frame_behind log_format s.log.number stored.frames (next_frame s.history writes)) state now → MayOpen now
     frame_may_open now during = ⊎_elim
-        (λ (w : WhileAppending (names.Log s.log.number) (frame_behind s.log.number stored.frames (next_frame s.history writes)) state now).
-        append_may_open stored.manifest stored.frozen (new_segment log_format s.log.number stored.frames) (next_frame s.history writes) state stored.holds staged.0 stored.lawful now w)
+        (λ (w : WhileAppending (names.Log s.log.number) (frame_behind log_format s.log.number stored.frames (next_frame s.history writes)) state now).
+        append_may_open stored.manifest stored.frozen (new_segment log_format s.log.number stored.frames) (next_frame s.history writes) state stored.holds staged.0 stored.lawful refl now w)
         (λ (w : WhileSyncing (names.Log s.log.number) _ now).
-        sync_may_open stored.manifest stored.frozen (new_segment log_format s.log.number stored.frames) (next_frame s.history writes) state stored.holds staged.0 stored.lawful now w)
+        sync_may_open stored.manifest stored.frozen (new_segment log_format s.log.number stored.frames) (next_frame s.history writes) state stored.holds staged.0 stored.lawful refl now w)
         during
 
     -- and so on what stands then
@@ -277,7 +277,7 @@ module _ {D : Type 0} (g : Ghosts D) (watched : IsWatched g) where
         → LeadsTo g IsStored Shown old new s after (Ok answer)
     carries_commit answer calls changed =
         let told : g.told mid ≡ Some state = no_change.told ∙ held.there.1 in
-        let whole = frame_behind s.log.number stored.frames (next_frame s.history writes) in
+        let whole = frame_behind log_format s.log.number stored.frames (next_frame s.history writes) in
         let is : g.told new ≡ Some (written (names.Log s.log.number) whole state) =
         changed ∙ ap (option_map (written (names.Log s.log.number) bytes)) told ∙ ap (λ (frame : List ℕ). Some (written (names.Log s.log.number) frame state)) staged.1 in
         record {

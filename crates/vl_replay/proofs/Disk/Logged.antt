@@ -84,7 +84,7 @@ commit-length number writes = omega (arith, frame_length-committed number (entri
 module _ (s : State) (name : List ℕ) (writes : Writes) (disk : DiskState) (stored : IsStored s disk)
     (has : HasFrame (frames_grammar log_format) (next_frame s.history writes)) where
   abbrev pub frame : List ℕ
-  frame = frame_behind s.log.number stored.frames (next_frame s.history writes)
+  frame = frame_behind log_format s.log.number stored.frames (next_frame s.history writes)
 
   abbrev last : Segment
   last = new_segment log_format s.log.number stored.frames
@@ -113,7 +113,7 @@ module _ (s : State) (name : List ℕ) (writes : Writes) (disk : DiskState) (sto
     numbers = subst (GoOn stored.manifest.covered (stored.frozen ++ with_frame (next_frame s.history writes) last ∷ [])) (sym one_more) numbers_next;
     shows = subst (LogsShow (stored.frozen ++ with_frame (next_frame s.history writes) last ∷ []) after.history) (sym one_more)
         (shows_next stored.frozen last s.history writes stored.shows);
-    length_is = omega (arith, stored.length_is, frames_end-more stored.frames (next_frame s.history writes), commit-length (m + 1) writes);
+    length_is = omega (arith, stored.length_is, frames_end-more log_format stored.frames (next_frame s.history writes), commit-length (m + 1) writes);
     lawful = synced_lawful (appended (names.Log s.log.number) frame (length frame) disk)
         (appended_lawful disk stored.lawful (names.Log s.log.number) frame (length frame)) (names.Log s.log.number);
     numbered = changed_numbered s.files (names.Log s.log.number) _ (appended (names.Log s.log.number) frame (length frame) disk)

@@ -43,16 +43,17 @@ nothing_behind : (es : List Entry) → es ≡ es ++ []
 nothing_behind [] = refl
 nothing_behind (e ∷ es) = ap (λ xs. e ∷ xs) (nothing_behind es)
 
-with_frames-entries : (log : ℕ) (frames : List LogFrame) (others : List Segment)
-    → logs_entries (with_frames log frames others) ≡ logs_entries others ++ memtable (new_segment log_format log frames)
-with_frames-entries log [] others = nothing_behind (logs_entries others)
-with_frames-entries log (f ∷ fs) others = refl
+with_frames-entries : (format log : ℕ) (frames : List LogFrame) (others : List Segment)
+    → logs_entries (with_frames log (Some format) frames others)
+    ≡ logs_entries others ++ memtable (new_segment format log frames)
+with_frames-entries format log [] others = nothing_behind (logs_entries others)
+with_frames-entries format log (f ∷ fs) others = refl
 
 -- such a log has no entries
 pub held-entries : (logs : List Segment) → logs_entries (filled (map log_as_held logs)) ≡ logs_entries logs
 held-entries [] = refl
 held-entries (s ∷ ss) =
-    with_frames-entries s.number s.frames (filled (map log_as_held ss)) ∙ ap (λ es. es ++ memtable s) (held-entries ss)
+    with_frames-entries s.format s.number s.frames (filled (map log_as_held ss)) ∙ ap (λ es. es ++ memtable s) (held-entries ss)
 
 -- so what logs show is shown by those of them that have frames
 pub held_show : (logs : List Segment) (h : History) (m : ℕ) → LogsShow logs h m → LogsShow (filled (map log_as_held logs)) h m
@@ -70,9 +71,11 @@ logs_entries-last (s ∷ ss) last = ap (λ es. es ++ memtable s) (logs_entries-l
 
 -- ---- a commit
 
-versions : (segment place number : ℕ) (writes : List (List ℕ × Change)) → AreUpTo number (committed_entries segment place number writes)
-versions segment place number [] = tt
-versions segment place number (w ∷ ws) = (omega arith, versions segment (place + record_length log_format w.0 w.1) number ws)
+versions : (format segment place number : ℕ) (writes : List (List ℕ × Change))
+    → AreUpTo number (committed_entries format segment place number writes)
+versions format segment place number [] = tt
+versions format segment place number (w ∷ ws) =
+    (omega arith, versions format segment (place + record_length format w.0 w.1) number ws)
 
 later_up_to : (m n : ℕ) (es : List Entry) → m ≤ n → AreUpTo m es → AreUpTo n es
 later_up_to m n [] le all = tt
@@ -94,20 +97,21 @@ pub shows_next : (logs : List Segment) (last : Segment) (h : History) (writes : 
     → LogsShow (logs ++ last ∷ []) h (last_number h)
     → LogsShow (logs ++ with_frame (next_frame h writes) last ∷ []) (with_commit h writes) (last_number h + 1)
 shows_next logs last h writes show =
+    let format = last.format in
     let segment = last.number in
-    let place = place_behind 16 last.frames + 17 in
-    let old = logged_entries log_format segment 16 last.frames in
+    let place = place_behind format 16 last.frames + 17 in
+    let old = logged_entries format segment 16 last.frames in
     let back = logs_entries logs in
     let n = last_number h + 1 in
-    let new = committed_entries segment place n (entries writes) in
+    let new = committed_entries format segment place n (entries writes) in
     let was : logs_entries (logs ++ last ∷ []) ≡ in_order old ++ back = logs_entries-last logs last in
     let now : logs_entries (logs ++ with_frame (next_frame h writes) last ∷ []) ≡ in_order (new ++ old) ++ back =
     logs_entries-last logs (with_frame (next_frame h writes) last)
-    ∙ ap (λ es. in_order es ++ back) (logged_entries-more segment 16 last.frames (next_frame h writes)) in
+    ∙ ap (λ es. in_order es ++ back) (logged_entries-more format segment 16 last.frames (next_frame h writes)) in
     let up : AreUpTo (last_number h) (in_order old ++ back) = subst (AreUpTo (last_number h)) was show.up_to in
     let both = all_parts (λ e. e.version ≤ last_number h) (in_order old) back up in
     let shown : Shows no_logs (new ++ (in_order old ++ back)) (with_commit h writes) (λ _. last_number h) n =
-    shows_committed no_logs (in_order old ++ back) h (λ _. last_number h) writes segment place up (λ key. omega arith)
+    shows_committed no_logs (in_order old ++ back) h (λ _. last_number h) writes format segment place up (λ key. omega arith)
     (subst (λ es. Shows no_logs es h (λ _. last_number h) (last_number h)) was show.shows) in
     let taken : Shows no_logs (in_order (new ++ old) ++ back) (with_commit h writes) (λ _. last_number h) n =
     shows_taken_in no_logs new old back (with_commit h writes) (λ _. last_number h) n
@@ -116,6 +120,6 @@ shows_next logs last h writes show =
       shows = subst (λ es. Shows no_logs es (with_commit h writes) (λ _. n) n) (sym now)
           (from_later (in_order (new ++ old) ++ back) (with_commit h writes) (last_number h) n n (omega arith) taken);
       up_to = subst (AreUpTo n) (sym now) (all_both (λ e. e.version ≤ n) (in_order (new ++ old)) back
-          (all-taken_in (λ e. e.version ≤ n) new old (all_both (λ e. e.version ≤ n) new (in_order old) (versions segment place n (entries writes)) (later_up_to (last_number h) n (in_order old) (omega arith) both.0)))
+          (all-taken_in (λ e. e.version ≤ n) new old (all_both (λ e. e.version ≤ n) new (in_order old) (versions format segment place n (entries writes)) (later_up_to (last_number h) n (in_order old) (omega arith) both.0)))
           (later_up_to (last_number h) n back (omega arith) both.1));
     }

@@ -129,7 +129,7 @@ log_after r s name writes list staged log rep listed is number_is length_is =
     let number : r.log.number ≡ s.log.number = ap (λ (l : ActiveLog). l.number) rep.log in
     let place : r.log.length ≡ s.log.length = ap (λ (l : ActiveLog). l.length) rep.log in
     let frame_is : length staged.frame.items ≡ bytes_in_log writes =
-    ap length is.frame ∙ length-item_frame r.log.number r.log.length (staged_frame r list) ∙ ap (frame_length log_format) (same_frame r s writes list rep listed)
+    ap length is.frame ∙ length-item_frame log_format r.log.number r.log.length (staged_frame r list) ∙ ap (frame_length log_format) (same_frame r s writes list rep listed)
     ∙ commit-length (last_number s.history + 1) writes in
     same_log log s.log (s.log.length + bytes_in_log writes) (number_is ∙ number) (omega (arith, longer_is r.log.length (length staged.frame.items) log.length length_is is.fits, place, frame_is))
 

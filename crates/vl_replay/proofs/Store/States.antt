@@ -285,7 +285,7 @@ newest-later (e ∷ entries) key m n all le =
     ap (λ rest. cond (eq_by_cmp key_cmp key e.key && nat_le e.version n) (Some e.change) rest) (newest-later entries key m n all.1 le)
     ∙ ap (λ b. cond (eq_by_cmp key_cmp key e.key && b) (Some e.change) (newest entries key m)) (le-leb e.version n (omega (arith, all.0)) ∙ sym (le-leb e.version m all.0))
 
-value_left-newer : (old : Option (List ℕ)) (first later : Option Change) → value_left old (newer first later) ≡ value_left (value_left old first) later
+value_left-newer : (old : Option Stored) (first later : Option Change) → value_left old (newer first later) ≡ value_left (value_left old first) later
 value_left-newer old first None = refl
 value_left-newer old first (Some (Put value)) = refl
 value_left-newer old first (Some Delete) = refl
