@@ -255,14 +255,16 @@ module _ (now : DiskState) (small : IsSmall now) (manifest : IsFirstManifest now
       by (nowhere none) = absurd (some_none bytes (sym is ∙ left_nowhere now image (Manifest 1) none left.left))
       by (in_making file part stands) = ⊎_elim
           (λ (not : IsReadable 1 bytes → ⊥). absurd (not readable))
-          (λ (said : SaysAsRead 1 bytes fresh_state). subst (SaysState 1 bytes) (fresh_as_read said.format) said.says.says)
+          (λ (said : SaysAsRead 1 bytes fresh_state).
+          subst (SaysState 1 bytes) (fresh_as_read said.format) said.says.says)
           (torn_manifest 1 fresh_state (omega arith) fresh_range refl file part bytes
           (subst (λ (x : Option (List ℕ)). IsLeftOne (Manifest 1) (Some file) (get now.removed (Manifest 1)) x) is
           (subst (λ (x : Option File). IsLeftOne (Manifest 1) x (get now.removed (Manifest 1)) (get image (Manifest 1))) stands
           (left_one now image left (Manifest 1)))).no_chance)
       by (is_made stands) =
           let same : piece ≡ bytes = some_same piece bytes (sym (left_settled now image (Manifest 1) piece stands left.left) ∙ is) in
-          subst (λ (b : List ℕ). SaysState 1 b fresh_state) same (bare_manifest fresh_state refl 1 fresh_range (omega arith)).says
+          subst (λ (b : List ℕ). SaysState 1 b fresh_state) same
+          (bare_manifest fresh_state refl 1 fresh_range (omega arith)).says
 
   -- so each opening of it begins with the fresh state
   opens_fresh : (o : Opening) → Opens image (Ok o) → fresh_state ≡ o.state
@@ -281,7 +283,8 @@ module _ (now : DiskState) (small : IsSmall now) (manifest : IsFirstManifest now
           let readable : IsReadable 1 bytes = subst (λ (k : ℕ). IsReadable k bytes) (sym one) headed.here.readable in
           let says_o : SaysWithoutTables 1 bytes (Ok o.state) = subst (SaysWithoutTables 1 bytes) (said_so n said is)
           (subst (λ (k : ℕ). SaysWithoutTables k bytes said) (sym one) says) in
-          ok_same {E = ℕ} fresh_state o.state (one_saying 1 bytes (Ok fresh_state) (Ok o.state) (manifest_says bytes here readable)
+          ok_same {E = ℕ} fresh_state o.state
+          (one_saying 1 bytes (Ok fresh_state) (Ok o.state) (manifest_says bytes here readable)
           (told_bare 1 bytes o.state says_o).says)
       by Headless headed says = absurd (ok_err o.state _ says)
       by (Newest format) headed says = absurd (ok_err o.state _ says)

@@ -65,11 +65,13 @@ module _ (format number : ℕ) (is_read : IsLogFormat format) (frames : List Log
       sym (take-take (length some) k whole within) ∙ ap (take (length some)) parts ∙ take_at some rest (length some) refl in
       let same : g ≡ f = one_front (frames_grammar format) number (frames_end format frames) f g has
       (record { lawful = stands.lawful; short = stands.short }) front in
-      let all : length some ≡ length whole = ap (λ (x : LogFrame). length (item_frame (frames_grammar format) number (frames_end format frames) x)) same in
+      let all : length some ≡ length whole =
+      ap (λ (x : LogFrame). length (item_frame (frames_grammar format) number (frames_end format frames) x)) same in
       omega (arith, less, within, all)
 
   -- so the log says the frames before it
-  part_says : k < length whole → AllByRecursion (HasFrame (frames_grammar format)) frames → SaysFrames format number (log_bytes format number frames ++ take k whole) frames
+  part_says : k < length whole → AllByRecursion (HasFrame (frames_grammar format)) frames
+      → SaysFrames format number (log_bytes format number frames ++ take k whole) frames
   part_says less have = (_, reads_with_tail format number is_read frames have (take k whole) (part_says_none less))
 
 -- the logs with frames are the same where the last one has the same, in the same format
@@ -94,7 +96,8 @@ module _ (state : ManifestState) (before : List Segment) (last : Segment) (f : L
   abbrev log : List ℕ
   log = log_bytes last.format last.number last.frames
 
-  torn_there : (taken : ℕ) → get (torn taken).standing (Log last.number) ≡ Some (torn_log last.format last.number last.frames f taken)
+  torn_there : (taken : ℕ) → get (torn taken).standing (Log last.number)
+      ≡ Some (torn_log last.format last.number last.frames f taken)
   torn_there taken = changed_there (Log last.number) disk (lengthened frame taken)
       ∙ ap (option_map (lengthened frame taken)) (last_held state.head before last disk holds.logs_are).stands
 
@@ -107,7 +110,8 @@ module _ (state : ManifestState) (before : List Segment) (last : Segment) (f : L
       let held = manifest_kept last.number state disk (torn taken) elsewhere holds.manifest in
       let is_last = last_held state.head before last disk holds.logs_are in
       let says = part_says last.format last.number is_last.is_read last.frames f has k less is_last.have in
-      let found = standing_log last.number (log ++ take k frame) (record { header = Some last.format; frames = last.frames; whole = says.0 }) in
+      let found = standing_log last.number (log ++ take k frame)
+      (record { header = Some last.format; frames = last.frames; whole = says.0 }) in
       let logs = map log_as_held before ++ found ∷ [] in
       let standing : StandingLogs image state.head logs =
       standing_with last disk (torn taken) image elsewhere may (log ++ take k frame) found.reading is says.1 state.head before holds.logs_are in
