@@ -1,10 +1,10 @@
 -- What a stop leaves inside the first opening of an empty disk: the image of its crash opens without commits.
 use Rattle.std.proofs.Common.{◌≡◌, ⊎_elim, ℕ, ◌≤◌, List, [], ◌∷◌, length, take, drop, Option, Some, None, Ok, Err, refl, sym, ◌∙◌, ap, subst, arith}
-use Rattle.std.specs.Prelude.{◌≢◌, Result}
+use Rattle.std.specs.Prelude.{◌≢◌, Bool, true, false, nat_le, if◌then◌else◌, Result}
 use Rattle.std.specs.FinMap.{empty, get, get-empty, insert}
 use Rattle.std.proofs.lemmas.Bool.{true≢false}
 use Rattle.std.proofs.lemmas.List.{take_at}
-use Rattle.vl_model.specs.Formats.{log_format}
+use Rattle.vl_model.specs.Formats.{log_format, manifest_format}
 use Rattle.vl_disk.specs.Changes.{SameElsewhere}
 use Rattle.vl_disk.specs.Crash.{Image, MayLeaveOne}
 use Rattle.vl_disk.specs.DiskState.{DiskState, File, IsLawful, created, empty_disk, new_file, settled}
@@ -18,11 +18,15 @@ use Rattle.vl_disk.specs.declared.name.Name.{Name}
 use Rattle.vl_disk.specs.declared.name.Name.TheVariants.{Log, Manifest, Table}
 use Rattle.vl_frame.specs.laws.RunLaws.{frame_is_some}
 use Rattle.vl_frame.specs.Runs.{item_frame}
+use Rattle.vl_manifest.specs.Formats.{gone_format}
 use Rattle.vl_manifest.specs.Grammar.{edits_grammar}
-use Rattle.vl_manifest.specs.Manifest.{IsReadable, ManifestSays, SaysState, manifest_bytes}
-use Rattle.vl_manifest.specs.laws.ManifestLaws.{one_saying, whole_manifest}
+use Rattle.vl_manifest.specs.Manifest.{IsReadable, SaysState, manifest_bytes}
+use Rattle.vl_manifest.specs.Tables.{SaysWithoutTables}
+use Rattle.vl_manifest.specs.laws.MadeLaws.{SaysAsRead, bare_manifest}
+use Rattle.vl_manifest.specs.laws.ManifestLaws.{one_saying}
 use Rattle.vl_manifest.specs.laws.StateLaws.{IsInRange}
-use Rattle.vl_manifest.specs.States.{fresh_state, whole_edits}
+use Rattle.vl_manifest.specs.laws.TableLaws.{told_bare}
+use Rattle.vl_manifest.specs.States.{as_read, fresh_state, whole_edits}
 use Rattle.vl_manifest.specs.declared.state.ManifestState.{ManifestState}
 use Rattle.vl_mem.specs.laws.CrashChance.{IsTornByPieces, IsTornInOnePiece, SpellsWhatStands, crash_without_chance, lengthened_torn, untorn_file}
 use Rattle.vl_mem.specs.CrashImage.{crash_image}
@@ -60,22 +64,22 @@ spells_what_stands = record { stands = stands; some = some }
   where
     stands : (name : Name) (bytes : List ℕ) (place : ℕ) (frame : List ℕ) → Spells name bytes place frame
         → take (length frame) (drop place bytes) ≡ frame
-    stands (Log number) bytes place frame (item, rest, at, is) =
-        let here = item_frame (frames_grammar log_format) number place item in
+    stands (Log number) bytes place frame (format, is_read, header, (item, rest, at, is)) =
+        let here = item_frame (frames_grammar format) number place item in
         subst (λ (f : List ℕ). take (length f) (drop place bytes) ≡ f) (sym is)
         (ap (take (length here)) at.spelled ∙ take_at here rest (length here) refl)
     stands (Table number) bytes place frame spelled = absurd spelled
     stands (Manifest number) bytes place frame (item, rest, at, is) =
-        let here = item_frame edits_grammar number place item in
+        let here = item_frame (edits_grammar manifest_format) number place item in
         subst (λ (f : List ℕ). take (length f) (drop place bytes) ≡ f) (sym is)
         (ap (take (length here)) at.spelled ∙ take_at here rest (length here) refl)
 
     some : (name : Name) (bytes : List ℕ) (place : ℕ) (frame : List ℕ) → Spells name bytes place frame → 1 ≤ length frame
-    some (Log number) bytes place frame (item, rest, at, is) =
-        subst (λ (f : List ℕ). 1 ≤ length f) (sym is) (frame_is_some (frames_grammar log_format) number place item)
+    some (Log number) bytes place frame (format, is_read, header, (item, rest, at, is)) =
+        subst (λ (f : List ℕ). 1 ≤ length f) (sym is) (frame_is_some (frames_grammar format) number place item)
     some (Table number) bytes place frame spelled = absurd spelled
     some (Manifest number) bytes place frame (item, rest, at, is) =
-        subst (λ (f : List ℕ). 1 ≤ length f) (sym is) (frame_is_some edits_grammar number place item)
+        subst (λ (f : List ℕ). 1 ≤ length f) (sym is) (frame_is_some (edits_grammar manifest_format) number place item)
 
 -- ---- the plan of an opening of an empty disk
 
@@ -191,7 +195,7 @@ data IsFirstManifest (now : DiskState) : Type 0 where
 
 fresh_range : IsInRange fresh_state
 fresh_range = record {
-  levels = refl;
+  tables = record { seven = refl; once = tt; numbers = tt };
   head_first = omega arith;
   head_last = omega arith;
   covered = omega arith;
@@ -199,7 +203,19 @@ fresh_range = record {
   log_last = omega arith;
   table_first = omega arith;
   table_last = omega arith;
+  keep_first = omega arith;
+  keep_last = omega arith;
+  since = omega arith;
+  gone = omega arith;
 }
+
+-- it says the same in each format, since its tables cover nothing
+fresh_as_read : (format : ℕ) → as_read format fresh_state ≡ fresh_state
+fresh_as_read format = by (nat_le gone_format format)
+  where
+    by : (b : Bool) → (if b then fresh_state else record fresh_state { gone = fresh_state.covered }) ≡ fresh_state
+    by true = refl
+    by false = refl
 
 -- ---- the image
 
@@ -239,14 +255,16 @@ module _ (now : DiskState) (small : IsSmall now) (manifest : IsFirstManifest now
       by (nowhere none) = absurd (some_none bytes (sym is ∙ left_nowhere now image (Manifest 1) none left.left))
       by (in_making file part stands) = ⊎_elim
           (λ (not : IsReadable 1 bytes → ⊥). absurd (not readable))
-          (λ (says : SaysState 1 bytes fresh_state). says)
-          (torn_manifest 1 fresh_state (omega arith) fresh_range file part bytes
+          (λ (said : SaysAsRead 1 bytes fresh_state).
+          subst (SaysState 1 bytes) (fresh_as_read said.format) said.says.says)
+          (torn_manifest 1 fresh_state (omega arith) fresh_range refl file part bytes
           (subst (λ (x : Option (List ℕ)). IsLeftOne (Manifest 1) (Some file) (get now.removed (Manifest 1)) x) is
           (subst (λ (x : Option File). IsLeftOne (Manifest 1) x (get now.removed (Manifest 1)) (get image (Manifest 1))) stands
           (left_one now image left (Manifest 1)))).no_chance)
       by (is_made stands) =
           let same : piece ≡ bytes = some_same piece bytes (sym (left_settled now image (Manifest 1) piece stands left.left) ∙ is) in
-          subst (λ (b : List ℕ). SaysState 1 b fresh_state) same (whole_manifest 1 fresh_state (omega arith) fresh_range)
+          subst (λ (b : List ℕ). SaysState 1 b fresh_state) same
+          (bare_manifest fresh_state refl 1 fresh_range (omega arith)).says
 
   -- so each opening of it begins with the fresh state
   opens_fresh : (o : Opening) → Opens image (Ok o) → fresh_state ≡ o.state
@@ -263,9 +281,11 @@ module _ (now : DiskState) (small : IsSmall now) (manifest : IsFirstManifest now
           let one : 1 ≡ n = manifest_one n bytes headed.here.stands in
           let here : get image (Manifest 1) ≡ Some bytes = subst (λ (k : ℕ). get image (Manifest k) ≡ Some bytes) (sym one) headed.here.stands in
           let readable : IsReadable 1 bytes = subst (λ (k : ℕ). IsReadable k bytes) (sym one) headed.here.readable in
-          let says_o : ManifestSays 1 bytes (Ok o.state) = subst (ManifestSays 1 bytes) (said_so n said is)
-          (subst (λ (k : ℕ). ManifestSays k bytes said) (sym one) says) in
-          ok_same {E = ℕ} fresh_state o.state (one_saying 1 bytes (Ok fresh_state) (Ok o.state) (manifest_says bytes here readable) says_o)
+          let says_o : SaysWithoutTables 1 bytes (Ok o.state) = subst (SaysWithoutTables 1 bytes) (said_so n said is)
+          (subst (λ (k : ℕ). SaysWithoutTables k bytes said) (sym one) says) in
+          ok_same {E = ℕ} fresh_state o.state
+          (one_saying 1 bytes (Ok fresh_state) (Ok o.state) (manifest_says bytes here readable)
+          (told_bare 1 bytes o.state says_o).says)
       by Headless headed says = absurd (ok_err o.state _ says)
       by (Newest format) headed says = absurd (ok_err o.state _ says)
 

@@ -38,6 +38,7 @@ use Rattle.vl_recover.specs.laws.repairing.StageLaws.{ok_same}
 use Rattle.vl_recover.specs.laws.crash.TornFrames.{frame_behind, torn_log}
 use Rattle.vl_recover.specs.opening.Walk.{StandingLog, filled, walked, with_frames}
 use Rattle.vl_seglog.specs.Frames.{frame_at, frames_end, frames_grammar, log_bytes}
+use Rattle.vl_seglog.specs.LogReading.{IsLogFormat}
 use Rattle.vl_seglog.specs.laws.LogReadingLaws.{SaysFrames, reads_with_tail}
 use Rattle.vl_replay.specs.Reopens.{NamesUpTo, Reopens, commits_of, state_left}
 use Rattle.vl_replay.specs.Sequential.{State}
@@ -49,48 +50,54 @@ use Rattle.vl_replay.proofs.Openings.NumbersLeft.{names_left, numbered_changed, 
 
 -- ---- a log that ends with a part of a frame
 
-module _ (number : ℕ) (frames : List LogFrame) (f : LogFrame) (has : HasFrame (frames_grammar log_format) f) (k : ℕ) where
+module _ (format number : ℕ) (is_read : IsLogFormat format) (frames : List LogFrame) (f : LogFrame)
+    (has : HasFrame (frames_grammar format) f) (k : ℕ) where
   abbrev whole : List ℕ
-  whole = frame_behind number frames f
+  whole = frame_behind format number frames f
 
   -- no frame is spelled in a part of one,
-  part_says_none : k < length whole → StandsNone (frames_grammar log_format) number (frames_end log_format frames) (take k whole)
+  part_says_none : k < length whole → StandsNone (frames_grammar format) number (frames_end format frames) (take k whole)
   part_says_none less g rest stands =
-      let some = item_frame (frames_grammar log_format) number (frames_end log_format frames) g in
+      let some = item_frame (frames_grammar format) number (frames_end format frames) g in
       let parts : take k whole ≡ some ++ rest = stands.spelled in
       let within : length some ≤ k = omega (arith, ap length parts, length-append some rest, length-take k whole) in
       let front : take (length some) whole ≡ some =
       sym (take-take (length some) k whole within) ∙ ap (take (length some)) parts ∙ take_at some rest (length some) refl in
-      let same : g ≡ f = one_front (frames_grammar log_format) number (frames_end log_format frames) f g has
+      let same : g ≡ f = one_front (frames_grammar format) number (frames_end format frames) f g has
       (record { lawful = stands.lawful; short = stands.short }) front in
-      let all : length some ≡ length whole = ap (λ (x : LogFrame). length (item_frame (frames_grammar log_format) number (frames_end log_format frames) x)) same in
+      let all : length some ≡ length whole =
+      ap (λ (x : LogFrame). length (item_frame (frames_grammar format) number (frames_end format frames) x)) same in
       omega (arith, less, within, all)
 
   -- so the log says the frames before it
-  part_says : k < length whole → AllByRecursion (HasFrame (frames_grammar log_format)) frames → SaysFrames number (log_bytes log_format number frames ++ take k whole) frames
-  part_says less have = (_, reads_with_tail number frames have (take k whole) (part_says_none less))
+  part_says : k < length whole → AllByRecursion (HasFrame (frames_grammar format)) frames
+      → SaysFrames format number (log_bytes format number frames ++ take k whole) frames
+  part_says less have = (_, reads_with_tail format number is_read frames have (take k whole) (part_says_none less))
 
--- the logs with frames are the same where the last one has the same
-filled_with : (a b : StandingLog) → a.number ≡ b.number → a.reading.frames ≡ b.reading.frames → (logs : List StandingLog)
+-- the logs with frames are the same where the last one has the same, in the same format
+filled_with : (a b : StandingLog) → a.number ≡ b.number → a.reading.header ≡ b.reading.header
+    → a.reading.frames ≡ b.reading.frames → (logs : List StandingLog)
     → filled (logs ++ a ∷ []) ≡ filled (logs ++ b ∷ [])
-filled_with a b number frames [] = λ i. with_frames (number i) (frames i) []
-filled_with a b number frames (q ∷ logs) = ap (with_frames q.number q.reading.frames) (filled_with a b number frames logs)
+filled_with a b number header frames [] = λ i. with_frames (number i) (header i) (frames i) []
+filled_with a b number header frames (q ∷ logs) =
+    ap (with_frames q.number q.reading.header q.reading.frames) (filled_with a b number header frames logs)
 
 -- ---- images of a disk whose log took a part of a frame
 
 -- of a disk that holds a store, and a frame for its last log
 module _ (state : ManifestState) (before : List Segment) (last : Segment) (f : LogFrame) (disk : DiskState)
-    (holds : HoldsStore state (before ++ last ∷ []) disk) (has : HasFrame (frames_grammar log_format) f) where
+    (holds : HoldsStore state (before ++ last ∷ []) disk) (has : HasFrame (frames_grammar last.format) f) where
   abbrev frame : List ℕ
-  frame = frame_behind last.number last.frames f
+  frame = frame_behind last.format last.number last.frames f
 
   abbrev torn : ℕ → DiskState
   torn taken = appended (Log last.number) frame taken disk
 
   abbrev log : List ℕ
-  log = log_bytes log_format last.number last.frames
+  log = log_bytes last.format last.number last.frames
 
-  torn_there : (taken : ℕ) → get (torn taken).standing (Log last.number) ≡ Some (torn_log last.number last.frames f taken)
+  torn_there : (taken : ℕ) → get (torn taken).standing (Log last.number)
+      ≡ Some (torn_log last.format last.number last.frames f taken)
   torn_there taken = changed_there (Log last.number) disk (lengthened frame taken)
       ∙ ap (option_map (lengthened frame taken)) (last_held state.head before last disk holds.logs_are).stands
 
@@ -101,9 +108,10 @@ module _ (state : ManifestState) (before : List Segment) (last : Segment) (f : L
   part_opens number goes taken image may k less is =
       let elsewhere = changed_elsewhere (Log last.number) disk (lengthened frame taken) in
       let held = manifest_kept last.number state disk (torn taken) elsewhere holds.manifest in
-      let have = (last_held state.head before last disk holds.logs_are).have in
-      let says = part_says last.number last.frames f has k less have in
-      let found = standing_log last.number (log ++ take k frame) (record { header = true; frames = last.frames; whole = says.0 }) in
+      let is_last = last_held state.head before last disk holds.logs_are in
+      let says = part_says last.format last.number is_last.is_read last.frames f has k less is_last.have in
+      let found = standing_log last.number (log ++ take k frame)
+      (record { header = Some last.format; frames = last.frames; whole = says.0 }) in
       let logs = map log_as_held before ++ found ∷ [] in
       let standing : StandingLogs image state.head logs =
       standing_with last disk (torn taken) image elsewhere may (log ++ take k frame) found.reading is says.1 state.head before holds.logs_are in
@@ -112,7 +120,7 @@ module _ (state : ManifestState) (before : List Segment) (last : Segment) (f : L
       walked_with (log_as_held last) found number number (λ m e. e) state.covered (map log_as_held before)
       (subst (λ (l : List StandingLog). walked state.covered l ≡ Ok number) split goes) in
       let filled_same : filled logs ≡ filled (map log_as_held (before ++ last ∷ [])) =
-      filled_with found (log_as_held last) refl refl (map log_as_held before) ∙ ap filled (sym split) in
+      filled_with found (log_as_held last) refl refl refl (map log_as_held before) ∙ ap filled (sym split) in
       subst (λ (l : List Segment). Opens image (Ok (record { state = state; logs = l; number = number }))) filled_same
       (opens_by image (Led held.number held.bytes) state logs number (record {
         headed = held_current state (torn taken) held image may;
@@ -131,7 +139,7 @@ module _ (state : ManifestState) (before : List Segment) (last : Segment) (f : L
       ∙ ap (λ (o : Option File). left_of outcome o (get (torn 0).removed (Log last.number))) (torn_there 0) ∙ of outcome
     where
       file : File
-      file = torn_log last.number last.frames f 0
+      file = torn_log last.format last.number last.frames f 0
 
       removed : Option File
       removed = get (torn 0).removed (Log last.number)
@@ -162,7 +170,7 @@ module _ (state : ManifestState) (before : List Segment) (last : Segment) (f : L
       ∙ ap Some (part_of (length frame) half ∙ ap (λ (b : List ℕ). log ++ take half b) (take_all (length frame) frame (omega arith)))
 
   frame_some : 1 ≤ length frame
-  frame_some = frame_is_some (frames_grammar log_format) last.number (frames_end log_format last.frames) f
+  frame_some = frame_is_some (frames_grammar last.format) last.number (frames_end last.format last.frames) f
 
   half_less : half < length frame
   half_less =
@@ -234,7 +242,7 @@ module _ (before after : State) (commits : Commits IsStored before after) where
   abbrev number : ℕ
   number = before.log.number
 
-  same_frame : frame_behind number stored.frames commits.item ≡ commits.frame
+  same_frame : frame_behind log_format number stored.frames commits.item ≡ commits.frame
   same_frame = ap (λ (place : ℕ). frame_at log_format number place commits.item) (sym stored.length_is) ∙ sym commits.frame_is
 
   -- Where its append failed, the image opens as the store before,
