@@ -13,7 +13,7 @@ use Rattle.vl_manifest.specs.declared.state.ManifestState.{ManifestState}
 use Rattle.vl_model.specs.History.{last_number}
 use Rattle.vl_model.specs.declared.entry.Entry.{Entry}
 use Rattle.vl_model.specs.declared.log_frame.LogFrame.{LogFrame}
-use Rattle.vl_recover.specs.opening.Answers.{Finds, HeldLog, IsNotOpened, Opened, and_made, as_segment, held_log, logs_then, opened_from}
+use Rattle.vl_recover.specs.opening.Answers.{Finds, HeldLog, IsNotOpened, Opened, and_made, as_segments, held_log, last_format, logs_then, opened_from}
 use Rattle.vl_recover.specs.crash.Held.{HoldsStore}
 use Rattle.vl_recover.specs.crash.Held.{GoOn}
 use Rattle.vl_recover.specs.crash.Meanwhile.{IsRepaired}
@@ -23,7 +23,7 @@ use Rattle.vl_recover.specs.opening.Opening.{Opening}
 use Rattle.vl_recover.specs.opening.Plans.{Greatest, active_log, active_of, last_number as last_log, log_behind, log_made, new_state}
 use Rattle.vl_recover.specs.laws.repairing.RecoveredLaws.{found_goes_on, found_shows}
 use Rattle.vl_recover.specs.opening.Results.{frozen_log, opened_of}
-use Rattle.vl_recover.specs.opening.Walk.{StandingLog}
+use Rattle.vl_recover.specs.opening.Walk.{StandingLog, format_of}
 use Rattle.vl_recover.specs.declared.parts.FrozenLog.{FrozenLog}
 use Rattle.vl_recover.specs.declared.parts.Parts.{Parts}
 use Rattle.vl_replay.specs.Opened.{IsOpenedStore, entries_in}
@@ -106,27 +106,33 @@ module _ {D : Type 0} (g : Ghosts D) (disk : D) (s : State) (starts : StartsIn g
 
   -- the log that takes commits is the last one, and has no frames
   ends : (state : ManifestState) (none : ℕ) (logs : List StandingLog) → log_made state logs ≡ None
-      → (before : List Segment) × (map as_segment logs ≡ before ++ new_segment log_format (last_log none logs) [] ∷ [])
+      → (before : List Segment) × (as_segments logs ≡ before ++ new_segment log_format (last_log none logs) [] ∷ [])
   ends state none [] is = absurd cc
-  ends state none (q ∷ []) is = ([], ap (λ (fs : List LogFrame). new_segment log_format q.number fs ∷ []) (by q.reading.frames is))
+  ends state none (q ∷ []) is = (
+    [],
+    ap (λ (fs : List LogFrame). new_segment (last_format q.reading.header fs) q.number fs ∷ [])
+        (by q.reading.frames is),
+  )
     where
       by : (frames : List LogFrame) → log_behind state frames ≡ None → frames ≡ []
       by [] e = refl
       by (f ∷ fs) e = absurd cc
   ends state none (q ∷ p ∷ ps) is =
       let (before, rest) = ends state q.number (p ∷ ps) is in
-      (as_segment q ∷ before, ap (λ (ss : List Segment). as_segment q ∷ ss) rest)
+      let first : Segment = new_segment (format_of q.reading.header) q.number q.reading.frames in
+      (first ∷ before, ap (λ (ss : List Segment). first ∷ ss) rest)
 
   stands_last : (made : Option ℕ) → log_made (new_state found.greatest found.opening.state) found.logs ≡ made
-      → (frozen : List Segment) × (map as_segment found.logs ++ and_made made ≡ frozen ++ new_segment log_format (active_of made found.logs) [] ∷ [])
+      → (frozen : List Segment)
+      × (as_segments found.logs ++ and_made made ≡ frozen ++ new_segment log_format (active_of made found.logs) [] ∷ [])
   stands_last None none =
       let (before, rest) = ends (new_state found.greatest found.opening.state) 0 found.logs none in
-      (before, nothing_behind (map as_segment found.logs) ∙ rest)
+      (before, nothing_behind (as_segments found.logs) ∙ rest)
     where
       nothing_behind : (ss : List Segment) → ss ++ [] ≡ ss
       nothing_behind [] = refl
       nothing_behind (s ∷ ss) = ap (λ rest. s ∷ rest) (nothing_behind ss)
-  stands_last (Some k) made = (map as_segment found.logs, refl)
+  stands_last (Some k) made = (as_segments found.logs, refl)
 
   pub last_stands : (frozen : List Segment) × (logs_then found ≡ logs_of s frozen [])
   last_stands =
