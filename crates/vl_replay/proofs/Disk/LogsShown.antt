@@ -2,7 +2,6 @@
 use Rattle.std.specs.Prelude.{◌≡◌, ℕ, ◌+◌, ◌≤◌, List, [], ◌∷◌, ◌++◌, map, refl, Some}
 use Rattle.std.proofs.Common.{sym, ap, subst, ◌∙◌, append_assoc, arith}
 use Rattle.std.specs.FinMap.{entries}
-use Rattle.vl_model.specs.Formats.{log_format}
 use Rattle.vl_layout.specs.laws.CommitShows.{committed_entries, shows_committed}
 use Rattle.vl_layout.specs.laws.LayoutShows.{logged_entries-more, place_behind}
 use Rattle.vl_layout.specs.Logs.{logged_entries, memtable, new_segment}

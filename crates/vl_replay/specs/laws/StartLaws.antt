@@ -15,7 +15,6 @@ use Rattle.vl_layout.specs.declared.segment.Segment.{Segment}
 use Rattle.vl_manifest.specs.States.{fresh_state}
 use Rattle.vl_model.specs.History.{History, contents_at, last_number, no_history, standing_at, value_at}
 use Rattle.vl_model.specs.laws.HistoryLaws.{get-contents_at, value_at-first, past_value-empty, past_value-standing_at}
-use Rattle.vl_model.specs.Keys.{key_cmp}
 use Rattle.vl_recover.specs.crash.Alike.{OpensLike}
 use Rattle.vl_recover.specs.laws.crash.AlikeLaws.{like_same, shows_same}
 use Rattle.vl_recover.specs.opening.Answers.{AreStrayNames, Finds, calls_to_open, used_up}
