@@ -1,20 +1,19 @@
 -- In a level of tables that are apart one table at most has a key.
-use Rattle.std.specs.Prelude.{◌≡◌, ℕ, suc, ◌+◌, ◌<◌, ◌≤◌, Bool, true, false, ◌&&◌, not, List, [], ◌∷◌, ◌++◌, length, get_or, Option}
+use Rattle.std.specs.Prelude.{◌≡◌, ℕ, suc, ◌+◌, ◌<◌, ◌≤◌, Bool, true, false, List, [], ◌∷◌, ◌++◌, length, get_or, Option}
 use Rattle.std.specs.List.{AllByRecursion, prefix_len}
 use Rattle.std.specs.Cmp.Lexicographic.{nat_list_cmp_total}
-use Rattle.std.specs.Ordering.{eq_by_cmp, is_gt, is_lt}
+use Rattle.std.specs.Ordering.{eq_by_cmp, is_gt}
 use Rattle.std.specs.declared.cmp.Ordering.{Ordering}
 use Rattle.std.specs.declared.cmp.Ordering.TheVariants.{Less, Equal, Greater}
 use Rattle.std.proofs.Common.{refl, ap, sym, subst, ◌∙◌, append_assoc, arith, cond}
 use Rattle.vl_model.specs.Keys.{key_cmp}
 use Rattle.vl_model.specs.declared.entry.Entry.{Entry}
-use Rattle.vl_block.specs.Cutting.{first_key, last_key, joined}
-use Rattle.vl_run.specs.laws.OrderLaws.{IsRising, all-append, rising}
+use Rattle.vl_block.specs.Cutting.{joined}
+use Rattle.vl_run.specs.laws.OrderLaws.{all-append}
 use Rattle.vl_run.specs.Lookups.{IsParted}
-use Rattle.vl_block.specs.Footer.{Foot}
 use Rattle.vl_table.specs.Opened.{IsOf}
 use Rattle.vl_table.specs.declared.table.Table.{Table}
-use Rattle.vl_table.specs.laws.KeyRanges.{HasNone, above_turned, all_above, all_below, all_map, below_turned, none_above, none_below, of_last, up_to_below}
+use Rattle.vl_table.specs.laws.KeyRanges.{HasNone, above_turned, all_above, all_map, below_turned, none_above, of_last, up_to_below}
 use Rattle.vl_table.specs.laws.RangeLaws.{first_is, in_order, last_is, none_behind}
 use Rattle.vl_levels.specs.LevelTables.{AreApart, AreOf, ends_before}
 

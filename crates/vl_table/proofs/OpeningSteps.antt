@@ -1,13 +1,12 @@
 -- The stages of an opening, one behind the other.
-use Rattle.std.specs.Prelude.{◌≡◌, ℕ, List, Option, Result, Ok, Err}
-use Rattle.std.proofs.Common.{sym, subst, ◌∙◌}
+use Rattle.std.specs.Prelude.{ℕ, List, Option, Result, Ok}
+use Rattle.std.proofs.Common.{subst, ◌∙◌}
 use Rattle.vl_block.specs.Footer.{Foot, foot_of}
 use Rattle.vl_table.specs.Answers.{Answers}
-use Rattle.vl_table.proofs.AnswerSteps.{and_then, fails}
-use Rattle.vl_table.specs.Begun.{IsBegun, IsInside, said_place}
+use Rattle.vl_table.specs.Begun.{IsBegun, IsInside}
 use Rattle.vl_table.proofs.Stages.{IsPlace, NoHeader, NoPlace, behind_place}
-use Rattle.vl_table.specs.Opening.{HasFooter, IsDamaged, IsRead, Said, StandsFooter, no_filter, no_footer, no_index}
-use Rattle.vl_table.specs.OpeningParts.{HasParts, NoFooter, NoParts, NotLedTo, with_footer, without_filter, without_footer, without_index}
+use Rattle.vl_table.specs.Opening.{HasFooter, IsDamaged, IsRead, StandsFooter, no_filter, no_footer, no_index}
+use Rattle.vl_table.specs.OpeningParts.{HasParts, NoParts, NotLedTo, with_footer, without_filter, without_footer, without_index}
 use Rattle.vl_table.specs.declared.fault.TableFault.{TableFault}
 use Rattle.vl_table.specs.declared.opening.Parts.{Parts}
 

@@ -15,7 +15,7 @@ use Rattle.vl_frame.specs.declared.kinds.FrameKind.TheVariants as kinds
 use Rattle.vl_model.specs.Formats.{table_format}
 use Rattle.vl_model.specs.declared.entry.Entry.{Entry}
 use Rattle.vl_block.specs.Cutting.{blocks, filter_frame_length, keys_of}
-use Rattle.vl_block.specs.Footer.{Foot, SpellsFooter, footer_body, foot_of}
+use Rattle.vl_block.specs.Footer.{Foot, SpellsFooter, footer_body}
 use Rattle.vl_block.specs.Formats.{has_filter}
 use Rattle.vl_block.specs.laws.FooterLaws.{one_footer}
 use Rattle.vl_block.specs.Index.{index_body, places}
@@ -23,9 +23,9 @@ use Rattle.vl_block.specs.laws.ListLaws.{one_list}
 use Rattle.vl_block.specs.declared.footer_head.FramePlace.{FramePlace}
 use Rattle.vl_block.specs.declared.index.BlockPlace.{BlockPlace}
 use Rattle.vl_table.specs.declared.table.Table.{Table}
-use Rattle.vl_block.specs.Bytes.{IsTable, block_places, blocks_bytes, filter_bits, filter_bytes, filter_place, filter_said, foot, footer_bytes, footer_place, index_bytes, index_place, table_bytes}
+use Rattle.vl_block.specs.Bytes.{IsTable, block_places, blocks_bytes, filter_bits, filter_place, filter_said, foot, footer_bytes, footer_place, index_bytes, index_place, table_bytes}
 use Rattle.vl_block.specs.laws.Lengths.{length-filter_frame, length-footer, length-index, length-table_bytes}
-use Rattle.vl_table.specs.Opening.{FilterAt, HasFooter, IsDamaged, IsRead, Said, StandsFilter, StandsFooter, StandsIndex, no_filter, no_footer, no_header, no_index, no_place}
+use Rattle.vl_table.specs.Opening.{HasFooter, IsDamaged, IsRead, Said, StandsFilter, StandsFooter, StandsIndex, no_filter, no_footer, no_header, no_index, no_place}
 use Rattle.vl_table.specs.Begun.{IsBegun, IsInside, said_place}
 use Rattle.vl_table.specs.TableSaid.{said_by}
 use Rattle.vl_table.specs.laws.TablePlaces.{behind_index, drop-end, drop-filter, drop-footer, drop-index}

@@ -1,4 +1,4 @@
-use Rattle.std.proofs.Common.{◌∙◌, ap, sym, ℕ, List}
+use Rattle.std.proofs.Common.{◌∙◌, ap, sym}
 use Rattle.std.specs.Prelude.{map, string_bytes}
 use Rattle.vl_cli.specs.Process.{folder_of}
 use Rattle.vl_cli.proofs.Serving.{over_same}

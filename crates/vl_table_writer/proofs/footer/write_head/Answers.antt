@@ -1,8 +1,6 @@
 use Rattle.std.proofs.Common.{◌++◌, ◌∙◌, ap, List, ℕ}
 use Rattle.std.proofs.lemmas.Result.{on_ok_weaker}
-use Rattle.byteorder.specs.Endian.{big_bytes}
-use Rattle.vl_block.specs.Entries.{key_bytes}
-use Rattle.vl_block.specs.Footer.{frame_place_bytes, head_of}
+use Rattle.vl_block.specs.Footer.{head_of}
 use Rattle.vl_table_writer.proofs.Bodies.{four_behind}
 use Rattle.vl_table_writer.proofs.footer.write_head.Goals as goal
 

@@ -1,4 +1,3 @@
-use Rattle.vl_model.specs.Formats.{table_format}
 use Rattle.byteorder.specs.Endian.{big_bytes}
 use Rattle.std.proofs.Common.{ℕ, List, ◌+◌, ◌++◌, take, drop, ◌∷◌, [], sym, ap, ◌∙◌, arith, length-append}
 use Rattle.std.proofs.lemmas.List.{with_items_is}
