@@ -1,2 +1,4 @@
 pub mod laws
 pub mod Passes
+pub mod Raised
+pub mod Script

@@ -3,8 +3,10 @@ pub mod Aside
 pub mod Beside
 pub mod CutAgain
 pub mod Drawn
+pub mod EachRuling
 pub mod Files
 pub mod Gathered
+pub mod Gone
 pub mod InstallTidy
 pub mod Installs
 pub mod JobTables

@@ -1,9 +1,11 @@
 //! What an engine keeps tidy, whatever its calls answer: laws of layouts.
 #![tactic(auto)]
 
+mod kept;
 mod laws;
 mod tidy;
 
+pub use kept::{a_dropped_deletion_is_told, an_install_tells_what_it_dropped};
 pub use laws::{
     a_moved_batch_wins_no_more, a_planned_job_is_open_well, a_sweep_removes_what_nothing_needs,
     an_install_shows_what_was_shown, an_open_job_stays_open_well, batches_are_all_found_records,
