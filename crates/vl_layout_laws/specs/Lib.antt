@@ -1,4 +1,4 @@
 pub mod laws
 pub mod Passes
-pub mod Raised
+pub mod Kept
 pub mod Script

@@ -5,6 +5,7 @@ pub mod CutAgain
 pub mod Drawn
 pub mod EachRuling
 pub mod Files
+pub mod Floors
 pub mod Gathered
 pub mod Gone
 pub mod InstallTidy

@@ -13,7 +13,7 @@ use Rattle.vl_layout.specs.Rulings.Install.{InstallAnswer, Installed, Exhausted,
 use Rattle.vl_layout.specs.declared.file_name.FileName.{FileName}
 use Rattle.vl_layout.specs.declared.job.Job.{Job}
 use Rattle.vl_layout.specs.declared.layout.Layout.{Layout}
-use Rattle.vl_layout_laws.specs.Raised.{IsRaisedBy}
+use Rattle.vl_layout_laws.specs.Kept.{IsRaisedBy}
 
 -- ---- the greatest version
 

@@ -1,8 +1,10 @@
--- What a number becomes that is raised to the greatest version of some entries, where that is greater.
+-- What calls leave of what an engine tells of versions that can still be read.
 use Rattle.std.specs.Prelude.{◌≡◌, ℕ, ◌≤◌, List}
 use Rattle.std.specs.List.{AllByRecursion}
+use Rattle.vl_model.specs.History.{History}
 use Rattle.vl_model.specs.declared.entry.Entry.{Entry}
 use Rattle.vl_layout.specs.Ruling.{Ruling}
+use Rattle.vl_layout.specs.Sources.{floor}
 use Rattle.vl_layout.specs.declared.layout.Layout.{Layout}
 
 -- the least number that is neither below the one nor below a version of these
@@ -14,3 +16,15 @@ pub record IsRaisedBy (es : List Entry) (before after : ℕ) : Type 0 where
 -- the ruling leaves the greatest version of a deletion that was dropped for good
 abbrev pub LeavesGone : {A : Type 0} → Layout → Ruling A → Type 0
 LeavesGone l r = r.layout.gone ≡ l.gone
+
+-- as many versions are kept, and the same number tells when that was raised last
+pub record IsKeptAs (l x : Layout) : Type 0 where
+  pub keep : x.keep ≡ l.keep
+  pub since : x.since ≡ l.since
+
+abbrev pub LeavesKept : {A : Type 0} → Layout → Ruling A → Type 0
+LeavesKept l r = IsKeptAs l r.layout
+
+-- the floor behind the ruling isn't below the floor before it
+abbrev pub FloorRises : {A : Type 0} → Layout → History → Ruling A → Type 0
+FloorRises l h r = floor l h ≤ floor r.layout r.history
