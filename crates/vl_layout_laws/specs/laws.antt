@@ -1,5 +1,6 @@
 -- Laws of what an engine keeps tidy, by matter, which proofs in other crates cite.
 pub mod Aside
+pub mod Batches
 pub mod Beside
 pub mod CutAgain
 pub mod Drawn
@@ -23,6 +24,7 @@ pub mod Once
 pub mod OpenJobs
 pub mod Outputs
 pub mod Pairs
+pub mod Places
 pub mod PlanOpen
 pub mod Planned
 pub mod Roomy
