@@ -2,3 +2,4 @@ pub mod laws
 pub mod Passes
 pub mod Kept
 pub mod Script
+pub mod Live

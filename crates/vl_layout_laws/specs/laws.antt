@@ -17,6 +17,7 @@ pub mod Keeps
 pub mod KeyOrder
 pub mod LevelsKept
 pub mod Lists
+pub mod Lives
 pub mod LiveBytes
 pub mod Moves
 pub mod Numbers

@@ -3,6 +3,7 @@
 
 mod kept;
 mod laws;
+mod live;
 mod records;
 mod tidy;
 
@@ -17,5 +18,6 @@ pub use laws::{
     files_stay_tidy, jobs_leave_files_tidy, levels_stay_tidy, live_bytes_after_a_switch,
     numbers_are_drawn_once, shown_from_low_stays,
 };
+pub use live::{a_begin_gives_a_free_ticket, what_lives_stays_in_order};
 pub use records::{a_pass_gives_all_that_it_finds, pointers_of_a_frame_lead_to_its_records};
 pub use tidy::{a_start_is_tidy, an_engine_stays_tidy};
