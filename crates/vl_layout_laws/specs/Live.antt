@@ -1,5 +1,5 @@
 -- What is so of all that lives: transactions and views.
-use Rattle.std.specs.Prelude.{ℕ, ◌≤◌, length}
+use Rattle.std.specs.Prelude.{◌≤◌, length}
 use Rattle.std.specs.List.{AllByRecursion}
 use Rattle.vl_model.specs.History.{History, last_number}
 use Rattle.vl_model.specs.Limits.{max_live}

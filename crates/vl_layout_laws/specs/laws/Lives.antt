@@ -1,16 +1,15 @@
 -- What lives has tickets that rise, known numbers and a limit, and a begin gives a ticket that is free.
-use Rattle.std.proofs.Common.{◌≡◌, ◌≢◌, ℕ, ◌+◌, ◌≤◌, ◌<◌, Bool, true, false, cond, not, ◌||◌, List, [], ◌∷◌, length, map, refl, ap, sym, ◌∙◌, subst, arith}
+use Rattle.std.proofs.Common.{◌≡◌, ◌≢◌, ℕ, ◌≤◌, ◌<◌, Bool, true, false, cond, not, ◌||◌, List, [], ◌∷◌, length, refl, sym, subst, arith}
 use Rattle.std.proofs.lemmas.Bool.{false≢true}
 use Rattle.std.proofs.lemmas.Bool.Decides.{nat_tests}
 use Rattle.std.specs.Prelude.{nat_le, ◌==◌, if◌then◌else◌}
-use Rattle.std.specs.FinMap.{from_sorted}
 use Rattle.std.specs.List.{AllByRecursion, filter}
 use Rattle.vl_model.specs.History.{History, last_number, with_commit}
 use Rattle.vl_model.specs.Keys.{Writes}
 use Rattle.vl_model.specs.Limits.{max_live}
-use Rattle.vl_layout.specs.Rising.{IsRising, put_by}
+use Rattle.vl_layout.specs.Rising.{IsRising}
 use Rattle.vl_layout.specs.Ruling.{ended, leaving, pin_of}
-use Rattle.vl_layout.specs.Rulings.Begin.{BeginAnswer, Begun, TooMany, begin_ruling, begun}
+use Rattle.vl_layout.specs.Rulings.Begin.{Begun, TooMany, begin_ruling, begun}
 use Rattle.vl_layout.specs.Tickets.{Ticket, free_ticket, has_ticket, tickets_of}
 use Rattle.vl_layout.specs.declared.layout.Layout.{Layout}
 use Rattle.vl_layout.specs.declared.live.Live.{Live}
