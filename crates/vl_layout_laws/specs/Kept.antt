@@ -2,6 +2,7 @@
 use Rattle.std.specs.Prelude.{◌≡◌, ℕ, ◌≤◌, List}
 use Rattle.std.specs.List.{AllByRecursion}
 use Rattle.vl_model.specs.History.{History}
+use Rattle.vl_model.specs.Versions.{low}
 use Rattle.vl_model.specs.declared.entry.Entry.{Entry}
 use Rattle.vl_layout.specs.Ruling.{Ruling}
 use Rattle.vl_layout.specs.Sources.{floor}
@@ -28,3 +29,7 @@ LeavesKept l r = IsKeptAs l r.layout
 -- the floor behind the ruling isn't below the floor before it
 abbrev pub FloorRises : {A : Type 0} → Layout → History → Ruling A → Type 0
 FloorRises l h r = floor l h ≤ floor r.layout r.history
+
+-- nor is the least number at which a key can be read
+abbrev pub LowRises : {A : Type 0} → Layout → History → Ruling A → Type 0
+LowRises l h r = (key : List ℕ) → low h (floor l h) l.keep l.since key ≤ low r.history (floor r.layout r.history) r.layout.keep r.layout.since key

@@ -24,7 +24,7 @@ ghost use Rattle.vl_layout.specs.Rulings.Sweep.{sweep_ruling, sweep_to_ruling};
 ghost use Rattle.vl_layout.specs.Rulings.View.{View};
 ghost use Rattle.vl_layout.specs.declared.job.Job.{Job};
 ghost use Rattle.vl_layout.specs.declared.layout.Layout.{Layout};
-ghost use Rattle.vl_layout_laws.specs.Kept.{FloorRises, IsRaisedBy, LeavesGone, LeavesKept};
+ghost use Rattle.vl_layout_laws.specs.Kept.{FloorRises, IsRaisedBy, LeavesGone, LeavesKept, LowRises};
 ghost use Rattle.vl_layout_laws.specs.Script.{behind_the_merge};
 
 /// What is told of the greatest version of a deletion that was dropped for good is raised by an install
@@ -116,4 +116,25 @@ pub fn the_floor_never_falls()
     ensures sweep { (l : Layout) (h : History) → FloorRises l h (sweep_ruling l h) }
     ensures sweep_to { (l : Layout) (h : History) (least : ℕ) → FloorRises l h (sweep_to_ruling l h least) }
     ensures keep { (l : Layout) (h : History) (v : ℕ) → FloorRises l h (keep_ruling l h v) }
+{}
+
+/// The least number at which a key can be read never falls: what can't be read any more is never read again.
+pub fn what_was_dropped_is_not_read_again()
+    ensures begin { (l : Layout) (h : History) → LowRises l h (begin_ruling l h) }
+    ensures commit { (l : Layout) (h : History) (t : Transaction) → LowRises l h (commit_ruling l h t) }
+    ensures forget { (l : Layout) (h : History) (t : Transaction) → LowRises l h (forget_ruling l h t) }
+    ensures release { (l : Layout) (h : History) (v : View) → LowRises l h (release_ruling l h v) }
+    ensures rotate { (l : Layout) (h : History) → LowRises l h (rotate_ruling l h) }
+    ensures flush { (l : Layout) (h : History) → LowRises l h (flush_ruling l h) }
+    ensures relocate { (l : Layout) (h : History) (pass : Pass) (batch : List Candidate) → LowRises l h (relocate_ruling l h pass batch) }
+    ensures plan { (l : Layout) (h : History) → LowRises l h (plan_ruling l h) }
+    ensures drain { (l : Layout) (h : History) (segment : ℕ) → LowRises l h (drain_ruling l h segment) }
+    ensures fresh { (l : Layout) (h : History) → LowRises l h (fresh_ruling l h) }
+    ensures abandon { (l : Layout) (h : History) (job : Job) (made : Made) → LowRises l h (abandon_ruling l h job made) }
+    ensures install { (l : Layout) (h : History) (job : Job) (made : Made) → LowRises l h (install_ruling l h job made) }
+    ensures pick { (l : Layout) (h : History) (percent : ℕ) → LowRises l h (pick_ruling l h percent) }
+    ensures end_pass { (l : Layout) (h : History) (pass : Pass) → LowRises l h (end_pass_ruling l h pass) }
+    ensures sweep { (l : Layout) (h : History) → LowRises l h (sweep_ruling l h) }
+    ensures sweep_to { (l : Layout) (h : History) (least : ℕ) → LowRises l h (sweep_to_ruling l h least) }
+    ensures keep { (l : Layout) (h : History) (v : ℕ) → LowRises l h (keep_ruling l h v) }
 {}

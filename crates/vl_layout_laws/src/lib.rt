@@ -11,6 +11,7 @@ pub use kept::{
     a_dropped_deletion_is_told, an_install_tells_what_it_dropped,
     each_key_is_read_from_the_floor_at_most, other_calls_leave_what_is_kept,
     raising_what_is_kept_tells_the_last_number, the_floor_never_falls,
+    what_was_dropped_is_not_read_again,
 };
 pub use laws::{
     a_moved_batch_wins_no_more, a_planned_job_is_open_well, a_sweep_removes_what_nothing_needs,

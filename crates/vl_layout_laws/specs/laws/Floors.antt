@@ -1,70 +1,65 @@
--- The floor never falls, and what a change of how many versions are kept leaves.
-use Rattle.std.proofs.Common.{◌≡◌, ℕ, ◌≤◌, Bool, true, false, not, ◌||◌, List, [], ◌∷◌, refl, arith}
+-- The floor never falls, nor does the least number at which a key can be read; and what a change of how many versions are kept leaves.
+use Rattle.std.proofs.Common.{◌≡◌, ℕ, ◌≤◌, Bool, true, false, not, ◌||◌, List, [], ◌∷◌, refl, sym, arith}
 use Rattle.std.proofs.lemmas.Bool.Decides.{nat_tests}
+use Rattle.std.proofs.lemmas.List.{append-nil}
 use Rattle.std.specs.Prelude.{Option, Some, None, ◌<◌, ◌==◌, nat_lt, if◌then◌else◌}
-use Rattle.std.specs.List.{AllByRecursion}
-use Rattle.vl_model.specs.History.{History, last_number, with_commit}
+use Rattle.vl_model.specs.History.{Extends, History, last_number, with_commit}
 use Rattle.vl_model.specs.Keys.{Writes}
 use Rattle.vl_model.specs.Numbers.{since_kept}
-use Rattle.vl_model.specs.laws.HistoryLaws.{last_number-extends}
-use Rattle.vl_layout.specs.Ruling.{Ruling, ended, leaving}
+use Rattle.vl_model.specs.Versions.{low, versions}
+use Rattle.vl_model.specs.laws.NumberLaws.{low-kept}
+use Rattle.vl_layout.specs.Ruling.{Ruling, ended, leaving, pin_of}
 use Rattle.vl_layout.specs.Rulings.Begin.{begun}
 use Rattle.vl_layout.specs.Rulings.Keep.{InvalidRequest, KeepAnswer, Kept, keeping, keep_ruling, keep_unless}
-use Rattle.vl_layout.specs.Sources.{floor, least_number}
+use Rattle.vl_layout.specs.Sources.{floor}
 use Rattle.vl_layout.specs.declared.file_name.FileName.{FileName}
 use Rattle.vl_layout.specs.declared.layout.Layout.{Layout}
 use Rattle.vl_layout.specs.declared.live.Live.{Live}
-use Rattle.vl_layout.specs.laws.RisingLaws.{all-filter, all-put_by}
-
--- ---- the floor
-
-least_up : (last : ℕ) (xs : List Live) → least_number last xs ≤ last
-least_up last [] = omega arith
-least_up last (x ∷ xs) = let later = least_up last xs in omega (arith, later)
-
--- each of these reads at this number or above
-abbrev AreFrom : ℕ → List Live → Type 0
-AreFrom n xs = AllByRecursion (λ (x : Live). n ≤ x.number) xs
-
-lower : (m n : ℕ) → m ≤ n → (xs : List Live) → AreFrom n xs → AreFrom m xs
-lower m n le [] all = tt
-lower m n le (x ∷ xs) all = ((let from = all.0 in omega (arith, le, from)), lower m n le xs all.1)
-
-least_from : (last : ℕ) (xs : List Live) → AreFrom (least_number last xs) xs
-least_from last [] = tt
-least_from last (x ∷ xs) =
-    ((let later = least_up last xs in omega arith), lower (least_number last (x ∷ xs)) (least_number last xs) (omega arith) xs (least_from last xs))
-
-from_least : (n last : ℕ) (xs : List Live) → n ≤ last → AreFrom n xs → n ≤ least_number last xs
-from_least n last [] le all = le
-from_least n last (x ∷ xs) le all = let later = from_least n last xs le all.1 in let from = all.0 in omega (arith, later, from)
+use Rattle.vl_layout.specs.laws.LowShows.{floor-begun, floor-rises, floor-up, low_rises}
 
 module _ (l : Layout) (h : History) where
+  -- ---- the floor, and from where each key can be read
+
   -- the floor isn't below that of this layout
   abbrev pub Rises : Layout → History → Type 0
   Rises x g = floor l h ≤ floor x g
 
+  -- nor is the least number at which a key can be read
+  abbrev pub LowRises : Layout → History → Type 0
+  LowRises x g = (key : List ℕ) → low h (floor l h) l.keep l.since key ≤ low g (floor x g) x.keep x.since key
+
+  pub committed-extends : (writes : Writes) → Extends h (with_commit h writes)
+  committed-extends writes = record { first = refl; base = refl; later = writes ∷ []; commits = refl }
+
+  same-extends : Extends h h
+  same-extends = record { first = refl; base = refl; later = []; commits = sym (append-nil h.commits) }
+
   pub floor-same : Rises l h
   floor-same = omega arith
 
-  -- with this last number and these that live
-  floor-from : (last : ℕ) (live : List Live) → last_number h ≤ last → AreFrom (floor l h) live → floor l h ≤ least_number last live
-  floor-from last live le all = let up = least_up (last_number h) l.live in from_least (floor l h) last live (omega (arith, le, up)) all
+  pub floor-with : (ticket : ℕ) → Rises (begun l ticket (last_number h)) h
+  floor-with ticket =
+      let same = floor-begun l (begun l ticket (last_number h)) h (record { ticket = ticket; number = last_number h; pin = pin_of l }) refl refl in
+      omega (arith, same)
 
-  pub floor-begun : (ticket : ℕ) → Rises (begun l ticket (last_number h)) h
-  floor-begun ticket =
-      floor-from (last_number h) (begun l ticket (last_number h)).live (omega arith)
-      (all-put_by (λ (x : Live). x.ticket) (λ (x : Live). floor l h ≤ x.number) _ l.live (least_up (last_number h) l.live) (least_from (last_number h) l.live))
+  -- of what lives behind an end
+  pub floor-ended : (ticket : ℕ) → Rises (ended ticket l) h
+  floor-ended ticket = floor-rises l (ended ticket l) h h same-extends (λ (x : Live). not (x.ticket == ticket)) refl
 
-  -- where the last number rises, or stays
-  pub floor-ended : (ticket last : ℕ) → last_number h ≤ last → floor l h ≤ least_number last (ended ticket l).live
-  floor-ended ticket last le =
-      floor-from last (ended ticket l).live le
-      (all-filter (λ (x : Live). x.ticket) (λ (x : Live). floor l h ≤ x.number) (λ (x : Live). not (x.ticket == ticket)) l.live (least_from (last_number h) l.live))
+  pub floor-committed : (ticket : ℕ) (writes : Writes) → Rises (ended ticket l) (with_commit h writes)
+  floor-committed ticket writes =
+      floor-rises l (ended ticket l) h (with_commit h writes) (committed-extends writes) (λ (x : Live). not (x.ticket == ticket)) refl
 
-  pub last-committed : (writes : Writes) → last_number h ≤ last_number (with_commit h writes)
-  last-committed writes =
-      last_number-extends h (with_commit h writes) (record { first = refl; base = refl; later = writes ∷ []; commits = refl })
+  -- where as many are kept as before
+  pub low-with : (f : ℕ) → floor l h ≤ f → (key : List ℕ) → low h (floor l h) l.keep l.since key ≤ low h f l.keep l.since key
+  low-with f le key = low_rises h h same-extends (floor l h) f l.keep l.since key le
+
+  pub low-committed : (f : ℕ) (writes : Writes) → floor l h ≤ f → (key : List ℕ)
+      → low h (floor l h) l.keep l.since key ≤ low (with_commit h writes) f l.keep l.since key
+  low-committed f writes le key = low_rises h (with_commit h writes) (committed-extends writes) (floor l h) f l.keep l.since key le
+
+  pub low-keeping : (v : ℕ) → LowRises (keeping v h l) h
+  low-keeping v key = low-kept (versions h key) (floor l h) (last_number h) l.keep l.since v (floor-up l h)
 
   -- ---- how many versions are kept
 

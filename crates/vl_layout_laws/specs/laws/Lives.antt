@@ -7,6 +7,7 @@ use Rattle.std.specs.List.{AllByRecursion, filter}
 use Rattle.vl_model.specs.History.{History, last_number, with_commit}
 use Rattle.vl_model.specs.Keys.{Writes}
 use Rattle.vl_model.specs.Limits.{max_live}
+use Rattle.vl_model.specs.laws.HistoryLaws.{last_number-extends}
 use Rattle.vl_layout.specs.Rising.{IsRising}
 use Rattle.vl_layout.specs.Ruling.{ended, leaving, pin_of}
 use Rattle.vl_layout.specs.Rulings.Begin.{Begun, TooMany, begin_ruling, begun}
@@ -16,7 +17,7 @@ use Rattle.vl_layout.specs.declared.live.Live.{Live}
 use Rattle.vl_layout.specs.laws.RisingLaws.{all-filter, all-put_by, length-put_by, rising-filter, rising-put_by}
 use Rattle.vl_layout.specs.laws.TicketLaws.{free_ticket-free}
 use Rattle.vl_layout_laws.specs.Live.{IsLivedIn}
-use Rattle.vl_layout_laws.specs.laws.Floors.{last-committed}
+use Rattle.vl_layout_laws.specs.laws.Floors.{committed-extends}
 
 -- ---- tickets
 
@@ -99,7 +100,7 @@ module _ (l : Layout) (h : History) (w : IsLivedIn l h) where
 pub live-committed : (l x : Layout) (h : History) (writes : Writes) → x.live ≡ l.live → IsLivedIn l h → IsLivedIn x (with_commit h writes)
 live-committed l x h writes same w = record {
   rising = subst (λ (xs : List Live). IsRising (λ (y : Live). y.ticket) xs) (sym same) w.rising;
-  known = subst (λ (xs : List Live). AllByRecursion (λ (y : Live). y.number ≤ last_number (with_commit h writes)) xs) (sym same) (up_to (last_number h) (last_number (with_commit h writes)) (last-committed l h writes) l.live w.known);
+  known = subst (λ (xs : List Live). AllByRecursion (λ (y : Live). y.number ≤ last_number (with_commit h writes)) xs) (sym same) (up_to (last_number h) (last_number (with_commit h writes)) (last_number-extends h (with_commit h writes) (committed-extends l h writes)) l.live w.known);
   few = subst (λ (xs : List Live). length xs ≤ max_live) (sym same) w.few;
 }
 

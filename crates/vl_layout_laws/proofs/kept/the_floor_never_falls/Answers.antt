@@ -1,22 +1,20 @@
-use Rattle.std.proofs.Common.{arith}
 use Rattle.std.specs.FinMap.{from_sorted}
-use Rattle.vl_model.specs.History.{last_number, with_commit}
 use Rattle.vl_layout.specs.Tickets.{free_ticket, tickets_of}
 use Rattle.vl_layout_laws.specs.laws.EachRuling.{begin_leaves, commit_leaves, drain_leaves, flush_leaves, fresh_leaves, install_leaves, keep_leaves, pick_leaves, plan_leaves, relocate_leaves, rotate_leaves, sweep_leaves, sweep_to_leaves}
-use Rattle.vl_layout_laws.specs.laws.Floors.{Rises, floor-begun, floor-ended, floor-same, last-committed}
+use Rattle.vl_layout_laws.specs.laws.Floors.{Rises, floor-committed, floor-ended, floor-same, floor-with}
 use Rattle.vl_layout_laws.proofs.kept.the_floor_never_falls.Goals as goal
 
 pub returns-clause-begin : goal.returns-clause-begin
-returns-clause-begin c l h = begin_leaves (Rises l h) l h (floor-same l h) (λ few. floor-begun l h (free_ticket (tickets_of l.live)))
+returns-clause-begin c l h = begin_leaves (Rises l h) l h (floor-same l h) (λ few. floor-with l h (free_ticket (tickets_of l.live)))
 
 pub returns-clause-commit : goal.returns-clause-commit
-returns-clause-commit c l h t = commit_leaves (Rises l h) l h (floor-same l h) t (floor-ended l h t.ticket (last_number h) (omega arith)) (floor-ended l h t.ticket (last_number (with_commit h (from_sorted t.writes))) (last-committed l h (from_sorted t.writes)))
+returns-clause-commit c l h t = commit_leaves (Rises l h) l h (floor-same l h) t (floor-ended l h t.ticket) (floor-committed l h t.ticket (from_sorted t.writes))
 
 pub returns-clause-forget : goal.returns-clause-forget
-returns-clause-forget c l h t = floor-ended l h t.ticket (last_number h) (omega arith)
+returns-clause-forget c l h t = floor-ended l h t.ticket
 
 pub returns-clause-release : goal.returns-clause-release
-returns-clause-release c l h v = floor-ended l h v.ticket (last_number h) (omega arith)
+returns-clause-release c l h v = floor-ended l h v.ticket
 
 pub returns-clause-rotate : goal.returns-clause-rotate
 returns-clause-rotate c l h = rotate_leaves (Rises l h) l h (floor-same l h) (floor-same l h)
