@@ -26,10 +26,16 @@ pub record IsKeptAs (l x : Layout) : Type 0 where
 abbrev pub LeavesKept : {A : Type 0} → Layout → Ruling A → Type 0
 LeavesKept l r = IsKeptAs l r.layout
 
--- the floor behind the ruling isn't below the floor before it
+-- the floor of the second isn't below that of the first
+abbrev pub IsFloorUp : Layout → History → Layout → History → Type 0
+IsFloorUp l h x g = floor l h ≤ floor x g
+
 abbrev pub FloorRises : {A : Type 0} → Layout → History → Ruling A → Type 0
-FloorRises l h r = floor l h ≤ floor r.layout r.history
+FloorRises l h r = IsFloorUp l h r.layout r.history
 
 -- nor is the least number at which a key can be read
+abbrev pub IsLowUp : Layout → History → Layout → History → Type 0
+IsLowUp l h x g = (key : List ℕ) → low h (floor l h) l.keep l.since key ≤ low g (floor x g) x.keep x.since key
+
 abbrev pub LowRises : {A : Type 0} → Layout → History → Ruling A → Type 0
-LowRises l h r = (key : List ℕ) → low h (floor l h) l.keep l.since key ≤ low r.history (floor r.layout r.history) r.layout.keep r.layout.since key
+LowRises l h r = IsLowUp l h r.layout r.history

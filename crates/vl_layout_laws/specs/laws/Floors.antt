@@ -1,4 +1,5 @@
--- The floor never falls, nor does the least number at which a key can be read; and what a change of how many versions are kept leaves.
+-- The floor never falls, nor does the least number at which a key can be read; and what a change of how
+-- many versions are kept leaves.
 use Rattle.std.proofs.Common.{◌≡◌, ℕ, ◌≤◌, Bool, true, false, not, ◌||◌, List, [], ◌∷◌, refl, sym, arith}
 use Rattle.std.proofs.lemmas.Bool.Decides.{nat_tests}
 use Rattle.std.proofs.lemmas.List.{append-nil}
@@ -16,17 +17,10 @@ use Rattle.vl_layout.specs.declared.file_name.FileName.{FileName}
 use Rattle.vl_layout.specs.declared.layout.Layout.{Layout}
 use Rattle.vl_layout.specs.declared.live.Live.{Live}
 use Rattle.vl_layout.specs.laws.LowShows.{floor-begun, floor-rises, floor-up, low_rises}
+use Rattle.vl_layout_laws.specs.Kept.{IsFloorUp, IsLowUp}
 
 module _ (l : Layout) (h : History) where
   -- ---- the floor, and from where each key can be read
-
-  -- the floor isn't below that of this layout
-  abbrev pub Rises : Layout → History → Type 0
-  Rises x g = floor l h ≤ floor x g
-
-  -- nor is the least number at which a key can be read
-  abbrev pub LowRises : Layout → History → Type 0
-  LowRises x g = (key : List ℕ) → low h (floor l h) l.keep l.since key ≤ low g (floor x g) x.keep x.since key
 
   pub committed-extends : (writes : Writes) → Extends h (with_commit h writes)
   committed-extends writes = record { first = refl; base = refl; later = writes ∷ []; commits = refl }
@@ -34,19 +28,18 @@ module _ (l : Layout) (h : History) where
   same-extends : Extends h h
   same-extends = record { first = refl; base = refl; later = []; commits = sym (append-nil h.commits) }
 
-  pub floor-same : Rises l h
+  pub floor-same : IsFloorUp l h l h
   floor-same = omega arith
 
-  pub floor-with : (ticket : ℕ) → Rises (begun l ticket (last_number h)) h
+  pub floor-with : (ticket : ℕ) → IsFloorUp l h (begun l ticket (last_number h)) h
   floor-with ticket =
       let same = floor-begun l (begun l ticket (last_number h)) h (record { ticket = ticket; number = last_number h; pin = pin_of l }) refl refl in
       omega (arith, same)
 
-  -- of what lives behind an end
-  pub floor-ended : (ticket : ℕ) → Rises (ended ticket l) h
+  pub floor-ended : (ticket : ℕ) → IsFloorUp l h (ended ticket l) h
   floor-ended ticket = floor-rises l (ended ticket l) h h same-extends (λ (x : Live). not (x.ticket == ticket)) refl
 
-  pub floor-committed : (ticket : ℕ) (writes : Writes) → Rises (ended ticket l) (with_commit h writes)
+  pub floor-committed : (ticket : ℕ) (writes : Writes) → IsFloorUp l h (ended ticket l) (with_commit h writes)
   floor-committed ticket writes =
       floor-rises l (ended ticket l) h (with_commit h writes) (committed-extends writes) (λ (x : Live). not (x.ticket == ticket)) refl
 
@@ -58,7 +51,7 @@ module _ (l : Layout) (h : History) where
       → low h (floor l h) l.keep l.since key ≤ low (with_commit h writes) f l.keep l.since key
   low-committed f writes le key = low_rises h (with_commit h writes) (committed-extends writes) (floor l h) f l.keep l.since key le
 
-  pub low-keeping : (v : ℕ) → LowRises (keeping v h l) h
+  pub low-keeping : (v : ℕ) → IsLowUp l h (keeping v h l) h
   low-keeping v key = low-kept (versions h key) (floor l h) (last_number h) l.keep l.since v (floor-up l h)
 
   -- ---- how many versions are kept
