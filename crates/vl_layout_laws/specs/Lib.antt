@@ -1,2 +1,5 @@
 pub mod laws
 pub mod Passes
+pub mod Kept
+pub mod Script
+pub mod Live

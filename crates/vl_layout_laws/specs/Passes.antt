@@ -1,10 +1,10 @@
 -- What a pass comes to: the records that it finds, and that none of a segment win exactly from inside any more.
-use Rattle.std.specs.Prelude.{◌≡◌, ℕ, true, false, List}
+use Rattle.std.specs.Prelude.{◌≡◌, ℕ, true, false, List, [], ◌∷◌, Some, None}
 use Rattle.std.specs.List.{flat_map}
 use Rattle.vl_model.specs.Winners.{is_far_to, wins_exactly}
 use Rattle.vl_model.specs.declared.entry.Entry.{Entry}
 use Rattle.vl_layout.specs.Logs.{LogRecord}
-use Rattle.vl_layout.specs.Relocation.{Candidate, found_in}
+use Rattle.vl_layout.specs.Relocation.{Candidate, Pass, found_in, next_batch}
 
 -- what wins exactly from inside a log now did before
 abbrev pub Shrinks : ℕ → List Entry → List Entry → Type 0
@@ -22,3 +22,12 @@ IsSettled segment es c = wins_exactly es segment c.moved.key c.moved.version c.p
 -- all records of a log that win exactly in a pass's base
 abbrev pub found_all : List Entry → ℕ → List LogRecord → List Candidate
 found_all base segment rs = flat_map (found_in base segment) rs
+
+-- what a pass gives, batch by batch, until it gives none
+abbrev pub AreBatches : List (List Candidate) → Pass → Type 0
+AreBatches [] pass = (next_batch pass).0 ≡ None
+AreBatches (batch ∷ batches) pass = ((next_batch pass).0 ≡ Some batch) × AreBatches batches (next_batch pass).1
+
+-- all records that a pass hasn't come to and that win exactly in its base
+abbrev pub found_by : Pass → List Candidate
+found_by pass = found_all pass.base pass.segment pass.left

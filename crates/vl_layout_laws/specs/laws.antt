@@ -1,10 +1,14 @@
 -- Laws of what an engine keeps tidy, by matter, which proofs in other crates cite.
 pub mod Aside
+pub mod Batches
 pub mod Beside
 pub mod CutAgain
 pub mod Drawn
+pub mod EachRuling
 pub mod Files
+pub mod Floors
 pub mod Gathered
+pub mod Gone
 pub mod InstallTidy
 pub mod Installs
 pub mod JobTables
@@ -13,6 +17,7 @@ pub mod Keeps
 pub mod KeyOrder
 pub mod LevelsKept
 pub mod Lists
+pub mod Lives
 pub mod LiveBytes
 pub mod Moves
 pub mod Numbers
@@ -20,6 +25,7 @@ pub mod Once
 pub mod OpenJobs
 pub mod Outputs
 pub mod Pairs
+pub mod Places
 pub mod PlanOpen
 pub mod Planned
 pub mod Roomy

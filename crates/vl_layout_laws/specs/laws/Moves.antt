@@ -208,7 +208,7 @@ module _ (segment last : ℕ) (l : Layout) (batch : List Candidate) where
 
 -- ---- what a pass gives
 
-at_most_one : (base : List Entry) (segment : ℕ) (r : LogRecord) → (found_in base segment r ≡ []) ⊎ ((c : Candidate) × (found_in base segment r ≡ c ∷ []))
+pub at_most_one : (base : List Entry) (segment : ℕ) (r : LogRecord) → (found_in base segment r ≡ []) ⊎ ((c : Candidate) × (found_in base segment r ≡ c ∷ []))
 at_most_one base segment r = by (wins_exactly base segment r.key r.version r.place) r.change
   where
     by : (b : Bool) (change : Change) → ((if b then valued r change else []) ≡ []) ⊎ ((c : Candidate) × ((if b then valued r change else []) ≡ c ∷ []))
