@@ -1,10 +1,11 @@
 -- What a pass comes to: the records that it finds, and that none of a segment win exactly from inside any more.
-use Rattle.std.specs.Prelude.{◌≡◌, ℕ, true, false, List, [], ◌∷◌, Some, None}
+use Rattle.std.specs.Prelude.{◌≡◌, ◌≤◌, ◌⊎◌, ℕ, length, true, false, List, [], ◌∷◌, Some, None}
 use Rattle.std.specs.List.{flat_map}
+use Rattle.vl_model.specs.Limits.{max_batch_bytes, max_batch_records}
 use Rattle.vl_model.specs.Winners.{is_far_to, wins_exactly}
 use Rattle.vl_model.specs.declared.entry.Entry.{Entry}
 use Rattle.vl_layout.specs.Logs.{LogRecord}
-use Rattle.vl_layout.specs.Relocation.{Candidate, Pass, found_in, next_batch}
+use Rattle.vl_layout.specs.Relocation.{Candidate, Pass, found_in, next_batch, value_lengths}
 
 -- what wins exactly from inside a log now did before
 abbrev pub Shrinks : ℕ → List Entry → List Entry → Type 0
@@ -31,3 +32,8 @@ AreBatches (batch ∷ batches) pass = ((next_batch pass).0 ≡ Some batch) × Ar
 -- all records that a pass hasn't come to and that win exactly in its base
 abbrev pub found_by : Pass → List Candidate
 found_by pass = found_all pass.base pass.segment pass.left
+
+-- A batch has one record, or as many records and bytes of values as the limits allow at most.
+abbrev pub IsWithinLimits : List Candidate → Type 0
+IsWithinLimits batch = (length batch ≤ 1)
+    ⊎ ((length batch ≤ max_batch_records) × (value_lengths batch ≤ max_batch_bytes))

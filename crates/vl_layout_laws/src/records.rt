@@ -5,7 +5,7 @@ ghost use Rattle.vl_model.specs.declared.log_frame.LogFrame.{LogFrame};
 ghost use Rattle.vl_seglog.specs.Stored.{frame_pointers};
 ghost use Rattle.vl_layout.specs.Logs.{frame_records, pointer_to};
 ghost use Rattle.vl_layout.specs.Relocation.{Candidate, Pass, next_batch};
-ghost use Rattle.vl_layout_laws.specs.Passes.{AreBatches, found_by};
+ghost use Rattle.vl_layout_laws.specs.Passes.{AreBatches, IsWithinLimits, found_by};
 
 /// The pointers that staging a frame gives lead to the places that a layout has of its records, those of
 /// a commit and those that are moved.
@@ -14,11 +14,12 @@ pub fn pointers_of_a_frame_lead_to_its_records()
         → frame_pointers format log place f ≡ map (pointer_to format log) (frame_records format place f) }
 {}
 
-/// A batch that a pass gives has a record, and with what is found behind it it is all that was found; none
+/// A batch that a pass gives has a record, keeps within the limits, and with what is found behind it it is all that was found; none
 /// is given exactly where nothing is found any more. So the batches up to none, which there are, are all
 /// that the pass finds, in order, each once.
 pub fn a_pass_gives_all_that_it_finds()
     ensures some { (pass : Pass) (batch : List Candidate) → (next_batch pass).0 ≡ Some batch → 1 ≤ length batch }
+    ensures within { (pass : Pass) (batch : List Candidate) → (next_batch pass).0 ≡ Some batch → IsWithinLimits batch }
     ensures found { (pass : Pass) (batch : List Candidate) → (next_batch pass).0 ≡ Some batch
         → batch ++ found_by (next_batch pass).1 ≡ found_by pass }
     ensures none { (pass : Pass) → (((next_batch pass).0 ≡ None) ↔ (found_by pass ≡ [])) }
