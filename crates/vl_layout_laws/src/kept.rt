@@ -31,9 +31,11 @@ ghost use Rattle.vl_layout_laws.specs.Script.{behind_the_merge};
 /// that is answered, to the greatest one that its job dropped as needless, if that is greater; an install
 /// that is refused leaves it, and so does every other call.
 pub fn an_install_tells_what_it_dropped()
-    ensures install { (l : Layout) (h : History) (job : Job) (made : Made) → (install_ruling l h job made).answer ≡ Installed
+    ensures install { (l : Layout) (h : History) (job : Job) (made : Made)
+        → (install_ruling l h job made).answer ≡ Installed
         → IsRaisedBy (needless job) l.gone (install_ruling l h job made).layout.gone }
-    ensures refused { (l : Layout) (h : History) (job : Job) (made : Made) → ((install_ruling l h job made).answer ≡ Installed → ⊥)
+    ensures refused { (l : Layout) (h : History) (job : Job) (made : Made)
+        → ((install_ruling l h job made).answer ≡ Installed → ⊥)
         → LeavesGone l (install_ruling l h job made) }
     ensures begin { (l : Layout) (h : History) → LeavesGone l (begin_ruling l h) }
     ensures commit { (l : Layout) (h : History) (t : Transaction) → LeavesGone l (commit_ruling l h t) }
@@ -41,11 +43,13 @@ pub fn an_install_tells_what_it_dropped()
     ensures release { (l : Layout) (h : History) (v : View) → LeavesGone l (release_ruling l h v) }
     ensures rotate { (l : Layout) (h : History) → LeavesGone l (rotate_ruling l h) }
     ensures flush { (l : Layout) (h : History) → LeavesGone l (flush_ruling l h) }
-    ensures relocate { (l : Layout) (h : History) (pass : Pass) (batch : List Candidate) → LeavesGone l (relocate_ruling l h pass batch) }
+    ensures relocate { (l : Layout) (h : History) (pass : Pass) (batch : List Candidate)
+        → LeavesGone l (relocate_ruling l h pass batch) }
     ensures plan { (l : Layout) (h : History) → LeavesGone l (plan_ruling l h) }
     ensures drain { (l : Layout) (h : History) (segment : ℕ) → LeavesGone l (drain_ruling l h segment) }
     ensures fresh { (l : Layout) (h : History) → LeavesGone l (fresh_ruling l h) }
-    ensures abandon { (l : Layout) (h : History) (job : Job) (made : Made) → LeavesGone l (abandon_ruling l h job made) }
+    ensures abandon { (l : Layout) (h : History) (job : Job) (made : Made)
+        → LeavesGone l (abandon_ruling l h job made) }
     ensures pick { (l : Layout) (h : History) (percent : ℕ) → LeavesGone l (pick_ruling l h percent) }
     ensures end_pass { (l : Layout) (h : History) (pass : Pass) → LeavesGone l (end_pass_ruling l h pass) }
     ensures sweep { (l : Layout) (h : History) → LeavesGone l (sweep_ruling l h) }
@@ -63,18 +67,21 @@ pub fn a_dropped_deletion_is_told()
 /// floor, however many are kept.
 pub fn each_key_is_read_from_the_floor_at_most()
     ensures one { (h : History) (floor : ℕ) (since : ℕ) (key : List ℕ) → low h floor 1 since key ≡ floor }
-    ensures more { (h : History) (floor : ℕ) (keep : ℕ) (since : ℕ) (key : List ℕ) → low h floor keep since key ≤ floor }
+    ensures more { (h : History) (floor : ℕ) (keep : ℕ) (since : ℕ) (key : List ℕ)
+        → low h floor keep since key ≤ floor }
 {}
 
 /// Where a number of kept versions is taken it is kept, and raising it tells the last commit's number;
 /// lowering it leaves what was told. A number that is refused changes nothing.
 pub fn raising_what_is_kept_tells_the_last_number()
-    ensures taken { (l : Layout) (h : History) (v : ℕ) → (keep_ruling l h v).answer ≡ Kept → (keep_ruling l h v).layout.keep ≡ v }
+    ensures taken { (l : Layout) (h : History) (v : ℕ) → (keep_ruling l h v).answer ≡ Kept
+        → (keep_ruling l h v).layout.keep ≡ v }
     ensures raised { (l : Layout) (h : History) (v : ℕ) → (keep_ruling l h v).answer ≡ Kept → l.keep < v
         → (keep_ruling l h v).layout.since ≡ last_number h }
     ensures lowered { (l : Layout) (h : History) (v : ℕ) → (keep_ruling l h v).answer ≡ Kept → v ≤ l.keep
         → (keep_ruling l h v).layout.since ≡ l.since }
-    ensures refused { (l : Layout) (h : History) (v : ℕ) → ((keep_ruling l h v).answer ≡ Kept → ⊥) → (keep_ruling l h v).layout ≡ l }
+    ensures refused { (l : Layout) (h : History) (v : ℕ) → ((keep_ruling l h v).answer ≡ Kept → ⊥)
+        → (keep_ruling l h v).layout ≡ l }
 {}
 
 /// No other call changes how many versions are kept, or the number that was told when that was raised.
@@ -85,12 +92,15 @@ pub fn other_calls_leave_what_is_kept()
     ensures release { (l : Layout) (h : History) (v : View) → LeavesKept l (release_ruling l h v) }
     ensures rotate { (l : Layout) (h : History) → LeavesKept l (rotate_ruling l h) }
     ensures flush { (l : Layout) (h : History) → LeavesKept l (flush_ruling l h) }
-    ensures relocate { (l : Layout) (h : History) (pass : Pass) (batch : List Candidate) → LeavesKept l (relocate_ruling l h pass batch) }
+    ensures relocate { (l : Layout) (h : History) (pass : Pass) (batch : List Candidate)
+        → LeavesKept l (relocate_ruling l h pass batch) }
     ensures plan { (l : Layout) (h : History) → LeavesKept l (plan_ruling l h) }
     ensures drain { (l : Layout) (h : History) (segment : ℕ) → LeavesKept l (drain_ruling l h segment) }
     ensures fresh { (l : Layout) (h : History) → LeavesKept l (fresh_ruling l h) }
-    ensures abandon { (l : Layout) (h : History) (job : Job) (made : Made) → LeavesKept l (abandon_ruling l h job made) }
-    ensures install { (l : Layout) (h : History) (job : Job) (made : Made) → LeavesKept l (install_ruling l h job made) }
+    ensures abandon { (l : Layout) (h : History) (job : Job) (made : Made)
+        → LeavesKept l (abandon_ruling l h job made) }
+    ensures install { (l : Layout) (h : History) (job : Job) (made : Made)
+        → LeavesKept l (install_ruling l h job made) }
     ensures pick { (l : Layout) (h : History) (percent : ℕ) → LeavesKept l (pick_ruling l h percent) }
     ensures end_pass { (l : Layout) (h : History) (pass : Pass) → LeavesKept l (end_pass_ruling l h pass) }
     ensures sweep { (l : Layout) (h : History) → LeavesKept l (sweep_ruling l h) }
@@ -105,12 +115,15 @@ pub fn the_floor_never_falls()
     ensures release { (l : Layout) (h : History) (v : View) → FloorRises l h (release_ruling l h v) }
     ensures rotate { (l : Layout) (h : History) → FloorRises l h (rotate_ruling l h) }
     ensures flush { (l : Layout) (h : History) → FloorRises l h (flush_ruling l h) }
-    ensures relocate { (l : Layout) (h : History) (pass : Pass) (batch : List Candidate) → FloorRises l h (relocate_ruling l h pass batch) }
+    ensures relocate { (l : Layout) (h : History) (pass : Pass) (batch : List Candidate)
+        → FloorRises l h (relocate_ruling l h pass batch) }
     ensures plan { (l : Layout) (h : History) → FloorRises l h (plan_ruling l h) }
     ensures drain { (l : Layout) (h : History) (segment : ℕ) → FloorRises l h (drain_ruling l h segment) }
     ensures fresh { (l : Layout) (h : History) → FloorRises l h (fresh_ruling l h) }
-    ensures abandon { (l : Layout) (h : History) (job : Job) (made : Made) → FloorRises l h (abandon_ruling l h job made) }
-    ensures install { (l : Layout) (h : History) (job : Job) (made : Made) → FloorRises l h (install_ruling l h job made) }
+    ensures abandon { (l : Layout) (h : History) (job : Job) (made : Made)
+        → FloorRises l h (abandon_ruling l h job made) }
+    ensures install { (l : Layout) (h : History) (job : Job) (made : Made)
+        → FloorRises l h (install_ruling l h job made) }
     ensures pick { (l : Layout) (h : History) (percent : ℕ) → FloorRises l h (pick_ruling l h percent) }
     ensures end_pass { (l : Layout) (h : History) (pass : Pass) → FloorRises l h (end_pass_ruling l h pass) }
     ensures sweep { (l : Layout) (h : History) → FloorRises l h (sweep_ruling l h) }
@@ -126,12 +139,15 @@ pub fn what_was_dropped_is_not_read_again()
     ensures release { (l : Layout) (h : History) (v : View) → LowRises l h (release_ruling l h v) }
     ensures rotate { (l : Layout) (h : History) → LowRises l h (rotate_ruling l h) }
     ensures flush { (l : Layout) (h : History) → LowRises l h (flush_ruling l h) }
-    ensures relocate { (l : Layout) (h : History) (pass : Pass) (batch : List Candidate) → LowRises l h (relocate_ruling l h pass batch) }
+    ensures relocate { (l : Layout) (h : History) (pass : Pass) (batch : List Candidate)
+        → LowRises l h (relocate_ruling l h pass batch) }
     ensures plan { (l : Layout) (h : History) → LowRises l h (plan_ruling l h) }
     ensures drain { (l : Layout) (h : History) (segment : ℕ) → LowRises l h (drain_ruling l h segment) }
     ensures fresh { (l : Layout) (h : History) → LowRises l h (fresh_ruling l h) }
-    ensures abandon { (l : Layout) (h : History) (job : Job) (made : Made) → LowRises l h (abandon_ruling l h job made) }
-    ensures install { (l : Layout) (h : History) (job : Job) (made : Made) → LowRises l h (install_ruling l h job made) }
+    ensures abandon { (l : Layout) (h : History) (job : Job) (made : Made)
+        → LowRises l h (abandon_ruling l h job made) }
+    ensures install { (l : Layout) (h : History) (job : Job) (made : Made)
+        → LowRises l h (install_ruling l h job made) }
     ensures pick { (l : Layout) (h : History) (percent : ℕ) → LowRises l h (pick_ruling l h percent) }
     ensures end_pass { (l : Layout) (h : History) (pass : Pass) → LowRises l h (end_pass_ruling l h pass) }
     ensures sweep { (l : Layout) (h : History) → LowRises l h (sweep_ruling l h) }

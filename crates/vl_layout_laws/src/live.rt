@@ -31,27 +31,37 @@ ghost use Rattle.vl_layout_laws.specs.Live.{IsLivedIn, LeavesLive};
 pub fn what_lives_stays_in_order()
     ensures start { (h : History) (room : ℕ) (found : Recovered) → IsLivedIn (layout_at_start room found) h }
     ensures begin { (l : Layout) (h : History) → IsLivedIn l h → LeavesLive (begin_ruling l h) }
-    ensures commit { (l : Layout) (h : History) (t : Transaction) → IsLivedIn l h → LeavesLive (commit_ruling l h t) }
-    ensures forget { (l : Layout) (h : History) (t : Transaction) → IsLivedIn l h → LeavesLive (forget_ruling l h t) }
+    ensures commit { (l : Layout) (h : History) (t : Transaction) → IsLivedIn l h
+        → LeavesLive (commit_ruling l h t) }
+    ensures forget { (l : Layout) (h : History) (t : Transaction) → IsLivedIn l h
+        → LeavesLive (forget_ruling l h t) }
     ensures release { (l : Layout) (h : History) (v : View) → IsLivedIn l h → LeavesLive (release_ruling l h v) }
     ensures rotate { (l : Layout) (h : History) → IsLivedIn l h → LeavesLive (rotate_ruling l h) }
     ensures flush { (l : Layout) (h : History) → IsLivedIn l h → LeavesLive (flush_ruling l h) }
-    ensures relocate { (l : Layout) (h : History) (pass : Pass) (batch : List Candidate) → IsLivedIn l h → LeavesLive (relocate_ruling l h pass batch) }
+    ensures relocate { (l : Layout) (h : History) (pass : Pass) (batch : List Candidate) → IsLivedIn l h
+        → LeavesLive (relocate_ruling l h pass batch) }
     ensures plan { (l : Layout) (h : History) → IsLivedIn l h → LeavesLive (plan_ruling l h) }
-    ensures drain { (l : Layout) (h : History) (segment : ℕ) → IsLivedIn l h → LeavesLive (drain_ruling l h segment) }
+    ensures drain { (l : Layout) (h : History) (segment : ℕ) → IsLivedIn l h
+        → LeavesLive (drain_ruling l h segment) }
     ensures fresh { (l : Layout) (h : History) → IsLivedIn l h → LeavesLive (fresh_ruling l h) }
-    ensures abandon { (l : Layout) (h : History) (job : Job) (made : Made) → IsLivedIn l h → LeavesLive (abandon_ruling l h job made) }
-    ensures install { (l : Layout) (h : History) (job : Job) (made : Made) → IsLivedIn l h → LeavesLive (install_ruling l h job made) }
+    ensures abandon { (l : Layout) (h : History) (job : Job) (made : Made) → IsLivedIn l h
+        → LeavesLive (abandon_ruling l h job made) }
+    ensures install { (l : Layout) (h : History) (job : Job) (made : Made) → IsLivedIn l h
+        → LeavesLive (install_ruling l h job made) }
     ensures pick { (l : Layout) (h : History) (percent : ℕ) → IsLivedIn l h → LeavesLive (pick_ruling l h percent) }
-    ensures end_pass { (l : Layout) (h : History) (pass : Pass) → IsLivedIn l h → LeavesLive (end_pass_ruling l h pass) }
+    ensures end_pass { (l : Layout) (h : History) (pass : Pass) → IsLivedIn l h
+        → LeavesLive (end_pass_ruling l h pass) }
     ensures sweep { (l : Layout) (h : History) → IsLivedIn l h → LeavesLive (sweep_ruling l h) }
-    ensures sweep_to { (l : Layout) (h : History) (least : ℕ) → IsLivedIn l h → LeavesLive (sweep_to_ruling l h least) }
+    ensures sweep_to { (l : Layout) (h : History) (least : ℕ) → IsLivedIn l h
+        → LeavesLive (sweep_to_ruling l h least) }
     ensures keep { (l : Layout) (h : History) (v : ℕ) → IsLivedIn l h → LeavesLive (keep_ruling l h v) }
 {}
 
 /// Nothing live has the ticket that a begin gives, and it reads at the last commit's number.
 pub fn a_begin_gives_a_free_ticket()
-    ensures ticket { (l : Layout) (h : History) (ticket : ℕ) (number : ℕ) → IsLivedIn l h → (begin_ruling l h).answer ≡ Begun ticket number
+    ensures ticket { (l : Layout) (h : History) (ticket : ℕ) (number : ℕ) → IsLivedIn l h
+        → (begin_ruling l h).answer ≡ Begun ticket number
         → has_ticket ticket (tickets_of l.live) ≡ false }
-    ensures number { (l : Layout) (h : History) (ticket : ℕ) (number : ℕ) → (begin_ruling l h).answer ≡ Begun ticket number → number ≡ last_number h }
+    ensures number { (l : Layout) (h : History) (ticket : ℕ) (number : ℕ)
+        → (begin_ruling l h).answer ≡ Begun ticket number → number ≡ last_number h }
 {}

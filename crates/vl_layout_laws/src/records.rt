@@ -19,7 +19,8 @@ pub fn pointers_of_a_frame_lead_to_its_records()
 /// that the pass finds, in order, each once.
 pub fn a_pass_gives_all_that_it_finds()
     ensures some { (pass : Pass) (batch : List Candidate) → (next_batch pass).0 ≡ Some batch → 1 ≤ length batch }
-    ensures within { (pass : Pass) (batch : List Candidate) → (next_batch pass).0 ≡ Some batch → IsWithinLimits batch }
+    ensures within { (pass : Pass) (batch : List Candidate) → (next_batch pass).0 ≡ Some batch
+        → IsWithinLimits batch }
     ensures found { (pass : Pass) (batch : List Candidate) → (next_batch pass).0 ≡ Some batch
         → batch ++ found_by (next_batch pass).1 ≡ found_by pass }
     ensures none { (pass : Pass) → (((next_batch pass).0 ≡ None) ↔ (found_by pass ≡ [])) }

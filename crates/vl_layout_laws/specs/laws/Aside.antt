@@ -14,20 +14,24 @@ use Rattle.vl_layout.specs.Sources.{numbers_of}
 use Rattle.vl_layout.specs.TidyLevels.{Le, IsRanged, IsDistinct, IsApart, IsWide}
 use Rattle.vl_layout_laws.specs.laws.Pairs.{le_then, AreOther, others_turned, one_is}
 
-all_both : (P : Table → Type 0) (xs ys : List Table) → AllByRecursion P xs → AllByRecursion P ys → AllByRecursion P (xs ++ ys)
+all_both : (P : Table → Type 0) (xs ys : List Table) → AllByRecursion P xs → AllByRecursion P ys
+    → AllByRecursion P (xs ++ ys)
 all_both P [] ys a b = b
 all_both P (x ∷ xs) ys a b = (a.0, all_both P xs ys a.1 b)
 
 -- what is so of all and passes the test is so of what is left
-passed : (P : Table → Type 0) (p : Table → Bool) (ts : List Table) → AllByRecursion P ts → AllByRecursion (λ (t : Table). (p t ≡ true) × P t) (filter p ts)
+passed : (P : Table → Type 0) (p : Table → Bool) (ts : List Table) → AllByRecursion P ts
+    → AllByRecursion (λ (t : Table). (p t ≡ true) × P t) (filter p ts)
 passed P p [] all = tt
 passed P p (t ∷ ts) all = by (p t) refl (passed P p ts all.1)
   where
-    by : (b : Bool) → p t ≡ b → AllByRecursion (λ (u : Table). (p u ≡ true) × P u) (filter p ts) → AllByRecursion (λ (u : Table). (p u ≡ true) × P u) (cond b (t ∷ filter p ts) (filter p ts))
+    by : (b : Bool) → p t ≡ b → AllByRecursion (λ (u : Table). (p u ≡ true) × P u) (filter p ts)
+        → AllByRecursion (λ (u : Table). (p u ≡ true) × P u) (cond b (t ∷ filter p ts) (filter p ts))
     by true is later = ((is, all.0), later)
     by false is later = later
 
-weaker : {X : Type 0} (P Q : X → Type 0) → ((x : X) → P x → Q x) → (xs : List X) → AllByRecursion P xs → AllByRecursion Q xs
+weaker : {X : Type 0} (P Q : X → Type 0) → ((x : X) → P x → Q x) → (xs : List X) → AllByRecursion P xs
+    → AllByRecursion Q xs
 weaker P Q f [] all = tt
 weaker P Q f (x ∷ xs) all = (f x all.0, weaker P Q f xs all.1)
 
@@ -35,14 +39,16 @@ weaker P Q f (x ∷ xs) all = (f x all.0, weaker P Q f xs all.1)
 abbrev pub IsPairApart : (Table → Bool) → Table → Table → Type 0
 IsPairApart one u t = (one t ≡ one u) ⊎ (Lt t.last u.first ⊎ Lt u.last t.first)
 
-pairs_apart : (one : Table → Bool) (ts : List Table) → IsApart ts → AllByRecursion (λ (u : Table). AllByRecursion (IsPairApart one u) ts) ts
+pairs_apart : (one : Table → Bool) (ts : List Table) → IsApart ts
+    → AllByRecursion (λ (u : Table). AllByRecursion (IsPairApart one u) ts) ts
 pairs_apart one [] apart = tt
 pairs_apart one (t ∷ ts) apart = (
   (inl refl, weaker (λ (u : Table). Lt t.last u.first) (IsPairApart one t) (λ u less. inr (inr less)) ts apart.0),
   heads ts apart.0 (pairs_apart one ts apart.1),
 )
   where
-    heads : (us : List Table) → AllByRecursion (λ (u : Table). Lt t.last u.first) us → AllByRecursion (λ (u : Table). AllByRecursion (IsPairApart one u) ts) us
+    heads : (us : List Table) → AllByRecursion (λ (u : Table). Lt t.last u.first) us
+        → AllByRecursion (λ (u : Table). AllByRecursion (IsPairApart one u) ts) us
         → AllByRecursion (λ (u : Table). AllByRecursion (IsPairApart one u) (t ∷ ts)) us
     heads [] before all = tt
     heads (u ∷ us) before all = ((inr (inl before.0), all.0), heads us before.1 all.1)
@@ -65,13 +71,15 @@ module _ (n : ℕ) (A B : List Table) (distinct_A : IsDistinct A) (distinct_B : 
   inputs_meet : AllByRecursion (λ (t : Table). is_among (numbers_of (with_next (due_inputs n A) B)) t ≡ true → meets (range_of (due_inputs n A)) t ≡ true) B
   inputs_meet = each B (others_turned A B other) (only_one B distinct_B)
     where
-      each : (ts : List Table) → AllByRecursion (λ (t : Table). AllByRecursion (λ (x : Table). x.number ≢ t.number) A) ts
+      each : (ts : List Table)
+          → AllByRecursion (λ (t : Table). AllByRecursion (λ (x : Table). x.number ≢ t.number) A) ts
           → AllByRecursion (λ (t : Table). AllByRecursion (λ (x : Table). x.number ≡ t.number → x ≡ t) B) ts
           → AllByRecursion (λ (t : Table). is_among (numbers_of (with_next (due_inputs n A) B)) t ≡ true → meets (range_of (due_inputs n A)) t ≡ true) ts
       each [] off uniq = tt
       each (t ∷ ts) off uniq = ((λ input. here input), each ts off.1 uniq.1)
         where
-          here : is_among (numbers_of (with_next (due_inputs n A) B)) t ≡ true → meets (range_of (due_inputs n A)) t ≡ true
+          here : is_among (numbers_of (with_next (due_inputs n A) B)) t ≡ true
+              → meets (range_of (due_inputs n A)) t ≡ true
           here input =
               let V : Table → Type 0 = λ x. x.number ≡ t.number → meets (range_of (due_inputs n A)) t ≡ true in
               let left : AllByRecursion V (due_inputs n A) = weaker (λ (x : Table). x.number ≢ t.number) V (λ x apart same. absurd (apart same)) (due_inputs n A) (all_given (λ (x : Table). x.number ≢ t.number) n A off.0) in
@@ -113,7 +121,8 @@ module _ (n : ℕ) (A B : List Table) (distinct_A : IsDistinct A) (distinct_B : 
       meet : AllByRecursion (λ (t : Table). is_among (numbers_of (with_next (due_inputs n A) B)) t ≡ true → meets (Some range) t ≡ true) B
       meet = subst (λ (o : Option Range). AllByRecursion (λ (t : Table). is_among (numbers_of (with_next (due_inputs n A) B)) t ≡ true → meets o t ≡ true) B) is inputs_meet
 
-      above_first : (key : List ℕ) → Lt key range.0 → (ts : List Table) → AllByRecursion (λ (t : Table). is_among (numbers_of (with_next (due_inputs n A) B)) t ≡ true → Le range.0 t.first × Le t.last range.1) ts → AllByRecursion IsRanged ts
+      above_first : (key : List ℕ) → Lt key range.0 → (ts : List Table)
+          → AllByRecursion (λ (t : Table). is_among (numbers_of (with_next (due_inputs n A) B)) t ≡ true → Le range.0 t.first × Le t.last range.1) ts → AllByRecursion IsRanged ts
           → AreAbove (λ t. is_among (numbers_of (with_next (due_inputs n A) B)) t) key ts
       above_first key low [] w r = tt
       above_first key low (t ∷ ts) w r = (
@@ -121,7 +130,8 @@ module _ (n : ℕ) (A B : List Table) (distinct_A : IsDistinct A) (distinct_B : 
         above_first key low ts w.1 r.1,
       )
 
-      below_first : (key : List ℕ) → Lt range.1 key → (ts : List Table) → AllByRecursion (λ (t : Table). is_among (numbers_of (with_next (due_inputs n A) B)) t ≡ true → Le range.0 t.first × Le t.last range.1) ts → AllByRecursion IsRanged ts
+      below_first : (key : List ℕ) → Lt range.1 key → (ts : List Table)
+          → AllByRecursion (λ (t : Table). is_among (numbers_of (with_next (due_inputs n A) B)) t ≡ true → Le range.0 t.first × Le t.last range.1) ts → AllByRecursion IsRanged ts
           → AreBelow (λ t. is_among (numbers_of (with_next (due_inputs n A) B)) t) key ts
       below_first key high [] w r = tt
       below_first key high (t ∷ ts) w r = (
@@ -129,7 +139,8 @@ module _ (n : ℕ) (A B : List Table) (distinct_A : IsDistinct A) (distinct_B : 
         below_first key high ts w.1 r.1,
       )
 
-      above_second : (u : Table) → IsWide u → is_among (numbers_of (with_next (due_inputs n A) B)) u ≡ false → Lt u.last range.0 → (ts : List Table)
+      above_second : (u : Table) → IsWide u → is_among (numbers_of (with_next (due_inputs n A) B)) u ≡ false
+          → Lt u.last range.0 → (ts : List Table)
           → AllByRecursion (IsPairApart (λ t. is_among (numbers_of (with_next (due_inputs n A) B)) t) u) ts
           → AllByRecursion (λ (t : Table). is_among (numbers_of (with_next (due_inputs n A) B)) t ≡ true → meets (Some range) t ≡ true) ts → AllByRecursion IsRanged ts
           → AreAbove (λ t. is_among (numbers_of (with_next (due_inputs n A) B)) t) u.last ts
@@ -147,7 +158,8 @@ module _ (n : ℕ) (A B : List Table) (distinct_A : IsDistinct A) (distinct_B : 
         above_second u wide out low ts pairs.1 m.1 r.1,
       )
 
-      below_second : (u : Table) → IsWide u → is_among (numbers_of (with_next (due_inputs n A) B)) u ≡ false → Lt range.1 u.first → (ts : List Table)
+      below_second : (u : Table) → IsWide u → is_among (numbers_of (with_next (due_inputs n A) B)) u ≡ false
+          → Lt range.1 u.first → (ts : List Table)
           → AllByRecursion (IsPairApart (λ t. is_among (numbers_of (with_next (due_inputs n A) B)) t) u) ts
           → AllByRecursion (λ (t : Table). is_among (numbers_of (with_next (due_inputs n A) B)) t ≡ true → meets (Some range) t ≡ true) ts → AllByRecursion IsRanged ts
           → AreBelow (λ t. is_among (numbers_of (with_next (due_inputs n A) B)) t) u.first ts
@@ -169,7 +181,8 @@ module _ (n : ℕ) (A B : List Table) (distinct_A : IsDistinct A) (distinct_B : 
       is_out true never = absurd (never refl)
       is_out false never = refl
 
-      each : (us : List Table) → AllByRecursion (λ (u : Table). meets (Some range) u ≡ true → is_among (numbers_of (with_next (due_inputs n A) B)) u ≡ true) us
+      each : (us : List Table)
+          → AllByRecursion (λ (u : Table). meets (Some range) u ≡ true → is_among (numbers_of (with_next (due_inputs n A) B)) u ≡ true) us
           → AllByRecursion (λ (u : Table). AllByRecursion (IsPairApart (λ t. is_among (numbers_of (with_next (due_inputs n A) B)) t) u) B) us → AllByRecursion IsWide us
           → AllByRecursion (λ (u : Table). is_among (numbers_of (with_next (due_inputs n A) B)) u ≡ false → IsBeside u) us
       each [] m pairs wide = tt

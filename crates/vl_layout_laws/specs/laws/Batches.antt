@@ -77,7 +77,8 @@ batches_all pass (batch ∷ batches) are =
     ap (λ (cs : List Candidate). batch ++ cs) (batches_all (next_batch pass).1 batches are.1) ∙ batch_found pass batch are.0
 
 -- with at most so many records left to find
-batches_within : (n : ℕ) (pass : Pass) → length (found_by pass) ≤ n → (batches : List (List Candidate)) × AreBatches batches pass
+batches_within : (n : ℕ) (pass : Pass) → length (found_by pass) ≤ n
+    → (batches : List (List Candidate)) × AreBatches batches pass
 batches_within zero pass le = ([], none_given pass (no_length (found_by pass) le))
   where
     no_length : (cs : List Candidate) → length cs ≤ 0 → cs ≡ []
@@ -106,7 +107,8 @@ abbrev Fits : ℕ → ℕ → List Candidate → Type 0
 Fits count bytes cs = (cs ≡ [])
     ⊎ ((count + length cs ≤ max_batch_records) × (bytes + value_lengths cs ≤ max_batch_bytes))
 
-lengths-cons : (c : Candidate) (cs : List Candidate) → value_lengths (c ∷ cs) ≡ value_length c.moved.value + value_lengths cs
+lengths-cons : (c : Candidate) (cs : List Candidate)
+    → value_lengths (c ∷ cs) ≡ value_length c.moved.value + value_lengths cs
 lengths-cons c cs = sum_by-cons (λ (d : Candidate). value_length d.moved.value) c cs
 
 -- one more in front of what fits
@@ -129,7 +131,8 @@ module _ (base : List Entry) (segment : ℕ) where
       Fits count bytes (batch_with (has_room count bytes (value_lengths f)) f (taken_from base segment count bytes rs) (taken_from base segment (count + 1) (bytes + value_lengths f) rs) ([], r ∷ rs)).0
 
   -- behind a first record all that is taken keeps the limits
-  later_fits : (count bytes : ℕ) (rs : List LogRecord) → 1 ≤ count → Fits count bytes (taken_from base segment count bytes rs).0
+  later_fits : (count bytes : ℕ) (rs : List LogRecord) → 1 ≤ count
+      → Fits count bytes (taken_from base segment count bytes rs).0
   later_fits count bytes [] some = inl refl
   later_fits count bytes (r ∷ rs) some =
       by (at_most_one base segment r) (later_fits count bytes rs some)
@@ -155,7 +158,8 @@ module _ (base : List Entry) (segment : ℕ) where
       by (inl unfound) passed behind = subst (IsFitting count bytes r rs) (sym unfound) passed
       by (inr one) passed behind = subst (IsFitting count bytes r rs) (sym one.1) (room behind one.0 (has_room count bytes (value_lengths (one.0 ∷ []))) refl)
 
-  within_first : (c : Candidate) (cs : List Candidate) → Fits 1 (0 + value_lengths (c ∷ [])) cs → IsWithinLimits (c ∷ cs)
+  within_first : (c : Candidate) (cs : List Candidate) → Fits 1 (0 + value_lengths (c ∷ [])) cs
+      → IsWithinLimits (c ∷ cs)
   within_first c cs (inl none) = inl (let one : length (c ∷ cs) ≡ 1 = ap (λ (l : List Candidate). length (c ∷ l)) none in omega (arith, one))
   within_first c cs (inr fits) = inr (omega (arith, fits.0), omega (arith, fits.1, lengths-cons c cs, lengths-cons c []))
 

@@ -82,17 +82,20 @@ kept_at_first l h inputs target = record {
       (IsAccounted (outside_of (sourced l (numbers_of inputs))) (floor l h) []) (λ e is. inl is) (outside_of (sourced l (numbers_of inputs))) (all_there (outside_of (sourced l (numbers_of inputs))));
 }
 
-least_is_least : (last : ℕ) (xs : List Live) → (least_number last xs ≤ last) × AllByRecursion (λ (x : Live). least_number last xs ≤ x.number) xs
+least_is_least : (last : ℕ) (xs : List Live)
+    → (least_number last xs ≤ last) × AllByRecursion (λ (x : Live). least_number last xs ≤ x.number) xs
 least_is_least last [] = (omega arith, tt)
 least_is_least last (x ∷ xs) =
     let later = least_is_least last xs in
     ((let less = later.0 in omega (arith, less)), ((omega arith), all_live_weaker (least_number last xs) (min x.number (least_number last xs)) (omega arith) xs later.1))
   where
-    all_live_weaker : (a b : ℕ) → b ≤ a → (ys : List Live) → AllByRecursion (λ (y : Live). a ≤ y.number) ys → AllByRecursion (λ (y : Live). b ≤ y.number) ys
+    all_live_weaker : (a b : ℕ) → b ≤ a → (ys : List Live) → AllByRecursion (λ (y : Live). a ≤ y.number) ys
+        → AllByRecursion (λ (y : Live). b ≤ y.number) ys
     all_live_weaker a b less [] all = tt
     all_live_weaker a b less (y ∷ ys) all = ((let one = all.0 in omega (arith, less, one)), all_live_weaker a b less ys all.1)
 
-numbers_given : (next : ℕ) (ts : List Table) → AllByRecursion (λ (t : Table). t.number < next) ts → AllByRecursion (λ n. n < next) (numbers_of ts)
+numbers_given : (next : ℕ) (ts : List Table) → AllByRecursion (λ (t : Table). t.number < next) ts
+    → AllByRecursion (λ n. n < next) (numbers_of ts)
 numbers_given next [] all = tt
 numbers_given next (t ∷ ts) all = (all.0, numbers_given next ts all.1)
 
@@ -164,7 +167,8 @@ module _ (l : Layout) (h : History) (job : Job) (moved : List Named) (k : IsOpen
     of = λ key n there. versions-stay h (with_commit h (from_sorted writes)) (with_commit-extends h (from_sorted writes)) key n (k.of key n there);
   }
     where
-      by : (target : Target) → IsFitted l job target → IsFitted (logged (commit_frame h writes) (ended ticket l)) job target
+      by : (target : Target) → IsFitted l job target
+          → IsFitted (logged (commit_frame h writes) (ended ticket l)) job target
       by (Level n) fit = fit
       by InPlace fit = fit
 
@@ -204,7 +208,8 @@ module _ (l : Layout) (h : History) (job : Job) (moved : List Named) (k : IsOpen
     of = k.of;
   }
     where
-      one_later : (ns : List ℕ) → AllByRecursion (λ (n : ℕ). n < l.next_table) ns → AllByRecursion (λ (n : ℕ). n < l.next_table + 1) ns
+      one_later : (ns : List ℕ) → AllByRecursion (λ (n : ℕ). n < l.next_table) ns
+          → AllByRecursion (λ (n : ℕ). n < l.next_table + 1) ns
       one_later [] all = tt
       one_later (n ∷ ns) all = ((let less = all.0 in omega (arith, less)), one_later ns all.1)
 
@@ -215,7 +220,8 @@ module _ (l : Layout) (h : History) (job : Job) (moved : List Named) (k : IsOpen
       by (Level n) fit = fit
       by InPlace fit = fit
 
-  pub open_relocated : (records : List Moved) → IsOpenWell (relocated l records) h job (moves_at (l.version_number + 1) records ++ moved)
+  pub open_relocated : (records : List Moved)
+      → IsOpenWell (relocated l records) h job (moves_at (l.version_number + 1) records ++ moved)
   open_relocated records = record { kept = kept_relocated l records job moved k.kept; last = k.last; live = k.live; given = k.given; standing = k.standing; fitted = by job.target k.fitted; roomy = k.roomy; some = k.some; fits = k.fits; of = k.of }
     where
       by : (target : Target) → IsFitted l job target → IsFitted (relocated l records) job target
@@ -265,7 +271,8 @@ module _ (l : Layout) (h : History) (job : Job) (moved : List Named) (k : IsOpen
       new : tables (flushed l s) ≡ flushed_table l s ∷ tables l
       new = ap (λ (levels : List (List Table)). flat_map (λ ts. ts) (in_front (flushed_table l s) levels)) are ∙ ap (λ (levels : List (List Table)). flushed_table l s ∷ flat_map (λ ts. ts) levels) (sym are)
 
-      all_numbers_weaker : (P Q : ℕ → Type 0) → ((n : ℕ) → P n → Q n) → (ns : List ℕ) → AllByRecursion P ns → AllByRecursion Q ns
+      all_numbers_weaker : (P Q : ℕ → Type 0) → ((n : ℕ) → P n → Q n) → (ns : List ℕ) → AllByRecursion P ns
+          → AllByRecursion Q ns
       all_numbers_weaker P Q f [] all = tt
       all_numbers_weaker P Q f (n ∷ ns) all = (f n all.0, all_numbers_weaker P Q f ns all.1)
 
@@ -284,7 +291,8 @@ module _ (l : Layout) (h : History) (job : Job) (moved : List Named) (k : IsOpen
       later next [] all = tt
       later next (n ∷ ns) all = ((let one = all.0 in omega (arith, one)), later next ns all.1)
 
-      not_one : (next : ℕ) (ns : List ℕ) (t : Table) → t.number ≡ next → AllByRecursion (λ n. n < next) ns → is_among ns t ≡ false
+      not_one : (next : ℕ) (ns : List ℕ) (t : Table) → t.number ≡ next → AllByRecursion (λ n. n < next) ns
+          → is_among ns t ≡ false
       not_one next [] t is below = refl
       not_one next (n ∷ ns) t is below =
           let here : (n == t.number) ≡ false = let less = below.0 in grind (arith, nat_tests, is) in
@@ -307,13 +315,15 @@ module _ (l : Layout) (h : History) (job : Job) (moved : List Named) (k : IsOpen
 
 -- ---- what an install shows, from the engine's floor on
 
-least_above : (low last : ℕ) (xs : List Live) → low ≤ last → AllByRecursion (λ (x : Live). low ≤ x.number) xs → low ≤ least_number last xs
+least_above : (low last : ℕ) (xs : List Live) → low ≤ last
+    → AllByRecursion (λ (x : Live). low ≤ x.number) xs → low ≤ least_number last xs
 least_above low last [] at all = at
 least_above low last (x ∷ xs) at all = let later = least_above low last xs at all.1 in let one = all.0 in omega (arith, later, one)
 
 -- Whatever an install of a job that is open well answers, and however much later it comes, the layout that it leaves shows
 -- the history from where it could be read before.
-pub open_installs : (logs : Logs) (l : Layout) (h : History) (o : OpenJob) → l.job ≡ Some o → (made : Made) → AreOutputs o.job made
+pub open_installs : (logs : Logs) (l : Layout) (h : History) (o : OpenJob) → l.job ≡ Some o → (made : Made)
+    → AreOutputs o.job made
     → IsOpenWell l h o.job o.moved → ShowsLow logs l h → ShowsRuled logs (low_at l h) (install_ruling l h o.job made)
 open_installs logs l h o are made all k shows =
     install_ruling-shows logs l h (low_at l h) o are made all k.kept (by o.job.target k.fitted)
@@ -341,7 +351,8 @@ module _ (logs : Logs) (l : Layout) (h : History) (job : Job) (made : Made) wher
   low_unless (Some name) = λ shown. shown
   low_unless None = low_checked (race job (moved_since l.job))
 
-pub open_installs_low : (logs : Logs) (l : Layout) (h : History) (o : OpenJob) → l.job ≡ Some o → (made : Made) → AreOutputs o.job made
+pub open_installs_low : (logs : Logs) (l : Layout) (h : History) (o : OpenJob) → l.job ≡ Some o
+    → (made : Made) → AreOutputs o.job made
     → IsOpenWell l h o.job o.moved → ShowsLow logs l h
     → ShowsLow logs (install_ruling l h o.job made).layout (install_ruling l h o.job made).history
 open_installs_low logs l h o are made all k shows =
@@ -349,7 +360,8 @@ open_installs_low logs l h o are made all k shows =
 
 -- ---- what the outputs are made of
 
-all_if_so : (Q : Entry → Type 0) (b : Bool) (e : Entry) (es : List Entry) → Q e → AllByRecursion Q es → AllByRecursion Q (if_so b e es)
+all_if_so : (Q : Entry → Type 0) (b : Bool) (e : Entry) (es : List Entry) → Q e → AllByRecursion Q es
+    → AllByRecursion Q (if_so b e es)
 all_if_so Q true e es here all = (here, all)
 all_if_so Q false e es here all = all
 
@@ -364,15 +376,18 @@ all_kept_from Q keep I O f newer (s ∷ ss) all = by s.0 all (λ later. all_kept
     by true all later = all_if_so Q (not (is_dropped keep I O f newer s.1)) s.1 (kept_from keep I O f (s.1 ∷ newer) ss) all.0 (later all.1)
     by false all later = later all
 
-pub inputs_front : (Q : Entry → Type 0) (es : List Entry) (ss : List Sourced) → AllByRecursion Q (inputs_of ss) → AllByRecursion Q (inputs_of (marked_as false es ++ ss))
+pub inputs_front : (Q : Entry → Type 0) (es : List Entry) (ss : List Sourced)
+    → AllByRecursion Q (inputs_of ss) → AllByRecursion Q (inputs_of (marked_as false es ++ ss))
 inputs_front Q [] ss all = all
 inputs_front Q (e ∷ es) ss all = inputs_front Q es ss all
 
-inputs_table : (Q : Entry → Type 0) (b : Bool) (es : List Entry) (ss : List Sourced) → AllByRecursion Q es → AllByRecursion Q (inputs_of ss) → AllByRecursion Q (inputs_of (marked_as b es ++ ss))
+inputs_table : (Q : Entry → Type 0) (b : Bool) (es : List Entry) (ss : List Sourced) → AllByRecursion Q es
+    → AllByRecursion Q (inputs_of ss) → AllByRecursion Q (inputs_of (marked_as b es ++ ss))
 inputs_table Q b [] ss all later = later
 inputs_table Q b (e ∷ es) ss all later = all_if_so Q b e (inputs_of (marked_as b es ++ ss)) all.0 (inputs_table Q b es ss all.1 later)
 
-pub inputs_tables : (Q : Entry → Type 0) (inputs : List ℕ) (ts : List Table) → AllByRecursion Q (all_entries ts) → AllByRecursion Q (inputs_of (marked_tables inputs ts))
+pub inputs_tables : (Q : Entry → Type 0) (inputs : List ℕ) (ts : List Table)
+    → AllByRecursion Q (all_entries ts) → AllByRecursion Q (inputs_of (marked_tables inputs ts))
 inputs_tables Q inputs [] all = tt
 inputs_tables Q inputs (t ∷ ts) all =
     let both = split t.entries (all_entries ts) all in
@@ -383,7 +398,8 @@ inputs_tables Q inputs (t ∷ ts) all =
     split (e ∷ es) fs all = let both = split es fs all.1 in ((all.0, both.0), both.1)
 
 -- What is so of all that the tables hold when a job is installed is so of its outputs.
-pub outputs_from : (Q : Entry → Type 0) (l : Layout) (job : Job) (moved : List Named) → IsKeptFor job moved (sourced l job.inputs)
+pub outputs_from : (Q : Entry → Type 0) (l : Layout) (job : Job) (moved : List Named)
+    → IsKeptFor job moved (sourced l job.inputs)
     → AllByRecursion Q (all_entries (tables l)) → AllByRecursion Q (joined (outputs job))
 outputs_from Q l job moved k all =
     subst (AllByRecursion Q) (sym (cut-whole (merged_entries job)))

@@ -20,7 +20,8 @@ by_test : (b : Bool) (x y : List (List Entry)) → IsAgain x → IsAgain y → I
 by_test true x y one other = one
 by_test false x y one other = other
 
-from_again : (table : List Entry) (key : List ℕ) (closed open_bytes : ℕ) (es : List Entry) → IsAgain (tables_from table key closed open_bytes es)
+from_again : (table : List Entry) (key : List ℕ) (closed open_bytes : ℕ) (es : List Entry)
+    → IsAgain (tables_from table key closed open_bytes es)
 from_again table key closed open_bytes [] = refl
 from_again table key closed open_bytes (e ∷ es) =
     let grown : List (List Entry) = tables_from (table ++ e ∷ []) e.key closed (open_bytes + entry_length table_format e) es in

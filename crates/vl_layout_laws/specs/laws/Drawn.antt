@@ -61,7 +61,8 @@ below_pointed n to bytes (p ∷ ps) less all =
       | Greater ↦ (all.0, below_pointed n to bytes ps less all.1)
     ]
 
-below_with : (n : ℕ) (body : Body) (ps : List Point) → IsFarBelowAt n body → AllByRecursion (λ (p : Point). p.segment < n) ps
+below_with : (n : ℕ) (body : Body) (ps : List Point) → IsFarBelowAt n body
+    → AllByRecursion (λ (p : Point). p.segment < n) ps
     → AllByRecursion (λ (p : Point). p.segment < n) (Rattle.vl_block.specs.Cutting.with_point body ps)
 below_with n (Inline value) ps less all = all
 below_with n Gone ps less all = all
@@ -83,16 +84,19 @@ placed_below n number less (Logged value pointer) own =
       | false ↦ (let same = own.0 in omega (arith, less, same))
     ]
 
-all_placed_below : (n number : ℕ) → number < n → (es : List Entry) → AllByRecursion (IsOwn number) es → AllByRecursion (λ (e : Entry). IsFarBelowAt n e.body) (map placed es)
+all_placed_below : (n number : ℕ) → number < n → (es : List Entry) → AllByRecursion (IsOwn number) es
+    → AllByRecursion (λ (e : Entry). IsFarBelowAt n e.body) (map placed es)
 all_placed_below n number less [] own = tt
 all_placed_below n number less (e ∷ es) own = (placed_below n number less e.body own.0, all_placed_below n number less es own.1)
 
 -- ---- rulings
 
-points_later : (a b : ℕ) → a ≤ b → (ts : List Table) → AllByRecursion (PointsDrawn a) ts → AllByRecursion (PointsDrawn b) ts
+points_later : (a b : ℕ) → a ≤ b → (ts : List Table) → AllByRecursion (PointsDrawn a) ts
+    → AllByRecursion (PointsDrawn b) ts
 points_later a b le ts all = all_weaker (PointsDrawn a) (PointsDrawn b) (λ t is. all_weaker (λ (p : Point). p.segment < a) (λ (p : Point). p.segment < b) (λ p less. omega (arith, le, less)) t.points is) ts all
 
-pins_later : (a b c d : ℕ) → a ≤ c → b ≤ d → (ps : List Pin) → AllByRecursion (λ (p : Pin). AllByRecursion (IsDrawn a b) p.needs) ps
+pins_later : (a b c d : ℕ) → a ≤ c → b ≤ d → (ps : List Pin)
+    → AllByRecursion (λ (p : Pin). AllByRecursion (IsDrawn a b) p.needs) ps
     → AllByRecursion (λ (p : Pin). AllByRecursion (IsDrawn c d) p.needs) ps
 pins_later a b c d al bl ps all = all_weaker (λ (p : Pin). AllByRecursion (IsDrawn a b) p.needs) (λ (p : Pin). AllByRecursion (IsDrawn c d) p.needs)
     (λ p is. all_weaker (IsDrawn a b) (IsDrawn c d) (λ f drawn. drawn_later a b c d al bl f drawn) p.needs is) ps all
@@ -112,7 +116,8 @@ module _ (l : Layout) (s : IsStocked l) (d : IsDrawnWhole l) where
       let outer = all_parts R (map (λ (x : Live). x.pin) l.live ++ job_pin l.job) (pass_pin l.pass) d.pins_drawn in
       (all_parts R (map (λ (x : Live). x.pin) l.live) (job_pin l.job) outer.0, outer.1)
 
-  together : (live job pass : List Pin) → AllByRecursion (λ (p : Pin). AllByRecursion (IsDrawn l.next_log l.next_table) p.needs) live
+  together : (live job pass : List Pin)
+      → AllByRecursion (λ (p : Pin). AllByRecursion (IsDrawn l.next_log l.next_table) p.needs) live
       → AllByRecursion (λ (p : Pin). AllByRecursion (IsDrawn l.next_log l.next_table) p.needs) job
       → AllByRecursion (λ (p : Pin). AllByRecursion (IsDrawn l.next_log l.next_table) p.needs) pass
       → AllByRecursion (λ (p : Pin). AllByRecursion (IsDrawn l.next_log l.next_table) p.needs) ((live ++ job) ++ pass)
@@ -177,7 +182,8 @@ module _ (l : Layout) (s : IsStocked l) (d : IsDrawnWhole l) where
   pub drawn_lent : IsDrawnWhole (lending l)
   drawn_lent = record { points = d.points; pins_drawn = pins_later l.next_log l.next_table l.next_log (l.next_table + 1) (omega arith) (omega arith) (pins l) d.pins_drawn }
 
-  pub drawn_flushed : (x : Segment) (level : List Table) (deeper : List (List Table)) → oldest l.frozen ≡ Some x → l.levels ≡ level ∷ deeper
+  pub drawn_flushed : (x : Segment) (level : List Table) (deeper : List (List Table))
+      → oldest l.frozen ≡ Some x → l.levels ≡ level ∷ deeper
       → IsDrawnWhole (flushed l x)
   drawn_flushed x level deeper waits are = record {
     points =
@@ -188,7 +194,8 @@ module _ (l : Layout) (s : IsStocked l) (d : IsDrawnWhole l) where
     pins_drawn = pins_later l.next_log l.next_table l.next_log (l.next_table + 1) (omega arith) (omega arith) (pins l) d.pins_drawn;
   }
     where
-      of_oldest : (ss : List Segment) (y : Segment) → oldest ss ≡ Some y → AllByRecursion (λ (z : Segment). z.number < l.next_log) ss → y.number < l.next_log
+      of_oldest : (ss : List Segment) (y : Segment) → oldest ss ≡ Some y
+          → AllByRecursion (λ (z : Segment). z.number < l.next_log) ss → y.number < l.next_log
       of_oldest [] y is all = absurd cc
       of_oldest (t ∷ []) y is all = subst (λ (z : Segment). z.number < l.next_log) (the_one t y is) all.0
         where

@@ -66,7 +66,8 @@ module _ (P : Layout → History → Type 0) where
           either (length t.writes == 0) _ _ end
           (λ some. either (nat_le max_commit_number (last_number h)) _ _ w (λ low. checked_leaves conflict))
 
-      unless_leaves : (conflict : Option Named) (halted : Option FileName) → Leaves (commit_unless halted l h t conflict)
+      unless_leaves : (conflict : Option Named) (halted : Option FileName)
+          → Leaves (commit_unless halted l h t conflict)
       unless_leaves conflict (Some name) = end
       unless_leaves conflict None = running_leaves conflict
 
@@ -106,7 +107,8 @@ module _ (P : Layout → History → Type 0) where
           either (has_no_version l) _ _ w
           (λ one. either (nat_le (l.active.length + frame_length l.active.format (Relocated (m ∷ ms))) l.room) _ _ (goes (m ∷ ms)) (λ two. w))
 
-      relocate_unless-leaves : (pass : Pass) (batch : List Candidate) (halted : Option FileName) → Leaves (relocate_unless halted l h pass batch)
+      relocate_unless-leaves : (pass : Pass) (batch : List Candidate) (halted : Option FileName)
+          → Leaves (relocate_unless halted l h pass batch)
       relocate_unless-leaves pass batch (Some name) = w
       relocate_unless-leaves pass batch None = relocate_of-leaves (moved_of (sources l) pass.segment (last_number h) batch)
 

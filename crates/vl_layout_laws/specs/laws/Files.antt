@@ -109,7 +109,8 @@ module _ {X : Type 0} where
       (or_cases (p x) (list_any p xs) there)
 
 -- for each test: where it is passed, it is passed by some of all
-pub seen_by : {X Y : Type 0} (p : Y → X → Bool) (xs : List X) → AllByRecursion (λ (x : X). (y : Y) → p y x ≡ true → list_any (p y) xs ≡ true) xs
+pub seen_by : {X Y : Type 0} (p : Y → X → Bool) (xs : List X)
+    → AllByRecursion (λ (x : X). (y : Y) → p y x ≡ true → list_any (p y) xs ≡ true) xs
 seen_by p [] = tt
 seen_by {X} {Y} p (x ∷ xs) = (
   (λ y is. or_left (p y x) (list_any (p y) xs) is),

@@ -44,7 +44,8 @@ module _ (l : Layout) (h : History) where
       floor-rises l (ended ticket l) h (with_commit h writes) (committed-extends writes) (λ (x : Live). not (x.ticket == ticket)) refl
 
   -- where as many are kept as before
-  pub low-with : (f : ℕ) → floor l h ≤ f → (key : List ℕ) → low h (floor l h) l.keep l.since key ≤ low h f l.keep l.since key
+  pub low-with : (f : ℕ) → floor l h ≤ f → (key : List ℕ)
+      → low h (floor l h) l.keep l.since key ≤ low h f l.keep l.since key
   low-with f le key = low_rises h h same-extends (floor l h) f l.keep l.since key le
 
   pub low-committed : (f : ℕ) (writes : Writes) → floor l h ≤ f → (key : List ℕ)

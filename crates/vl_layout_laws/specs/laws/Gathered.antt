@@ -69,7 +69,8 @@ module _ (keep : ℕ) (I O : List Entry) (floor : ℕ) (inputs : List ℕ) where
   kept_of-append [] ns = refl
   kept_of-append (m ∷ ms) ns = by m.kept (kept_of-append ms ns)
     where
-      by : (b : Bool) → kept_of (ms ++ ns) ≡ kept_of ms ++ kept_of ns → if_so b m.entry (kept_of (ms ++ ns)) ≡ if_so b m.entry (kept_of ms) ++ kept_of ns
+      by : (b : Bool) → kept_of (ms ++ ns) ≡ kept_of ms ++ kept_of ns
+          → if_so b m.entry (kept_of (ms ++ ns)) ≡ if_so b m.entry (kept_of ms) ++ kept_of ns
       by true later = ap (λ es. m.entry ∷ es) later
       by false later = later
 
@@ -77,16 +78,19 @@ module _ (keep : ℕ) (I O : List Entry) (floor : ℕ) (inputs : List ℕ) where
   kept_inputs-append [] ns = refl
   kept_inputs-append (m ∷ ms) ns = by (m.input && m.kept) (kept_inputs-append ms ns)
     where
-      by : (b : Bool) → kept_inputs (ms ++ ns) ≡ kept_inputs ms ++ kept_inputs ns → if_so b m.entry (kept_inputs (ms ++ ns)) ≡ if_so b m.entry (kept_inputs ms) ++ kept_inputs ns
+      by : (b : Bool) → kept_inputs (ms ++ ns) ≡ kept_inputs ms ++ kept_inputs ns
+          → if_so b m.entry (kept_inputs (ms ++ ns)) ≡ if_so b m.entry (kept_inputs ms) ++ kept_inputs ns
       by true later = ap (λ es. m.entry ∷ es) later
       by false later = later
 
   -- outside the inputs all is left
-  pub outside_left : (ps : List Preceded) (es : List Entry) → kept_of (marked_by keep I O floor ps (marked_as false es)) ≡ es
+  pub outside_left : (ps : List Preceded) (es : List Entry)
+      → kept_of (marked_by keep I O floor ps (marked_as false es)) ≡ es
   outside_left ps [] = refl
   outside_left ps (e ∷ es) = ap (λ xs. e ∷ xs) (outside_left ps es)
 
-  pub outside_kept : (ps : List Preceded) (es : List Entry) → kept_inputs (marked_by keep I O floor ps (marked_as false es)) ≡ []
+  pub outside_kept : (ps : List Preceded) (es : List Entry)
+      → kept_inputs (marked_by keep I O floor ps (marked_as false es)) ≡ []
   outside_kept ps [] = refl
   outside_kept ps (e ∷ es) = outside_kept ps es
 
@@ -136,7 +140,8 @@ module _ (keep : ℕ) (I O : List Entry) (floor : ℕ) (inputs : List ℕ) where
   rest_level ps [] = ps
   rest_level ps (t ∷ ts) = rest_level (rest_of ps (marked_as (is_among inputs t) t.entries)) ts
 
-  pub left_is : (ps : List Preceded) (ts : List Table) → kept_of (marked_by keep I O floor ps (marked_tables inputs ts)) ≡ left_level ps ts
+  pub left_is : (ps : List Preceded) (ts : List Table)
+      → kept_of (marked_by keep I O floor ps (marked_tables inputs ts)) ≡ left_level ps ts
   left_is ps [] = refl
   left_is ps (t ∷ ts) =
       let ss = marked_as (is_among inputs t) t.entries in
@@ -144,7 +149,8 @@ module _ (keep : ℕ) (I O : List Entry) (floor : ℕ) (inputs : List ℕ) where
       ∙ kept_of-append (marked_by keep I O floor ps ss) (marked_by keep I O floor (rest_of ps ss) (marked_tables inputs ts))
       ∙ ap (λ xs. kept_of (marked_by keep I O floor ps ss) ++ xs) (left_is (rest_of ps ss) ts)
 
-  pub kept_is : (ps : List Preceded) (ts : List Table) → kept_inputs (marked_by keep I O floor ps (marked_tables inputs ts)) ≡ kept_level ps ts
+  pub kept_is : (ps : List Preceded) (ts : List Table)
+      → kept_inputs (marked_by keep I O floor ps (marked_tables inputs ts)) ≡ kept_level ps ts
   kept_is ps [] = refl
   kept_is ps (t ∷ ts) =
       let ss = marked_as (is_among inputs t) t.entries in
@@ -152,14 +158,16 @@ module _ (keep : ℕ) (I O : List Entry) (floor : ℕ) (inputs : List ℕ) where
       ∙ kept_inputs-append (marked_by keep I O floor ps ss) (marked_by keep I O floor (rest_of ps ss) (marked_tables inputs ts))
       ∙ ap (λ xs. kept_inputs (marked_by keep I O floor ps ss) ++ xs) (kept_is (rest_of ps ss) ts)
 
-  left-append : (ps : List Preceded) (ts us : List Table) → left_level ps (ts ++ us) ≡ left_level ps ts ++ left_level (rest_level ps ts) us
+  left-append : (ps : List Preceded) (ts us : List Table)
+      → left_level ps (ts ++ us) ≡ left_level ps ts ++ left_level (rest_level ps ts) us
   left-append ps [] us = refl
   left-append ps (t ∷ ts) us =
       let ss = marked_as (is_among inputs t) t.entries in
       ap (λ xs. kept_of (marked_by keep I O floor ps ss) ++ xs) (left-append (rest_of ps ss) ts us)
       ∙ sym (append_assoc (kept_of (marked_by keep I O floor ps ss)) (left_level (rest_of ps ss) ts) (left_level (rest_level (rest_of ps ss) ts) us))
 
-  kept-append : (ps : List Preceded) (ts us : List Table) → kept_level ps (ts ++ us) ≡ kept_level ps ts ++ kept_level (rest_level ps ts) us
+  kept-append : (ps : List Preceded) (ts us : List Table)
+      → kept_level ps (ts ++ us) ≡ kept_level ps ts ++ kept_level (rest_level ps ts) us
   kept-append ps [] us = refl
   kept-append ps (t ∷ ts) us =
       let ss = marked_as (is_among inputs t) t.entries in
@@ -393,7 +401,8 @@ module _ (keep : ℕ) (I O : List Entry) (floor : ℕ) (inputs : List ℕ) where
           back [] is = tt
           back (e ∷ es) is = by (eq_by_cmp key_cmp key e.key) refl is (λ later. back es later)
             where
-              by : (b : Bool) → eq_by_cmp key_cmp key e.key ≡ b → cond (eq_by_cmp key_cmp key e.key) (e ∷ of_key key es) (of_key key es) ≡ []
+              by : (b : Bool) → eq_by_cmp key_cmp key e.key ≡ b
+                  → cond (eq_by_cmp key_cmp key e.key) (e ∷ of_key key es) (of_key key es) ≡ []
                   → (of_key key es ≡ [] → IsWithout key es) → (eq_by_cmp key_cmp key e.key ≡ false) × IsWithout key es
               by true at is later = absurd (let some : e ∷ of_key key es ≡ [] = sym (ap (λ b. cond b (e ∷ of_key key es) (of_key key es)) at) ∙ is in cc)
               by false at is later = (at, later (sym (ap (λ b. cond b (e ∷ of_key key es) (of_key key es)) at) ∙ is))
@@ -431,7 +440,8 @@ module _ (keep : ℕ) (I O : List Entry) (floor : ℕ) (inputs : List ℕ) where
           }
 
       -- in place of the one input that stands among these tables
-      pub in_place_placed : (xs : List Table) (t : Table) (ys : List Table) (ps : List Preceded) → IsIdle xs → is_among inputs t ≡ true → IsIdle ys
+      pub in_place_placed : (xs : List Table) (t : Table) (ys : List Table) (ps : List Preceded) → IsIdle xs
+          → is_among inputs t ≡ true → IsIdle ys
           → IsPlaced (left_level ps (xs ++ t ∷ ys)) (kept_level ps (xs ++ t ∷ ys)) (all_entries (xs ++ (new ++ ys)))
       in_place_placed xs t ys ps before is after =
           let qs = rest_level ps xs in

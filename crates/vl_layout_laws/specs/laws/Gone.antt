@@ -21,7 +21,8 @@ pub raised-kept : (gone : ℕ) (es : List Entry) → gone ≤ gone_after gone es
 raised-kept gone [] = omega arith
 raised-kept gone (e ∷ es) = let later = raised-kept gone es in omega (arith, later)
 
-more : (n m : ℕ) → n ≤ m → (es : List Entry) → AllByRecursion (λ (e : Entry). e.version ≤ n) es → AllByRecursion (λ (e : Entry). e.version ≤ m) es
+more : (n m : ℕ) → n ≤ m → (es : List Entry) → AllByRecursion (λ (e : Entry). e.version ≤ n) es
+    → AllByRecursion (λ (e : Entry). e.version ≤ m) es
 more n m le [] all = tt
 more n m le (e ∷ es) all = ((let low = all.0 in omega (arith, low, le)), more n m le es all.1)
 
@@ -30,7 +31,8 @@ raised-reached gone [] = tt
 raised-reached gone (e ∷ es) =
     (omega arith, more (gone_after gone es) (max e.version (gone_after gone es)) (omega arith) es (raised-reached gone es))
 
-pub raised-least : (gone n : ℕ) (es : List Entry) → gone ≤ n → AllByRecursion (λ (e : Entry). e.version ≤ n) es → gone_after gone es ≤ n
+pub raised-least : (gone n : ℕ) (es : List Entry) → gone ≤ n
+    → AllByRecursion (λ (e : Entry). e.version ≤ n) es → gone_after gone es ≤ n
 raised-least gone n [] le all = le
 raised-least gone n (e ∷ es) le all = let later = raised-least gone n es le all.1 in let low = all.0 in omega (arith, later, low)
 

@@ -30,7 +30,8 @@ distinct_tables : (ts : List Table) (more : List ℕ) → AreDistinct (numbers_o
 distinct_tables [] more distinct = tt
 distinct_tables (t ∷ ts) more distinct = (off ts distinct.0, distinct_tables ts more distinct.1)
   where
-    off : (us : List Table) → has t.number (numbers_of us ++ more) ≡ false → AllByRecursion (λ (u : Table). u.number ≢ t.number) us
+    off : (us : List Table) → has t.number (numbers_of us ++ more) ≡ false
+        → AllByRecursion (λ (u : Table). u.number ≢ t.number) us
     off [] none = tt
     off (u ∷ us) none =
         let both = or_false (u.number == t.number) (has t.number (numbers_of us ++ more)) none in
@@ -55,17 +56,20 @@ module _ (l : Layout) (h : History) (o : OpenJob) (is : l.job ≡ Some o) (made 
   pub other_made : AreOther made.tables (tables l)
   other_made = each made.tables (all_parts (λ n. has n (lent_numbers l.job) ≡ true) (numbers_of made.tables) made.leavings lent_here.drawn).0
     where
-      each : (ts : List Table) → AllByRecursion (λ n. has n (lent_numbers l.job) ≡ true) (numbers_of ts) → AllByRecursion (λ (x : Table). AllByRecursion (λ (y : Table). y.number ≢ x.number) (tables l)) ts
+      each : (ts : List Table) → AllByRecursion (λ n. has n (lent_numbers l.job) ≡ true) (numbers_of ts)
+          → AllByRecursion (λ (x : Table). AllByRecursion (λ (y : Table). y.number ≢ x.number) (tables l)) ts
       each [] were = tt
       each (t ∷ ts) were = (off (tables l) (not_standing l w t.number were.0), each ts were.1)
         where
-          off : (us : List Table) → list_any (λ (u : Table). t.number == u.number) us ≡ false → AllByRecursion (λ (u : Table). u.number ≢ t.number) us
+          off : (us : List Table) → list_any (λ (u : Table). t.number == u.number) us ≡ false
+              → AllByRecursion (λ (u : Table). u.number ≢ t.number) us
           off [] none = tt
           off (u ∷ us) none =
               let both = or_false (t.number == u.number) (list_any (λ (v : Table). t.number == v.number) us) none in
               ((λ same. let at : (t.number == u.number) ≡ true = grind (arith, nat_tests, same) in true_false (sym at ∙ both.0)), off us both.1)
 
-  either : (b : Bool) (x y : Ruling InstallAnswer) → AreLevels x.layout.levels → AreLevels y.layout.levels → AreLevels (if b then x else y).layout.levels
+  either : (b : Bool) (x y : Ruling InstallAnswer) → AreLevels x.layout.levels → AreLevels y.layout.levels
+      → AreLevels (if b then x else y).layout.levels
   either true x y one other = one
   either false x y one other = other
 
@@ -83,7 +87,8 @@ module _ (l : Layout) (h : History) (o : OpenJob) (is : l.job ≡ Some o) (made 
 -- ---- a flush
 
 module _ (l : Layout) (h : History) (w : IsWellStocked l) (are : AreLevels l.levels) where
-  kept_either : (b : Bool) (x y : Ruling StepAnswer) → AreLevels x.layout.levels → AreLevels y.layout.levels → AreLevels (if b then x else y).layout.levels
+  kept_either : (b : Bool) (x y : Ruling StepAnswer) → AreLevels x.layout.levels → AreLevels y.layout.levels
+      → AreLevels (if b then x else y).layout.levels
   kept_either true x y one other = one
   kept_either false x y one other = other
 

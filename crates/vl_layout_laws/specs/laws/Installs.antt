@@ -42,7 +42,8 @@ module _ (keep : ℕ) (I O : List Entry) (floor : ℕ) where
   kept_places [] = []
   kept_places (p ∷ ps) = if_so (not (drops_at keep I O floor p)) p.entry (kept_places ps)
 
-  kept_then : (newer : List Entry) (ss : List Sourced) → kept_from keep I O floor newer ss ≡ kept_places (preceded newer ss)
+  kept_then : (newer : List Entry) (ss : List Sourced)
+      → kept_from keep I O floor newer ss ≡ kept_places (preceded newer ss)
   unfolding kept_places
   kept_then newer [] = refl
   kept_then newer (s ∷ ss) = by s.0 (kept_then (s.1 ∷ newer) ss)
@@ -59,7 +60,8 @@ module _ (keep : ℕ) (I O : List Entry) (floor : ℕ) where
   kept_now newer (p ∷ ps) [] zip = absurd zip
   kept_now newer ps (s ∷ ss) zip = by s.0 ps zip (λ (qs : List Preceded) (z : AllZip IsStillBehind qs (preceded (s.1 ∷ newer) ss)). kept_now (s.1 ∷ newer) qs ss z)
     where
-      by : (b : Bool) (qs : List Preceded) → AllZip IsStillBehind qs (preceded_if b s.1 newer (preceded (s.1 ∷ newer) ss))
+      by : (b : Bool) (qs : List Preceded)
+          → AllZip IsStillBehind qs (preceded_if b s.1 newer (preceded (s.1 ∷ newer) ss))
           → ((rs : List Preceded) → AllZip IsStillBehind rs (preceded (s.1 ∷ newer) ss) → kept_inputs (marked_by keep I O floor rs ss) ≡ kept_places rs)
           → if_so ((head_mark keep I O floor b qs s.1).input && (head_mark keep I O floor b qs s.1).kept) (head_mark keep I O floor b qs s.1).entry (kept_inputs (marked_by keep I O floor (rest_preceded b qs) ss)) ≡ kept_places qs
       by false qs zip later = later qs zip
@@ -110,7 +112,8 @@ module _ (l : Layout) (job : Job) (moved : List Named) (k : IsKeptFor job moved 
       ∙ kept_is job.keep I O job.floor job.inputs ps (tables l))
       ∙ kept_is_kept job moved (sourced l job.inputs) k
 
-  gone_in_order : (key : List ℕ) → IsWithout key (kept_level job.keep (inputs_of job.base) (outside_of job.base) job.floor job.inputs (preceded [] job.base) (tables l)) → IsWithout key (merged_entries job)
+  gone_in_order : (key : List ℕ)
+      → IsWithout key (kept_level job.keep (inputs_of job.base) (outside_of job.base) job.floor job.inputs (preceded [] job.base) (tables l)) → IsWithout key (merged_entries job)
   gone_in_order key none = all-in_order (λ (e : Entry). eq_by_cmp key_cmp key e.key ≡ false) (kept job) (subst (IsWithout key) front_kept none)
 
   gathers : (key : List ℕ) (after : List Entry)
@@ -145,7 +148,8 @@ module _ (l : Layout) (job : Job) (moved : List Named) (k : IsKeptFor job moved 
   flat_flat f [] = refl
   flat_flat f (ts ∷ deeper) = ap (λ (us : List Table). flat_map f ts ++ us) (flat_flat f deeper) ∙ sym (flat-append f ts (flat_map (λ us. us) deeper))
     where
-      flat-append : (g : Table → List Table) (us vs : List Table) → flat_map g (us ++ vs) ≡ flat_map g us ++ flat_map g vs
+      flat-append : (g : Table → List Table) (us vs : List Table)
+          → flat_map g (us ++ vs) ≡ flat_map g us ++ flat_map g vs
       flat-append g [] vs = refl
       flat-append g (u ∷ us) vs = ap (λ (xs : List Table). g u ++ xs) (flat-append g us vs) ∙ sym (append_assoc (g u) (flat_map g us) (flat_map g vs))
 
@@ -207,7 +211,8 @@ module _ (logs : Logs) (l : Layout) (h : History) (from : List ℕ → ℕ) (o :
     (k : IsKeptFor o.job o.moved (sourced l o.job.inputs)) (fit : IsFit l o.job o.moved k made all o.job.target)
     (past : (key : List ℕ) (number : ℕ) → from key ≤ number → IsPast o.job.keep (inputs_of o.job.base) o.job.floor key number)
     (shows : Shows logs (sources l) h from (last_number h)) where
-  either : (b : Bool) (x y : Ruling InstallAnswer) → ShowsRuled logs from x → ShowsRuled logs from y → ShowsRuled logs from (if b then x else y)
+  either : (b : Bool) (x y : Ruling InstallAnswer) → ShowsRuled logs from x → ShowsRuled logs from y
+      → ShowsRuled logs from (if b then x else y)
   either true x y one other = one
   either false x y one other = other
 

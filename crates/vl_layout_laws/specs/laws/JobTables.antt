@@ -29,18 +29,21 @@ use Rattle.vl_model.specs.Formats.{table_format}
 
 -- ---- of the entries of all
 
-pub all_tables : (Q : Entry → Type 0) (ts : List Table) → AllByRecursion (λ (t : Table). AllByRecursion Q t.entries) ts → AllByRecursion Q (all_entries ts)
+pub all_tables : (Q : Entry → Type 0) (ts : List Table)
+    → AllByRecursion (λ (t : Table). AllByRecursion Q t.entries) ts → AllByRecursion Q (all_entries ts)
 all_tables Q [] all = tt
 all_tables Q (t ∷ ts) all = all_both Q t.entries (all_entries ts) all.0 (all_tables Q ts all.1)
 
-pub all_made : (P : List Entry → Type 0) (Q : Table → Type 0) → ((n : ℕ) (es : List Entry) → P es → Q (new_table table_format n es))
+pub all_made : (P : List Entry → Type 0) (Q : Table → Type 0)
+    → ((n : ℕ) (es : List Entry) → P es → Q (new_table table_format n es))
     → (ns : List ℕ) (ess : List (List Entry)) → AllByRecursion P ess → AllByRecursion Q (tables_made ns ess)
 all_made P Q gives [] ess all = tt
 all_made P Q gives (n ∷ ns) [] all = tt
 all_made P Q gives (n ∷ ns) (es ∷ ess) all = (gives n es all.0, all_made P Q gives ns ess all.1)
 
 -- what is so of the entries of a job's inputs is so of those of its outputs
-pub outputs_of : (Q : Entry → Type 0) (job : Job) → AllByRecursion Q (inputs_of job.base) → AllByRecursion Q (joined (outputs job))
+pub outputs_of : (Q : Entry → Type 0) (job : Job) → AllByRecursion Q (inputs_of job.base)
+    → AllByRecursion Q (joined (outputs job))
 outputs_of Q job all =
     subst (AllByRecursion Q) (sym (cut-whole (merged_entries job)))
     (all-in_order Q (kept job) (all_kept_from Q job.keep (inputs_of job.base) (Rattle.vl_layout.specs.Merging.outside_of job.base) job.floor [] job.base all))
@@ -82,7 +85,8 @@ module _ (W : ℕ → Type 0) where
 -- ---- the tables of an open job
 
 module _ (l : Layout) (h : History) (job : Job) (moved : List Named) (k : IsOpenWell l h job moved) (made : Made) (all : AreOutputs job made) where
-  made_are : (Q : Table → Type 0) → AllByRecursion Q (tables_made all.numbers (outputs job)) → AllByRecursion Q made.tables
+  made_are : (Q : Table → Type 0) → AllByRecursion Q (tables_made all.numbers (outputs job))
+      → AllByRecursion Q made.tables
   made_are Q these = subst (AllByRecursion Q) (sym all.tables) these
 
   -- what is so of each entry of the tables is so of each of theirs
@@ -94,14 +98,17 @@ module _ (l : Layout) (h : History) (job : Job) (moved : List Named) (k : IsOpen
   made_footed footed = made_are IsFooted (all_made (AllByRecursion HasBytes) IsFooted (λ n es bytes. record { points = refl; bytes = bytes }) all.numbers (outputs job)
       (made_from HasBytes (all_weaker IsFooted (λ (t : Table). AllByRecursion HasBytes t.entries) (λ t is. is.bytes) (tables l) footed)))
 
-  pub made_lead : (W : ℕ → Type 0) → AllByRecursion IsFooted (tables l) → AllByRecursion (λ (t : Table). LeadWell W t.points) (tables l)
+  pub made_lead : (W : ℕ → Type 0) → AllByRecursion IsFooted (tables l)
+      → AllByRecursion (λ (t : Table). LeadWell W t.points) (tables l)
       → AllByRecursion (λ (t : Table). LeadWell W t.points) made.tables
   made_lead W footed lead =
       made_are (λ (t : Table). LeadWell W t.points)
       (all_made (AllByRecursion (IsIntoWell W)) (λ (t : Table). LeadWell W t.points) (λ n es into. points_into W es into) all.numbers (outputs job)
       (made_from (IsIntoWell W) (both (tables l) footed lead)))
     where
-      both : (ts : List Table) → AllByRecursion IsFooted ts → AllByRecursion (λ (t : Table). LeadWell W t.points) ts → AllByRecursion (λ (t : Table). AllByRecursion (IsIntoWell W) t.entries) ts
+      both : (ts : List Table) → AllByRecursion IsFooted ts
+          → AllByRecursion (λ (t : Table). LeadWell W t.points) ts
+          → AllByRecursion (λ (t : Table). AllByRecursion (IsIntoWell W) t.entries) ts
       both [] footed lead = tt
       both (t ∷ ts) footed lead = (entries_into W t.entries (subst (LeadWell W) footed.0.points lead.0), both ts footed.1 lead.1)
 
@@ -113,7 +120,8 @@ module _ (l : Layout) (h : History) (job : Job) (moved : List Named) (k : IsOpen
       all_weaker (λ (t : Table). LeadWell W t.points) (λ (t : Table). leads n t.points ≡ true → W n) (λ t lead is. lead n is) made.tables
       (made_lead W footed (seen_by (λ (m : ℕ) (t : Table). leads m t.points) (tables l)))
 
-  pub made_below : AllByRecursion IsFooted (tables l) → AllByRecursion (PointsDrawn l.next_log) (tables l) → AllByRecursion (PointsDrawn l.next_log) made.tables
+  pub made_below : AllByRecursion IsFooted (tables l) → AllByRecursion (PointsDrawn l.next_log) (tables l)
+      → AllByRecursion (PointsDrawn l.next_log) made.tables
   made_below footed drawn =
       let W : ℕ → Type 0 = λ n. n < l.next_log in
       all_weaker (λ (t : Table). LeadWell W t.points) (PointsDrawn l.next_log) (λ t lead. each_point W t.points lead) made.tables
@@ -137,12 +145,14 @@ pub job_wide : (job : Job) (ns : List ℕ) → AllByRecursion IsWide (tables_mad
 job_wide job ns = made_wide ns (outputs job) (cut_whole job)
 
 -- what is so of all keys is so of the first and the last one of each table
-pub made_ends : (P : List ℕ → Type 0) (ns : List ℕ) (ess : List (List Entry)) → IsCutWell ess → AllByRecursion (AllByRecursion (λ (e : Entry). P e.key)) ess
+pub made_ends : (P : List ℕ → Type 0) (ns : List ℕ) (ess : List (List Entry)) → IsCutWell ess
+    → AllByRecursion (AllByRecursion (λ (e : Entry). P e.key)) ess
     → AllByRecursion (λ (t : Table). P t.first × P t.last) (tables_made ns ess)
 made_ends P [] ess well all = tt
 made_ends P (n ∷ ns) [] well all = tt
 made_ends P (n ∷ ns) (es ∷ ess) well all = ((of_first P es well.1.0 all.0, of_last P es well.1.0 all.0), made_ends P ns ess well.1.1.1 all.1)
 
-pub job_ends : (P : List ℕ → Type 0) (job : Job) (ns : List ℕ) → AllByRecursion (λ (e : Entry). P e.key) (inputs_of job.base)
+pub job_ends : (P : List ℕ → Type 0) (job : Job) (ns : List ℕ)
+    → AllByRecursion (λ (e : Entry). P e.key) (inputs_of job.base)
     → AllByRecursion (λ (t : Table). P t.first × P t.last) (tables_made ns (outputs job))
 job_ends P job ns all = made_ends P ns (outputs job) (cut_whole job) (each_of (λ (e : Entry). P e.key) (outputs job) (outputs_of (λ (e : Entry). P e.key) job all))

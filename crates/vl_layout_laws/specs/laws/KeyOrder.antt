@@ -15,15 +15,18 @@ IsAside new u = AllByRecursion (λ (t : Table). Lt u.last t.first) new ⊎ AllBy
 never_lt : (a b : List ℕ) → Lt a b → Le b a → ⊥
 never_lt a b less le = true_false (sym less ∙ le)
 
-all_both : (P : Table → Type 0) (xs ys : List Table) → AllByRecursion P xs → AllByRecursion P ys → AllByRecursion P (xs ++ ys)
+all_both : (P : Table → Type 0) (xs ys : List Table) → AllByRecursion P xs → AllByRecursion P ys
+    → AllByRecursion P (xs ++ ys)
 all_both P [] ys a b = b
 all_both P (x ∷ xs) ys a b = (a.0, all_both P xs ys a.1 b)
 
-all_weaker : (P Q : Table → Type 0) → ((t : Table) → P t → Q t) → (ts : List Table) → AllByRecursion P ts → AllByRecursion Q ts
+all_weaker : (P Q : Table → Type 0) → ((t : Table) → P t → Q t) → (ts : List Table) → AllByRecursion P ts
+    → AllByRecursion Q ts
 all_weaker P Q f [] all = tt
 all_weaker P Q f (t ∷ ts) all = (f t all.0, all_weaker P Q f ts all.1)
 
-pub all_among : (P : Table → Type 0) (new ts : List Table) → AllByRecursion P new → AllByRecursion P ts → AllByRecursion P (in_key_order new ts)
+pub all_among : (P : Table → Type 0) (new ts : List Table) → AllByRecursion P new → AllByRecursion P ts
+    → AllByRecursion P (in_key_order new ts)
 all_among P new [] a b = a
 all_among P new (t ∷ ts) a b = elim (is_before t new) as (λ c. AllByRecursion P (cond c (t ∷ in_key_order new ts) (new ++ t ∷ ts))) [
   | true ↦ (b.0, all_among P new ts a b.1)
@@ -31,7 +34,8 @@ all_among P new (t ∷ ts) a b = elim (is_before t new) as (λ c. AllByRecursion
 ]
 
 -- where the table is before the first of them it is before all
-before_all : (t : Table) (new : List Table) → IsWide t → AllByRecursion IsWide new → IsAside new t → is_before t new ≡ true
+before_all : (t : Table) (new : List Table) → IsWide t → AllByRecursion IsWide new → IsAside new t
+    → is_before t new ≡ true
     → AllByRecursion (λ (u : Table). Lt t.last u.first) new
 before_all t new wide wides (inl all) is = all
 before_all t [] wide wides (inr all) is = tt
@@ -53,11 +57,13 @@ apart_append (w ∷ ws) t ts a b wide before = (
   apart_append ws t ts a.1 b wide before.1,
 )
 
-pub key_order_apart : (new ts : List Table) → IsApart new → IsApart ts → AllByRecursion IsWide new → AllByRecursion IsWide ts
+pub key_order_apart : (new ts : List Table) → IsApart new → IsApart ts → AllByRecursion IsWide new
+    → AllByRecursion IsWide ts
     → AllByRecursion (IsAside new) ts → IsApart (in_key_order new ts)
 key_order_apart new [] a b wn wt aside = a
 key_order_apart new (t ∷ ts) a b wn wt aside = by (is_before t new) refl (key_order_apart new ts a b.1 wn wt.1 aside.1)
   where
-    by : (c : Bool) → is_before t new ≡ c → IsApart (in_key_order new ts) → IsApart (cond c (t ∷ in_key_order new ts) (new ++ t ∷ ts))
+    by : (c : Bool) → is_before t new ≡ c → IsApart (in_key_order new ts)
+        → IsApart (cond c (t ∷ in_key_order new ts) (new ++ t ∷ ts))
     by true is later = (all_among (λ (u : Table). Lt t.last u.first) new ts (before_all t new wt.0 wn aside.0 is) b.0, later)
     by false is later = apart_append new t ts a b wt.0 (behind_all t new aside.0 is)

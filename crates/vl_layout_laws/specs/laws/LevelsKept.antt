@@ -42,7 +42,8 @@ distinct_both : (xs ys : List Table) → IsDistinct xs → IsDistinct ys → Are
 distinct_both [] ys a b other = b
 distinct_both (x ∷ xs) ys a b other = (all_both (λ (u : Table). u.number ≢ x.number) xs ys a.0 other.0, distinct_both xs ys a.1 b other.1)
 
-distinct_among : (new ts : List Table) → IsDistinct new → IsDistinct ts → AreOther new ts → IsDistinct (in_key_order new ts)
+distinct_among : (new ts : List Table) → IsDistinct new → IsDistinct ts → AreOther new ts
+    → IsDistinct (in_key_order new ts)
 distinct_among new [] a b other = a
 distinct_among new (t ∷ ts) a b other =
     let turned = others_turned new (t ∷ ts) other in
@@ -51,7 +52,8 @@ distinct_among new (t ∷ ts) a b other =
       | false ↦ distinct_both new (t ∷ ts) a b other
     ]
 
-distinct_at_level : (new : List Table) → IsDistinct new → (n : ℕ) (levels : List (List Table)) → IsDistinct (flat levels) → AreOther new (flat levels)
+distinct_at_level : (new : List Table) → IsDistinct new → (n : ℕ) (levels : List (List Table))
+    → IsDistinct (flat levels) → AreOther new (flat levels)
     → IsDistinct (flat (at_level n (in_key_order new) levels))
 distinct_at_level new made n [] d other = tt
 distinct_at_level new made n (ts ∷ deeper) d other =
@@ -74,14 +76,16 @@ filter-append p (x ∷ xs) ys = elim (p x) as (λ b. cond b (x ∷ filter p (xs 
   | false ↦ filter-append p xs ys
 ]
 
-flat_without : (inputs : List ℕ) (levels : List (List Table)) → flat (map (without inputs) levels) ≡ without inputs (flat levels)
+flat_without : (inputs : List ℕ) (levels : List (List Table))
+    → flat (map (without inputs) levels) ≡ without inputs (flat levels)
 flat_without inputs [] = refl
 flat_without inputs (ts ∷ deeper) =
     ap (λ (us : List Table). without inputs ts ++ us) (flat_without inputs deeper) ∙ sym (filter-append (λ t. not (is_among inputs t)) ts (flat deeper))
 
 -- ---- a level of what was replaced
 
-level-map : (f : List Table → List Table) → f [] ≡ [] → (n : ℕ) (levels : List (List Table)) → level_at n (map f levels) ≡ f (level_at n levels)
+level-map : (f : List Table → List Table) → f [] ≡ [] → (n : ℕ) (levels : List (List Table))
+    → level_at n (map f levels) ≡ f (level_at n levels)
 level-map f none n [] = sym none
 level-map f none n (ts ∷ deeper) = elim (n == 0) as (λ b. cond b (f ts) (level_at (n - 1) (map f deeper)) ≡ f (cond b ts (level_at (n - 1) deeper))) [
   | true ↦ refl
@@ -94,7 +98,8 @@ level-at_level : (P : List Table → Type 0) (f : List Table → List Table) (m 
 level-at_level P f m n [] same changed = same
 level-at_level P f m n (ts ∷ deeper) same changed = by (m == 0) (n == 0) refl refl same changed (λ one other. level-at_level P f (m - 1) (n - 1) deeper one other)
   where
-    by : (a b : Bool) → (m == 0) ≡ a → (n == 0) ≡ b → P (cond b ts (level_at (n - 1) deeper)) → (m ≡ n → P (f (cond b ts (level_at (n - 1) deeper))))
+    by : (a b : Bool) → (m == 0) ≡ a → (n == 0) ≡ b → P (cond b ts (level_at (n - 1) deeper))
+        → (m ≡ n → P (f (cond b ts (level_at (n - 1) deeper))))
         → (P (level_at (n - 1) deeper) → (m - 1 ≡ n - 1 → P (f (level_at (n - 1) deeper))) → P (level_at (n - 1) (at_level (m - 1) f deeper)))
         → P (level_at n (cond a (f ts ∷ deeper) (ts ∷ at_level (m - 1) f deeper)))
     by true true m_is n_is one other later = subst (λ b. P (cond b (f ts) (level_at (n - 1) deeper))) (sym n_is) (other (let a : m ≡ 0 = grind (arith, nat_tests, m_is) in let b : n ≡ 0 = grind (arith, nat_tests, n_is) in omega (arith, a, b)))
@@ -114,14 +119,16 @@ length-map : (f : List Table → List Table) (levels : List (List Table)) → le
 length-map f [] = refl
 length-map f (ts ∷ deeper) = let later = length-map f deeper in omega (arith, later)
 
-length-at_level : (n : ℕ) (f : List Table → List Table) (levels : List (List Table)) → length (at_level n f levels) ≡ length levels
+length-at_level : (n : ℕ) (f : List Table → List Table) (levels : List (List Table))
+    → length (at_level n f levels) ≡ length levels
 length-at_level n f [] = refl
 length-at_level n f (ts ∷ deeper) = elim (n == 0) as (λ b. length (cond b (f ts ∷ deeper) (ts ∷ at_level (n - 1) f deeper)) ≡ length (ts ∷ deeper)) [
   | true ↦ omega arith
   | false ↦ (let later = length-at_level (n - 1) f deeper in omega (arith, later))
 ]
 
-pub at_a_level : (P : Table → Type 0) (n : ℕ) (levels : List (List Table)) → AllByRecursion P (flat levels) → AllByRecursion P (level_at n levels)
+pub at_a_level : (P : Table → Type 0) (n : ℕ) (levels : List (List Table)) → AllByRecursion P (flat levels)
+    → AllByRecursion P (level_at n levels)
 at_a_level P n [] all = tt
 at_a_level P n (ts ∷ deeper) all =
     let both = all_parts P ts (flat deeper) all in
@@ -145,15 +152,18 @@ keys_placed : (es : List Entry) → IsSorted es → IsSorted (map placed es)
 keys_placed [] sorted = tt
 keys_placed (e ∷ es) sorted = (below es sorted.0, keys_placed es sorted.1)
   where
-    below : (fs : List Entry) → AllByRecursion (λ (f : Entry). Le e.key f.key) fs → AllByRecursion (λ (f : Entry). Le e.key f.key) (map placed fs)
+    below : (fs : List Entry) → AllByRecursion (λ (f : Entry). Le e.key f.key) fs
+        → AllByRecursion (λ (f : Entry). Le e.key f.key) (map placed fs)
     below [] all = tt
     below (f ∷ fs) all = (all.0, below fs all.1)
 
-both_all : (P Q : Entry → Type 0) (es : List Entry) → AllByRecursion P es → AllByRecursion Q es → AllByRecursion (λ (e : Entry). P e × Q e) es
+both_all : (P Q : Entry → Type 0) (es : List Entry) → AllByRecursion P es → AllByRecursion Q es
+    → AllByRecursion (λ (e : Entry). P e × Q e) es
 both_all P Q [] a b = tt
 both_all P Q (e ∷ es) a b = ((a.0, b.0), both_all P Q es a.1 b.1)
 
-pub levels_flushed : (l : Layout) (s : Segment) → AreLevels l.levels → AllByRecursion (λ (t : Table). t.number < l.next_table) (tables l) → AreLevels (flushed l s).levels
+pub levels_flushed : (l : Layout) (s : Segment) → AreLevels l.levels
+    → AllByRecursion (λ (t : Table). t.number < l.next_table) (tables l) → AreLevels (flushed l s).levels
 levels_flushed l s are drawn = by l.levels are drawn
   where
     t : Table
@@ -165,7 +175,9 @@ levels_flushed l s are drawn = by l.levels are drawn
     ranged : IsRanged (flushed_table l s)
     ranged = both_all (λ (e : Entry). Le (first_key (map placed (memtable s))) e.key) (λ (e : Entry). Le e.key (last_key (map placed (memtable s)))) (map placed (memtable s)) (from_first (map placed (memtable s)) sorted) (up_to_last (map placed (memtable s)) sorted)
 
-    by : (levels : List (List Table)) → AreLevels levels → AllByRecursion (λ (u : Table). u.number < l.next_table) (flat levels) → AreLevels (in_front (flushed_table l s) levels)
+    by : (levels : List (List Table)) → AreLevels levels
+        → AllByRecursion (λ (u : Table). u.number < l.next_table) (flat levels)
+        → AreLevels (in_front (flushed_table l s) levels)
     by [] are drawn = absurd (let seven = are.seven in omega (arith, seven))
     by (level ∷ deeper) are drawn = record {
       distinct = (all_weaker (λ (u : Table). u.number < l.next_table) (λ (u : Table). u.number ≢ l.next_table) (λ u less same. omega (arith, less, same)) (flat (level ∷ deeper)) drawn, are.distinct);
@@ -180,7 +192,8 @@ levels_flushed l s are drawn = by l.levels are drawn
 
 module _ (l : Layout) (h : History) (job : Job) (moved : List Named) (k : IsOpenWell l h job moved) (made : Made) (all : AreOutputs job made)
     (are : AreLevels l.levels) (distinct_made : IsDistinct made.tables) (other : AreOther made.tables (tables l)) where
-  made_all : (Q : Table → Type 0) → AllByRecursion Q (tables_made all.numbers (outputs job)) → AllByRecursion Q made.tables
+  made_all : (Q : Table → Type 0) → AllByRecursion Q (tables_made all.numbers (outputs job))
+      → AllByRecursion Q made.tables
   made_all Q these = subst (AllByRecursion Q) (sym all.tables) these
 
   ranged_made : AllByRecursion IsRanged made.tables
@@ -192,7 +205,8 @@ module _ (l : Layout) (h : History) (job : Job) (moved : List Named) (k : IsOpen
   apart_made : IsApart made.tables
   apart_made = subst IsApart (sym all.tables) (outputs_apart job all.numbers).1
 
-  stay : (P : Table → Type 0) → AllByRecursion P (tables l) → AllByRecursion (λ (t : Table). is_among job.inputs t ≡ false → P t) (tables l)
+  stay : (P : Table → Type 0) → AllByRecursion P (tables l)
+      → AllByRecursion (λ (t : Table). is_among job.inputs t ≡ false → P t) (tables l)
   stay P these = all_weaker P (λ (t : Table). is_among job.inputs t ≡ false → P t) (λ t is out. is) (tables l) these
 
   aside_made : (u : Table) → IsBesideAll (inputs_of job.base) u → IsAside made.tables u
@@ -203,11 +217,13 @@ module _ (l : Layout) (h : History) (job : Job) (moved : List Named) (k : IsOpen
       (made_all (λ (t : Table). Lt t.first u.first × Lt t.last u.first) (job_ends (λ (key : List ℕ). Lt key u.first) job all.numbers below))))
       beside
 
-  asides : (us : List Table) → AllByRecursion (λ (u : Table). is_among job.inputs u ≡ false → IsBesideAll (inputs_of job.base) u) us → AllByRecursion (IsAside made.tables) (without job.inputs us)
+  asides : (us : List Table)
+      → AllByRecursion (λ (u : Table). is_among job.inputs u ≡ false → IsBesideAll (inputs_of job.base) u) us → AllByRecursion (IsAside made.tables) (without job.inputs us)
   asides [] beside = tt
   asides (u ∷ us) beside = by (is_among job.inputs u) beside.0 (asides us beside.1)
     where
-      by : (b : Bool) → (b ≡ false → IsBesideAll (inputs_of job.base) u) → AllByRecursion (IsAside made.tables) (without job.inputs us)
+      by : (b : Bool) → (b ≡ false → IsBesideAll (inputs_of job.base) u)
+          → AllByRecursion (IsAside made.tables) (without job.inputs us)
           → AllByRecursion (IsAside made.tables) (cond (not b) (u ∷ without job.inputs us) (without job.inputs us))
       by true here later = later
       by false here later = (aside_made u (here refl), later)
@@ -236,7 +252,8 @@ module _ (l : Layout) (h : History) (job : Job) (moved : List Named) (k : IsOpen
       kept_wide : (n : ℕ) → AllByRecursion IsWide (level_at n (map (without job.inputs) l.levels))
       kept_wide n = subst (AllByRecursion IsWide) (sym (kept_is n)) (all_filtered IsWide (λ t. not (is_among job.inputs t)) (level_at n l.levels) (at_a_level IsWide n l.levels are.wide))
 
-      kept_aside : (n : ℕ) → m ≡ n → AllByRecursion (IsAside made.tables) (level_at n (map (without job.inputs) l.levels))
+      kept_aside : (n : ℕ) → m ≡ n
+          → AllByRecursion (IsAside made.tables) (level_at n (map (without job.inputs) l.levels))
       kept_aside n same = subst (AllByRecursion (IsAside made.tables)) (sym (kept_is n))
           (asides (level_at n l.levels) (subst (λ (i : ℕ). AllByRecursion (λ (u : Table). is_among job.inputs u ≡ false → IsBesideAll (inputs_of job.base) u) (level_at i l.levels)) same roomy.1.1))
 
@@ -251,11 +268,13 @@ module _ (l : Layout) (h : History) (job : Job) (moved : List Named) (k : IsOpen
   swap-append (x ∷ xs) ys = ap (λ (zs : List Table). cond (is_among job.inputs x) made.tables (x ∷ []) ++ zs) (swap-append xs ys)
       ∙ sym (append_assoc (cond (is_among job.inputs x) made.tables (x ∷ [])) (flat_map (λ t. cond (is_among job.inputs t) made.tables (t ∷ [])) xs) (flat_map (λ t. cond (is_among job.inputs t) made.tables (t ∷ [])) ys))
 
-  swap_idle : (xs : List Table) → IsIdle job.inputs xs → flat_map (λ t. cond (is_among job.inputs t) made.tables (t ∷ [])) xs ≡ xs
+  swap_idle : (xs : List Table) → IsIdle job.inputs xs
+      → flat_map (λ t. cond (is_among job.inputs t) made.tables (t ∷ [])) xs ≡ xs
   swap_idle [] idle = refl
   swap_idle (x ∷ xs) idle = ap (λ b. cond b made.tables (x ∷ []) ++ flat_map (λ t. cond (is_among job.inputs t) made.tables (t ∷ [])) xs) idle.0 ∙ ap (λ (ys : List Table). x ∷ ys) (swap_idle xs idle.1)
 
-  flat_swapped : (levels : List (List Table)) → flat (map (flat_map (λ t. cond (is_among job.inputs t) made.tables (t ∷ []))) levels) ≡ flat_map (λ t. cond (is_among job.inputs t) made.tables (t ∷ [])) (flat levels)
+  flat_swapped : (levels : List (List Table))
+      → flat (map (flat_map (λ t. cond (is_among job.inputs t) made.tables (t ∷ []))) levels) ≡ flat_map (λ t. cond (is_among job.inputs t) made.tables (t ∷ [])) (flat levels)
   flat_swapped [] = refl
   flat_swapped (ts ∷ deeper) = ap (λ (us : List Table). flat_map (λ t. cond (is_among job.inputs t) made.tables (t ∷ [])) ts ++ us) (flat_swapped deeper) ∙ sym (swap-append ts (flat deeper))
 
@@ -263,26 +282,34 @@ module _ (l : Layout) (h : History) (job : Job) (moved : List Named) (k : IsOpen
   abbrev pub IsInside : ℕ → Table → Type 0
   IsInside number u = is_among job.inputs u ≡ true → (u.number ≡ number) × AllByRecursion (λ (v : Table). Le u.first v.first × Le v.last u.last) made.tables
 
-  behind_swapped : (number : ℕ) (t : Table) (us : List Table) → AllByRecursion (λ (u : Table). Lt t.last u.first) us → AllByRecursion (IsInside number) us
+  behind_swapped : (number : ℕ) (t : Table) (us : List Table)
+      → AllByRecursion (λ (u : Table). Lt t.last u.first) us → AllByRecursion (IsInside number) us
       → AllByRecursion (λ (u : Table). Lt t.last u.first) (flat_map (λ t. cond (is_among job.inputs t) made.tables (t ∷ [])) us)
   behind_swapped number t [] after inside = tt
   behind_swapped number t (u ∷ us) after inside =
       all_both (λ (v : Table). Lt t.last v.first) (cond (is_among job.inputs u) made.tables (u ∷ [])) (flat_map (λ t. cond (is_among job.inputs t) made.tables (t ∷ [])) us)
       (one (is_among job.inputs u) refl) (behind_swapped number t us after.1 inside.1)
     where
-      one : (b : Bool) → is_among job.inputs u ≡ b → AllByRecursion (λ (v : Table). Lt t.last v.first) (cond b made.tables (u ∷ []))
+      one : (b : Bool) → is_among job.inputs u ≡ b
+          → AllByRecursion (λ (v : Table). Lt t.last v.first) (cond b made.tables (u ∷ []))
       one true is = all_weaker (λ (v : Table). Le u.first v.first × Le v.last u.last) (λ (v : Table). Lt t.last v.first) (λ v at. lt_le_then t.last u.first v.first after.0 at.0) made.tables (inside.0 is).1
       one false is = (after.0, tt)
 
-  apart_before : (vs us : List Table) → IsApart vs → IsApart us → AllByRecursion (λ (v : Table). AllByRecursion (λ (u : Table). Lt v.last u.first) us) vs → IsApart (vs ++ us)
+  apart_before : (vs us : List Table) → IsApart vs → IsApart us
+      → AllByRecursion (λ (v : Table). AllByRecursion (λ (u : Table). Lt v.last u.first) us) vs
+      → IsApart (vs ++ us)
   apart_before [] us a b before = b
   apart_before (v ∷ vs) us a b before = (all_both (λ (u : Table). Lt v.last u.first) vs us a.0 before.0, apart_before vs us a.1 b before.1)
 
-  apart_swapped : (number : ℕ) (ts : List Table) → IsApart ts → IsDistinct ts → AllByRecursion (IsInside number) ts → IsApart (flat_map (λ t. cond (is_among job.inputs t) made.tables (t ∷ [])) ts)
+  apart_swapped : (number : ℕ) (ts : List Table) → IsApart ts → IsDistinct ts
+      → AllByRecursion (IsInside number) ts
+      → IsApart (flat_map (λ t. cond (is_among job.inputs t) made.tables (t ∷ [])) ts)
   apart_swapped number [] apart d inside = tt
   apart_swapped number (t ∷ ts) apart d inside = by (is_among job.inputs t) refl (apart_swapped number ts apart.1 d.1 inside.1)
     where
-      by : (b : Bool) → is_among job.inputs t ≡ b → IsApart (flat_map (λ t. cond (is_among job.inputs t) made.tables (t ∷ [])) ts) → IsApart (cond b made.tables (t ∷ []) ++ flat_map (λ t. cond (is_among job.inputs t) made.tables (t ∷ [])) ts)
+      by : (b : Bool) → is_among job.inputs t ≡ b
+          → IsApart (flat_map (λ t. cond (is_among job.inputs t) made.tables (t ∷ [])) ts)
+          → IsApart (cond b made.tables (t ∷ []) ++ flat_map (λ t. cond (is_among job.inputs t) made.tables (t ∷ [])) ts)
       by true is later =
           let within = inside.0 is in
           let idle : IsIdle job.inputs ts = no_more ts d.0 inside.1 in
@@ -291,7 +318,8 @@ module _ (l : Layout) (h : History) (job : Job) (moved : List Named) (k : IsOpen
           (all_weaker (λ (v : Table). Le t.first v.first × Le v.last t.last) (λ (v : Table). AllByRecursion (λ (u : Table). Lt v.last u.first) ts)
           (λ v at. all_weaker (λ (u : Table). Lt t.last u.first) (λ (u : Table). Lt v.last u.first) (λ u less. le_lt v.last t.last u.first at.1 less) ts apart.0) made.tables within.1))
         where
-          no_more : (us : List Table) → AllByRecursion (λ (u : Table). u.number ≢ t.number) us → AllByRecursion (IsInside number) us → IsIdle job.inputs us
+          no_more : (us : List Table) → AllByRecursion (λ (u : Table). u.number ≢ t.number) us
+              → AllByRecursion (IsInside number) us → IsIdle job.inputs us
           no_more [] off in_us = tt
           no_more (u ∷ us) off in_us = (not_so (is_among job.inputs u) (λ at. off.0 ((in_us.0 at).0 ∙ sym (inside.0 is).0)), no_more us off.1 in_us.1)
             where
@@ -330,20 +358,24 @@ module _ (l : Layout) (h : History) (job : Job) (moved : List Named) (k : IsOpen
           ∙ ap (λ (us : List Table). fit.0 ++ us)
           (ap (λ b. cond b made.tables (t ∷ []) ++ flat_map (λ t. cond (is_among job.inputs t) made.tables (t ∷ [])) fit.2) fit.4.1.0 ∙ ap (λ (us : List Table). made.tables ++ us) (swap_idle fit.2 fit.4.1.1))
 
-      others : (x : Table) → AllByRecursion (λ (y : Table). y.number ≢ x.number) (tables l) → AllByRecursion (λ (y : Table). y.number ≢ x.number) fit.0 × AllByRecursion (λ (y : Table). y.number ≢ x.number) fit.2
+      others : (x : Table) → AllByRecursion (λ (y : Table). y.number ≢ x.number) (tables l)
+          → AllByRecursion (λ (y : Table). y.number ≢ x.number) fit.0 × AllByRecursion (λ (y : Table). y.number ≢ x.number) fit.2
       others x off = let parts = all_parts (λ (y : Table). y.number ≢ x.number) fit.0 (t ∷ fit.2) (subst (AllByRecursion (λ (y : Table). y.number ≢ x.number)) fit.3 off) in (parts.0, parts.1.1)
 
-      both : (P Q R : Table → Type 0) → ((x : Table) → P x → Q x → R x) → (xs : List Table) → AllByRecursion P xs → AllByRecursion Q xs → AllByRecursion R xs
+      both : (P Q R : Table → Type 0) → ((x : Table) → P x → Q x → R x) → (xs : List Table)
+          → AllByRecursion P xs → AllByRecursion Q xs → AllByRecursion R xs
       both P Q R f [] a b = tt
       both P Q R f (x ∷ xs) a b = (f x a.0 b.0, both P Q R f xs a.1 b.1)
 
       ranged_t : IsRanged t
       ranged_t = (all_parts IsRanged fit.0 (t ∷ fit.2) (subst (AllByRecursion IsRanged) fit.3 are.ranged)).1.0
 
-      idle_so : (P : Table → Type 0) (xs : List Table) → IsIdle job.inputs xs → AllByRecursion (λ (x : Table). is_among job.inputs x ≡ true → P x) xs
+      idle_so : (P : Table → Type 0) (xs : List Table) → IsIdle job.inputs xs
+          → AllByRecursion (λ (x : Table). is_among job.inputs x ≡ true → P x) xs
       idle_so P xs idle = all_weaker (λ (x : Table). is_among job.inputs x ≡ false) (λ (x : Table). is_among job.inputs x ≡ true → P x) (λ x out is. absurd (true_false (sym is ∙ out))) xs idle
 
-      only_t : (P : Table → Type 0) → P t → AllByRecursion (λ (x : Table). is_among job.inputs x ≡ true → P x) (tables l)
+      only_t : (P : Table → Type 0) → P t
+          → AllByRecursion (λ (x : Table). is_among job.inputs x ≡ true → P x) (tables l)
       only_t P here = subst (AllByRecursion (λ (x : Table). is_among job.inputs x ≡ true → P x)) (sym fit.3)
           (all_both (λ (x : Table). is_among job.inputs x ≡ true → P x) fit.0 (t ∷ fit.2) (idle_so P fit.0 fit.4.0) ((λ is. here), idle_so P fit.2 fit.4.1.1))
 
@@ -361,6 +393,7 @@ module _ (l : Layout) (h : History) (job : Job) (moved : List Named) (k : IsOpen
   pub levels_replaced : AreLevels (replaced job.target job.inputs made.tables l.levels)
   levels_replaced = by job.target k.fitted k.roomy
     where
-      by : (target : Target) → IsFitted l job target → IsRoomy l.levels job target → AreLevels (replaced target job.inputs made.tables l.levels)
+      by : (target : Target) → IsFitted l job target → IsRoomy l.levels job target
+          → AreLevels (replaced target job.inputs made.tables l.levels)
       by (Level m) fit roomy = into_level m roomy
       by InPlace fit roomy = into_place fit

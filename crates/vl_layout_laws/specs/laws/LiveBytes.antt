@@ -41,7 +41,8 @@ module _ (segment : ℕ) where
 
   -- ---- a flush
 
-  pub live-flushed : (l : Layout) (s : Segment) (level : List Table) (deeper : List (List Table)) → l.levels ≡ level ∷ deeper
+  pub live-flushed : (l : Layout) (s : Segment) (level : List Table) (deeper : List (List Table))
+      → l.levels ≡ level ∷ deeper
       → live_bytes (tables (flushed l s)) segment ≡ pointed_bytes segment (flushed_table l s).points + live_bytes (tables l) segment
   live-flushed l s level deeper are =
       ap (λ (levels : List (List Table)). live_bytes (flat_map (λ ts. ts) (in_front (flushed_table l s) levels)) segment) are
@@ -51,7 +52,8 @@ module _ (segment : ℕ) where
   -- ---- an install
 
   module _ (inputs : List ℕ) (new : List Table) where
-    live-key_order : (ts : List Table) → live_bytes (in_key_order new ts) segment ≡ live_bytes new segment + live_bytes ts segment
+    live-key_order : (ts : List Table)
+        → live_bytes (in_key_order new ts) segment ≡ live_bytes new segment + live_bytes ts segment
     live-key_order [] = omega arith
     live-key_order (t ∷ ts) =
         elim (is_before t new) as (λ b. live_bytes (cond b (t ∷ in_key_order new ts) (new ++ t ∷ ts)) segment ≡ live_bytes new segment + live_bytes (t ∷ ts) segment) [
@@ -70,7 +72,8 @@ module _ (segment : ℕ) where
           | false ↦ (let a = live-cons t (without inputs ts) in omega (arith, later, whole, a))
         ]
 
-    filter-append : (ts us : List Table) → filter (is_among inputs) (ts ++ us) ≡ filter (is_among inputs) ts ++ filter (is_among inputs) us
+    filter-append : (ts us : List Table)
+        → filter (is_among inputs) (ts ++ us) ≡ filter (is_among inputs) ts ++ filter (is_among inputs) us
     filter-append [] us = refl
     filter-append (t ∷ ts) us = elim (is_among inputs t) as (λ b. cond b (t ∷ filter (is_among inputs) (ts ++ us)) (filter (is_among inputs) (ts ++ us)) ≡ cond b (t ∷ filter (is_among inputs) ts) (filter (is_among inputs) ts) ++ filter (is_among inputs) us) [
       | true ↦ ap (λ xs. t ∷ xs) (filter-append ts us)
@@ -252,7 +255,8 @@ told_discard x fits = omega (arith, fits)
 pub told_worth : (percent : ℕ) (x : SegmentStat) → x.bytes ≤ 2 ^ 64 - 1 → is_worth percent (told x) ≡ is_worth percent x
 told_worth percent x fits = ap (λ d. nat_lt 0 x.bytes && nat_le (percent * x.bytes) (d * 100)) (told_discard x fits)
 
-pub told_better : (x y : SegmentStat) → x.bytes ≤ 2 ^ 64 - 1 → y.bytes ≤ 2 ^ 64 - 1 → is_better (told x) (told y) ≡ is_better x y
+pub told_better : (x y : SegmentStat) → x.bytes ≤ 2 ^ 64 - 1 → y.bytes ≤ 2 ^ 64 - 1
+    → is_better (told x) (told y) ≡ is_better x y
 told_better x y fits fits' =
     ap (λ d. nat_lt (discard (told y) * x.bytes) (d * y.bytes) || ((discard (told y) * x.bytes == d * y.bytes) && nat_lt x.segment y.segment)) (told_discard x fits)
     ∙ ap (λ d. nat_lt (d * x.bytes) (discard x * y.bytes) || ((d * x.bytes == discard x * y.bytes) && nat_lt x.segment y.segment)) (told_discard y fits')

@@ -21,7 +21,8 @@ use Rattle.vl_layout_laws.specs.laws.Floors.{committed-extends}
 
 -- ---- tickets
 
-tickets_above : (n : ℕ) (xs : List Live) → AllByRecursion (λ (x : Live). n < x.ticket) xs → AllByRecursion (λ (t : Ticket). n < t.0) (tickets_of xs)
+tickets_above : (n : ℕ) (xs : List Live) → AllByRecursion (λ (x : Live). n < x.ticket) xs
+    → AllByRecursion (λ (t : Ticket). n < t.0) (tickets_of xs)
 tickets_above n [] all = tt
 tickets_above n (x ∷ xs) all = (all.0, tickets_above n xs all.1)
 
@@ -29,11 +30,13 @@ tickets_rise : (xs : List Live) → IsRising (λ (x : Live). x.ticket) xs → Is
 tickets_rise [] rising = tt
 tickets_rise (x ∷ xs) rising = (tickets_above x.ticket xs rising.0, tickets_rise xs rising.1)
 
-pub free_one : (xs : List Live) → IsRising (λ (x : Live). x.ticket) xs → has_ticket (free_ticket (tickets_of xs)) (tickets_of xs) ≡ false
+pub free_one : (xs : List Live) → IsRising (λ (x : Live). x.ticket) xs
+    → has_ticket (free_ticket (tickets_of xs)) (tickets_of xs) ≡ false
 free_one xs rising = free_ticket-free (tickets_of xs) (tickets_rise xs rising)
 
 -- none that lives has a ticket that is free
-others : (ticket : ℕ) (xs : List Live) → has_ticket ticket (tickets_of xs) ≡ false → AllByRecursion (λ (x : Live). x.ticket ≢ ticket) xs
+others : (ticket : ℕ) (xs : List Live) → has_ticket ticket (tickets_of xs) ≡ false
+    → AllByRecursion (λ (x : Live). x.ticket ≢ ticket) xs
 others ticket [] free = tt
 others ticket (x ∷ xs) free = by_test (x.ticket == ticket) refl free (others ticket xs)
   where
@@ -50,7 +53,8 @@ fewer p (x ∷ xs) = let later = fewer p xs in elim (p x) as (λ b. length (cond
   | false ↦ omega (arith, later)
 ]
 
-up_to : (m n : ℕ) → m ≤ n → (xs : List Live) → AllByRecursion (λ (x : Live). x.number ≤ m) xs → AllByRecursion (λ (x : Live). x.number ≤ n) xs
+up_to : (m n : ℕ) → m ≤ n → (xs : List Live) → AllByRecursion (λ (x : Live). x.number ≤ m) xs
+    → AllByRecursion (λ (x : Live). x.number ≤ n) xs
 up_to m n le [] all = tt
 up_to m n le (x ∷ xs) all = ((let low = all.0 in omega (arith, le, low)), up_to m n le xs all.1)
 
@@ -69,7 +73,8 @@ module _ (l : Layout) (h : History) where
 module _ (l : Layout) (h : History) (w : IsLivedIn l h) where
   -- ---- a begin
 
-  pub live-begun : nat_le max_live (length l.live) ≡ false → IsLivedIn (begun l (free_ticket (tickets_of l.live)) (last_number h)) h
+  pub live-begun : nat_le max_live (length l.live) ≡ false
+      → IsLivedIn (begun l (free_ticket (tickets_of l.live)) (last_number h)) h
   live-begun few =
       let one = length-put_by (λ (x : Live). x.ticket) (record { ticket = free_ticket (tickets_of l.live); number = last_number h; pin = pin_of l }) l.live in
       let room : length l.live < max_live = grind (arith, nat_tests, few) in
@@ -97,7 +102,8 @@ module _ (l : Layout) (h : History) (w : IsLivedIn l h) where
       }
 
 -- behind a commit, whatever else the layout has
-pub live-committed : (l x : Layout) (h : History) (writes : Writes) → x.live ≡ l.live → IsLivedIn l h → IsLivedIn x (with_commit h writes)
+pub live-committed : (l x : Layout) (h : History) (writes : Writes) → x.live ≡ l.live → IsLivedIn l h
+    → IsLivedIn x (with_commit h writes)
 live-committed l x h writes same w = record {
   rising = subst (λ (xs : List Live). IsRising (λ (y : Live). y.ticket) xs) (sym same) w.rising;
   known = subst (λ (xs : List Live). AllByRecursion (λ (y : Live). y.number ≤ last_number (with_commit h writes)) xs) (sym same) (up_to (last_number h) (last_number (with_commit h writes)) (last_number-extends h (with_commit h writes) (committed-extends l h writes)) l.live w.known);

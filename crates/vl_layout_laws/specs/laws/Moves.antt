@@ -54,7 +54,8 @@ shrinks_then segment a b c first second key version place wins = first key versi
 
 module _ (key : List ℕ) (version : ℕ) where
   -- the entry that is found is one of all
-  found_one : (P : Entry → Type 0) (es : List Entry) → AllByRecursion P es → (o : Option Entry) → exact es key version ≡ o
+  found_one : (P : Entry → Type 0) (es : List Entry) → AllByRecursion P es → (o : Option Entry)
+      → exact es key version ≡ o
       → (e : Entry) → o ≡ Some e → P e
   found_one P [] all o is e some = absurd (let none : None ≡ Some e = is ∙ some in cc)
   found_one P (x ∷ xs) all o is e some = by_test (is_at key version x) refl (λ later. found_one P xs all.1 (exact xs key version) refl e later)
@@ -83,11 +84,13 @@ module _ (key : List ℕ) (version : ℕ) where
 
 -- ---- a frame more
 
-outside_record : (segment : ℕ) (c : Change) (p : Pointer) (place : ℕ) → is_far_to segment place (logged_body c p) ≡ false
+outside_record : (segment : ℕ) (c : Change) (p : Pointer) (place : ℕ)
+    → is_far_to segment place (logged_body c p) ≡ false
 outside_record segment (Set value) p place = refl
 outside_record segment Delete p place = refl
 
-outside_records : (format segment number : ℕ) (rs : List LogRecord) → AllByRecursion (IsOutside segment) (map (record_entry format number) rs)
+outside_records : (format segment number : ℕ) (rs : List LogRecord)
+    → AllByRecursion (IsOutside segment) (map (record_entry format number) rs)
 outside_records format segment number [] = tt
 outside_records format segment number (r ∷ rs) = (outside_record segment r.change (pointer_to format number r), outside_records format segment number rs)
 
@@ -138,7 +141,8 @@ module _ (segment last : ℕ) (es : List Entry) where
       q : Moved → Bool
       q m = eq_by_cmp key_cmp key m.key && (m.version == version)
 
-      first : is_moved es segment last c ≡ true → (eq_by_cmp key_cmp key c.moved.key && (c.moved.version == version)) ≡ true
+      first : is_moved es segment last c ≡ true
+          → (eq_by_cmp key_cmp key c.moved.key && (c.moved.version == version)) ≡ true
           → list_any (λ (m : Moved). eq_by_cmp key_cmp key m.key && (m.version == version)) (moved_of es segment last (c ∷ cs)) ≡ true
       first moves at =
           ap (λ b. list_any (λ (m : Moved). eq_by_cmp key_cmp key m.key && (m.version == version)) (map (λ (x : Candidate). x.moved) (cond b (c ∷ filter (is_moved es segment last) cs) (filter (is_moved es segment last) cs)))) moves
@@ -208,10 +212,12 @@ module _ (segment last : ℕ) (l : Layout) (batch : List Candidate) where
 
 -- ---- what a pass gives
 
-pub at_most_one : (base : List Entry) (segment : ℕ) (r : LogRecord) → (found_in base segment r ≡ []) ⊎ ((c : Candidate) × (found_in base segment r ≡ c ∷ []))
+pub at_most_one : (base : List Entry) (segment : ℕ) (r : LogRecord)
+    → (found_in base segment r ≡ []) ⊎ ((c : Candidate) × (found_in base segment r ≡ c ∷ []))
 at_most_one base segment r = by (wins_exactly base segment r.key r.version r.place) r.change
   where
-    by : (b : Bool) (change : Change) → ((if b then valued r change else []) ≡ []) ⊎ ((c : Candidate) × ((if b then valued r change else []) ≡ c ∷ []))
+    by : (b : Bool) (change : Change)
+        → ((if b then valued r change else []) ≡ []) ⊎ ((c : Candidate) × ((if b then valued r change else []) ≡ c ∷ []))
     by false change = inl refl
     by true (Set value) = inr (record { moved = record { key = r.key; version = r.version; value = value }; place = r.place }, refl)
     by true Delete = inl refl
@@ -225,7 +231,8 @@ taken_parts base segment count bytes (r ∷ rs) =
     (taken_parts base segment count bytes rs)
     (λ more. taken_parts base segment (count + 1) (bytes + more) rs)
   where
-    by : (found : List Candidate) → (found_in base segment r ≡ []) ⊎ ((c : Candidate) × (found_in base segment r ≡ c ∷ []))
+    by : (found : List Candidate)
+        → (found_in base segment r ≡ []) ⊎ ((c : Candidate) × (found_in base segment r ≡ c ∷ []))
         → found_in base segment r ≡ found
         → (taken_from base segment count bytes rs).0 ++ found_all base segment (taken_from base segment count bytes rs).1 ≡ found_all base segment rs
         → ((more : ℕ) → (taken_from base segment (count + 1) (bytes + more) rs).0 ++ found_all base segment (taken_from base segment (count + 1) (bytes + more) rs).1 ≡ found_all base segment rs)
@@ -258,14 +265,17 @@ pub pass_settles : (segment : ℕ) (base now : List Entry) → Shrinks segment b
 pass_settles segment base now shrinks [] all = tt
 pass_settles segment base now shrinks (r ∷ rs) all = (one, pass_settles segment base now shrinks rs (later (found_in base segment r) all))
   where
-    later : (found : List Candidate) → AllByRecursion (IsSettled segment now) (found ++ found_all base segment rs) → AllByRecursion (IsSettled segment now) (found_all base segment rs)
+    later : (found : List Candidate)
+        → AllByRecursion (IsSettled segment now) (found ++ found_all base segment rs)
+        → AllByRecursion (IsSettled segment now) (found_all base segment rs)
     later [] a = a
     later (c ∷ cs) a = later cs a.1
 
     one : (value : Stored) → r.change ≡ Set value → wins_exactly now segment r.key r.version r.place ≡ false
     one value is = by (wins_exactly base segment r.key r.version r.place) refl
       where
-        by : (b : Bool) → wins_exactly base segment r.key r.version r.place ≡ b → wins_exactly now segment r.key r.version r.place ≡ false
+        by : (b : Bool) → wins_exactly base segment r.key r.version r.place ≡ b
+            → wins_exactly now segment r.key r.version r.place ≡ false
         by false lost = is_not (wins_exactly now segment r.key r.version r.place) (λ wins. true_false (sym (shrinks r.key r.version r.place wins) ∙ lost))
         by true won =
             let c : Candidate = record { moved = record { key = r.key; version = r.version; value = value }; place = r.place } in
@@ -284,19 +294,24 @@ own_record : (number : ℕ) (c : Change) (p : Pointer) → p.segment ≡ number 
 own_record number (Set value) p is = is
 own_record number Delete p is = tt
 
-own_records : (format number : ℕ) (rs : List LogRecord) → AllByRecursion (λ (e : Entry). IsOwnAt number e.body) (map (record_entry format number) rs)
+own_records : (format number : ℕ) (rs : List LogRecord)
+    → AllByRecursion (λ (e : Entry). IsOwnAt number e.body) (map (record_entry format number) rs)
 own_records format number [] = tt
 own_records format number (r ∷ rs) = (own_record number r.change (pointer_to format number r) refl, own_records format number rs)
 
-own_both : (number : ℕ) (xs ys : List Entry) → AllByRecursion (λ (e : Entry). IsOwnAt number e.body) xs → AllByRecursion (λ (e : Entry). IsOwnAt number e.body) ys → AllByRecursion (λ (e : Entry). IsOwnAt number e.body) (xs ++ ys)
+own_both : (number : ℕ) (xs ys : List Entry) → AllByRecursion (λ (e : Entry). IsOwnAt number e.body) xs
+    → AllByRecursion (λ (e : Entry). IsOwnAt number e.body) ys
+    → AllByRecursion (λ (e : Entry). IsOwnAt number e.body) (xs ++ ys)
 own_both number [] ys a b = b
 own_both number (x ∷ xs) ys a b = (a.0, own_both number xs ys a.1 b)
 
-own_logged : (format number place : ℕ) (fs : List LogFrame) → AllByRecursion (λ (e : Entry). IsOwnAt number e.body) (logged_entries format number place fs)
+own_logged : (format number place : ℕ) (fs : List LogFrame)
+    → AllByRecursion (λ (e : Entry). IsOwnAt number e.body) (logged_entries format number place fs)
 own_logged format number place [] = tt
 own_logged format number place (f ∷ fs) = own_both number (logged_entries format number (place + frame_length format f) fs) (frame_entries format number place f) (own_logged format number (place + frame_length format f) fs) (own_records format number (frame_records format place f))
 
-outside_placed : (segment number : ℕ) → number ≢ segment → (b : Body) → IsOwnAt number b → (place : ℕ) → is_far_to segment place (placement b) ≡ false
+outside_placed : (segment number : ℕ) → number ≢ segment → (b : Body) → IsOwnAt number b → (place : ℕ)
+    → is_far_to segment place (placement b) ≡ false
 outside_placed segment number apart (Inline value) own place = refl
 outside_placed segment number apart Gone own place = refl
 outside_placed segment number apart (Far p) own place = absurd own
@@ -307,11 +322,14 @@ outside_placed segment number apart (Logged value p) own place =
       | false ↦ ap (λ b. b && (p.place == place)) other
     ]
 
-all_outside : (segment number : ℕ) → number ≢ segment → (es : List Entry) → AllByRecursion (λ (e : Entry). IsOwnAt number e.body) es → AllByRecursion (IsOutside segment) (map placed es)
+all_outside : (segment number : ℕ) → number ≢ segment → (es : List Entry)
+    → AllByRecursion (λ (e : Entry). IsOwnAt number e.body) es
+    → AllByRecursion (IsOutside segment) (map placed es)
 all_outside segment number apart [] own = tt
 all_outside segment number apart (e ∷ es) own = ((λ place. outside_placed segment number apart e.body own.0 place), all_outside segment number apart es own.1)
 
-exact-placed : (key : List ℕ) (version : ℕ) (es : List Entry) → exact (map placed es) key version ≡ option_map placed (exact es key version)
+exact-placed : (key : List ℕ) (version : ℕ) (es : List Entry)
+    → exact (map placed es) key version ≡ option_map placed (exact es key version)
 exact-placed key version [] = refl
 exact-placed key version (e ∷ es) = elim (is_at key version e) as (λ b. cond b (Some (placed e)) (exact (map placed es) key version) ≡ option_map placed (cond b (Some e) (exact es key version))) [
   | true ↦ refl
@@ -334,7 +352,8 @@ frozen_parts (t ∷ u ∷ us) s is =
     ∙ sym (append_assoc (memtable t) (flat_map memtable (but_oldest (u ∷ us))) (memtable s))
 
 -- placed entries in place of a memtable's
-placed_shrinks : (segment number : ℕ) → number ≢ segment → (front es back : List Entry) → AllByRecursion (λ (e : Entry). IsOwnAt number e.body) es
+placed_shrinks : (segment number : ℕ) → number ≢ segment → (front es back : List Entry)
+    → AllByRecursion (λ (e : Entry). IsOwnAt number e.body) es
     → Shrinks segment (front ++ (es ++ back)) (front ++ (map placed es ++ back))
 placed_shrinks segment number apart front es back own key version place wins =
     ap (leads_to segment place) (exact-append key version front (es ++ back) ∙ ap (or_else (exact front key version)) (exact-append key version es back))

@@ -75,7 +75,8 @@ module _ (l : Layout) (h : History) where
       either l (length t.writes == 0) _ _ (record { log = omega arith; table = omega arith })
       (either l (nat_le max_commit_number (last_number h)) _ _ w (checked_rises t conflict))
 
-  unless_rises : (t : Transaction) (conflict : Option Named) (halted : Option FileName) → Rises l (commit_unless halted l h t conflict)
+  unless_rises : (t : Transaction) (conflict : Option Named) (halted : Option FileName)
+      → Rises l (commit_unless halted l h t conflict)
   unless_rises t conflict (Some name) = record { log = omega arith; table = omega arith }
   unless_rises t conflict None = running_rises t conflict
 
@@ -120,7 +121,8 @@ module _ (l : Layout) (h : History) where
       either l (has_no_version l) _ _ w
       (either l (nat_le (l.active.length + frame_length l.active.format (Relocated (m ∷ ms))) l.room) _ _ (record { log = omega arith; table = omega arith }) w)
 
-  relocate_unless-rises : (pass : Pass) (batch : List Candidate) (halted : Option FileName) → Rises l (relocate_unless halted l h pass batch)
+  relocate_unless-rises : (pass : Pass) (batch : List Candidate) (halted : Option FileName)
+      → Rises l (relocate_unless halted l h pass batch)
   relocate_unless-rises pass batch (Some name) = w
   relocate_unless-rises pass batch None = relocate_of-rises (moved_of (sources l) pass.segment (last_number h) batch)
 

@@ -27,10 +27,12 @@ use Rattle.vl_layout_laws.specs.laws.Steps.{all_rising, tables_only}
 
 -- ---- lists of files
 
-pub off_both : (f : FileName) (fs gs : List FileName) → is_in f fs ≡ false → is_in f gs ≡ false → is_in f (fs ++ gs) ≡ false
+pub off_both : (f : FileName) (fs gs : List FileName) → is_in f fs ≡ false → is_in f gs ≡ false
+    → is_in f (fs ++ gs) ≡ false
 off_both f fs gs a b = any-append (is_same f) fs gs ∙ neither (is_in f fs) (is_in f gs) a b
 
-pub off_parts : (f : FileName) (fs gs : List FileName) → is_in f (fs ++ gs) ≡ false → (is_in f fs ≡ false) × (is_in f gs ≡ false)
+pub off_parts : (f : FileName) (fs gs : List FileName) → is_in f (fs ++ gs) ≡ false
+    → (is_in f fs ≡ false) × (is_in f gs ≡ false)
 off_parts f fs gs off = or_false (is_in f fs) (is_in f gs) (sym (any-append (is_same f) fs gs) ∙ off)
 
 turned : (f g : FileName) → is_same f g ≡ false → is_same g f ≡ false
@@ -44,7 +46,8 @@ turned (Manifest a) (Log b) is = refl
 turned (Manifest a) (TableFile b) is = refl
 turned (Manifest a) (Manifest b) is = grind (arith, nat_tests, is)
 
-pub once_both : (fs gs : List FileName) → AreOnce fs → AreOnce gs → AllByRecursion (λ g. is_in g fs ≡ false) gs → AreOnce (fs ++ gs)
+pub once_both : (fs gs : List FileName) → AreOnce fs → AreOnce gs
+    → AllByRecursion (λ g. is_in g fs ≡ false) gs → AreOnce (fs ++ gs)
 once_both [] gs a b off = b
 once_both (f ∷ fs) gs a b off = (off_both f fs gs a.0 (none gs off), once_both fs gs a.1 b (all_weaker (λ g. is_in g (f ∷ fs) ≡ false) (λ g. is_in g fs ≡ false) (λ g is. (or_false (is_same g f) (is_in g fs) is).1) gs off))
   where
@@ -52,7 +55,8 @@ once_both (f ∷ fs) gs a b off = (off_both f fs gs a.0 (none gs off), once_both
     none [] all = refl
     none (h ∷ hs) all = neither (is_same f h) (is_in f hs) (turned h f (or_false (is_same h f) (is_in h fs) all.0).0) (none hs all.1)
 
-pub off_filtered : (f : FileName) (p : Retired → Bool) (rs : List Retired) → is_in f (files_of rs) ≡ false → is_in f (files_of (filter p rs)) ≡ false
+pub off_filtered : (f : FileName) (p : Retired → Bool) (rs : List Retired) → is_in f (files_of rs) ≡ false
+    → is_in f (files_of (filter p rs)) ≡ false
 off_filtered f p [] off = refl
 off_filtered f p (r ∷ rs) off =
     let both = or_false (is_same f r.file) (is_in f (files_of rs)) off in
@@ -81,7 +85,8 @@ abbrev pub IsUp : List Segment → Type 0
 IsUp [] = Unit {0}
 IsUp (s ∷ ss) = AllByRecursion (λ (t : Segment). s.number < t.number) ss × IsUp ss
 
-all_put : (P : Segment → Type 0) (s : Segment) (ss : List Segment) → P s → AllByRecursion P ss → AllByRecursion P (put_segment s ss)
+all_put : (P : Segment → Type 0) (s : Segment) (ss : List Segment) → P s → AllByRecursion P ss
+    → AllByRecursion P (put_segment s ss)
 all_put P s [] here all = (here, tt)
 all_put P s (t ∷ ts) here all = elim (nat_cmp s.number t.number) as (λ r. AllByRecursion P (by_order r (s ∷ t ∷ ts) (s ∷ ts) (t ∷ put_segment s ts))) [
   | Less ↦ (here, all)
@@ -93,7 +98,8 @@ up_put : (s : Segment) (ss : List Segment) → IsUp ss → IsUp (put_segment s s
 up_put s [] up = (tt, tt)
 up_put s (t ∷ ts) up = by (nat_cmp s.number t.number) refl (up_put s ts up.1)
   where
-    by : (r : Ordering) → nat_cmp s.number t.number ≡ r → IsUp (put_segment s ts) → IsUp (by_order r (s ∷ t ∷ ts) (s ∷ ts) (t ∷ put_segment s ts))
+    by : (r : Ordering) → nat_cmp s.number t.number ≡ r → IsUp (put_segment s ts)
+        → IsUp (by_order r (s ∷ t ∷ ts) (s ∷ ts) (t ∷ put_segment s ts))
     by Less is later =
         let less : s.number < t.number = ranked s.number t.number Less (sym is) in
         ((less, all_weaker (λ (u : Segment). t.number < u.number) (λ (u : Segment). s.number < u.number) (λ u more. omega (arith, less, more)) ts up.0), up)
@@ -112,7 +118,8 @@ up_once : (ss : List Segment) → IsUp ss → AreOnce (map log_of ss)
 up_once [] up = tt
 up_once (s ∷ ss) up = (none ss up.0, up_once ss up.1)
   where
-    none : (ts : List Segment) → AllByRecursion (λ (t : Segment). s.number < t.number) ts → is_in (log_of s) (map log_of ts) ≡ false
+    none : (ts : List Segment) → AllByRecursion (λ (t : Segment). s.number < t.number) ts
+        → is_in (log_of s) (map log_of ts) ≡ false
     none [] above = refl
     none (t ∷ ts) above =
         let apart : (s.number == t.number) ≡ false = let less = above.0 in grind (arith, nat_tests, less) in
@@ -122,7 +129,8 @@ pub tables_once : (ts : List Table) → IsDistinct ts → AreOnce (map table_of 
 tables_once [] distinct = tt
 tables_once (t ∷ ts) distinct = (none ts distinct.0, tables_once ts distinct.1)
   where
-    none : (us : List Table) → AllByRecursion (λ (u : Table). u.number ≡ t.number → ⊥) us → is_in (table_of t) (map table_of us) ≡ false
+    none : (us : List Table) → AllByRecursion (λ (u : Table). u.number ≡ t.number → ⊥) us
+        → is_in (table_of t) (map table_of us) ≡ false
     none [] off = refl
     none (u ∷ us) off =
         let apart : (t.number == u.number) ≡ false = is_not (t.number == u.number) (λ is. off.0 (let same : u.number ≡ t.number = grind (arith, nat_tests, is) in same)) in
@@ -139,7 +147,8 @@ pub loose_once : (ns : List ℕ) → AreDistinct ns → AreOnce (files_of (loose
 loose_once [] distinct = tt
 loose_once (n ∷ ns) distinct = (none ns distinct.0, loose_once ns distinct.1)
   where
-    none : (ms : List ℕ) → Rattle.vl_model.specs.Numbers.has n ms ≡ false → is_in (TableFile n) (files_of (loose ms)) ≡ false
+    none : (ms : List ℕ) → Rattle.vl_model.specs.Numbers.has n ms ≡ false
+        → is_in (TableFile n) (files_of (loose ms)) ≡ false
     none [] off = refl
     none (m ∷ ms) off =
         let both = or_false (m == n) (Rattle.vl_model.specs.Numbers.has n ms) off in
@@ -155,13 +164,15 @@ log_not_loose n (m ∷ ms) = log_not_loose n ms
 module _ (l : Layout) (dropped : List Table)
     (once : AreOnce (files_of l.retired ++ map table_of dropped))
     (apart : AllByRecursion (IsLogOff (files_of l.retired)) l.flushed) where
-  idle_off : (R : List FileName) → AllByRecursion (IsLogOff R) l.flushed → AllByRecursion (IsLogOff (R ++ map table_of dropped)) l.flushed
+  idle_off : (R : List FileName) → AllByRecursion (IsLogOff R) l.flushed
+      → AllByRecursion (IsLogOff (R ++ map table_of dropped)) l.flushed
   idle_off R all = all_weaker (IsLogOff R) (IsLogOff (R ++ map table_of dropped)) (λ s off. off_both (log_of s) R (map table_of dropped) off (tables_only s.number dropped)) l.flushed all
 
   gone : List Segment
   gone = rising (filter (is_idle l) l.flushed)
 
-  named : (P : FileName → Type 0) (ss : List Segment) → AllByRecursion (λ (s : Segment). P (log_of s)) ss → AllByRecursion P (map log_of ss)
+  named : (P : FileName → Type 0) (ss : List Segment) → AllByRecursion (λ (s : Segment). P (log_of s)) ss
+      → AllByRecursion P (map log_of ss)
   named P [] all = tt
   named P (s ∷ ss) all = (all.0, named P ss all.1)
 
@@ -180,7 +191,8 @@ module _ (l : Layout) (dropped : List Table)
       (all_filtered (IsLogOff (files_of l.retired ++ map table_of dropped)) (is_idle l) l.flushed (idle_off (files_of l.retired) apart)))))
 
   -- a log that isn't idle is none of those that are
-  not_idle : (s : Segment) → is_idle l s ≡ false → (ts : List Segment) → AllByRecursion (λ (t : Segment). is_idle l t ≡ true) ts → is_in (log_of s) (map log_of ts) ≡ false
+  not_idle : (s : Segment) → is_idle l s ≡ false → (ts : List Segment)
+      → AllByRecursion (λ (t : Segment). is_idle l t ≡ true) ts → is_in (log_of s) (map log_of ts) ≡ false
   not_idle s busy [] idle = refl
   not_idle s busy (t ∷ ts) idle = neither (s.number == t.number) (is_in (log_of s) (map log_of ts))
       (is_not (s.number == t.number) (λ is.

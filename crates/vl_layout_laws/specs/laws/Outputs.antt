@@ -80,12 +80,14 @@ all_put P e (f ∷ fs) here all = elim (entry_cmp e f) as (λ r. AllByRecursion 
   | Greater ↦ (all.0, all_put P e fs here all.1)
 ]
 
-pub all_weaker : (P Q : Entry → Type 0) → ((e : Entry) → P e → Q e) → (es : List Entry) → AllByRecursion P es → AllByRecursion Q es
+pub all_weaker : (P Q : Entry → Type 0) → ((e : Entry) → P e → Q e) → (es : List Entry)
+    → AllByRecursion P es → AllByRecursion Q es
 all_weaker P Q f [] all = tt
 all_weaker P Q f (e ∷ es) all = (f e all.0, all_weaker P Q f es all.1)
 
 -- by the order of two entries that of their keys
-key_up : (e f : Entry) (r s : Ordering) → key_cmp e.key f.key ≡ r → (ordering_then r s ≡ Less) ⊎ (ordering_then r s ≡ Equal) → Le e.key f.key
+key_up : (e f : Entry) (r s : Ordering) → key_cmp e.key f.key ≡ r
+    → (ordering_then r s ≡ Less) ⊎ (ordering_then r s ≡ Equal) → Le e.key f.key
 key_up e f Less s is one = ap is_lt (nat_list_cmp_total.antisymm f.key e.key ∙ ap ordering_reverse is)
 key_up e f Equal s is one = ap is_lt (nat_list_cmp_total.antisymm f.key e.key ∙ ap ordering_reverse is)
 key_up e f Greater s is one = absurd (⊎_elim (λ (a : Greater ≡ Less). cc) (λ (b : Greater ≡ Equal). cc) one)
@@ -99,7 +101,8 @@ sorted_put : (e : Entry) (es : List Entry) → IsSorted es → IsSorted (put e e
 sorted_put e [] sorted = (tt, tt)
 sorted_put e (f ∷ fs) sorted = by (entry_cmp e f) refl (sorted_put e fs sorted.1)
   where
-    by : (r : Ordering) → entry_cmp e f ≡ r → IsSorted (put e fs) → IsSorted (by_order r (e ∷ f ∷ fs) (e ∷ fs) (f ∷ put e fs))
+    by : (r : Ordering) → entry_cmp e f ≡ r → IsSorted (put e fs)
+        → IsSorted (by_order r (e ∷ f ∷ fs) (e ∷ fs) (f ∷ put e fs))
     by Less is later =
         let up = key_up e f (key_cmp e.key f.key) (nat_cmp f.version e.version) refl (inl is) in
         ((up, all_weaker (λ (g : Entry). Le f.key g.key) (λ (g : Entry). Le e.key g.key) (λ g le. le_then e.key f.key g.key up le) fs sorted.0), sorted)
@@ -121,15 +124,18 @@ IsCutWell [] = Unit {0}
 IsCutWell (es ∷ ess) = AllByRecursion (λ (e : Entry). AllByRecursion (λ (f : Entry). Lt e.key f.key) (joined ess)) es
     × ((1 ≤ length es) × (IsSorted es × IsCutWell ess))
 
-all_both : (P : Entry → Type 0) (xs ys : List Entry) → AllByRecursion P xs → AllByRecursion P ys → AllByRecursion P (xs ++ ys)
+all_both : (P : Entry → Type 0) (xs ys : List Entry) → AllByRecursion P xs → AllByRecursion P ys
+    → AllByRecursion P (xs ++ ys)
 all_both P [] ys a b = b
 all_both P (x ∷ xs) ys a b = (a.0, all_both P xs ys a.1 b)
 
-sorted_more : (xs : List Entry) (e : Entry) → IsSorted xs → AllByRecursion (λ (x : Entry). Le x.key e.key) xs → IsSorted (xs ++ e ∷ [])
+sorted_more : (xs : List Entry) (e : Entry) → IsSorted xs
+    → AllByRecursion (λ (x : Entry). Le x.key e.key) xs → IsSorted (xs ++ e ∷ [])
 sorted_more [] e sorted below = (tt, tt)
 sorted_more (x ∷ xs) e sorted below = (all_both (λ (y : Entry). Le x.key y.key) xs (e ∷ []) sorted.0 (below.0, tt), sorted_more xs e sorted.1 below.1)
 
-nothing_behind : (es : List Entry) → AllByRecursion (λ (e : Entry). AllByRecursion (λ (f : Entry). Lt e.key f.key) []) es
+nothing_behind : (es : List Entry)
+    → AllByRecursion (λ (e : Entry). AllByRecursion (λ (f : Entry). Lt e.key f.key) []) es
 nothing_behind [] = tt
 nothing_behind (e ∷ es) = (tt, nothing_behind es)
 
@@ -178,11 +184,13 @@ cut_well (e ∷ es) sorted = from_well (e ∷ []) e.key 0 (begun_length table_fo
 
 -- ---- the tables
 
-pub of_first : (P : List ℕ → Type 0) (es : List Entry) → 1 ≤ length es → AllByRecursion (λ (e : Entry). P e.key) es → P (first_key es)
+pub of_first : (P : List ℕ → Type 0) (es : List Entry) → 1 ≤ length es
+    → AllByRecursion (λ (e : Entry). P e.key) es → P (first_key es)
 of_first P [] some all = absurd (omega (arith, some))
 of_first P (e ∷ es) some all = all.0
 
-pub of_last : (P : List ℕ → Type 0) (es : List Entry) → 1 ≤ length es → AllByRecursion (λ (e : Entry). P e.key) es → P (last_key es)
+pub of_last : (P : List ℕ → Type 0) (es : List Entry) → 1 ≤ length es
+    → AllByRecursion (λ (e : Entry). P e.key) es → P (last_key es)
 of_last P [] some all = absurd (omega (arith, some))
 of_last P (e ∷ []) some all = all.0
 of_last P (e ∷ f ∷ fs) some all = of_last P (f ∷ fs) (omega arith) all.1
@@ -196,11 +204,13 @@ pub from_first : (es : List Entry) → IsSorted es → AllByRecursion (λ (e : E
 from_first [] sorted = tt
 from_first (e ∷ es) sorted = (ap is_lt (key_tied e.key), sorted.0)
 
-both_all : (P Q : Entry → Type 0) (es : List Entry) → AllByRecursion P es → AllByRecursion Q es → AllByRecursion (λ (e : Entry). P e × Q e) es
+both_all : (P Q : Entry → Type 0) (es : List Entry) → AllByRecursion P es → AllByRecursion Q es
+    → AllByRecursion (λ (e : Entry). P e × Q e) es
 both_all P Q [] a b = tt
 both_all P Q (e ∷ es) a b = ((a.0, b.0), both_all P Q es a.1 b.1)
 
-pub made_ranged : (numbers : List ℕ) (ess : List (List Entry)) → IsCutWell ess → AllByRecursion IsRanged (tables_made numbers ess)
+pub made_ranged : (numbers : List ℕ) (ess : List (List Entry)) → IsCutWell ess
+    → AllByRecursion IsRanged (tables_made numbers ess)
 made_ranged [] ess well = tt
 made_ranged (n ∷ ns) [] well = tt
 made_ranged (n ∷ ns) (es ∷ ess) well = (
@@ -208,7 +218,8 @@ made_ranged (n ∷ ns) (es ∷ ess) well = (
   made_ranged ns ess well.1.1.1,
 )
 
-all_joined : (P : List ℕ → Type 0) (numbers : List ℕ) (ess : List (List Entry)) → IsCutWell ess → AllByRecursion (λ (f : Entry). P f.key) (joined ess)
+all_joined : (P : List ℕ → Type 0) (numbers : List ℕ) (ess : List (List Entry)) → IsCutWell ess
+    → AllByRecursion (λ (f : Entry). P f.key) (joined ess)
     → AllByRecursion (λ (u : Table). P u.first) (tables_made numbers ess)
 all_joined P [] ess well all = tt
 all_joined P (n ∷ ns) [] well all = tt
@@ -216,7 +227,8 @@ all_joined P (n ∷ ns) (es ∷ ess) well all =
     let both = split es (joined ess) all in
     (of_first P es well.1.0 both.0, all_joined P ns ess well.1.1.1 both.1)
   where
-    split : (xs ys : List Entry) → AllByRecursion (λ (f : Entry). P f.key) (xs ++ ys) → AllByRecursion (λ (f : Entry). P f.key) xs × AllByRecursion (λ (f : Entry). P f.key) ys
+    split : (xs ys : List Entry) → AllByRecursion (λ (f : Entry). P f.key) (xs ++ ys)
+        → AllByRecursion (λ (f : Entry). P f.key) xs × AllByRecursion (λ (f : Entry). P f.key) ys
     split [] ys all = (tt, all)
     split (x ∷ xs) ys all = let both = split xs ys all.1 in ((all.0, both.0), both.1)
 
@@ -229,7 +241,8 @@ made_apart (n ∷ ns) (es ∷ ess) well = (
 )
 
 -- The outputs of a job, whatever their numbers, are ranged and apart.
-pub outputs_apart : (job : Job) (numbers : List ℕ) → AllByRecursion IsRanged (tables_made numbers (outputs job)) × IsApart (tables_made numbers (outputs job))
+pub outputs_apart : (job : Job) (numbers : List ℕ)
+    → AllByRecursion IsRanged (tables_made numbers (outputs job)) × IsApart (tables_made numbers (outputs job))
 outputs_apart job numbers =
     let well = cut_well (merged_entries job) (sorted_in_order (kept job)) in
     (made_ranged numbers (outputs job) well, made_apart numbers (outputs job) well)

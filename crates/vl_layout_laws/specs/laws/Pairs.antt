@@ -73,19 +73,23 @@ greater_right a b = by (is_lt (key_cmp a b)) refl
 -- ---- lists
 
 module _ {X : Type 0} where
-  pub all_parts : (P : X → Type 0) (xs ys : List X) → AllByRecursion P (xs ++ ys) → AllByRecursion P xs × AllByRecursion P ys
+  pub all_parts : (P : X → Type 0) (xs ys : List X) → AllByRecursion P (xs ++ ys)
+      → AllByRecursion P xs × AllByRecursion P ys
   all_parts P [] ys all = (tt, all)
   all_parts P (x ∷ xs) ys all = let both = all_parts P xs ys all.1 in ((all.0, both.0), both.1)
 
-  pub all_both : (P : X → Type 0) (xs ys : List X) → AllByRecursion P xs → AllByRecursion P ys → AllByRecursion P (xs ++ ys)
+  pub all_both : (P : X → Type 0) (xs ys : List X) → AllByRecursion P xs → AllByRecursion P ys
+      → AllByRecursion P (xs ++ ys)
   all_both P [] ys some others = others
   all_both P (x ∷ xs) ys some others = (some.0, all_both P xs ys some.1 others)
 
-  pub all_weaker : (P Q : X → Type 0) → ((x : X) → P x → Q x) → (xs : List X) → AllByRecursion P xs → AllByRecursion Q xs
+  pub all_weaker : (P Q : X → Type 0) → ((x : X) → P x → Q x) → (xs : List X) → AllByRecursion P xs
+      → AllByRecursion Q xs
   all_weaker P Q f [] all = tt
   all_weaker P Q f (x ∷ xs) all = (f x all.0, all_weaker P Q f xs all.1)
 
-  pub all_filtered : (P : X → Type 0) (p : X → Bool) (xs : List X) → AllByRecursion P xs → AllByRecursion P (filter p xs)
+  pub all_filtered : (P : X → Type 0) (p : X → Bool) (xs : List X) → AllByRecursion P xs
+      → AllByRecursion P (filter p xs)
   all_filtered P p [] all = tt
   all_filtered P p (x ∷ xs) all = elim (p x) as (λ b. AllByRecursion P (cond b (x ∷ filter p xs) (filter p xs))) [
     | true ↦ (all.0, all_filtered P p xs all.1)
@@ -108,22 +112,28 @@ pub others_turned : (xs ys : List Table) → AreOther xs ys → AreOther ys xs
 others_turned xs [] other = tt
 others_turned xs (y ∷ ys) other = (heads xs other, others_turned xs ys (tails xs other))
   where
-    heads : (zs : List Table) → AllByRecursion (λ (x : Table). AllByRecursion (λ (u : Table). u.number ≢ x.number) (y ∷ ys)) zs → AllByRecursion (λ (z : Table). z.number ≢ y.number) zs
+    heads : (zs : List Table)
+        → AllByRecursion (λ (x : Table). AllByRecursion (λ (u : Table). u.number ≢ x.number) (y ∷ ys)) zs
+        → AllByRecursion (λ (z : Table). z.number ≢ y.number) zs
     heads [] all = tt
     heads (z ∷ zs) all = ((λ same. all.0.0 (sym same)), heads zs all.1)
 
-    tails : (zs : List Table) → AllByRecursion (λ (x : Table). AllByRecursion (λ (u : Table). u.number ≢ x.number) (y ∷ ys)) zs → AreOther zs ys
+    tails : (zs : List Table)
+        → AllByRecursion (λ (x : Table). AllByRecursion (λ (u : Table). u.number ≢ x.number) (y ∷ ys)) zs
+        → AreOther zs ys
     tails [] all = tt
     tails (z ∷ zs) all = (all.0.1, tails zs all.1)
 
-pub not_one_of : (u : Table) (ins : List Table) → AllByRecursion (λ (t : Table). t.number ≢ u.number) ins → is_among (numbers_of ins) u ≡ false
+pub not_one_of : (u : Table) (ins : List Table) → AllByRecursion (λ (t : Table). t.number ≢ u.number) ins
+    → is_among (numbers_of ins) u ≡ false
 not_one_of u [] all = refl
 not_one_of u (t ∷ ts) all =
     let here : (t.number == u.number) ≡ false = let apart = all.0 in grind (arith, nat_tests, apart) in
     ap (λ b. b || is_among (numbers_of ts) u) here ∙ not_one_of u ts all.1
 
 -- a table of one of some numbers has the number of one of these
-pub one_is : (u : Table) (P : Table → Type 0) (ins : List Table) → AllByRecursion P ins → is_among (numbers_of ins) u ≡ true
+pub one_is : (u : Table) (P : Table → Type 0) (ins : List Table) → AllByRecursion P ins
+    → is_among (numbers_of ins) u ≡ true
     → (t : Table) × (t.number ≡ u.number) × P t
 one_is u P [] all is = absurd (true_false (sym is))
 one_is u P (t ∷ ts) all is = ⊎_elim
@@ -131,7 +141,8 @@ one_is u P (t ∷ ts) all is = ⊎_elim
     (λ (later : is_among (numbers_of ts) u ≡ true). one_is u P ts all.1 later)
     (or_cases (t.number == u.number) (is_among (numbers_of ts) u) is)
 
-pub one_itself : (P : Table → Type 0) (ins : List Table) → AllByRecursion (λ (t : Table). is_among (numbers_of ins) t ≡ true) ins
+pub one_itself : (P : Table → Type 0) (ins : List Table)
+    → AllByRecursion (λ (t : Table). is_among (numbers_of ins) t ≡ true) ins
 one_itself P [] = tt
 one_itself P (t ∷ ts) =
     let here : (t.number == t.number) ≡ true = grind (arith, nat_tests) in (
@@ -148,16 +159,19 @@ one_itself P (t ∷ ts) =
 abbrev pub holds : List ℕ → Table → Bool
 holds key t = list_any (λ (e : Entry). eq_by_cmp key_cmp key e.key) t.entries
 
-pub not_held : (key : List ℕ) (es : List Entry) → list_any (λ (e : Entry). eq_by_cmp key_cmp key e.key) es ≡ false → IsWithout key es
+pub not_held : (key : List ℕ) (es : List Entry)
+    → list_any (λ (e : Entry). eq_by_cmp key_cmp key e.key) es ≡ false → IsWithout key es
 not_held key [] none = tt
 not_held key (e ∷ es) none = by (eq_by_cmp key_cmp key e.key) refl (λ later. not_held key es later)
   where
-    by : (b : Bool) → eq_by_cmp key_cmp key e.key ≡ b → (list_any (λ (f : Entry). eq_by_cmp key_cmp key f.key) es ≡ false → IsWithout key es)
+    by : (b : Bool) → eq_by_cmp key_cmp key e.key ≡ b
+        → (list_any (λ (f : Entry). eq_by_cmp key_cmp key f.key) es ≡ false → IsWithout key es)
         → (eq_by_cmp key_cmp key e.key ≡ false) × IsWithout key es
     by true is later = absurd (true_false (sym (ap (λ b. b || list_any (λ (f : Entry). eq_by_cmp key_cmp key f.key) es) is) ∙ none))
     by false is later = (is, later (sym (ap (λ b. b || list_any (λ (f : Entry). eq_by_cmp key_cmp key f.key) es) is) ∙ none))
 
-pub held_within : (key first last : List ℕ) (es : List Entry) → AllByRecursion (λ (e : Entry). Le first e.key × Le e.key last) es
+pub held_within : (key first last : List ℕ) (es : List Entry)
+    → AllByRecursion (λ (e : Entry). Le first e.key × Le e.key last) es
     → list_any (λ (e : Entry). eq_by_cmp key_cmp key e.key) es ≡ true → Le first key × Le key last
 held_within key first last [] all there = absurd (true_false (sym there))
 held_within key first last (e ∷ es) all there = ⊎_elim
@@ -192,7 +206,9 @@ module _ (key : List ℕ) (keep : ℕ) (I O : List Entry) (floor : ℕ) (inputs 
   apart_parted [] apart ranged = tt
   apart_parted (t ∷ ts) apart ranged = ((λ is. by (holds key t) refl), apart_parted ts apart.1 ranged.1)
     where
-      clear : holds key t ≡ true → (us : List Table) → AllByRecursion (λ (u : Table). is_lt (key_cmp t.last u.first) ≡ true) us → AllByRecursion IsRanged us
+      clear : holds key t ≡ true → (us : List Table)
+          → AllByRecursion (λ (u : Table). is_lt (key_cmp t.last u.first) ≡ true) us
+          → AllByRecursion IsRanged us
           → IsClear keep I O floor inputs key us
       clear held [] before rs = tt
       clear held (u ∷ us) before rs = ((λ out. without_by key u (λ there. not_both key t u ranged.0 rs.0 before.0 held there)), clear held us before.1 rs.1)
@@ -202,7 +218,8 @@ module _ (key : List ℕ) (keep : ℕ) (I O : List Entry) (floor : ℕ) (inputs 
       by true is = inr (clear is ts apart.0 ranged.1)
 
   -- where all are inputs
-  pub all_parted : (ts : List Table) → AllByRecursion (λ (t : Table). is_among inputs t ≡ true) ts → IsParted keep I O floor inputs key ts × IsClear keep I O floor inputs key ts
+  pub all_parted : (ts : List Table) → AllByRecursion (λ (t : Table). is_among inputs t ≡ true) ts
+      → IsParted keep I O floor inputs key ts × IsClear keep I O floor inputs key ts
   all_parted [] all = (tt, tt)
   all_parted (t ∷ ts) all =
       let later = all_parted ts all.1 in
@@ -214,12 +231,15 @@ module _ (key : List ℕ) (keep : ℕ) (I O : List Entry) (floor : ℕ) (inputs 
   input_clear [] apart ranged there = tt
   input_clear (t ∷ ts) apart ranged there = by (is_among inputs t && holds key t) refl (λ later. input_clear ts apart.1 ranged.1 later)
     where
-      behind : holds key t ≡ true → (us : List Table) → AllByRecursion (λ (u : Table). is_lt (key_cmp t.last u.first) ≡ true) us → AllByRecursion IsRanged us
+      behind : holds key t ≡ true → (us : List Table)
+          → AllByRecursion (λ (u : Table). is_lt (key_cmp t.last u.first) ≡ true) us
+          → AllByRecursion IsRanged us
           → IsClear keep I O floor inputs key us
       behind held [] before rs = tt
       behind held (u ∷ us) before rs = ((λ out. without_by key u (λ there. not_both key t u ranged.0 rs.0 before.0 held there)), behind held us before.1 rs.1)
 
-      never : (us : List Table) → AllByRecursion (λ (u : Table). is_lt (key_cmp t.last u.first) ≡ true) us → AllByRecursion IsRanged us
+      never : (us : List Table) → AllByRecursion (λ (u : Table). is_lt (key_cmp t.last u.first) ≡ true) us
+          → AllByRecursion IsRanged us
           → list_any (λ (u : Table). is_among inputs u && holds key u) us ≡ true → holds key t ≡ true → ⊥
       never [] before rs there held = true_false (sym there)
       never (u ∷ us) before rs there held = ⊎_elim
@@ -237,7 +257,9 @@ module _ (key : List ℕ) (keep : ℕ) (I O : List Entry) (floor : ℕ) (inputs 
           let rest : list_any (λ (u : Table). is_among inputs u && holds key u) ts ≡ true = sym (ap (λ b. b || list_any (λ (u : Table). is_among inputs u && holds key u) ts) is) ∙ there in
           ((λ out. without_by key t (λ held. never ts apart.0 ranged.1 rest held)), later rest)
 
-  pub untouched_by : (ts : List Table) → list_any (λ (t : Table). is_among inputs t && holds key t) ts ≡ false → IsUntouched keep I O floor inputs key ts
+  pub untouched_by : (ts : List Table)
+      → list_any (λ (t : Table). is_among inputs t && holds key t) ts ≡ false
+      → IsUntouched keep I O floor inputs key ts
   untouched_by [] none = tt
   untouched_by (t ∷ ts) none = by (is_among inputs t && holds key t) refl (λ later. untouched_by ts later)
     where
@@ -270,7 +292,9 @@ module _ (key : List ℕ) (keep : ℕ) (I O : List Entry) (floor : ℕ) (inputs 
       (λ (later : list_any (λ (x : Table). is_among inputs x && holds key x) ts ≡ true). range_clear range ts us within.1 rt.1 met ru later)
       (or_cases (is_among inputs t && holds key t) (list_any (λ (x : Table). is_among inputs x && holds key x) ts) there)
     where
-      each : (vs : List Table) → AllByRecursion (λ (u : Table). meets (Some range) u ≡ true → is_among inputs u ≡ true) vs → AllByRecursion IsRanged vs
+      each : (vs : List Table)
+          → AllByRecursion (λ (u : Table). meets (Some range) u ≡ true → is_among inputs u ≡ true) vs
+          → AllByRecursion IsRanged vs
           → Le range.0 key → Le key range.1 → IsClear keep I O floor inputs key vs
       each [] met ru low high = tt
       each (u ∷ vs) met ru low high = (

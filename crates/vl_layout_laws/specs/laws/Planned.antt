@@ -22,7 +22,8 @@ use Rattle.vl_layout_laws.specs.laws.Pairs.{IsWithin, le_then, lesser_left, less
 
 -- ---- the inputs of a level
 
-pub all_given : (P : Table → Type 0) (n : ℕ) (ts : List Table) → AllByRecursion P ts → AllByRecursion P (due_inputs n ts)
+pub all_given : (P : Table → Type 0) (n : ℕ) (ts : List Table) → AllByRecursion P ts
+    → AllByRecursion P (due_inputs n ts)
 all_given P n ts all = elim (n == 0) as (λ b. AllByRecursion P (cond b ts (one_or_none (least_table ts)))) [
   | true ↦ all
   | false ↦ (least ts all).1
@@ -40,7 +41,8 @@ all_given P n ts all = elim (n == 0) as (λ b. AllByRecursion P (cond b ts (one_
     as_list None one = tt
     as_list (Some t) one = (one, tt)
 
-    least : (us : List Table) → AllByRecursion P us → of_one (least_table us) × AllByRecursion P (one_or_none (least_table us))
+    least : (us : List Table) → AllByRecursion P us
+        → of_one (least_table us) × AllByRecursion P (one_or_none (least_table us))
     least [] all = (tt, tt)
     least (u ∷ us) all =
         let later = least us all.1 in
@@ -64,7 +66,8 @@ in_range (t ∷ ts) range is = by (range_of ts) refl is (λ r rest. in_range ts 
         the_one : (a b : Range) → Some a ≡ Some b → a ≡ b
         the_one a b e = cc
 
-        none : (us : List Table) → range_of us ≡ None → AllByRecursion (λ (u : Table). Le range.0 u.first × Le u.last range.1) us
+        none : (us : List Table) → range_of us ≡ None
+            → AllByRecursion (λ (u : Table). Le range.0 u.first × Le u.last range.1) us
         none [] empty = tt
         none (u ∷ us) empty = absurd (some u (range_of us) empty)
           where
@@ -82,7 +85,8 @@ in_range (t ∷ ts) range is = by (range_of ts) refl is (λ r rest. in_range ts 
         the_one : (a b : Range) → Some a ≡ Some b → a ≡ b
         the_one a b e = cc
 
-pub only_one : (ts : List Table) → IsDistinct ts → AllByRecursion (λ (t : Table). AllByRecursion (λ (x : Table). x.number ≡ t.number → x ≡ t) ts) ts
+pub only_one : (ts : List Table) → IsDistinct ts
+    → AllByRecursion (λ (t : Table). AllByRecursion (λ (x : Table). x.number ≡ t.number → x ≡ t) ts) ts
 only_one [] d = tt
 only_one (t ∷ ts) d = (
   ((λ same. refl), all_weaker (λ (x : Table). x.number ≢ t.number) (λ (x : Table). x.number ≡ t.number → x ≡ t) (λ x apart same. absurd (apart same)) ts d.0),
@@ -95,7 +99,8 @@ only_one (t ∷ ts) d = (
     with_head [] apart all = tt
     with_head (u ∷ us) apart all = (((λ same. absurd (apart.0 (sym same))), all.0), with_head us apart.1 all.1)
 
-unfiltered : (P : Table → Type 0) (p : Table → Bool) (ts : List Table) → AllByRecursion P (filter p ts) → AllByRecursion (λ (t : Table). p t ≡ true → P t) ts
+unfiltered : (P : Table → Type 0) (p : Table → Bool) (ts : List Table) → AllByRecursion P (filter p ts)
+    → AllByRecursion (λ (t : Table). p t ≡ true → P t) ts
 unfiltered P p [] all = tt
 unfiltered P p (t ∷ ts) all = by (p t) refl all (λ rest. unfiltered P p ts rest)
   where
@@ -115,7 +120,8 @@ module _ (n : ℕ) (A B : List Table) (distinct_A : IsDistinct A) (other : AreOt
   ins = with_next (due_inputs n A) B
 
   -- what is so of all of both is so of the inputs
-  pub all_ins : (P : Table → Type 0) → AllByRecursion P A → AllByRecursion P B → AllByRecursion P (with_next (due_inputs n A) B)
+  pub all_ins : (P : Table → Type 0) → AllByRecursion P A → AllByRecursion P B
+      → AllByRecursion P (with_next (due_inputs n A) B)
   all_ins P a b = all_both P (due_inputs n A) (filter (meets (range_of (due_inputs n A))) B) (all_given P n A a) (all_filtered P (meets (range_of (due_inputs n A))) B b)
 
   pub met : AllByRecursion (λ (u : Table). meets (range_of (due_inputs n A)) u ≡ true → is_among (numbers_of (with_next (due_inputs n A) B)) u ≡ true) B
@@ -131,7 +137,8 @@ module _ (n : ℕ) (A B : List Table) (distinct_A : IsDistinct A) (other : AreOt
       → AllByRecursion (λ (t : Table). is_among (numbers_of (with_next (due_inputs n A) B)) t ≡ true → Le range.0 t.first × Le t.last range.1) A
   within range is = each A other (only_one A distinct_A)
     where
-      each : (ts : List Table) → AllByRecursion (λ (x : Table). AllByRecursion (λ (y : Table). y.number ≢ x.number) B) ts
+      each : (ts : List Table)
+          → AllByRecursion (λ (x : Table). AllByRecursion (λ (y : Table). y.number ≢ x.number) B) ts
           → AllByRecursion (λ (t : Table). AllByRecursion (λ (x : Table). x.number ≡ t.number → x ≡ t) A) ts
           → AllByRecursion (λ (t : Table). is_among (numbers_of (with_next (due_inputs n A) B)) t ≡ true → Le range.0 t.first × Le t.last range.1) ts
       each [] off one = tt
@@ -145,7 +152,9 @@ module _ (n : ℕ) (A B : List Table) (distinct_A : IsDistinct A) (other : AreOt
         each ts off.1 one.1,
       )
         where
-          two : (xs : List Table) → AllByRecursion (λ (x : Table). Le range.0 x.first × Le x.last range.1) xs → AllByRecursion (λ (x : Table). x.number ≡ t.number → x ≡ t) xs
+          two : (xs : List Table)
+              → AllByRecursion (λ (x : Table). Le range.0 x.first × Le x.last range.1) xs
+              → AllByRecursion (λ (x : Table). x.number ≡ t.number → x ≡ t) xs
               → AllByRecursion (λ (x : Table). x.number ≡ t.number → Le range.0 t.first × Le t.last range.1) xs
           two [] a b = tt
           two (x ∷ xs) a b = ((λ same. subst (λ (y : Table). Le range.0 y.first × Le y.last range.1) (b.0 same) a.0), two xs a.1 b.1)
@@ -167,7 +176,8 @@ module _ (n : ℕ) (A B : List Table) (distinct_A : IsDistinct A) (other : AreOt
       by (x ∷ xs) empty = absurd (some x (range_of xs) empty)
 
   module _ (key : List ℕ) (keep : ℕ) (I O : List Entry) (floor : ℕ) where
-    none_untouched : (ts : List Table) → with_next (due_inputs n A) B ≡ [] → IsUntouched keep I O floor (numbers_of (with_next (due_inputs n A) B)) key ts
+    none_untouched : (ts : List Table) → with_next (due_inputs n A) B ≡ []
+        → IsUntouched keep I O floor (numbers_of (with_next (due_inputs n A) B)) key ts
     none_untouched [] empty = tt
     none_untouched (t ∷ ts) empty = ((λ input. absurd (true_false (sym (sym (ap (λ (xs : List Table). is_among (numbers_of xs) t) empty) ∙ input)))), none_untouched ts empty)
 
@@ -185,14 +195,16 @@ module _ (n : ℕ) (A B : List Table) (distinct_A : IsDistinct A) (other : AreOt
     second_apart None is = let empty = none_given is in inl (none_untouched A empty, none_untouched B empty)
     second_apart (Some range) is = by_first (list_any (λ (t : Table). is_among (numbers_of (with_next (due_inputs n A) B)) t && holds key t) A) refl
       where
-        by_second : (b : Bool) → list_any (λ (t : Table). is_among (numbers_of (with_next (due_inputs n A) B)) t && holds key t) B ≡ b
+        by_second : (b : Bool)
+            → list_any (λ (t : Table). is_among (numbers_of (with_next (due_inputs n A) B)) t && holds key t) B ≡ b
             → IsUntouched keep I O floor (numbers_of (with_next (due_inputs n A) B)) key A
             → (IsUntouched keep I O floor (numbers_of (with_next (due_inputs n A) B)) key A × IsUntouched keep I O floor (numbers_of (with_next (due_inputs n A) B)) key B)
             ⊎ IsClear keep I O floor (numbers_of (with_next (due_inputs n A) B)) key B
         by_second true is out = inr (input_clear key keep I O floor (numbers_of (with_next (due_inputs n A) B)) B apart_B ranged_B is)
         by_second false is out = inl (out, untouched_by key keep I O floor (numbers_of (with_next (due_inputs n A) B)) B is)
 
-        by_first : (b : Bool) → list_any (λ (t : Table). is_among (numbers_of (with_next (due_inputs n A) B)) t && holds key t) A ≡ b
+        by_first : (b : Bool)
+            → list_any (λ (t : Table). is_among (numbers_of (with_next (due_inputs n A) B)) t && holds key t) A ≡ b
             → (IsUntouched keep I O floor (numbers_of (with_next (due_inputs n A) B)) key A × IsUntouched keep I O floor (numbers_of (with_next (due_inputs n A) B)) key B)
             ⊎ IsClear keep I O floor (numbers_of (with_next (due_inputs n A) B)) key B
         by_first true there = inr (range_clear key keep I O floor (numbers_of (with_next (due_inputs n A) B)) range A B
@@ -204,7 +216,8 @@ module _ (n : ℕ) (A B : List Table) (distinct_A : IsDistinct A) (other : AreOt
             ranged_B there)
         by_first false none = by_second (list_any (λ (t : Table). is_among (numbers_of (with_next (due_inputs n A) B)) t && holds key t) B) refl (untouched_by key keep I O floor (numbers_of (with_next (due_inputs n A) B)) A none)
 
-    pub pair_is : (deeper : List (List Table)) → IsIdle keep I O floor (numbers_of (with_next (due_inputs n A) B)) (flat_map (λ ts. ts) deeper)
+    pub pair_is : (deeper : List (List Table))
+        → IsIdle keep I O floor (numbers_of (with_next (due_inputs n A) B)) (flat_map (λ ts. ts) deeper)
         → IsPair keep I O floor (numbers_of (with_next (due_inputs n A) B)) key A B deeper
     pair_is deeper idle = record { parted = first_parted; apart = second_apart (range_of (due_inputs n A)) refl; idle = idle }
 
@@ -239,7 +252,8 @@ cut_at n [] within = absurd (omega (arith, within))
 cut_at n (A ∷ []) within = absurd (omega (arith, within))
 cut_at n (A ∷ B ∷ deeper) within = by (n == 0) refl (λ less. cut_at (n - 1) (B ∷ deeper) less)
   where
-    by : (b : Bool) → (n == 0) ≡ b → (n - 1 + 1 < length (B ∷ deeper) → IsCut (n - 1) (B ∷ deeper)) → IsCut n (A ∷ B ∷ deeper)
+    by : (b : Bool) → (n == 0) ≡ b → (n - 1 + 1 < length (B ∷ deeper) → IsCut (n - 1) (B ∷ deeper))
+        → IsCut n (A ∷ B ∷ deeper)
     by true is later =
         let zero_is : n ≡ 0 = grind (arith, nat_tests, is) in
         let next : (n + 1 == 0) ≡ false = grind (arith, nat_tests) in
@@ -316,7 +330,8 @@ plan_fitted l h n are within key =
     (subst (λ (levels : List (List Table)). IsShaped job.keep I O job.floor inputs key (n + 1) levels) (sym c.whole)
     (subst (λ (m : ℕ). IsShaped job.keep I O job.floor inputs key (m + 1) (c.pre ++ A ∷ B ∷ c.deeper)) c.count shaped))
   where
-    both : (P : Table → Type 0) (A B us : List Table) → AllByRecursion (λ (u : Table). AllByRecursion (λ (t : Table). t.number ≢ u.number) A) us
+    both : (P : Table → Type 0) (A B us : List Table)
+        → AllByRecursion (λ (u : Table). AllByRecursion (λ (t : Table). t.number ≢ u.number) A) us
         → AllByRecursion (λ (u : Table). AllByRecursion (λ (t : Table). t.number ≢ u.number) B) us
         → ((u : Table) → AllByRecursion (λ (t : Table). t.number ≢ u.number) A → AllByRecursion (λ (t : Table). t.number ≢ u.number) B → P u)
         → AllByRecursion P us
@@ -343,7 +358,8 @@ split_first segment (u ∷ us) t is = by (has_point segment u) refl (λ later. s
         let rest = later (sym (ap (λ b. cond b (Some u) (first_into segment us)) has) ∙ is) in
         (u ∷ rest.0, rest.1, ap (λ (ts : List Table). u ∷ ts) rest.2)
 
-pub drain_fitted : (l : Layout) (h : History) (segment : ℕ) (t : Table) → IsDistinct (tables l) → first_into segment (tables l) ≡ Some t
+pub drain_fitted : (l : Layout) (h : History) (segment : ℕ) (t : Table) → IsDistinct (tables l)
+    → first_into segment (tables l) ≡ Some t
     → IsFitted l (job_of l h (t ∷ []) InPlace) InPlace
 drain_fitted l h segment t distinct is =
     let s = split_first segment (tables l) t is in
@@ -356,11 +372,13 @@ drain_fitted l h segment t distinct is =
       (before s.0 d.1.1, (ap (λ b. b || false) here, after s.1 d.1.0.0)),
     )
   where
-    before : (us : List Table) → AllByRecursion (λ (x : Table). AllByRecursion (λ (y : Table). y.number ≢ x.number) (t ∷ (split_first segment (tables l) t is).1)) us
+    before : (us : List Table)
+        → AllByRecursion (λ (x : Table). AllByRecursion (λ (y : Table). y.number ≢ x.number) (t ∷ (split_first segment (tables l) t is).1)) us
         → AllByRecursion (λ (u : Table). is_among (t.number ∷ []) u ≡ false) us
     before [] all = tt
     before (u ∷ us) all = (not_one_of u (t ∷ []) (all.0.0, tt), before us all.1)
 
-    after : (us : List Table) → AllByRecursion (λ (u : Table). u.number ≢ t.number) us → AllByRecursion (λ (u : Table). is_among (t.number ∷ []) u ≡ false) us
+    after : (us : List Table) → AllByRecursion (λ (u : Table). u.number ≢ t.number) us
+        → AllByRecursion (λ (u : Table). is_among (t.number ∷ []) u ≡ false) us
     after [] all = tt
     after (u ∷ us) all = (not_one_of u (t ∷ []) ((λ same. all.0 (sym same)), tt), after us all.1)

@@ -23,37 +23,46 @@ use Rattle.vl_layout_laws.specs.laws.Planned.{IsCut, all_ins, cut_at, flat_level
 
 -- ---- the inputs' entries
 
-all_if_so : (Q : Entry → Type 0) (b : Bool) (e : Entry) (es : List Entry) → Q e → AllByRecursion Q es → AllByRecursion Q (if_so b e es)
+all_if_so : (Q : Entry → Type 0) (b : Bool) (e : Entry) (es : List Entry) → Q e → AllByRecursion Q es
+    → AllByRecursion Q (if_so b e es)
 all_if_so Q true e es here all = (here, all)
 all_if_so Q false e es here all = all
 
 -- what is so of each input's entries is so of the inputs' entries
-pub inputs_only : (Q : Entry → Type 0) (inputs : List ℕ) (ts : List Table) → AllByRecursion (λ (t : Table). is_among inputs t ≡ true → AllByRecursion Q t.entries) ts
+pub inputs_only : (Q : Entry → Type 0) (inputs : List ℕ) (ts : List Table)
+    → AllByRecursion (λ (t : Table). is_among inputs t ≡ true → AllByRecursion Q t.entries) ts
     → AllByRecursion Q (inputs_of (marked_tables inputs ts))
 inputs_only Q inputs [] all = tt
 inputs_only Q inputs (t ∷ ts) all = by (is_among inputs t) all.0 (inputs_only Q inputs ts all.1)
   where
-    these : (es : List Entry) (ss : List Sourced) → AllByRecursion Q es → AllByRecursion Q (inputs_of ss) → AllByRecursion Q (inputs_of (marked_as true es ++ ss))
+    these : (es : List Entry) (ss : List Sourced) → AllByRecursion Q es → AllByRecursion Q (inputs_of ss)
+        → AllByRecursion Q (inputs_of (marked_as true es ++ ss))
     these [] ss some all = all
     these (e ∷ es) ss some all = (some.0, these es ss some.1 all)
 
-    none : (es : List Entry) (ss : List Sourced) → AllByRecursion Q (inputs_of ss) → AllByRecursion Q (inputs_of (marked_as false es ++ ss))
+    none : (es : List Entry) (ss : List Sourced) → AllByRecursion Q (inputs_of ss)
+        → AllByRecursion Q (inputs_of (marked_as false es ++ ss))
     none [] ss all = all
     none (e ∷ es) ss all = none es ss all
 
-    by : (b : Bool) → (b ≡ true → AllByRecursion Q t.entries) → AllByRecursion Q (inputs_of (marked_tables inputs ts)) → AllByRecursion Q (inputs_of (marked_as b t.entries ++ marked_tables inputs ts))
+    by : (b : Bool) → (b ≡ true → AllByRecursion Q t.entries)
+        → AllByRecursion Q (inputs_of (marked_tables inputs ts))
+        → AllByRecursion Q (inputs_of (marked_as b t.entries ++ marked_tables inputs ts))
     by true some later = these t.entries (marked_tables inputs ts) (some refl) later
     by false some later = none t.entries (marked_tables inputs ts) later
 
-pub sourced_inputs : (Q : Entry → Type 0) (l : Layout) (inputs : List ℕ) → AllByRecursion (λ (t : Table). is_among inputs t ≡ true → AllByRecursion Q t.entries) (tables l)
+pub sourced_inputs : (Q : Entry → Type 0) (l : Layout) (inputs : List ℕ)
+    → AllByRecursion (λ (t : Table). is_among inputs t ≡ true → AllByRecursion Q t.entries) (tables l)
     → AllByRecursion Q (inputs_of (sourced l inputs))
 sourced_inputs Q l inputs all = inputs_front Q (in_memory l) (marked_tables inputs (tables l)) (inputs_only Q inputs (tables l) all)
 
-all_both : (P : Table → Type 0) (xs ys : List Table) → AllByRecursion P xs → AllByRecursion P ys → AllByRecursion P (xs ++ ys)
+all_both : (P : Table → Type 0) (xs ys : List Table) → AllByRecursion P xs → AllByRecursion P ys
+    → AllByRecursion P (xs ++ ys)
 all_both P [] ys a b = b
 all_both P (x ∷ xs) ys a b = (a.0, all_both P xs ys a.1 b)
 
-idle_have : (Q : Entry → Type 0) (inputs : List ℕ) (ts : List Table) → AllByRecursion (λ (t : Table). is_among inputs t ≡ false) ts
+idle_have : (Q : Entry → Type 0) (inputs : List ℕ) (ts : List Table)
+    → AllByRecursion (λ (t : Table). is_among inputs t ≡ false) ts
     → AllByRecursion (λ (t : Table). is_among inputs t ≡ true → AllByRecursion Q t.entries) ts
 idle_have Q inputs ts idle = all_weaker (λ (t : Table). is_among inputs t ≡ false) (λ (t : Table). is_among inputs t ≡ true → AllByRecursion Q t.entries) (λ t out is. absurd (true_false (sym is ∙ out))) ts idle
 
@@ -120,7 +129,8 @@ plan_roomy l h n are within = (
     apart_B : IsApart B
     apart_B = subst IsApart c.second_is (are.apart (n + 1) (omega arith))
 
-    not_in : (u : Table) → AllByRecursion (λ (t : Table). t.number ≢ u.number) A → AllByRecursion (λ (t : Table). t.number ≢ u.number) B → is_among (numbers_of ins) u ≡ false
+    not_in : (u : Table) → AllByRecursion (λ (t : Table). t.number ≢ u.number) A
+        → AllByRecursion (λ (t : Table). t.number ≢ u.number) B → is_among (numbers_of ins) u ≡ false
     not_in u a b = not_one_of u ins (all_ins n A B d1.0 off (of_two IsRanged are.ranged).0 (of_two IsRanged are.ranged).1 apart_A apart_B (λ (t : Table). t.number ≢ u.number) a b)
 
     idle_pre : AllByRecursion (λ (u : Table). is_among (numbers_of ins) u ≡ false) pre
@@ -133,13 +143,15 @@ plan_roomy l h n are within = (
     idle_D : AllByRecursion (λ (u : Table). is_among (numbers_of ins) u ≡ false) D
     idle_D = both D (others_turned A D off_D) (others_turned B D d2.1.1)
       where
-        both : (us : List Table) → AllByRecursion (λ (u : Table). AllByRecursion (λ (t : Table). t.number ≢ u.number) A) us
+        both : (us : List Table)
+            → AllByRecursion (λ (u : Table). AllByRecursion (λ (t : Table). t.number ≢ u.number) A) us
             → AllByRecursion (λ (u : Table). AllByRecursion (λ (t : Table). t.number ≢ u.number) B) us → AllByRecursion (λ (u : Table). is_among (numbers_of ins) u ≡ false) us
         both [] a b = tt
         both (u ∷ us) a b = (not_in u a.0 b.0, both us a.1 b.1)
 
     -- what is so of the inputs of both levels is so of all inputs' entries
-    of_inputs : (Q : Entry → Type 0) → AllByRecursion (λ (t : Table). is_among (numbers_of ins) t ≡ true → AllByRecursion Q t.entries) A
+    of_inputs : (Q : Entry → Type 0)
+        → AllByRecursion (λ (t : Table). is_among (numbers_of ins) t ≡ true → AllByRecursion Q t.entries) A
         → AllByRecursion (λ (t : Table). is_among (numbers_of ins) t ≡ true → AllByRecursion Q t.entries) B → AllByRecursion Q (inputs_of (sourced l (numbers_of ins)))
     of_inputs Q a b =
         let P : Table → Type 0 = λ t. is_among (numbers_of ins) t ≡ true → AllByRecursion Q t.entries in
@@ -147,7 +159,8 @@ plan_roomy l h n are within = (
         (subst (AllByRecursion P) (sym flat) (all_both P pre (A ++ (B ++ D)) (idle_have Q (numbers_of ins) pre idle_pre)
         (all_both P A (B ++ D) a (all_both P B D b (idle_have Q (numbers_of ins) D idle_D)))))
 
-    by : (o : Option Range) → range_of (due_inputs n A) ≡ o → AllByRecursion (λ (u : Table). is_among (numbers_of ins) u ≡ false → IsBesideAll (inputs_of (sourced l (numbers_of ins))) u) B
+    by : (o : Option Range) → range_of (due_inputs n A) ≡ o
+        → AllByRecursion (λ (u : Table). is_among (numbers_of ins) u ≡ false → IsBesideAll (inputs_of (sourced l (numbers_of ins))) u) B
     by None is =
         let empty = none_given n A B d1.0 off (of_two IsRanged are.ranged).0 (of_two IsRanged are.ranged).1 apart_A apart_B is in
         all_weaker (λ (u : Table). Unit {0}) (λ (u : Table). is_among (numbers_of ins) u ≡ false → IsBesideAll (inputs_of (sourced l (numbers_of ins))) u)

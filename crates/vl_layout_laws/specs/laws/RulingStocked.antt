@@ -72,7 +72,8 @@ module _ (l : Layout) (h : History) (w : IsWellStocked l) where
       either (length t.writes == 0) _ _ (well_ended l w t.ticket)
       (either (nat_le max_commit_number (last_number h)) _ _ w (checked_well t conflict))
 
-  unless_well : (t : Transaction) (conflict : Option Named) (halted : Option FileName) → LeavesWell (commit_unless halted l h t conflict)
+  unless_well : (t : Transaction) (conflict : Option Named) (halted : Option FileName)
+      → LeavesWell (commit_unless halted l h t conflict)
   unless_well t conflict (Some name) = well_ended l w t.ticket
   unless_well t conflict None = running_well t conflict
 
@@ -98,17 +99,20 @@ module _ (l : Layout) (h : History) (w : IsWellStocked l) where
   pub rotate_well : LeavesWell (rotate_ruling l h)
   rotate_well = rotate_unless-well l.halted
 
-  flush_of-well : (level : List Table) (deeper : List (List Table)) → l.levels ≡ level ∷ deeper → (o : Option Segment) → oldest l.frozen ≡ o
+  flush_of-well : (level : List Table) (deeper : List (List Table)) → l.levels ≡ level ∷ deeper
+      → (o : Option Segment) → oldest l.frozen ≡ o
       → LeavesWell (flush_of l h o)
   flush_of-well level deeper are None is = w
   flush_of-well level deeper are (Some s) is =
       either (has_no_number l.next_table 1) _ _ w (either (has_no_version l) _ _ w (well_flushed l w s level deeper is are))
 
-  flush_unless-well : (level : List Table) (deeper : List (List Table)) → l.levels ≡ level ∷ deeper → (halted : Option FileName) → LeavesWell (flush_unless halted l h)
+  flush_unless-well : (level : List Table) (deeper : List (List Table)) → l.levels ≡ level ∷ deeper
+      → (halted : Option FileName) → LeavesWell (flush_unless halted l h)
   flush_unless-well level deeper are (Some name) = w
   flush_unless-well level deeper are None = flush_of-well level deeper are (oldest l.frozen) refl
 
-  pub flush_well : (level : List Table) (deeper : List (List Table)) → l.levels ≡ level ∷ deeper → LeavesWell (flush_ruling l h)
+  pub flush_well : (level : List Table) (deeper : List (List Table)) → l.levels ≡ level ∷ deeper
+      → LeavesWell (flush_ruling l h)
   flush_well level deeper are = flush_unless-well level deeper are l.halted
 
   relocate_of-well : (moved : List Moved) → LeavesWell (relocate_of l h moved)
@@ -117,7 +121,8 @@ module _ (l : Layout) (h : History) (w : IsWellStocked l) where
       either (has_no_version l) _ _ w
       (either (nat_le (l.active.length + frame_length l.active.format (Relocated (m ∷ ms))) l.room) _ _ (well_relocated l w (m ∷ ms)) w)
 
-  relocate_unless-well : (pass : Pass) (batch : List Candidate) (halted : Option FileName) → LeavesWell (relocate_unless halted l h pass batch)
+  relocate_unless-well : (pass : Pass) (batch : List Candidate) (halted : Option FileName)
+      → LeavesWell (relocate_unless halted l h pass batch)
   relocate_unless-well pass batch (Some name) = w
   relocate_unless-well pass batch None = relocate_of-well (moved_of (sources l) pass.segment (last_number h) batch)
 
@@ -155,7 +160,8 @@ module _ (l : Layout) (h : History) (w : IsWellStocked l) where
   pub fresh_well : LeavesWell (fresh_ruling l h)
   fresh_well = fresh_unless-well l.halted
 
-  pub abandon_well : (job : Job) (made : Made) → AreLent (lent_numbers l.job) made → LeavesWell (abandon_ruling l h job made)
+  pub abandon_well : (job : Job) (made : Made) → AreLent (lent_numbers l.job) made
+      → LeavesWell (abandon_ruling l h job made)
   abandon_well job made are = well_job_ended l w made are
 
   module _ (job : Job) (made : Made) (are : AreLent (lent_numbers l.job) made)
@@ -213,16 +219,19 @@ module _ (l : Layout) (h : History) (w : IsWellStocked l) where
   pub removed_are_loose : (least : Option ℕ) → AllByRecursion (IsLoose l) (swept least l)
   removed_are_loose least = all_weaker (IsLoose (with_lent l)) (IsLoose l) (λ f is. record { sources = is.sources; pins_off = is.pins_off; drawn = is.drawn }) (swept least l) (more l.retired (swept_are_loose least (with_lent l) w.stocked))
     where
-      more : (rs : List Retired) → AllByRecursion (IsLoose (with_lent l)) (map (λ (r : Retired). r.file) (filter (λ r. not (is_held (pins l) r) && is_retired_up_to least r) (loose (lent_numbers l.job) ++ rs)))
+      more : (rs : List Retired)
+          → AllByRecursion (IsLoose (with_lent l)) (map (λ (r : Retired). r.file) (filter (λ r. not (is_held (pins l) r) && is_retired_up_to least r) (loose (lent_numbers l.job) ++ rs)))
           → AllByRecursion (IsLoose (with_lent l)) (map (λ (r : Retired). r.file) (filter (λ r. not (is_held (pins l) r) && is_retired_up_to least r) rs))
       more rs all = behind (loose (lent_numbers l.job)) all
         where
-          behind : (xs : List Retired) → AllByRecursion (IsLoose (with_lent l)) (map (λ (r : Retired). r.file) (filter (λ r. not (is_held (pins l) r) && is_retired_up_to least r) (xs ++ rs)))
+          behind : (xs : List Retired)
+              → AllByRecursion (IsLoose (with_lent l)) (map (λ (r : Retired). r.file) (filter (λ r. not (is_held (pins l) r) && is_retired_up_to least r) (xs ++ rs)))
               → AllByRecursion (IsLoose (with_lent l)) (map (λ (r : Retired). r.file) (filter (λ r. not (is_held (pins l) r) && is_retired_up_to least r) rs))
           behind [] all = all
           behind (x ∷ xs) all = by_test (not (is_held (pins l) x) && is_retired_up_to least x) all (behind xs)
             where
-              by_test : (b : Bool) → AllByRecursion (IsLoose (with_lent l)) (map (λ (r : Retired). r.file) (cond b (x ∷ filter (λ r. not (is_held (pins l) r) && is_retired_up_to least r) (xs ++ rs)) (filter (λ r. not (is_held (pins l) r) && is_retired_up_to least r) (xs ++ rs))))
+              by_test : (b : Bool)
+                  → AllByRecursion (IsLoose (with_lent l)) (map (λ (r : Retired). r.file) (cond b (x ∷ filter (λ r. not (is_held (pins l) r) && is_retired_up_to least r) (xs ++ rs)) (filter (λ r. not (is_held (pins l) r) && is_retired_up_to least r) (xs ++ rs))))
                   → (AllByRecursion (IsLoose (with_lent l)) (map (λ (r : Retired). r.file) (filter (λ r. not (is_held (pins l) r) && is_retired_up_to least r) (xs ++ rs))) → AllByRecursion (IsLoose (with_lent l)) (map (λ (r : Retired). r.file) (filter (λ r. not (is_held (pins l) r) && is_retired_up_to least r) rs)))
                   → AllByRecursion (IsLoose (with_lent l)) (map (λ (r : Retired). r.file) (filter (λ r. not (is_held (pins l) r) && is_retired_up_to least r) rs))
               by_test true all goes = goes all.1

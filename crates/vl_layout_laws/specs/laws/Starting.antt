@@ -22,7 +22,8 @@ all_newest : (P : Segment → Type 0) (ss : List Segment) → AllByRecursion P s
 all_newest P [] all = tt
 all_newest P (s ∷ ss) all = all_both P (newest_first ss) (s ∷ []) (all_newest P ss all.1) (all.0, tt)
 
-falling_end : (xs : List Segment) (s : Segment) → IsFalling xs → AllByRecursion (λ (x : Segment). s.number < x.number) xs → IsFalling (xs ++ s ∷ [])
+falling_end : (xs : List Segment) (s : Segment) → IsFalling xs
+    → AllByRecursion (λ (x : Segment). s.number < x.number) xs → IsFalling (xs ++ s ∷ [])
 falling_end [] s falling above = (tt, tt)
 falling_end (x ∷ xs) s falling above = (all_both (λ (y : Segment). y.number < x.number) xs (s ∷ []) falling.0 (above.0, tt), falling_end xs s falling.1 above.1)
 
@@ -30,7 +31,8 @@ falling_newest : (ss : List Segment) → IsRising number_of_log ss → IsFalling
 falling_newest [] rising = tt
 falling_newest (s ∷ ss) rising = falling_end (newest_first ss) s (falling_newest ss rising.1) (all_newest (λ (x : Segment). s.number < x.number) ss rising.0)
 
-rising_filtered : (p : Segment → Bool) (ss : List Segment) → IsRising number_of_log ss → IsRising number_of_log (filter p ss)
+rising_filtered : (p : Segment → Bool) (ss : List Segment) → IsRising number_of_log ss
+    → IsRising number_of_log (filter p ss)
 rising_filtered p [] rising = tt
 rising_filtered p (s ∷ ss) rising = elim (p s) as (λ b. IsRising number_of_log (cond b (s ∷ filter p ss) (filter p ss))) [
   | true ↦ (all_filtered (λ (x : Segment). s.number < x.number) p ss rising.0, rising_filtered p ss rising.1)

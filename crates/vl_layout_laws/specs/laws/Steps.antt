@@ -156,7 +156,8 @@ module _ (l : Layout) (s : IsStocked l) where
   }
 
   -- the version number rises, and files retire at the new one
-  pub later_pins : (fresh : List Retired) → AllByRecursion (λ (r : Retired). r.version_number ≡ l.version_number + 1) fresh
+  pub later_pins : (fresh : List Retired)
+      → AllByRecursion (λ (r : Retired). r.version_number ≡ l.version_number + 1) fresh
       → (ps : List Pin) → AllByRecursion (IsPinned l.version_number l.retired) ps
       → AllByRecursion (IsPinned (l.version_number + 1) (l.retired ++ fresh)) ps
   later_pins fresh at ps all =

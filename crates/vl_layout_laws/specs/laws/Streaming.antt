@@ -33,7 +33,8 @@ needed_drawn l s points =
     (flat (tables l) points))
     (all_mapped (IsDrawn l.next_log l.next_table) log_of (l.active ∷ l.frozen) s.logs_drawn)
   where
-    flat : (ts : List Table) → AllByRecursion (PointsDrawn l.next_log) ts → AllByRecursion (IsDrawn l.next_log l.next_table) (flat_map pointed_logs ts)
+    flat : (ts : List Table) → AllByRecursion (PointsDrawn l.next_log) ts
+        → AllByRecursion (IsDrawn l.next_log l.next_table) (flat_map pointed_logs ts)
     flat [] all = tt
     flat (t ∷ ts) all = all_both (IsDrawn l.next_log l.next_table) (pointed_logs t) (flat_map pointed_logs ts)
         (all_mapped (IsDrawn l.next_log l.next_table) (λ (p : Point). Log p.segment) t.points all.0) (flat ts all.1)
@@ -161,12 +162,14 @@ module _ (l : Layout) (job : Job) (made : List Table) (rest : List Retired) (k :
       never [] = refl
       never (p ∷ ps) = never ps
 
-  put_points : (f : FileName) → is_in f (flat_map pointed_logs (tables (putting l job made rest))) ≡ true → is_in f (flat_map pointed_logs (tables l)) ≡ true
+  put_points : (f : FileName) → is_in f (flat_map pointed_logs (tables (putting l job made rest))) ≡ true
+      → is_in f (flat_map pointed_logs (tables l)) ≡ true
   put_points (Log n) two = is_pointed n (tables l) ∙ put_logs n (sym (is_pointed n (tables (putting l job made rest))) ∙ two)
   put_points (TableFile n) two = absurd (true_false (sym two ∙ no_pointed_table n (tables (putting l job made rest))))
   put_points (Manifest n) two = absurd (true_false (sym two ∙ no_pointed_manifest n (tables (putting l job made rest))))
 
-  put_gains : (f : FileName) → is_in f (needed (putting l job made rest)) ≡ true → (is_in f (needed l) ≡ true) ⊎ (is_in f (map table_of made) ≡ true)
+  put_gains : (f : FileName) → is_in f (needed (putting l job made rest)) ≡ true
+      → (is_in f (needed l) ≡ true) ⊎ (is_in f (map table_of made) ≡ true)
   put_gains f there =
       let L = map log_of (l.active ∷ l.frozen) in
       ⊎_elim

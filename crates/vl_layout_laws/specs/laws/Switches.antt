@@ -58,11 +58,13 @@ own_record number r Delete p is some = tt
 some_head : (format : ℕ) → 0 < record_head format
 some_head format = elim (nat_le format 1) as (λ b. 0 < cond b 7 8) [ true ↦ omega arith | false ↦ omega arith ]
 
-own_records : (format number : ℕ) (rs : List LogRecord) → AllByRecursion (IsOwn number) (map (record_entry format number) rs)
+own_records : (format number : ℕ) (rs : List LogRecord)
+    → AllByRecursion (IsOwn number) (map (record_entry format number) rs)
 own_records format number [] = tt
 own_records format number (r ∷ rs) = (own_record number r r.change (pointer_to format number r) refl (let some = some_head format in omega (arith, some)), own_records format number rs)
 
-own_logged : (format number place : ℕ) (fs : List LogFrame) → AllByRecursion (IsOwn number) (logged_entries format number place fs)
+own_logged : (format number place : ℕ) (fs : List LogFrame)
+    → AllByRecursion (IsOwn number) (logged_entries format number place fs)
 own_logged format number place [] = tt
 own_logged format number place (f ∷ fs) =
     all_both (IsOwn number) (logged_entries format number (place + frame_length format f) fs) (frame_entries format number place f)
@@ -82,7 +84,8 @@ placed_body number (Logged value pointer) own =
       | false ↦ (own.1, λ n is. let e : n ≡ pointer.segment = grind (arith, nat_tests, is) in e ∙ own.0)
     ]
 
-placed_bytes : (number : ℕ) (es : List Entry) → AllByRecursion (IsOwn number) es → AllByRecursion HasBytes (map placed es)
+placed_bytes : (number : ℕ) (es : List Entry) → AllByRecursion (IsOwn number) es
+    → AllByRecursion HasBytes (map placed es)
 placed_bytes number [] own = tt
 placed_bytes number (e ∷ es) own = ((placed_body number e.body own.0).0, placed_bytes number es own.1)
 
@@ -121,7 +124,8 @@ oldest_in f (t ∷ []) s is same = or_left (is_same f (log_of t)) false (ap (λ 
     the_one a b e = cc
 oldest_in f (t ∷ u ∷ us) s is same = or_right (is_same f (log_of t)) (is_in f (map log_of (u ∷ us))) (oldest_in f (u ∷ us) s is same)
 
-but_oldest_in : (f : FileName) (ss : List Segment) → is_in f (map log_of (but_oldest ss)) ≡ true → is_in f (map log_of ss) ≡ true
+but_oldest_in : (f : FileName) (ss : List Segment) → is_in f (map log_of (but_oldest ss)) ≡ true
+    → is_in f (map log_of ss) ≡ true
 but_oldest_in f [] there = there
 but_oldest_in f (t ∷ []) there = absurd (true_false (sym there))
 but_oldest_in f (t ∷ u ∷ us) there = ⊎_elim
@@ -219,7 +223,8 @@ module _ (P : Table → Type 0) (inputs : List ℕ) (new : List Table) (made : A
   abbrev pub Stays : Table → Type 0
   Stays t = is_among inputs t ≡ false → P t
 
-  all_without : (ts : List Table) → AllByRecursion (λ (t : Table). is_among inputs t ≡ false → P t) ts → AllByRecursion P (without inputs ts)
+  all_without : (ts : List Table) → AllByRecursion (λ (t : Table). is_among inputs t ≡ false → P t) ts
+      → AllByRecursion P (without inputs ts)
   all_without ts all = all_passed (λ (t : Table). is_among inputs t ≡ false → P t) P (λ t. not (is_among inputs t)) (λ t stays is. stays (not_true (is_among inputs t) is)) ts all
     where
       not_true : (b : Bool) → not b ≡ true → b ≡ false
@@ -281,7 +286,8 @@ pub seen : {X : Type 0} (p : X → Bool) (xs : List X) → AllByRecursion (λ (x
 seen p [] = tt
 seen p (x ∷ xs) = ((λ is. or_left (p x) (list_any p xs) is), all_weaker (λ y. p y ≡ true → list_any p xs ≡ true) (λ y. p y ≡ true → list_any p (x ∷ xs) ≡ true) (λ y is at. or_right (p x) (list_any p xs) (is at)) xs (seen p xs))
 
-pub each_of : (Q : Entry → Type 0) (ess : List (List Entry)) → AllByRecursion Q (joined ess) → AllByRecursion (AllByRecursion Q) ess
+pub each_of : (Q : Entry → Type 0) (ess : List (List Entry)) → AllByRecursion Q (joined ess)
+    → AllByRecursion (AllByRecursion Q) ess
 each_of Q [] all = tt
 each_of Q (es ∷ ess) all = let both = all_parts Q es (joined ess) all in (both.0, each_of Q ess both.1)
 

@@ -39,12 +39,14 @@ frozen_split (t ∷ []) s is = ap (λ (x : Segment). x ∷ []) (the_one t s is)
 frozen_split (t ∷ u ∷ us) s is = ap (λ (xs : List Segment). t ∷ xs) (frozen_split (u ∷ us) s is)
 
 -- it goes from the end of the frozen logs to the front of the flushed ones
-pub sealed_same : (l : Layout) (s : Segment) → oldest l.frozen ≡ Some s → but_oldest l.frozen ++ s ∷ l.flushed ≡ sealed l
+pub sealed_same : (l : Layout) (s : Segment) → oldest l.frozen ≡ Some s
+    → but_oldest l.frozen ++ s ∷ l.flushed ≡ sealed l
 sealed_same l s waits = sym (append_assoc (but_oldest l.frozen) (s ∷ []) l.flushed) ∙ ap (λ (xs : List Segment). xs ++ l.flushed) (sym (frozen_split l.frozen s waits))
 
 -- ---- numbers
 
-has_fewer : (p : Segment → Bool) (n : ℕ) (xs ys : List Segment) → has n (log_numbers (xs ++ ys)) ≡ false → has n (log_numbers (xs ++ filter p ys)) ≡ false
+has_fewer : (p : Segment → Bool) (n : ℕ) (xs ys : List Segment) → has n (log_numbers (xs ++ ys)) ≡ false
+    → has n (log_numbers (xs ++ filter p ys)) ≡ false
 has_fewer p n [] [] none = refl
 has_fewer p n [] (y ∷ ys) none =
     let both = or_false (y.number == n) (has n (log_numbers ys)) none in
@@ -56,7 +58,8 @@ has_fewer p n (x ∷ xs) ys none =
     let both = or_false (x.number == n) (has n (log_numbers (xs ++ ys))) none in
     neither (x.number == n) (has n (log_numbers (xs ++ filter p ys))) both.0 (has_fewer p n xs ys both.1)
 
-pub distinct_fewer : (p : Segment → Bool) (xs ys : List Segment) → AreDistinct (log_numbers (xs ++ ys)) → AreDistinct (log_numbers (xs ++ filter p ys))
+pub distinct_fewer : (p : Segment → Bool) (xs ys : List Segment) → AreDistinct (log_numbers (xs ++ ys))
+    → AreDistinct (log_numbers (xs ++ filter p ys))
 distinct_fewer p [] [] distinct = tt
 distinct_fewer p [] (y ∷ ys) distinct = elim (p y) as (λ b. AreDistinct (log_numbers (cond b (y ∷ filter p ys) (filter p ys)))) [
   | true ↦ (has_fewer p y.number [] ys distinct.0, distinct_fewer p [] ys distinct.1)
@@ -64,7 +67,8 @@ distinct_fewer p [] (y ∷ ys) distinct = elim (p y) as (λ b. AreDistinct (log_
 ]
 distinct_fewer p (x ∷ xs) ys distinct = (has_fewer p x.number xs ys distinct.0, distinct_fewer p xs ys distinct.1)
 
-pub none_drawn : (next : ℕ) (ss : List Segment) → AllByRecursion (λ (s : Segment). s.number < next) ss → has next (log_numbers ss) ≡ false
+pub none_drawn : (next : ℕ) (ss : List Segment) → AllByRecursion (λ (s : Segment). s.number < next) ss
+    → has next (log_numbers ss) ≡ false
 none_drawn next [] drawn = refl
 none_drawn next (s ∷ ss) drawn =
     let apart : (s.number == next) ≡ false = let less = drawn.0 in grind (arith, nat_tests, less) in
@@ -76,12 +80,14 @@ some_log : (ss : List Segment) (n f : ℕ) → format_of ss n ≡ Some f → has
 some_log [] n f is = absurd cc
 some_log (s ∷ ss) n f is = by (s.number == n) is (some_log ss n f)
   where
-    by : (b : Bool) → cond b (Some s.format) (format_of ss n) ≡ Some f → (format_of ss n ≡ Some f → has n (log_numbers ss) ≡ true) → (b || has n (log_numbers ss)) ≡ true
+    by : (b : Bool) → cond b (Some s.format) (format_of ss n) ≡ Some f
+        → (format_of ss n ≡ Some f → has n (log_numbers ss) ≡ true) → (b || has n (log_numbers ss)) ≡ true
     by true is later = refl
     by false is later = later is
 
 -- a log of another number in front
-pub format_behind : (a : Segment) (ss : List Segment) (n f : ℕ) → has a.number (log_numbers ss) ≡ false → format_of ss n ≡ Some f → format_of (a ∷ ss) n ≡ Some f
+pub format_behind : (a : Segment) (ss : List Segment) (n f : ℕ) → has a.number (log_numbers ss) ≡ false
+    → format_of ss n ≡ Some f → format_of (a ∷ ss) n ≡ Some f
 format_behind a ss n f other is =
     let apart : (a.number == n) ≡ false = not_so (a.number == n) (λ at.
     let same : n ≡ a.number = grind (arith, nat_tests, at) in
@@ -93,7 +99,8 @@ format_behind a ss n f other is =
     not_so false never = refl
 
 -- a log among others of which none in front has its number
-pub format_there : (xs : List Segment) (s : Segment) (ys : List Segment) → AreDistinct (log_numbers (xs ++ s ∷ ys)) → format_of (xs ++ s ∷ ys) s.number ≡ Some s.format
+pub format_there : (xs : List Segment) (s : Segment) (ys : List Segment)
+    → AreDistinct (log_numbers (xs ++ s ∷ ys)) → format_of (xs ++ s ∷ ys) s.number ≡ Some s.format
 format_there [] s ys distinct = let here : (s.number == s.number) ≡ true = grind (arith, nat_tests) in ap (λ b. cond b (Some s.format) (format_of ys s.number)) here
 format_there (x ∷ xs) s ys distinct = format_behind x (xs ++ s ∷ ys) s.number s.format distinct.0 (format_there xs s ys distinct.1)
 
@@ -133,7 +140,8 @@ placed_so ss ts key Gone so at = tt
 placed_so ss ts key (Far p) so at = (at.0, so p.segment at.0 (grind (arith, nat_tests)) at.1, at.2)
 placed_so ss ts key (Logged value p) so at = absurd at
 
-pub all_placed_so : (ss ts : List Segment) (es : List Entry) → ((n f : ℕ) → list_any (is_into n) es ≡ true → format_of ss n ≡ Some f → format_of ts n ≡ Some f)
+pub all_placed_so : (ss ts : List Segment) (es : List Entry)
+    → ((n f : ℕ) → list_any (is_into n) es ≡ true → format_of ss n ≡ Some f → format_of ts n ≡ Some f)
     → AllByRecursion (IsPlacedIn ss) es → AllByRecursion (IsPlacedIn ts) es
 all_placed_so ss ts [] so all = tt
 all_placed_so ss ts (e ∷ es) so all = (
@@ -142,7 +150,8 @@ all_placed_so ss ts (e ∷ es) so all = (
 )
 
 -- a log into which a table leads isn't idle
-busy : (l : Layout) → AllByRecursion IsFooted (tables l) → (n : ℕ) → list_any (λ (t : Table). leads n t.points) (tables l) ≡ true
+busy : (l : Layout) → AllByRecursion IsFooted (tables l) → (n : ℕ)
+    → list_any (λ (t : Table). leads n t.points) (tables l) ≡ true
     → (nat_lt n (head l) && (live_bytes (tables l) n == 0)) ≡ false
 busy l footed n there = by (live_bytes (tables l) n == 0) refl
   where
@@ -160,7 +169,8 @@ pub switched_placed : (l : Layout) (dropped : List Table) → AllByRecursion IsF
     → AllByRecursion (λ (t : Table). AllByRecursion (IsPlacedIn (sealed (switched dropped l))) t.entries) (tables l)
 switched_placed l dropped footed placed_all = each (tables l) footed placed_all (seen_by (λ (n : ℕ) (t : Table). leads n t.points) (tables l))
   where
-    each : (ts : List Table) → AllByRecursion IsFooted ts → AllByRecursion (λ (t : Table). AllByRecursion (IsPlacedIn (sealed l)) t.entries) ts
+    each : (ts : List Table) → AllByRecursion IsFooted ts
+        → AllByRecursion (λ (t : Table). AllByRecursion (IsPlacedIn (sealed l)) t.entries) ts
         → AllByRecursion (λ (t : Table). (n : ℕ) → leads n t.points ≡ true → list_any (λ (u : Table). leads n u.points) (tables l) ≡ true) ts
         → AllByRecursion (λ (t : Table). AllByRecursion (IsPlacedIn (sealed (switched dropped l))) t.entries) ts
     each [] foot all lead = tt
@@ -197,13 +207,15 @@ module _ (format number : ℕ) where
   of_logged place (f ∷ fs) = all_both IsInLog (logged_entries format number (place + frame_length format f) fs) (frame_entries format number place f)
       (of_logged (place + frame_length format f) fs) (of_records (frame_records format place f))
 
-  placed_body : (ss : List Segment) → format_of ss number ≡ Some format → (key : List ℕ) (b : Body) → IsOfLog format number key b → IsPlacedAt ss key (placement b)
+  placed_body : (ss : List Segment) → format_of ss number ≡ Some format → (key : List ℕ) (b : Body)
+      → IsOfLog format number key b → IsPlacedAt ss key (placement b)
   placed_body ss there key (Inline value) of = absurd of
   placed_body ss there key Gone of = tt
   placed_body ss there key (Far p) of = absurd of
   placed_body ss there key (Logged value p) of = by (nat_le (value_length value) max_inline_bytes) refl
     where
-      by : (b : Bool) → nat_le (value_length value) max_inline_bytes ≡ b → IsPlacedAt ss key (cond b (Inline value) (Far p))
+      by : (b : Bool) → nat_le (value_length value) max_inline_bytes ≡ b
+          → IsPlacedAt ss key (cond b (Inline value) (Far p))
       by true is = is
       by false is =
           let long : max_inline_bytes < value_length value = grind (arith, nat_tests, is) in
@@ -212,11 +224,13 @@ module _ (format number : ℕ) where
           let more : max_inline_bytes < p.length - (record_head format + length key + 0) = omega (arith, long, left) in
           (format, subst (λ (n : ℕ). format_of ss n ≡ Some format) (sym of.0) there, grind (arith, nat_tests, more))
 
-  all_placed : (ss : List Segment) → format_of ss number ≡ Some format → (es : List Entry) → AllByRecursion IsInLog es → AllByRecursion (IsPlacedIn ss) (map placed es)
+  all_placed : (ss : List Segment) → format_of ss number ≡ Some format → (es : List Entry)
+      → AllByRecursion IsInLog es → AllByRecursion (IsPlacedIn ss) (map placed es)
   all_placed ss there [] of = tt
   all_placed ss there (e ∷ es) of = (placed_body ss there e.key e.body of.0, all_placed ss there es of.1)
 
 -- a flushed memtable's entries are placed in its log
-pub memtable_placed : (ss : List Segment) (s : Segment) → format_of ss s.number ≡ Some s.format → AllByRecursion (IsPlacedIn ss) (map placed (memtable s))
+pub memtable_placed : (ss : List Segment) (s : Segment) → format_of ss s.number ≡ Some s.format
+    → AllByRecursion (IsPlacedIn ss) (map placed (memtable s))
 memtable_placed ss s there = all_placed s.format s.number ss there (memtable s)
     (all-in_order (IsInLog s.format s.number) (logged_entries s.format s.number 16 s.frames) (of_logged s.format s.number 16 s.frames))

@@ -69,7 +69,8 @@ use Rattle.vl_layout_laws.specs.laws.TidyLogs.{distinct_fewer, switched_placed}
 use Rattle.vl_layout_laws.specs.laws.TidySteps.{each_table, moved_known, of_tables, tidy_begun, tidy_committed, tidy_drawn, tidy_ended, tidy_flushed, tidy_job_ended, tidy_keeping, tidy_pass_ended, tidy_picked, tidy_planned, tidy_relocated, tidy_rotated, tidy_swept}
 use Rattle.vl_layout_laws.specs.laws.WellInstalled.{well_installed}
 
-first_level : (levels : List (List Table)) → AreLevels levels → (level : List Table) × (deeper : List (List Table)) × (levels ≡ level ∷ deeper)
+first_level : (levels : List (List Table)) → AreLevels levels
+    → (level : List Table) × (deeper : List (List Table)) × (levels ≡ level ∷ deeper)
 first_level [] are = absurd (let seven = are.seven in omega (arith, seven))
 first_level (level ∷ deeper) are = (level, deeper, refl)
 
@@ -81,11 +82,13 @@ module _ (logs : Logs) (l : Layout) (h : History) (t : IsTidy logs l h) where
   abbrev pub StaysTidy : {A : Type 0} → Ruling A → Type 0
   StaysTidy r = IsTidy logs r.layout r.history
 
-  one_of_two : {A : Type 0} (b : Bool) (x y : Ruling A) → StaysTidy x → (b ≡ false → StaysTidy y) → StaysTidy (if b then x else y)
+  one_of_two : {A : Type 0} (b : Bool) (x y : Ruling A) → StaysTidy x → (b ≡ false → StaysTidy y)
+      → StaysTidy (if b then x else y)
   one_of_two true x y one other = one
   one_of_two false x y one other = other refl
 
-  either : {A : Type 0} (b : Bool) (x y : Ruling A) → LeavesTidy x → (b ≡ false → LeavesTidy y) → LeavesTidy (if b then x else y)
+  either : {A : Type 0} (b : Bool) (x y : Ruling A) → LeavesTidy x → (b ≡ false → LeavesTidy y)
+      → LeavesTidy (if b then x else y)
   either true x y one other = one
   either false x y one other = other refl
 
@@ -144,18 +147,22 @@ module _ (logs : Logs) (l : Layout) (h : History) (t : IsTidy logs l h) where
   flush_unless-tidy (Some name) = λ shows. t
   flush_unless-tidy None = flush_by (oldest l.frozen) refl
 
-  pub flush_tidy : ((s : Segment) → oldest l.frozen ≡ Some s → ArePlaced logs (memtable s)) → StaysTidy (flush_ruling l h)
+  pub flush_tidy : ((s : Segment) → oldest l.frozen ≡ Some s → ArePlaced logs (memtable s))
+      → StaysTidy (flush_ruling l h)
   flush_tidy found =
       let first = first_level l.levels t.levels in
       flush_unless-tidy l.halted (flush_shows_low h l logs first.0 first.1 first.2 found t.shows)
 
-  relocate_by : (moved : List Moved) → AllByRecursion (λ (m : Moved). has m.version (versions h m.key) ≡ true) moved → LeavesTidy (relocate_of l h moved)
+  relocate_by : (moved : List Moved)
+      → AllByRecursion (λ (m : Moved). has m.version (versions h m.key) ≡ true) moved
+      → LeavesTidy (relocate_of l h moved)
   relocate_by [] known = λ shows. t
   relocate_by (m ∷ ms) known =
       either (has_no_version l) _ _ (λ shows. t)
       (λ one. either (nat_le (l.active.length + frame_length l.active.format (Relocated (m ∷ ms))) l.room) _ _ (λ shows. tidy_relocated logs l h t (m ∷ ms) known shows) (λ two shows. t))
 
-  relocate_unless-tidy : (pass : Pass) (batch : List Candidate) (halted : Option FileName) → LeavesTidy (relocate_unless halted l h pass batch)
+  relocate_unless-tidy : (pass : Pass) (batch : List Candidate) (halted : Option FileName)
+      → LeavesTidy (relocate_unless halted l h pass batch)
   relocate_unless-tidy pass batch (Some name) = λ shows. t
   relocate_unless-tidy pass batch None = relocate_by (moved_of (sources l) pass.segment (last_number h) batch) (moved_known logs l h t pass.segment (last_number h) batch)
 
@@ -193,7 +200,8 @@ module _ (logs : Logs) (l : Layout) (h : History) (t : IsTidy logs l h) where
       let job = job_of l h (u ∷ []) InPlace in
       tidy_planned logs l h t job (drain_of-well l h t.levels t.files.stocked.tables_drawn t.some table_versions segment (Some u) is job refl)
 
-  drain_unless-tidy : (segment : ℕ) (o : Option OpenJob) → IsTidy logs (drain_unless o l h segment).layout (drain_unless o l h segment).history
+  drain_unless-tidy : (segment : ℕ) (o : Option OpenJob)
+      → IsTidy logs (drain_unless o l h segment).layout (drain_unless o l h segment).history
   drain_unless-tidy segment (Some o) = t
   drain_unless-tidy segment None = drain_by segment (first_into segment (tables l)) refl
 
@@ -207,7 +215,8 @@ module _ (logs : Logs) (l : Layout) (h : History) (t : IsTidy logs l h) where
   pub fresh_tidy : StaysTidy (fresh_ruling l h)
   fresh_tidy = fresh_unless-tidy l.halted
 
-  pub abandon_tidy : (job : Job) (made : Made) → AreLent (lent_numbers l.job) made → StaysTidy (abandon_ruling l h job made)
+  pub abandon_tidy : (job : Job) (made : Made) → AreLent (lent_numbers l.job) made
+      → StaysTidy (abandon_ruling l h job made)
   abandon_tidy job made are = tidy_job_ended logs l h t made are
 
   module _ (o : OpenJob) (is : l.job ≡ Some o) (made : Made) (all : AreOutputs o.job made) (lent : AreLent o.lent made) where
@@ -225,7 +234,8 @@ module _ (logs : Logs) (l : Layout) (h : History) (t : IsTidy logs l h) where
         t.levels.distinct
 
     -- what is so of all tables' entries is so of all tables' entries then
-    of_all : (Q : Entry → Type 0) → AllByRecursion (λ (u : Table). AllByRecursion Q u.entries) (tables l) → AllByRecursion (λ (u : Table). AllByRecursion Q u.entries) (tables (installed o.job made l))
+    of_all : (Q : Entry → Type 0) → AllByRecursion (λ (u : Table). AllByRecursion Q u.entries) (tables l)
+        → AllByRecursion (λ (u : Table). AllByRecursion Q u.entries) (tables (installed o.job made l))
     of_all Q each = all_replaced (λ (u : Table). AllByRecursion Q u.entries) o.job.inputs made.tables
         (subst (AllByRecursion (λ (u : Table). AllByRecursion Q u.entries)) (sym all.tables)
         (all_made (AllByRecursion Q) (λ (u : Table). AllByRecursion Q u.entries) (λ n es these. these) all.numbers (outputs o.job) (made_from l h o.job o.moved (t.job o is) made all Q each)))
@@ -290,7 +300,8 @@ module _ (logs : Logs) (l : Layout) (h : History) (t : IsTidy logs l h) where
   pub end_pass_tidy : (pass : Pass) → StaysTidy (end_pass_ruling l h pass)
   end_pass_tidy pass = tidy_pass_ended logs l h t
 
-  sweep_unless-tidy : (least : Option ℕ) (halted : Option FileName) → IsTidy logs (sweep_unless halted least l h).layout (sweep_unless halted least l h).history
+  sweep_unless-tidy : (least : Option ℕ) (halted : Option FileName)
+      → IsTidy logs (sweep_unless halted least l h).layout (sweep_unless halted least l h).history
   sweep_unless-tidy least (Some name) = t
   sweep_unless-tidy least None = tidy_swept logs l h t (swept least l)
 

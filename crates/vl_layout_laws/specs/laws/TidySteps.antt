@@ -65,16 +65,20 @@ use Rattle.vl_layout_laws.specs.laws.WellStocked.{well_begun, well_drawn, well_e
 
 -- ---- entries of all sources
 
-pub each_table : (P : Entry → Type 0) (ts : List Table) → AllByRecursion P (flat_map table_entries ts) → AllByRecursion (λ (t : Table). AllByRecursion P t.entries) ts
+pub each_table : (P : Entry → Type 0) (ts : List Table) → AllByRecursion P (flat_map table_entries ts)
+    → AllByRecursion (λ (t : Table). AllByRecursion P t.entries) ts
 each_table P [] all = tt
 each_table P (t ∷ ts) all = let both = all_parts P t.entries (flat_map table_entries ts) all in (both.0, each_table P ts both.1)
 
-pub of_tables : (P : Entry → Type 0) (ts : List Table) → AllByRecursion (λ (t : Table). AllByRecursion P t.entries) ts → AllByRecursion P (flat_map table_entries ts)
+pub of_tables : (P : Entry → Type 0) (ts : List Table)
+    → AllByRecursion (λ (t : Table). AllByRecursion P t.entries) ts
+    → AllByRecursion P (flat_map table_entries ts)
 of_tables P [] all = tt
 of_tables P (t ∷ ts) all = all_both P t.entries (flat_map table_entries ts) all.0 (of_tables P ts all.1)
 
 -- what is so of a frame's entries and of all before is so of all with the frame
-all_logged : (P : Entry → Type 0) (l : Layout) (f : LogFrame) → AllByRecursion P (added l f) → AllByRecursion P (sources l) → AllByRecursion P (sources (logged f l))
+all_logged : (P : Entry → Type 0) (l : Layout) (f : LogFrame) → AllByRecursion P (added l f)
+    → AllByRecursion P (sources l) → AllByRecursion P (sources (logged f l))
 all_logged P l f new all =
     let parts = all_parts P (memtable l.active) (behind_active l) all in
     all_both P (memtable (logged f l).active) (behind_active l)
@@ -87,7 +91,8 @@ longer l f is =
     let more = sum_by-append (frame_length l.active.format) l.active.frames (f ∷ []) in
     omega (arith, is, more)
 
-one_of : (es : List Entry) (P : Entry → Type 0) (key : List ℕ) (version : ℕ) (e : Entry) → exact es key version ≡ Some e → AllByRecursion P es → P e × (is_at key version e ≡ true)
+one_of : (es : List Entry) (P : Entry → Type 0) (key : List ℕ) (version : ℕ) (e : Entry)
+    → exact es key version ≡ Some e → AllByRecursion P es → P e × (is_at key version e ≡ true)
 one_of [] P key version e is all = absurd cc
 one_of (x ∷ xs) P key version e is all = by (is_at key version x) refl is (λ later. one_of xs P key version e later all.1)
   where
@@ -246,7 +251,8 @@ module _ (logs : Logs) (l : Layout) (h : History) (t : IsTidy logs l h) where
     job = by l.job refl;
   }
     where
-      by : (j : Option OpenJob) → l.job ≡ j → (o : OpenJob) → lent_to l.next_table j ≡ Some o → IsOpenWell (drawn l) h o.job o.moved
+      by : (j : Option OpenJob) → l.job ≡ j → (o : OpenJob) → lent_to l.next_table j ≡ Some o
+          → IsOpenWell (drawn l) h o.job o.moved
       by None was o is = absurd cc
       by (Some j) was o is =
           let job : j.job ≡ o.job = cc in
@@ -271,7 +277,9 @@ module _ (logs : Logs) (l : Layout) (h : History) (t : IsTidy logs l h) where
 
   -- ---- a commit
 
-  commit_versions : (writes : List (List ℕ × Change)) → T (is_sorted key_cmp writes) → (place : ℕ) (ws : List (List ℕ × Change)) → AllByRecursion (λ w. find key_cmp w.0 writes ≡ Some w.1) ws
+  commit_versions : (writes : List (List ℕ × Change)) → T (is_sorted key_cmp writes)
+      → (place : ℕ) (ws : List (List ℕ × Change))
+      → AllByRecursion (λ w. find key_cmp w.0 writes ≡ Some w.1) ws
       → AllByRecursion (IsOf (with_commit h (from_sorted writes))) (map (record_entry l.active.format l.active.number) (committed_records l.active.format place (last_number h + 1) ws))
   commit_versions writes rising place [] found = tt
   commit_versions writes rising place (w ∷ ws) found = (
@@ -279,7 +287,8 @@ module _ (logs : Logs) (l : Layout) (h : History) (t : IsTidy logs l h) where
     commit_versions writes rising (place + record_length l.active.format w.0 w.1) ws found.1,
   )
 
-  pub tidy_committed : (ticket : ℕ) (writes : List (List ℕ × Change)) → T (is_sorted key_cmp writes) → last_number h < max_commit_number
+  pub tidy_committed : (ticket : ℕ) (writes : List (List ℕ × Change)) → T (is_sorted key_cmp writes)
+      → last_number h < max_commit_number
       → ShowsLow logs (logged (commit_frame h writes) (ended ticket l)) (with_commit h (from_sorted writes))
       → IsTidy logs (logged (commit_frame h writes) (ended ticket l)) (with_commit h (from_sorted writes))
   tidy_committed ticket writes rising room shows = record {
@@ -304,20 +313,23 @@ module _ (logs : Logs) (l : Layout) (h : History) (t : IsTidy logs l h) where
 
   -- ---- a relocation
 
-  moved_versions : (place : ℕ) (ms : List Moved) → AllByRecursion (λ (m : Moved). has m.version (versions h m.key) ≡ true) ms
+  moved_versions : (place : ℕ) (ms : List Moved)
+      → AllByRecursion (λ (m : Moved). has m.version (versions h m.key) ≡ true) ms
       → AllByRecursion (IsOf h) (map (record_entry l.active.format l.active.number) (relocated_records l.active.format place ms))
   moved_versions place [] all = tt
   moved_versions place (m ∷ ms) all = (all.0, moved_versions (place + moved_length l.active.format m) ms all.1)
 
   -- what is moved is of a version that the sources have
-  pub moved_known : (segment last : ℕ) (batch : List Candidate) → AllByRecursion (λ (m : Moved). has m.version (versions h m.key) ≡ true) (moved_of (sources l) segment last batch)
+  pub moved_known : (segment last : ℕ) (batch : List Candidate)
+      → AllByRecursion (λ (m : Moved). has m.version (versions h m.key) ≡ true) (moved_of (sources l) segment last batch)
   moved_known segment last [] = tt
   moved_known segment last (c ∷ cs) = by (is_moved (sources l) segment last c) refl (moved_known segment last cs)
     where
       Known : Moved → Type 0
       Known m = has m.version (versions h m.key) ≡ true
 
-      won : (o : Option Entry) → exact (sources l) c.moved.key c.moved.version ≡ o → leads_to segment c.place o ≡ true → has c.moved.version (versions h c.moved.key) ≡ true
+      won : (o : Option Entry) → exact (sources l) c.moved.key c.moved.version ≡ o
+          → leads_to segment c.place o ≡ true → has c.moved.version (versions h c.moved.key) ≡ true
       won None is leads = absurd (true_false (sym leads))
       won (Some e) is leads =
           let found = one_of (sources l) (IsOf h) c.moved.key c.moved.version e is t.versions in
@@ -326,12 +338,14 @@ module _ (logs : Logs) (l : Layout) (h : History) (t : IsTidy logs l h) where
           subst (λ (v : ℕ). has v (versions h c.moved.key) ≡ true) same
           (subst (λ (k : List ℕ). has e.version (versions h k) ≡ true) (sym (Rattle.vl_model.specs.laws.WinnerLaws.same_key c.moved.key e.key both.0)) found.0)
 
-      by : (b : Bool) → is_moved (sources l) segment last c ≡ b → AllByRecursion (λ (m : Moved). has m.version (versions h m.key) ≡ true) (moved_of (sources l) segment last cs)
+      by : (b : Bool) → is_moved (sources l) segment last c ≡ b
+          → AllByRecursion (λ (m : Moved). has m.version (versions h m.key) ≡ true) (moved_of (sources l) segment last cs)
           → AllByRecursion (λ (m : Moved). has m.version (versions h m.key) ≡ true) (map (λ (x : Candidate). x.moved) (cond b (c ∷ filter (is_moved (sources l) segment last) cs) (filter (is_moved (sources l) segment last) cs)))
       by true is later = (won (exact (sources l) c.moved.key c.moved.version) refl (and_parts (wins_exactly (sources l) segment c.moved.key c.moved.version c.place) (nat_le c.moved.version last) is).0, later)
       by false is later = later
 
-  pub tidy_relocated : (moved : List Moved) → AllByRecursion (λ (m : Moved). has m.version (versions h m.key) ≡ true) moved
+  pub tidy_relocated : (moved : List Moved)
+      → AllByRecursion (λ (m : Moved). has m.version (versions h m.key) ≡ true) moved
       → ShowsLow logs (relocated l moved) h → IsTidy logs (relocated l moved) h
   tidy_relocated moved known shows = record {
     files = well_relocated l t.files moved;
@@ -348,7 +362,9 @@ module _ (logs : Logs) (l : Layout) (h : History) (t : IsTidy logs l h) where
     job = by l.job refl;
   }
     where
-      by : (j : Option OpenJob) → l.job ≡ j → (o : OpenJob) → with_moves (l.version_number + 1) moved j ≡ Some o → IsOpenWell (relocated l moved) h o.job o.moved
+      by : (j : Option OpenJob) → l.job ≡ j → (o : OpenJob)
+          → with_moves (l.version_number + 1) moved j ≡ Some o
+          → IsOpenWell (relocated l moved) h o.job o.moved
       by None was o is = absurd cc
       by (Some j) was o is =
           let job : j.job ≡ o.job = cc in
@@ -380,7 +396,8 @@ module _ (logs : Logs) (l : Layout) (h : History) (t : IsTidy logs l h) where
 
   -- ---- a flush
 
-  pub tidy_flushed : (s : Segment) → oldest l.frozen ≡ Some s → ShowsLow logs (flushed l s) h → (level : List Table) (deeper : List (List Table)) → l.levels ≡ level ∷ deeper
+  pub tidy_flushed : (s : Segment) → oldest l.frozen ≡ Some s → ShowsLow logs (flushed l s) h
+      → (level : List Table) (deeper : List (List Table)) → l.levels ≡ level ∷ deeper
       → IsTidy logs (flushed l s) h
   tidy_flushed s waits shows level deeper are = record {
     files = well_flushed l t.files s level deeper waits are;

@@ -30,17 +30,20 @@ use Rattle.vl_layout_laws.specs.laws.WellStocked.{lent_drawn, logs_off_loose, ne
 
 module _ (l : Layout) (w : IsWellStocked l) where
   -- a lent number is that of no table
-  pub not_standing : (n : ℕ) → has n (lent_numbers l.job) ≡ true → list_any (λ (t : Table). n == t.number) (tables l) ≡ false
+  pub not_standing : (n : ℕ) → has n (lent_numbers l.job) ≡ true
+      → list_any (λ (t : Table). n == t.number) (tables l) ≡ false
   not_standing n is =
       sym (any-map (is_same (TableFile n)) table_of (tables l))
       ∙ front (is_in (TableFile n) (map table_of (tables l))) refl
       (of_lent (λ (r : Retired). IsUnneeded (needed l) r) (lent_numbers l.job) (n ∷ []) (all_parts (IsUnneeded (needed l)) (loose (lent_numbers l.job)) l.retired w.stocked.unneeded).0 (is, tt)).0
     where
-      front : (b : Bool) → is_in (TableFile n) (map table_of (tables l)) ≡ b → is_in (TableFile n) (needed l) ≡ false → is_in (TableFile n) (map table_of (tables l)) ≡ false
+      front : (b : Bool) → is_in (TableFile n) (map table_of (tables l)) ≡ b
+          → is_in (TableFile n) (needed l) ≡ false → is_in (TableFile n) (map table_of (tables l)) ≡ false
       front true at none = absurd (false≢true (sym none ∙ in_tables (TableFile n) (map table_of (tables l)) (flat_map pointed_logs (tables l)) (map log_of (l.active ∷ l.frozen)) at))
       front false at none = at
 
-  no_input : (inputs : List ℕ) → AreStanding (tables l) inputs → (t : Table) → has t.number (lent_numbers l.job) ≡ true → is_among inputs t ≡ false
+  no_input : (inputs : List ℕ) → AreStanding (tables l) inputs → (t : Table)
+      → has t.number (lent_numbers l.job) ≡ true → is_among inputs t ≡ false
   no_input [] standing t lent = refl
   no_input (n ∷ ns) standing t lent = or_false (n == t.number) (is_among ns t) (apart (n == t.number) refl) (no_input ns standing.1 t lent)
     where
@@ -50,18 +53,21 @@ module _ (l : Layout) (w : IsWellStocked l) where
           absurd (false≢true (sym (subst (λ (m : ℕ). list_any (λ (u : Table). m == u.number) (tables l) ≡ false) same (not_standing t.number lent)) ∙ standing.0))
       apart false is = is
 
-  all_no_input : (inputs : List ℕ) → AreStanding (tables l) inputs → (ts : List Table) → AllByRecursion (λ n. has n (lent_numbers l.job) ≡ true) (numbers_of ts)
+  all_no_input : (inputs : List ℕ) → AreStanding (tables l) inputs → (ts : List Table)
+      → AllByRecursion (λ n. has n (lent_numbers l.job) ≡ true) (numbers_of ts)
       → AllByRecursion (λ (t : Table). is_among inputs t ≡ false) ts
   all_no_input inputs standing [] lent = tt
   all_no_input inputs standing (t ∷ ts) lent = (no_input inputs standing t lent.0, all_no_input inputs standing ts lent.1)
 
-  given_below : (ts : List Table) → AllByRecursion (λ n. has n (lent_numbers l.job) ≡ true) (numbers_of ts) → AllByRecursion (λ (t : Table). t.number < l.next_table) ts
+  given_below : (ts : List Table) → AllByRecursion (λ n. has n (lent_numbers l.job) ≡ true) (numbers_of ts)
+      → AllByRecursion (λ (t : Table). t.number < l.next_table) ts
   given_below [] lent = tt
   given_below (t ∷ ts) lent =
       ((of_lent (λ (r : Retired). IsDrawn l.next_log l.next_table r.file) (lent_numbers l.job) (t.number ∷ []) (lent_drawn l w) (lent.0, tt)).0, given_below ts lent.1)
 
   -- a file that isn't lent is none of tables that were
-  not_made : (f : FileName) → IsNotLent (lent_numbers l.job) f → (ts : List Table) → AllByRecursion (λ n. has n (lent_numbers l.job) ≡ true) (numbers_of ts)
+  not_made : (f : FileName) → IsNotLent (lent_numbers l.job) f → (ts : List Table)
+      → AllByRecursion (λ n. has n (lent_numbers l.job) ≡ true) (numbers_of ts)
       → is_in f (map table_of ts) ≡ false
   not_made (Log n) off ts lent = tables_only n ts
   not_made (TableFile n) off [] lent = refl
@@ -78,7 +84,8 @@ module _ (l : Layout) (w : IsWellStocked l) where
       no_manifest [] = refl
       no_manifest (u ∷ us) = no_manifest us
 
-  all_not_made : (rs : List Retired) → AllByRecursion (λ (r : Retired). IsNotLent (lent_numbers l.job) r.file) rs → (ts : List Table)
+  all_not_made : (rs : List Retired)
+      → AllByRecursion (λ (r : Retired). IsNotLent (lent_numbers l.job) r.file) rs → (ts : List Table)
       → AllByRecursion (λ n. has n (lent_numbers l.job) ≡ true) (numbers_of ts) → AllByRecursion (λ (r : Retired). is_in r.file (map table_of ts) ≡ false) rs
   all_not_made [] off ts lent = tt
   all_not_made (r ∷ rs) off ts lent = (not_made r.file off.0 ts lent, all_not_made rs off.1 ts lent)
@@ -91,7 +98,8 @@ module _ (l : Layout) (w : IsWellStocked l) where
       has-append k [] ys none = (refl, none)
       has-append k (x ∷ xs) ys none = by_test (x == k) none (has-append k xs ys)
         where
-          by_test : (b : Bool) → (b || has k (xs ++ ys)) ≡ false → (has k (xs ++ ys) ≡ false → (has k xs ≡ false) × (has k ys ≡ false))
+          by_test : (b : Bool) → (b || has k (xs ++ ys)) ≡ false
+              → (has k (xs ++ ys) ≡ false → (has k xs ≡ false) × (has k ys ≡ false))
               → ((b || has k xs) ≡ false) × (has k ys ≡ false)
           by_test true none later = absurd (false≢true (sym none))
           by_test false none later = later none
@@ -117,7 +125,9 @@ module _ (l : Layout) (w : IsWellStocked l) where
               by_test false none = none
           fewer k (y ∷ ys) none = by_test (y == k) none (fewer k ys)
             where
-              by_test : (b : Bool) → (b || has k (ys ++ m ∷ ms)) ≡ false → (has k (ys ++ m ∷ ms) ≡ false → has k (ys ++ ms) ≡ false) → (b || has k (ys ++ ms)) ≡ false
+              by_test : (b : Bool) → (b || has k (ys ++ m ∷ ms)) ≡ false
+                  → (has k (ys ++ m ∷ ms) ≡ false → has k (ys ++ ms) ≡ false)
+                  → (b || has k (ys ++ ms)) ≡ false
               by_test true none later = absurd (false≢true (sym none))
               by_test false none later = later none
 
@@ -130,7 +140,8 @@ module _ (l : Layout) (w : IsWellStocked l) where
       one [] none = refl
       one (u ∷ us) none = by_test (u.number == n) refl none (one us)
         where
-          by_test : (b : Bool) → (u.number == n) ≡ b → (b || has n (numbers_of us)) ≡ false → (has n (numbers_of us) ≡ false → is_in (TableFile n) (map table_of us) ≡ false)
+          by_test : (b : Bool) → (u.number == n) ≡ b → (b || has n (numbers_of us)) ≡ false
+              → (has n (numbers_of us) ≡ false → is_in (TableFile n) (map table_of us) ≡ false)
               → ((n == u.number) || is_in (TableFile n) (map table_of us)) ≡ false
           by_test true is none later = absurd (false≢true (sym none))
           by_test false is none later = let turned : (n == u.number) ≡ false = grind (arith, nat_tests) in or_false (n == u.number) (is_in (TableFile n) (map table_of us)) turned (later none)
@@ -139,7 +150,8 @@ module _ (l : Layout) (w : IsWellStocked l) where
   distinct_back [] ms distinct = distinct
   distinct_back (n ∷ ns) ms distinct = distinct_back ns ms distinct.1
 
-  standing_all : (ts : List Table) → AllByRecursion (λ (t : Table). list_any (λ (u : Table). t.number == u.number) ts ≡ true) ts
+  standing_all : (ts : List Table)
+      → AllByRecursion (λ (t : Table). list_any (λ (u : Table). t.number == u.number) ts ≡ true) ts
   standing_all [] = tt
   standing_all (t ∷ ts) = (
     or_left (t.number == t.number) (list_any (λ (u : Table). t.number == u.number) ts) (grind (arith, nat_tests)),
@@ -180,7 +192,8 @@ module _ (l : Layout) (w : IsWellStocked l) where
       dropped = filter (is_among job.inputs) (tables l)
 
       -- an input is needed, so it isn't retired; and no leaving is a table
-      inputs_off : (ts : List Table) → AllByRecursion (λ (t : Table). list_any (λ (u : Table). t.number == u.number) (tables l) ≡ true) ts
+      inputs_off : (ts : List Table)
+          → AllByRecursion (λ (t : Table). list_any (λ (u : Table). t.number == u.number) (tables l) ≡ true) ts
           → AllByRecursion (λ g. is_in g (files_of (l.retired ++ loose made.leavings)) ≡ false) (map table_of ts)
       inputs_off [] stand = tt
       inputs_off (t ∷ ts) stand = (
@@ -191,7 +204,8 @@ module _ (l : Layout) (w : IsWellStocked l) where
         inputs_off ts stand.1,
       )
         where
-          off_leavings : (ns : List ℕ) → AllByRecursion (λ n. has n (lent_numbers l.job) ≡ true) ns → is_in (table_of t) (files_of (loose ns)) ≡ false
+          off_leavings : (ns : List ℕ) → AllByRecursion (λ n. has n (lent_numbers l.job) ≡ true) ns
+              → is_in (table_of t) (files_of (loose ns)) ≡ false
           off_leavings [] are = refl
           off_leavings (n ∷ ns) are = or_false (t.number == n) (is_in (table_of t) (files_of (loose ns)))
               (is_not (t.number == n) (λ is.
@@ -208,6 +222,7 @@ module _ (l : Layout) (w : IsWellStocked l) where
       rest : List Retired
       rest = l.retired ++ loose made.leavings
 
-      within : (P : Retired → Type 0) → AllByRecursion P (loose (lent_numbers l.job) ++ l.retired) → AllByRecursion P (l.retired ++ loose made.leavings)
+      within : (P : Retired → Type 0) → AllByRecursion P (loose (lent_numbers l.job) ++ l.retired)
+          → AllByRecursion P (l.retired ++ loose made.leavings)
       within P all = let both = all_parts P (loose (lent_numbers l.job)) l.retired all in
           all_both P l.retired (loose made.leavings) both.1 (of_lent P (lent_numbers l.job) made.leavings both.0 (all_parts (λ n. has n (lent_numbers l.job) ≡ true) (numbers_of made.tables) made.leavings are.drawn).1)

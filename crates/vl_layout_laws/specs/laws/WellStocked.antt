@@ -98,7 +98,8 @@ or_false true b p q = absurd (false≢true (sym p))
 or_false false b p q = q
 
 -- what is so of a file with each number that was lent is so of the files with these, which were
-pub of_lent : (P : Retired → Type 0) (lent ms : List ℕ) → AllByRecursion P (loose lent) → AllByRecursion (λ n. has n lent ≡ true) ms
+pub of_lent : (P : Retired → Type 0) (lent ms : List ℕ) → AllByRecursion P (loose lent)
+    → AllByRecursion (λ n. has n lent ≡ true) ms
     → AllByRecursion P (loose ms)
 of_lent P lent [] all are = tt
 of_lent P lent (m ∷ ms) all are = (one lent all are.0, of_lent P lent ms all are.1)
@@ -107,14 +108,17 @@ of_lent P lent (m ∷ ms) all are = (one lent all are.0, of_lent P lent ms all a
     one [] all is = absurd (false≢true is)
     one (n ∷ ns) all is = by_test (n == m) refl is (one ns all.1)
       where
-        by_test : (b : Bool) → (n == m) ≡ b → (b || has m ns) ≡ true → (has m ns ≡ true → P (retired_at 0 (TableFile m))) → P (retired_at 0 (TableFile m))
+        by_test : (b : Bool) → (n == m) ≡ b → (b || has m ns) ≡ true
+            → (has m ns ≡ true → P (retired_at 0 (TableFile m))) → P (retired_at 0 (TableFile m))
         by_test true at is later = let same : n ≡ m = grind (arith, nat_tests) in subst (λ (k : ℕ). P (retired_at 0 (TableFile k))) same all.0
         by_test false at is later = later is
 
-pub lent_drawn : (l : Layout) → IsWellStocked l → AllByRecursion (λ (r : Retired). IsDrawn l.next_log l.next_table r.file) (loose (lent_numbers l.job))
+pub lent_drawn : (l : Layout) → IsWellStocked l
+    → AllByRecursion (λ (r : Retired). IsDrawn l.next_log l.next_table r.file) (loose (lent_numbers l.job))
 lent_drawn l w = (all_parts (λ (r : Retired). IsDrawn l.next_log l.next_table r.file) (loose (lent_numbers l.job)) l.retired w.stocked.retired_drawn).0
 
-pub retired_drawn : (l : Layout) → IsWellStocked l → AllByRecursion (λ (r : Retired). IsDrawn l.next_log l.next_table r.file) l.retired
+pub retired_drawn : (l : Layout) → IsWellStocked l
+    → AllByRecursion (λ (r : Retired). IsDrawn l.next_log l.next_table r.file) l.retired
 retired_drawn l w = (all_parts (λ (r : Retired). IsDrawn l.next_log l.next_table r.file) (loose (lent_numbers l.job)) l.retired w.stocked.retired_drawn).1
 
 module _ (l : Layout) (w : IsWellStocked l) where
@@ -192,7 +196,8 @@ module _ (l : Layout) (w : IsWellStocked l) where
     flushed_apart = w.flushed_apart;
   }
 
-  lent_moved : (number : ℕ) (moved : List Moved) (o : Option OpenJob) → lent_numbers (with_moves number moved o) ≡ lent_numbers o
+  lent_moved : (number : ℕ) (moved : List Moved) (o : Option OpenJob)
+      → lent_numbers (with_moves number moved o) ≡ lent_numbers o
   lent_moved number moved None = refl
   lent_moved number moved (Some job) = refl
 
@@ -210,12 +215,14 @@ module _ (l : Layout) (w : IsWellStocked l) where
 
   -- ---- a flush
 
-  logs_apart : (lent : List ℕ) (v : ℕ) (ss : List Segment) → AllByRecursion (λ (r : Retired). IsNotLent lent r.file) (map (retired_at v) (map log_of ss))
+  logs_apart : (lent : List ℕ) (v : ℕ) (ss : List Segment)
+      → AllByRecursion (λ (r : Retired). IsNotLent lent r.file) (map (retired_at v) (map log_of ss))
   logs_apart lent v [] = tt
   logs_apart lent v (s ∷ ss) = (tt, logs_apart lent v ss)
 
   -- what is needed isn't retired
-  pub needed_off : (f : FileName) → is_in f (needed l) ≡ true → (rs : List Retired) → AllByRecursion (IsUnneeded (needed l)) rs → is_in f (files_of rs) ≡ false
+  pub needed_off : (f : FileName) → is_in f (needed l) ≡ true → (rs : List Retired)
+      → AllByRecursion (IsUnneeded (needed l)) rs → is_in f (files_of rs) ≡ false
   needed_off f there [] un = refl
   needed_off f there (r ∷ rs) un = or_false (is_same f r.file) (is_in f (files_of rs))
       (is_not (is_same f r.file) (λ is. false≢true (sym un.0 ∙ subst (λ (g : FileName). is_in g (needed l) ≡ true) (same_file f r.file is) there)))
@@ -231,25 +238,29 @@ module _ (l : Layout) (w : IsWellStocked l) where
       l.retired unneeded
 
   -- what is lent isn't retired
-  lent_off : (n : ℕ) → has n (lent_numbers l.job) ≡ true → (rs : List Retired) → AllByRecursion (λ (r : Retired). IsNotLent (lent_numbers l.job) r.file) rs
+  lent_off : (n : ℕ) → has n (lent_numbers l.job) ≡ true → (rs : List Retired)
+      → AllByRecursion (λ (r : Retired). IsNotLent (lent_numbers l.job) r.file) rs
       → is_in (TableFile n) (files_of rs) ≡ false
   lent_off n is [] off = refl
   lent_off n is (r ∷ rs) off = or_false (is_same (TableFile n) r.file) (is_in (TableFile n) (files_of rs))
       (is_not (is_same (TableFile n) r.file) (λ at. false≢true (sym (subst (IsNotLent (lent_numbers l.job)) (sym (same_file (TableFile n) r.file at)) off.0) ∙ is)))
       (lent_off n is rs off.1)
 
-  all_lent_off : (ns : List ℕ) → AllByRecursion (λ n. has n (lent_numbers l.job) ≡ true) ns → AllByRecursion (λ g. is_in g (files_of l.retired) ≡ false) (files_of (loose ns))
+  all_lent_off : (ns : List ℕ) → AllByRecursion (λ n. has n (lent_numbers l.job) ≡ true) ns
+      → AllByRecursion (λ g. is_in g (files_of l.retired) ≡ false) (files_of (loose ns))
   all_lent_off [] are = tt
   all_lent_off (n ∷ ns) are = (lent_off n are.0 l.retired w.lent_apart, all_lent_off ns are.1)
 
-  pub with_loose : (ns : List ℕ) → AllByRecursion (λ n. has n (lent_numbers l.job) ≡ true) ns → AreDistinct ns → AreOnce (files_of (l.retired ++ loose ns))
+  pub with_loose : (ns : List ℕ) → AllByRecursion (λ n. has n (lent_numbers l.job) ≡ true) ns
+      → AreDistinct ns → AreOnce (files_of (l.retired ++ loose ns))
   with_loose ns are distinct = subst AreOnce (sym (files-both l.retired (loose ns))) (once_both (files_of l.retired) (files_of (loose ns)) w.once (loose_once ns distinct) (all_lent_off ns are))
 
   pub logs_off_loose : (ns : List ℕ) → AllByRecursion (IsLogOff (files_of (l.retired ++ loose ns))) l.flushed
   logs_off_loose ns = subst (λ (fs : List FileName). AllByRecursion (IsLogOff fs) l.flushed) (sym (files-both l.retired (loose ns)))
       (all_weaker (IsLogOff (files_of l.retired)) (IsLogOff (files_of l.retired ++ files_of (loose ns))) (λ s off. off_both (log_of s) (files_of l.retired) (files_of (loose ns)) off (log_not_loose s.number ns)) l.flushed w.flushed_apart)
 
-  pub well_flushed : (s : Segment) (level : List Table) (deeper : List (List Table)) → oldest l.frozen ≡ Some s → l.levels ≡ level ∷ deeper
+  pub well_flushed : (s : Segment) (level : List Table) (deeper : List (List Table))
+      → oldest l.frozen ≡ Some s → l.levels ≡ level ∷ deeper
       → IsWellStocked (flushed l s)
   well_flushed s level deeper waits are = record {
     stocked = restocked (flushed (with_lent l) s) (loose (lent_numbers l.job) ++ (flushed l s).retired)
@@ -302,11 +313,13 @@ module _ (l : Layout) (w : IsWellStocked l) where
       let inner = all_parts P (loose job.lent) rs outer.0 in
       all_both P (loose (job.lent ++ n ∷ [])) rs (appended job.lent inner.0 outer.1) inner.1
     where
-      appended : (ns : List ℕ) → AllByRecursion P (loose ns) → AllByRecursion P (retired_at 0 (TableFile n) ∷ []) → AllByRecursion P (loose (ns ++ n ∷ []))
+      appended : (ns : List ℕ) → AllByRecursion P (loose ns)
+          → AllByRecursion P (retired_at 0 (TableFile n) ∷ []) → AllByRecursion P (loose (ns ++ n ∷ []))
       appended [] some one = one
       appended (m ∷ ms) some one = (some.0, appended ms some.1 one)
 
-  not_drawn : (next_log n : ℕ) (ns : List ℕ) → AllByRecursion (λ (r : Retired). IsDrawn next_log n r.file) (loose ns) → has n ns ≡ false
+  not_drawn : (next_log n : ℕ) (ns : List ℕ)
+      → AllByRecursion (λ (r : Retired). IsDrawn next_log n r.file) (loose ns) → has n ns ≡ false
   not_drawn next_log n [] all = refl
   not_drawn next_log n (m ∷ ms) all =
       let less = all.0 in
@@ -317,7 +330,9 @@ module _ (l : Layout) (w : IsWellStocked l) where
   has-more m n [] none apart = or_false (n == m) false apart refl
   has-more m n (k ∷ ks) none apart = by_test (k == m) none (has-more m n ks)
     where
-      by_test : (b : Bool) → (b || has m ks) ≡ false → (has m ks ≡ false → (n == m) ≡ false → has m (ks ++ n ∷ []) ≡ false) → (b || has m (ks ++ n ∷ [])) ≡ false
+      by_test : (b : Bool) → (b || has m ks) ≡ false
+          → (has m ks ≡ false → (n == m) ≡ false → has m (ks ++ n ∷ []) ≡ false)
+          → (b || has m (ks ++ n ∷ [])) ≡ false
       by_test true none later = absurd (false≢true (sym none))
       by_test false none later = later none apart
 
@@ -325,20 +340,24 @@ module _ (l : Layout) (w : IsWellStocked l) where
   once_more n [] once none = (refl, tt)
   once_more n (m ∷ ms) once none = by_test (m == n) refl none (once_more n ms once.1)
     where
-      by_test : (b : Bool) → (m == n) ≡ b → (b || has n ms) ≡ false → (has n ms ≡ false → AreDistinct (ms ++ n ∷ [])) → AreDistinct (m ∷ (ms ++ n ∷ []))
+      by_test : (b : Bool) → (m == n) ≡ b → (b || has n ms) ≡ false
+          → (has n ms ≡ false → AreDistinct (ms ++ n ∷ [])) → AreDistinct (m ∷ (ms ++ n ∷ []))
       by_test true is none later = absurd (false≢true (sym none))
       by_test false is none later = let apart : (n == m) ≡ false = grind (arith, nat_tests) in (has-more m n ms once.0 apart, later none)
 
-  once_lent : (n : ℕ) (o : Option OpenJob) → AreDistinct (lent_numbers o) → has n (lent_numbers o) ≡ false → AreDistinct (lent_numbers (lent_to n o))
+  once_lent : (n : ℕ) (o : Option OpenJob) → AreDistinct (lent_numbers o) → has n (lent_numbers o) ≡ false
+      → AreDistinct (lent_numbers (lent_to n o))
   once_lent n None once none = tt
   once_lent n (Some job) once none = once_more n job.lent once none
 
-  apart_lent : (next_log n : ℕ) (o : Option OpenJob) (rs : List Retired) → AllByRecursion (λ (r : Retired). IsNotLent (lent_numbers o) r.file) rs
+  apart_lent : (next_log n : ℕ) (o : Option OpenJob) (rs : List Retired)
+      → AllByRecursion (λ (r : Retired). IsNotLent (lent_numbers o) r.file) rs
       → AllByRecursion (λ (r : Retired). IsDrawn next_log n r.file) rs → AllByRecursion (λ (r : Retired). IsNotLent (lent_numbers (lent_to n o)) r.file) rs
   apart_lent next_log n o [] apart given = tt
   apart_lent next_log n o (r ∷ rs) apart given = (by_file r.file o apart.0 given.0, apart_lent next_log n o rs apart.1 given.1)
     where
-      by_file : (f : FileName) (x : Option OpenJob) → IsNotLent (lent_numbers x) f → IsDrawn next_log n f → IsNotLent (lent_numbers (lent_to n x)) f
+      by_file : (f : FileName) (x : Option OpenJob) → IsNotLent (lent_numbers x) f → IsDrawn next_log n f
+          → IsNotLent (lent_numbers (lent_to n x)) f
       by_file (Log m) x apart given = tt
       by_file (TableFile m) None apart given = refl
       by_file (TableFile m) (Some job) apart given = let no : (n == m) ≡ false = grind (arith, nat_tests, given) in has-more m n job.lent apart no
