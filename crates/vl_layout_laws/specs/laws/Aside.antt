@@ -55,10 +55,12 @@ pairs_apart one (t ∷ ts) apart = (
 
 -- all keys of inputs among these tables are above a key, or below one
 abbrev pub AreAbove : (Table → Bool) → List ℕ → List Table → Type 0
-AreAbove one key ts = AllByRecursion (λ (t : Table). one t ≡ true → AllByRecursion (λ (e : Entry). Lt key e.key) t.entries) ts
+AreAbove one key ts =
+    AllByRecursion (λ (t : Table). one t ≡ true → AllByRecursion (λ (e : Entry). Lt key e.key) t.entries) ts
 
 abbrev pub AreBelow : (Table → Bool) → List ℕ → List Table → Type 0
-AreBelow one key ts = AllByRecursion (λ (t : Table). one t ≡ true → AllByRecursion (λ (e : Entry). Lt e.key key) t.entries) ts
+AreBelow one key ts =
+    AllByRecursion (λ (t : Table). one t ≡ true → AllByRecursion (λ (e : Entry). Lt e.key key) t.entries) ts
 
 module _ (n : ℕ) (A B : List Table) (distinct_A : IsDistinct A) (distinct_B : IsDistinct B) (other : AreOther A B)
     (ranged_A : AllByRecursion IsRanged A) (ranged_B : AllByRecursion IsRanged B)
@@ -109,7 +111,8 @@ module _ (n : ℕ) (A B : List Table) (distinct_A : IsDistinct A) (distinct_B : 
       ⊎ (AreBelow (λ t. is_among (numbers_of (with_next (due_inputs n A) B)) t) u.first A × AreBelow (λ t. is_among (numbers_of (with_next (due_inputs n A) B)) t) u.first B)
 
   pub all_beside : AllByRecursion (λ (u : Table). is_among (numbers_of (with_next (due_inputs n A) B)) u ≡ false → IsBeside u) B
-  all_beside = each B (subst (λ (o : Option Range). AllByRecursion (λ (u : Table). meets o u ≡ true → is_among (numbers_of (with_next (due_inputs n A) B)) u ≡ true) B) is (met n A B distinct_A other ranged_A ranged_B apart_A apart_B))
+  all_beside =
+      each B (subst (λ (o : Option Range). AllByRecursion (λ (u : Table). meets o u ≡ true → is_among (numbers_of (with_next (due_inputs n A) B)) u ≡ true) B) is (met n A B distinct_A other ranged_A ranged_B apart_A apart_B))
       (pairs_apart (λ t. is_among (numbers_of (with_next (due_inputs n A) B)) t) B apart_B) wide_B
     where
       F : Table → Bool
@@ -119,7 +122,8 @@ module _ (n : ℕ) (A B : List Table) (distinct_A : IsDistinct A) (distinct_B : 
       inside = within n A B distinct_A other ranged_A ranged_B apart_A apart_B range is
 
       meet : AllByRecursion (λ (t : Table). is_among (numbers_of (with_next (due_inputs n A) B)) t ≡ true → meets (Some range) t ≡ true) B
-      meet = subst (λ (o : Option Range). AllByRecursion (λ (t : Table). is_among (numbers_of (with_next (due_inputs n A) B)) t ≡ true → meets o t ≡ true) B) is inputs_meet
+      meet =
+          subst (λ (o : Option Range). AllByRecursion (λ (t : Table). is_among (numbers_of (with_next (due_inputs n A) B)) t ≡ true → meets o t ≡ true) B) is inputs_meet
 
       above_first : (key : List ℕ) → Lt key range.0 → (ts : List Table)
           → AllByRecursion (λ (t : Table). is_among (numbers_of (with_next (due_inputs n A) B)) t ≡ true → Le range.0 t.first × Le t.last range.1) ts → AllByRecursion IsRanged ts

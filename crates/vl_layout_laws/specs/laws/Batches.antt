@@ -44,7 +44,8 @@ any_none (c ∷ cs) is = absurd cc
 
 any_some : (cs batch : List Candidate) → if_any cs ≡ Some batch → (cs ≡ batch) × (1 ≤ length batch)
 any_some [] batch is = absurd cc
-any_some (c ∷ cs) batch is = let same : c ∷ cs ≡ batch = cc in (same, subst (λ (b : List Candidate). 1 ≤ length b) same (omega arith))
+any_some (c ∷ cs) batch is =
+    let same : c ∷ cs ≡ batch = cc in (same, subst (λ (b : List Candidate). 1 ≤ length b) same (omega arith))
 
 front_empty : (xs ys : List Candidate) → xs ++ ys ≡ [] → xs ≡ []
 front_empty [] ys is = refl
@@ -74,7 +75,8 @@ pub batches_all : (pass : Pass) (batches : List (List Candidate)) → AreBatches
     → flat_map (λ (batch : List Candidate). batch) batches ≡ found_by pass
 batches_all pass [] are = sym (none_left pass are)
 batches_all pass (batch ∷ batches) are =
-    ap (λ (cs : List Candidate). batch ++ cs) (batches_all (next_batch pass).1 batches are.1) ∙ batch_found pass batch are.0
+    ap (λ (cs : List Candidate). batch ++ cs) (batches_all (next_batch pass).1 batches are.1)
+    ∙ batch_found pass batch are.0
 
 -- with at most so many records left to find
 batches_within : (n : ℕ) (pass : Pass) → length (found_by pass) ≤ n
@@ -139,14 +141,16 @@ module _ (base : List Entry) (segment : ℕ) where
       (λ c. later_fits (count + 1) (bytes + value_lengths (c ∷ [])) rs (omega arith))
     where
       Behind : Type 0
-      Behind = (c : Candidate) → Fits (count + 1) (bytes + value_lengths (c ∷ [])) (taken_from base segment (count + 1) (bytes + value_lengths (c ∷ [])) rs).0
+      Behind =
+          (c : Candidate) → Fits (count + 1) (bytes + value_lengths (c ∷ [])) (taken_from base segment (count + 1) (bytes + value_lengths (c ∷ [])) rs).0
 
       room : Behind → (c : Candidate) (b : Bool) → has_room count bytes (value_lengths (c ∷ [])) ≡ b
           → Fits count bytes (batch_with b (c ∷ []) (taken_from base segment count bytes rs) (taken_from base segment (count + 1) (bytes + value_lengths (c ∷ [])) rs) ([], r ∷ rs)).0
       room behind c true is =
           let not_first : (count == 0) ≡ false = grind (arith, nat_tests) in
           let both : (nat_lt count max_batch_records && nat_le (bytes + value_lengths (c ∷ [])) max_batch_bytes) ≡ true =
-          sym (ap (λ (b : Bool). b || (nat_lt count max_batch_records && nat_le (bytes + value_lengths (c ∷ [])) max_batch_bytes)) not_first) ∙ is in
+          sym (ap (λ (b : Bool). b || (nat_lt count max_batch_records && nat_le (bytes + value_lengths (c ∷ [])) max_batch_bytes)) not_first)
+          ∙ is in
           let parts = and_parts (nat_lt count max_batch_records) (nat_le (bytes + value_lengths (c ∷ [])) max_batch_bytes) both in
           one_fits count bytes c _ (let test = parts.0 in grind (arith, nat_tests)) (let test = parts.1 in grind (arith, nat_tests))
           (behind c)
@@ -156,12 +160,15 @@ module _ (base : List Entry) (segment : ℕ) where
           → Fits count bytes (taken_from base segment count bytes rs).0 → Behind
           → Fits count bytes (taken_from base segment count bytes (r ∷ rs)).0
       by (inl unfound) passed behind = subst (IsFitting count bytes r rs) (sym unfound) passed
-      by (inr one) passed behind = subst (IsFitting count bytes r rs) (sym one.1) (room behind one.0 (has_room count bytes (value_lengths (one.0 ∷ []))) refl)
+      by (inr one) passed behind =
+          subst (IsFitting count bytes r rs) (sym one.1) (room behind one.0 (has_room count bytes (value_lengths (one.0 ∷ []))) refl)
 
   within_first : (c : Candidate) (cs : List Candidate) → Fits 1 (0 + value_lengths (c ∷ [])) cs
       → IsWithinLimits (c ∷ cs)
-  within_first c cs (inl none) = inl (let one : length (c ∷ cs) ≡ 1 = ap (λ (l : List Candidate). length (c ∷ l)) none in omega (arith, one))
-  within_first c cs (inr fits) = inr (omega (arith, fits.0), omega (arith, fits.1, lengths-cons c cs, lengths-cons c []))
+  within_first c cs (inl none) =
+      inl (let one : length (c ∷ cs) ≡ 1 = ap (λ (l : List Candidate). length (c ∷ l)) none in omega (arith, one))
+  within_first c cs (inr fits) =
+      inr (omega (arith, fits.0), omega (arith, fits.1, lengths-cons c cs, lengths-cons c []))
 
   abbrev IsWithin : LogRecord → List LogRecord → List Candidate → Type 0
   IsWithin r rs f =

@@ -78,7 +78,8 @@ pub kept_at_first : (l : Layout) (h : History) (inputs : List Table) (target : T
     → IsKeptFor (job_of l h inputs target) [] (sourced l (numbers_of inputs))
 kept_at_first l h inputs target = record {
   inputs = still_itself [] (sourced l (numbers_of inputs));
-  outside = all_weaker (λ (e : Entry). list_any (is_at e.key e.version) (outside_of (sourced l (numbers_of inputs))) ≡ true)
+  outside =
+      all_weaker (λ (e : Entry). list_any (is_at e.key e.version) (outside_of (sourced l (numbers_of inputs))) ≡ true)
       (IsAccounted (outside_of (sourced l (numbers_of inputs))) (floor l h) []) (λ e is. inl is) (outside_of (sourced l (numbers_of inputs))) (all_there (outside_of (sourced l (numbers_of inputs))));
 }
 
@@ -92,7 +93,8 @@ least_is_least last (x ∷ xs) =
     all_live_weaker : (a b : ℕ) → b ≤ a → (ys : List Live) → AllByRecursion (λ (y : Live). a ≤ y.number) ys
         → AllByRecursion (λ (y : Live). b ≤ y.number) ys
     all_live_weaker a b less [] all = tt
-    all_live_weaker a b less (y ∷ ys) all = ((let one = all.0 in omega (arith, less, one)), all_live_weaker a b less ys all.1)
+    all_live_weaker a b less (y ∷ ys) all =
+        ((let one = all.0 in omega (arith, less, one)), all_live_weaker a b less ys all.1)
 
 numbers_given : (next : ℕ) (ts : List Table) → AllByRecursion (λ (t : Table). t.number < next) ts
     → AllByRecursion (λ n. n < next) (numbers_of ts)
@@ -164,7 +166,8 @@ module _ (l : Layout) (h : History) (job : Job) (moved : List Named) (k : IsOpen
     roomy = k.roomy;
     some = k.some;
     fits = k.fits;
-    of = λ key n there. versions-stay h (with_commit h (from_sorted writes)) (with_commit-extends h (from_sorted writes)) key n (k.of key n there);
+    of =
+        λ key n there. versions-stay h (with_commit h (from_sorted writes)) (with_commit-extends h (from_sorted writes)) key n (k.of key n there);
   }
     where
       by : (target : Target) → IsFitted l job target
@@ -269,7 +272,9 @@ module _ (l : Layout) (h : History) (job : Job) (moved : List Named) (k : IsOpen
   }
     where
       new : tables (flushed l s) ≡ flushed_table l s ∷ tables l
-      new = ap (λ (levels : List (List Table)). flat_map (λ ts. ts) (in_front (flushed_table l s) levels)) are ∙ ap (λ (levels : List (List Table)). flushed_table l s ∷ flat_map (λ ts. ts) levels) (sym are)
+      new =
+          ap (λ (levels : List (List Table)). flat_map (λ ts. ts) (in_front (flushed_table l s) levels)) are
+          ∙ ap (λ (levels : List (List Table)). flushed_table l s ∷ flat_map (λ ts. ts) levels) (sym are)
 
       all_numbers_weaker : (P Q : ℕ → Type 0) → ((n : ℕ) → P n → Q n) → (ns : List ℕ) → AllByRecursion P ns
           → AllByRecursion Q ns
@@ -279,11 +284,13 @@ module _ (l : Layout) (h : History) (job : Job) (moved : List Named) (k : IsOpen
       -- the deeper levels are as they were
       roomy_front : (n : ℕ) (t : Table) → 0 < n → level_at n ((t ∷ level) ∷ deeper) ≡ level_at n (level ∷ deeper)
       roomy_front n t some = let apart : (n == 0) ≡ false = grind (arith, nat_tests, some) in
-          ap (λ b. cond b (t ∷ level) (level_at (n - 1) deeper)) apart ∙ sym (ap (λ b. cond b level (level_at (n - 1) deeper)) apart)
+          ap (λ b. cond b (t ∷ level) (level_at (n - 1) deeper)) apart
+          ∙ sym (ap (λ b. cond b level (level_at (n - 1) deeper)) apart)
 
       roomy_behind : (target : Target) → IsRoomy l.levels job target → IsRoomy (flushed l s).levels job target
       roomy_behind InPlace roomy = tt
-      roomy_behind (Level n) roomy = subst (λ (levels : List (List Table)). IsRoomy (in_front (flushed_table l s) levels) job (Level n)) (sym are)
+      roomy_behind (Level n) roomy =
+          subst (λ (levels : List (List Table)). IsRoomy (in_front (flushed_table l s) levels) job (Level n)) (sym are)
           (let was : IsRoomy (level ∷ deeper) job (Level n) = subst (λ (levels : List (List Table)). IsRoomy levels job (Level n)) are roomy in
           (was.0, (was.1.0, subst (AllByRecursion (λ (u : Table). is_among job.inputs u ≡ false → IsBesideAll (inputs_of job.base) u)) (sym (roomy_front n (flushed_table l s) was.0)) was.1.1)))
 
@@ -318,7 +325,8 @@ module _ (l : Layout) (h : History) (job : Job) (moved : List Named) (k : IsOpen
 least_above : (low last : ℕ) (xs : List Live) → low ≤ last
     → AllByRecursion (λ (x : Live). low ≤ x.number) xs → low ≤ least_number last xs
 least_above low last [] at all = at
-least_above low last (x ∷ xs) at all = let later = least_above low last xs at all.1 in let one = all.0 in omega (arith, later, one)
+least_above low last (x ∷ xs) at all =
+    let later = least_above low last xs at all.1 in let one = all.0 in omega (arith, later, one)
 
 -- Whatever an install of a job that is open well answers, and however much later it comes, the layout that it leaves shows
 -- the history from where it could be read before.
@@ -368,12 +376,14 @@ all_if_so Q false e es here all = all
 pub all_kept_from : (Q : Entry → Type 0) (keep : ℕ) (I O : List Entry) (f : ℕ) (newer : List Entry) (ss : List Sourced)
     → AllByRecursion Q (inputs_of ss) → AllByRecursion Q (kept_from keep I O f newer ss)
 all_kept_from Q keep I O f newer [] all = tt
-all_kept_from Q keep I O f newer (s ∷ ss) all = by s.0 all (λ later. all_kept_from Q keep I O f (s.1 ∷ newer) ss later)
+all_kept_from Q keep I O f newer (s ∷ ss) all =
+    by s.0 all (λ later. all_kept_from Q keep I O f (s.1 ∷ newer) ss later)
   where
     by : (b : Bool) → AllByRecursion Q (if_so b s.1 (inputs_of ss))
         → (AllByRecursion Q (inputs_of ss) → AllByRecursion Q (kept_from keep I O f (s.1 ∷ newer) ss))
         → AllByRecursion Q (if_so (b && not (is_dropped keep I O f newer s.1)) s.1 (kept_from keep I O f (s.1 ∷ newer) ss))
-    by true all later = all_if_so Q (not (is_dropped keep I O f newer s.1)) s.1 (kept_from keep I O f (s.1 ∷ newer) ss) all.0 (later all.1)
+    by true all later =
+        all_if_so Q (not (is_dropped keep I O f newer s.1)) s.1 (kept_from keep I O f (s.1 ∷ newer) ss) all.0 (later all.1)
     by false all later = later all
 
 pub inputs_front : (Q : Entry → Type 0) (es : List Entry) (ss : List Sourced)
@@ -384,7 +394,8 @@ inputs_front Q (e ∷ es) ss all = inputs_front Q es ss all
 inputs_table : (Q : Entry → Type 0) (b : Bool) (es : List Entry) (ss : List Sourced) → AllByRecursion Q es
     → AllByRecursion Q (inputs_of ss) → AllByRecursion Q (inputs_of (marked_as b es ++ ss))
 inputs_table Q b [] ss all later = later
-inputs_table Q b (e ∷ es) ss all later = all_if_so Q b e (inputs_of (marked_as b es ++ ss)) all.0 (inputs_table Q b es ss all.1 later)
+inputs_table Q b (e ∷ es) ss all later =
+    all_if_so Q b e (inputs_of (marked_as b es ++ ss)) all.0 (inputs_table Q b es ss all.1 later)
 
 pub inputs_tables : (Q : Entry → Type 0) (inputs : List ℕ) (ts : List Table)
     → AllByRecursion Q (all_entries ts) → AllByRecursion Q (inputs_of (marked_tables inputs ts))

@@ -87,18 +87,21 @@ placed_below n number less (Logged value pointer) own =
 all_placed_below : (n number : ℕ) → number < n → (es : List Entry) → AllByRecursion (IsOwn number) es
     → AllByRecursion (λ (e : Entry). IsFarBelowAt n e.body) (map placed es)
 all_placed_below n number less [] own = tt
-all_placed_below n number less (e ∷ es) own = (placed_below n number less e.body own.0, all_placed_below n number less es own.1)
+all_placed_below n number less (e ∷ es) own =
+    (placed_below n number less e.body own.0, all_placed_below n number less es own.1)
 
 -- ---- rulings
 
 points_later : (a b : ℕ) → a ≤ b → (ts : List Table) → AllByRecursion (PointsDrawn a) ts
     → AllByRecursion (PointsDrawn b) ts
-points_later a b le ts all = all_weaker (PointsDrawn a) (PointsDrawn b) (λ t is. all_weaker (λ (p : Point). p.segment < a) (λ (p : Point). p.segment < b) (λ p less. omega (arith, le, less)) t.points is) ts all
+points_later a b le ts all =
+    all_weaker (PointsDrawn a) (PointsDrawn b) (λ t is. all_weaker (λ (p : Point). p.segment < a) (λ (p : Point). p.segment < b) (λ p less. omega (arith, le, less)) t.points is) ts all
 
 pins_later : (a b c d : ℕ) → a ≤ c → b ≤ d → (ps : List Pin)
     → AllByRecursion (λ (p : Pin). AllByRecursion (IsDrawn a b) p.needs) ps
     → AllByRecursion (λ (p : Pin). AllByRecursion (IsDrawn c d) p.needs) ps
-pins_later a b c d al bl ps all = all_weaker (λ (p : Pin). AllByRecursion (IsDrawn a b) p.needs) (λ (p : Pin). AllByRecursion (IsDrawn c d) p.needs)
+pins_later a b c d al bl ps all =
+    all_weaker (λ (p : Pin). AllByRecursion (IsDrawn a b) p.needs) (λ (p : Pin). AllByRecursion (IsDrawn c d) p.needs)
     (λ p is. all_weaker (IsDrawn a b) (IsDrawn c d) (λ f drawn. drawn_later a b c d al bl f drawn) p.needs is) ps all
 
 module _ (l : Layout) (s : IsStocked l) (d : IsDrawnWhole l) where
@@ -138,7 +141,8 @@ module _ (l : Layout) (s : IsStocked l) (d : IsDrawnWhole l) where
   pub drawn_ended : (ticket : ℕ) → IsDrawnWhole (ended ticket l)
   drawn_ended ticket = record {
     points = d.points;
-    pins_drawn = together (map (λ (x : Live). x.pin) (filter (λ (x : Live). not (x.ticket == ticket)) l.live)) (job_pin l.job) (pass_pin l.pass)
+    pins_drawn =
+        together (map (λ (x : Live). x.pin) (filter (λ (x : Live). not (x.ticket == ticket)) l.live)) (job_pin l.job) (pass_pin l.pass)
         (all_mapped (λ (p : Pin). AllByRecursion (IsDrawn l.next_log l.next_table) p.needs) (λ (x : Live). x.pin) (filter (λ (x : Live). not (x.ticket == ticket)) l.live)
         (all_filtered (λ (x : Live). AllByRecursion (IsDrawn l.next_log l.next_table) x.pin.needs) (λ (x : Live). not (x.ticket == ticket)) l.live
         (all_unmapped (λ (p : Pin). AllByRecursion (IsDrawn l.next_log l.next_table) p.needs) (λ (x : Live). x.pin) l.live split.0.0)))
@@ -170,13 +174,15 @@ module _ (l : Layout) (s : IsStocked l) (d : IsDrawnWhole l) where
   pub drawn_relocated : (records : List Moved) → IsDrawnWhole (relocated l records)
   drawn_relocated records = record {
     points = d.points;
-    pins_drawn = subst (λ (ps : List Pin). AllByRecursion (λ (p : Pin). AllByRecursion (IsDrawn l.next_log l.next_table) p.needs) ((map (λ (x : Live). x.pin) l.live ++ ps) ++ pass_pin l.pass)) (sym (noted_same (l.version_number + 1) records l.job)) d.pins_drawn;
+    pins_drawn =
+        subst (λ (ps : List Pin). AllByRecursion (λ (p : Pin). AllByRecursion (IsDrawn l.next_log l.next_table) p.needs) ((map (λ (x : Live). x.pin) l.live ++ ps) ++ pass_pin l.pass)) (sym (noted_same (l.version_number + 1) records l.job)) d.pins_drawn;
   }
 
   pub drawn_rotated : IsDrawnWhole (rotated l)
   drawn_rotated = record {
     points = points_later l.next_log (l.next_log + 1) (omega arith) (tables l) d.points;
-    pins_drawn = pins_later l.next_log l.next_table (l.next_log + 1) l.next_table (omega arith) (omega arith) (pins l) d.pins_drawn;
+    pins_drawn =
+        pins_later l.next_log l.next_table (l.next_log + 1) l.next_table (omega arith) (omega arith) (pins l) d.pins_drawn;
   }
 
   pub drawn_lent : IsDrawnWhole (lending l)
@@ -191,7 +197,8 @@ module _ (l : Layout) (s : IsStocked l) (d : IsDrawnWhole l) where
         let new : flat_map (λ ts. ts) (in_front t l.levels) ≡ t ∷ tables l = ap (λ (levels : List (List Table)). flat_map (λ ts. ts) (in_front t levels)) are ∙ ap (λ (levels : List (List Table)). t ∷ flat_map (λ ts. ts) levels) (sym are) in
         subst (AllByRecursion (PointsDrawn l.next_log)) (sym new)
         (below_points l.next_log (map placed (memtable x)) (all_placed_below l.next_log x.number (of_oldest l.frozen x waits s.logs_drawn.1) (memtable x) (own_memtable x)), d.points);
-    pins_drawn = pins_later l.next_log l.next_table l.next_log (l.next_table + 1) (omega arith) (omega arith) (pins l) d.pins_drawn;
+    pins_drawn =
+        pins_later l.next_log l.next_table l.next_log (l.next_table + 1) (omega arith) (omega arith) (pins l) d.pins_drawn;
   }
     where
       of_oldest : (ss : List Segment) (y : Segment) → oldest ss ≡ Some y

@@ -79,7 +79,8 @@ module _ (P : Layout → History → Type 0) where
     module _ (goes : P (rotated l) h) where
       rotate_of-leaves : (frames : List LogFrame) → Leaves (rotate_of frames l h)
       rotate_of-leaves [] = w
-      rotate_of-leaves (f ∷ fs) = either (has_no_number l.next_log 1) _ _ w (λ one. either (has_no_version l) _ _ w (λ two. goes))
+      rotate_of-leaves (f ∷ fs) =
+          either (has_no_number l.next_log 1) _ _ w (λ one. either (has_no_version l) _ _ w (λ two. goes))
 
       rotate_unless-leaves : (halted : Option FileName) → Leaves (rotate_unless halted l h)
       rotate_unless-leaves (Some name) = w
@@ -91,7 +92,8 @@ module _ (P : Layout → History → Type 0) where
     module _ (goes : (s : Segment) → P (flushed l s) h) where
       flush_of-leaves : (o : Option Segment) → Leaves (flush_of l h o)
       flush_of-leaves None = w
-      flush_of-leaves (Some s) = either (has_no_number l.next_table 1) _ _ w (λ one. either (has_no_version l) _ _ w (λ two. goes s))
+      flush_of-leaves (Some s) =
+          either (has_no_number l.next_table 1) _ _ w (λ one. either (has_no_version l) _ _ w (λ two. goes s))
 
       flush_unless-leaves : (halted : Option FileName) → Leaves (flush_unless halted l h)
       flush_unless-leaves (Some name) = w
@@ -110,7 +112,8 @@ module _ (P : Layout → History → Type 0) where
       relocate_unless-leaves : (pass : Pass) (batch : List Candidate) (halted : Option FileName)
           → Leaves (relocate_unless halted l h pass batch)
       relocate_unless-leaves pass batch (Some name) = w
-      relocate_unless-leaves pass batch None = relocate_of-leaves (moved_of (sources l) pass.segment (last_number h) batch)
+      relocate_unless-leaves pass batch None =
+          relocate_of-leaves (moved_of (sources l) pass.segment (last_number h) batch)
 
       pub relocate_leaves : (pass : Pass) (batch : List Candidate) → Leaves (relocate_ruling l h pass batch)
       relocate_leaves pass batch = relocate_unless-leaves pass batch l.halted
@@ -172,7 +175,8 @@ module _ (P : Layout → History → Type 0) where
       pick_unless-leaves percent None = pick_best-leaves (best l percent)
 
       pub pick_leaves : (percent : ℕ) → Leaves (pick_ruling l h percent)
-      pick_leaves percent = either ((percent == 0) || nat_lt 99 percent) _ _ w (λ one. pick_unless-leaves percent l.pass)
+      pick_leaves percent =
+          either ((percent == 0) || nat_lt 99 percent) _ _ w (λ one. pick_unless-leaves percent l.pass)
 
     -- ---- a sweep, and how many versions are kept
 
@@ -190,7 +194,8 @@ module _ (P : Layout → History → Type 0) where
     module _ (v : ℕ) (goes : P (keeping v h l) h) where
       keep_unless-leaves : (halted : Option FileName) → Leaves (keep_unless halted l h v)
       keep_unless-leaves (Some name) = w
-      keep_unless-leaves None = either ((v == 0) || nat_lt 16 v) _ _ w (λ one. either (v == l.keep) _ _ w (λ two. goes))
+      keep_unless-leaves None =
+          either ((v == 0) || nat_lt 16 v) _ _ w (λ one. either (v == l.keep) _ _ w (λ two. goes))
 
       pub keep_leaves : Leaves (keep_ruling l h v)
       keep_leaves = keep_unless-leaves l.halted

@@ -94,7 +94,8 @@ module _ {X : Type 0} where
   pub picked : (P : X → Type 0) (p : X → Bool) (xs : List X) → AllByRecursion P xs
       → list_any p xs ≡ true → (x : X) × (p x ≡ true) × P x
   picked P p [] all h = absurd (true_false (sym h))
-  picked P p (x ∷ xs) all h = ⊎_elim (λ (here : p x ≡ true). (x, here, all.0)) (λ (later : list_any p xs ≡ true). picked P p xs all.1 later) (or_cases (p x) (list_any p xs) h)
+  picked P p (x ∷ xs) all h =
+      ⊎_elim (λ (here : p x ≡ true). (x, here, all.0)) (λ (later : list_any p xs ≡ true). picked P p xs all.1 later) (or_cases (p x) (list_any p xs) h)
 
   pub everything : (xs : List X) → AllByRecursion (λ (x : X). Unit {0}) xs
   everything [] = tt
@@ -127,7 +128,8 @@ module _ {X Y : Type 0} where
   pub any-flat_map : (p : Y → Bool) (f : X → List Y) (xs : List X)
       → list_any p (flat_map f xs) ≡ list_any (λ (x : X). list_any p (f x)) xs
   any-flat_map p f [] = refl
-  any-flat_map p f (x ∷ xs) = any-append p (f x) (flat_map f xs) ∙ ap (λ b. list_any p (f x) || b) (any-flat_map p f xs)
+  any-flat_map p f (x ∷ xs) =
+      any-append p (f x) (flat_map f xs) ∙ ap (λ b. list_any p (f x) || b) (any-flat_map p f xs)
 
   pub all_mapped : (P : Y → Type 0) (f : X → Y) (xs : List X) → AllByRecursion (λ (x : X). P (f x)) xs
       → AllByRecursion P (map f xs)

@@ -50,7 +50,8 @@ module _ (l : Layout) (h : History) where
 
   pub low-committed : (f : ℕ) (writes : Writes) → floor l h ≤ f → (key : List ℕ)
       → low h (floor l h) l.keep l.since key ≤ low (with_commit h writes) f l.keep l.since key
-  low-committed f writes le key = low_rises h (with_commit h writes) (committed-extends writes) (floor l h) f l.keep l.since key le
+  low-committed f writes le key =
+      low_rises h (with_commit h writes) (committed-extends writes) (floor l h) f l.keep l.since key le
 
   pub low-keeping : (v : ℕ) → IsLowUp l h (keeping v h l) h
   low-keeping v key = low-kept (versions h key) (floor l h) (last_number h) l.keep l.since v (floor-up l h)

@@ -63,7 +63,8 @@ module _ (keep : ℕ) (I O : List Entry) (floor : ℕ) (inputs : List ℕ) where
   pub marked-append : (ps : List Preceded) (ss ts : List Sourced)
       → marked_by keep I O floor ps (ss ++ ts) ≡ marked_by keep I O floor ps ss ++ marked_by keep I O floor (rest_of ps ss) ts
   marked-append ps [] ts = refl
-  marked-append ps (s ∷ ss) ts = ap (λ (ms : List Marked). head_mark keep I O floor s.0 ps s.1 ∷ ms) (marked-append (rest_preceded s.0 ps) ss ts)
+  marked-append ps (s ∷ ss) ts =
+      ap (λ (ms : List Marked). head_mark keep I O floor s.0 ps s.1 ∷ ms) (marked-append (rest_preceded s.0 ps) ss ts)
 
   pub kept_of-append : (ms ns : List Marked) → kept_of (ms ++ ns) ≡ kept_of ms ++ kept_of ns
   kept_of-append [] ns = refl
@@ -202,7 +203,9 @@ module _ (keep : ℕ) (I O : List Entry) (floor : ℕ) (inputs : List ℕ) where
 
   idle_without : (ts : List Table) → IsIdle ts → without inputs ts ≡ ts
   idle_without [] idle = refl
-  idle_without (t ∷ ts) idle = ap (λ b. cond (not b) (t ∷ without inputs ts) (without inputs ts)) idle.0 ∙ ap (λ xs. t ∷ xs) (idle_without ts idle.1)
+  idle_without (t ∷ ts) idle =
+      ap (λ b. cond (not b) (t ∷ without inputs ts) (without inputs ts)) idle.0
+      ∙ ap (λ xs. t ∷ xs) (idle_without ts idle.1)
 
   module _ (key : List ℕ) where
     -- of the key nothing stands in a table that isn't an input
@@ -234,15 +237,18 @@ module _ (keep : ℕ) (I O : List Entry) (floor : ℕ) (inputs : List ℕ) where
         by : (b : Bool) → is_among inputs t ≡ b
             → ((c : Bool) → IsWithout key (kept_level (rest_of ps (marked_as c t.entries)) ts))
             → IsWithout key (kept_inputs (marked_by keep I O floor ps (marked_as b t.entries)) ++ kept_level (rest_of ps (marked_as b t.entries)) ts)
-        by true is later = without_both key (kept_inputs (marked_by keep I O floor ps (marked_as true t.entries))) (kept_level (rest_of ps (marked_as true t.entries)) ts)
+        by true is later =
+            without_both key (kept_inputs (marked_by keep I O floor ps (marked_as true t.entries))) (kept_level (rest_of ps (marked_as true t.entries)) ts)
             (subst (IsWithout key) (sym (input_left ps t.entries)) (left_without key ps true t.entries (out.0 is))) (later true)
-        by false is later = subst (λ (xs : List Entry). IsWithout key (xs ++ kept_level (rest_of ps (marked_as false t.entries)) ts)) (sym (outside_kept ps t.entries)) (later false)
+        by false is later =
+            subst (λ (xs : List Entry). IsWithout key (xs ++ kept_level (rest_of ps (marked_as false t.entries)) ts)) (sym (outside_kept ps t.entries)) (later false)
 
     -- where it is parted, what is left of the key are the other tables' entries, and then what is kept
     parted_left : (ps : List Preceded) (ts : List Table) → IsParted ts
         → of_key key (left_level ps ts) ≡ of_key key (all_entries (without inputs ts)) ++ of_key key (kept_level ps ts)
     parted_left ps [] parted = refl
-    parted_left ps (t ∷ ts) parted = by (is_among inputs t) refl (λ (b : Bool). parted_left (rest_of ps (marked_as b t.entries)) ts parted.1)
+    parted_left ps (t ∷ ts) parted =
+        by (is_among inputs t) refl (λ (b : Bool). parted_left (rest_of ps (marked_as b t.entries)) ts parted.1)
       where
         by : (b : Bool) → is_among inputs t ≡ b
             → ((c : Bool) → of_key key (left_level (rest_of ps (marked_as c t.entries)) ts) ≡ of_key key (all_entries (without inputs ts)) ++ of_key key (kept_level (rest_of ps (marked_as c t.entries)) ts))
@@ -285,7 +291,8 @@ module _ (keep : ℕ) (I O : List Entry) (floor : ℕ) (inputs : List ℕ) where
           → IsWithout key (all_entries ts) ⊎ IsWithout key out
           → of_key key (all_entries (in_key_order new ts)) ≡ of_key key out ++ of_key key (all_entries ts)
       of_key_order [] one = ap (of_key key) made ∙ sym (nothing_more (of_key key out))
-      of_key_order (t ∷ ts) one = by (is_before t new) (of_key_order ts (⊎_elim (λ (w : IsWithout key (t.entries ++ all_entries ts)). inl (behind t.entries (all_entries ts) w).1) (λ (w : IsWithout key out). inr w) one))
+      of_key_order (t ∷ ts) one =
+          by (is_before t new) (of_key_order ts (⊎_elim (λ (w : IsWithout key (t.entries ++ all_entries ts)). inl (behind t.entries (all_entries ts) w).1) (λ (w : IsWithout key out). inr w) one))
         where
           behind : (es fs : List Entry) → IsWithout key (es ++ fs) → IsWithout key es × IsWithout key fs
           behind [] fs w = (tt, w)
@@ -312,11 +319,15 @@ module _ (keep : ℕ) (I O : List Entry) (floor : ℕ) (inputs : List ℕ) where
             where
               flat-append : (ts us : List Table) → all_entries (ts ++ us) ≡ all_entries ts ++ all_entries us
               flat-append [] us = refl
-              flat-append (x ∷ xs) us = ap (λ (es : List Entry). x.entries ++ es) (flat-append xs us) ∙ sym (append_assoc x.entries (all_entries xs) (all_entries us))
+              flat-append (x ∷ xs) us =
+                  ap (λ (es : List Entry). x.entries ++ es) (flat-append xs us)
+                  ∙ sym (append_assoc x.entries (all_entries xs) (all_entries us))
 
       flat-append : (ts us : List Table) → all_entries (ts ++ us) ≡ all_entries ts ++ all_entries us
       flat-append [] us = refl
-      flat-append (x ∷ xs) us = ap (λ (es : List Entry). x.entries ++ es) (flat-append xs us) ∙ sym (append_assoc x.entries (all_entries xs) (all_entries us))
+      flat-append (x ∷ xs) us =
+          ap (λ (es : List Entry). x.entries ++ es) (flat-append xs us)
+          ∙ sym (append_assoc x.entries (all_entries xs) (all_entries us))
 
       parted_by : (ts : List Table) → IsUntouched ts ⊎ IsClear ts → IsParted ts
       parted_by [] one = tt
@@ -382,18 +393,30 @@ module _ (keep : ℕ) (I O : List Entry) (floor : ℕ) (inputs : List ℕ) where
           record {
             front = N ++ (M ++ d);
             behind = [];
-            apart = lefts ∙ ap (λ (xs : List Entry). (N ++ xs) ++ ((M ++ j) ++ d)) k0 ∙ ap (λ (xs : List Entry). xs ++ ((M ++ j) ++ d)) (nothing_more N) ∙ ap (λ (xs : List Entry). N ++ ((M ++ xs) ++ d)) j0 ∙ ap (λ (xs : List Entry). N ++ (xs ++ d)) (nothing_more M)
-                ∙ sym (nothing_more (N ++ (M ++ d))) ∙ ap (λ (xs : List Entry). (N ++ (M ++ d)) ++ (xs ++ [])) (sym K0);
-            together = afters ∙ ap (λ (xs : List Entry). N ++ (xs ++ d)) (of_key_order (without inputs second) (inr out0)) ∙ ap (λ (xs : List Entry). N ++ ((xs ++ M) ++ d)) o0
-                ∙ sym (nothing_more (N ++ (M ++ d))) ∙ ap (λ (xs : List Entry). (N ++ (M ++ d)) ++ (xs ++ [])) (sym o0);
+            apart =
+                lefts ∙ ap (λ (xs : List Entry). (N ++ xs) ++ ((M ++ j) ++ d)) k0
+                ∙ ap (λ (xs : List Entry). xs ++ ((M ++ j) ++ d)) (nothing_more N)
+                ∙ ap (λ (xs : List Entry). N ++ ((M ++ xs) ++ d)) j0
+                ∙ ap (λ (xs : List Entry). N ++ (xs ++ d)) (nothing_more M)
+                ∙ sym (nothing_more (N ++ (M ++ d)))
+                ∙ ap (λ (xs : List Entry). (N ++ (M ++ d)) ++ (xs ++ [])) (sym K0);
+            together =
+                afters ∙ ap (λ (xs : List Entry). N ++ (xs ++ d)) (of_key_order (without inputs second) (inr out0))
+                ∙ ap (λ (xs : List Entry). N ++ ((xs ++ M) ++ d)) o0
+                ∙ sym (nothing_more (N ++ (M ++ d)))
+                ∙ ap (λ (xs : List Entry). (N ++ (M ++ d)) ++ (xs ++ [])) (sym o0);
           })
           (λ (c : IsClear second).
           let M0 : M ≡ [] = of_none key (all_entries (without inputs second)) (clear_without second c) in
           record {
             front = N;
             behind = d;
-            apart = lefts ∙ ap (λ (xs : List Entry). (N ++ k) ++ ((xs ++ j) ++ d)) M0 ∙ append_assoc N k (j ++ d) ∙ ap (λ (xs : List Entry). N ++ xs) (sym (append_assoc k j d) ∙ ap (λ (xs : List Entry). xs ++ d) (sym kepts));
-            together = afters ∙ ap (λ (xs : List Entry). N ++ (xs ++ d)) (of_key_order (without inputs second) (inl (clear_without second c)) ∙ ap (λ (xs : List Entry). o ++ xs) M0 ∙ nothing_more o);
+            apart =
+                lefts ∙ ap (λ (xs : List Entry). (N ++ k) ++ ((xs ++ j) ++ d)) M0
+                ∙ append_assoc N k (j ++ d)
+                ∙ ap (λ (xs : List Entry). N ++ xs) (sym (append_assoc k j d) ∙ ap (λ (xs : List Entry). xs ++ d) (sym kepts));
+            together =
+                afters ∙ ap (λ (xs : List Entry). N ++ (xs ++ d)) (of_key_order (without inputs second) (inl (clear_without second c)) ∙ ap (λ (xs : List Entry). o ++ xs) M0 ∙ nothing_more o);
           })
           pair.apart
         where
@@ -404,8 +427,10 @@ module _ (keep : ℕ) (I O : List Entry) (floor : ℕ) (inputs : List ℕ) where
               by : (b : Bool) → eq_by_cmp key_cmp key e.key ≡ b
                   → cond (eq_by_cmp key_cmp key e.key) (e ∷ of_key key es) (of_key key es) ≡ []
                   → (of_key key es ≡ [] → IsWithout key es) → (eq_by_cmp key_cmp key e.key ≡ false) × IsWithout key es
-              by true at is later = absurd (let some : e ∷ of_key key es ≡ [] = sym (ap (λ b. cond b (e ∷ of_key key es) (of_key key es)) at) ∙ is in cc)
-              by false at is later = (at, later (sym (ap (λ b. cond b (e ∷ of_key key es) (of_key key es)) at) ∙ is))
+              by true at is later =
+                  absurd (let some : e ∷ of_key key es ≡ [] = sym (ap (λ b. cond b (e ∷ of_key key es) (of_key key es)) at) ∙ is in cc)
+              by false at is later =
+                  (at, later (sym (ap (λ b. cond b (e ∷ of_key key es) (of_key key es)) at) ∙ is))
 
       pub levels_placed : (n : ℕ) (levels : List (List Table)) (ps : List Preceded) → IsShaped n levels
           → (IsWithout key (kept_level ps (flat_map (λ ts. ts) levels)) → IsWithout key out)
@@ -426,12 +451,14 @@ module _ (keep : ℕ) (I O : List Entry) (floor : ℕ) (inputs : List ℕ) where
           record {
             front = X ++ later.front;
             behind = later.behind;
-            apart = ap (of_key key) (left-append ps first rest ∙ ap (λ (xs : List Entry). xs ++ left_level (rest_level ps first) rest) (idle_left ps first idle) ∙ ap (λ (qs : List Preceded). all_entries first ++ left_level qs rest) (idle_rest ps first idle))
+            apart =
+                ap (of_key key) (left-append ps first rest ∙ ap (λ (xs : List Entry). xs ++ left_level (rest_level ps first) rest) (idle_left ps first idle) ∙ ap (λ (qs : List Preceded). all_entries first ++ left_level qs rest) (idle_rest ps first idle))
                 ∙ of-append key (all_entries first) (left_level ps rest)
                 ∙ ap (λ (xs : List Entry). X ++ xs) later.apart
                 ∙ sym (append_assoc X later.front (of_key key (kept_level ps rest) ++ later.behind))
                 ∙ ap (λ (xs : List Entry). (X ++ later.front) ++ (of_key key xs ++ later.behind)) (sym same);
-            together = ap (λ (b : Bool). of_key key (all_entries (flat_map (λ ts. ts) (cond b (in_key_order new (without inputs first) ∷ map (without inputs) (second ∷ deeper)) (without inputs first ∷ at_level (n - 1) (in_key_order new) (map (without inputs) (second ∷ deeper))))))) not_first
+            together =
+                ap (λ (b : Bool). of_key key (all_entries (flat_map (λ ts. ts) (cond b (in_key_order new (without inputs first) ∷ map (without inputs) (second ∷ deeper)) (without inputs first ∷ at_level (n - 1) (in_key_order new) (map (without inputs) (second ∷ deeper))))))) not_first
                 ∙ ap (λ (xs : List Table). of_key key (all_entries (xs ++ flat_map (λ ts. ts) (at_level (n - 1) (in_key_order new) (map (without inputs) (second ∷ deeper)))))) (idle_without first idle)
                 ∙ ap (of_key key) (flat-append first (flat_map (λ ts. ts) (at_level (n - 1) (in_key_order new) (map (without inputs) (second ∷ deeper)))))
                 ∙ of-append key (all_entries first) (all_entries (flat_map (λ ts. ts) (at_level (n - 1) (in_key_order new) (map (without inputs) (second ∷ deeper)))))
@@ -448,17 +475,24 @@ module _ (keep : ℕ) (I O : List Entry) (floor : ℕ) (inputs : List ℕ) where
           let rs = rest_of qs (marked_as (is_among inputs t) t.entries) in
           let L = kept_of (marked_by keep I O floor qs (marked_as (is_among inputs t) t.entries)) in
           let same : kept_inputs (marked_by keep I O floor qs (marked_as (is_among inputs t) t.entries)) ≡ L =
-          ap (λ (b : Bool). kept_inputs (marked_by keep I O floor qs (marked_as b t.entries))) is ∙ input_left qs t.entries ∙ ap (λ (b : Bool). kept_of (marked_by keep I O floor qs (marked_as b t.entries))) (sym is) in
+          ap (λ (b : Bool). kept_inputs (marked_by keep I O floor qs (marked_as b t.entries))) is
+          ∙ input_left qs t.entries
+          ∙ ap (λ (b : Bool). kept_of (marked_by keep I O floor qs (marked_as b t.entries))) (sym is) in
           let kepts : kept_level ps (xs ++ t ∷ ys) ≡ L =
-          kept-append ps xs (t ∷ ys) ∙ ap (λ (es : List Entry). es ++ kept_level qs (t ∷ ys)) (idle_kept ps xs before) ∙ ap (λ (es : List Entry). es ++ kept_level rs ys) same ∙ ap (λ (es : List Entry). L ++ es) (idle_kept rs ys after) ∙ nothing_more L in
+          kept-append ps xs (t ∷ ys)
+          ∙ ap (λ (es : List Entry). es ++ kept_level qs (t ∷ ys)) (idle_kept ps xs before)
+          ∙ ap (λ (es : List Entry). es ++ kept_level rs ys) same
+          ∙ ap (λ (es : List Entry). L ++ es) (idle_kept rs ys after) ∙ nothing_more L in
           record {
             front = of_key key (all_entries xs);
             behind = of_key key (all_entries ys);
-            apart = ap (of_key key) (left-append ps xs (t ∷ ys) ∙ ap (λ (es : List Entry). es ++ left_level qs (t ∷ ys)) (idle_left ps xs before) ∙ ap (λ (es : List Entry). all_entries xs ++ (L ++ es)) (idle_left rs ys after))
+            apart =
+                ap (of_key key) (left-append ps xs (t ∷ ys) ∙ ap (λ (es : List Entry). es ++ left_level qs (t ∷ ys)) (idle_left ps xs before) ∙ ap (λ (es : List Entry). all_entries xs ++ (L ++ es)) (idle_left rs ys after))
                 ∙ of-append key (all_entries xs) (L ++ all_entries ys)
                 ∙ ap (λ (es : List Entry). of_key key (all_entries xs) ++ es) (of-append key L (all_entries ys))
                 ∙ ap (λ (es : List Entry). of_key key (all_entries xs) ++ (of_key key es ++ of_key key (all_entries ys))) (sym kepts);
-            together = ap (of_key key) (flat-append xs (new ++ ys) ∙ ap (λ (es : List Entry). all_entries xs ++ es) (flat-append new ys ∙ ap (λ (es : List Entry). es ++ all_entries ys) made))
+            together =
+                ap (of_key key) (flat-append xs (new ++ ys) ∙ ap (λ (es : List Entry). all_entries xs ++ es) (flat-append new ys ∙ ap (λ (es : List Entry). es ++ all_entries ys) made))
                 ∙ of-append key (all_entries xs) (out ++ all_entries ys)
                 ∙ ap (λ (es : List Entry). of_key key (all_entries xs) ++ es) (of-append key out (all_entries ys));
           }

@@ -34,7 +34,8 @@ raised-reached gone (e ∷ es) =
 pub raised-least : (gone n : ℕ) (es : List Entry) → gone ≤ n
     → AllByRecursion (λ (e : Entry). e.version ≤ n) es → gone_after gone es ≤ n
 raised-least gone n [] le all = le
-raised-least gone n (e ∷ es) le all = let later = raised-least gone n es le all.1 in let low = all.0 in omega (arith, later, low)
+raised-least gone n (e ∷ es) le all =
+    let later = raised-least gone n es le all.1 in let low = all.0 in omega (arith, later, low)
 
 pub raised : (gone : ℕ) (es : List Entry) → IsRaisedBy es gone (gone_after gone es)
 raised gone es = record { kept = raised-kept gone es; reached = raised-reached gone es; least = λ n le all. raised-least gone n es le all }

@@ -54,7 +54,8 @@ module _ (l : Layout) (h : History) (o : OpenJob) (is : l.job ≡ Some o) (made 
 
   -- what was lent is no table yet
   pub other_made : AreOther made.tables (tables l)
-  other_made = each made.tables (all_parts (λ n. has n (lent_numbers l.job) ≡ true) (numbers_of made.tables) made.leavings lent_here.drawn).0
+  other_made =
+      each made.tables (all_parts (λ n. has n (lent_numbers l.job) ≡ true) (numbers_of made.tables) made.leavings lent_here.drawn).0
     where
       each : (ts : List Table) → AllByRecursion (λ n. has n (lent_numbers l.job) ≡ true) (numbers_of ts)
           → AllByRecursion (λ (x : Table). AllByRecursion (λ (y : Table). y.number ≢ x.number) (tables l)) ts
@@ -75,7 +76,8 @@ module _ (l : Layout) (h : History) (o : OpenJob) (is : l.job ≡ Some o) (made 
 
   checked : (o' : Option Named) → AreLevels (install_checked l h o.job made o').layout.levels
   checked (Some named) = are
-  checked None = either (has_no_version l) _ _ are (levels_replaced l h o.job o.moved k made all are distinct_made other_made)
+  checked None =
+      either (has_no_version l) _ _ are (levels_replaced l h o.job o.moved k made all are distinct_made other_made)
 
   unless : (halted : Option FileName) → AreLevels (install_unless halted l h o.job made).layout.levels
   unless (Some name) = are
@@ -94,7 +96,8 @@ module _ (l : Layout) (h : History) (w : IsWellStocked l) (are : AreLevels l.lev
 
   flush_of-levels : (o : Option Segment) → AreLevels (flush_of l h o).layout.levels
   flush_of-levels None = are
-  flush_of-levels (Some s) = kept_either (has_no_number l.next_table 1) _ _ are (kept_either (has_no_version l) _ _ are (levels_flushed l s are w.stocked.tables_drawn))
+  flush_of-levels (Some s) =
+      kept_either (has_no_number l.next_table 1) _ _ are (kept_either (has_no_version l) _ _ are (levels_flushed l s are w.stocked.tables_drawn))
 
   flush_unless-levels : (halted : Option FileName) → AreLevels (flush_unless halted l h).layout.levels
   flush_unless-levels (Some name) = are

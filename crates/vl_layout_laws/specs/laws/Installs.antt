@@ -58,7 +58,8 @@ module _ (keep : ℕ) (I O : List Entry) (floor : ℕ) where
   unfolding kept_places
   kept_now newer [] [] zip = refl
   kept_now newer (p ∷ ps) [] zip = absurd zip
-  kept_now newer ps (s ∷ ss) zip = by s.0 ps zip (λ (qs : List Preceded) (z : AllZip IsStillBehind qs (preceded (s.1 ∷ newer) ss)). kept_now (s.1 ∷ newer) qs ss z)
+  kept_now newer ps (s ∷ ss) zip =
+      by s.0 ps zip (λ (qs : List Preceded) (z : AllZip IsStillBehind qs (preceded (s.1 ∷ newer) ss)). kept_now (s.1 ∷ newer) qs ss z)
     where
       by : (b : Bool) (qs : List Preceded)
           → AllZip IsStillBehind qs (preceded_if b s.1 newer (preceded (s.1 ∷ newer) ss))
@@ -75,17 +76,20 @@ pub kept_is_kept : (job : Job) (moved : List Named) (now : List Sourced) → IsK
 kept_is_kept job moved now k =
     let I = inputs_of job.base in
     let O = outside_of job.base in
-    kept_now job.keep I O job.floor [] (preceded [] job.base) now k.inputs ∙ sym (kept_then job.keep I O job.floor [] job.base)
+    kept_now job.keep I O job.floor [] (preceded [] job.base) now k.inputs
+    ∙ sym (kept_then job.keep I O job.floor [] job.base)
 
 -- ---- the sources behind an install
 
 made_entries : (job : Job) (made : Made) → AreOutputs job made → all_entries made.tables ≡ merged_entries job
 made_entries job made all =
-    ap all_entries all.tables ∙ tables_made-entries all.numbers (outputs job) all.enough ∙ cut-whole (merged_entries job)
+    ap all_entries all.tables ∙ tables_made-entries all.numbers (outputs job) all.enough
+    ∙ cut-whole (merged_entries job)
 
 module _ (l : Layout) (job : Job) (moved : List Named) (k : IsKeptFor job moved (sourced l job.inputs)) (made : Made) (all : AreOutputs job made) where
   abbrev pub left_tables : List Entry
-  left_tables = left_level job.keep (inputs_of job.base) (outside_of job.base) job.floor job.inputs (preceded [] job.base) (tables l)
+  left_tables =
+      left_level job.keep (inputs_of job.base) (outside_of job.base) job.floor job.inputs (preceded [] job.base) (tables l)
 
   front_left : kept_of (marks_now job (sourced l job.inputs)) ≡ in_memory l ++ left_level job.keep (inputs_of job.base) (outside_of job.base) job.floor job.inputs (preceded [] job.base) (tables l)
   front_left =
@@ -114,7 +118,8 @@ module _ (l : Layout) (job : Job) (moved : List Named) (k : IsKeptFor job moved 
 
   gone_in_order : (key : List ℕ)
       → IsWithout key (kept_level job.keep (inputs_of job.base) (outside_of job.base) job.floor job.inputs (preceded [] job.base) (tables l)) → IsWithout key (merged_entries job)
-  gone_in_order key none = all-in_order (λ (e : Entry). eq_by_cmp key_cmp key e.key ≡ false) (kept job) (subst (IsWithout key) front_kept none)
+  gone_in_order key none =
+      all-in_order (λ (e : Entry). eq_by_cmp key_cmp key e.key ≡ false) (kept job) (subst (IsWithout key) front_kept none)
 
   gathers : (key : List ℕ) (after : List Entry)
       → IsPlaced job.keep (inputs_of job.base) (outside_of job.base) job.floor job.inputs key made.tables (merged_entries job) (made_entries job made all)
@@ -124,7 +129,9 @@ module _ (l : Layout) (job : Job) (moved : List Named) (k : IsKeptFor job moved 
   gathers key after p = record {
     front = of_key key (in_memory l) ++ p.front;
     behind = p.behind;
-    apart = ap (of_key key) front_left ∙ of-append key (in_memory l) (left_level job.keep (inputs_of job.base) (outside_of job.base) job.floor job.inputs (preceded [] job.base) (tables l))
+    apart =
+        ap (of_key key) front_left
+        ∙ of-append key (in_memory l) (left_level job.keep (inputs_of job.base) (outside_of job.base) job.floor job.inputs (preceded [] job.base) (tables l))
         ∙ ap (λ (es : List Entry). of_key key (in_memory l) ++ es) p.apart
         ∙ ap (λ (es : List Entry). of_key key (in_memory l) ++ (p.front ++ (of_key key es ++ p.behind))) front_kept
         ∙ sym (append_assoc (of_key key (in_memory l)) p.front (of_key key (kept job) ++ p.behind))
@@ -139,19 +146,24 @@ module _ (l : Layout) (job : Job) (moved : List Named) (k : IsKeptFor job moved 
 
   -- where the inputs stand: in a level and the next one, or as one table
   abbrev pub IsFit : Target → Type 0
-  IsFit (Level n) = (key : List ℕ) → IsShaped job.keep (inputs_of job.base) (outside_of job.base) job.floor job.inputs key n l.levels
+  IsFit (Level n) =
+      (key : List ℕ) → IsShaped job.keep (inputs_of job.base) (outside_of job.base) job.floor job.inputs key n l.levels
   IsFit InPlace = (xs : List Table) × (t : Table) × (ys : List Table) × (tables l ≡ xs ++ t ∷ ys)
       × (IsIdle job.keep (inputs_of job.base) (outside_of job.base) job.floor job.inputs xs × ((is_among job.inputs t ≡ true) × IsIdle job.keep (inputs_of job.base) (outside_of job.base) job.floor job.inputs ys))
 
   flat_flat : (f : Table → List Table) (levels : List (List Table))
       → flat_map (λ ts. ts) (map (flat_map f) levels) ≡ flat_map f (flat_map (λ ts. ts) levels)
   flat_flat f [] = refl
-  flat_flat f (ts ∷ deeper) = ap (λ (us : List Table). flat_map f ts ++ us) (flat_flat f deeper) ∙ sym (flat-append f ts (flat_map (λ us. us) deeper))
+  flat_flat f (ts ∷ deeper) =
+      ap (λ (us : List Table). flat_map f ts ++ us) (flat_flat f deeper)
+      ∙ sym (flat-append f ts (flat_map (λ us. us) deeper))
     where
       flat-append : (g : Table → List Table) (us vs : List Table)
           → flat_map g (us ++ vs) ≡ flat_map g us ++ flat_map g vs
       flat-append g [] vs = refl
-      flat-append g (u ∷ us) vs = ap (λ (xs : List Table). g u ++ xs) (flat-append g us vs) ∙ sym (append_assoc (g u) (flat_map g us) (flat_map g vs))
+      flat-append g (u ∷ us) vs =
+          ap (λ (xs : List Table). g u ++ xs) (flat-append g us vs)
+          ∙ sym (append_assoc (g u) (flat_map g us) (flat_map g vs))
 
   swap : Table → List Table
   swap t = if is_among job.inputs t then made.tables else t ∷ []
@@ -159,14 +171,17 @@ module _ (l : Layout) (job : Job) (moved : List Named) (k : IsKeptFor job moved 
   idle_swap : (ts : List Table) → IsIdle job.keep (inputs_of job.base) (outside_of job.base) job.floor job.inputs ts
       → flat_map (λ t. if is_among job.inputs t then made.tables else t ∷ []) ts ≡ ts
   idle_swap [] idle = refl
-  idle_swap (t ∷ ts) idle = ap (λ (b : Bool). cond b made.tables (t ∷ []) ++ flat_map (λ u. if is_among job.inputs u then made.tables else u ∷ []) ts) idle.0 ∙ ap (λ (us : List Table). t ∷ us) (idle_swap ts idle.1)
+  idle_swap (t ∷ ts) idle =
+      ap (λ (b : Bool). cond b made.tables (t ∷ []) ++ flat_map (λ u. if is_among job.inputs u then made.tables else u ∷ []) ts) idle.0
+      ∙ ap (λ (us : List Table). t ∷ us) (idle_swap ts idle.1)
 
   swapped : (xs : List Table) (t : Table) (ys : List Table)
       → IsIdle job.keep (inputs_of job.base) (outside_of job.base) job.floor job.inputs xs → is_among job.inputs t ≡ true
       → IsIdle job.keep (inputs_of job.base) (outside_of job.base) job.floor job.inputs ys
       → flat_map (λ u. if is_among job.inputs u then made.tables else u ∷ []) (xs ++ t ∷ ys) ≡ xs ++ (made.tables ++ ys)
   swapped [] t ys before is after =
-      ap (λ (b : Bool). cond b made.tables (t ∷ []) ++ flat_map (λ u. if is_among job.inputs u then made.tables else u ∷ []) ys) is ∙ ap (λ (us : List Table). made.tables ++ us) (idle_swap ys after)
+      ap (λ (b : Bool). cond b made.tables (t ∷ []) ++ flat_map (λ u. if is_among job.inputs u then made.tables else u ∷ []) ys) is
+      ∙ ap (λ (us : List Table). made.tables ++ us) (idle_swap ys after)
   swapped (x ∷ xs) t ys before is after =
       ap (λ (b : Bool). cond b made.tables (x ∷ []) ++ flat_map (λ u. if is_among job.inputs u then made.tables else u ∷ []) (xs ++ t ∷ ys)) before.0
       ∙ ap (λ (us : List Table). x ∷ us) (swapped xs t ys before.1 is after)
@@ -224,7 +239,8 @@ module _ (logs : Logs) (l : Layout) (h : History) (from : List ℕ → ℕ) (o :
 
   unless : (halted : Option FileName) → ShowsRuled logs from (install_unless halted l h o.job made)
   unless (Some name) = shows
-  unless None = subst (λ (moved : List Named). ShowsRuled logs from (install_checked l h o.job made (race o.job moved))) (sym (ap moved_since are)) (checked (race o.job o.moved) refl)
+  unless None =
+      subst (λ (moved : List Named). ShowsRuled logs from (install_checked l h o.job made (race o.job moved))) (sym (ap moved_since are)) (checked (race o.job o.moved) refl)
 
   -- Whatever an install answers, the layout that it leaves shows the history.
   pub install_ruling-shows : ShowsRuled logs from (install_ruling l h o.job made)

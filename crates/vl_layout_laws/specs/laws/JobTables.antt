@@ -67,7 +67,8 @@ module _ (W : ℕ → Type 0) where
   entries_into es well = entries_well es (λ n is. well n (leads-points n es ∙ is))
 
   pub points_into : (es : List Entry) → AllByRecursion IsIntoWell es → LeadWell (points_of es)
-  points_into es all n is = let found = picked (λ (e : Entry). IsIntoWell e) (is_into n) es all (sym (leads-points n es) ∙ is) in found.2 n found.1
+  points_into es all n is =
+      let found = picked (λ (e : Entry). IsIntoWell e) (is_into n) es all (sym (leads-points n es) ∙ is) in found.2 n found.1
 
   pub each_point : (ps : List Point) → LeadWell ps → AllByRecursion (λ (p : Point). W p.segment) ps
   each_point [] well = tt
@@ -110,7 +111,8 @@ module _ (l : Layout) (h : History) (job : Job) (moved : List Named) (k : IsOpen
           → AllByRecursion (λ (t : Table). LeadWell W t.points) ts
           → AllByRecursion (λ (t : Table). AllByRecursion (IsIntoWell W) t.entries) ts
       both [] footed lead = tt
-      both (t ∷ ts) footed lead = (entries_into W t.entries (subst (LeadWell W) footed.0.points lead.0), both ts footed.1 lead.1)
+      both (t ∷ ts) footed lead =
+          (entries_into W t.entries (subst (LeadWell W) footed.0.points lead.0), both ts footed.1 lead.1)
 
   -- a log into which they lead is one into which tables lead
   pub made_into : AllByRecursion IsFooted (tables l)
@@ -150,9 +152,11 @@ pub made_ends : (P : List ℕ → Type 0) (ns : List ℕ) (ess : List (List Entr
     → AllByRecursion (λ (t : Table). P t.first × P t.last) (tables_made ns ess)
 made_ends P [] ess well all = tt
 made_ends P (n ∷ ns) [] well all = tt
-made_ends P (n ∷ ns) (es ∷ ess) well all = ((of_first P es well.1.0 all.0, of_last P es well.1.0 all.0), made_ends P ns ess well.1.1.1 all.1)
+made_ends P (n ∷ ns) (es ∷ ess) well all =
+    ((of_first P es well.1.0 all.0, of_last P es well.1.0 all.0), made_ends P ns ess well.1.1.1 all.1)
 
 pub job_ends : (P : List ℕ → Type 0) (job : Job) (ns : List ℕ)
     → AllByRecursion (λ (e : Entry). P e.key) (inputs_of job.base)
     → AllByRecursion (λ (t : Table). P t.first × P t.last) (tables_made ns (outputs job))
-job_ends P job ns all = made_ends P ns (outputs job) (cut_whole job) (each_of (λ (e : Entry). P e.key) (outputs job) (outputs_of (λ (e : Entry). P e.key) job all))
+job_ends P job ns all =
+    made_ends P ns (outputs job) (cut_whole job) (each_of (λ (e : Entry). P e.key) (outputs job) (outputs_of (λ (e : Entry). P e.key) job all))

@@ -50,8 +50,10 @@ none_moved moved (e ∷ es) none = by_found (find key_cmp e.key moved) refl (λ 
     by_found : (o : Option ℕ) → find key_cmp e.key moved ≡ o
         → (first_of (moved_among moved es) ≡ None → AllByRecursion (IsUnmoved moved) es)
         → IsUnmoved moved e × AllByRecursion (IsUnmoved moved) es
-    by_found None is later = (ap is_some is, later (sym (ap (λ o. first_of (with_move e.key o (moved_among moved es))) is) ∙ none))
-    by_found (Some n) is later = absurd (first_put e.key n (moved_among moved es) (sym (ap (λ o. first_of (with_move e.key o (moved_among moved es))) is) ∙ none))
+    by_found None is later =
+        (ap is_some is, later (sym (ap (λ o. first_of (with_move e.key o (moved_among moved es))) is) ∙ none))
+    by_found (Some n) is later =
+        absurd (first_put e.key n (moved_among moved es) (sym (ap (λ o. first_of (with_move e.key o (moved_among moved es))) is) ∙ none))
 
 module _ (keep : ℕ) (inputs outside : List Entry) (floor : ℕ) (moved : List Named) where
   -- a place whose deletion the third rule alone drops is of a key that wasn't moved
@@ -138,19 +140,23 @@ same_entries : (ps qs : List Preceded) → AllZip IsStillBehind ps qs
 same_entries [] [] zip = refl
 same_entries [] (q ∷ qs) zip = absurd zip
 same_entries (p ∷ ps) [] zip = absurd zip
-same_entries (p ∷ ps) (q ∷ qs) zip = ap (λ (e : Entry). e ∷ Rattle.std.proofs.Common.map (λ (x : Preceded). x.entry) qs) zip.0.same ∙ ap (λ (es : List Entry). p.entry ∷ es) (same_entries ps qs zip.1)
+same_entries (p ∷ ps) (q ∷ qs) zip =
+    ap (λ (e : Entry). e ∷ Rattle.std.proofs.Common.map (λ (x : Preceded). x.entry) qs) zip.0.same
+    ∙ ap (λ (es : List Entry). p.entry ∷ es) (same_entries ps qs zip.1)
 
 pub same_inputs : (job : Job) (moved : List Named) (now : List Sourced) → IsKeptFor job moved now
     → inputs_of now ≡ inputs_of job.base
 same_inputs job moved now k =
-    sym (inputs_by_places [] now) ∙ same_entries (preceded [] job.base) (preceded [] now) k.inputs ∙ inputs_by_places [] job.base
+    sym (inputs_by_places [] now) ∙ same_entries (preceded [] job.base) (preceded [] now) k.inputs
+    ∙ inputs_by_places [] job.base
 
 -- ---- the rules of the moment
 
 below_same : (e f g : Entry) → is_at f.key f.version g ≡ true → is_below e g ≡ is_below e f
 below_same e f g at =
     let parts = at_parts f.key f.version g at in
-    ap (λ k. eq_by_cmp key_cmp e.key k && nat_lt g.version e.version) parts.0 ∙ ap (λ v. eq_by_cmp key_cmp e.key f.key && nat_lt v e.version) parts.1
+    ap (λ k. eq_by_cmp key_cmp e.key k && nat_lt g.version e.version) parts.0
+    ∙ ap (λ v. eq_by_cmp key_cmp e.key f.key && nat_lt v e.version) parts.1
 
 any_below : (e f : Entry) (es : List Entry) → is_below e f ≡ true
     → list_any (is_at f.key f.version) es ≡ true → list_any (is_below e) es ≡ true
@@ -254,8 +260,11 @@ module _ (keep : ℕ) (inputs outside now : List Entry) (floor : ℕ) (moved : L
   justified_one true [] e newer qs zip free = absurd zip
   justified_one true (p ∷ ps) e newer qs zip free = (
     record {
-      drops = λ dropped. (refl, dropped_still p (record { entry = e; newer = newer }) zip.0 free.0 (not_false (drops_at keep inputs outside floor p) dropped));
-      keeps = λ kept_now input. ap (is_outdated keep inputs floor) zip.0.same ∙ none_outdated (is_shadowed p.newer p.entry) (is_outdated keep inputs floor p.entry) (is_needless keep outside floor p.entry) (not_true (drops_at keep inputs outside floor p) kept_now);
+      drops =
+          λ dropped. (refl, dropped_still p (record { entry = e; newer = newer }) zip.0 free.0 (not_false (drops_at keep inputs outside floor p) dropped));
+      keeps =
+          λ kept_now input. ap (is_outdated keep inputs floor) zip.0.same
+          ∙ none_outdated (is_shadowed p.newer p.entry) (is_outdated keep inputs floor p.entry) (is_needless keep outside floor p.entry) (not_true (drops_at keep inputs outside floor p) kept_now);
     },
     (zip.1, free.1),
   )

@@ -126,7 +126,8 @@ module _ (job : Job) (moved moved' : List Named) (es fs : List Entry) (ts : List
             (still_then (preceded [] job.base) (preceded (behind [] es) ts) (preceded (behind [] fs) ts)
             (subst (AllZip IsStillBehind (preceded [] job.base)) (preceded-front [] es ts) k.inputs)
             (still_more (behind [] es) (behind [] fs) (covers-behind es fs covers) ts));
-        outside = subst (AllByRecursion (IsAccounted (outside_of job.base) job.floor moved')) (sym (outside-front fs ts))
+        outside =
+            subst (AllByRecursion (IsAccounted (outside_of job.base) job.floor moved')) (sym (outside-front fs ts))
             (all_both (IsAccounted (outside_of job.base) job.floor moved') fs (outside_of ts) (front parts.0)
             (all_weaker (IsAccounted (outside_of job.base) job.floor moved) (IsAccounted (outside_of job.base) job.floor moved') weaker (outside_of ts) parts.1));
       }
@@ -148,7 +149,8 @@ covers_both es fs back covers key version there =
   where
     by_parts : (list_any (is_at key version) es ≡ true) ⊎ (list_any (is_at key version) back ≡ true)
         → (list_any (is_at key version) fs || list_any (is_at key version) back) ≡ true
-    by_parts (inl here) = or_left (list_any (is_at key version) fs) (list_any (is_at key version) back) (covers key version here)
+    by_parts (inl here) =
+        or_left (list_any (is_at key version) fs) (list_any (is_at key version) back) (covers key version here)
     by_parts (inr later) = or_right (list_any (is_at key version) fs) (list_any (is_at key version) back) later
 
 covers_in_order : (new old : List Entry) → Covers (in_order old) (in_order (new ++ old))

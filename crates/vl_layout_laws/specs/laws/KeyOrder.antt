@@ -10,7 +10,8 @@ use Rattle.vl_layout_laws.specs.laws.Pairs.{le_then}
 
 -- the table ends before all of these begin, or begins behind all of them
 abbrev pub IsAside : List Table → Table → Type 0
-IsAside new u = AllByRecursion (λ (t : Table). Lt u.last t.first) new ⊎ AllByRecursion (λ (t : Table). Lt t.last u.first) new
+IsAside new u =
+    AllByRecursion (λ (t : Table). Lt u.last t.first) new ⊎ AllByRecursion (λ (t : Table). Lt t.last u.first) new
 
 never_lt : (a b : List ℕ) → Lt a b → Le b a → ⊥
 never_lt a b less le = true_false (sym less ∙ le)
@@ -61,9 +62,11 @@ pub key_order_apart : (new ts : List Table) → IsApart new → IsApart ts → A
     → AllByRecursion IsWide ts
     → AllByRecursion (IsAside new) ts → IsApart (in_key_order new ts)
 key_order_apart new [] a b wn wt aside = a
-key_order_apart new (t ∷ ts) a b wn wt aside = by (is_before t new) refl (key_order_apart new ts a b.1 wn wt.1 aside.1)
+key_order_apart new (t ∷ ts) a b wn wt aside =
+    by (is_before t new) refl (key_order_apart new ts a b.1 wn wt.1 aside.1)
   where
     by : (c : Bool) → is_before t new ≡ c → IsApart (in_key_order new ts)
         → IsApart (cond c (t ∷ in_key_order new ts) (new ++ t ∷ ts))
-    by true is later = (all_among (λ (u : Table). Lt t.last u.first) new ts (before_all t new wt.0 wn aside.0 is) b.0, later)
+    by true is later =
+        (all_among (λ (u : Table). Lt t.last u.first) new ts (before_all t new wt.0 wn aside.0 is) b.0, later)
     by false is later = apart_append new t ts a b wt.0 (behind_all t new aside.0 is)

@@ -40,7 +40,8 @@ flat levels = flat_map (λ ts. ts) levels
 
 distinct_both : (xs ys : List Table) → IsDistinct xs → IsDistinct ys → AreOther xs ys → IsDistinct (xs ++ ys)
 distinct_both [] ys a b other = b
-distinct_both (x ∷ xs) ys a b other = (all_both (λ (u : Table). u.number ≢ x.number) xs ys a.0 other.0, distinct_both xs ys a.1 b other.1)
+distinct_both (x ∷ xs) ys a b other =
+    (all_both (λ (u : Table). u.number ≢ x.number) xs ys a.0 other.0, distinct_both xs ys a.1 b other.1)
 
 distinct_among : (new ts : List Table) → IsDistinct new → IsDistinct ts → AreOther new ts
     → IsDistinct (in_key_order new ts)
@@ -80,7 +81,8 @@ flat_without : (inputs : List ℕ) (levels : List (List Table))
     → flat (map (without inputs) levels) ≡ without inputs (flat levels)
 flat_without inputs [] = refl
 flat_without inputs (ts ∷ deeper) =
-    ap (λ (us : List Table). without inputs ts ++ us) (flat_without inputs deeper) ∙ sym (filter-append (λ t. not (is_among inputs t)) ts (flat deeper))
+    ap (λ (us : List Table). without inputs ts ++ us) (flat_without inputs deeper)
+    ∙ sym (filter-append (λ t. not (is_among inputs t)) ts (flat deeper))
 
 -- ---- a level of what was replaced
 
@@ -96,16 +98,21 @@ level-map f none n (ts ∷ deeper) = elim (n == 0) as (λ b. cond b (f ts) (leve
 level-at_level : (P : List Table → Type 0) (f : List Table → List Table) (m n : ℕ) (levels : List (List Table))
     → P (level_at n levels) → (m ≡ n → P (f (level_at n levels))) → P (level_at n (at_level m f levels))
 level-at_level P f m n [] same changed = same
-level-at_level P f m n (ts ∷ deeper) same changed = by (m == 0) (n == 0) refl refl same changed (λ one other. level-at_level P f (m - 1) (n - 1) deeper one other)
+level-at_level P f m n (ts ∷ deeper) same changed =
+    by (m == 0) (n == 0) refl refl same changed (λ one other. level-at_level P f (m - 1) (n - 1) deeper one other)
   where
     by : (a b : Bool) → (m == 0) ≡ a → (n == 0) ≡ b → P (cond b ts (level_at (n - 1) deeper))
         → (m ≡ n → P (f (cond b ts (level_at (n - 1) deeper))))
         → (P (level_at (n - 1) deeper) → (m - 1 ≡ n - 1 → P (f (level_at (n - 1) deeper))) → P (level_at (n - 1) (at_level (m - 1) f deeper)))
         → P (level_at n (cond a (f ts ∷ deeper) (ts ∷ at_level (m - 1) f deeper)))
-    by true true m_is n_is one other later = subst (λ b. P (cond b (f ts) (level_at (n - 1) deeper))) (sym n_is) (other (let a : m ≡ 0 = grind (arith, nat_tests, m_is) in let b : n ≡ 0 = grind (arith, nat_tests, n_is) in omega (arith, a, b)))
-    by true false m_is n_is one other later = subst (λ b. P (cond b (f ts) (level_at (n - 1) deeper))) (sym n_is) one
-    by false true m_is n_is one other later = subst (λ b. P (cond b ts (level_at (n - 1) (at_level (m - 1) f deeper)))) (sym n_is) one
-    by false false m_is n_is one other later = subst (λ b. P (cond b ts (level_at (n - 1) (at_level (m - 1) f deeper)))) (sym n_is)
+    by true true m_is n_is one other later =
+        subst (λ b. P (cond b (f ts) (level_at (n - 1) deeper))) (sym n_is) (other (let a : m ≡ 0 = grind (arith, nat_tests, m_is) in let b : n ≡ 0 = grind (arith, nat_tests, n_is) in omega (arith, a, b)))
+    by true false m_is n_is one other later =
+        subst (λ b. P (cond b (f ts) (level_at (n - 1) deeper))) (sym n_is) one
+    by false true m_is n_is one other later =
+        subst (λ b. P (cond b ts (level_at (n - 1) (at_level (m - 1) f deeper)))) (sym n_is) one
+    by false false m_is n_is one other later =
+        subst (λ b. P (cond b ts (level_at (n - 1) (at_level (m - 1) f deeper)))) (sym n_is)
         (later one (λ same. other (let a : 0 < m = grind (arith, nat_tests, m_is) in let b : 0 < n = grind (arith, nat_tests, n_is) in omega (arith, a, b, same))))
 
 apart_filtered : (p : Table → Bool) (ts : List Table) → IsApart ts → IsApart (filter p ts)
@@ -173,14 +180,16 @@ levels_flushed l s are drawn = by l.levels are drawn
     sorted = keys_placed (memtable s) (sorted_in_order (logged_entries s.format s.number 16 s.frames))
 
     ranged : IsRanged (flushed_table l s)
-    ranged = both_all (λ (e : Entry). Le (first_key (map placed (memtable s))) e.key) (λ (e : Entry). Le e.key (last_key (map placed (memtable s)))) (map placed (memtable s)) (from_first (map placed (memtable s)) sorted) (up_to_last (map placed (memtable s)) sorted)
+    ranged =
+        both_all (λ (e : Entry). Le (first_key (map placed (memtable s))) e.key) (λ (e : Entry). Le e.key (last_key (map placed (memtable s)))) (map placed (memtable s)) (from_first (map placed (memtable s)) sorted) (up_to_last (map placed (memtable s)) sorted)
 
     by : (levels : List (List Table)) → AreLevels levels
         → AllByRecursion (λ (u : Table). u.number < l.next_table) (flat levels)
         → AreLevels (in_front (flushed_table l s) levels)
     by [] are drawn = absurd (let seven = are.seven in omega (arith, seven))
     by (level ∷ deeper) are drawn = record {
-      distinct = (all_weaker (λ (u : Table). u.number < l.next_table) (λ (u : Table). u.number ≢ l.next_table) (λ u less same. omega (arith, less, same)) (flat (level ∷ deeper)) drawn, are.distinct);
+      distinct =
+          (all_weaker (λ (u : Table). u.number < l.next_table) (λ (u : Table). u.number ≢ l.next_table) (λ u less same. omega (arith, less, same)) (flat (level ∷ deeper)) drawn, are.distinct);
       ranged = (ranged, are.ranged);
       wide = (first_last (map placed (memtable s)) sorted, are.wide);
       apart = λ n some. let no : (n == 0) ≡ false = grind (arith, nat_tests, some) in
@@ -240,17 +249,21 @@ module _ (l : Layout) (h : History) (job : Job) (moved : List Named) (k : IsOpen
     apart = λ n some. level-at_level IsApart (in_key_order made.tables) m n (map (without job.inputs) l.levels)
         (kept_apart n some)
         (λ same. key_order_apart made.tables (level_at n (map (without job.inputs) l.levels)) apart_made (kept_apart n some) wide_made (kept_wide n) (kept_aside n same));
-    seven = length-at_level m (in_key_order made.tables) (map (without job.inputs) l.levels) ∙ length-map (without job.inputs) l.levels ∙ are.seven;
+    seven =
+        length-at_level m (in_key_order made.tables) (map (without job.inputs) l.levels)
+        ∙ length-map (without job.inputs) l.levels ∙ are.seven;
   }
     where
       kept_is : (n : ℕ) → level_at n (map (without job.inputs) l.levels) ≡ without job.inputs (level_at n l.levels)
       kept_is n = level-map (without job.inputs) refl n l.levels
 
       kept_apart : (n : ℕ) → 0 < n → IsApart (level_at n (map (without job.inputs) l.levels))
-      kept_apart n some = subst IsApart (sym (kept_is n)) (apart_filtered (λ t. not (is_among job.inputs t)) (level_at n l.levels) (are.apart n some))
+      kept_apart n some =
+          subst IsApart (sym (kept_is n)) (apart_filtered (λ t. not (is_among job.inputs t)) (level_at n l.levels) (are.apart n some))
 
       kept_wide : (n : ℕ) → AllByRecursion IsWide (level_at n (map (without job.inputs) l.levels))
-      kept_wide n = subst (AllByRecursion IsWide) (sym (kept_is n)) (all_filtered IsWide (λ t. not (is_among job.inputs t)) (level_at n l.levels) (at_a_level IsWide n l.levels are.wide))
+      kept_wide n =
+          subst (AllByRecursion IsWide) (sym (kept_is n)) (all_filtered IsWide (λ t. not (is_among job.inputs t)) (level_at n l.levels) (at_a_level IsWide n l.levels are.wide))
 
       kept_aside : (n : ℕ) → m ≡ n
           → AllByRecursion (IsAside made.tables) (level_at n (map (without job.inputs) l.levels))
@@ -265,22 +278,28 @@ module _ (l : Layout) (h : History) (job : Job) (moved : List Named) (k : IsOpen
   swap-append : (xs ys : List Table) → flat_map (λ t. cond (is_among job.inputs t) made.tables (t ∷ [])) (xs ++ ys)
       ≡ flat_map (λ t. cond (is_among job.inputs t) made.tables (t ∷ [])) xs ++ flat_map (λ t. cond (is_among job.inputs t) made.tables (t ∷ [])) ys
   swap-append [] ys = refl
-  swap-append (x ∷ xs) ys = ap (λ (zs : List Table). cond (is_among job.inputs x) made.tables (x ∷ []) ++ zs) (swap-append xs ys)
+  swap-append (x ∷ xs) ys =
+      ap (λ (zs : List Table). cond (is_among job.inputs x) made.tables (x ∷ []) ++ zs) (swap-append xs ys)
       ∙ sym (append_assoc (cond (is_among job.inputs x) made.tables (x ∷ [])) (flat_map (λ t. cond (is_among job.inputs t) made.tables (t ∷ [])) xs) (flat_map (λ t. cond (is_among job.inputs t) made.tables (t ∷ [])) ys))
 
   swap_idle : (xs : List Table) → IsIdle job.inputs xs
       → flat_map (λ t. cond (is_among job.inputs t) made.tables (t ∷ [])) xs ≡ xs
   swap_idle [] idle = refl
-  swap_idle (x ∷ xs) idle = ap (λ b. cond b made.tables (x ∷ []) ++ flat_map (λ t. cond (is_among job.inputs t) made.tables (t ∷ [])) xs) idle.0 ∙ ap (λ (ys : List Table). x ∷ ys) (swap_idle xs idle.1)
+  swap_idle (x ∷ xs) idle =
+      ap (λ b. cond b made.tables (x ∷ []) ++ flat_map (λ t. cond (is_among job.inputs t) made.tables (t ∷ [])) xs) idle.0
+      ∙ ap (λ (ys : List Table). x ∷ ys) (swap_idle xs idle.1)
 
   flat_swapped : (levels : List (List Table))
       → flat (map (flat_map (λ t. cond (is_among job.inputs t) made.tables (t ∷ []))) levels) ≡ flat_map (λ t. cond (is_among job.inputs t) made.tables (t ∷ [])) (flat levels)
   flat_swapped [] = refl
-  flat_swapped (ts ∷ deeper) = ap (λ (us : List Table). flat_map (λ t. cond (is_among job.inputs t) made.tables (t ∷ [])) ts ++ us) (flat_swapped deeper) ∙ sym (swap-append ts (flat deeper))
+  flat_swapped (ts ∷ deeper) =
+      ap (λ (us : List Table). flat_map (λ t. cond (is_among job.inputs t) made.tables (t ∷ [])) ts ++ us) (flat_swapped deeper)
+      ∙ sym (swap-append ts (flat deeper))
 
   -- all new tables lie in the range of an input, which is the only one
   abbrev pub IsInside : ℕ → Table → Type 0
-  IsInside number u = is_among job.inputs u ≡ true → (u.number ≡ number) × AllByRecursion (λ (v : Table). Le u.first v.first × Le v.last u.last) made.tables
+  IsInside number u =
+      is_among job.inputs u ≡ true → (u.number ≡ number) × AllByRecursion (λ (v : Table). Le u.first v.first × Le v.last u.last) made.tables
 
   behind_swapped : (number : ℕ) (t : Table) (us : List Table)
       → AllByRecursion (λ (u : Table). Lt t.last u.first) us → AllByRecursion (IsInside number) us
@@ -292,20 +311,23 @@ module _ (l : Layout) (h : History) (job : Job) (moved : List Named) (k : IsOpen
     where
       one : (b : Bool) → is_among job.inputs u ≡ b
           → AllByRecursion (λ (v : Table). Lt t.last v.first) (cond b made.tables (u ∷ []))
-      one true is = all_weaker (λ (v : Table). Le u.first v.first × Le v.last u.last) (λ (v : Table). Lt t.last v.first) (λ v at. lt_le_then t.last u.first v.first after.0 at.0) made.tables (inside.0 is).1
+      one true is =
+          all_weaker (λ (v : Table). Le u.first v.first × Le v.last u.last) (λ (v : Table). Lt t.last v.first) (λ v at. lt_le_then t.last u.first v.first after.0 at.0) made.tables (inside.0 is).1
       one false is = (after.0, tt)
 
   apart_before : (vs us : List Table) → IsApart vs → IsApart us
       → AllByRecursion (λ (v : Table). AllByRecursion (λ (u : Table). Lt v.last u.first) us) vs
       → IsApart (vs ++ us)
   apart_before [] us a b before = b
-  apart_before (v ∷ vs) us a b before = (all_both (λ (u : Table). Lt v.last u.first) vs us a.0 before.0, apart_before vs us a.1 b before.1)
+  apart_before (v ∷ vs) us a b before =
+      (all_both (λ (u : Table). Lt v.last u.first) vs us a.0 before.0, apart_before vs us a.1 b before.1)
 
   apart_swapped : (number : ℕ) (ts : List Table) → IsApart ts → IsDistinct ts
       → AllByRecursion (IsInside number) ts
       → IsApart (flat_map (λ t. cond (is_among job.inputs t) made.tables (t ∷ [])) ts)
   apart_swapped number [] apart d inside = tt
-  apart_swapped number (t ∷ ts) apart d inside = by (is_among job.inputs t) refl (apart_swapped number ts apart.1 d.1 inside.1)
+  apart_swapped number (t ∷ ts) apart d inside =
+      by (is_among job.inputs t) refl (apart_swapped number ts apart.1 d.1 inside.1)
     where
       by : (b : Bool) → is_among job.inputs t ≡ b
           → IsApart (flat_map (λ t. cond (is_among job.inputs t) made.tables (t ∷ [])) ts)
@@ -321,7 +343,8 @@ module _ (l : Layout) (h : History) (job : Job) (moved : List Named) (k : IsOpen
           no_more : (us : List Table) → AllByRecursion (λ (u : Table). u.number ≢ t.number) us
               → AllByRecursion (IsInside number) us → IsIdle job.inputs us
           no_more [] off in_us = tt
-          no_more (u ∷ us) off in_us = (not_so (is_among job.inputs u) (λ at. off.0 ((in_us.0 at).0 ∙ sym (inside.0 is).0)), no_more us off.1 in_us.1)
+          no_more (u ∷ us) off in_us =
+              (not_so (is_among job.inputs u) (λ at. off.0 ((in_us.0 at).0 ∙ sym (inside.0 is).0)), no_more us off.1 in_us.1)
             where
               not_so : (b : Bool) → (b ≡ true → ⊥) → b ≡ false
               not_so true never = absurd (never refl)
@@ -330,7 +353,8 @@ module _ (l : Layout) (h : History) (job : Job) (moved : List Named) (k : IsOpen
 
   into_place : IsFitted l job InPlace → AreLevels (replaced InPlace job.inputs made.tables l.levels)
   into_place fit = record {
-    distinct = subst IsDistinct (sym (flat_swapped l.levels ∙ ap (flat_map (λ t. cond (is_among job.inputs t) made.tables (t ∷ []))) fit.3 ∙ swapped))
+    distinct =
+        subst IsDistinct (sym (flat_swapped l.levels ∙ ap (flat_map (λ t. cond (is_among job.inputs t) made.tables (t ∷ []))) fit.3 ∙ swapped))
         (distinct_both fit.0 (made.tables ++ fit.2) front.0 (distinct_both made.tables fit.2 distinct_made back.1.0
         (all_weaker (λ (x : Table). AllByRecursion (λ (y : Table). y.number ≢ x.number) (tables l)) (λ (x : Table). AllByRecursion (λ (y : Table). y.number ≢ x.number) fit.2)
         (λ x off. (others x off).1) made.tables other))
@@ -339,7 +363,8 @@ module _ (l : Layout) (h : History) (job : Job) (moved : List Named) (k : IsOpen
         (others_turned made.tables fit.0 (all_weaker (λ (x : Table). AllByRecursion (λ (y : Table). y.number ≢ x.number) (tables l)) (λ (x : Table). AllByRecursion (λ (y : Table). y.number ≢ x.number) fit.0) (λ x off. (others x off).0) made.tables other))));
     ranged = all_replaced IsRanged job.inputs made.tables ranged_made InPlace l.levels (stay IsRanged are.ranged);
     wide = all_replaced IsWide job.inputs made.tables wide_made InPlace l.levels (stay IsWide are.wide);
-    apart = λ n some. subst IsApart (sym (level-map (flat_map (λ t. cond (is_among job.inputs t) made.tables (t ∷ []))) refl n l.levels))
+    apart =
+        λ n some. subst IsApart (sym (level-map (flat_map (λ t. cond (is_among job.inputs t) made.tables (t ∷ []))) refl n l.levels))
         (apart_swapped t.number (level_at n l.levels) (are.apart n some) (distinct_level n l.levels are.distinct) (at_a_level (IsInside t.number) n l.levels insides));
     seven = length-map (flat_map (λ t. cond (is_among job.inputs t) made.tables (t ∷ []))) l.levels ∙ are.seven;
   }
@@ -348,19 +373,23 @@ module _ (l : Layout) (h : History) (job : Job) (moved : List Named) (k : IsOpen
       t = fit.1
 
       front : IsDistinct fit.0 × (IsDistinct (t ∷ fit.2) × AreOther fit.0 (t ∷ fit.2))
-      front = let d = distinct_parts fit.0 (t ∷ fit.2) (subst IsDistinct fit.3 are.distinct) in (d.0, (d.1.0, d.1.1))
+      front =
+          let d = distinct_parts fit.0 (t ∷ fit.2) (subst IsDistinct fit.3 are.distinct) in (d.0, (d.1.0, d.1.1))
 
       back : AllByRecursion (λ (u : Table). u.number ≢ t.number) fit.2 × (IsDistinct fit.2 × Unit {0})
       back = (front.1.0.0, (front.1.0.1, tt))
 
       swapped : flat_map (λ t. cond (is_among job.inputs t) made.tables (t ∷ [])) (fit.0 ++ t ∷ fit.2) ≡ fit.0 ++ (made.tables ++ fit.2)
-      swapped = swap-append fit.0 (t ∷ fit.2) ∙ ap (λ (us : List Table). us ++ flat_map (λ t. cond (is_among job.inputs t) made.tables (t ∷ [])) (t ∷ fit.2)) (swap_idle fit.0 fit.4.0)
+      swapped =
+          swap-append fit.0 (t ∷ fit.2)
+          ∙ ap (λ (us : List Table). us ++ flat_map (λ t. cond (is_among job.inputs t) made.tables (t ∷ [])) (t ∷ fit.2)) (swap_idle fit.0 fit.4.0)
           ∙ ap (λ (us : List Table). fit.0 ++ us)
           (ap (λ b. cond b made.tables (t ∷ []) ++ flat_map (λ t. cond (is_among job.inputs t) made.tables (t ∷ [])) fit.2) fit.4.1.0 ∙ ap (λ (us : List Table). made.tables ++ us) (swap_idle fit.2 fit.4.1.1))
 
       others : (x : Table) → AllByRecursion (λ (y : Table). y.number ≢ x.number) (tables l)
           → AllByRecursion (λ (y : Table). y.number ≢ x.number) fit.0 × AllByRecursion (λ (y : Table). y.number ≢ x.number) fit.2
-      others x off = let parts = all_parts (λ (y : Table). y.number ≢ x.number) fit.0 (t ∷ fit.2) (subst (AllByRecursion (λ (y : Table). y.number ≢ x.number)) fit.3 off) in (parts.0, parts.1.1)
+      others x off =
+          let parts = all_parts (λ (y : Table). y.number ≢ x.number) fit.0 (t ∷ fit.2) (subst (AllByRecursion (λ (y : Table). y.number ≢ x.number)) fit.3 off) in (parts.0, parts.1.1)
 
       both : (P Q R : Table → Type 0) → ((x : Table) → P x → Q x → R x) → (xs : List Table)
           → AllByRecursion P xs → AllByRecursion Q xs → AllByRecursion R xs
@@ -372,7 +401,8 @@ module _ (l : Layout) (h : History) (job : Job) (moved : List Named) (k : IsOpen
 
       idle_so : (P : Table → Type 0) (xs : List Table) → IsIdle job.inputs xs
           → AllByRecursion (λ (x : Table). is_among job.inputs x ≡ true → P x) xs
-      idle_so P xs idle = all_weaker (λ (x : Table). is_among job.inputs x ≡ false) (λ (x : Table). is_among job.inputs x ≡ true → P x) (λ x out is. absurd (true_false (sym is ∙ out))) xs idle
+      idle_so P xs idle =
+          all_weaker (λ (x : Table). is_among job.inputs x ≡ false) (λ (x : Table). is_among job.inputs x ≡ true → P x) (λ x out is. absurd (true_false (sym is ∙ out))) xs idle
 
       only_t : (P : Table → Type 0) → P t
           → AllByRecursion (λ (x : Table). is_among job.inputs x ≡ true → P x) (tables l)
@@ -380,15 +410,18 @@ module _ (l : Layout) (h : History) (job : Job) (moved : List Named) (k : IsOpen
           (all_both (λ (x : Table). is_among job.inputs x ≡ true → P x) fit.0 (t ∷ fit.2) (idle_so P fit.0 fit.4.0) ((λ is. here), idle_so P fit.2 fit.4.1.1))
 
       within : AllByRecursion (λ (e : Entry). Le t.first e.key × Le e.key t.last) (inputs_of job.base)
-      within = subst (AllByRecursion (λ (e : Entry). Le t.first e.key × Le e.key t.last)) (same_inputs job moved (sourced l job.inputs) k.kept)
+      within =
+          subst (AllByRecursion (λ (e : Entry). Le t.first e.key × Le e.key t.last)) (same_inputs job moved (sourced l job.inputs) k.kept)
           (sourced_inputs (λ (e : Entry). Le t.first e.key × Le e.key t.last) l job.inputs (only_t (λ (x : Table). AllByRecursion (λ (e : Entry). Le t.first e.key × Le e.key t.last) x.entries) ranged_t))
 
       inside_t : AllByRecursion (λ (v : Table). Le t.first v.first × Le v.last t.last) made.tables
-      inside_t = all_weaker (λ (v : Table). (Le t.first v.first × Le v.first t.last) × (Le t.first v.last × Le v.last t.last)) (λ (v : Table). Le t.first v.first × Le v.last t.last) (λ v is. (is.0.0, is.1.1)) made.tables
+      inside_t =
+          all_weaker (λ (v : Table). (Le t.first v.first × Le v.first t.last) × (Le t.first v.last × Le v.last t.last)) (λ (v : Table). Le t.first v.first × Le v.last t.last) (λ v is. (is.0.0, is.1.1)) made.tables
           (made_all (λ (v : Table). (Le t.first v.first × Le v.first t.last) × (Le t.first v.last × Le v.last t.last)) (job_ends (λ (key : List ℕ). Le t.first key × Le key t.last) job all.numbers within))
 
       insides : AllByRecursion (IsInside t.number) (tables l)
-      insides = only_t (λ (u : Table). (u.number ≡ t.number) × AllByRecursion (λ (v : Table). Le u.first v.first × Le v.last u.last) made.tables) (refl, inside_t)
+      insides =
+          only_t (λ (u : Table). (u.number ≡ t.number) × AllByRecursion (λ (v : Table). Le u.first v.first × Le v.last u.last) made.tables) (refl, inside_t)
 
   pub levels_replaced : AreLevels (replaced job.target job.inputs made.tables l.levels)
   levels_replaced = by job.target k.fitted k.roomy

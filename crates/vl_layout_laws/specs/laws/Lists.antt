@@ -29,7 +29,8 @@ or_left a b h = ap (λ c. c || b) h
 pub picked : (P : Entry → Type 0) (p : Entry → Bool) (es : List Entry) → AllByRecursion P es
     → list_any p es ≡ true → (f : Entry) × (p f ≡ true) × P f
 picked P p [] all h = absurd (true_false (sym h))
-picked P p (e ∷ es) all h = ⊎_elim (λ (here : p e ≡ true). (e, here, all.0)) (λ (later : list_any p es ≡ true). picked P p es all.1 later) (or_cases (p e) (list_any p es) h)
+picked P p (e ∷ es) all h =
+    ⊎_elim (λ (here : p e ≡ true). (e, here, all.0)) (λ (later : list_any p es ≡ true). picked P p es all.1 later) (or_cases (p e) (list_any p es) h)
 
 pub any-append : (p : Entry → Bool) (xs ys : List Entry)
     → list_any p (xs ++ ys) ≡ (list_any p xs || list_any p ys)
@@ -51,7 +52,9 @@ at_parts key version e at =
 -- entries of one key and version pass the same test of key and version
 pub at_same : (key : List ℕ) (version : ℕ) (e f : Entry) → e.key ≡ f.key → e.version ≡ f.version
     → is_at key version e ≡ is_at key version f
-at_same key version e f keys versions = ap (λ k. eq_by_cmp key_cmp key k && (e.version == version)) keys ∙ ap (λ v. eq_by_cmp key_cmp key f.key && (v == version)) versions
+at_same key version e f keys versions =
+    ap (λ k. eq_by_cmp key_cmp key k && (e.version == version)) keys
+    ∙ ap (λ v. eq_by_cmp key_cmp key f.key && (v == version)) versions
 
 -- ---- in order
 

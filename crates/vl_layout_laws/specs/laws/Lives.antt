@@ -79,8 +79,10 @@ module _ (l : Layout) (h : History) (w : IsLivedIn l h) where
       let one = length-put_by (λ (x : Live). x.ticket) (record { ticket = free_ticket (tickets_of l.live); number = last_number h; pin = pin_of l }) l.live in
       let room : length l.live < max_live = grind (arith, nat_tests, few) in
       record {
-        rising = rising-put_by (λ (x : Live). x.ticket) _ l.live (others (free_ticket (tickets_of l.live)) l.live (free_one l.live w.rising)) w.rising;
-        known = all-put_by (λ (x : Live). x.ticket) (λ (x : Live). x.number ≤ last_number h) _ l.live (omega arith) w.known;
+        rising =
+            rising-put_by (λ (x : Live). x.ticket) _ l.live (others (free_ticket (tickets_of l.live)) l.live (free_one l.live w.rising)) w.rising;
+        known =
+            all-put_by (λ (x : Live). x.ticket) (λ (x : Live). x.number ≤ last_number h) _ l.live (omega arith) w.known;
         few = omega (arith, one, room);
       }
 
@@ -97,7 +99,8 @@ module _ (l : Layout) (h : History) (w : IsLivedIn l h) where
       let few = w.few in
       record {
         rising = rising-filter (λ (x : Live). x.ticket) (λ (x : Live). not (x.ticket == ticket)) l.live w.rising;
-        known = all-filter (λ (x : Live). x.ticket) (λ (x : Live). x.number ≤ last_number h) (λ (x : Live). not (x.ticket == ticket)) l.live w.known;
+        known =
+            all-filter (λ (x : Live). x.ticket) (λ (x : Live). x.number ≤ last_number h) (λ (x : Live). not (x.ticket == ticket)) l.live w.known;
         few = omega (arith, less, few);
       }
 
@@ -106,7 +109,8 @@ pub live-committed : (l x : Layout) (h : History) (writes : Writes) → x.live �
     → IsLivedIn x (with_commit h writes)
 live-committed l x h writes same w = record {
   rising = subst (λ (xs : List Live). IsRising (λ (y : Live). y.ticket) xs) (sym same) w.rising;
-  known = subst (λ (xs : List Live). AllByRecursion (λ (y : Live). y.number ≤ last_number (with_commit h writes)) xs) (sym same) (up_to (last_number h) (last_number (with_commit h writes)) (last_number-extends h (with_commit h writes) (committed-extends l h writes)) l.live w.known);
+  known =
+      subst (λ (xs : List Live). AllByRecursion (λ (y : Live). y.number ≤ last_number (with_commit h writes)) xs) (sym same) (up_to (last_number h) (last_number (with_commit h writes)) (last_number-extends h (with_commit h writes) (committed-extends l h writes)) l.live w.known);
   few = subst (λ (xs : List Live). length xs ≤ max_live) (sym same) w.few;
 }
 

@@ -50,7 +50,8 @@ is_not true never = absurd (never refl)
 is_not false never = refl
 
 pub shrinks_then : (segment : ℕ) (a b c : List Entry) → Shrinks segment a b → Shrinks segment b c → Shrinks segment a c
-shrinks_then segment a b c first second key version place wins = first key version place (second key version place wins)
+shrinks_then segment a b c first second key version place wins =
+    first key version place (second key version place wins)
 
 module _ (key : List ℕ) (version : ℕ) where
   -- the entry that is found is one of all
@@ -58,7 +59,8 @@ module _ (key : List ℕ) (version : ℕ) where
       → exact es key version ≡ o
       → (e : Entry) → o ≡ Some e → P e
   found_one P [] all o is e some = absurd (let none : None ≡ Some e = is ∙ some in cc)
-  found_one P (x ∷ xs) all o is e some = by_test (is_at key version x) refl (λ later. found_one P xs all.1 (exact xs key version) refl e later)
+  found_one P (x ∷ xs) all o is e some =
+      by_test (is_at key version x) refl (λ later. found_one P xs all.1 (exact xs key version) refl e later)
     where
       by_test : (b : Bool) → is_at key version x ≡ b → (exact xs key version ≡ Some e → P e) → P e
       by_test true at later =
@@ -92,7 +94,8 @@ outside_record segment Delete p place = refl
 outside_records : (format segment number : ℕ) (rs : List LogRecord)
     → AllByRecursion (IsOutside segment) (map (record_entry format number) rs)
 outside_records format segment number [] = tt
-outside_records format segment number (r ∷ rs) = (outside_record segment r.change (pointer_to format number r), outside_records format segment number rs)
+outside_records format segment number (r ∷ rs) =
+    (outside_record segment r.change (pointer_to format number r), outside_records format segment number rs)
 
 -- what is found behind a frame more is found in it, or was found before
 pub exact_logged : (key : List ℕ) (version : ℕ) (l : Layout) (f : LogFrame)
@@ -117,13 +120,16 @@ shrinks_logged segment l f key version place wins =
     by_found : (o : Option Entry) → exact (added l f) key version ≡ o
         → leads_to segment place (or_else (exact (added l f) key version) (exact (sources l) key version)) ≡ true
         → wins_exactly (sources l) segment key version place ≡ true
-    by_found None is wins = sym (ap (λ o. leads_to segment place (or_else o (exact (sources l) key version))) is) ∙ wins
+    by_found None is wins =
+        sym (ap (λ o. leads_to segment place (or_else o (exact (sources l) key version))) is) ∙ wins
     by_found (Some e) is wins =
         let out = found_one key version (IsOutside segment) (added l f) (outside_records l.active.format segment l.active.number (frame_records l.active.format (place_behind l.active.format 16 l.active.frames) f)) (Some e) is e refl in
         absurd (true_false (sym wins ∙ ap (λ o. leads_to segment place (or_else o (exact (sources l) key version))) is ∙ out place))
 
 pub shrinks_rotated : (segment : ℕ) (l : Layout) → Shrinks segment (sources l) (sources (rotated l))
-shrinks_rotated segment l key version place wins = sym (ap (λ (es : List Entry). wins_exactly es segment key version place) (Rattle.vl_layout.specs.laws.LayoutShows.sources-rotated l)) ∙ wins
+shrinks_rotated segment l key version place wins =
+    sym (ap (λ (es : List Entry). wins_exactly es segment key version place) (Rattle.vl_layout.specs.laws.LayoutShows.sources-rotated l))
+    ∙ wins
 
 -- ---- a relocation
 
@@ -170,7 +176,8 @@ module _ (segment last : ℕ) (es : List Entry) where
   any_recorded : (format : ℕ) (key : List ℕ) (version number place : ℕ) (ms : List Moved)
       → list_any (is_at key version) (map (record_entry format number) (relocated_records format place ms)) ≡ list_any (λ (m : Moved). eq_by_cmp key_cmp key m.key && (m.version == version)) ms
   any_recorded format key version number place [] = refl
-  any_recorded format key version number place (m ∷ ms) = ap (λ b. (eq_by_cmp key_cmp key m.key && (m.version == version)) || b) (any_recorded format key version number (place + moved_length format m) ms)
+  any_recorded format key version number place (m ∷ ms) =
+      ap (λ b. (eq_by_cmp key_cmp key m.key && (m.version == version)) || b) (any_recorded format key version number (place + moved_length format m) ms)
 
 tied : (key : List ℕ) (version : ℕ) → (eq_by_cmp key_cmp key key && (version == version)) ≡ true
 tied key version =
@@ -219,7 +226,8 @@ at_most_one base segment r = by (wins_exactly base segment r.key r.version r.pla
     by : (b : Bool) (change : Change)
         → ((if b then valued r change else []) ≡ []) ⊎ ((c : Candidate) × ((if b then valued r change else []) ≡ c ∷ []))
     by false change = inl refl
-    by true (Set value) = inr (record { moved = record { key = r.key; version = r.version; value = value }; place = r.place }, refl)
+    by true (Set value) =
+        inr (record { moved = record { key = r.key; version = r.version; value = value }; place = r.place }, refl)
     by true Delete = inl refl
 
 -- A batch and what is left behind it are all that was left, each record once and in order.
@@ -263,7 +271,8 @@ pub pass_settles : (segment : ℕ) (base now : List Entry) → Shrinks segment b
     → AllByRecursion (IsSettled segment now) (found_all base segment rs)
     → AllByRecursion (λ (r : LogRecord). (value : Stored) → r.change ≡ Set value → wins_exactly now segment r.key r.version r.place ≡ false) rs
 pass_settles segment base now shrinks [] all = tt
-pass_settles segment base now shrinks (r ∷ rs) all = (one, pass_settles segment base now shrinks rs (later (found_in base segment r) all))
+pass_settles segment base now shrinks (r ∷ rs) all =
+    (one, pass_settles segment base now shrinks rs (later (found_in base segment r) all))
   where
     later : (found : List Candidate)
         → AllByRecursion (IsSettled segment now) (found ++ found_all base segment rs)
@@ -276,7 +285,8 @@ pass_settles segment base now shrinks (r ∷ rs) all = (one, pass_settles segmen
       where
         by : (b : Bool) → wins_exactly base segment r.key r.version r.place ≡ b
             → wins_exactly now segment r.key r.version r.place ≡ false
-        by false lost = is_not (wins_exactly now segment r.key r.version r.place) (λ wins. true_false (sym (shrinks r.key r.version r.place wins) ∙ lost))
+        by false lost =
+            is_not (wins_exactly now segment r.key r.version r.place) (λ wins. true_false (sym (shrinks r.key r.version r.place wins) ∙ lost))
         by true won =
             let c : Candidate = record { moved = record { key = r.key; version = r.version; value = value }; place = r.place } in
             let found : found_in base segment r ≡ c ∷ [] = ap (λ b. if b then valued r r.change else []) won ∙ ap (valued r) is in
@@ -297,7 +307,8 @@ own_record number Delete p is = tt
 own_records : (format number : ℕ) (rs : List LogRecord)
     → AllByRecursion (λ (e : Entry). IsOwnAt number e.body) (map (record_entry format number) rs)
 own_records format number [] = tt
-own_records format number (r ∷ rs) = (own_record number r.change (pointer_to format number r) refl, own_records format number rs)
+own_records format number (r ∷ rs) =
+    (own_record number r.change (pointer_to format number r) refl, own_records format number rs)
 
 own_both : (number : ℕ) (xs ys : List Entry) → AllByRecursion (λ (e : Entry). IsOwnAt number e.body) xs
     → AllByRecursion (λ (e : Entry). IsOwnAt number e.body) ys
@@ -308,7 +319,8 @@ own_both number (x ∷ xs) ys a b = (a.0, own_both number xs ys a.1 b)
 own_logged : (format number place : ℕ) (fs : List LogFrame)
     → AllByRecursion (λ (e : Entry). IsOwnAt number e.body) (logged_entries format number place fs)
 own_logged format number place [] = tt
-own_logged format number place (f ∷ fs) = own_both number (logged_entries format number (place + frame_length format f) fs) (frame_entries format number place f) (own_logged format number (place + frame_length format f) fs) (own_records format number (frame_records format place f))
+own_logged format number place (f ∷ fs) =
+    own_both number (logged_entries format number (place + frame_length format f) fs) (frame_entries format number place f) (own_logged format number (place + frame_length format f) fs) (own_records format number (frame_records format place f))
 
 outside_placed : (segment number : ℕ) → number ≢ segment → (b : Body) → IsOwnAt number b → (place : ℕ)
     → is_far_to segment place (placement b) ≡ false
@@ -326,7 +338,8 @@ all_outside : (segment number : ℕ) → number ≢ segment → (es : List Entry
     → AllByRecursion (λ (e : Entry). IsOwnAt number e.body) es
     → AllByRecursion (IsOutside segment) (map placed es)
 all_outside segment number apart [] own = tt
-all_outside segment number apart (e ∷ es) own = ((λ place. outside_placed segment number apart e.body own.0 place), all_outside segment number apart es own.1)
+all_outside segment number apart (e ∷ es) own =
+    ((λ place. outside_placed segment number apart e.body own.0 place), all_outside segment number apart es own.1)
 
 exact-placed : (key : List ℕ) (version : ℕ) (es : List Entry)
     → exact (map placed es) key version ≡ option_map placed (exact es key version)

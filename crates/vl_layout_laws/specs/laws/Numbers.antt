@@ -93,7 +93,8 @@ module _ (l : Layout) (h : History) where
 
   rotate_of-rises : (frames : List LogFrame) → Rises l (rotate_of frames l h)
   rotate_of-rises [] = w
-  rotate_of-rises (f ∷ fs) = either l (has_no_number l.next_log 1) _ _ w (either l (has_no_version l) _ _ w log_more)
+  rotate_of-rises (f ∷ fs) =
+      either l (has_no_number l.next_log 1) _ _ w (either l (has_no_version l) _ _ w log_more)
 
   rotate_unless-rises : (halted : Option FileName) → Rises l (rotate_unless halted l h)
   rotate_unless-rises (Some name) = w
@@ -124,7 +125,8 @@ module _ (l : Layout) (h : History) where
   relocate_unless-rises : (pass : Pass) (batch : List Candidate) (halted : Option FileName)
       → Rises l (relocate_unless halted l h pass batch)
   relocate_unless-rises pass batch (Some name) = w
-  relocate_unless-rises pass batch None = relocate_of-rises (moved_of (sources l) pass.segment (last_number h) batch)
+  relocate_unless-rises pass batch None =
+      relocate_of-rises (moved_of (sources l) pass.segment (last_number h) batch)
 
   pub relocate_rises : (pass : Pass) (batch : List Candidate) → Rises l (relocate_ruling l h pass batch)
   relocate_rises pass batch = relocate_unless-rises pass batch l.halted
@@ -166,7 +168,8 @@ module _ (l : Layout) (h : History) where
   module _ (job : Job) (made : Made) where
     install_checked-rises : (o : Option Named) → Rises l (install_checked l h job made o)
     install_checked-rises (Some named) = record { log = omega arith; table = omega arith }
-    install_checked-rises None = either l (has_no_version l) _ _ (record { log = omega arith; table = omega arith }) (record { log = omega arith; table = omega arith })
+    install_checked-rises None =
+        either l (has_no_version l) _ _ (record { log = omega arith; table = omega arith }) (record { log = omega arith; table = omega arith })
 
     install_unless-rises : (halted : Option FileName) → Rises l (install_unless halted l h job made)
     install_unless-rises (Some name) = record { log = omega arith; table = omega arith }
@@ -205,7 +208,8 @@ module _ (l : Layout) (h : History) where
 
   keep_unless-rises : (v : ℕ) (halted : Option FileName) → Rises l (keep_unless halted l h v)
   keep_unless-rises v (Some name) = w
-  keep_unless-rises v None = either l ((v == 0) || nat_lt 16 v) _ _ w (either l (v == l.keep) _ _ w (record { log = omega arith; table = omega arith }))
+  keep_unless-rises v None =
+      either l ((v == 0) || nat_lt 16 v) _ _ w (either l (v == l.keep) _ _ w (record { log = omega arith; table = omega arith }))
 
   pub keep_rises : (v : ℕ) → Rises l (keep_ruling l h v)
   keep_rises v = keep_unless-rises v l.halted

@@ -49,11 +49,13 @@ turned (Manifest a) (Manifest b) is = grind (arith, nat_tests, is)
 pub once_both : (fs gs : List FileName) → AreOnce fs → AreOnce gs
     → AllByRecursion (λ g. is_in g fs ≡ false) gs → AreOnce (fs ++ gs)
 once_both [] gs a b off = b
-once_both (f ∷ fs) gs a b off = (off_both f fs gs a.0 (none gs off), once_both fs gs a.1 b (all_weaker (λ g. is_in g (f ∷ fs) ≡ false) (λ g. is_in g fs ≡ false) (λ g is. (or_false (is_same g f) (is_in g fs) is).1) gs off))
+once_both (f ∷ fs) gs a b off =
+    (off_both f fs gs a.0 (none gs off), once_both fs gs a.1 b (all_weaker (λ g. is_in g (f ∷ fs) ≡ false) (λ g. is_in g fs ≡ false) (λ g is. (or_false (is_same g f) (is_in g fs) is).1) gs off))
   where
     none : (hs : List FileName) → AllByRecursion (λ g. is_in g (f ∷ fs) ≡ false) hs → is_in f hs ≡ false
     none [] all = refl
-    none (h ∷ hs) all = neither (is_same f h) (is_in f hs) (turned h f (or_false (is_same h f) (is_in h fs) all.0).0) (none hs all.1)
+    none (h ∷ hs) all =
+        neither (is_same f h) (is_in f hs) (turned h f (or_false (is_same h f) (is_in h fs) all.0).0) (none hs all.1)
 
 pub off_filtered : (f : FileName) (p : Retired → Bool) (rs : List Retired) → is_in f (files_of rs) ≡ false
     → is_in f (files_of (filter p rs)) ≡ false
@@ -166,7 +168,8 @@ module _ (l : Layout) (dropped : List Table)
     (apart : AllByRecursion (IsLogOff (files_of l.retired)) l.flushed) where
   idle_off : (R : List FileName) → AllByRecursion (IsLogOff R) l.flushed
       → AllByRecursion (IsLogOff (R ++ map table_of dropped)) l.flushed
-  idle_off R all = all_weaker (IsLogOff R) (IsLogOff (R ++ map table_of dropped)) (λ s off. off_both (log_of s) R (map table_of dropped) off (tables_only s.number dropped)) l.flushed all
+  idle_off R all =
+      all_weaker (IsLogOff R) (IsLogOff (R ++ map table_of dropped)) (λ s off. off_both (log_of s) R (map table_of dropped) off (tables_only s.number dropped)) l.flushed all
 
   gone : List Segment
   gone = rising (filter (is_idle l) l.flushed)
@@ -201,7 +204,8 @@ module _ (l : Layout) (dropped : List Table)
       (not_idle s busy ts idle.1)
 
   pub switched_apart : AllByRecursion (IsLogOff (files_of (switched dropped l).retired)) (switched dropped l).flushed
-  switched_apart = subst (λ (fs : List FileName). AllByRecursion (IsLogOff fs) (filter (λ (s : Segment). not (is_idle l s)) l.flushed)) (sym files)
+  switched_apart =
+      subst (λ (fs : List FileName). AllByRecursion (IsLogOff fs) (filter (λ (s : Segment). not (is_idle l s)) l.flushed)) (sym files)
       (all_passed (IsLogOff (files_of l.retired ++ map table_of dropped)) (IsLogOff ((files_of l.retired ++ map table_of dropped) ++ map log_of (rising (filter (is_idle l) l.flushed))))
       (λ (s : Segment). not (is_idle l s))
       (λ s off stays. off_both (log_of s) (files_of l.retired ++ map table_of dropped) (map log_of (rising (filter (is_idle l) l.flushed))) off

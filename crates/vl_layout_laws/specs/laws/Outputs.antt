@@ -51,7 +51,8 @@ lt_le_then a b c ab bc = by (key_cmp b c) refl
   where
     by : (r : Ordering) → key_cmp b c ≡ r → Lt a c
     by Less is = ap is_lt (nat_list_cmp_total.trans a b c (less_is (key_cmp a b) ab) is)
-    by Greater is = absurd (let turned : key_cmp c b ≡ Less = nat_list_cmp_total.antisymm c b ∙ ap ordering_reverse is in let no : true ≡ false = sym (ap is_lt turned) ∙ bc in cc)
+    by Greater is =
+        absurd (let turned : key_cmp c b ≡ Less = nat_list_cmp_total.antisymm c b ∙ ap ordering_reverse is in let no : true ≡ false = sym (ap is_lt turned) ∙ bc in cc)
     by Equal is =
         let other : key_cmp b a ≡ Greater = nat_list_cmp_total.antisymm b a ∙ ap ordering_reverse (less_is (key_cmp a b) ab) in
         let same : key_cmp c a ≡ Greater = sym (nat_list_cmp_total.congr b c a is) ∙ other in
@@ -64,7 +65,8 @@ le_apart a b ab apart = by (key_cmp a b) refl
     by : (r : Ordering) → key_cmp a b ≡ r → Lt a b
     by Less is = ap is_lt is
     by Equal is = absurd (let no : true ≡ false = sym (ap is_eq is) ∙ apart in cc)
-    by Greater is = absurd (let turned : key_cmp b a ≡ Less = nat_list_cmp_total.antisymm b a ∙ ap ordering_reverse is in let no : true ≡ false = sym (ap is_lt turned) ∙ ab in cc)
+    by Greater is =
+        absurd (let turned : key_cmp b a ≡ Less = nat_list_cmp_total.antisymm b a ∙ ap ordering_reverse is in let no : true ≡ false = sym (ap is_lt turned) ∙ ab in cc)
 
 -- ---- entries in order
 
@@ -121,7 +123,8 @@ sorted_in_order (e ∷ es) = sorted_put e (in_order es) (sorted_in_order es)
 -- entries of each table are below those of later ones; none is empty, and each is in order
 abbrev pub IsCutWell : List (List Entry) → Type 0
 IsCutWell [] = Unit {0}
-IsCutWell (es ∷ ess) = AllByRecursion (λ (e : Entry). AllByRecursion (λ (f : Entry). Lt e.key f.key) (joined ess)) es
+IsCutWell (es ∷ ess) =
+    AllByRecursion (λ (e : Entry). AllByRecursion (λ (f : Entry). Lt e.key f.key) (joined ess)) es
     × ((1 ≤ length es) × (IsSorted es × IsCutWell ess))
 
 all_both : (P : Entry → Type 0) (xs ys : List Entry) → AllByRecursion P xs → AllByRecursion P ys
@@ -132,7 +135,8 @@ all_both P (x ∷ xs) ys a b = (a.0, all_both P xs ys a.1 b)
 sorted_more : (xs : List Entry) (e : Entry) → IsSorted xs
     → AllByRecursion (λ (x : Entry). Le x.key e.key) xs → IsSorted (xs ++ e ∷ [])
 sorted_more [] e sorted below = (tt, tt)
-sorted_more (x ∷ xs) e sorted below = (all_both (λ (y : Entry). Le x.key y.key) xs (e ∷ []) sorted.0 (below.0, tt), sorted_more xs e sorted.1 below.1)
+sorted_more (x ∷ xs) e sorted below =
+    (all_both (λ (y : Entry). Le x.key y.key) xs (e ∷ []) sorted.0 (below.0, tt), sorted_more xs e sorted.1 below.1)
 
 nothing_behind : (es : List Entry)
     → AllByRecursion (λ (e : Entry). AllByRecursion (λ (f : Entry). Lt e.key f.key) []) es
@@ -180,7 +184,8 @@ from_well table key closed open_bytes (e ∷ es) some sorted below above rest =
 
 pub cut_well : (es : List Entry) → IsSorted es → IsCutWell (cut_into_tables es)
 cut_well [] sorted = tt
-cut_well (e ∷ es) sorted = from_well (e ∷ []) e.key 0 (begun_length table_format e) es (omega arith) (tt, tt) (ap is_lt (key_tied e.key), tt) sorted.0 sorted.1
+cut_well (e ∷ es) sorted =
+    from_well (e ∷ []) e.key 0 (begun_length table_format e) es (omega arith) (tt, tt) (ap is_lt (key_tied e.key), tt) sorted.0 sorted.1
 
 -- ---- the tables
 

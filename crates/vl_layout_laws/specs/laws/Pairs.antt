@@ -27,7 +27,8 @@ le_then a b c ab bc = by (key_cmp c a) refl (key_cmp c b) refl
     by Equal is s other = ap is_lt is
     by Greater is s other = ap is_lt is
     by Less is Less other = absurd (true_false (sym (ap is_lt other) ∙ bc))
-    by Less is Equal other = absurd (true_false (sym (ap is_lt (sym (nat_list_cmp_total.congr c b a other) ∙ is)) ∙ ab))
+    by Less is Equal other =
+        absurd (true_false (sym (ap is_lt (sym (nat_list_cmp_total.congr c b a other) ∙ is)) ∙ ab))
     by Less is Greater other =
         let turned : key_cmp b c ≡ Less = nat_list_cmp_total.antisymm b c ∙ ap ordering_reverse other in
         absurd (true_false (sym (ap is_lt (nat_list_cmp_total.trans b c a turned is)) ∙ ab))
@@ -167,8 +168,10 @@ not_held key (e ∷ es) none = by (eq_by_cmp key_cmp key e.key) refl (λ later. 
     by : (b : Bool) → eq_by_cmp key_cmp key e.key ≡ b
         → (list_any (λ (f : Entry). eq_by_cmp key_cmp key f.key) es ≡ false → IsWithout key es)
         → (eq_by_cmp key_cmp key e.key ≡ false) × IsWithout key es
-    by true is later = absurd (true_false (sym (ap (λ b. b || list_any (λ (f : Entry). eq_by_cmp key_cmp key f.key) es) is) ∙ none))
-    by false is later = (is, later (sym (ap (λ b. b || list_any (λ (f : Entry). eq_by_cmp key_cmp key f.key) es) is) ∙ none))
+    by true is later =
+        absurd (true_false (sym (ap (λ b. b || list_any (λ (f : Entry). eq_by_cmp key_cmp key f.key) es) is) ∙ none))
+    by false is later =
+        (is, later (sym (ap (λ b. b || list_any (λ (f : Entry). eq_by_cmp key_cmp key f.key) es) is) ∙ none))
 
 pub held_within : (key first last : List ℕ) (es : List Entry)
     → AllByRecursion (λ (e : Entry). Le first e.key × Le e.key last) es
@@ -211,7 +214,8 @@ module _ (key : List ℕ) (keep : ℕ) (I O : List Entry) (floor : ℕ) (inputs 
           → AllByRecursion IsRanged us
           → IsClear keep I O floor inputs key us
       clear held [] before rs = tt
-      clear held (u ∷ us) before rs = ((λ out. without_by key u (λ there. not_both key t u ranged.0 rs.0 before.0 held there)), clear held us before.1 rs.1)
+      clear held (u ∷ us) before rs =
+          ((λ out. without_by key u (λ there. not_both key t u ranged.0 rs.0 before.0 held there)), clear held us before.1 rs.1)
 
       by : (b : Bool) → holds key t ≡ b → IsWithout key t.entries ⊎ IsClear keep I O floor inputs key ts
       by false is = inl (not_held key t.entries is)
@@ -229,14 +233,16 @@ module _ (key : List ℕ) (keep : ℕ) (I O : List Entry) (floor : ℕ) (inputs 
   pub input_clear : (ts : List Table) → IsApart ts → AllByRecursion IsRanged ts
       → list_any (λ (t : Table). is_among inputs t && holds key t) ts ≡ true → IsClear keep I O floor inputs key ts
   input_clear [] apart ranged there = tt
-  input_clear (t ∷ ts) apart ranged there = by (is_among inputs t && holds key t) refl (λ later. input_clear ts apart.1 ranged.1 later)
+  input_clear (t ∷ ts) apart ranged there =
+      by (is_among inputs t && holds key t) refl (λ later. input_clear ts apart.1 ranged.1 later)
     where
       behind : holds key t ≡ true → (us : List Table)
           → AllByRecursion (λ (u : Table). is_lt (key_cmp t.last u.first) ≡ true) us
           → AllByRecursion IsRanged us
           → IsClear keep I O floor inputs key us
       behind held [] before rs = tt
-      behind held (u ∷ us) before rs = ((λ out. without_by key u (λ there. not_both key t u ranged.0 rs.0 before.0 held there)), behind held us before.1 rs.1)
+      behind held (u ∷ us) before rs =
+          ((λ out. without_by key u (λ there. not_both key t u ranged.0 rs.0 before.0 held there)), behind held us before.1 rs.1)
 
       never : (us : List Table) → AllByRecursion (λ (u : Table). is_lt (key_cmp t.last u.first) ≡ true) us
           → AllByRecursion IsRanged us
@@ -270,8 +276,10 @@ module _ (key : List ℕ) (keep : ℕ) (I O : List Entry) (floor : ℕ) (inputs 
       by : (b : Bool) → (is_among inputs t && holds key t) ≡ b
           → (list_any (λ (u : Table). is_among inputs u && holds key u) ts ≡ false → IsUntouched keep I O floor inputs key ts)
           → (is_among inputs t ≡ true → IsWithout key t.entries) × IsUntouched keep I O floor inputs key ts
-      by true is later = absurd (true_false (sym (ap (λ b. b || list_any (λ (u : Table). is_among inputs u && holds key u) ts) is) ∙ none))
-      by false is later = ((λ input. not_held key t.entries (out (is_among inputs t) (holds key t) is input)), later (sym (ap (λ b. b || list_any (λ (u : Table). is_among inputs u && holds key u) ts) is) ∙ none))
+      by true is later =
+          absurd (true_false (sym (ap (λ b. b || list_any (λ (u : Table). is_among inputs u && holds key u) ts) is) ∙ none))
+      by false is later =
+          ((λ input. not_held key t.entries (out (is_among inputs t) (holds key t) is input)), later (sym (ap (λ b. b || list_any (λ (u : Table). is_among inputs u && holds key u) ts) is) ∙ none))
 
   -- where each input of the first level lies in a range, and each table of the second that meets it is an input
   pub record IsWithin (range : Range) (t : Table) : Type 0 where

@@ -36,7 +36,8 @@ use Rattle.vl_layout_laws.specs.laws.Roomy.{plan_roomy, sourced_inputs}
 -- where each entry's version is one of the history, all of a key's are
 pub are_of : (h : History) (es : List Entry) → AllByRecursion (IsOf h) es → AreOf h es
 are_of h [] all key n there = absurd (true_false (sym there))
-are_of h (e ∷ es) all key n there = by (eq_by_cmp key_cmp key e.key) refl there (λ later. are_of h es all.1 key n later)
+are_of h (e ∷ es) all key n there =
+    by (eq_by_cmp key_cmp key e.key) refl there (λ later. are_of h es all.1 key n later)
   where
     by : (b : Bool) → eq_by_cmp key_cmp key e.key ≡ b
         → has n (Rattle.std.proofs.Common.map (λ (f : Entry). f.version) (cond b (e ∷ filter (λ (f : Entry). eq_by_cmp key_cmp key f.key) es) (filter (λ (f : Entry). eq_by_cmp key_cmp key f.key) es))) ≡ true
@@ -59,7 +60,8 @@ due_within k n (ts ∷ deeper) is = by (is_due k ts) refl is (due_within (k + 1)
     deep : (b : Bool) → (k == 0) ≡ b
         → cond b (nat_le due_tables (length ts)) (nat_le k 5 && nat_lt (level_bytes k) (sum_by (λ (t : Table). t.length) ts)) ≡ true → k ≤ 5
     deep true at due = let zero_is : k ≡ 0 = grind (arith, nat_tests, at) in omega (arith, zero_is)
-    deep false at due = let less = (and_parts (nat_le k 5) (nat_lt (level_bytes k) (sum_by (λ (t : Table). t.length) ts)) due).0 in let is : k ≤ 5 = grind (arith, nat_tests, less) in is
+    deep false at due =
+        let less = (and_parts (nat_le k 5) (nat_lt (level_bytes k) (sum_by (λ (t : Table). t.length) ts)) due).0 in let is : k ≤ 5 = grind (arith, nat_tests, less) in is
 
     by : (b : Bool) → is_due k ts ≡ b → (if b then Some k else due_from (k + 1) deeper) ≡ Some n
         → (due_from (k + 1) deeper ≡ Some n → n ≤ 5) → n ≤ 5

@@ -122,7 +122,8 @@ module _ (n : ℕ) (A B : List Table) (distinct_A : IsDistinct A) (other : AreOt
   -- what is so of all of both is so of the inputs
   pub all_ins : (P : Table → Type 0) → AllByRecursion P A → AllByRecursion P B
       → AllByRecursion P (with_next (due_inputs n A) B)
-  all_ins P a b = all_both P (due_inputs n A) (filter (meets (range_of (due_inputs n A))) B) (all_given P n A a) (all_filtered P (meets (range_of (due_inputs n A))) B b)
+  all_ins P a b =
+      all_both P (due_inputs n A) (filter (meets (range_of (due_inputs n A))) B) (all_given P n A a) (all_filtered P (meets (range_of (due_inputs n A))) B b)
 
   pub met : AllByRecursion (λ (u : Table). meets (range_of (due_inputs n A)) u ≡ true → is_among (numbers_of (with_next (due_inputs n A) B)) u ≡ true) B
   met =
@@ -131,7 +132,8 @@ module _ (n : ℕ) (A B : List Table) (distinct_A : IsDistinct A) (other : AreOt
       unfiltered (λ (u : Table). is_among (numbers_of (with_next (due_inputs n A) B)) u ≡ true) (meets (range_of (due_inputs n A))) B both.1
 
   given_one : AllByRecursion (λ (u : Table). is_among (numbers_of (with_next (due_inputs n A) B)) u ≡ true) (due_inputs n A)
-  given_one = (all_parts (λ (u : Table). is_among (numbers_of (with_next (due_inputs n A) B)) u ≡ true) (due_inputs n A) (filter (meets (range_of (due_inputs n A))) B) (one_itself (λ t. Unit {0}) (with_next (due_inputs n A) B))).0
+  given_one =
+      (all_parts (λ (u : Table). is_among (numbers_of (with_next (due_inputs n A) B)) u ≡ true) (due_inputs n A) (filter (meets (range_of (due_inputs n A))) B) (one_itself (λ t. Unit {0}) (with_next (due_inputs n A) B))).0
 
   pub within : (range : Range) → range_of (due_inputs n A) ≡ Some range
       → AllByRecursion (λ (t : Table). is_among (numbers_of (with_next (due_inputs n A) B)) t ≡ true → Le range.0 t.first × Le t.last range.1) A
@@ -157,7 +159,8 @@ module _ (n : ℕ) (A B : List Table) (distinct_A : IsDistinct A) (other : AreOt
               → AllByRecursion (λ (x : Table). x.number ≡ t.number → x ≡ t) xs
               → AllByRecursion (λ (x : Table). x.number ≡ t.number → Le range.0 t.first × Le t.last range.1) xs
           two [] a b = tt
-          two (x ∷ xs) a b = ((λ same. subst (λ (y : Table). Le range.0 y.first × Le y.last range.1) (b.0 same) a.0), two xs a.1 b.1)
+          two (x ∷ xs) a b =
+              ((λ same. subst (λ (y : Table). Le range.0 y.first × Le y.last range.1) (b.0 same) a.0), two xs a.1 b.1)
 
   -- where nothing is due_inputs there is no input
   pub none_given : range_of (due_inputs n A) ≡ None → with_next (due_inputs n A) B ≡ []
@@ -179,7 +182,8 @@ module _ (n : ℕ) (A B : List Table) (distinct_A : IsDistinct A) (other : AreOt
     none_untouched : (ts : List Table) → with_next (due_inputs n A) B ≡ []
         → IsUntouched keep I O floor (numbers_of (with_next (due_inputs n A) B)) key ts
     none_untouched [] empty = tt
-    none_untouched (t ∷ ts) empty = ((λ input. absurd (true_false (sym (sym (ap (λ (xs : List Table). is_among (numbers_of xs) t) empty) ∙ input)))), none_untouched ts empty)
+    none_untouched (t ∷ ts) empty =
+        ((λ input. absurd (true_false (sym (sym (ap (λ (xs : List Table). is_among (numbers_of xs) t) empty) ∙ input)))), none_untouched ts empty)
 
     first_parted : IsParted keep I O floor (numbers_of (with_next (due_inputs n A) B)) key A
     first_parted = by (n == 0) refl
@@ -187,21 +191,25 @@ module _ (n : ℕ) (A B : List Table) (distinct_A : IsDistinct A) (other : AreOt
         by : (b : Bool) → (n == 0) ≡ b → IsParted keep I O floor (numbers_of (with_next (due_inputs n A) B)) key A
         by true is = (all_parted key keep I O floor (numbers_of (with_next (due_inputs n A) B)) A
             (subst (AllByRecursion (λ (u : Table). is_among (numbers_of (with_next (due_inputs n A) B)) u ≡ true)) (ap (λ c. cond c A (one_or_none (least_table A))) is) given_one)).0
-        by false is = let some : 0 < n = grind (arith, nat_tests, is) in apart_parted key keep I O floor (numbers_of (with_next (due_inputs n A) B)) A (apart_A some) ranged_A
+        by false is =
+            let some : 0 < n = grind (arith, nat_tests, is) in apart_parted key keep I O floor (numbers_of (with_next (due_inputs n A) B)) A (apart_A some) ranged_A
 
     second_apart : (o : Option Range) → range_of (due_inputs n A) ≡ o
         → (IsUntouched keep I O floor (numbers_of (with_next (due_inputs n A) B)) key A × IsUntouched keep I O floor (numbers_of (with_next (due_inputs n A) B)) key B)
         ⊎ IsClear keep I O floor (numbers_of (with_next (due_inputs n A) B)) key B
     second_apart None is = let empty = none_given is in inl (none_untouched A empty, none_untouched B empty)
-    second_apart (Some range) is = by_first (list_any (λ (t : Table). is_among (numbers_of (with_next (due_inputs n A) B)) t && holds key t) A) refl
+    second_apart (Some range) is =
+        by_first (list_any (λ (t : Table). is_among (numbers_of (with_next (due_inputs n A) B)) t && holds key t) A) refl
       where
         by_second : (b : Bool)
             → list_any (λ (t : Table). is_among (numbers_of (with_next (due_inputs n A) B)) t && holds key t) B ≡ b
             → IsUntouched keep I O floor (numbers_of (with_next (due_inputs n A) B)) key A
             → (IsUntouched keep I O floor (numbers_of (with_next (due_inputs n A) B)) key A × IsUntouched keep I O floor (numbers_of (with_next (due_inputs n A) B)) key B)
             ⊎ IsClear keep I O floor (numbers_of (with_next (due_inputs n A) B)) key B
-        by_second true is out = inr (input_clear key keep I O floor (numbers_of (with_next (due_inputs n A) B)) B apart_B ranged_B is)
-        by_second false is out = inl (out, untouched_by key keep I O floor (numbers_of (with_next (due_inputs n A) B)) B is)
+        by_second true is out =
+            inr (input_clear key keep I O floor (numbers_of (with_next (due_inputs n A) B)) B apart_B ranged_B is)
+        by_second false is out =
+            inl (out, untouched_by key keep I O floor (numbers_of (with_next (due_inputs n A) B)) B is)
 
         by_first : (b : Bool)
             → list_any (λ (t : Table). is_among (numbers_of (with_next (due_inputs n A) B)) t && holds key t) A ≡ b
@@ -214,7 +222,8 @@ module _ (n : ℕ) (A B : List Table) (distinct_A : IsDistinct A) (other : AreOt
             ranged_A
             (subst (λ (o : Option Range). AllByRecursion (λ (u : Table). meets o u ≡ true → is_among (numbers_of (with_next (due_inputs n A) B)) u ≡ true) B) is met)
             ranged_B there)
-        by_first false none = by_second (list_any (λ (t : Table). is_among (numbers_of (with_next (due_inputs n A) B)) t && holds key t) B) refl (untouched_by key keep I O floor (numbers_of (with_next (due_inputs n A) B)) A none)
+        by_first false none =
+            by_second (list_any (λ (t : Table). is_among (numbers_of (with_next (due_inputs n A) B)) t && holds key t) B) refl (untouched_by key keep I O floor (numbers_of (with_next (due_inputs n A) B)) A none)
 
     pub pair_is : (deeper : List (List Table))
         → IsIdle keep I O floor (numbers_of (with_next (due_inputs n A) B)) (flat_map (λ ts. ts) deeper)
@@ -266,7 +275,9 @@ cut_at n (A ∷ B ∷ deeper) within = by (n == 0) refl (λ less. cut_at (n - 1)
           whole = refl;
           count = sym zero_is;
           first_is = ap (λ b. cond b A (level_at (n - 1) (B ∷ deeper))) is;
-          second_is = ap (λ b. cond b A (level_at (n + 1 - 1) (B ∷ deeper))) next ∙ ap (λ (m : ℕ). level_at m (B ∷ deeper)) back;
+          second_is =
+              ap (λ b. cond b A (level_at (n + 1 - 1) (B ∷ deeper))) next
+              ∙ ap (λ (m : ℕ). level_at m (B ∷ deeper)) back;
         }
     by false is later =
         let some : 0 < n = grind (arith, nat_tests, is) in
@@ -282,13 +293,17 @@ cut_at n (A ∷ B ∷ deeper) within = by (n == 0) refl (λ less. cut_at (n - 1)
           whole = ap (λ (xs : List (List Table)). A ∷ xs) c.whole;
           count = omega (arith, count, some);
           first_is = ap (λ b. cond b A (level_at (n - 1) (B ∷ deeper))) is ∙ c.first_is;
-          second_is = ap (λ b. cond b A (level_at (n + 1 - 1) (B ∷ deeper))) next ∙ ap (λ (m : ℕ). level_at m (B ∷ deeper)) back ∙ c.second_is;
+          second_is =
+              ap (λ b. cond b A (level_at (n + 1 - 1) (B ∷ deeper))) next
+              ∙ ap (λ (m : ℕ). level_at m (B ∷ deeper)) back ∙ c.second_is;
         }
 
 pub flat_levels : (pre : List (List Table)) (others : List (List Table))
     → flat_map (λ ts. ts) (pre ++ others) ≡ flat_map (λ ts. ts) pre ++ flat_map (λ ts. ts) others
 flat_levels [] others = refl
-flat_levels (ts ∷ pre) others = ap (λ (xs : List Table). ts ++ xs) (flat_levels pre others) ∙ sym (Rattle.std.proofs.Common.append_assoc ts (flat_map (λ us. us) pre) (flat_map (λ us. us) others))
+flat_levels (ts ∷ pre) others =
+    ap (λ (xs : List Table). ts ++ xs) (flat_levels pre others)
+    ∙ sym (Rattle.std.proofs.Common.append_assoc ts (flat_map (λ us. us) pre) (flat_map (λ us. us) others))
 
 -- The inputs of a level stand as an install wants them.
 pub plan_fitted : (l : Layout) (h : History) (n : ℕ) → AreLevels l.levels → n + 1 < length l.levels

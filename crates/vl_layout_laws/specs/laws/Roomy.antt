@@ -54,7 +54,8 @@ inputs_only Q inputs (t ∷ ts) all = by (is_among inputs t) all.0 (inputs_only 
 pub sourced_inputs : (Q : Entry → Type 0) (l : Layout) (inputs : List ℕ)
     → AllByRecursion (λ (t : Table). is_among inputs t ≡ true → AllByRecursion Q t.entries) (tables l)
     → AllByRecursion Q (inputs_of (sourced l inputs))
-sourced_inputs Q l inputs all = inputs_front Q (in_memory l) (marked_tables inputs (tables l)) (inputs_only Q inputs (tables l) all)
+sourced_inputs Q l inputs all =
+    inputs_front Q (in_memory l) (marked_tables inputs (tables l)) (inputs_only Q inputs (tables l) all)
 
 all_both : (P : Table → Type 0) (xs ys : List Table) → AllByRecursion P xs → AllByRecursion P ys
     → AllByRecursion P (xs ++ ys)
@@ -64,7 +65,8 @@ all_both P (x ∷ xs) ys a b = (a.0, all_both P xs ys a.1 b)
 idle_have : (Q : Entry → Type 0) (inputs : List ℕ) (ts : List Table)
     → AllByRecursion (λ (t : Table). is_among inputs t ≡ false) ts
     → AllByRecursion (λ (t : Table). is_among inputs t ≡ true → AllByRecursion Q t.entries) ts
-idle_have Q inputs ts idle = all_weaker (λ (t : Table). is_among inputs t ≡ false) (λ (t : Table). is_among inputs t ≡ true → AllByRecursion Q t.entries) (λ t out is. absurd (true_false (sym is ∙ out))) ts idle
+idle_have Q inputs ts idle =
+    all_weaker (λ (t : Table). is_among inputs t ≡ false) (λ (t : Table). is_among inputs t ≡ true → AllByRecursion Q t.entries) (λ t out is. absurd (true_false (sym is ∙ out))) ts idle
 
 -- The level into which a level is merged has room for what the merge makes.
 pub plan_roomy : (l : Layout) (h : History) (n : ℕ) → AreLevels l.levels → n + 1 < length l.levels
@@ -97,10 +99,14 @@ plan_roomy l h n are within = (
     ins = with_next (due_inputs n A) B
 
     same : numbers_of (inputs_at n l.levels) ≡ numbers_of ins
-    same = ap (λ (x : List Table). numbers_of (with_next (due_inputs n x) (level_at (n + 1) l.levels))) c.first_is ∙ ap (λ (y : List Table). numbers_of (with_next (due_inputs n A) y)) c.second_is
+    same =
+        ap (λ (x : List Table). numbers_of (with_next (due_inputs n x) (level_at (n + 1) l.levels))) c.first_is
+        ∙ ap (λ (y : List Table). numbers_of (with_next (due_inputs n A) y)) c.second_is
 
     flat : tables l ≡ pre ++ (A ++ (B ++ D))
-    flat = ap (λ (levels : List (List Table)). flat_map (λ ts. ts) levels) c.whole ∙ flat_levels c.pre (A ∷ B ∷ c.deeper)
+    flat =
+        ap (λ (levels : List (List Table)). flat_map (λ ts. ts) levels) c.whole
+        ∙ flat_levels c.pre (A ∷ B ∷ c.deeper)
 
     d0 : IsDistinct pre × (IsDistinct (A ++ (B ++ D)) × AllByRecursion (λ (x : Table). AllByRecursion (λ (y : Table). y.number ≢ x.number) (A ++ (B ++ D))) pre)
     d0 = let d = distinct_parts pre (A ++ (B ++ D)) (subst IsDistinct flat are.distinct) in (d.0, (d.1.0, d.1.1))
@@ -112,10 +118,12 @@ plan_roomy l h n are within = (
     d2 = let d = distinct_parts B D d1.1.0 in (d.0, (d.1.0, d.1.1))
 
     off : AreOther A B
-    off = all_weaker (λ (x : Table). AllByRecursion (λ (y : Table). y.number ≢ x.number) (B ++ D)) (λ (x : Table). AllByRecursion (λ (y : Table). y.number ≢ x.number) B) (λ x all. (all_parts (λ (y : Table). y.number ≢ x.number) B D all).0) A d1.1.1
+    off =
+        all_weaker (λ (x : Table). AllByRecursion (λ (y : Table). y.number ≢ x.number) (B ++ D)) (λ (x : Table). AllByRecursion (λ (y : Table). y.number ≢ x.number) B) (λ x all. (all_parts (λ (y : Table). y.number ≢ x.number) B D all).0) A d1.1.1
 
     off_D : AreOther A D
-    off_D = all_weaker (λ (x : Table). AllByRecursion (λ (y : Table). y.number ≢ x.number) (B ++ D)) (λ (x : Table). AllByRecursion (λ (y : Table). y.number ≢ x.number) D) (λ x all. (all_parts (λ (y : Table). y.number ≢ x.number) B D all).1) A d1.1.1
+    off_D =
+        all_weaker (λ (x : Table). AllByRecursion (λ (y : Table). y.number ≢ x.number) (B ++ D)) (λ (x : Table). AllByRecursion (λ (y : Table). y.number ≢ x.number) D) (λ x all. (all_parts (λ (y : Table). y.number ≢ x.number) B D all).1) A d1.1.1
 
     of_two : (P : Table → Type 0) → AllByRecursion P (tables l) → AllByRecursion P A × AllByRecursion P B
     of_two P all =
@@ -131,10 +139,12 @@ plan_roomy l h n are within = (
 
     not_in : (u : Table) → AllByRecursion (λ (t : Table). t.number ≢ u.number) A
         → AllByRecursion (λ (t : Table). t.number ≢ u.number) B → is_among (numbers_of ins) u ≡ false
-    not_in u a b = not_one_of u ins (all_ins n A B d1.0 off (of_two IsRanged are.ranged).0 (of_two IsRanged are.ranged).1 apart_A apart_B (λ (t : Table). t.number ≢ u.number) a b)
+    not_in u a b =
+        not_one_of u ins (all_ins n A B d1.0 off (of_two IsRanged are.ranged).0 (of_two IsRanged are.ranged).1 apart_A apart_B (λ (t : Table). t.number ≢ u.number) a b)
 
     idle_pre : AllByRecursion (λ (u : Table). is_among (numbers_of ins) u ≡ false) pre
-    idle_pre = all_weaker (λ (u : Table). AllByRecursion (λ (t : Table). t.number ≢ u.number) (A ++ (B ++ D))) (λ (u : Table). is_among (numbers_of ins) u ≡ false)
+    idle_pre =
+        all_weaker (λ (u : Table). AllByRecursion (λ (t : Table). t.number ≢ u.number) (A ++ (B ++ D))) (λ (u : Table). is_among (numbers_of ins) u ≡ false)
         (λ u all.
         let x = all_parts (λ (t : Table). t.number ≢ u.number) A (B ++ D) all in
         let y = all_parts (λ (t : Table). t.number ≢ u.number) B D x.1 in

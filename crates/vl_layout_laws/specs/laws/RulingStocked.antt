@@ -90,7 +90,8 @@ module _ (l : Layout) (h : History) (w : IsWellStocked l) where
 
   rotate_of-well : (frames : List LogFrame) → LeavesWell (rotate_of frames l h)
   rotate_of-well [] = w
-  rotate_of-well (f ∷ fs) = either (has_no_number l.next_log 1) _ _ w (either (has_no_version l) _ _ w (well_rotated l w))
+  rotate_of-well (f ∷ fs) =
+      either (has_no_number l.next_log 1) _ _ w (either (has_no_version l) _ _ w (well_rotated l w))
 
   rotate_unless-well : (halted : Option FileName) → LeavesWell (rotate_unless halted l h)
   rotate_unless-well (Some name) = w
@@ -171,7 +172,8 @@ module _ (l : Layout) (h : History) (w : IsWellStocked l) where
       (below : AllByRecursion (PointsDrawn l.next_log) made.tables) (distinct : IsDistinct (tables l)) where
     install_checked-well : (o : Option Named) → LeavesWell (install_checked l h job made o)
     install_checked-well (Some named) = well_job_ended l w made are
-    install_checked-well None = either (has_no_version l) _ _ (well_job_ended l w made are) (well_installed l w job made are standing footed into below distinct)
+    install_checked-well None =
+        either (has_no_version l) _ _ (well_job_ended l w made are) (well_installed l w job made are standing footed into below distinct)
 
     install_unless-well : (halted : Option FileName) → LeavesWell (install_unless halted l h job made)
     install_unless-well (Some name) = well_job_ended l w made are
@@ -210,14 +212,16 @@ module _ (l : Layout) (h : History) (w : IsWellStocked l) where
 
   keep_unless-well : (v : ℕ) (halted : Option FileName) → LeavesWell (keep_unless halted l h v)
   keep_unless-well v (Some name) = w
-  keep_unless-well v None = either ((v == 0) || nat_lt 16 v) _ _ w (either (v == l.keep) _ _ w (well_keeping l w v h))
+  keep_unless-well v None =
+      either ((v == 0) || nat_lt 16 v) _ _ w (either (v == l.keep) _ _ w (well_keeping l w v h))
 
   pub keep_well : (v : ℕ) → LeavesWell (keep_ruling l h v)
   keep_well v = keep_unless-well v l.halted
 
   -- what a sweep removes is needed by no source and no pin
   pub removed_are_loose : (least : Option ℕ) → AllByRecursion (IsLoose l) (swept least l)
-  removed_are_loose least = all_weaker (IsLoose (with_lent l)) (IsLoose l) (λ f is. record { sources = is.sources; pins_off = is.pins_off; drawn = is.drawn }) (swept least l) (more l.retired (swept_are_loose least (with_lent l) w.stocked))
+  removed_are_loose least =
+      all_weaker (IsLoose (with_lent l)) (IsLoose l) (λ f is. record { sources = is.sources; pins_off = is.pins_off; drawn = is.drawn }) (swept least l) (more l.retired (swept_are_loose least (with_lent l) w.stocked))
     where
       more : (rs : List Retired)
           → AllByRecursion (IsLoose (with_lent l)) (map (λ (r : Retired). r.file) (filter (λ r. not (is_held (pins l) r) && is_retired_up_to least r) (loose (lent_numbers l.job) ++ rs)))

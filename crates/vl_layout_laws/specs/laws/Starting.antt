@@ -25,11 +25,13 @@ all_newest P (s ∷ ss) all = all_both P (newest_first ss) (s ∷ []) (all_newes
 falling_end : (xs : List Segment) (s : Segment) → IsFalling xs
     → AllByRecursion (λ (x : Segment). s.number < x.number) xs → IsFalling (xs ++ s ∷ [])
 falling_end [] s falling above = (tt, tt)
-falling_end (x ∷ xs) s falling above = (all_both (λ (y : Segment). y.number < x.number) xs (s ∷ []) falling.0 (above.0, tt), falling_end xs s falling.1 above.1)
+falling_end (x ∷ xs) s falling above =
+    (all_both (λ (y : Segment). y.number < x.number) xs (s ∷ []) falling.0 (above.0, tt), falling_end xs s falling.1 above.1)
 
 falling_newest : (ss : List Segment) → IsRising number_of_log ss → IsFalling (newest_first ss)
 falling_newest [] rising = tt
-falling_newest (s ∷ ss) rising = falling_end (newest_first ss) s (falling_newest ss rising.1) (all_newest (λ (x : Segment). s.number < x.number) ss rising.0)
+falling_newest (s ∷ ss) rising =
+    falling_end (newest_first ss) s (falling_newest ss rising.1) (all_newest (λ (x : Segment). s.number < x.number) ss rising.0)
 
 rising_filtered : (p : Segment → Bool) (ss : List Segment) → IsRising number_of_log ss
     → IsRising number_of_log (filter p ss)
@@ -48,8 +50,10 @@ start_stocked room found is = record {
     retired_drawn = tt;
     pinned = tt;
     tables_drawn = is.tables;
-    logs_drawn = (omega arith, all_newest Drawn (filter has_frames found.logs) (all_filtered Drawn has_frames found.logs drawn));
-    flushed_drawn = all_both Drawn (filter (λ s. not (has_frames s)) found.logs) found.below (all_filtered Drawn (λ s. not (has_frames s)) found.logs drawn) is.below;
+    logs_drawn =
+        (omega arith, all_newest Drawn (filter has_frames found.logs) (all_filtered Drawn has_frames found.logs drawn));
+    flushed_drawn =
+        all_both Drawn (filter (λ s. not (has_frames s)) found.logs) found.below (all_filtered Drawn (λ s. not (has_frames s)) found.logs drawn) is.below;
     falling = (
       all_newest (λ (s : Segment). s.number < found.active) (filter has_frames found.logs) (all_filtered (λ (s : Segment). s.number < found.active) has_frames found.logs is.before),
       falling_newest (filter has_frames found.logs) (rising_filtered has_frames found.logs is.rising),
@@ -67,7 +71,8 @@ start_stocked room found is = record {
     Drawn s = s.number < max found.next_log (found.active + 1)
 
     drawn : AllByRecursion (λ (s : Segment). s.number < max found.next_log (found.active + 1)) found.logs
-    drawn = all_weaker (λ (s : Segment). s.number < found.active) (λ (s : Segment). s.number < max found.next_log (found.active + 1)) (λ s less. omega (arith, less)) found.logs is.before
+    drawn =
+        all_weaker (λ (s : Segment). s.number < found.active) (λ (s : Segment). s.number < max found.next_log (found.active + 1)) (λ s less. omega (arith, less)) found.logs is.before
 
     none_off : (ss : List Segment) → AllByRecursion (IsLogOff []) ss
     none_off [] = tt
@@ -95,7 +100,8 @@ bare_level (suc m) i = elim (i == 0) as (λ b. cond b [] (level_at (i - 1) (bare
 
 pub fresh_tidy : (logs : Logs) (room : ℕ) → IsTidy logs (fresh_layout room) no_history
 fresh_tidy logs room = record {
-  files = start_stocked room nothing_found (record { rising = tt; before = tt; below = tt; tables = tt; footed = tt; points = tt });
+  files =
+      start_stocked room nothing_found (record { rising = tt; before = tt; below = tt; tables = tt; footed = tt; points = tt });
   levels = record { distinct = tt; ranged = tt; wide = tt; apart = λ n some. subst IsApart (sym (bare_level 7 n)) tt; seven = refl };
   true_tables = tt;
   true_logs = (refl, tt);

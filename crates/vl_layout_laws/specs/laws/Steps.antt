@@ -59,7 +59,8 @@ module _ (l : Layout) (s : IsStocked l) where
       → AllByRecursion (IsPinned l.version_number l.retired) job
       → AllByRecursion (IsPinned l.version_number l.retired) pass
       → AllByRecursion (IsPinned l.version_number l.retired) ((live ++ job) ++ pass)
-  together live job pass a b c = all_both (IsPinned l.version_number l.retired) (live ++ job) pass (all_both (IsPinned l.version_number l.retired) live job a b) c
+  together live job pass a b c =
+      all_both (IsPinned l.version_number l.retired) (live ++ job) pass (all_both (IsPinned l.version_number l.retired) live job a b) c
 
   pub stocked_begun : (ticket number : ℕ) → IsStocked (begun l ticket number)
   stocked_begun ticket number = record {
@@ -81,7 +82,8 @@ module _ (l : Layout) (s : IsStocked l) where
   stocked_ended ticket = record {
     unneeded = s.unneeded;
     retired_drawn = s.retired_drawn;
-    pinned = together (map (λ (x : Live). x.pin) (filter (λ (x : Live). not (x.ticket == ticket)) l.live)) (job_pin l.job) (pass_pin l.pass)
+    pinned =
+        together (map (λ (x : Live). x.pin) (filter (λ (x : Live). not (x.ticket == ticket)) l.live)) (job_pin l.job) (pass_pin l.pass)
         (all_mapped (IsPinned l.version_number l.retired) (λ (x : Live). x.pin) (filter (λ (x : Live). not (x.ticket == ticket)) l.live)
         (all_filtered (λ (x : Live). IsPinned l.version_number l.retired x.pin) (λ (x : Live). not (x.ticket == ticket)) l.live
         (all_unmapped (IsPinned l.version_number l.retired) (λ (x : Live). x.pin) l.live parts.0.0)))
@@ -97,7 +99,8 @@ module _ (l : Layout) (s : IsStocked l) where
   stocked_planned job = record {
     unneeded = s.unneeded;
     retired_drawn = s.retired_drawn;
-    pinned = together (map (λ (x : Live). x.pin) l.live) (pin_of l ∷ []) (pass_pin l.pass) parts.0.0 (own_pin l s, tt) parts.1;
+    pinned =
+        together (map (λ (x : Live). x.pin) l.live) (pin_of l ∷ []) (pass_pin l.pass) parts.0.0 (own_pin l s, tt) parts.1;
     tables_drawn = s.tables_drawn;
     logs_drawn = s.logs_drawn;
     flushed_drawn = s.flushed_drawn;
@@ -109,7 +112,8 @@ module _ (l : Layout) (s : IsStocked l) where
   stocked_picked segment = record {
     unneeded = s.unneeded;
     retired_drawn = s.retired_drawn;
-    pinned = together (map (λ (x : Live). x.pin) l.live) (job_pin l.job) (pin_of l ∷ []) parts.0.0 parts.0.1 (own_pin l s, tt);
+    pinned =
+        together (map (λ (x : Live). x.pin) l.live) (job_pin l.job) (pin_of l ∷ []) parts.0.0 parts.0.1 (own_pin l s, tt);
     tables_drawn = s.tables_drawn;
     logs_drawn = s.logs_drawn;
     flushed_drawn = s.flushed_drawn;
@@ -181,7 +185,8 @@ pub stocked_relocated : (l : Layout) → IsStocked l → (records : List Moved) 
 stocked_relocated l s records = record {
   unneeded = s.unneeded;
   retired_drawn = s.retired_drawn;
-  pinned = subst (λ (ps : List Pin). AllByRecursion (IsPinned (l.version_number + 1) l.retired) ((map (λ (x : Live). x.pin) l.live ++ ps) ++ pass_pin l.pass)) (sym (noted_pin (l.version_number + 1) records l.job))
+  pinned =
+      subst (λ (ps : List Pin). AllByRecursion (IsPinned (l.version_number + 1) l.retired) ((map (λ (x : Live). x.pin) l.live ++ ps) ++ pass_pin l.pass)) (sym (noted_pin (l.version_number + 1) records l.job))
       (subst (λ (rs : List Retired). AllByRecursion (IsPinned (l.version_number + 1) rs) (pins l)) (nothing_more l.retired) (later_pins l s [] tt (pins l) s.pinned));
   tables_drawn = s.tables_drawn;
   logs_drawn = s.logs_drawn;
@@ -221,10 +226,14 @@ needed_parts f ts ps ls there = ⊎_elim
     (or_cases (is_in f (ts ++ ps)) (is_in f ls) (sym (any-append (is_same f) (ts ++ ps) ls) ∙ there))
 
 pub in_tables : (f : FileName) (ts ps ls : List FileName) → is_in f ts ≡ true → is_in f ((ts ++ ps) ++ ls) ≡ true
-in_tables f ts ps ls is = any-append (is_same f) (ts ++ ps) ls ∙ or_left (is_in f (ts ++ ps)) (is_in f ls) (any-append (is_same f) ts ps ∙ or_left (is_in f ts) (is_in f ps) is)
+in_tables f ts ps ls is =
+    any-append (is_same f) (ts ++ ps) ls
+    ∙ or_left (is_in f (ts ++ ps)) (is_in f ls) (any-append (is_same f) ts ps ∙ or_left (is_in f ts) (is_in f ps) is)
 
 pub in_points : (f : FileName) (ts ps ls : List FileName) → is_in f ps ≡ true → is_in f ((ts ++ ps) ++ ls) ≡ true
-in_points f ts ps ls is = any-append (is_same f) (ts ++ ps) ls ∙ or_left (is_in f (ts ++ ps)) (is_in f ls) (any-append (is_same f) ts ps ∙ or_right (is_in f ts) (is_in f ps) is)
+in_points f ts ps ls is =
+    any-append (is_same f) (ts ++ ps) ls
+    ∙ or_left (is_in f (ts ++ ps)) (is_in f ls) (any-append (is_same f) ts ps ∙ or_right (is_in f ts) (is_in f ps) is)
 
 pub in_logs : (f : FileName) (ts ps ls : List FileName) → is_in f ls ≡ true → is_in f ((ts ++ ps) ++ ls) ≡ true
 in_logs f ts ps ls is = any-append (is_same f) (ts ++ ps) ls ∙ or_right (is_in f (ts ++ ps)) (is_in f ls) is
@@ -249,12 +258,16 @@ stocked_rotated l s = record {
   unneeded = still_unneeded l.next_log l.next_table (needed l) (needed (rotated l))
       (new_log_gains l.next_log l.next_table (map table_of (tables l)) (flat_map pointed_logs (tables l)) (map log_of (l.active ∷ l.frozen)))
       l.retired s.unneeded s.retired_drawn;
-  retired_drawn = all_weaker (λ (r : Retired). IsDrawn l.next_log l.next_table r.file) (λ (r : Retired). IsDrawn (l.next_log + 1) l.next_table r.file)
+  retired_drawn =
+      all_weaker (λ (r : Retired). IsDrawn l.next_log l.next_table r.file) (λ (r : Retired). IsDrawn (l.next_log + 1) l.next_table r.file)
       (λ r is. drawn_later l.next_log l.next_table (l.next_log + 1) l.next_table (omega arith) (omega arith) r.file is) l.retired s.retired_drawn;
-  pinned = subst (λ (rs : List Retired). AllByRecursion (IsPinned (l.version_number + 1) rs) (pins l)) (nothing_more l.retired) (later_pins l s [] tt (pins l) s.pinned);
+  pinned =
+      subst (λ (rs : List Retired). AllByRecursion (IsPinned (l.version_number + 1) rs) (pins l)) (nothing_more l.retired) (later_pins l s [] tt (pins l) s.pinned);
   tables_drawn = s.tables_drawn;
-  logs_drawn = (omega arith, all_weaker (λ (x : Segment). x.number < l.next_log) (λ (x : Segment). x.number < l.next_log + 1) (λ x less. omega (arith, less)) (l.active ∷ l.frozen) s.logs_drawn);
-  flushed_drawn = all_weaker (λ (x : Segment). x.number < l.next_log) (λ (x : Segment). x.number < l.next_log + 1) (λ x less. omega (arith, less)) l.flushed s.flushed_drawn;
+  logs_drawn =
+      (omega arith, all_weaker (λ (x : Segment). x.number < l.next_log) (λ (x : Segment). x.number < l.next_log + 1) (λ x less. omega (arith, less)) (l.active ∷ l.frozen) s.logs_drawn);
+  flushed_drawn =
+      all_weaker (λ (x : Segment). x.number < l.next_log) (λ (x : Segment). x.number < l.next_log + 1) (λ x less. omega (arith, less)) l.flushed s.flushed_drawn;
   falling = (s.logs_drawn, s.falling);
   footed = s.footed;
 }
@@ -322,7 +335,8 @@ module _ (l : Layout) (s : IsStocked l) (dropped : List Table)
   R r = IsUnneeded (needed l) r × (IsDrawn l.next_log l.next_table r.file × (r.version_number ≡ l.version_number))
 
   fresh : List Retired
-  fresh = map (retired_at l.version_number) (map table_of dropped ++ map log_of (rising (filter (is_idle l) l.flushed)))
+  fresh =
+      map (retired_at l.version_number) (map table_of dropped ++ map log_of (rising (filter (is_idle l) l.flushed)))
 
   idle_logs : AllByRecursion (λ (x : Segment). (is_in (log_of x) (needed l) ≡ false) × (x.number < l.next_log)) (rising (filter (is_idle l) l.flushed))
   idle_logs =
@@ -346,17 +360,22 @@ module _ (l : Layout) (s : IsStocked l) (dropped : List Table)
       let Q : Retired → Type 0 = λ r. IsUnneeded (needed l) r × (IsDrawn l.next_log l.next_table r.file × (r.version_number ≡ l.version_number)) in
       let new : List Retired = map (retired_at l.version_number) (map table_of dropped ++ map log_of (rising (filter (is_idle l) l.flushed))) in
       record {
-        unneeded = all_both (IsUnneeded (needed l)) l.retired new s.unneeded (all_weaker Q (IsUnneeded (needed l)) (λ r is. is.0) new fresh_are);
-        retired_drawn = all_both (λ (r : Retired). IsDrawn l.next_log l.next_table r.file) l.retired new s.retired_drawn (all_weaker Q (λ (r : Retired). IsDrawn l.next_log l.next_table r.file) (λ r is. is.1.0) new fresh_are);
-        pinned = all_weaker (λ (p : Pin). IsPinned l.version_number l.retired p × (p.version_number < l.version_number)) (IsPinned l.version_number (l.retired ++ new))
+        unneeded =
+            all_both (IsUnneeded (needed l)) l.retired new s.unneeded (all_weaker Q (IsUnneeded (needed l)) (λ r is. is.0) new fresh_are);
+        retired_drawn =
+            all_both (λ (r : Retired). IsDrawn l.next_log l.next_table r.file) l.retired new s.retired_drawn (all_weaker Q (λ (r : Retired). IsDrawn l.next_log l.next_table r.file) (λ r is. is.1.0) new fresh_are);
+        pinned =
+            all_weaker (λ (p : Pin). IsPinned l.version_number l.retired p × (p.version_number < l.version_number)) (IsPinned l.version_number (l.retired ++ new))
             (λ p is. record {
               old = is.0.old;
-              off = all_both (IsOff p) l.retired new is.0.off (all_weaker Q (IsOff p) (λ r at. let less = is.1 in let here = at.1.1 in inl (omega (arith, less, here))) new fresh_are);
+              off =
+                  all_both (IsOff p) l.retired new is.0.off (all_weaker Q (IsOff p) (λ r at. let less = is.1 in let here = at.1.1 in inl (omega (arith, less, here))) new fresh_are);
             })
             (pins l) (both_all (IsPinned l.version_number l.retired) (λ (p : Pin). p.version_number < l.version_number) (pins l) s.pinned early);
         tables_drawn = s.tables_drawn;
         logs_drawn = s.logs_drawn;
-        flushed_drawn = all_filtered (λ (x : Segment). x.number < l.next_log) (λ (x : Segment). not (is_idle l x)) l.flushed s.flushed_drawn;
+        flushed_drawn =
+            all_filtered (λ (x : Segment). x.number < l.next_log) (λ (x : Segment). not (is_idle l x)) l.flushed s.flushed_drawn;
         falling = s.falling;
         footed = s.footed;
       }

@@ -59,13 +59,15 @@ pub stocked_lent : (l : Layout) → IsStocked l → IsDrawnWhole l → IsStocked
 stocked_lent l s d =
     let new : Retired = retired_at 0 (TableFile l.next_table) in
     record {
-      unneeded = all_both (IsUnneeded (needed l)) l.retired (new ∷ []) s.unneeded (not_drawn_yet l.next_log l.next_table (needed l) (needed_drawn l s d.points), tt);
+      unneeded =
+          all_both (IsUnneeded (needed l)) l.retired (new ∷ []) s.unneeded (not_drawn_yet l.next_log l.next_table (needed l) (needed_drawn l s d.points), tt);
       retired_drawn = all_both (λ (r : Retired). IsDrawn l.next_log (l.next_table + 1) r.file) l.retired (new ∷ [])
           (all_weaker (λ (r : Retired). IsDrawn l.next_log l.next_table r.file) (λ (r : Retired). IsDrawn l.next_log (l.next_table + 1) r.file)
           (λ r is. drawn_later l.next_log l.next_table l.next_log (l.next_table + 1) (omega arith) (omega arith) r.file is) l.retired s.retired_drawn)
           (omega arith, tt);
       pinned = two (pins l) s.pinned d.pins_drawn;
-      tables_drawn = all_weaker (λ (t : Table). t.number < l.next_table) (λ (t : Table). t.number < l.next_table + 1) (λ t less. omega (arith, less)) (tables l) s.tables_drawn;
+      tables_drawn =
+          all_weaker (λ (t : Table). t.number < l.next_table) (λ (t : Table). t.number < l.next_table + 1) (λ t less. omega (arith, less)) (tables l) s.tables_drawn;
       logs_drawn = s.logs_drawn;
       flushed_drawn = s.flushed_drawn;
       falling = s.falling;
@@ -79,7 +81,8 @@ stocked_lent l s d =
     two (p ∷ ps) a b = (
       record {
         old = a.0.old;
-        off = all_both (IsOff p) l.retired (retired_at 0 (TableFile l.next_table) ∷ []) a.0.off (inr (not_drawn_yet l.next_log l.next_table p.needs b.0), tt);
+        off =
+            all_both (IsOff p) l.retired (retired_at 0 (TableFile l.next_table) ∷ []) a.0.off (inr (not_drawn_yet l.next_log l.next_table p.needs b.0), tt);
       },
       two ps a.1 b.1,
     )
@@ -148,7 +151,9 @@ module _ (l : Layout) (job : Job) (made : List Table) (rest : List Retired) (k :
 
   no_pointed_table : (n : ℕ) (ts : List Table) → is_in (TableFile n) (flat_map pointed_logs ts) ≡ false
   no_pointed_table n [] = refl
-  no_pointed_table n (t ∷ ts) = any-append (is_same (TableFile n)) (pointed_logs t) (flat_map pointed_logs ts) ∙ neither (is_in (TableFile n) (pointed_logs t)) (is_in (TableFile n) (flat_map pointed_logs ts)) (never t.points) (no_pointed_table n ts)
+  no_pointed_table n (t ∷ ts) =
+      any-append (is_same (TableFile n)) (pointed_logs t) (flat_map pointed_logs ts)
+      ∙ neither (is_in (TableFile n) (pointed_logs t)) (is_in (TableFile n) (flat_map pointed_logs ts)) (never t.points) (no_pointed_table n ts)
     where
       never : (ps : List Point) → is_in (TableFile n) (map (λ (p : Point). Log p.segment) ps) ≡ false
       never [] = refl
@@ -156,7 +161,9 @@ module _ (l : Layout) (job : Job) (made : List Table) (rest : List Retired) (k :
 
   no_pointed_manifest : (n : ℕ) (ts : List Table) → is_in (Manifest n) (flat_map pointed_logs ts) ≡ false
   no_pointed_manifest n [] = refl
-  no_pointed_manifest n (t ∷ ts) = any-append (is_same (Manifest n)) (pointed_logs t) (flat_map pointed_logs ts) ∙ neither (is_in (Manifest n) (pointed_logs t)) (is_in (Manifest n) (flat_map pointed_logs ts)) (never t.points) (no_pointed_manifest n ts)
+  no_pointed_manifest n (t ∷ ts) =
+      any-append (is_same (Manifest n)) (pointed_logs t) (flat_map pointed_logs ts)
+      ∙ neither (is_in (Manifest n) (pointed_logs t)) (is_in (Manifest n) (flat_map pointed_logs ts)) (never t.points) (no_pointed_manifest n ts)
     where
       never : (ps : List Point) → is_in (Manifest n) (map (λ (p : Point). Log p.segment) ps) ≡ false
       never [] = refl
@@ -164,9 +171,12 @@ module _ (l : Layout) (job : Job) (made : List Table) (rest : List Retired) (k :
 
   put_points : (f : FileName) → is_in f (flat_map pointed_logs (tables (putting l job made rest))) ≡ true
       → is_in f (flat_map pointed_logs (tables l)) ≡ true
-  put_points (Log n) two = is_pointed n (tables l) ∙ put_logs n (sym (is_pointed n (tables (putting l job made rest))) ∙ two)
-  put_points (TableFile n) two = absurd (true_false (sym two ∙ no_pointed_table n (tables (putting l job made rest))))
-  put_points (Manifest n) two = absurd (true_false (sym two ∙ no_pointed_manifest n (tables (putting l job made rest))))
+  put_points (Log n) two =
+      is_pointed n (tables l) ∙ put_logs n (sym (is_pointed n (tables (putting l job made rest))) ∙ two)
+  put_points (TableFile n) two =
+      absurd (true_false (sym two ∙ no_pointed_table n (tables (putting l job made rest))))
+  put_points (Manifest n) two =
+      absurd (true_false (sym two ∙ no_pointed_manifest n (tables (putting l job made rest))))
 
   put_gains : (f : FileName) → is_in f (needed (putting l job made rest)) ≡ true
       → (is_in f (needed l) ≡ true) ⊎ (is_in f (map table_of made) ≡ true)
@@ -222,8 +232,10 @@ module _ (l : Layout) (job : Job) (made : List Table) (rest : List Retired) (k :
       let stocked : IsStocked (putting l job made rest) = record {
         unneeded = still_off made (needed l) (needed (putting l job made rest)) put_gains rest rest_unneeded off;
         retired_drawn = rest_drawn;
-        pinned = all_weaker (IsPinned l.version_number rest) (IsPinned (l.version_number + 1) rest) (λ p is. record { old = (let less = is.old in omega (arith, less)); off = is.off }) (pins (putting l job made rest)) put_free_pins;
-        tables_drawn = all_replaced (λ (t : Table). t.number < l.next_table) job.inputs made given job.target l.levels
+        pinned =
+            all_weaker (IsPinned l.version_number rest) (IsPinned (l.version_number + 1) rest) (λ p is. record { old = (let less = is.old in omega (arith, less)); off = is.off }) (pins (putting l job made rest)) put_free_pins;
+        tables_drawn =
+            all_replaced (λ (t : Table). t.number < l.next_table) job.inputs made given job.target l.levels
             (all_weaker (λ (t : Table). t.number < l.next_table) (λ (t : Table). is_among job.inputs t ≡ false → t.number < l.next_table) (λ t less out. less) (tables l) k.tables_drawn);
         logs_drawn = k.logs_drawn;
         flushed_drawn = k.flushed_drawn;

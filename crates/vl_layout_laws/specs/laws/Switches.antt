@@ -61,7 +61,8 @@ some_head format = elim (nat_le format 1) as (λ b. 0 < cond b 7 8) [ true ↦ o
 own_records : (format number : ℕ) (rs : List LogRecord)
     → AllByRecursion (IsOwn number) (map (record_entry format number) rs)
 own_records format number [] = tt
-own_records format number (r ∷ rs) = (own_record number r r.change (pointer_to format number r) refl (let some = some_head format in omega (arith, some)), own_records format number rs)
+own_records format number (r ∷ rs) =
+    (own_record number r r.change (pointer_to format number r) refl (let some = some_head format in omega (arith, some)), own_records format number rs)
 
 own_logged : (format number place : ℕ) (fs : List LogFrame)
     → AllByRecursion (IsOwn number) (logged_entries format number place fs)
@@ -71,7 +72,8 @@ own_logged format number place (f ∷ fs) =
     (own_logged format number (place + frame_length format f) fs) (own_records format number (frame_records format place f))
 
 pub own_memtable : (s : Segment) → AllByRecursion (IsOwn s.number) (memtable s)
-own_memtable s = all-in_order (IsOwn s.number) (logged_entries s.format s.number 16 s.frames) (own_logged s.format s.number 16 s.frames)
+own_memtable s =
+    all-in_order (IsOwn s.number) (logged_entries s.format s.number 16 s.frames) (own_logged s.format s.number 16 s.frames)
 
 placed_body : (number : ℕ) (b : Body) → IsOwnAt number b
     → HasBytesAt (placement b) × ((n : ℕ) → is_body_into n (placement b) ≡ true → n ≡ number)
@@ -118,11 +120,13 @@ pointed_into (Manifest n) t are there = absurd (never t.points there)
 pub oldest_in : (f : FileName) (ss : List Segment) (s : Segment) → oldest ss ≡ Some s → is_same f (log_of s) ≡ true
     → is_in f (map log_of ss) ≡ true
 oldest_in f [] s is same = absurd cc
-oldest_in f (t ∷ []) s is same = or_left (is_same f (log_of t)) false (ap (λ (x : Segment). is_same f (log_of x)) (the_one t s is) ∙ same)
+oldest_in f (t ∷ []) s is same =
+    or_left (is_same f (log_of t)) false (ap (λ (x : Segment). is_same f (log_of x)) (the_one t s is) ∙ same)
   where
     the_one : (a b : Segment) → Some a ≡ Some b → a ≡ b
     the_one a b e = cc
-oldest_in f (t ∷ u ∷ us) s is same = or_right (is_same f (log_of t)) (is_in f (map log_of (u ∷ us))) (oldest_in f (u ∷ us) s is same)
+oldest_in f (t ∷ u ∷ us) s is same =
+    or_right (is_same f (log_of t)) (is_in f (map log_of (u ∷ us))) (oldest_in f (u ∷ us) s is same)
 
 but_oldest_in : (f : FileName) (ss : List Segment) → is_in f (map log_of (but_oldest ss)) ≡ true
     → is_in f (map log_of ss) ≡ true
@@ -141,7 +145,8 @@ all_but_oldest P (t ∷ u ∷ us) all = (all.0, all_but_oldest P (u ∷ us) all.
 falling_but_oldest : (ss : List Segment) → IsFalling ss → IsFalling (but_oldest ss)
 falling_but_oldest [] falling = tt
 falling_but_oldest (t ∷ []) falling = tt
-falling_but_oldest (t ∷ u ∷ us) falling = (all_but_oldest (λ (x : Segment). x.number < t.number) (u ∷ us) falling.0, falling_but_oldest (u ∷ us) falling.1)
+falling_but_oldest (t ∷ u ∷ us) falling =
+    (all_but_oldest (λ (x : Segment). x.number < t.number) (u ∷ us) falling.0, falling_but_oldest (u ∷ us) falling.1)
 
 of_oldest : (P : Segment → Type 0) (ss : List Segment) (s : Segment) → oldest ss ≡ Some s → AllByRecursion P ss → P s
 of_oldest P [] s is all = absurd cc
@@ -182,7 +187,8 @@ new_table_gains next_log next_table t ts a s ss numbered are into waits f there 
 
 pub early_pins : (v : ℕ) (rs : List Retired) (ps : List Pin) → AllByRecursion (IsPinned v rs) ps
     → AllByRecursion (λ (p : Pin). p.version_number < v + 1) ps
-early_pins v rs ps all = all_weaker (IsPinned v rs) (λ (p : Pin). p.version_number < v + 1) (λ p is. let less = is.old in omega (arith, less)) ps all
+early_pins v rs ps all =
+    all_weaker (IsPinned v rs) (λ (p : Pin). p.version_number < v + 1) (λ p is. let less = is.old in omega (arith, less)) ps all
 
 -- the layout of a flush before files retire
 abbrev pub flushing : Layout → Segment → Layout
@@ -204,16 +210,23 @@ stocked_flushed l s level deeper k waits are =
     subst (λ (ts : List Table). Gains l.next_log l.next_table (needed l) ((map table_of ts ++ flat_map pointed_logs ts) ++ map log_of (l.active ∷ but_oldest l.frozen))) (sym new)
     (new_table_gains l.next_log l.next_table t (tables l) l.active s l.frozen refl refl (λ n there. placed_into s.number n (memtable s) (own_memtable s) there) waits) in
     let stocked : IsStocked (flushing l s) = record {
-      unneeded = still_unneeded l.next_log l.next_table (needed l) (needed (flushing l s)) gains l.retired k.unneeded k.retired_drawn;
-      retired_drawn = all_weaker (λ (r : Retired). IsDrawn l.next_log l.next_table r.file) (λ (r : Retired). IsDrawn l.next_log (l.next_table + 1) r.file)
+      unneeded =
+          still_unneeded l.next_log l.next_table (needed l) (needed (flushing l s)) gains l.retired k.unneeded k.retired_drawn;
+      retired_drawn =
+          all_weaker (λ (r : Retired). IsDrawn l.next_log l.next_table r.file) (λ (r : Retired). IsDrawn l.next_log (l.next_table + 1) r.file)
           (λ r is. drawn_later l.next_log l.next_table l.next_log (l.next_table + 1) (omega arith) (omega arith) r.file is) l.retired k.retired_drawn;
-      pinned = subst (λ (rs : List Retired). AllByRecursion (IsPinned (l.version_number + 1) rs) (pins l)) (nothing_more l.retired) (later_pins l k [] tt (pins l) k.pinned);
+      pinned =
+          subst (λ (rs : List Retired). AllByRecursion (IsPinned (l.version_number + 1) rs) (pins l)) (nothing_more l.retired) (later_pins l k [] tt (pins l) k.pinned);
       tables_drawn = subst (AllByRecursion (λ (u : Table). u.number < l.next_table + 1)) (sym new)
           (omega arith, all_weaker (λ (u : Table). u.number < l.next_table) (λ (u : Table). u.number < l.next_table + 1) (λ u less. omega (arith, less)) (tables l) k.tables_drawn);
-      logs_drawn = (k.logs_drawn.0, all_but_oldest (λ (x : Segment). x.number < l.next_log) l.frozen k.logs_drawn.1);
-      flushed_drawn = (of_oldest (λ (x : Segment). x.number < l.next_log) l.frozen s waits k.logs_drawn.1, k.flushed_drawn);
-      falling = (all_but_oldest (λ (x : Segment). x.number < l.active.number) l.frozen k.falling.0, falling_but_oldest l.frozen k.falling.1);
-      footed = subst (AllByRecursion IsFooted) (sym new) (record { points = refl; bytes = placed_bytes s.number (memtable s) (own_memtable s) }, k.footed);
+      logs_drawn =
+          (k.logs_drawn.0, all_but_oldest (λ (x : Segment). x.number < l.next_log) l.frozen k.logs_drawn.1);
+      flushed_drawn =
+          (of_oldest (λ (x : Segment). x.number < l.next_log) l.frozen s waits k.logs_drawn.1, k.flushed_drawn);
+      falling =
+          (all_but_oldest (λ (x : Segment). x.number < l.active.number) l.frozen k.falling.0, falling_but_oldest l.frozen k.falling.1);
+      footed =
+          subst (AllByRecursion IsFooted) (sym new) (record { points = refl; bytes = placed_bytes s.number (memtable s) (own_memtable s) }, k.footed);
     } in
     stocked_switched (flushing l s) stocked [] (early_pins l.version_number l.retired (pins l) k.pinned) tt
 
@@ -225,7 +238,8 @@ module _ (P : Table → Type 0) (inputs : List ℕ) (new : List Table) (made : A
 
   all_without : (ts : List Table) → AllByRecursion (λ (t : Table). is_among inputs t ≡ false → P t) ts
       → AllByRecursion P (without inputs ts)
-  all_without ts all = all_passed (λ (t : Table). is_among inputs t ≡ false → P t) P (λ t. not (is_among inputs t)) (λ t stays is. stays (not_true (is_among inputs t) is)) ts all
+  all_without ts all =
+      all_passed (λ (t : Table). is_among inputs t ≡ false → P t) P (λ t. not (is_among inputs t)) (λ t stays is. stays (not_true (is_among inputs t) is)) ts all
     where
       not_true : (b : Bool) → not b ≡ true → b ≡ false
       not_true true h = absurd (true_false (sym h))
@@ -259,7 +273,8 @@ module _ (P : Table → Type 0) (inputs : List ℕ) (new : List Table) (made : A
   pub all_swapped : (ts : List Table) → AllByRecursion (λ (t : Table). is_among inputs t ≡ false → P t) ts
       → AllByRecursion P (flat_map (λ t. cond (is_among inputs t) new (t ∷ [])) ts)
   all_swapped [] all = tt
-  all_swapped (t ∷ ts) all = all_both P (cond (is_among inputs t) new (t ∷ [])) (flat_map (λ u. cond (is_among inputs u) new (u ∷ [])) ts)
+  all_swapped (t ∷ ts) all =
+      all_both P (cond (is_among inputs t) new (t ∷ [])) (flat_map (λ u. cond (is_among inputs u) new (u ∷ [])) ts)
       (one (is_among inputs t) refl) (all_swapped ts all.1)
     where
       one : (b : Bool) → is_among inputs t ≡ b → AllByRecursion P (cond b new (t ∷ []))
@@ -284,7 +299,8 @@ module _ (P : Table → Type 0) (inputs : List ℕ) (new : List Table) (made : A
 -- where a test is passed, it is passed by some of all
 pub seen : {X : Type 0} (p : X → Bool) (xs : List X) → AllByRecursion (λ (x : X). p x ≡ true → list_any p xs ≡ true) xs
 seen p [] = tt
-seen p (x ∷ xs) = ((λ is. or_left (p x) (list_any p xs) is), all_weaker (λ y. p y ≡ true → list_any p xs ≡ true) (λ y. p y ≡ true → list_any p (x ∷ xs) ≡ true) (λ y is at. or_right (p x) (list_any p xs) (is at)) xs (seen p xs))
+seen p (x ∷ xs) =
+    ((λ is. or_left (p x) (list_any p xs) is), all_weaker (λ y. p y ≡ true → list_any p xs ≡ true) (λ y. p y ≡ true → list_any p (x ∷ xs) ≡ true) (λ y is at. or_right (p x) (list_any p xs) (is at)) xs (seen p xs))
 
 pub each_of : (Q : Entry → Type 0) (ess : List (List Entry)) → AllByRecursion Q (joined ess)
     → AllByRecursion (AllByRecursion Q) ess
@@ -295,9 +311,12 @@ each_of Q (es ∷ ess) all = let both = all_parts Q es (joined ess) all in (both
 
 pub stocked_swept : (l : Layout) (gone : List FileName) → IsStocked l → IsStocked (without_files gone l)
 stocked_swept l gone k = record {
-  unneeded = all_filtered (IsUnneeded (needed l)) (λ (r : Retired). not (list_any (is_same r.file) gone)) l.retired k.unneeded;
-  retired_drawn = all_filtered (λ (r : Retired). IsDrawn l.next_log l.next_table r.file) (λ (r : Retired). not (list_any (is_same r.file) gone)) l.retired k.retired_drawn;
-  pinned = all_weaker (IsPinned l.version_number l.retired) (IsPinned l.version_number (filter (λ (r : Retired). not (list_any (is_same r.file) gone)) l.retired))
+  unneeded =
+      all_filtered (IsUnneeded (needed l)) (λ (r : Retired). not (list_any (is_same r.file) gone)) l.retired k.unneeded;
+  retired_drawn =
+      all_filtered (λ (r : Retired). IsDrawn l.next_log l.next_table r.file) (λ (r : Retired). not (list_any (is_same r.file) gone)) l.retired k.retired_drawn;
+  pinned =
+      all_weaker (IsPinned l.version_number l.retired) (IsPinned l.version_number (filter (λ (r : Retired). not (list_any (is_same r.file) gone)) l.retired))
       (λ p is. record { old = is.old; off = all_filtered (IsOff p) (λ (r : Retired). not (list_any (is_same r.file) gone)) l.retired is.off }) (pins l) k.pinned;
   tables_drawn = k.tables_drawn;
   logs_drawn = k.logs_drawn;

@@ -41,7 +41,9 @@ frozen_split (t ∷ u ∷ us) s is = ap (λ (xs : List Segment). t ∷ xs) (froz
 -- it goes from the end of the frozen logs to the front of the flushed ones
 pub sealed_same : (l : Layout) (s : Segment) → oldest l.frozen ≡ Some s
     → but_oldest l.frozen ++ s ∷ l.flushed ≡ sealed l
-sealed_same l s waits = sym (append_assoc (but_oldest l.frozen) (s ∷ []) l.flushed) ∙ ap (λ (xs : List Segment). xs ++ l.flushed) (sym (frozen_split l.frozen s waits))
+sealed_same l s waits =
+    sym (append_assoc (but_oldest l.frozen) (s ∷ []) l.flushed)
+    ∙ ap (λ (xs : List Segment). xs ++ l.flushed) (sym (frozen_split l.frozen s waits))
 
 -- ---- numbers
 
@@ -101,8 +103,10 @@ format_behind a ss n f other is =
 -- a log among others of which none in front has its number
 pub format_there : (xs : List Segment) (s : Segment) (ys : List Segment)
     → AreDistinct (log_numbers (xs ++ s ∷ ys)) → format_of (xs ++ s ∷ ys) s.number ≡ Some s.format
-format_there [] s ys distinct = let here : (s.number == s.number) ≡ true = grind (arith, nat_tests) in ap (λ b. cond b (Some s.format) (format_of ys s.number)) here
-format_there (x ∷ xs) s ys distinct = format_behind x (xs ++ s ∷ ys) s.number s.format distinct.0 (format_there xs s ys distinct.1)
+format_there [] s ys distinct =
+    let here : (s.number == s.number) ≡ true = grind (arith, nat_tests) in ap (λ b. cond b (Some s.format) (format_of ys s.number)) here
+format_there (x ∷ xs) s ys distinct =
+    format_behind x (xs ++ s ∷ ys) s.number s.format distinct.0 (format_there xs s ys distinct.1)
 
 -- of a log that stays
 pub format_stays : (q : ℕ → Bool) (xs ys : List Segment) (n f : ℕ) → q n ≡ false → format_of (xs ++ ys) n ≡ Some f
@@ -167,7 +171,8 @@ busy l footed n there = by (live_bytes (tables l) n == 0) refl
 pub switched_placed : (l : Layout) (dropped : List Table) → AllByRecursion IsFooted (tables l)
     → AllByRecursion (λ (t : Table). AllByRecursion (IsPlacedIn (sealed l)) t.entries) (tables l)
     → AllByRecursion (λ (t : Table). AllByRecursion (IsPlacedIn (sealed (switched dropped l))) t.entries) (tables l)
-switched_placed l dropped footed placed_all = each (tables l) footed placed_all (seen_by (λ (n : ℕ) (t : Table). leads n t.points) (tables l))
+switched_placed l dropped footed placed_all =
+    each (tables l) footed placed_all (seen_by (λ (n : ℕ) (t : Table). leads n t.points) (tables l))
   where
     each : (ts : List Table) → AllByRecursion IsFooted ts
         → AllByRecursion (λ (t : Table). AllByRecursion (IsPlacedIn (sealed l)) t.entries) ts
@@ -188,7 +193,8 @@ abbrev pub IsOfLog : (format number : ℕ) → List ℕ → Body → Type 0
 IsOfLog format number key (Inline value) = ⊥
 IsOfLog format number key Gone = Unit {0}
 IsOfLog format number key (Far pointer) = ⊥
-IsOfLog format number key (Logged value pointer) = (pointer.segment ≡ number) × (pointer.length ≡ record_length format key (Set value))
+IsOfLog format number key (Logged value pointer) =
+    (pointer.segment ≡ number) × (pointer.length ≡ record_length format key (Set value))
 
 module _ (format number : ℕ) where
   abbrev pub IsInLog : Entry → Type 0
@@ -204,7 +210,8 @@ module _ (format number : ℕ) where
 
   of_logged : (place : ℕ) (fs : List LogFrame) → AllByRecursion IsInLog (logged_entries format number place fs)
   of_logged place [] = tt
-  of_logged place (f ∷ fs) = all_both IsInLog (logged_entries format number (place + frame_length format f) fs) (frame_entries format number place f)
+  of_logged place (f ∷ fs) =
+      all_both IsInLog (logged_entries format number (place + frame_length format f) fs) (frame_entries format number place f)
       (of_logged (place + frame_length format f) fs) (of_records (frame_records format place f))
 
   placed_body : (ss : List Segment) → format_of ss number ≡ Some format → (key : List ℕ) (b : Body)

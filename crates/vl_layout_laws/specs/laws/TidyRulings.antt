@@ -93,7 +93,8 @@ module _ (logs : Logs) (l : Layout) (h : History) (t : IsTidy logs l h) where
   either false x y one other = other refl
 
   pub begin_tidy : StaysTidy (begin_ruling l h)
-  begin_tidy = one_of_two (nat_le max_live (length l.live)) _ _ t (λ room. tidy_begun logs l h t (free_ticket (tickets_of l.live)))
+  begin_tidy =
+      one_of_two (nat_le max_live (length l.live)) _ _ t (λ room. tidy_begun logs l h t (free_ticket (tickets_of l.live)))
 
   -- ---- a commit
 
@@ -113,10 +114,12 @@ module _ (logs : Logs) (l : Layout) (h : History) (t : IsTidy logs l h) where
     unless None conflict = running conflict
 
     pub commit_tidy : StaysTidy (commit_ruling l h x)
-    commit_tidy = unless l.halted (first_conflict h x.number x.reads) (commit_shows_low h l logs x rising up_to t.shows)
+    commit_tidy =
+        unless l.halted (first_conflict h x.number x.reads) (commit_shows_low h l logs x rising up_to t.shows)
       where
         up_to : AllByRecursion (λ (e : Entry). e.version ≤ last_number h) (sources l)
-        up_to = all_weaker (IsOf h) (λ (e : Entry). e.version ≤ last_number h) (λ e is. versions-up h e.key e.version is) (sources l) t.versions
+        up_to =
+            all_weaker (IsOf h) (λ (e : Entry). e.version ≤ last_number h) (λ e is. versions-up h e.key e.version is) (sources l) t.versions
 
   pub forget_tidy : (x : Transaction) → StaysTidy (forget_ruling l h x)
   forget_tidy x = tidy_ended logs l h t x.ticket
@@ -128,7 +131,8 @@ module _ (logs : Logs) (l : Layout) (h : History) (t : IsTidy logs l h) where
 
   rotate_by : (frames : List LogFrame) → LeavesTidy (rotate_of frames l h)
   rotate_by [] = λ shows. t
-  rotate_by (f ∷ fs) = either (has_no_number l.next_log 1) _ _ (λ shows. t) (λ one. either (has_no_version l) _ _ (λ shows. t) (λ two shows. tidy_rotated logs l h t shows))
+  rotate_by (f ∷ fs) =
+      either (has_no_number l.next_log 1) _ _ (λ shows. t) (λ one. either (has_no_version l) _ _ (λ shows. t) (λ two shows. tidy_rotated logs l h t shows))
 
   rotate_unless-tidy : (halted : Option FileName) → LeavesTidy (rotate_unless halted l h)
   rotate_unless-tidy (Some name) = λ shows. t
@@ -164,11 +168,13 @@ module _ (logs : Logs) (l : Layout) (h : History) (t : IsTidy logs l h) where
   relocate_unless-tidy : (pass : Pass) (batch : List Candidate) (halted : Option FileName)
       → LeavesTidy (relocate_unless halted l h pass batch)
   relocate_unless-tidy pass batch (Some name) = λ shows. t
-  relocate_unless-tidy pass batch None = relocate_by (moved_of (sources l) pass.segment (last_number h) batch) (moved_known logs l h t pass.segment (last_number h) batch)
+  relocate_unless-tidy pass batch None =
+      relocate_by (moved_of (sources l) pass.segment (last_number h) batch) (moved_known logs l h t pass.segment (last_number h) batch)
 
   pub relocate_tidy : (pass : Pass) (batch : List Candidate) → AllByRecursion (IsThere logs pass.segment) batch
       → StaysTidy (relocate_ruling l h pass batch)
-  relocate_tidy pass batch there = relocate_unless-tidy pass batch l.halted (relocate_shows_low h l logs pass batch there t.shows)
+  relocate_tidy pass batch there =
+      relocate_unless-tidy pass batch l.halted (relocate_shows_low h l logs pass batch there t.shows)
 
   -- ---- jobs
 
@@ -227,7 +233,8 @@ module _ (logs : Logs) (l : Layout) (h : History) (t : IsTidy logs l h) where
     given_up = tidy_job_ended logs l h t made (lent_here l h o is made t.files t.levels (t.job o is) all lent)
 
     stocked : IsWellStocked (installed o.job made l)
-    stocked = well_installed l t.files o.job made (lent_here l h o is made t.files t.levels (t.job o is) all lent) (t.job o is).standing
+    stocked =
+        well_installed l t.files o.job made (lent_here l h o is made t.files t.levels (t.job o is) all lent) (t.job o is).standing
         (made_footed l h o.job o.moved (t.job o is) made all t.files.stocked.footed)
         (made_into l h o.job o.moved (t.job o is) made all t.files.stocked.footed)
         (made_below l h o.job o.moved (t.job o is) made all t.files.stocked.footed t.files.drawn.points)
@@ -245,7 +252,8 @@ module _ (logs : Logs) (l : Layout) (h : History) (t : IsTidy logs l h) where
     tidy_installed : ShowsLow logs (installed o.job made l) h → IsTidy logs (installed o.job made l) h
     tidy_installed shows = record {
       files = stocked;
-      levels = levels_replaced l h o.job o.moved (t.job o is) made all t.levels (distinct_made l h o is made t.files t.levels (t.job o is) all lent) (other_made l h o is made t.files t.levels (t.job o is) all lent);
+      levels =
+          levels_replaced l h o.job o.moved (t.job o is) made all t.levels (distinct_made l h o is made t.files t.levels (t.job o is) all lent) (other_made l h o is made t.files t.levels (t.job o is) all lent);
       true_tables = all_replaced IsTrueTable o.job.inputs made.tables
           (subst (AllByRecursion IsTrueTable) (sym all.tables) (all_made (λ es. Unit {0}) IsTrueTable (λ n es any. refl) all.numbers (outputs o.job) (everything (outputs o.job))))
           o.job.target l.levels
@@ -255,8 +263,10 @@ module _ (logs : Logs) (l : Layout) (h : History) (t : IsTidy logs l h) where
         (let parts = all_parts IsTrueLog l.frozen l.flushed t.true_logs.1 in
             all_both IsTrueLog l.frozen (installed o.job made l).flushed parts.0 (all_filtered IsTrueLog (λ (x : Segment). not (is_idle (put_in o.job made l) x)) l.flushed parts.1)),
       );
-      distinct = distinct_fewer (λ (x : Segment). not (is_idle (put_in o.job made l) x)) (l.active ∷ l.frozen) l.flushed t.distinct;
-      placed = switched_placed (put_in o.job made l) (filter (is_among o.job.inputs) (tables l)) stocked.stocked.footed (of_all (IsPlacedIn (sealed l)) t.placed);
+      distinct =
+          distinct_fewer (λ (x : Segment). not (is_idle (put_in o.job made l) x)) (l.active ∷ l.frozen) l.flushed t.distinct;
+      placed =
+          switched_placed (put_in o.job made l) (filter (is_among o.job.inputs) (tables l)) stocked.stocked.footed (of_all (IsPlacedIn (sealed l)) t.placed);
       versions = (let parts = all_parts (IsOf h) (memtable l.active) (behind_active l) t.versions in
           let behind = all_parts (IsOf h) (flat_map memtable l.frozen) (flat_map table_entries (tables l)) parts.1 in
           all_both (IsOf h) (memtable l.active) (behind_active (installed o.job made l)) parts.0
@@ -295,7 +305,8 @@ module _ (logs : Logs) (l : Layout) (h : History) (t : IsTidy logs l h) where
   pick_unless-tidy percent None = pick_by (best l percent)
 
   pub pick_tidy : (percent : ℕ) → StaysTidy (pick_ruling l h percent)
-  pick_tidy percent = one_of_two ((percent == 0) || nat_lt 99 percent) _ _ t (λ fair. pick_unless-tidy percent l.pass)
+  pick_tidy percent =
+      one_of_two ((percent == 0) || nat_lt 99 percent) _ _ t (λ fair. pick_unless-tidy percent l.pass)
 
   pub end_pass_tidy : (pass : Pass) → StaysTidy (end_pass_ruling l h pass)
   end_pass_tidy pass = tidy_pass_ended logs l h t
@@ -313,10 +324,12 @@ module _ (logs : Logs) (l : Layout) (h : History) (t : IsTidy logs l h) where
 
   keep_unless-tidy : (v : ℕ) (halted : Option FileName) → StaysTidy (keep_unless halted l h v)
   keep_unless-tidy v (Some name) = t
-  keep_unless-tidy v None = one_of_two ((v == 0) || nat_lt 16 v) _ _ t (λ fair. one_of_two (v == l.keep) _ _ t (λ other. tidy_keeping logs l h t v (some v fair)))
+  keep_unless-tidy v None =
+      one_of_two ((v == 0) || nat_lt 16 v) _ _ t (λ fair. one_of_two (v == l.keep) _ _ t (λ other. tidy_keeping logs l h t v (some v fair)))
     where
       some : (n : ℕ) → ((n == 0) || nat_lt 16 n) ≡ false → 1 ≤ n
-      some n fair = let both = or_false (n == 0) (nat_lt 16 n) fair in let no = both.0 in grind (arith, nat_tests, no)
+      some n fair =
+          let both = or_false (n == 0) (nat_lt 16 n) fair in let no = both.0 in grind (arith, nat_tests, no)
 
   pub keep_tidy : (v : ℕ) → StaysTidy (keep_ruling l h v)
   keep_tidy v = keep_unless-tidy v l.halted

@@ -68,7 +68,8 @@ use Rattle.vl_layout_laws.specs.laws.WellStocked.{well_begun, well_drawn, well_e
 pub each_table : (P : Entry → Type 0) (ts : List Table) → AllByRecursion P (flat_map table_entries ts)
     → AllByRecursion (λ (t : Table). AllByRecursion P t.entries) ts
 each_table P [] all = tt
-each_table P (t ∷ ts) all = let both = all_parts P t.entries (flat_map table_entries ts) all in (both.0, each_table P ts both.1)
+each_table P (t ∷ ts) all =
+    let both = all_parts P t.entries (flat_map table_entries ts) all in (both.0, each_table P ts both.1)
 
 pub of_tables : (P : Entry → Type 0) (ts : List Table)
     → AllByRecursion (λ (t : Table). AllByRecursion P t.entries) ts
@@ -94,14 +95,16 @@ longer l f is =
 one_of : (es : List Entry) (P : Entry → Type 0) (key : List ℕ) (version : ℕ) (e : Entry)
     → exact es key version ≡ Some e → AllByRecursion P es → P e × (is_at key version e ≡ true)
 one_of [] P key version e is all = absurd cc
-one_of (x ∷ xs) P key version e is all = by (is_at key version x) refl is (λ later. one_of xs P key version e later all.1)
+one_of (x ∷ xs) P key version e is all =
+    by (is_at key version x) refl is (λ later. one_of xs P key version e later all.1)
   where
     the_one : (a b : Entry) → Some a ≡ Some b → a ≡ b
     the_one a b is = cc
 
     by : (b : Bool) → is_at key version x ≡ b → cond b (Some x) (exact xs key version) ≡ Some e
         → (exact xs key version ≡ Some e → P e × (is_at key version e ≡ true)) → P e × (is_at key version e ≡ true)
-    by true at is later = let same = the_one x e is in subst (λ (y : Entry). P y × (is_at key version y ≡ true)) same (all.0, at)
+    by true at is later =
+        let same = the_one x e is in subst (λ (y : Entry). P y × (is_at key version y ≡ true)) same (all.0, at)
     by false at is later = later is
 
 module _ (logs : Logs) (l : Layout) (h : History) (t : IsTidy logs l h) where
@@ -341,7 +344,8 @@ module _ (logs : Logs) (l : Layout) (h : History) (t : IsTidy logs l h) where
       by : (b : Bool) → is_moved (sources l) segment last c ≡ b
           → AllByRecursion (λ (m : Moved). has m.version (versions h m.key) ≡ true) (moved_of (sources l) segment last cs)
           → AllByRecursion (λ (m : Moved). has m.version (versions h m.key) ≡ true) (map (λ (x : Candidate). x.moved) (cond b (c ∷ filter (is_moved (sources l) segment last) cs) (filter (is_moved (sources l) segment last) cs)))
-      by true is later = (won (exact (sources l) c.moved.key c.moved.version) refl (and_parts (wins_exactly (sources l) segment c.moved.key c.moved.version c.place) (nat_le c.moved.version last) is).0, later)
+      by true is later =
+          (won (exact (sources l) c.moved.key c.moved.version) refl (and_parts (wins_exactly (sources l) segment c.moved.key c.moved.version c.place) (nat_le c.moved.version last) is).0, later)
       by false is later = later
 
   pub tidy_relocated : (moved : List Moved)
@@ -354,7 +358,8 @@ module _ (logs : Logs) (l : Layout) (h : History) (t : IsTidy logs l h) where
     true_logs = (longer l (Relocated moved) t.true_logs.0, t.true_logs.1);
     distinct = t.distinct;
     placed = t.placed;
-    versions = all_logged (IsOf h) l (Relocated moved) (moved_versions (place_behind l.active.format 16 l.active.frames + 9) moved known) t.versions;
+    versions =
+        all_logged (IsOf h) l (Relocated moved) (moved_versions (place_behind l.active.format 16 l.active.frames + 9) moved known) t.versions;
     last = t.last;
     some = t.some;
     since = t.since;
@@ -381,7 +386,8 @@ module _ (logs : Logs) (l : Layout) (h : History) (t : IsTidy logs l h) where
     true_tables = t.true_tables;
     true_logs = (refl, t.true_logs);
     distinct = (none_drawn l.next_log (l.active ∷ sealed l) all_drawn, t.distinct);
-    placed = all_weaker (λ (u : Table). AllByRecursion (IsPlacedIn (sealed l)) u.entries) (λ (u : Table). AllByRecursion (IsPlacedIn (l.active ∷ sealed l)) u.entries)
+    placed =
+        all_weaker (λ (u : Table). AllByRecursion (IsPlacedIn (sealed l)) u.entries) (λ (u : Table). AllByRecursion (IsPlacedIn (l.active ∷ sealed l)) u.entries)
         (λ u all. all_placed_so (sealed l) (l.active ∷ sealed l) u.entries (λ n f into is. format_behind l.active (sealed l) n f t.distinct.0 is) all) (tables l) t.placed;
     versions = subst (AllByRecursion (IsOf h)) (sym (sources-rotated l)) t.versions;
     last = t.last;
@@ -392,7 +398,8 @@ module _ (logs : Logs) (l : Layout) (h : History) (t : IsTidy logs l h) where
   }
     where
       all_drawn : AllByRecursion (λ (s : Segment). s.number < l.next_log) (l.active ∷ sealed l)
-      all_drawn = (t.files.stocked.logs_drawn.0, all_both (λ (s : Segment). s.number < l.next_log) l.frozen l.flushed t.files.stocked.logs_drawn.1 t.files.stocked.flushed_drawn)
+      all_drawn =
+          (t.files.stocked.logs_drawn.0, all_both (λ (s : Segment). s.number < l.next_log) l.frozen l.flushed t.files.stocked.logs_drawn.1 t.files.stocked.flushed_drawn)
 
   -- ---- a flush
 
@@ -408,7 +415,8 @@ module _ (logs : Logs) (l : Layout) (h : History) (t : IsTidy logs l h) where
       (let parts = all_parts IsTrueLog (but_oldest l.frozen) (s ∷ l.flushed) (subst (AllByRecursion IsTrueLog) (sym (sealed_same l s waits)) t.true_logs.1) in
           all_both IsTrueLog (but_oldest l.frozen) (flushed l s).flushed parts.0 (all_filtered IsTrueLog (λ (x : Segment). not (is_idle (flushing l s) x)) (s ∷ l.flushed) parts.1)),
     );
-    distinct = distinct_fewer (λ (x : Segment). not (is_idle (flushing l s) x)) (l.active ∷ but_oldest l.frozen) (s ∷ l.flushed) there;
+    distinct =
+        distinct_fewer (λ (x : Segment). not (is_idle (flushing l s) x)) (l.active ∷ but_oldest l.frozen) (s ∷ l.flushed) there;
     placed = switched_placed (flushing l s) [] (well_flushed l t.files s level deeper waits are).stocked.footed
         (subst (AllByRecursion (λ (u : Table). AllByRecursion (IsPlacedIn (sealed (flushing l s))) u.entries)) (sym new) (
           memtable_placed (sealed (flushing l s)) s (format_there (but_oldest l.frozen) s l.flushed there.1),
@@ -429,10 +437,13 @@ module _ (logs : Logs) (l : Layout) (h : History) (t : IsTidy logs l h) where
   }
     where
       new : tables (flushed l s) ≡ flushed_table l s ∷ tables l
-      new = ap (λ (levels : List (List Table)). flat_map (λ ts. ts) (in_front (flushed_table l s) levels)) are ∙ ap (λ (levels : List (List Table)). flushed_table l s ∷ flat_map (λ ts. ts) levels) (sym are)
+      new =
+          ap (λ (levels : List (List Table)). flat_map (λ ts. ts) (in_front (flushed_table l s) levels)) are
+          ∙ ap (λ (levels : List (List Table)). flushed_table l s ∷ flat_map (λ ts. ts) levels) (sym are)
 
       there : AreDistinct (log_numbers (l.active ∷ (but_oldest l.frozen ++ s ∷ l.flushed)))
-      there = subst (λ (ss : List Segment). AreDistinct (log_numbers (l.active ∷ ss))) (sym (sealed_same l s waits)) t.distinct
+      there =
+          subst (λ (ss : List Segment). AreDistinct (log_numbers (l.active ∷ ss))) (sym (sealed_same l s waits)) t.distinct
 
       still_of : (es : List Entry) → AllByRecursion (IsOf h) es → AllByRecursion (IsOf h) (map placed es)
       still_of [] all = tt

@@ -39,13 +39,15 @@ module _ (l : Layout) (w : IsWellStocked l) where
     where
       front : (b : Bool) → is_in (TableFile n) (map table_of (tables l)) ≡ b
           → is_in (TableFile n) (needed l) ≡ false → is_in (TableFile n) (map table_of (tables l)) ≡ false
-      front true at none = absurd (false≢true (sym none ∙ in_tables (TableFile n) (map table_of (tables l)) (flat_map pointed_logs (tables l)) (map log_of (l.active ∷ l.frozen)) at))
+      front true at none =
+          absurd (false≢true (sym none ∙ in_tables (TableFile n) (map table_of (tables l)) (flat_map pointed_logs (tables l)) (map log_of (l.active ∷ l.frozen)) at))
       front false at none = at
 
   no_input : (inputs : List ℕ) → AreStanding (tables l) inputs → (t : Table)
       → has t.number (lent_numbers l.job) ≡ true → is_among inputs t ≡ false
   no_input [] standing t lent = refl
-  no_input (n ∷ ns) standing t lent = or_false (n == t.number) (is_among ns t) (apart (n == t.number) refl) (no_input ns standing.1 t lent)
+  no_input (n ∷ ns) standing t lent =
+      or_false (n == t.number) (is_among ns t) (apart (n == t.number) refl) (no_input ns standing.1 t lent)
     where
       apart : (b : Bool) → (n == t.number) ≡ b → (n == t.number) ≡ false
       apart true is =
@@ -57,7 +59,8 @@ module _ (l : Layout) (w : IsWellStocked l) where
       → AllByRecursion (λ n. has n (lent_numbers l.job) ≡ true) (numbers_of ts)
       → AllByRecursion (λ (t : Table). is_among inputs t ≡ false) ts
   all_no_input inputs standing [] lent = tt
-  all_no_input inputs standing (t ∷ ts) lent = (no_input inputs standing t lent.0, all_no_input inputs standing ts lent.1)
+  all_no_input inputs standing (t ∷ ts) lent =
+      (no_input inputs standing t lent.0, all_no_input inputs standing ts lent.1)
 
   given_below : (ts : List Table) → AllByRecursion (λ n. has n (lent_numbers l.job) ≡ true) (numbers_of ts)
       → AllByRecursion (λ (t : Table). t.number < l.next_table) ts
@@ -71,7 +74,8 @@ module _ (l : Layout) (w : IsWellStocked l) where
       → is_in f (map table_of ts) ≡ false
   not_made (Log n) off ts lent = tables_only n ts
   not_made (TableFile n) off [] lent = refl
-  not_made (TableFile n) off (t ∷ ts) lent = or_false (n == t.number) (is_in (TableFile n) (map table_of ts)) (apart (n == t.number) refl) (not_made (TableFile n) off ts lent.1)
+  not_made (TableFile n) off (t ∷ ts) lent =
+      or_false (n == t.number) (is_in (TableFile n) (map table_of ts)) (apart (n == t.number) refl) (not_made (TableFile n) off ts lent.1)
     where
       apart : (b : Bool) → (n == t.number) ≡ b → (n == t.number) ≡ false
       apart true is =
@@ -144,7 +148,8 @@ module _ (l : Layout) (w : IsWellStocked l) where
               → (has n (numbers_of us) ≡ false → is_in (TableFile n) (map table_of us) ≡ false)
               → ((n == u.number) || is_in (TableFile n) (map table_of us)) ≡ false
           by_test true is none later = absurd (false≢true (sym none))
-          by_test false is none later = let turned : (n == u.number) ≡ false = grind (arith, nat_tests) in or_false (n == u.number) (is_in (TableFile n) (map table_of us)) turned (later none)
+          by_test false is none later =
+              let turned : (n == u.number) ≡ false = grind (arith, nat_tests) in or_false (n == u.number) (is_in (TableFile n) (map table_of us)) turned (later none)
 
   distinct_back : (ns ms : List ℕ) → AreDistinct (ns ++ ms) → AreDistinct ms
   distinct_back [] ms distinct = distinct
@@ -167,7 +172,8 @@ module _ (l : Layout) (w : IsWellStocked l) where
       → AllByRecursion (PointsDrawn l.next_log) made.tables → IsDistinct (tables l)
       → IsWellStocked (installed job made l)
   well_installed job made are standing footed into below distinct = record {
-    stocked = with_gone (switched (filter (is_among job.inputs) (tables l)) (putting (with_lent l) job made.tables rest)) (gone_after l.gone (needless job)) l.keep l.since
+    stocked =
+        with_gone (switched (filter (is_among job.inputs) (tables l)) (putting (with_lent l) job made.tables rest)) (gone_after l.gone (needless job)) l.keep l.since
         (stocked_put (with_lent l) job made.tables rest w.stocked
         (within (IsUnneeded (needed l)) w.stocked.unneeded)
         (within (λ (r : Retired). IsDrawn l.next_log l.next_table r.file) w.stocked.retired_drawn)
@@ -178,7 +184,8 @@ module _ (l : Layout) (w : IsWellStocked l) where
         (given_below made.tables lent.0)
         (all_no_input job.inputs standing made.tables lent.0)
         footed into);
-    drawn = let d = drawn_put (with_lent l) w.stocked (up l w.drawn) job made.tables rest below in record { points = d.points; pins_drawn = d.pins_drawn };
+    drawn =
+        let d = drawn_put (with_lent l) w.stocked (up l w.drawn) job made.tables rest below in record { points = d.points; pins_drawn = d.pins_drawn };
     lent_once = tt;
     lent_apart = none_lent (installed job made l).retired;
     once = switched_once (put_in job made l) dropped dropped_once (logs_off_loose l w made.leavings);
@@ -214,7 +221,8 @@ module _ (l : Layout) (w : IsWellStocked l) where
               (off_leavings ns are.1)
 
       dropped_once : AreOnce (files_of (put_in job made l).retired ++ map table_of (filter (is_among job.inputs) (tables l)))
-      dropped_once = once_both (files_of (l.retired ++ loose made.leavings)) (map table_of (filter (is_among job.inputs) (tables l)))
+      dropped_once =
+          once_both (files_of (l.retired ++ loose made.leavings)) (map table_of (filter (is_among job.inputs) (tables l)))
           (with_loose l w made.leavings lent.1 (distinct_back (numbers_of made.tables) made.leavings are.distinct))
           (tables_once (filter (is_among job.inputs) (tables l)) (distinct_filtered (is_among job.inputs) (tables l) distinct))
           (inputs_off (filter (is_among job.inputs) (tables l)) (all_filtered (λ (t : Table). list_any (λ (u : Table). t.number == u.number) (tables l) ≡ true) (is_among job.inputs) (tables l) (standing_all (tables l))))

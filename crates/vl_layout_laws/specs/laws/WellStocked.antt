@@ -59,7 +59,8 @@ rejobbed : (l : Layout) (job : Option OpenJob) → job_pin job ≡ job_pin l.job
 rejobbed l job same s = record {
   unneeded = s.unneeded;
   retired_drawn = s.retired_drawn;
-  pinned = subst (λ (ps : List Pin). AllByRecursion (IsPinned l.version_number l.retired) ((map (λ (x : Live). x.pin) l.live ++ ps) ++ pass_pin l.pass)) (sym same) s.pinned;
+  pinned =
+      subst (λ (ps : List Pin). AllByRecursion (IsPinned l.version_number l.retired) ((map (λ (x : Live). x.pin) l.live ++ ps) ++ pass_pin l.pass)) (sym same) s.pinned;
   tables_drawn = s.tables_drawn;
   logs_drawn = s.logs_drawn;
   flushed_drawn = s.flushed_drawn;
@@ -110,16 +111,19 @@ of_lent P lent (m ∷ ms) all are = (one lent all are.0, of_lent P lent ms all a
       where
         by_test : (b : Bool) → (n == m) ≡ b → (b || has m ns) ≡ true
             → (has m ns ≡ true → P (retired_at 0 (TableFile m))) → P (retired_at 0 (TableFile m))
-        by_test true at is later = let same : n ≡ m = grind (arith, nat_tests) in subst (λ (k : ℕ). P (retired_at 0 (TableFile k))) same all.0
+        by_test true at is later =
+            let same : n ≡ m = grind (arith, nat_tests) in subst (λ (k : ℕ). P (retired_at 0 (TableFile k))) same all.0
         by_test false at is later = later is
 
 pub lent_drawn : (l : Layout) → IsWellStocked l
     → AllByRecursion (λ (r : Retired). IsDrawn l.next_log l.next_table r.file) (loose (lent_numbers l.job))
-lent_drawn l w = (all_parts (λ (r : Retired). IsDrawn l.next_log l.next_table r.file) (loose (lent_numbers l.job)) l.retired w.stocked.retired_drawn).0
+lent_drawn l w =
+    (all_parts (λ (r : Retired). IsDrawn l.next_log l.next_table r.file) (loose (lent_numbers l.job)) l.retired w.stocked.retired_drawn).0
 
 pub retired_drawn : (l : Layout) → IsWellStocked l
     → AllByRecursion (λ (r : Retired). IsDrawn l.next_log l.next_table r.file) l.retired
-retired_drawn l w = (all_parts (λ (r : Retired). IsDrawn l.next_log l.next_table r.file) (loose (lent_numbers l.job)) l.retired w.stocked.retired_drawn).1
+retired_drawn l w =
+    (all_parts (λ (r : Retired). IsDrawn l.next_log l.next_table r.file) (loose (lent_numbers l.job)) l.retired w.stocked.retired_drawn).1
 
 module _ (l : Layout) (w : IsWellStocked l) where
   -- ---- what lives, a pass, a frame
@@ -127,7 +131,8 @@ module _ (l : Layout) (w : IsWellStocked l) where
   pub well_begun : (ticket number : ℕ) → IsWellStocked (begun l ticket number)
   well_begun ticket number = record {
     stocked = stocked_begun (with_lent l) w.stocked ticket number;
-    drawn = let d = drawn_begun (with_lent l) w.stocked (up l w.drawn) ticket number in record { points = d.points; pins_drawn = d.pins_drawn };
+    drawn =
+        let d = drawn_begun (with_lent l) w.stocked (up l w.drawn) ticket number in record { points = d.points; pins_drawn = d.pins_drawn };
     lent_once = w.lent_once;
     lent_apart = w.lent_apart;
     once = w.once;
@@ -137,7 +142,8 @@ module _ (l : Layout) (w : IsWellStocked l) where
   pub well_ended : (ticket : ℕ) → IsWellStocked (ended ticket l)
   well_ended ticket = record {
     stocked = stocked_ended (with_lent l) w.stocked ticket;
-    drawn = let d = drawn_ended (with_lent l) w.stocked (up l w.drawn) ticket in record { points = d.points; pins_drawn = d.pins_drawn };
+    drawn =
+        let d = drawn_ended (with_lent l) w.stocked (up l w.drawn) ticket in record { points = d.points; pins_drawn = d.pins_drawn };
     lent_once = w.lent_once;
     lent_apart = w.lent_apart;
     once = w.once;
@@ -147,7 +153,8 @@ module _ (l : Layout) (w : IsWellStocked l) where
   pub well_picked : (segment : ℕ) → IsWellStocked (with_pass segment l)
   well_picked segment = record {
     stocked = stocked_picked (with_lent l) w.stocked segment;
-    drawn = let d = drawn_picked (with_lent l) w.stocked (up l w.drawn) segment in record { points = d.points; pins_drawn = d.pins_drawn };
+    drawn =
+        let d = drawn_picked (with_lent l) w.stocked (up l w.drawn) segment in record { points = d.points; pins_drawn = d.pins_drawn };
     lent_once = w.lent_once;
     lent_apart = w.lent_apart;
     once = w.once;
@@ -157,7 +164,8 @@ module _ (l : Layout) (w : IsWellStocked l) where
   pub well_pass_ended : IsWellStocked (without_pass l)
   well_pass_ended = record {
     stocked = stocked_pass_ended (with_lent l) w.stocked;
-    drawn = let d = drawn_pass_ended (with_lent l) w.stocked (up l w.drawn) in record { points = d.points; pins_drawn = d.pins_drawn };
+    drawn =
+        let d = drawn_pass_ended (with_lent l) w.stocked (up l w.drawn) in record { points = d.points; pins_drawn = d.pins_drawn };
     lent_once = w.lent_once;
     lent_apart = w.lent_apart;
     once = w.once;
@@ -167,7 +175,8 @@ module _ (l : Layout) (w : IsWellStocked l) where
   pub well_logged : (f : LogFrame) → IsWellStocked (logged f l)
   well_logged f = record {
     stocked = stocked_logged (with_lent l) w.stocked f;
-    drawn = let d = drawn_logged (with_lent l) w.stocked (up l w.drawn) f in record { points = d.points; pins_drawn = d.pins_drawn };
+    drawn =
+        let d = drawn_logged (with_lent l) w.stocked (up l w.drawn) f in record { points = d.points; pins_drawn = d.pins_drawn };
     lent_once = w.lent_once;
     lent_apart = w.lent_apart;
     once = w.once;
@@ -189,7 +198,8 @@ module _ (l : Layout) (w : IsWellStocked l) where
   pub well_rotated : IsWellStocked (rotated l)
   well_rotated = record {
     stocked = stocked_rotated (with_lent l) w.stocked;
-    drawn = let d = drawn_rotated (with_lent l) w.stocked (up l w.drawn) in record { points = d.points; pins_drawn = d.pins_drawn };
+    drawn =
+        let d = drawn_rotated (with_lent l) w.stocked (up l w.drawn) in record { points = d.points; pins_drawn = d.pins_drawn };
     lent_once = w.lent_once;
     lent_apart = w.lent_apart;
     once = w.once;
@@ -205,10 +215,13 @@ module _ (l : Layout) (w : IsWellStocked l) where
   well_relocated moved =
       let same = sym (lent_moved (l.version_number + 1) moved l.job) in
       record {
-        stocked = subst (λ (ns : List ℕ). IsStocked (record (relocated l moved) { retired = loose ns ++ l.retired })) same (stocked_relocated (with_lent l) w.stocked moved);
-        drawn = let d = drawn_relocated (with_lent l) w.stocked (up l w.drawn) moved in record { points = d.points; pins_drawn = d.pins_drawn };
+        stocked =
+            subst (λ (ns : List ℕ). IsStocked (record (relocated l moved) { retired = loose ns ++ l.retired })) same (stocked_relocated (with_lent l) w.stocked moved);
+        drawn =
+            let d = drawn_relocated (with_lent l) w.stocked (up l w.drawn) moved in record { points = d.points; pins_drawn = d.pins_drawn };
         lent_once = subst AreDistinct same w.lent_once;
-        lent_apart = subst (λ (ns : List ℕ). AllByRecursion (λ (r : Retired). IsNotLent ns r.file) l.retired) same w.lent_apart;
+        lent_apart =
+            subst (λ (ns : List ℕ). AllByRecursion (λ (r : Retired). IsNotLent ns r.file) l.retired) same w.lent_apart;
         once = w.once;
         flushed_apart = w.flushed_apart;
       }
@@ -253,10 +266,12 @@ module _ (l : Layout) (w : IsWellStocked l) where
 
   pub with_loose : (ns : List ℕ) → AllByRecursion (λ n. has n (lent_numbers l.job) ≡ true) ns
       → AreDistinct ns → AreOnce (files_of (l.retired ++ loose ns))
-  with_loose ns are distinct = subst AreOnce (sym (files-both l.retired (loose ns))) (once_both (files_of l.retired) (files_of (loose ns)) w.once (loose_once ns distinct) (all_lent_off ns are))
+  with_loose ns are distinct =
+      subst AreOnce (sym (files-both l.retired (loose ns))) (once_both (files_of l.retired) (files_of (loose ns)) w.once (loose_once ns distinct) (all_lent_off ns are))
 
   pub logs_off_loose : (ns : List ℕ) → AllByRecursion (IsLogOff (files_of (l.retired ++ loose ns))) l.flushed
-  logs_off_loose ns = subst (λ (fs : List FileName). AllByRecursion (IsLogOff fs) l.flushed) (sym (files-both l.retired (loose ns)))
+  logs_off_loose ns =
+      subst (λ (fs : List FileName). AllByRecursion (IsLogOff fs) l.flushed) (sym (files-both l.retired (loose ns)))
       (all_weaker (IsLogOff (files_of l.retired)) (IsLogOff (files_of l.retired ++ files_of (loose ns))) (λ s off. off_both (log_of s) (files_of l.retired) (files_of (loose ns)) off (log_not_loose s.number ns)) l.flushed w.flushed_apart)
 
   pub well_flushed : (s : Segment) (level : List Table) (deeper : List (List Table))
@@ -266,11 +281,15 @@ module _ (l : Layout) (w : IsWellStocked l) where
     stocked = restocked (flushed (with_lent l) s) (loose (lent_numbers l.job) ++ (flushed l s).retired)
         (stocked_flushed (with_lent l) s level deeper w.stocked waits are)
         (λ P all. subst (AllByRecursion P) (append_assoc (loose (lent_numbers l.job)) l.retired _) all);
-    drawn = let d = drawn_flushed (with_lent l) w.stocked (up l w.drawn) s level deeper waits are in record { points = d.points; pins_drawn = d.pins_drawn };
+    drawn =
+        let d = drawn_flushed (with_lent l) w.stocked (up l w.drawn) s level deeper waits are in record { points = d.points; pins_drawn = d.pins_drawn };
     lent_once = w.lent_once;
-    lent_apart = all_both (λ (r : Retired). IsNotLent (lent_numbers l.job) r.file) l.retired _ w.lent_apart (logs_apart (lent_numbers l.job) (l.version_number + 1) _);
-    once = switched_once (flushing l s) [] (subst AreOnce (sym (nothing_more (files_of l.retired))) w.once) (waiting_off s waits, w.flushed_apart);
-    flushed_apart = switched_apart (flushing l s) [] (subst AreOnce (sym (nothing_more (files_of l.retired))) w.once) (waiting_off s waits, w.flushed_apart);
+    lent_apart =
+        all_both (λ (r : Retired). IsNotLent (lent_numbers l.job) r.file) l.retired _ w.lent_apart (logs_apart (lent_numbers l.job) (l.version_number + 1) _);
+    once =
+        switched_once (flushing l s) [] (subst AreOnce (sym (nothing_more (files_of l.retired))) w.once) (waiting_off s waits, w.flushed_apart);
+    flushed_apart =
+        switched_apart (flushing l s) [] (subst AreOnce (sym (nothing_more (files_of l.retired))) w.once) (waiting_off s waits, w.flushed_apart);
   }
 
   -- ---- a sweep
@@ -282,7 +301,8 @@ module _ (l : Layout) (w : IsWellStocked l) where
         all_both P (loose (lent_numbers l.job)) (without_files gone l).retired both.0 (all_filtered P (λ (r : Retired). not (list_any (is_same r.file) gone)) l.retired both.1));
     drawn = record { points = w.drawn.points; pins_drawn = w.drawn.pins_drawn };
     lent_once = w.lent_once;
-    lent_apart = all_filtered (λ (r : Retired). IsNotLent (lent_numbers l.job) r.file) (λ (r : Retired). not (list_any (is_same r.file) gone)) l.retired w.lent_apart;
+    lent_apart =
+        all_filtered (λ (r : Retired). IsNotLent (lent_numbers l.job) r.file) (λ (r : Retired). not (list_any (is_same r.file) gone)) l.retired w.lent_apart;
     once = once_filtered (λ (r : Retired). not (list_any (is_same r.file) gone)) l.retired w.once;
     flushed_apart = all_weaker (IsLogOff (files_of l.retired)) (IsLogOff (files_of (without_files gone l).retired))
         (λ s off. off_filtered (log_of s) (λ (r : Retired). not (list_any (is_same r.file) gone)) l.retired off) l.flushed w.flushed_apart;
@@ -294,7 +314,8 @@ module _ (l : Layout) (w : IsWellStocked l) where
   well_planned job = record {
     stocked = stocked_planned (record l { retired = l.retired })
         (restocked (with_lent l) l.retired w.stocked (λ P all. (all_parts P (loose (lent_numbers l.job)) l.retired all).1)) job;
-    drawn = let d = drawn_planned (with_lent l) w.stocked (up l w.drawn) job in record { points = d.points; pins_drawn = d.pins_drawn };
+    drawn =
+        let d = drawn_planned (with_lent l) w.stocked (up l w.drawn) job in record { points = d.points; pins_drawn = d.pins_drawn };
     lent_once = tt;
     lent_apart = none_lent l.retired;
     once = w.once;
@@ -343,7 +364,8 @@ module _ (l : Layout) (w : IsWellStocked l) where
       by_test : (b : Bool) → (m == n) ≡ b → (b || has n ms) ≡ false
           → (has n ms ≡ false → AreDistinct (ms ++ n ∷ [])) → AreDistinct (m ∷ (ms ++ n ∷ []))
       by_test true is none later = absurd (false≢true (sym none))
-      by_test false is none later = let apart : (n == m) ≡ false = grind (arith, nat_tests) in (has-more m n ms once.0 apart, later none)
+      by_test false is none later =
+          let apart : (n == m) ≡ false = grind (arith, nat_tests) in (has-more m n ms once.0 apart, later none)
 
   once_lent : (n : ℕ) (o : Option OpenJob) → AreDistinct (lent_numbers o) → has n (lent_numbers o) ≡ false
       → AreDistinct (lent_numbers (lent_to n o))
@@ -354,24 +376,28 @@ module _ (l : Layout) (w : IsWellStocked l) where
       → AllByRecursion (λ (r : Retired). IsNotLent (lent_numbers o) r.file) rs
       → AllByRecursion (λ (r : Retired). IsDrawn next_log n r.file) rs → AllByRecursion (λ (r : Retired). IsNotLent (lent_numbers (lent_to n o)) r.file) rs
   apart_lent next_log n o [] apart given = tt
-  apart_lent next_log n o (r ∷ rs) apart given = (by_file r.file o apart.0 given.0, apart_lent next_log n o rs apart.1 given.1)
+  apart_lent next_log n o (r ∷ rs) apart given =
+      (by_file r.file o apart.0 given.0, apart_lent next_log n o rs apart.1 given.1)
     where
       by_file : (f : FileName) (x : Option OpenJob) → IsNotLent (lent_numbers x) f → IsDrawn next_log n f
           → IsNotLent (lent_numbers (lent_to n x)) f
       by_file (Log m) x apart given = tt
       by_file (TableFile m) None apart given = refl
-      by_file (TableFile m) (Some job) apart given = let no : (n == m) ≡ false = grind (arith, nat_tests, given) in has-more m n job.lent apart no
+      by_file (TableFile m) (Some job) apart given =
+          let no : (n == m) ≡ false = grind (arith, nat_tests, given) in has-more m n job.lent apart no
       by_file (Manifest m) x apart given = tt
 
   pub well_drawn : IsWellStocked (drawn l)
   well_drawn =
       let n = l.next_table in
       record {
-        stocked = rejobbed (record (lending (with_lent l)) { retired = loose (lent_numbers (lent_to n l.job)) ++ l.retired }) (lent_to n l.job) (same_pin n l.job)
+        stocked =
+            rejobbed (record (lending (with_lent l)) { retired = loose (lent_numbers (lent_to n l.job)) ++ l.retired }) (lent_to n l.job) (same_pin n l.job)
             (restocked (lending (with_lent l)) (loose (lent_numbers (lent_to n l.job)) ++ l.retired) (stocked_lent (with_lent l) w.stocked (up l w.drawn)) (one_more n l.retired l.job));
         drawn = let d = drawn_lent (with_lent l) w.stocked (up l w.drawn) in record {
           points = d.points;
-          pins_drawn = subst (λ (ps : List Pin). AllByRecursion (λ (p : Pin). AllByRecursion (IsDrawn l.next_log (n + 1)) p.needs) ((map (λ (x : Live). x.pin) l.live ++ ps) ++ pass_pin l.pass)) (sym (same_pin n l.job)) d.pins_drawn;
+          pins_drawn =
+              subst (λ (ps : List Pin). AllByRecursion (λ (p : Pin). AllByRecursion (IsDrawn l.next_log (n + 1)) p.needs) ((map (λ (x : Live). x.pin) l.live ++ ps) ++ pass_pin l.pass)) (sym (same_pin n l.job)) d.pins_drawn;
         };
         lent_once = once_lent n l.job w.lent_once (not_drawn l.next_log n (lent_numbers l.job) (lent_drawn l w));
         lent_apart = apart_lent l.next_log n l.job l.retired w.lent_apart (retired_drawn l w);
@@ -381,10 +407,12 @@ module _ (l : Layout) (w : IsWellStocked l) where
 
   pub well_job_ended : (made : Made) → AreLent (lent_numbers l.job) made → IsWellStocked (job_ended made l)
   well_job_ended made are = record {
-    stocked = restocked (record (with_lent l) { job = None }) (job_ended made l).retired (stocked_freed (with_lent l) w.stocked)
+    stocked =
+        restocked (record (with_lent l) { job = None }) (job_ended made l).retired (stocked_freed (with_lent l) w.stocked)
         (λ P all. let both = all_parts P (loose (lent_numbers l.job)) l.retired all in
         all_both P l.retired (loose (numbers_of made.tables ++ made.leavings)) both.1 (of_lent P (lent_numbers l.job) (numbers_of made.tables ++ made.leavings) both.0 are.drawn));
-    drawn = let d = drawn_freed (with_lent l) w.stocked (up l w.drawn) in record { points = d.points; pins_drawn = d.pins_drawn };
+    drawn =
+        let d = drawn_freed (with_lent l) w.stocked (up l w.drawn) in record { points = d.points; pins_drawn = d.pins_drawn };
     lent_once = tt;
     lent_apart = none_lent (job_ended made l).retired;
     once = with_loose (numbers_of made.tables ++ made.leavings) are.drawn are.distinct;
