@@ -84,7 +84,8 @@ module _ (n : ℕ) (A B : List Table) (distinct_A : IsDistinct A) (distinct_B : 
               → meets (range_of (due_inputs n A)) t ≡ true
           here input =
               let V : Table → Type 0 = λ x. x.number ≡ t.number → meets (range_of (due_inputs n A)) t ≡ true in
-              let left : AllByRecursion V (due_inputs n A) = weaker (λ (x : Table). x.number ≢ t.number) V (λ x apart same. absurd (apart same)) (due_inputs n A) (all_given (λ (x : Table). x.number ≢ t.number) n A off.0) in
+              let left : AllByRecursion V (due_inputs n A) =
+              weaker (λ (x : Table). x.number ≢ t.number) V (λ x apart same. absurd (apart same)) (due_inputs n A) (all_given (λ (x : Table). x.number ≢ t.number) n A off.0) in
               let right : AllByRecursion V (filter (meets (range_of (due_inputs n A))) B) = weaker (λ (x : Table). (meets (range_of (due_inputs n A)) x ≡ true) × (x.number ≡ t.number → x ≡ t)) V
               (λ x both same. subst (λ (y : Table). meets (range_of (due_inputs n A)) y ≡ true) (both.1 same) both.0) (filter (meets (range_of (due_inputs n A))) B)
               (passed (λ (x : Table). x.number ≡ t.number → x ≡ t) (meets (range_of (due_inputs n A))) B uniq.0) in
@@ -192,7 +193,8 @@ module _ (n : ℕ) (A B : List Table) (distinct_A : IsDistinct A) (distinct_B : 
       each [] m pairs wide = tt
       each (u ∷ us) m pairs wide = (
         (λ out.
-            let missed : meets (Some range) u ≡ false = is_out (meets (Some range) u) (λ at. true_false (sym (m.0 at) ∙ out)) in
+            let missed : meets (Some range) u ≡ false =
+            is_out (meets (Some range) u) (λ at. true_false (sym (m.0 at) ∙ out)) in
             ⊎_elim
             (λ (low : is_lt (key_cmp u.last range.0) ≡ true). inl (above_first u.last low A inside ranged_A, above_second u wide.0 out low B pairs.0 meet ranged_B))
             (λ (high : is_lt (key_cmp range.1 u.first) ≡ true). inr (below_first u.first high A inside ranged_A, below_second u wide.0 out high B pairs.0 meet ranged_B))

@@ -119,7 +119,8 @@ one_fits : (count bytes : ℕ) (c : Candidate) (cs : List Candidate) → count +
     → Fits count bytes (c ∷ cs)
 one_fits count bytes c cs few small (inl none) = inr (
   let one : length (c ∷ cs) ≡ 1 = ap (λ (l : List Candidate). length (c ∷ l)) none in omega (arith, one, few),
-  let same : value_lengths (c ∷ cs) ≡ value_lengths (c ∷ []) = ap (λ (l : List Candidate). value_lengths (c ∷ l)) none in
+  let same : value_lengths (c ∷ cs) ≡ value_lengths (c ∷ []) =
+      ap (λ (l : List Candidate). value_lengths (c ∷ l)) none in
       omega (arith, same, small),
 )
 one_fits count bytes c cs few small (inr fits) = inr (

@@ -194,7 +194,9 @@ module _ (l : Layout) (s : IsStocked l) (d : IsDrawnWhole l) where
   drawn_flushed x level deeper waits are = record {
     points =
         let t = flushed_table l x in
-        let new : flat_map (λ ts. ts) (in_front t l.levels) ≡ t ∷ tables l = ap (λ (levels : List (List Table)). flat_map (λ ts. ts) (in_front t levels)) are ∙ ap (λ (levels : List (List Table)). t ∷ flat_map (λ ts. ts) levels) (sym are) in
+        let new : flat_map (λ ts. ts) (in_front t l.levels) ≡ t ∷ tables l =
+        ap (λ (levels : List (List Table)). flat_map (λ ts. ts) (in_front t levels)) are
+        ∙ ap (λ (levels : List (List Table)). t ∷ flat_map (λ ts. ts) levels) (sym are) in
         subst (AllByRecursion (PointsDrawn l.next_log)) (sym new)
         (below_points l.next_log (map placed (memtable x)) (all_placed_below l.next_log x.number (of_oldest l.frozen x waits s.logs_drawn.1) (memtable x) (own_memtable x)), d.points);
     pins_drawn =

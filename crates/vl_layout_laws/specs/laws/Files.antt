@@ -227,7 +227,8 @@ module _ (segment : ℕ) where
       → leads segment ps ≡ false
   none_pointed [] some none = refl
   none_pointed (p ∷ ps) some none =
-      let all : (if p.segment == segment then p.bytes else 0) + pointed_bytes segment ps ≡ 0 = sym (sum_by-cons (λ (q : Point). if q.segment == segment then q.bytes else 0) p ps) ∙ none in
+      let all : (if p.segment == segment then p.bytes else 0) + pointed_bytes segment ps ≡ 0 =
+      sym (sum_by-cons (λ (q : Point). if q.segment == segment then q.bytes else 0) p ps) ∙ none in
       let later : pointed_bytes segment ps ≡ 0 = omega (arith, all) in
       let here : (if p.segment == segment then p.bytes else 0) ≡ 0 = omega (arith, all) in
       neither (segment == p.segment) (leads segment ps) (by_test (p.segment == segment) refl here) (none_pointed ps some.1 later)
@@ -242,7 +243,8 @@ module _ (segment : ℕ) where
       → list_any (λ (t : Table). leads segment t.points) ts ≡ false
   none_live [] footed none = refl
   none_live (t ∷ ts) footed none =
-      let all : pointed_bytes segment t.points + live_bytes ts segment ≡ 0 = sym (sum_by-cons (λ (u : Table). pointed_bytes segment u.points) t ts) ∙ none in
+      let all : pointed_bytes segment t.points + live_bytes ts segment ≡ 0 =
+      sym (sum_by-cons (λ (u : Table). pointed_bytes segment u.points) t ts) ∙ none in
       let later : live_bytes ts segment ≡ 0 = omega (arith, all) in
       let here : pointed_bytes segment t.points ≡ 0 = omega (arith, all) in
       neither (leads segment t.points) (list_any (λ (u : Table). leads segment u.points) ts)

@@ -61,7 +61,8 @@ module _ (keep : ℕ) (I O : List Entry) (floor : ℕ) (inputs : List ℕ) where
   rest_of ps (s ∷ ss) = rest_of (rest_preceded s.0 ps) ss
 
   pub marked-append : (ps : List Preceded) (ss ts : List Sourced)
-      → marked_by keep I O floor ps (ss ++ ts) ≡ marked_by keep I O floor ps ss ++ marked_by keep I O floor (rest_of ps ss) ts
+      → marked_by keep I O floor ps (ss ++ ts)
+      ≡ marked_by keep I O floor ps ss ++ marked_by keep I O floor (rest_of ps ss) ts
   marked-append ps [] ts = refl
   marked-append ps (s ∷ ss) ts =
       ap (λ (ms : List Marked). head_mark keep I O floor s.0 ps s.1 ∷ ms) (marked-append (rest_preceded s.0 ps) ss ts)
@@ -101,7 +102,8 @@ module _ (keep : ℕ) (I O : List Entry) (floor : ℕ) (inputs : List ℕ) where
 
   -- of an input what is left is what is kept
   input_left : (ps : List Preceded) (es : List Entry)
-      → kept_inputs (marked_by keep I O floor ps (marked_as true es)) ≡ kept_of (marked_by keep I O floor ps (marked_as true es))
+      → kept_inputs (marked_by keep I O floor ps (marked_as true es))
+      ≡ kept_of (marked_by keep I O floor ps (marked_as true es))
   input_left ps [] = refl
   input_left [] (e ∷ es) = ap (λ xs. e ∷ xs) (input_left [] es)
   input_left (p ∷ ps) (e ∷ es) = ap (if_so (not (drops_at keep I O floor p)) e) (input_left ps es)
@@ -267,7 +269,9 @@ module _ (keep : ℕ) (I O : List Entry) (floor : ℕ) (inputs : List ℕ) where
             let L = kept_of (marked_by keep I O floor ps (marked_as true t.entries)) in
             let N = of_key key (all_entries (without inputs ts)) in
             let K = of_key key (kept_level rest ts) in
-            let start : of_key key (L ++ left_level rest ts) ≡ of_key key L ++ (N ++ K) = of-append key L (left_level rest ts) ∙ ap (λ (xs : List Entry). of_key key L ++ xs) (later true) in
+            let start : of_key key (L ++ left_level rest ts) ≡ of_key key L ++ (N ++ K) =
+            of-append key L (left_level rest ts)
+            ∙ ap (λ (xs : List Entry). of_key key L ++ xs) (later true) in
             let middle : of_key key L ++ (N ++ K) ≡ N ++ (of_key key L ++ K) = ⊎_elim
             (λ (out : IsWithout key t.entries). let none = of_none key L (left_without key ps true t.entries out) in ap (λ (xs : List Entry). xs ++ (N ++ K)) none ∙ ap (λ (xs : List Entry). N ++ (xs ++ K)) (sym none))
             (λ (clear : IsClear ts). let none : N ≡ [] = of_none key (all_entries (without inputs ts)) (clear_without ts clear) in ap (λ (xs : List Entry). of_key key L ++ (xs ++ K)) none ∙ ap (λ (xs : List Entry). xs ++ (of_key key L ++ K)) (sym none))
@@ -300,7 +304,8 @@ module _ (keep : ℕ) (I O : List Entry) (floor : ℕ) (inputs : List ℕ) where
 
           by : (b : Bool)
               → of_key key (all_entries (in_key_order new ts)) ≡ of_key key out ++ of_key key (all_entries ts)
-              → of_key key (all_entries (cond b (t ∷ in_key_order new ts) (new ++ t ∷ ts))) ≡ of_key key out ++ of_key key (t.entries ++ all_entries ts)
+              → of_key key (all_entries (cond b (t ∷ in_key_order new ts) (new ++ t ∷ ts)))
+              ≡ of_key key out ++ of_key key (t.entries ++ all_entries ts)
           by true later =
               of-append key t.entries (all_entries (in_key_order new ts))
               ∙ ap (λ (xs : List Entry). of_key key t.entries ++ xs) later
@@ -387,7 +392,8 @@ module _ (keep : ℕ) (I O : List Entry) (floor : ℕ) (inputs : List ℕ) where
           (λ (u : IsUntouched first × IsUntouched second).
           let k0 : k ≡ [] = of_none key (kept_level ps first) (untouched_kept ps first u.0) in
           let j0 : j ≡ [] = of_none key (kept_level qs second) (untouched_kept qs second u.1) in
-          let K0 : of_key key (kept_level ps (first ++ (second ++ D))) ≡ [] = kepts ∙ ap (λ (xs : List Entry). xs ++ j) k0 ∙ j0 in
+          let K0 : of_key key (kept_level ps (first ++ (second ++ D))) ≡ [] =
+          kepts ∙ ap (λ (xs : List Entry). xs ++ j) k0 ∙ j0 in
           let out0 : IsWithout key out = gone (back (kept_level ps (first ++ (second ++ D))) K0) in
           let o0 : o ≡ [] = of_none key out out0 in
           record {
@@ -444,7 +450,10 @@ module _ (keep : ℕ) (I O : List Entry) (floor : ℕ) (inputs : List ℕ) where
       levels_placed n (first ∷ second ∷ deeper) ps (inr there) gone =
           let rest = flat_map (λ ts. ts) (second ∷ deeper) in
           let idle = there.1.0 in
-          let same : kept_level ps (first ++ rest) ≡ kept_level ps rest = kept-append ps first rest ∙ ap (λ (xs : List Entry). xs ++ kept_level (rest_level ps first) rest) (idle_kept ps first idle) ∙ ap (λ (qs : List Preceded). kept_level qs rest) (idle_rest ps first idle) in
+          let same : kept_level ps (first ++ rest) ≡ kept_level ps rest =
+          kept-append ps first rest
+          ∙ ap (λ (xs : List Entry). xs ++ kept_level (rest_level ps first) rest) (idle_kept ps first idle)
+          ∙ ap (λ (qs : List Preceded). kept_level qs rest) (idle_rest ps first idle) in
           let later = levels_placed (n - 1) (second ∷ deeper) ps there.1.1 (λ none. gone (subst (IsWithout key) (sym same) none)) in
           let X = of_key key (all_entries first) in
           let not_first : (n == 0) ≡ false = let above = there.0 in grind (arith, nat_tests) in

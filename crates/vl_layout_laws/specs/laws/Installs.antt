@@ -49,7 +49,8 @@ module _ (keep : ℕ) (I O : List Entry) (floor : ℕ) where
   kept_then newer (s ∷ ss) = by s.0 (kept_then (s.1 ∷ newer) ss)
     where
       by : (b : Bool) → kept_from keep I O floor (s.1 ∷ newer) ss ≡ kept_places (preceded (s.1 ∷ newer) ss)
-          → if_so (b && not (is_dropped keep I O floor newer s.1)) s.1 (kept_from keep I O floor (s.1 ∷ newer) ss) ≡ kept_places (preceded_if b s.1 newer (preceded (s.1 ∷ newer) ss))
+          → if_so (b && not (is_dropped keep I O floor newer s.1)) s.1 (kept_from keep I O floor (s.1 ∷ newer) ss)
+          ≡ kept_places (preceded_if b s.1 newer (preceded (s.1 ∷ newer) ss))
       by true later = ap (if_so (not (is_dropped keep I O floor newer s.1)) s.1) later
       by false later = later
 
@@ -64,7 +65,8 @@ module _ (keep : ℕ) (I O : List Entry) (floor : ℕ) where
       by : (b : Bool) (qs : List Preceded)
           → AllZip IsStillBehind qs (preceded_if b s.1 newer (preceded (s.1 ∷ newer) ss))
           → ((rs : List Preceded) → AllZip IsStillBehind rs (preceded (s.1 ∷ newer) ss) → kept_inputs (marked_by keep I O floor rs ss) ≡ kept_places rs)
-          → if_so ((head_mark keep I O floor b qs s.1).input && (head_mark keep I O floor b qs s.1).kept) (head_mark keep I O floor b qs s.1).entry (kept_inputs (marked_by keep I O floor (rest_preceded b qs) ss)) ≡ kept_places qs
+          → if_so ((head_mark keep I O floor b qs s.1).input && (head_mark keep I O floor b qs s.1).kept) (head_mark keep I O floor b qs s.1).entry (kept_inputs (marked_by keep I O floor (rest_preceded b qs) ss))
+          ≡ kept_places qs
       by false qs zip later = later qs zip
       by true [] zip later = absurd zip
       by true (q ∷ qs) zip later =
@@ -176,7 +178,8 @@ module _ (l : Layout) (job : Job) (moved : List Named) (k : IsKeptFor job moved 
       ∙ ap (λ (us : List Table). t ∷ us) (idle_swap ts idle.1)
 
   swapped : (xs : List Table) (t : Table) (ys : List Table)
-      → IsIdle job.keep (inputs_of job.base) (outside_of job.base) job.floor job.inputs xs → is_among job.inputs t ≡ true
+      → IsIdle job.keep (inputs_of job.base) (outside_of job.base) job.floor job.inputs xs → is_among job.inputs t
+      ≡ true
       → IsIdle job.keep (inputs_of job.base) (outside_of job.base) job.floor job.inputs ys
       → flat_map (λ u. if is_among job.inputs u then made.tables else u ∷ []) (xs ++ t ∷ ys) ≡ xs ++ (made.tables ++ ys)
   swapped [] t ys before is after =
@@ -199,7 +202,8 @@ module _ (l : Layout) (job : Job) (moved : List Named) (k : IsKeptFor job moved 
       let ys = fit.2 in
       let I = inputs_of job.base in
       let O = outside_of job.base in
-      let P : List Table → List Entry → Type 0 = λ ts after. IsPlaced job.keep I O job.floor job.inputs key made.tables (merged_entries job) (made_entries job made all) (left_level job.keep I O job.floor job.inputs (preceded [] job.base) ts) (kept_level job.keep I O job.floor job.inputs (preceded [] job.base) ts) after in
+      let P : List Table → List Entry → Type 0 =
+      λ ts after. IsPlaced job.keep I O job.floor job.inputs key made.tables (merged_entries job) (made_entries job made all) (left_level job.keep I O job.floor job.inputs (preceded [] job.base) ts) (kept_level job.keep I O job.floor job.inputs (preceded [] job.base) ts) after in
       let there : P (xs ++ t ∷ ys) (all_entries (xs ++ (made.tables ++ ys))) =
       in_place_placed job.keep I O job.floor job.inputs key made.tables (merged_entries job) (made_entries job made all) xs t ys (preceded [] job.base) fit.4.0 fit.4.1.0 fit.4.1.1 in
       let same : flat_map (λ ts. ts) (replaced InPlace job.inputs made.tables l.levels) ≡ xs ++ (made.tables ++ ys) =
@@ -210,7 +214,8 @@ module _ (l : Layout) (job : Job) (moved : List Named) (k : IsKeptFor job moved 
       (subst (λ (ts : List Table). P (xs ++ t ∷ ys) (all_entries ts)) (sym same) there)
 
   pub installed_shows : (logs : Logs) (h : History) (from : List ℕ → ℕ) (to : ℕ) → IsFit job.target
-      → ((key : List ℕ) (number : ℕ) → from key ≤ number → IsPast job.keep (inputs_of job.base) job.floor key number) → race job moved ≡ None
+      → ((key : List ℕ) (number : ℕ) → from key ≤ number → IsPast job.keep (inputs_of job.base) job.floor key number) → race job moved
+      ≡ None
       → Shows logs (sources l) h from to → Shows logs (sources (installed job made l)) h from to
   installed_shows logs h from to fit past none shows =
       let now = sourced l job.inputs in

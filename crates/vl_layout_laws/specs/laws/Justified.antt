@@ -131,12 +131,14 @@ inputs_by_places newer (s ∷ ss) = by_test s.0 (inputs_by_places (s.1 ∷ newer
   where
     by_test : (b : Bool)
         → Rattle.std.proofs.Common.map (λ (p : Preceded). p.entry) (preceded (s.1 ∷ newer) ss) ≡ inputs_of ss
-        → Rattle.std.proofs.Common.map (λ (p : Preceded). p.entry) (preceded_if b s.1 newer (preceded (s.1 ∷ newer) ss)) ≡ if_so b s.1 (inputs_of ss)
+        → Rattle.std.proofs.Common.map (λ (p : Preceded). p.entry) (preceded_if b s.1 newer (preceded (s.1 ∷ newer) ss))
+        ≡ if_so b s.1 (inputs_of ss)
     by_test true later = ap (λ (es : List Entry). s.1 ∷ es) later
     by_test false later = later
 
 same_entries : (ps qs : List Preceded) → AllZip IsStillBehind ps qs
-    → Rattle.std.proofs.Common.map (λ (p : Preceded). p.entry) qs ≡ Rattle.std.proofs.Common.map (λ (p : Preceded). p.entry) ps
+    → Rattle.std.proofs.Common.map (λ (p : Preceded). p.entry) qs
+    ≡ Rattle.std.proofs.Common.map (λ (p : Preceded). p.entry) ps
 same_entries [] [] zip = refl
 same_entries [] (q ∷ qs) zip = absurd zip
 same_entries (p ∷ ps) [] zip = absurd zip
@@ -283,7 +285,8 @@ module _ (keep : ℕ) (inputs outside now : List Entry) (floor : ℕ) (moved : L
 
 -- Where nothing raced, what a kept job leaves of the sources shows what they show.
 pub marks_shown : (logs : Logs) (job : Job) (moved : List Named) (now : List Sourced) (h : History) (from : List ℕ → ℕ) (to : ℕ)
-    → ((key : List ℕ) (number : ℕ) → from key ≤ number → IsPast job.keep (inputs_of job.base) job.floor key number) → IsKeptFor job moved now → race job moved ≡ None
+    → ((key : List ℕ) (number : ℕ) → from key ≤ number → IsPast job.keep (inputs_of job.base) job.floor key number) → IsKeptFor job moved now → race job moved
+    ≡ None
     → Shows logs (plain now) h from to → Shows logs (kept_of (marks_now job now)) h from to
 marks_shown logs job moved now h from to past k none shows =
     let I = inputs_of job.base in
@@ -292,7 +295,8 @@ marks_shown logs job moved now h from to past k none shows =
     let ms = marks_now job now in
     let justified : AreJustified job.keep I (outside_of now) job.floor [] ms =
     justified_from job.keep I O (outside_of now) job.floor moved k.outside [] ps now k.inputs (race_frees job moved none) in
-    let same : I ≡ marked_inputs ms = sym (same_inputs job moved now k) ∙ sym (inputs_of-marked job.keep I O job.floor ps now) in
+    let same : I ≡ marked_inputs ms =
+    sym (same_inputs job moved now k) ∙ sym (inputs_of-marked job.keep I O job.floor ps now) in
     shows_installed job.keep logs ms job.floor h from to (λ key number low. subst (λ (es : List Entry). IsPast job.keep es job.floor key number) same (past key number low))
     (subst (λ (es : List Entry). AreJustified job.keep es (marked_outside ms) job.floor [] ms) same
     (subst (λ (es : List Entry). AreJustified job.keep I es job.floor [] ms) (sym (outside_of-marked job.keep I O job.floor ps now)) justified))

@@ -290,7 +290,8 @@ module _ (l : Layout) (h : History) (job : Job) (moved : List Named) (k : IsOpen
       ∙ ap (λ (ys : List Table). x ∷ ys) (swap_idle xs idle.1)
 
   flat_swapped : (levels : List (List Table))
-      → flat (map (flat_map (λ t. cond (is_among job.inputs t) made.tables (t ∷ []))) levels) ≡ flat_map (λ t. cond (is_among job.inputs t) made.tables (t ∷ [])) (flat levels)
+      → flat (map (flat_map (λ t. cond (is_among job.inputs t) made.tables (t ∷ []))) levels)
+      ≡ flat_map (λ t. cond (is_among job.inputs t) made.tables (t ∷ [])) (flat levels)
   flat_swapped [] = refl
   flat_swapped (ts ∷ deeper) =
       ap (λ (us : List Table). flat_map (λ t. cond (is_among job.inputs t) made.tables (t ∷ [])) ts ++ us) (flat_swapped deeper)

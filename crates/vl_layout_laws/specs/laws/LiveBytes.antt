@@ -43,7 +43,8 @@ module _ (segment : ℕ) where
 
   pub live-flushed : (l : Layout) (s : Segment) (level : List Table) (deeper : List (List Table))
       → l.levels ≡ level ∷ deeper
-      → live_bytes (tables (flushed l s)) segment ≡ pointed_bytes segment (flushed_table l s).points + live_bytes (tables l) segment
+      → live_bytes (tables (flushed l s)) segment
+      ≡ pointed_bytes segment (flushed_table l s).points + live_bytes (tables l) segment
   live-flushed l s level deeper are =
       ap (λ (levels : List (List Table)). live_bytes (flat_map (λ ts. ts) (in_front (flushed_table l s) levels)) segment) are
       ∙ live-cons (flushed_table l s) (flat_map (λ ts. ts) (level ∷ deeper))
@@ -62,7 +63,8 @@ module _ (segment : ℕ) where
         ]
 
     live-without : (ts : List Table)
-        → live_bytes (without inputs ts) segment + live_bytes (filter (is_among inputs) ts) segment ≡ live_bytes ts segment
+        → live_bytes (without inputs ts) segment + live_bytes (filter (is_among inputs) ts) segment
+        ≡ live_bytes ts segment
     live-without [] = refl
     live-without (t ∷ ts) =
         let later = live-without ts in
@@ -81,7 +83,8 @@ module _ (segment : ℕ) where
     ]
 
     live-levels_without : (levels : List (List Table))
-        → live_bytes (flat_map (λ ts. ts) (map (without inputs) levels)) segment + live_bytes (filter (is_among inputs) (flat_map (λ ts. ts) levels)) segment ≡ live_bytes (flat_map (λ ts. ts) levels) segment
+        → live_bytes (flat_map (λ ts. ts) (map (without inputs) levels)) segment + live_bytes (filter (is_among inputs) (flat_map (λ ts. ts) levels)) segment
+        ≡ live_bytes (flat_map (λ ts. ts) levels) segment
     live-levels_without [] = refl
     live-levels_without (ts ∷ deeper) =
         let later = live-levels_without deeper in
@@ -93,14 +96,16 @@ module _ (segment : ℕ) where
         omega (arith, later, here, a, b, c, d)
 
     live-at_level : (n : ℕ) (levels : List (List Table)) → n < length levels
-        → live_bytes (flat_map (λ ts. ts) (at_level n (in_key_order new) levels)) segment ≡ live_bytes new segment + live_bytes (flat_map (λ ts. ts) levels) segment
+        → live_bytes (flat_map (λ ts. ts) (at_level n (in_key_order new) levels)) segment
+        ≡ live_bytes new segment + live_bytes (flat_map (λ ts. ts) levels) segment
     live-at_level n [] within = absurd (omega (arith, within))
     live-at_level n (ts ∷ deeper) within =
         by_test (n == 0) refl (λ less. live-at_level (n - 1) deeper less)
       where
         by_test : (b : Bool) → (n == 0) ≡ b
             → (n - 1 < length deeper → live_bytes (flat_map (λ xs. xs) (at_level (n - 1) (in_key_order new) deeper)) segment ≡ live_bytes new segment + live_bytes (flat_map (λ xs. xs) deeper) segment)
-            → live_bytes (flat_map (λ xs. xs) (cond b (in_key_order new ts ∷ deeper) (ts ∷ at_level (n - 1) (in_key_order new) deeper))) segment ≡ live_bytes new segment + live_bytes (flat_map (λ xs. xs) (ts ∷ deeper)) segment
+            → live_bytes (flat_map (λ xs. xs) (cond b (in_key_order new ts ∷ deeper) (ts ∷ at_level (n - 1) (in_key_order new) deeper))) segment
+            ≡ live_bytes new segment + live_bytes (flat_map (λ xs. xs) (ts ∷ deeper)) segment
         by_test true is later =
             let a = live-append (in_key_order new ts) (flat_map (λ xs. xs) deeper) in
             let b = live-append ts (flat_map (λ xs. xs) deeper) in
@@ -117,7 +122,8 @@ module _ (segment : ℕ) where
 
     -- in place of each input all new tables stand: so of one input it is right, and of several not
     live-in_place : (ts : List Table)
-        → live_bytes (flat_map (λ t. cond (is_among inputs t) new (t ∷ [])) ts) segment + live_bytes (filter (is_among inputs) ts) segment ≡ length (filter (is_among inputs) ts) * live_bytes new segment + live_bytes ts segment
+        → live_bytes (flat_map (λ t. cond (is_among inputs t) new (t ∷ [])) ts) segment + live_bytes (filter (is_among inputs) ts) segment
+        ≡ length (filter (is_among inputs) ts) * live_bytes new segment + live_bytes ts segment
     live-in_place [] = nothing
     live-in_place (t ∷ ts) =
         let later = live-in_place ts in
@@ -153,8 +159,12 @@ module _ (segment : ℕ) where
         let b = live-append ts (flat_map (λ xs. xs) deeper) in
         let c = live-append F G in
         let d = ap (λ (xs : List Table). live_bytes xs segment) (filter-append ts (flat_map (λ xs. xs) deeper)) in
-        let e : length (filter (is_among inputs) (ts ++ flat_map (λ xs. xs) deeper)) ≡ length F + length G = ap (λ (xs : List Table). length xs) (filter-append ts (flat_map (λ xs. xs) deeper)) ∙ length-append' F G in
-        let f : length (filter (is_among inputs) (ts ++ flat_map (λ xs. xs) deeper)) * live_bytes new segment ≡ length F * live_bytes new segment + length G * live_bytes new segment = ap (λ (n : ℕ). n * live_bytes new segment) e ∙ times_more (length F) (length G) (live_bytes new segment) in
+        let e : length (filter (is_among inputs) (ts ++ flat_map (λ xs. xs) deeper)) ≡ length F + length G =
+        ap (λ (xs : List Table). length xs) (filter-append ts (flat_map (λ xs. xs) deeper))
+        ∙ length-append' F G in
+        let f : length (filter (is_among inputs) (ts ++ flat_map (λ xs. xs) deeper)) * live_bytes new segment ≡ length F * live_bytes new segment + length G * live_bytes new segment =
+        ap (λ (n : ℕ). n * live_bytes new segment) e
+        ∙ times_more (length F) (length G) (live_bytes new segment) in
         omega (arith, later, here, a, b, c, d, f)
 
   -- What a switch of a merge adds and drops: for a level that there is, or for one input that stands once.
@@ -181,7 +191,8 @@ module _ (segment : ℕ) where
       let new = made.tables in
       let same = ap (λ target. live_bytes (flat_map (λ ts. ts) (replaced target job.inputs new l.levels)) segment) is in
       let b = live-levels_in_place job.inputs new l.levels in
-      let c : length (filter (is_among job.inputs) (tables l)) * live_bytes new segment ≡ live_bytes new segment = ap (λ (n : ℕ). n * live_bytes new segment) one ∙ omega arith in
+      let c : length (filter (is_among job.inputs) (tables l)) * live_bytes new segment ≡ live_bytes new segment =
+      ap (λ (n : ℕ). n * live_bytes new segment) one ∙ omega arith in
       omega (arith, same, b, c)
 
   -- nothing else changes them
@@ -228,7 +239,8 @@ module _ (segment : ℕ) where
             let front = point-cons (record { segment = p.segment; bytes = p.bytes + bytes }) ps in
             let back = point-cons p ps in
             let both = more (p.segment == segment) p.bytes bytes in
-            let here : (if to == segment then bytes else 0) ≡ (if p.segment == segment then bytes else 0) = ap (λ (s : ℕ). if s == segment then bytes else 0) same in
+            let here : (if to == segment then bytes else 0) ≡ (if p.segment == segment then bytes else 0) =
+            ap (λ (s : ℕ). if s == segment then bytes else 0) same in
             omega (arith, front, back, both, here)
         | Greater ↦ λ is.
             let front = point-cons p (pointed to bytes ps) in

@@ -149,13 +149,15 @@ module _ (segment last : ℕ) (es : List Entry) where
 
       first : is_moved es segment last c ≡ true
           → (eq_by_cmp key_cmp key c.moved.key && (c.moved.version == version)) ≡ true
-          → list_any (λ (m : Moved). eq_by_cmp key_cmp key m.key && (m.version == version)) (moved_of es segment last (c ∷ cs)) ≡ true
+          → list_any (λ (m : Moved). eq_by_cmp key_cmp key m.key && (m.version == version)) (moved_of es segment last (c ∷ cs))
+          ≡ true
       first moves at =
           ap (λ b. list_any (λ (m : Moved). eq_by_cmp key_cmp key m.key && (m.version == version)) (map (λ (x : Candidate). x.moved) (cond b (c ∷ filter (is_moved es segment last) cs) (filter (is_moved es segment last) cs)))) moves
           ∙ ap (λ b. b || list_any (λ (m : Moved). eq_by_cmp key_cmp key m.key && (m.version == version)) (moved_of es segment last cs)) at
 
       more : list_any (λ (m : Moved). eq_by_cmp key_cmp key m.key && (m.version == version)) (moved_of es segment last cs) ≡ true
-          → list_any (λ (m : Moved). eq_by_cmp key_cmp key m.key && (m.version == version)) (moved_of es segment last (c ∷ cs)) ≡ true
+          → list_any (λ (m : Moved). eq_by_cmp key_cmp key m.key && (m.version == version)) (moved_of es segment last (c ∷ cs))
+          ≡ true
       more there = elim (is_moved es segment last c) as (λ b. list_any (λ (m : Moved). eq_by_cmp key_cmp key m.key && (m.version == version)) (map (λ (x : Candidate). x.moved) (cond b (c ∷ filter (is_moved es segment last) cs) (filter (is_moved es segment last) cs))) ≡ true) [
         | true ↦ or_right (eq_by_cmp key_cmp key c.moved.key && (c.moved.version == version)) (list_any (λ (m : Moved). eq_by_cmp key_cmp key m.key && (m.version == version)) (moved_of es segment last cs)) there
         | false ↦ there
@@ -174,7 +176,8 @@ module _ (segment last : ℕ) (es : List Entry) where
       later (x ∷ xs) all = ((λ moves at. more (all.0 moves at)), later xs all.1)
 
   any_recorded : (format : ℕ) (key : List ℕ) (version number place : ℕ) (ms : List Moved)
-      → list_any (is_at key version) (map (record_entry format number) (relocated_records format place ms)) ≡ list_any (λ (m : Moved). eq_by_cmp key_cmp key m.key && (m.version == version)) ms
+      → list_any (is_at key version) (map (record_entry format number) (relocated_records format place ms))
+      ≡ list_any (λ (m : Moved). eq_by_cmp key_cmp key m.key && (m.version == version)) ms
   any_recorded format key version number place [] = refl
   any_recorded format key version number place (m ∷ ms) =
       ap (λ b. (eq_by_cmp key_cmp key m.key && (m.version == version)) || b) (any_recorded format key version number (place + moved_length format m) ms)
@@ -194,9 +197,11 @@ module _ (segment last : ℕ) (l : Layout) (batch : List Candidate) where
       → IsSettled segment (sources (relocated l (moved_of (sources l) segment last batch))) c
   one_settled c added_if low = is_not (wins_exactly (sources (relocated l (moved_of (sources l) segment last batch))) segment c.moved.key c.moved.version c.place) (λ wins.
       let f = Relocated (moved_of (sources l) segment last batch) in
-      let before : wins_exactly (sources l) segment c.moved.key c.moved.version c.place ≡ true = shrinks_logged segment l f c.moved.key c.moved.version c.place wins in
+      let before : wins_exactly (sources l) segment c.moved.key c.moved.version c.place ≡ true =
+      shrinks_logged segment l f c.moved.key c.moved.version c.place wins in
       let le : nat_le c.moved.version last ≡ true = grind (arith, nat_tests) in
-      let moves : is_moved (sources l) segment last c ≡ true = and_from (wins_exactly (sources l) segment c.moved.key c.moved.version c.place) (nat_le c.moved.version last) before le in
+      let moves : is_moved (sources l) segment last c ≡ true =
+      and_from (wins_exactly (sources l) segment c.moved.key c.moved.version c.place) (nat_le c.moved.version last) before le in
       let there = any_recorded segment last (sources l) l.active.format c.moved.key c.moved.version l.active.number (place_behind l.active.format 16 l.active.frames + 9) (moved_of (sources l) segment last batch) ∙ added_if moves in
       let found = is_found c.moved.key c.moved.version (added l f) there in
       let out = found_one c.moved.key c.moved.version (IsOutside segment) (added l f) (outside_records l.active.format segment l.active.number (frame_records l.active.format (place_behind l.active.format 16 l.active.frames) f)) (Some found.0) found.1 found.0 refl in
@@ -232,7 +237,8 @@ at_most_one base segment r = by (wins_exactly base segment r.key r.version r.pla
 
 -- A batch and what is left behind it are all that was left, each record once and in order.
 pub taken_parts : (base : List Entry) (segment count bytes : ℕ) (rs : List LogRecord)
-    → (taken_from base segment count bytes rs).0 ++ found_all base segment (taken_from base segment count bytes rs).1 ≡ found_all base segment rs
+    → (taken_from base segment count bytes rs).0 ++ found_all base segment (taken_from base segment count bytes rs).1
+    ≡ found_all base segment rs
 taken_parts base segment count bytes [] = refl
 taken_parts base segment count bytes (r ∷ rs) =
     by (found_in base segment r) (at_most_one base segment r) refl
@@ -242,9 +248,11 @@ taken_parts base segment count bytes (r ∷ rs) =
     by : (found : List Candidate)
         → (found_in base segment r ≡ []) ⊎ ((c : Candidate) × (found_in base segment r ≡ c ∷ []))
         → found_in base segment r ≡ found
-        → (taken_from base segment count bytes rs).0 ++ found_all base segment (taken_from base segment count bytes rs).1 ≡ found_all base segment rs
+        → (taken_from base segment count bytes rs).0 ++ found_all base segment (taken_from base segment count bytes rs).1
+        ≡ found_all base segment rs
         → ((more : ℕ) → (taken_from base segment (count + 1) (bytes + more) rs).0 ++ found_all base segment (taken_from base segment (count + 1) (bytes + more) rs).1 ≡ found_all base segment rs)
-        → (taken_from base segment count bytes (r ∷ rs)).0 ++ found_all base segment (taken_from base segment count bytes (r ∷ rs)).1 ≡ found_all base segment (r ∷ rs)
+        → (taken_from base segment count bytes (r ∷ rs)).0 ++ found_all base segment (taken_from base segment count bytes (r ∷ rs)).1
+        ≡ found_all base segment (r ∷ rs)
     by found (inl none) is passed with_it =
         subst (λ (f : List Candidate). (batch_with (has_room count bytes (value_lengths f)) f (taken_from base segment count bytes rs) (taken_from base segment (count + 1) (bytes + value_lengths f) rs) ([], r ∷ rs)).0
         ++ found_all base segment (batch_with (has_room count bytes (value_lengths f)) f (taken_from base segment count bytes rs) (taken_from base segment (count + 1) (bytes + value_lengths f) rs) ([], r ∷ rs)).1 ≡ f ++ found_all base segment rs) (sym none) passed
@@ -289,7 +297,8 @@ pass_settles segment base now shrinks (r ∷ rs) all =
             is_not (wins_exactly now segment r.key r.version r.place) (λ wins. true_false (sym (shrinks r.key r.version r.place wins) ∙ lost))
         by true won =
             let c : Candidate = record { moved = record { key = r.key; version = r.version; value = value }; place = r.place } in
-            let found : found_in base segment r ≡ c ∷ [] = ap (λ b. if b then valued r r.change else []) won ∙ ap (valued r) is in
+            let found : found_in base segment r ≡ c ∷ [] =
+            ap (λ b. if b then valued r r.change else []) won ∙ ap (valued r) is in
             (subst (λ (f : List Candidate). AllByRecursion (IsSettled segment now) (f ++ found_all base segment rs)) found all).0
 
 -- ---- a flush

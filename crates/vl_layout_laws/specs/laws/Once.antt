@@ -135,7 +135,8 @@ tables_once (t ∷ ts) distinct = (none ts distinct.0, tables_once ts distinct.1
         → is_in (table_of t) (map table_of us) ≡ false
     none [] off = refl
     none (u ∷ us) off =
-        let apart : (t.number == u.number) ≡ false = is_not (t.number == u.number) (λ is. off.0 (let same : u.number ≡ t.number = grind (arith, nat_tests, is) in same)) in
+        let apart : (t.number == u.number) ≡ false =
+        is_not (t.number == u.number) (λ is. off.0 (let same : u.number ≡ t.number = grind (arith, nat_tests, is) in same)) in
         neither (t.number == u.number) (is_in (table_of t) (map table_of us)) apart (none us off.1)
 
 pub distinct_filtered : (p : Table → Bool) (ts : List Table) → IsDistinct ts → IsDistinct (filter p ts)

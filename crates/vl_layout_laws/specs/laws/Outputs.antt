@@ -54,7 +54,8 @@ lt_le_then a b c ab bc = by (key_cmp b c) refl
     by Greater is =
         absurd (let turned : key_cmp c b ≡ Less = nat_list_cmp_total.antisymm c b ∙ ap ordering_reverse is in let no : true ≡ false = sym (ap is_lt turned) ∙ bc in cc)
     by Equal is =
-        let other : key_cmp b a ≡ Greater = nat_list_cmp_total.antisymm b a ∙ ap ordering_reverse (less_is (key_cmp a b) ab) in
+        let other : key_cmp b a ≡ Greater =
+        nat_list_cmp_total.antisymm b a ∙ ap ordering_reverse (less_is (key_cmp a b) ab) in
         let same : key_cmp c a ≡ Greater = sym (nat_list_cmp_total.congr b c a is) ∙ other in
         ap is_lt (nat_list_cmp_total.antisymm a c ∙ ap ordering_reverse same)
 
@@ -154,16 +155,21 @@ from_well : (table : List Entry) (key : List ℕ) (closed open_bytes : ℕ) (es 
 from_well table key closed open_bytes [] some sorted below above rest = (nothing_behind table, (some, (sorted, tt)))
 from_well table key closed open_bytes (e ∷ es) some sorted below above rest =
     let begun = from_well (e ∷ []) e.key 0 (begun_length table_format e) es (omega arith) (tt, tt) (ap is_lt (key_tied e.key), tt) rest.0 rest.1 in
-    let lower : AllByRecursion (λ (x : Entry). Le x.key e.key) table = all_weaker (λ (x : Entry). Le x.key key) (λ (x : Entry). Le x.key e.key) (λ x le. le_then x.key key e.key le above.0) table below in
+    let lower : AllByRecursion (λ (x : Entry). Le x.key e.key) table =
+    all_weaker (λ (x : Entry). Le x.key key) (λ (x : Entry). Le x.key e.key) (λ x le. le_then x.key key e.key le above.0) table below in
     let more : 1 ≤ length (table ++ e ∷ []) = omega (arith, some, Rattle.std.proofs.Common.length-append table (e ∷ [])) in
-    let under : AllByRecursion (λ (x : Entry). Le x.key e.key) (table ++ e ∷ []) = all_both (λ (x : Entry). Le x.key e.key) table (e ∷ []) lower (ap is_lt (key_tied e.key), tt) in
+    let under : AllByRecursion (λ (x : Entry). Le x.key e.key) (table ++ e ∷ []) =
+    all_both (λ (x : Entry). Le x.key e.key) table (e ∷ []) lower (ap is_lt (key_tied e.key), tt) in
     let longer = sorted_more table e sorted lower in
-    let grown : List (List Entry) = tables_from (table ++ e ∷ []) e.key closed (open_bytes + entry_length table_format e) es in
-    let next : List (List Entry) = tables_from (table ++ e ∷ []) e.key (closed + around open_bytes) (begun_length table_format e) es in
+    let grown : List (List Entry) =
+    tables_from (table ++ e ∷ []) e.key closed (open_bytes + entry_length table_format e) es in
+    let next : List (List Entry) =
+    tables_from (table ++ e ∷ []) e.key (closed + around open_bytes) (begun_length table_format e) es in
     let later : List (List Entry) = tables_from (e ∷ []) e.key 0 (begun_length table_format e) es in
     either (not (eq_by_cmp key_cmp key e.key) && nat_le full_table_bytes (closed + around open_bytes)) (table ∷ later) (if nat_le (open_bytes + entry_length table_format e) max_block_bytes then grown else next)
     (λ closes.
-    let apart : eq_by_cmp key_cmp key e.key ≡ false = not_true (eq_by_cmp key_cmp key e.key) (and_parts (not (eq_by_cmp key_cmp key e.key)) (nat_le full_table_bytes (closed + around open_bytes)) closes).0 in
+    let apart : eq_by_cmp key_cmp key e.key ≡ false =
+    not_true (eq_by_cmp key_cmp key e.key) (and_parts (not (eq_by_cmp key_cmp key e.key)) (nat_le full_table_bytes (closed + around open_bytes)) closes).0 in
     let step : Lt key e.key = le_apart key e.key above.0 apart in (
       subst (λ (fs : List Entry). AllByRecursion (λ (x : Entry). AllByRecursion (λ (f : Entry). Lt x.key f.key) fs) table) (sym (cut-whole (e ∷ es)))
           (all_weaker (λ (x : Entry). Le x.key key) (λ (x : Entry). AllByRecursion (λ (f : Entry). Lt x.key f.key) (e ∷ es))

@@ -260,7 +260,9 @@ module _ (key : List ℕ) (keep : ℕ) (I O : List Entry) (floor : ℕ) (inputs 
           let both = and_parts (is_among inputs t) (holds key t) is in
           ((λ out. absurd (true_false (sym both.0 ∙ out))), behind both.1 ts apart.0 ranged.1)
       by false is later =
-          let rest : list_any (λ (u : Table). is_among inputs u && holds key u) ts ≡ true = sym (ap (λ b. b || list_any (λ (u : Table). is_among inputs u && holds key u) ts) is) ∙ there in
+          let rest : list_any (λ (u : Table). is_among inputs u && holds key u) ts ≡ true =
+          sym (ap (λ b. b || list_any (λ (u : Table). is_among inputs u && holds key u) ts) is)
+          ∙ there in
           ((λ out. without_by key t (λ held. never ts apart.0 ranged.1 rest held)), later rest)
 
   pub untouched_by : (ts : List Table)

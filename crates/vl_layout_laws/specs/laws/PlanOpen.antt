@@ -40,7 +40,8 @@ are_of h (e ∷ es) all key n there =
     by (eq_by_cmp key_cmp key e.key) refl there (λ later. are_of h es all.1 key n later)
   where
     by : (b : Bool) → eq_by_cmp key_cmp key e.key ≡ b
-        → has n (Rattle.std.proofs.Common.map (λ (f : Entry). f.version) (cond b (e ∷ filter (λ (f : Entry). eq_by_cmp key_cmp key f.key) es) (filter (λ (f : Entry). eq_by_cmp key_cmp key f.key) es))) ≡ true
+        → has n (Rattle.std.proofs.Common.map (λ (f : Entry). f.version) (cond b (e ∷ filter (λ (f : Entry). eq_by_cmp key_cmp key f.key) es) (filter (λ (f : Entry). eq_by_cmp key_cmp key f.key) es)))
+        ≡ true
         → (has n (versions_in es key) ≡ true → has n (versions h key) ≡ true) → has n (versions h key) ≡ true
     by false is there rest = rest there
     by true is there rest = Rattle.std.proofs.Common.⊎_elim
@@ -58,7 +59,8 @@ due_within k n [] is = absurd cc
 due_within k n (ts ∷ deeper) is = by (is_due k ts) refl is (due_within (k + 1) n deeper)
   where
     deep : (b : Bool) → (k == 0) ≡ b
-        → cond b (nat_le due_tables (length ts)) (nat_le k 5 && nat_lt (level_bytes k) (sum_by (λ (t : Table). t.length) ts)) ≡ true → k ≤ 5
+        → cond b (nat_le due_tables (length ts)) (nat_le k 5 && nat_lt (level_bytes k) (sum_by (λ (t : Table). t.length) ts))
+        ≡ true → k ≤ 5
     deep true at due = let zero_is : k ≡ 0 = grind (arith, nat_tests, at) in omega (arith, zero_is)
     deep false at due =
         let less = (and_parts (nat_le k 5) (nat_lt (level_bytes k) (sum_by (λ (t : Table). t.length) ts)) due).0 in let is : k ≤ 5 = grind (arith, nat_tests, less) in is

@@ -75,7 +75,8 @@ in_range (t ∷ ts) range is = by (range_of ts) refl is (λ r rest. in_range ts 
             some v None e = cc
             some v (Some r) e = cc
     by (Some r) rest is later =
-        let same : (lesser_key t.first r.0, greater_key t.last r.1) ≡ range = the_one (lesser_key t.first r.0, greater_key t.last r.1) range (sym (ap (widened t) rest) ∙ is) in
+        let same : (lesser_key t.first r.0, greater_key t.last r.1) ≡ range =
+        the_one (lesser_key t.first r.0, greater_key t.last r.1) range (sym (ap (widened t) rest) ∙ is) in
         subst (λ (w : Range). (Le w.0 t.first × Le t.last w.1) × AllByRecursion (λ (u : Table). Le w.0 u.first × Le u.last w.1) ts) same (
           (lesser_left t.first r.0, greater_left t.last r.1),
           all_weaker (λ (u : Table). Le r.0 u.first × Le u.last r.1) (λ (u : Table). Le (lesser_key t.first r.0) u.first × Le u.last (greater_key t.last r.1))
@@ -147,8 +148,10 @@ module _ (n : ℕ) (A B : List Table) (distinct_A : IsDistinct A) (other : AreOt
       each (t ∷ ts) off one = (
         (λ input.
             let W : Table → Type 0 = λ x. x.number ≡ t.number → Le range.0 t.first × Le t.last range.1 in
-            let from_given : AllByRecursion W (due_inputs n A) = two (due_inputs n A) (in_range (due_inputs n A) range is) (all_given (λ (x : Table). x.number ≡ t.number → x ≡ t) n A one.0) in
-            let from_next : AllByRecursion W (filter (meets (range_of (due_inputs n A))) B) = all_weaker (λ (y : Table). y.number ≢ t.number) W (λ y apart same. absurd (apart same)) (filter (meets (range_of (due_inputs n A))) B) (all_filtered (λ (y : Table). y.number ≢ t.number) (meets (range_of (due_inputs n A))) B off.0) in
+            let from_given : AllByRecursion W (due_inputs n A) =
+            two (due_inputs n A) (in_range (due_inputs n A) range is) (all_given (λ (x : Table). x.number ≡ t.number → x ≡ t) n A one.0) in
+            let from_next : AllByRecursion W (filter (meets (range_of (due_inputs n A))) B) =
+            all_weaker (λ (y : Table). y.number ≢ t.number) W (λ y apart same. absurd (apart same)) (filter (meets (range_of (due_inputs n A))) B) (all_filtered (λ (y : Table). y.number ≢ t.number) (meets (range_of (due_inputs n A))) B off.0) in
             let found = one_is t W (with_next (due_inputs n A) B) (all_both W (due_inputs n A) (filter (meets (range_of (due_inputs n A))) B) from_given from_next) input in
             found.2 found.1),
         each ts off.1 one.1,
@@ -317,15 +320,19 @@ plan_fitted l h n are within key =
     let I = inputs_of job.base in
     let O = outside_of job.base in
     let pre = flat_map (λ ts. ts) c.pre in
-    let flat : flat_map (λ ts. ts) l.levels ≡ pre ++ (A ++ (B ++ D)) = ap (λ (levels : List (List Table)). flat_map (λ ts. ts) levels) c.whole ∙ flat_levels c.pre (A ∷ B ∷ c.deeper) in
+    let flat : flat_map (λ ts. ts) l.levels ≡ pre ++ (A ++ (B ++ D)) =
+    ap (λ (levels : List (List Table)). flat_map (λ ts. ts) levels) c.whole
+    ∙ flat_levels c.pre (A ∷ B ∷ c.deeper) in
     let d0 = distinct_parts pre (A ++ (B ++ D)) (subst IsDistinct flat are.distinct) in
     let d1 = distinct_parts A (B ++ D) d0.1.0 in
     let d2 = distinct_parts B D d1.1.0 in
     let r0 = all_parts IsRanged pre (A ++ (B ++ D)) (subst (AllByRecursion IsRanged) flat are.ranged) in
     let r1 = all_parts IsRanged A (B ++ D) r0.1 in
     let r2 = all_parts IsRanged B D r1.1 in
-    let off : AreOther A B = all_weaker (λ (x : Table). AllByRecursion (λ (y : Table). y.number ≢ x.number) (B ++ D)) (λ (x : Table). AllByRecursion (λ (y : Table). y.number ≢ x.number) B) (λ x all. (all_parts (λ (y : Table). y.number ≢ x.number) B D all).0) A d1.1.1 in
-    let off_D : AreOther A D = all_weaker (λ (x : Table). AllByRecursion (λ (y : Table). y.number ≢ x.number) (B ++ D)) (λ (x : Table). AllByRecursion (λ (y : Table). y.number ≢ x.number) D) (λ x all. (all_parts (λ (y : Table). y.number ≢ x.number) B D all).1) A d1.1.1 in
+    let off : AreOther A B =
+    all_weaker (λ (x : Table). AllByRecursion (λ (y : Table). y.number ≢ x.number) (B ++ D)) (λ (x : Table). AllByRecursion (λ (y : Table). y.number ≢ x.number) B) (λ x all. (all_parts (λ (y : Table). y.number ≢ x.number) B D all).0) A d1.1.1 in
+    let off_D : AreOther A D =
+    all_weaker (λ (x : Table). AllByRecursion (λ (y : Table). y.number ≢ x.number) (B ++ D)) (λ (x : Table). AllByRecursion (λ (y : Table). y.number ≢ x.number) D) (λ x all. (all_parts (λ (y : Table). y.number ≢ x.number) B D all).1) A d1.1.1 in
     let apart_A : 0 < n → IsApart A = λ some. subst IsApart c.first_is (are.apart n some) in
     let apart_B : IsApart B = subst IsApart c.second_is (are.apart (n + 1) (omega arith)) in
     let ins = with_next (due_inputs n A) B in
@@ -337,10 +344,14 @@ plan_fitted l h n are within key =
     not_one_of u ins (all_ins n A B d1.0 off r1.0 r2.0 apart_A apart_B (λ (t : Table). t.number ≢ u.number) x.0 y.0)) pre d0.1.1 in
     let turned_A = others_turned A D off_D in
     let turned_B = others_turned B D d2.1.1 in
-    let idle_D : IsIdle job.keep I O job.floor inputs D = both (λ (u : Table). is_among inputs u ≡ false) A B D turned_A turned_B (λ u a b. not_one_of u ins (all_ins n A B d1.0 off r1.0 r2.0 apart_A apart_B (λ (t : Table). t.number ≢ u.number) a b)) in
+    let idle_D : IsIdle job.keep I O job.floor inputs D =
+    both (λ (u : Table). is_among inputs u ≡ false) A B D turned_A turned_B (λ u a b. not_one_of u ins (all_ins n A B d1.0 off r1.0 r2.0 apart_A apart_B (λ (t : Table). t.number ≢ u.number) a b)) in
     let pair = pair_is n A B d1.0 off r1.0 r2.0 apart_A apart_B key job.keep I O job.floor c.deeper idle_D in
-    let shaped : IsShaped job.keep I O job.floor inputs key (length c.pre + 1) (c.pre ++ A ∷ B ∷ c.deeper) = shaped_at job.keep I O job.floor inputs key c.pre A B c.deeper idle_pre pair in
-    let same : numbers_of (inputs_at n l.levels) ≡ inputs = ap (λ (x : List Table). numbers_of (with_next (due_inputs n x) (level_at (n + 1) l.levels))) c.first_is ∙ ap (λ (y : List Table). numbers_of (with_next (due_inputs n A) y)) c.second_is in
+    let shaped : IsShaped job.keep I O job.floor inputs key (length c.pre + 1) (c.pre ++ A ∷ B ∷ c.deeper) =
+    shaped_at job.keep I O job.floor inputs key c.pre A B c.deeper idle_pre pair in
+    let same : numbers_of (inputs_at n l.levels) ≡ inputs =
+    ap (λ (x : List Table). numbers_of (with_next (due_inputs n x) (level_at (n + 1) l.levels))) c.first_is
+    ∙ ap (λ (y : List Table). numbers_of (with_next (due_inputs n A) y)) c.second_is in
     subst (λ (numbers : List ℕ). IsShaped job.keep I O job.floor numbers key (n + 1) l.levels) (sym same)
     (subst (λ (levels : List (List Table)). IsShaped job.keep I O job.floor inputs key (n + 1) levels) (sym c.whole)
     (subst (λ (m : ℕ). IsShaped job.keep I O job.floor inputs key (m + 1) (c.pre ++ A ∷ B ∷ c.deeper)) c.count shaped))

@@ -347,7 +347,8 @@ module _ (l : Layout) (s : IsStocked l) (dropped : List Table)
   fresh_are : AllByRecursion (λ (r : Retired). IsUnneeded (needed l) r × (IsDrawn l.next_log l.next_table r.file × (r.version_number ≡ l.version_number)))
       (map (retired_at l.version_number) (map table_of dropped ++ map log_of (rising (filter (is_idle l) l.flushed))))
   fresh_are =
-      let Q : Retired → Type 0 = λ r. IsUnneeded (needed l) r × (IsDrawn l.next_log l.next_table r.file × (r.version_number ≡ l.version_number)) in
+      let Q : Retired → Type 0 =
+      λ r. IsUnneeded (needed l) r × (IsDrawn l.next_log l.next_table r.file × (r.version_number ≡ l.version_number)) in
       all_mapped Q (retired_at l.version_number) (map table_of dropped ++ map log_of (rising (filter (is_idle l) l.flushed)))
       (all_both (λ (f : FileName). Q (retired_at l.version_number f)) (map table_of dropped) (map log_of (rising (filter (is_idle l) l.flushed)))
       (all_mapped (λ (f : FileName). Q (retired_at l.version_number f)) table_of dropped
@@ -357,8 +358,10 @@ module _ (l : Layout) (s : IsStocked l) (dropped : List Table)
 
   pub stocked_switched : IsStocked (switched dropped l)
   stocked_switched =
-      let Q : Retired → Type 0 = λ r. IsUnneeded (needed l) r × (IsDrawn l.next_log l.next_table r.file × (r.version_number ≡ l.version_number)) in
-      let new : List Retired = map (retired_at l.version_number) (map table_of dropped ++ map log_of (rising (filter (is_idle l) l.flushed))) in
+      let Q : Retired → Type 0 =
+      λ r. IsUnneeded (needed l) r × (IsDrawn l.next_log l.next_table r.file × (r.version_number ≡ l.version_number)) in
+      let new : List Retired =
+      map (retired_at l.version_number) (map table_of dropped ++ map log_of (rising (filter (is_idle l) l.flushed))) in
       record {
         unneeded =
             all_both (IsUnneeded (needed l)) l.retired new s.unneeded (all_weaker Q (IsUnneeded (needed l)) (λ r is. is.0) new fresh_are);

@@ -142,7 +142,8 @@ module _ (l : Layout) (job : Job) (made : List Table) (rest : List Retired) (k :
   put_logs : (n : ℕ) → list_any (λ (t : Table). leads n t.points) (tables (putting l job made rest)) ≡ true
       → list_any (λ (t : Table). leads n t.points) (tables l) ≡ true
   put_logs n there =
-      let Q : Table → Type 0 = λ t. leads n t.points ≡ true → list_any (λ (u : Table). leads n u.points) (tables l) ≡ true in
+      let Q : Table → Type 0 =
+      λ t. leads n t.points ≡ true → list_any (λ (u : Table). leads n u.points) (tables l) ≡ true in
       let found = picked Q (λ (t : Table). leads n t.points) (tables (putting l job made rest))
       (all_replaced Q job.inputs made (into n) job.target l.levels
       (all_weaker Q (λ (t : Table). is_among job.inputs t ≡ false → Q t) (λ t is out. is) (tables l) (seen (λ (t : Table). leads n t.points) (tables l))))

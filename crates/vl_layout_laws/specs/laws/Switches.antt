@@ -205,7 +205,9 @@ pub stocked_flushed : (l : Layout) (s : Segment) (level : List Table) (deeper : 
     → oldest l.frozen ≡ Some s → l.levels ≡ level ∷ deeper → IsStocked (flushed l s)
 stocked_flushed l s level deeper k waits are =
     let t = flushed_table l s in
-    let new : tables (flushing l s) ≡ t ∷ tables l = ap (λ (levels : List (List Table)). flat_map (λ ts. ts) (in_front t levels)) are ∙ ap (λ (levels : List (List Table)). t ∷ flat_map (λ ts. ts) levels) (sym are) in
+    let new : tables (flushing l s) ≡ t ∷ tables l =
+    ap (λ (levels : List (List Table)). flat_map (λ ts. ts) (in_front t levels)) are
+    ∙ ap (λ (levels : List (List Table)). t ∷ flat_map (λ ts. ts) levels) (sym are) in
     let gains : Gains l.next_log l.next_table (needed l) (needed (flushing l s)) =
     subst (λ (ts : List Table). Gains l.next_log l.next_table (needed l) ((map table_of ts ++ flat_map pointed_logs ts) ++ map log_of (l.active ∷ but_oldest l.frozen))) (sym new)
     (new_table_gains l.next_log l.next_table t (tables l) l.active s l.frozen refl refl (λ n there. placed_into s.number n (memtable s) (own_memtable s) there) waits) in

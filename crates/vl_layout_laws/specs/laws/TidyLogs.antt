@@ -116,7 +116,8 @@ format_stays q [] (y ∷ ys) n f busy is = by (y.number == n) refl is (format_st
   where
     by : (b : Bool) → (y.number == n) ≡ b → cond b (Some y.format) (format_of ys n) ≡ Some f
         → (format_of ys n ≡ Some f → format_of (filter (λ (s : Segment). not (q s.number)) ys) n ≡ Some f)
-        → format_of (cond (not (q y.number)) (y ∷ filter (λ (s : Segment). not (q s.number)) ys) (filter (λ (s : Segment). not (q s.number)) ys)) n ≡ Some f
+        → format_of (cond (not (q y.number)) (y ∷ filter (λ (s : Segment). not (q s.number)) ys) (filter (λ (s : Segment). not (q s.number)) ys)) n
+        ≡ Some f
     by true at is later =
         let same : n ≡ y.number = grind (arith, nat_tests, at) in
         let stays : q y.number ≡ false = subst (λ (m : ℕ). q m ≡ false) same busy in
