@@ -1,4 +1,5 @@
 pub mod Lesser
 mod OrderLaws
 mod RecentLaws
+mod Balance
 pub mod TreeLaws

@@ -10,9 +10,11 @@ use Rattle.vl_conflict.proofs.RecentLaws.{pruned}
 use Rattle.vl_conflict.proofs.recent.Recent.prune.Goals as goal
 
 pub invariant_of-self : goal.invariant_of-self
-invariant_of-self c =
-    ap (is_sorted key_cmp) c.retain_above.ensures.named
-    ∙ filter_rises (is_above_floor c.args.floor) c.self.inside.notes.named c.self.invariant
+invariant_of-self c = (
+  ap (is_sorted key_cmp) c.retain_above.ensures.named
+      ∙ filter_rises (is_above_floor c.args.floor) c.self.inside.notes.named c.self.invariant.0,
+  c.retain_above.ensures.shallow,
+)
 
 pub returns-clause-remembers : goal.returns-clause-remembers
 returns-clause-remembers c h least remembers le =
