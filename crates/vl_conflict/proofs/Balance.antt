@@ -10,10 +10,9 @@ use Rattle.std.specs.FinMap.Entries.{length-put}
 use Rattle.std.specs.Cmp.Lexicographic.{nat_list_cmp_total}
 use Rattle.vl_model.specs.Keys.{key_cmp}
 use Rattle.vl_model.specs.Conflicts.{Named}
-use Rattle.vl_conflict.specs.Trees.{named, depth_of, height_of, highest, IsWhole, node_named, NodeWhole}
+use Rattle.vl_conflict.specs.Trees.{named, depth_of, height_of, IsWhole}
 use Rattle.vl_conflict.specs.declared.tree.Tree.{Tree, Leaf, Fork'}
-use Rattle.vl_conflict.specs.declared.tree.Node.{Node}
-use Rattle.vl_conflict.proofs.OrderLaws.{as_T}
+use Rattle.vl_conflict.specs.laws.OrderLaws.{as_T}
 
 -- a whole tree's height is its depth
 pub height-depth : (tree : Tree) → IsWhole tree → height_of tree ≡ depth_of tree

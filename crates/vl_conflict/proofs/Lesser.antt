@@ -15,7 +15,7 @@ use Rattle.vl_model.specs.Conflicts.{Named, first_of}
 use Rattle.vl_model.specs.Reads.{is_in_span}
 use Rattle.vl_model.specs.declared.span.Span.{Span}
 use Rattle.vl_conflict.specs.Notes.{is_late_within, span_of}
-use Rattle.vl_conflict.proofs.OrderLaws.{as_T, two_parts, above-all}
+use Rattle.vl_conflict.specs.laws.OrderLaws.{as_T, two_parts, above-all}
 use Rattle.vl_conflict.specs.Recent.{first_newer_than, is_late, is_late_at, is_late_at_any, is_late_within_any, lesser_of}
 
 -- ---- two tests

@@ -16,8 +16,8 @@ use Rattle.vl_model.specs.Conflicts.{Named, first_of}
 use Rattle.vl_model.specs.Reads.{is_in_span, is_from, is_up_to}
 use Rattle.vl_model.specs.declared.span.Span.{Span}
 use Rattle.vl_conflict.specs.Notes.{is_late_within, is_above_floor}
-use Rattle.vl_conflict.proofs.OrderLaws.{as_T, from_T, two_parts, both_parts, lt-is, above-all}
-use Rattle.vl_conflict.specs.Trees.{named, least_of, greatest_of, height_of, depth_of, IsWhole, node_named, NodeWhole, found_named}
+use Rattle.vl_conflict.specs.laws.OrderLaws.{as_T, from_T, two_parts, both_parts, lt-is, above-all}
+use Rattle.vl_conflict.specs.Trees.{named, least_of, greatest_of, height_of, IsWhole, node_named, NodeWhole, found_named}
 use Rattle.vl_conflict.specs.declared.tree.Tree.{Tree, Leaf, Fork'}
 use Rattle.vl_conflict.specs.declared.tree.Node.{Node}
 

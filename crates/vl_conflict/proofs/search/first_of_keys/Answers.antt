@@ -1,4 +1,4 @@
-use Rattle.std.proofs.Common.{◌≡◌, ℕ, List, [], ◌∷◌, ◌++◌, true, map, Bor, Some, sym, ap, ◌∙◌, rules, Global}
+use Rattle.std.proofs.Common.{◌≡◌, ℕ, List, true, map, Bor, Some, sym, ap, ◌∙◌, rules, Global}
 use Rattle.std.specs.declared.boxed.BoxedSlice.{BoxedSlice}
 use Rattle.std.proofs.lemmas.Map.Iter.{iter_end}
 use Rattle.std.specs.Box.{boxed_slice_items}

@@ -1,4 +1,4 @@
-use Rattle.std.proofs.Common.{◌≡◌, map, Bor}
+use Rattle.std.proofs.Common.{◌≡◌, map}
 use Rattle.std.specs.Box.{boxed_slice_items}
 use Rattle.std.specs.List.{filter}
 use Rattle.vl_model.specs.Conflicts.{first_of}

@@ -1,4 +1,4 @@
-use Rattle.std.proofs.Common.{ℕ, ◌<◌, ◌≤◌, ap, subst, arith}
+use Rattle.std.proofs.Common.{◌<◌, ◌≤◌, subst}
 use Rattle.vl_conflict.specs.declared.tree.Node.{Node}
 use Rattle.vl_conflict.proofs.TreeLaws.{all-go, all-stay}
 use Rattle.vl_conflict.proofs.tree.+prune.Goals as goal

@@ -5,7 +5,7 @@ use Rattle.vl_model.specs.Keys.{key_cmp}
 use Rattle.vl_conflict.specs.Trees.{named, height_of}
 use Rattle.vl_conflict.specs.declared.tree.Tree.{Tree}
 use Rattle.vl_conflict.specs.declared.tree.Tree.TheVariants.{Fork}
-use Rattle.vl_conflict.proofs.OrderLaws.{put_rising}
+use Rattle.vl_conflict.specs.laws.OrderLaws.{put_rising}
 use Rattle.vl_conflict.proofs.Balance.{length-put-le, whole-low, whole-shallow}
 use Rattle.vl_conflict.proofs.last_commit_map.LastCommitMap.insert.Goals as goal
 

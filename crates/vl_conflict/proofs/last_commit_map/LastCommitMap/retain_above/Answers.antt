@@ -5,7 +5,7 @@ use Rattle.vl_model.specs.Keys.{key_cmp}
 use Rattle.vl_conflict.specs.Notes.{is_above_floor}
 use Rattle.vl_conflict.specs.Trees.{named, height_of}
 use Rattle.vl_conflict.specs.declared.tree.Tree.{Tree}
-use Rattle.vl_conflict.proofs.OrderLaws.{filter_rises}
+use Rattle.vl_conflict.specs.laws.OrderLaws.{filter_rises}
 use Rattle.vl_conflict.proofs.Balance.{length-filter-le, whole-low, whole-shallow}
 use Rattle.vl_conflict.proofs.last_commit_map.LastCommitMap.retain_above.Goals as goal
 

@@ -4,7 +4,7 @@ use Rattle.std.specs.List.{filter}
 use Rattle.vl_model.specs.Conflicts.{first_of}
 use Rattle.vl_conflict.specs.Notes.{Kept, lent}
 use Rattle.vl_conflict.specs.Recent.{first_newer_than, is_late_at_any, lesser_of}
-use Rattle.vl_conflict.proofs.RecentLaws.{first_newer_than-conflict}
+use Rattle.vl_conflict.specs.laws.RecentLaws.{first_newer_than-conflict}
 use Rattle.vl_conflict.proofs.Lesser.{all_late}
 use Rattle.vl_conflict.proofs.recent.Recent.check.Goals as goal
 

@@ -1,7 +1,7 @@
 use Rattle.std.proofs.Common.{ap, ◌∙◌}
 use Rattle.std.specs.FinMap.{is_sorted}
 use Rattle.vl_model.specs.Keys.{key_cmp}
-use Rattle.vl_conflict.proofs.OrderLaws.{put_rising}
+use Rattle.vl_conflict.specs.laws.OrderLaws.{put_rising}
 use Rattle.vl_conflict.proofs.recent.Recent.note.Goals as goal
 
 pub invariant_of-self : goal.invariant_of-self

@@ -4,9 +4,9 @@ use Rattle.std.specs.FinMap.{is_sorted}
 use Rattle.vl_model.specs.Keys.{key_cmp}
 use Rattle.vl_model.specs.Conflicts.{Named}
 use Rattle.vl_conflict.specs.Notes.{Kept, is_above_floor}
-use Rattle.vl_conflict.proofs.OrderLaws.{filter_rises}
+use Rattle.vl_conflict.specs.laws.OrderLaws.{filter_rises}
 use Rattle.vl_conflict.specs.Recent.{Remembers}
-use Rattle.vl_conflict.proofs.RecentLaws.{pruned}
+use Rattle.vl_conflict.specs.laws.RecentLaws.{pruned}
 use Rattle.vl_conflict.proofs.recent.Recent.prune.Goals as goal
 
 pub invariant_of-self : goal.invariant_of-self
