@@ -1,0 +1,11 @@
+pub mod Answers
+pub mod Carries
+pub mod Held
+pub mod Known
+pub mod Opening
+pub mod Reading
+pub mod Refusing
+pub mod Represents
+pub mod Sees
+pub mod Shown
+pub mod Writing
