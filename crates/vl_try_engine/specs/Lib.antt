@@ -1,0 +1,4 @@
+pub mod Held
+pub mod laws
+pub mod Shown
+pub mod Start
