@@ -1,4 +1,5 @@
 pub mod Held
 pub mod laws
+pub mod Reopened
 pub mod Shown
 pub mod Start

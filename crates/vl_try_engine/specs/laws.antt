@@ -1,7 +1,10 @@
-pub mod LogEntries
-pub mod ShownLaws
-pub mod HeldLaws
 pub mod CommitLaws
-pub mod StartLaws
+pub mod FrontLaws
+pub mod HeldLaws
 pub mod LiveLaws
+pub mod LogEntries
+pub mod ReopenedLaws
+pub mod ReopenedShown
 pub mod SeesLaws
+pub mod ShownLaws
+pub mod StartLaws

@@ -1,5 +1,5 @@
 -- What a crash leaves of a disk that holds a layout shows the history, and a store may be opened on it again.
-use Rattle.std.specs.Prelude.{◌≡◌, ◌≤◌, ℕ, List, [], ◌∷◌, ◌++◌}
+use Rattle.std.specs.Prelude.{◌≡◌, ◌≤◌, ℕ, List, [], ◌∷◌, ◌++◌, Ok}
 use Rattle.std.specs.List.{AllByRecursion, filter, flat_map}
 use Rattle.std.proofs.Common.{sym, ap, subst, ◌∙◌, append-nil, arith}
 use Rattle.vl_disk.specs.Crash.{Image, MayLeave}
@@ -19,9 +19,14 @@ use Rattle.vl_model.specs.History.{History, last_number}
 use Rattle.vl_model.specs.Versions.{low}
 use Rattle.vl_model.specs.declared.entry.Entry.{Entry}
 use Rattle.vl_model.specs.laws.VersionLaws.{versions-up}
-use Rattle.vl_recover.specs.crash.Held.{GoOn}
+use Rattle.vl_recover.specs.crash.Alike.{IsLeft, OpensLike}
+use Rattle.vl_recover.specs.crash.Held.{opening_held}
 use Rattle.vl_recover.specs.crash.Starts.{MayOpen}
-use Rattle.vl_recover.specs.laws.opening.HeldLaws.{held_may_open, held_opens}
+use Rattle.vl_recover.specs.laws.crash.AlikeLaws.{shows_same}
+use Rattle.vl_recover.specs.laws.opening.HeldLaws.{held_may_open, held_opens, held_reads}
+use Rattle.vl_recover.specs.laws.opening.OpeningLaws.{single_opening}
+use Rattle.vl_recover.specs.laws.repairing.StageLaws.{ok_same}
+use Rattle.vl_recover.specs.opening.Opening.{Opening, Opens, Refusal}
 use Rattle.vl_try_engine.specs.Held.{Base, Holds, IsBase, logs_from}
 use Rattle.vl_try_engine.specs.Shown.{LogsShow, Shown, logs_entries, no_logs}
 use Rattle.vl_try_engine.specs.laws.LogEntries.{entries-append, entries-filtered, entries-newest}
@@ -78,3 +83,17 @@ module _ (b : Base) (l : Layout) (h : History) (base : IsBase b l h) where
 -- A store may be opened on a disk that holds a layout.
 pub held_opens_again : (b : Base) (l : Layout) (disk : DiskState) → Holds b l disk → MayOpen disk
 held_opens_again b l disk holds = held_may_open b.state (logs_from b l) disk holds.lawful holds.store
+
+-- Whatever a crash leaves of such a disk opens like what reads give.
+pub held_durable : (b : Base) (l : Layout) (h : History) (disk : DiskState) → IsBase b l h → Holds b l disk
+    → (read image : Image) → IsRead read disk → IsLeft disk image → OpensLike image read
+held_durable b l h disk base holds read image is left o opens =
+    let number = last_number h in
+    let held = held_reads b.state (logs_from b l) number disk holds.store base.goes read is in
+    let same = ok_same {E = Refusal} (opening_held b.state (logs_from b l) number) o
+    (single_opening read (Ok (opening_held b.state (logs_from b l) number)) (Ok o) held opens) in (
+      o,
+      subst (λ (x : Opening). Opens image (Ok x)) same
+          (held_opens b.state (logs_from b l) number disk holds.store base.goes image left.left),
+      shows_same o,
+    )

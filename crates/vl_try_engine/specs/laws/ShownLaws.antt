@@ -3,6 +3,7 @@ use Rattle.std.specs.Prelude.{◌≡◌, ◌≤◌, ℕ, List, [], ◌∷◌, ma
 use Rattle.std.specs.List.{AllByRecursion}
 use Rattle.std.proofs.Common.{sym, ap, subst, ◌∙◌, arith}
 use Rattle.vl_disk.specs.Crash.{Image}
+use Rattle.vl_disk.specs.DiskState.{DiskState}
 use Rattle.vl_layout.specs.Shown.{IsOf}
 use Rattle.vl_layout.specs.Shows.{AreUpTo, Shows}
 use Rattle.vl_layout.specs.declared.segment.Segment.{Segment}
@@ -14,7 +15,7 @@ use Rattle.vl_model.specs.Versions.{low}
 use Rattle.vl_model.specs.declared.entry.Entry.{Entry}
 use Rattle.vl_model.specs.laws.HistoryLaws.{last_number-extends}
 use Rattle.vl_model.specs.laws.VersionLaws.{versions-stay}
-use Rattle.vl_recover.specs.crash.Alike.{OpensLike}
+use Rattle.vl_recover.specs.crash.Alike.{IsLeft, OpensAsOf, OpensLike}
 use Rattle.vl_recover.specs.crash.Held.{log_as_held, opening_held}
 use Rattle.vl_recover.specs.opening.Opening.{Opening, Opens}
 use Rattle.vl_recover.specs.opening.Walk.{filled}
@@ -98,3 +99,11 @@ shown_like image other h m like shown =
           (subst (λ (n : ℕ). LogsShow shown.opening.state.keep n o.logs h m) (sym as.state.since)
           (subst (λ (ss : List Segment). LogsShow shown.opening.state.keep shown.opening.state.since ss h m) (sym as.logs) shown.logs));
     }
+
+-- So it is meanwhile where an opening begins on a disk of which whatever a crash leaves opens like what reads give.
+pub opening_shown : (start now : DiskState) (read : Image) (h : History) (m : ℕ)
+    → ((image : Image) → IsLeft start image → OpensLike image read) → Shown read h m → OpensAsOf start now
+    → (image : Image) → IsLeft now image → Shown image h m
+opening_shown start now read h m durable shown as_of image left =
+    let (before, left_before, like) = as_of image left in
+    shown_like image before h m like (shown_like before read h m (durable before left_before) shown)
