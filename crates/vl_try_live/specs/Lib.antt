@@ -1,3 +1,5 @@
+pub mod Decisions
+pub mod Fakes
 pub mod Kept
 pub mod laws
 pub mod Live

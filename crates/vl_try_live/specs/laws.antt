@@ -3,5 +3,7 @@ pub mod Floors
 pub mod FrontLaws
 pub mod Lives
 pub mod LiveLaws
+pub mod MemtableLaws
 pub mod ReopenedLaws
+pub mod RulingLaws
 pub mod SeesLaws

@@ -87,17 +87,17 @@ shown_by image state logs h m opens some since last show = record {
 pub shown_like : (image other : Image) (h : History) (m : ℕ) → OpensLike image other → Shown other h m
     → Shown image h m
 shown_like image other h m like shown =
-    let (o, opens, as) = like shown.opening shown.opens in
+    let (o, opens, alike) = like shown.opening shown.opens in
     record {
       opening = o;
       opens = opens;
-      number = as.number ∙ shown.number;
-      some = subst (λ (k : ℕ). 1 ≤ k) (sym as.state.keep) shown.some;
-      since = subst (λ (n : ℕ). n ≤ m) (sym as.state.since) shown.since;
+      number = alike.number ∙ shown.number;
+      some = subst (λ (k : ℕ). 1 ≤ k) (sym alike.state.keep) shown.some;
+      since = subst (λ (n : ℕ). n ≤ m) (sym alike.state.since) shown.since;
       last = shown.last;
-      logs = subst (λ (k : ℕ). LogsShow k o.state.since o.logs h m) (sym as.state.keep)
-          (subst (λ (n : ℕ). LogsShow shown.opening.state.keep n o.logs h m) (sym as.state.since)
-          (subst (λ (ss : List Segment). LogsShow shown.opening.state.keep shown.opening.state.since ss h m) (sym as.logs) shown.logs));
+      logs = subst (λ (k : ℕ). LogsShow k o.state.since o.logs h m) (sym alike.state.keep)
+          (subst (λ (n : ℕ). LogsShow shown.opening.state.keep n o.logs h m) (sym alike.state.since)
+          (subst (λ (ss : List Segment). LogsShow shown.opening.state.keep shown.opening.state.since ss h m) (sym alike.logs) shown.logs));
     }
 
 -- So it is meanwhile where an opening begins on a disk of which whatever a crash leaves opens like what reads give.

@@ -1,13 +1,13 @@
 -- What lives, as the oracle has it and as the layout has it: tickets, the floor, and what begins and ends.
 use Rattle.std.specs.Prelude.{◌≡◌, ◌<◌, ◌≤◌, ℕ, ◌+◌, ◌==◌, min, Bool, true, false, not, ◌||◌, nat_lt, List, [], ◌∷◌, Option, None, Some, unwrap_or, refl}
-use Rattle.std.specs.Cmp.{unsigned_tied}
+use Rattle.std.specs.Cmp.{nat_cmp_total, unsigned_tied}
 use Rattle.std.specs.FinMap.{find, put}
-use Rattle.std.specs.FinMap.Entries.{by_order}
+use Rattle.std.specs.FinMap.Entries.{by_order, find-put, find-where_key}
 use Rattle.std.specs.List.{AllByRecursion, filter}
 use Rattle.std.specs.Option.{option_map}
 use Rattle.std.specs.Ordering.{eq_by_cmp, nat_cmp}
 use Rattle.std.specs.declared.cmp.Ordering.{Ordering}
-use Rattle.std.specs.declared.cmp.Ordering.TheVariants.{Less, Greater}
+use Rattle.std.specs.declared.cmp.Ordering.TheVariants.{Less, Equal, Greater}
 use Rattle.std.proofs.Common.{sym, ap, subst, ◌∙◌, cond, arith}
 use Rattle.std.proofs.lemmas.Bool.Decides.{nat_tests}
 use Rattle.vl_layout.specs.Rising.{put_by}
@@ -135,3 +135,79 @@ module _ (live : LiveTickets) (l : Layout) (h : History) (are : live.tickets ≡
   pub live_ended : (ticket : ℕ) → (oracle.ended ticket live).tickets ≡ tickets_of (ended ticket l).live
   live_ended ticket =
       ap (filter (λ (t : Ticket). not (eq_by_cmp nat_cmp ticket t.0))) are ∙ sym (tickets-ended ticket l.live)
+
+-- ---- what lives on
+
+-- it has this ticket, and reads at this number
+abbrev pub IsLive : Layout → (ticket number : ℕ) → Type 0
+IsLive l ticket number = find nat_cmp ticket (tickets_of l.live) ≡ Some number
+
+not_found : (ticket : ℕ) (ts : List Ticket) → has_ticket ticket ts ≡ false → find nat_cmp ticket ts ≡ None
+not_found ticket [] none = refl
+not_found ticket (t ∷ ts) none =
+    let parts = or_false (t.0 == ticket) (has_ticket ticket ts) none in
+    let other : eq_by_cmp nat_cmp ticket t.0 ≡ false = unsigned_tied ticket t.0 ∙ turned_false parts.0 in
+    ap (λ (b : Bool). cond b (Some t.1) (find nat_cmp ticket ts)) other ∙ not_found ticket ts parts.1
+  where
+    turned_false : (t.0 == ticket) ≡ false → (ticket == t.0) ≡ false
+    turned_false apart = grind (arith, nat_tests, apart)
+
+module _ (l : Layout) (h : History) (lived : IsLivedIn l h) where
+  abbrev new_ticket : ℕ
+  new_ticket = tickets.free_ticket (tickets_of l.live)
+
+  live_then : tickets_of (begun l new_ticket (last_number h)).live ≡ put nat_cmp new_ticket (last_number h) (tickets_of l.live)
+  live_then = tickets-begun new_ticket (last_number h) (pin_of l) l.live (free_one l.live lived.rising)
+
+  -- The ticket that a begin gives was none's,
+  pub begun_was_free : (number : ℕ) → IsLive l (tickets.free_ticket (tickets_of l.live)) number → ⊥
+  begun_was_free number is = some_none number (sym is ∙ not_found new_ticket (tickets_of l.live) (free_one l.live lived.rising))
+    where
+      some_none : (n : ℕ) → Some n ≡ None → ⊥
+      some_none n e = cc
+
+  -- and what has it reads at the last number.
+  pub begun_lives : IsLive (begun l (tickets.free_ticket (tickets_of l.live)) (last_number h)) (tickets.free_ticket (tickets_of l.live)) (last_number h)
+  begun_lives =
+      let here : eq_by_cmp nat_cmp new_ticket new_ticket ≡ true = itself new_ticket in
+      ap (find nat_cmp new_ticket) live_then
+      ∙ find-put nat_cmp nat_cmp_total new_ticket new_ticket (last_number h) (tickets_of l.live)
+      ∙ ap (λ (b : Bool). cond b (Some (last_number h)) (find nat_cmp new_ticket (tickets_of l.live))) here
+    where
+      itself : (n : ℕ) → eq_by_cmp nat_cmp n n ≡ true
+      itself n = grind (arith, nat_tests)
+
+  -- What lives lives on where something begins,
+  pub lives_begun : (ticket number : ℕ) → IsLive l ticket number
+      → IsLive (begun l (tickets.free_ticket (tickets_of l.live)) (last_number h)) ticket number
+  lives_begun ticket number is = by (eq_by_cmp nat_cmp ticket new_ticket) refl
+    where
+      same_ticket : eq_by_cmp nat_cmp ticket new_ticket ≡ true → ticket ≡ new_ticket
+      same_ticket tied = grind (arith, nat_tests, tied)
+
+      by : (b : Bool) → eq_by_cmp nat_cmp ticket new_ticket ≡ b
+          → find nat_cmp ticket (tickets_of (begun l new_ticket (last_number h)).live) ≡ Some number
+      by true tied = absurd (begun_was_free number
+          (ap (λ (t : ℕ). find nat_cmp t (tickets_of l.live)) (sym (same_ticket tied)) ∙ is))
+      by false other =
+          ap (find nat_cmp ticket) live_then
+          ∙ find-put nat_cmp nat_cmp_total ticket new_ticket (last_number h) (tickets_of l.live)
+          ∙ ap (λ (b : Bool). cond b (Some (last_number h)) (find nat_cmp ticket (tickets_of l.live))) other
+          ∙ is
+
+-- and where another thing ends, also by its commit.
+pub lives_ended : (l : Layout) (other ticket number : ℕ) → (ticket ≡ other → ⊥) → IsLive l ticket number
+    → IsLive (ended other l) ticket number
+lives_ended l other ticket number apart is =
+    ap (find nat_cmp ticket) (tickets-ended other l.live)
+    ∙ find-where_key nat_cmp (λ (t : ℕ). not (eq_by_cmp nat_cmp other t)) ticket (λ t tied. alike t tied) (tickets_of l.live)
+    ∙ ap (λ (b : Bool). cond (not b) (find nat_cmp ticket (tickets_of l.live)) None) away
+    ∙ is
+  where
+    away : eq_by_cmp nat_cmp other ticket ≡ false
+    away = grind (arith, nat_tests, apart)
+
+    alike : (t : ℕ) → nat_cmp ticket t ≡ Equal → not (eq_by_cmp nat_cmp other t) ≡ not (eq_by_cmp nat_cmp other ticket)
+    alike t tied =
+        let same : t ≡ ticket = grind (arith, nat_tests, tied) in
+        ap (λ (n : ℕ). not (eq_by_cmp nat_cmp other n)) same

@@ -15,7 +15,7 @@ use Rattle.vl_model.specs.Versions.{Numbered, all_numbered, low, naming, numbere
 use Rattle.vl_model.specs.declared.change.Change.{Change}
 use Rattle.vl_model.specs.laws.HistoryLaws.{value_left-newer}
 use Rattle.vl_model.specs.laws.NumberLaws.{IsFound, greatest-found}
-use Rattle.vl_try_engine.specs.Reopened.{past_up_to, reopened}
+use Rattle.vl_engine.specs.Reopened.{past_up_to, reopened}
 
 -- a commit up to a number
 abbrev is_up_to : ℕ → Numbered → Bool

@@ -23,7 +23,7 @@ use Rattle.vl_model.specs.Limits.{max_live}
 use Rattle.vl_model.specs.declared.change.Change.{Change}
 use Rattle.vl_oracle.specs.LiveTickets.{LiveTickets, floor_of}
 use Rattle.vl_oracle.specs.LiveTickets as oracle
-use Rattle.vl_try_engine.specs.laws.LiveLaws.{live_begun, live_ended, same_floor}
+use Rattle.vl_engine.specs.laws.LiveLaws.{live_begun, live_ended, same_floor}
 
 -- ---- what is remembered
 
