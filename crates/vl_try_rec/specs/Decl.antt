@@ -1,0 +1,4 @@
+pub mod Edit
+pub mod ManifestState
+pub mod StateFail
+pub mod VersionBuilder

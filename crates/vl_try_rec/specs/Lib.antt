@@ -1,0 +1,5 @@
+pub mod Decl
+pub mod Eng
+pub mod Lay
+pub mod Man
+pub mod Rec

@@ -1,0 +1,3 @@
+pub mod crash
+pub mod laws
+pub mod opening

@@ -1,0 +1,4 @@
+pub mod AlikeLaws
+pub mod AppendLaws
+pub mod OneName
+pub mod TornFrames

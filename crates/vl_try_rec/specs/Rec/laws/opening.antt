@@ -1,0 +1,4 @@
+pub mod ContentLaws
+pub mod HeldLaws
+pub mod LeadsLaws
+pub mod OpeningLaws

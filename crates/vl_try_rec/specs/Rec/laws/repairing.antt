@@ -1,0 +1,2 @@
+pub mod RecoveredLaws
+pub mod StageLaws

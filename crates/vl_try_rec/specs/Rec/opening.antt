@@ -1,0 +1,5 @@
+pub mod Answers
+pub mod Opening
+pub mod Plans
+pub mod Stages
+pub mod Walk
