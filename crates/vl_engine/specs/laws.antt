@@ -4,9 +4,11 @@ pub mod HeldLaws
 pub mod LiveLaws
 pub mod LogEntries
 pub mod MemtableLaws
+pub mod ReadLaws
 pub mod ReopenedLaws
 pub mod ReopenedShown
 pub mod RulingLaws
 pub mod SeesLaws
 pub mod ShownLaws
 pub mod StartLaws
+pub mod VersionLaws

@@ -3,3 +3,4 @@ pub mod Eng
 pub mod Lay
 pub mod Man
 pub mod Rec
+pub mod Ver

@@ -1,7 +1,10 @@
 pub mod CommitLaws
 pub mod HeldLaws
 pub mod LogEntries
+pub mod MemtableLaws
+pub mod ReadLaws
 pub mod ReopenedLaws
 pub mod ReopenedShown
 pub mod ShownLaws
 pub mod StartLaws
+pub mod VersionLaws

@@ -1,0 +1,3 @@
+pub mod Fake
+pub mod Scans
+pub mod Sources
