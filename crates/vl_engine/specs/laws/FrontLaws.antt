@@ -5,6 +5,7 @@ use Rattle.std.specs.Option.{option_map}
 use Rattle.std.proofs.Common.{sym, ap, subst, ◌∙◌, cond, length-append, arith}
 use Rattle.std.proofs.lemmas.Bool.Decides.{nat_tests}
 use Rattle.vl_conflict.specs.Recent.{Remembers, since}
+use Rattle.vl_engine.specs.Represents.{IsFront}
 use Rattle.vl_layout.specs.Ruling.{ended, pin_of}
 use Rattle.vl_layout.specs.Rulings.Begin.{begun}
 use Rattle.vl_layout.specs.Rulings.Commit.{Transaction, committed}
@@ -69,14 +70,6 @@ nothing_remembered floor h le = record {
 }
 
 -- ---- all of it
-
--- what lives, and what the last commits named, are those of the layout and the history
-pub record IsFront (live : LiveTickets) (named : List Named) (h : History) (l : Layout) : Type 0 where
-  pub last : live.last ≡ last_number h
-  pub live_are : live.tickets ≡ tickets_of l.live
-  pub lived : IsLivedIn l h
-  pub readable : h.first ≤ floor l h
-  pub remembers : Remembers (floor l h) h named
 
 -- where nothing lives
 pub front_started : (h : History) (l : Layout) (live : LiveTickets) → l.live ≡ [] → live.last ≡ last_number h
@@ -143,4 +136,5 @@ module _ (live : LiveTickets) (named : List Named) (h : History) (l : Layout) (i
       live_is = tickets ∙ live_ended live l h is.live_are t.ticket
 
       lived_then : IsLivedIn (committed l h t).layout (with_commit h (from_sorted t.writes))
-      lived_then = live-committed (ended t.ticket l) (committed l h t).layout h (from_sorted t.writes) refl (live-ended l h is.lived t.ticket)
+      lived_then = live-committed (ended t.ticket l) (committed l h t).layout h (from_sorted t.writes) refl
+          (live-ended l h is.lived t.ticket)

@@ -42,6 +42,11 @@ module _ (ticket number : ℕ) (pin : Pin) where
   abbrev new : Live
   new = record { ticket = ticket; number = number; pin = pin }
 
+  -- where it is put before one that lives, by their order
+  abbrev put_so : Live → List Ticket → Ordering → List Ticket
+  put_so x ts order = by_order order ((ticket, number) ∷ (x.ticket, x.number) ∷ ts) ((x.ticket, number) ∷ ts)
+      ((x.ticket, x.number) ∷ put nat_cmp ticket number ts)
+
   -- one that begins stands at the same place
   pub tickets-begun : (xs : List Live) → has_ticket ticket (tickets_of xs) ≡ false
       → tickets_of (put_by (λ (x : Live). x.ticket) (record { ticket = ticket; number = number; pin = pin }) xs)
@@ -57,13 +62,10 @@ module _ (ticket number : ℕ) (pin : Pin) where
           ≡ put nat_cmp ticket number ((x.ticket, x.number) ∷ tickets_of xs)
       by true is other later =
           let order : nat_cmp ticket x.ticket ≡ Greater = grind (arith, nat_tests, is) in
-          ap (λ (ts : List Ticket). (x.ticket, x.number) ∷ ts) later
-          ∙ sym (ap (λ (r : Ordering). by_order r ((ticket, number) ∷ (x.ticket, x.number) ∷ tickets_of xs) ((x.ticket, number) ∷ tickets_of xs)
-          ((x.ticket, x.number) ∷ put nat_cmp ticket number (tickets_of xs))) order)
+          ap (λ (ts : List Ticket). (x.ticket, x.number) ∷ ts) later ∙ sym (ap (put_so x (tickets_of xs)) order)
       by false is other later =
           let order : nat_cmp ticket x.ticket ≡ Less = grind (arith, nat_tests, is, other) in
-          sym (ap (λ (r : Ordering). by_order r ((ticket, number) ∷ (x.ticket, x.number) ∷ tickets_of xs) ((x.ticket, number) ∷ tickets_of xs)
-          ((x.ticket, x.number) ∷ put nat_cmp ticket number (tickets_of xs))) order)
+          sym (ap (put_so x (tickets_of xs)) order)
 
 -- and one that ends goes
 pub tickets-ended : (ticket : ℕ) (xs : List Live)
@@ -164,7 +166,8 @@ module _ (l : Layout) (h : History) (lived : IsLivedIn l h) where
       some_none n e = cc
 
   -- and what has it reads at the last number.
-  pub begun_lives : IsLive (begun l (tickets.free_ticket (tickets_of l.live)) (last_number h)) (tickets.free_ticket (tickets_of l.live)) (last_number h)
+  pub begun_lives : IsLive (begun l (tickets.free_ticket (tickets_of l.live)) (last_number h))
+      (tickets.free_ticket (tickets_of l.live)) (last_number h)
   begun_lives =
       let here : eq_by_cmp nat_cmp new_ticket new_ticket ≡ true = itself new_ticket in
       ap (find nat_cmp new_ticket) live_then

@@ -58,7 +58,8 @@ module _ (format segment number : ℕ) where
   commit_rises place [] sorted = tt
   commit_rises place (w ∷ ws) sorted = (
     commit_before (place + record_length format w.0 w.1)
-        (record_entry format segment (record { key = w.0; version = number; change = w.1; place = place })) ws (first_part (below_all key_cmp w.0 ws) (is_sorted key_cmp ws) sorted),
+        (record_entry format segment (record { key = w.0; version = number; change = w.1; place = place })) ws
+        (first_part (below_all key_cmp w.0 ws) (is_sorted key_cmp ws) sorted),
     commit_rises (place + record_length format w.0 w.1) ws (second_part (below_all key_cmp w.0 ws) (is_sorted key_cmp ws) sorted),
   )
 

@@ -39,62 +39,94 @@ pub record DecidesAs (front : Front) (h : History) (l : Layout) : Type 0 where
   pub room : front.room ≡ l.room
   pub halted : option_map file_of front.halted ≡ l.halted
 
+-- ---- the ruling, test by test
+
+module _ (l : Layout) (h : History) (t : Transaction) where
+  -- the length of the commit's frame
+  abbrev frame_size : ℕ
+  frame_size = frame_length l.active.format (commit_frame h t.writes)
+
+  abbrev found : Option Named
+  found = first_conflict h t.number t.reads
+
+  -- by whether the frame fits,
+  abbrev by_fit : Bool → Ruling CommitAnswer
+  by_fit fits = if fits then committed l h t else leaving (answers.Full l.active.length frame_size) h l
+
+  -- whether no number is left,
+  abbrev by_left : Bool → Option Named → Ruling CommitAnswer
+  by_left used conflict = if used then leaving (answers.Exhausted counters.Commit) h l else commit_checked l h t conflict
+
+  abbrev is_used_up : Bool
+  is_used_up = nat_le max_commit_number (last_number h)
+
+  -- and whether nothing was written
+  abbrev by_some : Bool → Option Named → Ruling CommitAnswer
+  by_some none conflict = if none then commit_ended answers.Nothing l h t else by_left is_used_up conflict
+
+-- ---- the front's decision
+
 module _ (front : Front) (h : History) (l : Layout) (t : Transaction) (alike : DecidesAs front h l) where
-  frame_is : next_length front t.writes ≡ frame_length l.active.format (commit_frame h t.writes)
+  abbrev as_ruled : Decision → Ruling CommitAnswer
+  as_ruled decision = ruled decision l h t
+
+  abbrev fitting : ℕ → ℕ → ℕ → Decision
+  fitting long size room = if nat_le (long + size) room then decisions.Write else decisions.Full long size
+
+  frame_is : next_length front t.writes ≡ frame_size l h t
   frame_is =
       ap (λ (n : ℕ). frame_length log_format (Committed (n + 1) t.writes)) alike.last
       ∙ ap (λ (format : ℕ). frame_length format (commit_frame h t.writes)) (sym alike.format)
 
-  by_room : ruled (room_decision front t.writes) l h t ≡ commit_checked l h t None
-  by_room =
-      ap (λ (n : ℕ). ruled (if nat_le (n + next_length front t.writes) front.room then decisions.Write else decisions.Full n (next_length front t.writes)) l h t) alike.long
-      ∙ ap (λ (n : ℕ). ruled (if nat_le (l.active.length + n) front.room then decisions.Write else decisions.Full l.active.length n) l h t) frame_is
-      ∙ ap (λ (n : ℕ). ruled (if nat_le (l.active.length + frame_length l.active.format (commit_frame h t.writes)) n then decisions.Write
-      else decisions.Full l.active.length (frame_length l.active.format (commit_frame h t.writes))) l h t) alike.room
-      ∙ by (nat_le (l.active.length + frame_length l.active.format (commit_frame h t.writes)) l.room)
+  room_ruled : as_ruled (room_decision front t.writes) ≡ commit_checked l h t None
+  room_ruled =
+      ap (λ (n : ℕ). as_ruled (fitting n (next_length front t.writes) front.room)) alike.long
+      ∙ ap (λ (n : ℕ). as_ruled (fitting l.active.length n front.room)) frame_is
+      ∙ ap (λ (n : ℕ). as_ruled (fitting l.active.length (frame_size l h t) n)) alike.room
+      ∙ by (nat_le (l.active.length + frame_size l h t) l.room)
     where
-      by : (b : Bool) → ruled (if b then decisions.Write else decisions.Full l.active.length (frame_length l.active.format (commit_frame h t.writes))) l h t
-          ≡ (if b then committed l h t else leaving (answers.Full l.active.length (frame_length l.active.format (commit_frame h t.writes))) h l)
+      by : (fits : Bool) → as_ruled (if fits then decisions.Write else decisions.Full l.active.length (frame_size l h t))
+          ≡ by_fit l h t fits
       by true = refl
       by false = refl
 
-  by_conflict : (conflict : Option Named) → ruled (checked_decision front t.writes conflict) l h t ≡ commit_checked l h t conflict
-  by_conflict (Some named) = refl
-  by_conflict None = by_room
+  conflict_ruled : (conflict : Option Named)
+      → as_ruled (checked_decision front t.writes conflict) ≡ commit_checked l h t conflict
+  conflict_ruled (Some named) = refl
+  conflict_ruled None = room_ruled
 
-  by_number : (conflict : Option Named)
-      → ruled (if nat_le max_commit_number front.oracle.last then decisions.Exhausted else checked_decision front t.writes conflict) l h t
-      ≡ (if nat_le max_commit_number (last_number h) then leaving (answers.Exhausted counters.Commit) h l else commit_checked l h t conflict)
-  by_number conflict =
-      ap (λ (n : ℕ). ruled (if nat_le max_commit_number n then decisions.Exhausted else checked_decision front t.writes conflict) l h t) alike.last
-      ∙ by (nat_le max_commit_number (last_number h))
+  abbrev counting : Bool → Option Named → Decision
+  counting used conflict = if used then decisions.Exhausted else checked_decision front t.writes conflict
+
+  number_ruled : (conflict : Option Named) → as_ruled (counting (nat_le max_commit_number front.oracle.last) conflict)
+      ≡ by_left l h t (is_used_up l h t) conflict
+  number_ruled conflict =
+      ap (λ (n : ℕ). as_ruled (counting (nat_le max_commit_number n) conflict)) alike.last ∙ by (is_used_up l h t)
     where
-      by : (b : Bool) → ruled (if b then decisions.Exhausted else checked_decision front t.writes conflict) l h t
-          ≡ (if b then leaving (answers.Exhausted counters.Commit) h l else commit_checked l h t conflict)
+      by : (used : Bool) → as_ruled (counting used conflict) ≡ by_left l h t used conflict
       by true = refl
-      by false = by_conflict conflict
+      by false = conflict_ruled conflict
 
-  by_writes : (conflict : Option Named) → ruled (running_decision front t.writes conflict) l h t ≡ commit_running l h t conflict
-  by_writes conflict = by (length t.writes == 0)
+  writes_ruled : (conflict : Option Named)
+      → as_ruled (running_decision front t.writes conflict) ≡ commit_running l h t conflict
+  writes_ruled conflict = by (length t.writes == 0)
     where
-      by : (b : Bool) → ruled (if b then decisions.Nothing
-          else (if nat_le max_commit_number front.oracle.last then decisions.Exhausted else checked_decision front t.writes conflict)) l h t
-          ≡ (if b then commit_ended answers.Nothing l h t
-          else (if nat_le max_commit_number (last_number h) then leaving (answers.Exhausted counters.Commit) h l else commit_checked l h t conflict))
+      by : (none : Bool)
+          → as_ruled (if none then decisions.Nothing else counting (nat_le max_commit_number front.oracle.last) conflict)
+          ≡ by_some l h t none conflict
       by true = refl
-      by false = by_number conflict
+      by false = number_ruled conflict
 
-  -- It is the ruling.
+  -- The ruling is that on what was decided.
   pub ruled_so : ruled (decision_of front t.writes (first_conflict h t.number t.reads)) l h t ≡ commit_ruling l h t
-  ruled_so = by front.halted ∙ ap (λ (o : Option FileName). commit_unless o l h t (first_conflict h t.number t.reads)) alike.halted
+  ruled_so = by front.halted ∙ ap (λ (o : Option FileName). commit_unless o l h t (found l h t)) alike.halted
     where
-      by : (o : Option Name) → ruled (decision_unless o front t.writes (first_conflict h t.number t.reads)) l h t
-          ≡ commit_unless (option_map file_of o) l h t (first_conflict h t.number t.reads)
+      by : (o : Option Name) → as_ruled (decision_unless o front t.writes (found l h t))
+          ≡ commit_unless (option_map file_of o) l h t (found l h t)
       by (Some name) = refl
-      by None = by_writes (first_conflict h t.number t.reads)
+      by None = writes_ruled (found l h t)
 
 -- ---- a commit that is accepted
-
 
 -- nothing stands against a commit that is accepted
 pub record IsAccepted (l : Layout) (h : History) (t : Transaction) : Type 0 where
@@ -104,49 +136,43 @@ pub record IsAccepted (l : Layout) (h : History) (t : Transaction) : Type 0 wher
   pub no_conflict : first_conflict h t.number t.reads ≡ None
   pub ruling : commit_ruling l h t ≡ committed l h t
 
-module _ (l : Layout) (h : History) (t : Transaction) where
+module _ (l : Layout) (h : History) (t : Transaction) (number : ℕ) where
+  -- the ruling answers with the number
+  abbrev Accepts : Ruling CommitAnswer → Type 0
+  Accepts r = r.answer ≡ answers.At number
+
+  fit_accepted : (fits : Bool) → Accepts (by_fit l h t fits) → by_fit l h t fits ≡ committed l h t
+  fit_accepted true is = refl
+  fit_accepted false is = absurd cc
+
+  none_accepted : (conflict : Option Named) → Accepts (commit_checked l h t conflict)
+      → (conflict ≡ None) × (commit_checked l h t conflict ≡ committed l h t)
+  none_accepted (Some named) is = absurd cc
+  none_accepted None is = (refl, fit_accepted (nat_le (l.active.length + frame_size l h t) l.room) is)
+
+  left_accepted : (used : Bool) → is_used_up l h t ≡ used → Accepts (by_left l h t used (found l h t))
+      → (last_number h < max_commit_number) × (found l h t ≡ None) × (by_left l h t used (found l h t) ≡ committed l h t)
+  left_accepted true up is = absurd cc
+  left_accepted false left is =
+      let rest = none_accepted (found l h t) is in
+      let less : last_number h < max_commit_number = grind (arith, nat_tests, left) in
+      (less, rest.0, rest.1)
+
+  some_accepted : (none : Bool) → (length t.writes == 0) ≡ none → l.halted ≡ None
+      → Accepts (by_some l h t none (found l h t)) → by_some l h t none (found l h t) ≡ commit_ruling l h t
+      → IsAccepted l h t
+  some_accepted true nothing running is ruling = absurd cc
+  some_accepted false written running is ruling =
+      let rest = left_accepted (is_used_up l h t) refl is in
+      let some : 1 ≤ length t.writes = grind (arith, nat_tests, written) in
+      record { running = running; some = some; left = rest.0; no_conflict = rest.1; ruling = sym ruling ∙ rest.2 }
+
   -- A commit that is answered with a number was accepted.
-  pub answered_accepted : (number : ℕ) → (commit_ruling l h t).answer ≡ answers.At number → IsAccepted l h t
-  answered_accepted number is = unless l.halted refl is
+  pub answered_accepted : (commit_ruling l h t).answer ≡ answers.At number → IsAccepted l h t
+  answered_accepted is = by l.halted refl is
     where
-      checked : (conflict : Option Named) → first_conflict h t.number t.reads ≡ conflict → (commit_checked l h t conflict).answer ≡ answers.At number
-          → (conflict ≡ None) × (commit_checked l h t conflict ≡ committed l h t)
-      checked (Some named) found is = absurd cc
-      checked None none is = (refl, fits (nat_le (l.active.length + frame_length l.active.format (commit_frame h t.writes)) l.room) is)
-        where
-          fits : (b : Bool) → (if b then committed l h t else leaving (answers.Full l.active.length (frame_length l.active.format (commit_frame h t.writes))) h l).answer ≡ answers.At number
-              → (if b then committed l h t else leaving (answers.Full l.active.length (frame_length l.active.format (commit_frame h t.writes))) h l) ≡ committed l h t
-          fits true is = refl
-          fits false is = absurd cc
-
-      numbered : (b : Bool) → nat_le max_commit_number (last_number h) ≡ b
-          → (if b then leaving (answers.Exhausted counters.Commit) h l else commit_checked l h t (first_conflict h t.number t.reads)).answer ≡ answers.At number
-          → (last_number h < max_commit_number) × (first_conflict h t.number t.reads ≡ None)
-          × ((if b then leaving (answers.Exhausted counters.Commit) h l else commit_checked l h t (first_conflict h t.number t.reads)) ≡ committed l h t)
-      numbered true none is = absurd cc
-      numbered false left is =
-          let found = checked (first_conflict h t.number t.reads) refl is in
-          ((let less : last_number h < max_commit_number = grind (arith, nat_tests, left) in less), found.0, found.1)
-
-      written : (b : Bool) → (length t.writes == 0) ≡ b
-          → (if b then commit_ended answers.Nothing l h t
-          else (if nat_le max_commit_number (last_number h) then leaving (answers.Exhausted counters.Commit) h l else commit_checked l h t (first_conflict h t.number t.reads))).answer ≡ answers.At number
-          → (1 ≤ length t.writes) × ((last_number h < max_commit_number) × (first_conflict h t.number t.reads ≡ None)
-          × ((if b then commit_ended answers.Nothing l h t
-          else (if nat_le max_commit_number (last_number h) then leaving (answers.Exhausted counters.Commit) h l else commit_checked l h t (first_conflict h t.number t.reads))) ≡ committed l h t))
-      written true none is = absurd cc
-      written false some is =
-          ((let more : 1 ≤ length t.writes = grind (arith, nat_tests, some) in more), numbered (nat_le max_commit_number (last_number h)) refl is)
-
-      unless : (o : Option FileName) → l.halted ≡ o
-          → (commit_unless o l h t (first_conflict h t.number t.reads)).answer ≡ answers.At number → IsAccepted l h t
-      unless (Some name) halted is = absurd cc
-      unless None running is =
-          let all = written (length t.writes == 0) refl is in
-          record {
-            running = running;
-            some = all.0;
-            left = all.1.0;
-            no_conflict = all.1.1;
-            ruling = ap (λ (p : Option FileName). commit_unless p l h t (first_conflict h t.number t.reads)) running ∙ all.1.2;
-          }
+      by : (o : Option FileName) → l.halted ≡ o → Accepts (commit_unless o l h t (found l h t)) → IsAccepted l h t
+      by (Some name) halted is = absurd cc
+      by None running is =
+          some_accepted (length t.writes == 0) refl running is
+          (ap (λ (p : Option FileName). commit_unless p l h t (found l h t)) (sym running))

@@ -143,4 +143,5 @@ module _ (live : LiveTickets) (named : List Named) (h : History) (l : Layout) (i
       live_is = tickets ∙ live_ended live l h is.live_are t.ticket
 
       lived_then : IsLivedIn (committed l h t).layout (with_commit h (from_sorted t.writes))
-      lived_then = live-committed (ended t.ticket l) (committed l h t).layout h (from_sorted t.writes) refl (live-ended l h is.lived t.ticket)
+      lived_then = live-committed (ended t.ticket l) (committed l h t).layout h (from_sorted t.writes) refl
+          (live-ended l h is.lived t.ticket)
