@@ -1,0 +1,5 @@
+pub mod Answers
+pub mod Faults
+pub mod Scans
+pub mod Sources
+pub mod Values
