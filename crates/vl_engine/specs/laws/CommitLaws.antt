@@ -1,12 +1,16 @@
 -- A commit's frame behind the active log of a disk that holds a layout: what a crash leaves meanwhile, and what is held then.
-use Rattle.std.specs.Prelude.{◌≡◌, ◌⊎◌, ◌<◌, ◌≤◌, ℕ, ◌+◌, T, List, [], ◌∷◌, ◌++◌, length, Ok}
-use Rattle.std.specs.FinMap.{from_sorted, is_sorted}
+use Rattle.std.specs.Prelude.{◌≡◌, ◌≤◌, ℕ, ◌+◌, List, [], ◌∷◌, ◌++◌, length, Ok}
+use Rattle.std.specs.FinMap.{from_sorted}
 use Rattle.std.proofs.Common.{sym, ap, subst, ◌∙◌, length-append, arith, ⊎_elim}
 use Rattle.vl_disk.specs.Crash.{Image, WhileAppending, WhileSyncing}
 use Rattle.vl_disk.specs.DiskState.{DiskState, appended, synced}
-use Rattle.vl_disk.specs.laws.Lawful.{appended_lawful, synced_lawful}
-use Rattle.vl_disk.specs.declared.name.Name.{Name}
 use Rattle.vl_disk.specs.declared.name.Name.TheVariants.{Log}
+use Rattle.vl_disk.specs.declared.name.Name.{Name}
+use Rattle.vl_disk.specs.laws.Lawful.{appended_lawful, synced_lawful}
+use Rattle.vl_engine.specs.Held.{Base, Holds, IsBase, logs_from}
+use Rattle.vl_engine.specs.Shown.{ShowsBetween, no_logs}
+use Rattle.vl_engine.specs.laws.HeldLaws.{held_logs_show}
+use Rattle.vl_engine.specs.laws.ShownLaws.{shown_by, shown_later}
 use Rattle.vl_frame.specs.Runs.{HasFrame}
 use Rattle.vl_layout.specs.Logs.{log_length}
 use Rattle.vl_layout.specs.Rulings.Commit.{Transaction, commit_frame, committed}
@@ -25,10 +29,6 @@ use Rattle.vl_recover.specs.laws.crash.TornFrames.{frame_behind}
 use Rattle.vl_recover.specs.opening.Opening.{Opens}
 use Rattle.vl_seglog.specs.Frames.{frames_grammar}
 use Rattle.vl_seglog.specs.laws.FrameLaws.{frames_end-more}
-use Rattle.vl_engine.specs.Held.{Base, Holds, IsBase, logs_from}
-use Rattle.vl_engine.specs.Shown.{LogsShow, Shown, ShowsBetween, no_logs}
-use Rattle.vl_engine.specs.laws.HeldLaws.{held_logs_show}
-use Rattle.vl_engine.specs.laws.ShownLaws.{shown_by, shown_later}
 
 -- of a transaction that commits, over a layout that a disk holds
 module _ (b : Base) (l : Layout) (h : History) (t : Transaction) (base : IsBase b l h) (tidy : IsTidy no_logs l h) where

@@ -6,6 +6,7 @@ use Rattle.std.proofs.Common.{sym, ap, subst, ◌∙◌, cond, length-append, ar
 use Rattle.std.proofs.lemmas.Bool.Decides.{nat_tests}
 use Rattle.vl_conflict.specs.Recent.{Remembers, since}
 use Rattle.vl_engine.specs.Represents.{IsFront}
+use Rattle.vl_engine.specs.laws.LiveLaws.{live_begun, live_ended, same_floor}
 use Rattle.vl_layout.specs.Ruling.{ended, pin_of}
 use Rattle.vl_layout.specs.Rulings.Begin.{begun}
 use Rattle.vl_layout.specs.Rulings.Commit.{Transaction, committed}
@@ -22,9 +23,8 @@ use Rattle.vl_model.specs.History.{History, last_naming, last_number, newer, wit
 use Rattle.vl_model.specs.Keys.{Writes, key_cmp}
 use Rattle.vl_model.specs.Limits.{max_live}
 use Rattle.vl_model.specs.declared.change.Change.{Change}
-use Rattle.vl_oracle.specs.LiveTickets.{LiveTickets, floor_of}
 use Rattle.vl_oracle.specs.LiveTickets as oracle
-use Rattle.vl_engine.specs.laws.LiveLaws.{live_begun, live_ended, same_floor}
+use Rattle.vl_oracle.specs.LiveTickets.{LiveTickets, floor_of}
 
 -- ---- what is remembered
 

@@ -1,14 +1,18 @@
 -- What a crash leaves of a disk that holds a layout shows the history, and a store may be opened on it again.
 use Rattle.std.specs.Prelude.{◌≡◌, ◌≤◌, ℕ, List, [], ◌∷◌, ◌++◌, Ok}
 use Rattle.std.specs.List.{AllByRecursion, filter, flat_map}
-use Rattle.std.proofs.Common.{sym, ap, subst, ◌∙◌, append-nil, arith}
+use Rattle.std.proofs.Common.{sym, ap, subst, ◌∙◌, append-nil}
 use Rattle.vl_disk.specs.Crash.{Image, MayLeave}
 use Rattle.vl_disk.specs.DiskState.{DiskState}
 use Rattle.vl_disk.specs.Started.{IsRead, read_left}
+use Rattle.vl_engine.specs.Held.{Base, Holds, IsBase, logs_from}
+use Rattle.vl_engine.specs.Shown.{LogsShow, Shown, logs_entries, no_logs}
+use Rattle.vl_engine.specs.laws.LogEntries.{entries-append, entries-filtered, entries-newest}
+use Rattle.vl_engine.specs.laws.ShownLaws.{shown_by}
 use Rattle.vl_layout.specs.Logs.{memtable}
 use Rattle.vl_layout.specs.Shown.{IsOf}
 use Rattle.vl_layout.specs.Shows.{AreUpTo, Shows}
-use Rattle.vl_layout.specs.Sources.{floor, sources, table_entries, tables}
+use Rattle.vl_layout.specs.Sources.{floor, sources, table_entries}
 use Rattle.vl_layout.specs.Start.{has_frames}
 use Rattle.vl_layout.specs.Tidy.{IsTidy}
 use Rattle.vl_layout.specs.declared.layout.Layout.{Layout}
@@ -27,10 +31,6 @@ use Rattle.vl_recover.specs.laws.opening.HeldLaws.{held_may_open, held_opens, he
 use Rattle.vl_recover.specs.laws.opening.OpeningLaws.{single_opening}
 use Rattle.vl_recover.specs.laws.repairing.StageLaws.{ok_same}
 use Rattle.vl_recover.specs.opening.Opening.{Opening, Opens, Refusal}
-use Rattle.vl_engine.specs.Held.{Base, Holds, IsBase, logs_from}
-use Rattle.vl_engine.specs.Shown.{LogsShow, Shown, logs_entries, no_logs}
-use Rattle.vl_engine.specs.laws.LogEntries.{entries-append, entries-filtered, entries-newest}
-use Rattle.vl_engine.specs.laws.ShownLaws.{shown_by}
 
 -- versions of a history aren't above its last number
 pub of_up_to : (h : History) (es : List Entry) → AllByRecursion (IsOf h) es → AreUpTo (last_number h) es

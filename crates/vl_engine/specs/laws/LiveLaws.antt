@@ -1,5 +1,5 @@
 -- What lives, as the oracle has it and as the layout has it: tickets, the floor, and what begins and ends.
-use Rattle.std.specs.Prelude.{◌≡◌, ◌<◌, ◌≤◌, ℕ, ◌+◌, ◌==◌, min, Bool, true, false, not, ◌||◌, nat_lt, List, [], ◌∷◌, Option, None, Some, unwrap_or, refl}
+use Rattle.std.specs.Prelude.{◌≡◌, ◌≤◌, ℕ, ◌+◌, ◌==◌, min, Bool, true, false, not, nat_lt, List, [], ◌∷◌, Option, None, Some, unwrap_or, refl}
 use Rattle.std.specs.Cmp.{nat_cmp_total, unsigned_tied}
 use Rattle.std.specs.FinMap.{find, put}
 use Rattle.std.specs.FinMap.Entries.{by_order, find-put, find-where_key}
@@ -8,7 +8,7 @@ use Rattle.std.specs.Option.{option_map}
 use Rattle.std.specs.Ordering.{eq_by_cmp, nat_cmp}
 use Rattle.std.specs.declared.cmp.Ordering.{Ordering}
 use Rattle.std.specs.declared.cmp.Ordering.TheVariants.{Less, Equal, Greater}
-use Rattle.std.proofs.Common.{sym, ap, subst, ◌∙◌, cond, arith}
+use Rattle.std.proofs.Common.{sym, ap, ◌∙◌, cond, arith}
 use Rattle.std.proofs.lemmas.Bool.Decides.{nat_tests}
 use Rattle.vl_engine.specs.Represents.{IsLive}
 use Rattle.vl_layout.specs.Rising.{put_by}
@@ -25,8 +25,8 @@ use Rattle.vl_layout_laws.specs.Live.{IsLivedIn}
 use Rattle.vl_layout_laws.specs.laws.Files.{or_false}
 use Rattle.vl_layout_laws.specs.laws.Lives.{free_one}
 use Rattle.vl_model.specs.History.{History, last_number}
-use Rattle.vl_oracle.specs.LiveTickets.{LiveTickets, Ticket, floor_of}
 use Rattle.vl_oracle.specs.LiveTickets as oracle
+use Rattle.vl_oracle.specs.LiveTickets.{LiveTickets, Ticket, floor_of}
 
 -- ---- tickets
 

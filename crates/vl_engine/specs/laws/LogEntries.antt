@@ -1,8 +1,9 @@
 -- The entries of logs, end to end: of logs together, from the newest on, and of those with frames alone.
-use Rattle.std.specs.Prelude.{◌≡◌, ℕ, Bool, true, false, List, [], ◌∷◌, ◌++◌, map, Some, refl}
+use Rattle.std.specs.Prelude.{◌≡◌, ℕ, List, [], ◌∷◌, ◌++◌, map, Some, refl}
 use Rattle.std.specs.List.{AllByRecursion, filter, flat_map}
 use Rattle.std.proofs.Common.{sym, ap, ◌∙◌, append_assoc, append-nil}
 use Rattle.std.proofs.lemmas.Grind.{flat_map-append}
+use Rattle.vl_engine.specs.Shown.{logs_entries}
 use Rattle.vl_layout.specs.Logs.{log_length, memtable, new_segment}
 use Rattle.vl_layout.specs.Start.{has_frames, newest_first}
 use Rattle.vl_layout.specs.Tidy.{IsTrueLog}
@@ -11,7 +12,6 @@ use Rattle.vl_model.specs.declared.entry.Entry.{Entry}
 use Rattle.vl_model.specs.declared.log_frame.LogFrame.{LogFrame}
 use Rattle.vl_recover.specs.crash.Held.{log_as_held}
 use Rattle.vl_recover.specs.opening.Walk.{filled, with_frames}
-use Rattle.vl_engine.specs.Shown.{logs_entries}
 
 -- the later logs' entries are the newer ones
 pub entries-append : (xs ys : List Segment) → logs_entries (xs ++ ys) ≡ logs_entries ys ++ logs_entries xs

@@ -2,13 +2,12 @@
 -- log with the commit's frame.
 use Rattle.std.specs.Prelude.{◌≡◌, ◌<◌, ◌≤◌, ℕ, ◌+◌, ◌&&◌, ◌==◌, T, Bool, true, false, List, [], ◌∷◌, ◌++◌, None, Some, refl}
 use Rattle.std.specs.FinMap.Entries.{below_all, is_sorted}
-use Rattle.std.specs.List.{AllByRecursion}
 use Rattle.std.specs.Ordering.{eq_by_cmp, is_lt, nat_cmp, ordering_then}
 use Rattle.std.specs.declared.cmp.Ordering.{Ordering}
 use Rattle.std.specs.declared.cmp.Ordering.TheVariants.{Less, Equal, Greater}
 use Rattle.std.proofs.Common.{sym, ap, ◌∙◌, cond, arith}
 use Rattle.std.proofs.lemmas.Bool.Decides.{nat_tests}
-use Rattle.vl_layout.specs.Logs.{frame_entries, log_length, logged_entries, memtable, record_entry}
+use Rattle.vl_layout.specs.Logs.{frame_entries, logged_entries, memtable, record_entry}
 use Rattle.vl_layout.specs.Ruling.{logged}
 use Rattle.vl_layout.specs.Shows.{AreUpTo}
 use Rattle.vl_layout.specs.Tidy.{IsTrueLog}
@@ -18,7 +17,7 @@ use Rattle.vl_layout.specs.laws.LayoutShows.{logged_entries-more, place_behind, 
 use Rattle.vl_layout.specs.laws.OrderShows.{all-in_order}
 use Rattle.vl_layout.specs.laws.ShowsLaws.{all_both}
 use Rattle.vl_memtable.specs.Contents.{IsNewTo}
-use Rattle.vl_model.specs.Entries.{entry_cmp, in_order, is_at}
+use Rattle.vl_model.specs.Entries.{in_order}
 use Rattle.vl_model.specs.Frames.{record_length}
 use Rattle.vl_model.specs.Keys.{key_cmp}
 use Rattle.vl_model.specs.Winners.{exact}

@@ -8,14 +8,14 @@ use Rattle.std.proofs.Common.{sym, ap, subst, ◌∙◌, cond, append-nil, arith
 use Rattle.std.proofs.lemmas.Bool.Decides.{nat_tests}
 use Rattle.std.proofs.lemmas.List.Elements.{filter-append}
 use Rattle.std.proofs.lemmas.List.{map-append}
-use Rattle.vl_model.specs.History.{History, commits_up_to, known_up_to, last_change, newer, past_value, value_at, value_left}
+use Rattle.vl_engine.specs.Reopened.{past_up_to, reopened}
+use Rattle.vl_model.specs.History.{History, commits_up_to, known_up_to, last_change, newer, value_at, value_left}
 use Rattle.vl_model.specs.Keys.{Stored, Writes}
 use Rattle.vl_model.specs.Numbers.{at_least, greater, greatest_below, low_of, next_below, nth_below}
 use Rattle.vl_model.specs.Versions.{Numbered, all_numbered, low, naming, numbered, versions}
 use Rattle.vl_model.specs.declared.change.Change.{Change}
 use Rattle.vl_model.specs.laws.HistoryLaws.{value_left-newer}
 use Rattle.vl_model.specs.laws.NumberLaws.{IsFound, greatest-found}
-use Rattle.vl_engine.specs.Reopened.{past_up_to, reopened}
 
 abbrev is_up_to : ℕ → Numbered → Bool
 is_up_to m c = nat_le c.0 m

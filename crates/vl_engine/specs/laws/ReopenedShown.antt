@@ -4,6 +4,9 @@ use Rattle.std.specs.List.{AllByRecursion, filter}
 use Rattle.std.proofs.Common.{sym, ap, subst, ◌∙◌, cond, arith}
 use Rattle.std.proofs.lemmas.Bool.Decides.{nat_tests}
 use Rattle.vl_disk.specs.Crash.{Image}
+use Rattle.vl_engine.specs.Reopened.{reopened}
+use Rattle.vl_engine.specs.Shown.{LogsShow, Shown, logs_entries}
+use Rattle.vl_engine.specs.laws.ReopenedLaws.{low-reopened, value_at-reopened, versions-reopened}
 use Rattle.vl_layout.specs.Shown.{IsOf}
 use Rattle.vl_layout.specs.Shows.{AreUpTo}
 use Rattle.vl_layout.specs.declared.segment.Segment.{Segment}
@@ -12,9 +15,6 @@ use Rattle.vl_model.specs.Numbers.{has}
 use Rattle.vl_model.specs.Versions.{versions}
 use Rattle.vl_model.specs.declared.entry.Entry.{Entry}
 use Rattle.vl_model.specs.laws.HistoryLaws.{past_value-empty, value_at-first}
-use Rattle.vl_engine.specs.Reopened.{reopened}
-use Rattle.vl_engine.specs.Shown.{LogsShow, Shown, logs_entries}
-use Rattle.vl_engine.specs.laws.ReopenedLaws.{low-reopened, value_at-reopened, versions-reopened}
 
 has-filtered : (m n : ℕ) → n ≤ m → (ns : List ℕ) → has n ns ≡ true → has n (filter (λ (k : ℕ). nat_le k m) ns) ≡ true
 has-filtered m n le [] there = there

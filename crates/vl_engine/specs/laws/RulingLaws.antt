@@ -1,12 +1,17 @@
 -- What a front decides on a commit is what the ruling on it has.
-use Rattle.std.specs.Prelude.{◌≡◌, ◌≤◌, ◌<◌, ℕ, ◌+◌, ◌==◌, nat_le, Bool, true, false, if◌then◌else◌, List, length, Option, None, Some, refl}
+use Rattle.std.specs.Prelude.{◌≡◌, ◌≤◌, ◌<◌, ℕ, ◌+◌, ◌==◌, nat_le, Bool, true, false, if◌then◌else◌, length, Option, None, Some, refl}
 use Rattle.std.specs.Option.{option_map}
 use Rattle.std.proofs.Common.{sym, ap, ◌∙◌, arith}
 use Rattle.std.proofs.lemmas.Bool.Decides.{nat_tests}
 use Rattle.vl_disk.specs.declared.name.Name.{Name}
+use Rattle.vl_engine.specs.Represents.{file_of}
+use Rattle.vl_front.specs.Decisions.{checked_decision, decision_of, decision_unless, next_length, room_decision, running_decision}
+use Rattle.vl_front.specs.declared.decision.Decision.TheVariants as decisions
+use Rattle.vl_front.specs.declared.decision.Decision.{Decision}
+use Rattle.vl_front.specs.declared.front.Front.{Front}
 use Rattle.vl_layout.specs.Ruling.{Ruling, leaving}
-use Rattle.vl_layout.specs.Rulings.Commit.{CommitAnswer, Transaction, commit_checked, commit_ended, commit_frame, commit_ruling, commit_running, commit_unless, committed}
 use Rattle.vl_layout.specs.Rulings.Commit as answers
+use Rattle.vl_layout.specs.Rulings.Commit.{CommitAnswer, Transaction, commit_checked, commit_ended, commit_frame, commit_ruling, commit_running, commit_unless, committed}
 use Rattle.vl_layout.specs.declared.file_name.FileName.{FileName}
 use Rattle.vl_layout.specs.declared.layout.Layout.{Layout}
 use Rattle.vl_model.specs.Conflicts.{Named, first_conflict}
@@ -16,11 +21,6 @@ use Rattle.vl_model.specs.History.{History, last_number}
 use Rattle.vl_model.specs.Limits.{max_commit_number}
 use Rattle.vl_model.specs.declared.counter.Counter.TheVariants as counters
 use Rattle.vl_model.specs.declared.log_frame.LogFrame.TheVariants.{Committed}
-use Rattle.vl_front.specs.declared.front.Front.{Front}
-use Rattle.vl_front.specs.declared.decision.Decision.{Decision}
-use Rattle.vl_front.specs.declared.decision.Decision.TheVariants as decisions
-use Rattle.vl_engine.specs.Represents.{file_of}
-use Rattle.vl_front.specs.Decisions.{checked_decision, decision_of, decision_unless, next_length, room_decision, running_decision}
 
 -- the ruling on a commit of which this was decided
 abbrev pub ruled : Decision → Layout → History → Transaction → Ruling CommitAnswer

@@ -1,9 +1,11 @@
 -- What is shown of a history stays shown of each later one, and by images that open alike.
-use Rattle.std.specs.Prelude.{◌≡◌, ◌≤◌, ℕ, List, [], ◌∷◌, map, Ok, refl}
+use Rattle.std.specs.Prelude.{◌≤◌, ℕ, List, [], ◌∷◌, Ok, refl}
 use Rattle.std.specs.List.{AllByRecursion}
-use Rattle.std.proofs.Common.{sym, ap, subst, ◌∙◌, arith}
+use Rattle.std.proofs.Common.{sym, subst, ◌∙◌, arith}
 use Rattle.vl_disk.specs.Crash.{Image}
 use Rattle.vl_disk.specs.DiskState.{DiskState}
+use Rattle.vl_engine.specs.Shown.{LogsShow, Shown, ShowsBetween, logs_entries, no_logs}
+use Rattle.vl_engine.specs.laws.LogEntries.{entries-filled}
 use Rattle.vl_layout.specs.Shown.{IsOf}
 use Rattle.vl_layout.specs.Shows.{AreUpTo, Shows}
 use Rattle.vl_layout.specs.declared.segment.Segment.{Segment}
@@ -16,11 +18,8 @@ use Rattle.vl_model.specs.declared.entry.Entry.{Entry}
 use Rattle.vl_model.specs.laws.HistoryLaws.{last_number-extends}
 use Rattle.vl_model.specs.laws.VersionLaws.{versions-stay}
 use Rattle.vl_recover.specs.crash.Alike.{IsLeft, OpensAsOf, OpensLike}
-use Rattle.vl_recover.specs.crash.Held.{log_as_held, opening_held}
-use Rattle.vl_recover.specs.opening.Opening.{Opening, Opens}
-use Rattle.vl_recover.specs.opening.Walk.{filled}
-use Rattle.vl_engine.specs.Shown.{LogsShow, Shown, ShowsBetween, logs_entries, no_logs}
-use Rattle.vl_engine.specs.laws.LogEntries.{entries-filled}
+use Rattle.vl_recover.specs.crash.Held.{opening_held}
+use Rattle.vl_recover.specs.opening.Opening.{Opens}
 
 -- ---- a later history
 

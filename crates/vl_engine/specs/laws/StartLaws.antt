@@ -9,6 +9,11 @@ use Rattle.std.proofs.lemmas.List.Elements.{filter-append}
 use Rattle.vl_disk.specs.Crash.{Image}
 use Rattle.vl_disk.specs.DiskState.{DiskState, IsLawful}
 use Rattle.vl_disk.specs.declared.name.Name.TheVariants.{Log}
+use Rattle.vl_engine.specs.Held.{Base, Holds, IsBase}
+use Rattle.vl_engine.specs.Opening.{but_last, recovered, state_then}
+use Rattle.vl_engine.specs.Shown.{LogsShow, Shown, logs_entries, no_logs}
+use Rattle.vl_engine.specs.laws.HeldLaws.{sources-logs}
+use Rattle.vl_engine.specs.laws.LogEntries.{entries-filled, filled-filtered}
 use Rattle.vl_layout.specs.Jobs.{AreDistinct}
 use Rattle.vl_layout.specs.Logs.{new_segment}
 use Rattle.vl_layout.specs.Rising.{IsRising}
@@ -36,11 +41,6 @@ use Rattle.vl_recover.specs.opening.Answers.{Finds, and_made, as_segments, last_
 use Rattle.vl_recover.specs.opening.Opening.{Opening, Refusal, StandingLogs}
 use Rattle.vl_recover.specs.opening.Plans.{active_log, active_of, last_number as last_log, log_behind, log_made}
 use Rattle.vl_recover.specs.opening.Walk.{StandingLog, filled, format_of}
-use Rattle.vl_engine.specs.Held.{Base, Holds, IsBase}
-use Rattle.vl_engine.specs.Shown.{LogsShow, Shown, logs_entries, no_logs}
-use Rattle.vl_engine.specs.Opening.{but_last, recovered, state_then}
-use Rattle.vl_engine.specs.laws.HeldLaws.{sources-logs}
-use Rattle.vl_engine.specs.laws.LogEntries.{entries-filled, filled-filtered}
 
 -- ---- logs that rise
 

@@ -1,14 +1,18 @@
 -- What a version holds is what the layout's sources are: at the start, and behind a commit.
-use Rattle.std.specs.Prelude.{◌≡◌, ℕ, List, [], ◌∷◌, ◌++◌, map, reverse, Option, Some, None, refl}
+use Rattle.std.specs.Prelude.{◌≡◌, ℕ, List, [], ◌∷◌, ◌++◌, map, reverse, Option, Some, refl}
 use Rattle.std.specs.List.{AllByRecursion, flat_map}
 use Rattle.std.specs.Option.{option_map}
 use Rattle.std.proofs.Common.{sym, ap, subst, ◌∙◌, append-nil}
 use Rattle.std.proofs.lemmas.Grind.{flat_map-append}
 use Rattle.std.proofs.lemmas.List.{reverse-append}
 use Rattle.vl_disk.specs.Crash.{Image}
+use Rattle.vl_engine.specs.Opening.{recovered}
+use Rattle.vl_engine.specs.Shown.{no_logs}
+use Rattle.vl_engine.specs.laws.MemtableLaws.{memtable_more}
+use Rattle.vl_engine.specs.laws.StartLaws.{frozen_found}
 use Rattle.vl_layout.specs.Logs.{frame_entries, memtable}
+use Rattle.vl_layout.specs.Ruling.{ended}
 use Rattle.vl_layout.specs.Rulings.Commit.{Transaction, commit_frame, committed}
-use Rattle.vl_layout.specs.Ruling.{ended, logged}
 use Rattle.vl_layout.specs.Sources.{behind_active, sources}
 use Rattle.vl_layout.specs.Start.{layout_at_start, newest_first}
 use Rattle.vl_layout.specs.Tidy.{IsTrueLog}
@@ -18,15 +22,11 @@ use Rattle.vl_memtable.specs.Contents.{Contents}
 use Rattle.vl_model.specs.Entries.{in_order}
 use Rattle.vl_model.specs.History.{History}
 use Rattle.vl_model.specs.Winners.{resolved}
-use Rattle.vl_model.specs.declared.entry.Body.{Body}
 use Rattle.vl_model.specs.declared.entry.Body.TheVariants.{Inline, Gone, Far, Logged}
+use Rattle.vl_model.specs.declared.entry.Body.{Body}
 use Rattle.vl_model.specs.declared.entry.Entry.{Entry}
 use Rattle.vl_recover.specs.opening.Answers.{Finds}
 use Rattle.vl_seglog.specs.declared.sealed.SealedLog.{SealedLog}
-use Rattle.vl_engine.specs.Shown.{no_logs}
-use Rattle.vl_engine.specs.Opening.{recovered}
-use Rattle.vl_engine.specs.laws.MemtableLaws.{memtable_more}
-use Rattle.vl_engine.specs.laws.StartLaws.{frozen_found}
 use Rattle.vl_version.specs.Sources.{AreTold, HasEntries, LeadsIn, held_entries, in_memory, stored_in}
 use Rattle.vl_version.specs.declared.version.Version.{Version}
 

@@ -1,5 +1,0 @@
-pub mod Held
-pub mod laws
-pub mod Reopened
-pub mod Shown
-pub mod Start

@@ -1,9 +1,0 @@
-pub mod Decisions
-pub mod Fakes
-pub mod Kept
-pub mod laws
-pub mod Live
-pub mod LiveTickets
-pub mod Notes
-pub mod Recent
-pub mod Reopened

@@ -1,9 +1,0 @@
-pub mod Files
-pub mod Floors
-pub mod FrontLaws
-pub mod Lives
-pub mod LiveLaws
-pub mod MemtableLaws
-pub mod ReopenedLaws
-pub mod RulingLaws
-pub mod SeesLaws

@@ -1,4 +1,0 @@
-pub mod Edit
-pub mod ManifestState
-pub mod StateFail
-pub mod VersionBuilder

@@ -1,5 +1,0 @@
-pub mod Held
-pub mod Reopened
-pub mod Shown
-pub mod Start
-pub mod laws

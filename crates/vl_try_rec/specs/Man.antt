@@ -1,9 +1,0 @@
-pub mod Current
-pub mod Edits
-pub mod Formats
-pub mod Grammar
-pub mod Levels
-pub mod Manifest
-pub mod States
-pub mod Tables
-pub mod laws

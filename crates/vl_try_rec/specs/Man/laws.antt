@@ -1,7 +1,0 @@
-pub mod CurrentLaws
-pub mod EditLaws
-pub mod ManifestLaws
-pub mod StateLaws
-pub mod TableLaws
-pub mod TableLists
-pub mod WholeLaws

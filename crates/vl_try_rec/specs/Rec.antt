@@ -1,3 +1,0 @@
-pub mod crash
-pub mod laws
-pub mod opening

@@ -1,3 +1,0 @@
-pub mod crash
-pub mod opening
-pub mod repairing

@@ -1,4 +1,0 @@
-pub mod AlikeLaws
-pub mod AppendLaws
-pub mod OneName
-pub mod TornFrames

@@ -1,4 +1,0 @@
-pub mod ContentLaws
-pub mod HeldLaws
-pub mod LeadsLaws
-pub mod OpeningLaws

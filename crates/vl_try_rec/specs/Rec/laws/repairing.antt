@@ -1,2 +1,0 @@
-pub mod RecoveredLaws
-pub mod StageLaws

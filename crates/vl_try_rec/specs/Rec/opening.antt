@@ -1,5 +1,0 @@
-pub mod Answers
-pub mod Opening
-pub mod Plans
-pub mod Stages
-pub mod Walk

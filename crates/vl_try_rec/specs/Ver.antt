@@ -1,3 +1,0 @@
-pub mod Fake
-pub mod Scans
-pub mod Sources
