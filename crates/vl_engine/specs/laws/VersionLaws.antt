@@ -37,7 +37,8 @@ module _ {H : Type 0} (bytes : H → Option (List ℕ)) (version : Version H) (n
       → resolved (stored_in bytes version.behind.logs.items) key body ≡ resolved no_logs key body
   leads_nowhere key (Inline value) = refl
   leads_nowhere key Gone = refl
-  leads_nowhere key (Far pointer) = ap (λ (logs : List (SealedLog H)). option_map Some (stored_in bytes logs pointer key)) none
+  leads_nowhere key (Far pointer) =
+      ap (λ (logs : List (SealedLog H)). option_map Some (stored_in bytes logs pointer key)) none
   leads_nowhere key (Logged value pointer) = refl
 
   all_nowhere : (es : List Entry) → AllByRecursion (LeadsIn bytes version no_logs) es
@@ -83,15 +84,18 @@ cancelled : (xs ys zs : List Entry) → xs ++ ys ≡ xs ++ zs → ys ≡ zs
 cancelled [] ys zs same = same
 cancelled (x ∷ xs) ys zs same = cancelled xs ys zs (let rest : xs ++ ys ≡ xs ++ zs = cc in rest)
 
+-- the entries that a commit adds
+abbrev pub next_entries : Layout → History → Transaction → List Entry
+next_entries l h t = frame_entries l.active.format l.active.number l.active.length (commit_frame h t.writes)
+
 module _ {H : Type 0} (version after : Version H) (l : Layout) (h : History) (t : Transaction)
     (active : version.active.entries ≡ memtable l.active) (true_log : IsTrueLog l.active)
-    (more : after.active.entries
-    ≡ in_order (frame_entries l.active.format l.active.number l.active.length (commit_frame h t.writes) ++ version.active.entries)) where
+    (more : after.active.entries ≡ in_order (next_entries l h t ++ version.active.entries)) where
   -- With the commit's entries over it the memtable is that of the log with its frame,
   pub active_committed : after.active.entries ≡ memtable (committed l h t).layout.active
   active_committed =
       more
-      ∙ ap (λ (es : List Entry). in_order (frame_entries l.active.format l.active.number l.active.length (commit_frame h t.writes) ++ es)) active
+      ∙ ap (λ (es : List Entry). in_order (next_entries l h t ++ es)) active
       ∙ memtable_more (ended t.ticket l) (commit_frame h t.writes) true_log
 
   -- and the sources are those in memory then, where nothing else changed.
