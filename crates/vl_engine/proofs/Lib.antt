@@ -1,0 +1,4 @@
+pub mod Carrying
+pub mod Halted
+pub mod Represented
+pub mod Standing

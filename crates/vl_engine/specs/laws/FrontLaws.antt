@@ -142,3 +142,18 @@ module _ (live : LiveTickets) (named : List Named) (h : History) (l : Layout) (i
       lived_then : IsLivedIn (committed l h t).layout (with_commit h (from_sorted t.writes))
       lived_then = live-committed (ended t.ticket l) (committed l h t).layout h (from_sorted t.writes) refl
           (live-ended l h is.lived t.ticket)
+
+-- The same of an oracle that is known, and of what is remembered from its floor on.
+pub front_known : (live : LiveTickets) (named : List Named) (h : History) (l : Layout) → IsFront live named h l
+    → (now : LiveTickets) (named_now : List Named) → now ≡ live → Remembers (floor_of now) h named_now
+    → IsFront now named_now h l
+front_known live named h l is now named_now same remembers =
+    let last = ap (λ (o : LiveTickets). o.last) same ∙ is.last in
+    let live_are = ap (λ (o : LiveTickets). o.tickets) same ∙ is.live_are in
+    record {
+      last = last;
+      live_are = live_are;
+      lived = is.lived;
+      readable = is.readable;
+      remembers = subst (λ (n : ℕ). Remembers n h named_now) (same_floor now l h last live_are is.lived) remembers;
+    }
