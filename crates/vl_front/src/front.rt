@@ -1,4 +1,4 @@
-ghost use Rattle.std.specs.Prelude.{◌≡◌, ◌≤◌, ◌<◌, ◌+◌, ◌↔◌, ℕ, List, length, None, IfOk, OnErr, vec_len};
+ghost use Rattle.std.specs.Prelude.{◌≡◌, ◌≤◌, ◌<◌, ◌+◌, ◌↔◌, ℕ, List, [], length, None, IfOk, OnErr, vec_len};
 ghost use Rattle.std.specs.FinMap.{entries};
 ghost use Rattle.vl_model.specs.Conflicts.{first_conflict};
 ghost use Rattle.vl_model.specs.History.{History, last_number, with_commit};
@@ -6,12 +6,13 @@ ghost use Rattle.vl_model.specs.Keys.{Writes};
 ghost use Rattle.vl_model.specs.Limits.{max_commit_number, max_live};
 ghost use Rattle.vl_model.specs.Notes.{AreNotesOf};
 ghost use Rattle.vl_model.specs.Reads.{Read};
-ghost use Rattle.vl_conflict.specs.Notes.{Kept};
 ghost use Rattle.vl_conflict.specs.Recent.{Remembers};
 ghost use Rattle.vl_oracle.specs.LiveTickets.{advanced, begun, ended, free_ticket};
+ghost use Rattle.vl_front.specs.Noting.{keys_of};
 ghost use Rattle.vl_front.specs.declared.decision.Decision.TheVariants.{Write};
 
 use crate::Decision;
+use crate::noting::{note_all, shared_keys};
 use std::alloc::{AllocError, Global};
 use vl_conflict::Recent;
 use vl_disk::Name;
@@ -33,8 +34,8 @@ pub struct Front {
 }
 
 impl Front {
-    ghost use Rattle.vl_front.specs.Decisions.{decision_of, MayWrite};
-    ghost use Rattle.vl_front.specs.Front.{Knows, IsSame, SameLog, keys_of};
+    ghost use Rattle.vl_front.specs.Decisions.{decision_of, running_decision, room_decision, MayWrite};
+    ghost use Rattle.vl_front.specs.Front.{Knows, IsSame, SameLog};
 
     /// Nothing is live after this last commit.
     pub fn new(alloc: Global, last: u64, log: ActiveLog, room: u64) -> Self
@@ -63,19 +64,10 @@ impl Front {
             → decision ≡ decision_of self.now (entries writes.now) (first_conflict h number rs)) }
         ensures write { IfOk result (λ decision. decision ≡ Write → MayWrite self.now (entries writes.now)) }
     {
-        if let Some(name) = self.halted {
-            return Ok(Decision::Halted(name));
+        match self.halted {
+            Some(name) => Ok(Decision::Halted(name)),
+            None => self.decide_running(number, reads, writes),
         }
-        if writes.is_empty() {
-            return Ok(Decision::Nothing);
-        }
-        if self.oracle.last() >= MAX_COMMIT_NUMBER {
-            return Ok(Decision::Exhausted);
-        }
-        if let Some((key, number)) = self.recent.check(number, reads.keys(), reads.spans())? {
-            return Ok(Decision::Conflict { key, number });
-        }
-        Ok(self.room_for(writes))
     }
 
     /// Takes the memory that noting these writes wants, and gives their keys once more.
@@ -84,10 +76,7 @@ impl Front {
         ensures room { IfOk result (λ keys. vec_len keys ≤ self.new.recent.room) }
         ensures same { IsSame self.old self.new }
     {
-        let mut keys = Vec::new(alloc);
-        for (key, _) in writes.as_slice() {
-            keys.push(key.share()?)?;
-        }
+        let keys = shared_keys(alloc, writes)?;
         self.recent.reserve(keys.len())?;
         Ok(keys)
     }
@@ -130,6 +119,31 @@ impl Front {
         self.recent.prune(self.oracle.floor());
     }
 
+    // What it comes to where nothing failed.
+    fn decide_running(
+        &self,
+        number: u64,
+        reads: &Reads,
+        writes: &Writes,
+    ) -> Result<Decision, AllocError>
+        requires { self.now.halted ≡ None }
+        ensures decided { IfOk result (λ decision. (h : History) (floor : ℕ) (rs : List Read)
+            → Remembers floor h self.now.recent.named → floor ≤ number → AreNotesOf rs reads.now.keys reads.now.spans
+            → decision ≡ running_decision self.now (entries writes.now) (first_conflict h number rs)) }
+        ensures write { IfOk result (λ decision. decision ≡ Write → MayWrite self.now (entries writes.now)) }
+    {
+        if writes.is_empty() {
+            return Ok(Decision::Nothing);
+        }
+        if self.oracle.last() >= MAX_COMMIT_NUMBER {
+            return Ok(Decision::Exhausted);
+        }
+        match self.recent.check(number, reads.keys(), reads.spans())? {
+            Some((key, number)) => Ok(Decision::Conflict { key, number }),
+            None => Ok(self.room_for(writes)),
+        }
+    }
+
     // What a commit comes to that nothing else stands against.
     fn room_for(&self, writes: &Writes) -> Decision
         ensures { result ≡ room_decision self.now (entries writes.now) }
@@ -141,15 +155,5 @@ impl Front {
         } else {
             Decision::Full { length, frame }
         }
-    }
-}
-
-// Notes the keys of a commit.
-fn note_all(recent: &mut Recent, keys: Vec<Key>, number: u64)
-    requires { vec_len keys ≤ recent.old.room }
-    ensures { recent.new.named ≡ noted_keys number keys.items recent.old.named }
-{
-    for key in keys {
-        recent.note(key, number);
     }
 }

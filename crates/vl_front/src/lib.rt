@@ -8,6 +8,7 @@
 
 mod decision;
 mod front;
+mod noting;
 
 pub use decision::Decision;
 pub use front::Front;

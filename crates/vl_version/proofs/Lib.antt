@@ -1,2 +1,4 @@
 mod FrozenLaws
 mod LogLaws
+mod LookLaws
+mod Winning

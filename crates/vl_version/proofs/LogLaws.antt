@@ -8,7 +8,7 @@ use Rattle.vl_disk.specs.declared.name.Name.TheVariants.{Log as log_name}
 use Rattle.vl_model.specs.Keys.{Stored}
 use Rattle.vl_model.specs.declared.pointer.Pointer.{Pointer}
 use Rattle.vl_run.specs.Lookups.{IsParted, first_failing}
-use Rattle.vl_seglog.specs.Answers.{Answers}
+use Rattle.vl_seglog.specs.Answers.{Answers, IsAnswer as log_answer, IsNamed}
 use Rattle.vl_seglog.specs.Stored.{stored_at}
 use Rattle.vl_seglog.specs.declared.fault.LogFault.{LogFault}
 use Rattle.vl_seglog.specs.declared.fault.LogFault.TheVariants as log
@@ -58,17 +58,22 @@ module _ {H : Type 0} where
   if_number number (Some log) = cond (log.number == number) (Some log) None
 
   pub if_number-same : (number : ℕ) (log : SealedLog H) → log.number ≡ number → if_number number (Some log) ≡ Some log
-  if_number-same number log same = ap (λ b. cond b (Some log) None) (let is = same in grind (arith, nat_tests))
+  if_number-same number log same =
+      let test : (log.number == number) ≡ true = grind (arith, nat_tests, same) in
+      ap (λ b. cond b (Some log) None) test
 
   pub if_number-other : (number : ℕ) (log : SealedLog H) → log.number ≢ number → if_number number (Some log) ≡ None
-  if_number-other number log other = ap (λ b. cond b (Some log) None) (grind (arith, nat_tests, other))
+  if_number-other number log other =
+      let test : (log.number == number) ≡ false = grind (arith, nat_tests, other) in
+      ap (λ b. cond b (Some log) None) test
 
   none_above : (number : ℕ) (first : SealedLog H) (logs : List (SealedLog H)) → AreRising (first ∷ logs) → number < first.number
       → log_in logs number ≡ None
   none_above number first [] rising above = refl
   none_above number first (next ∷ logs) rising above =
       let less : number < next.number = omega (arith, rising.0) in
-      ap (λ b. cond b (Some next) (log_in logs number)) (let l = less in grind (arith, nat_tests))
+      let test : (next.number == number) ≡ false = grind (arith, nat_tests, less) in
+      ap (λ b. cond b (Some next) (log_in logs number)) test
       ∙ none_above number next logs rising.1 less
 
   -- the first log that isn't below the number
@@ -100,25 +105,47 @@ module _ {H : Type 0} where
       by true is later = let same : first ≡ log = cc in subst P same all.0
       by false is later = later is all.1
 
+module _ where
   told_bytes : (told : Option (List ℕ)) → IsSome told → (bytes : List ℕ) × (told ≡ Some bytes)
   told_bytes None some = absurd cc
   told_bytes (Some bytes) some = (bytes, refl)
 
-  module _ (bytes_of : H → Option (List ℕ)) (logs : List (SealedLog H)) (told : AreTold bytes_of logs) (pointer : Pointer) (key : List ℕ) where
-    -- no log has the pointer's segment
-    pub nowhere : log_in logs pointer.segment ≡ None → stored_in bytes_of logs pointer key ≡ None
-    nowhere none = ap (λ l. option_and_then (λ (log : SealedLog H). option_and_then (λ bytes. stored_at log.format bytes pointer key) (bytes_of log.held)) l) none
+-- what a log answers, with its fault as that of a read
+abbrev pub as_answer : {T : Type 0} → Result T LogFault → Result T ReadFault
+as_answer (Ok x) = Ok x
+as_answer (Err fault) = Err (as_read_fault fault)
 
-    module _ (found : SealedLog H) (is : log_in logs pointer.segment ≡ Some found) where
-      stored_in-found : (bytes : List ℕ) → bytes_of found.held ≡ Some bytes → stored_in bytes_of logs pointer key ≡ stored_at found.format bytes pointer key
-      stored_in-found bytes here =
-          ap (λ l. option_and_then (λ (log : SealedLog H). option_and_then (λ bytes. stored_at log.format bytes pointer key) (bytes_of log.held)) l) is
-          ∙ ap (λ o. option_and_then (λ bytes. stored_at found.format bytes pointer key) o) here
+module _ {H : Type 0} (bytes_of : H → Option (List ℕ)) (logs : List (SealedLog H)) (pointer : Pointer) (key : List ℕ) where
+  -- what stands at the pointer in a log whose bytes are told
+  abbrev at_log : SealedLog H → Option Stored
+  at_log found = option_and_then (λ bytes. stored_at found.format bytes pointer key) (bytes_of found.held)
+
+  -- no log has the pointer's segment
+  pub nowhere : None ≡ log_in logs pointer.segment → stored_in bytes_of logs pointer key ≡ None
+  nowhere none = ap (λ l. option_and_then at_log l) (sym none)
+
+  module _ (told : AreTold bytes_of logs) (found : SealedLog H) (is : Some found ≡ log_in logs pointer.segment) where
+    stored_in-found : (bytes : List ℕ) → bytes_of found.held ≡ Some bytes
+        → stored_at found.format bytes pointer key ≡ stored_in bytes_of logs pointer key
+    stored_in-found bytes here =
+        sym (ap (λ l. option_and_then at_log l) (sym is) ∙ ap (λ o. option_and_then (λ bytes. stored_at found.format bytes pointer key) o) here)
+
+    module _ {T : Type 0} (good : Option Stored → T → Type 0) where
+      by_case : (bytes : List ℕ) → bytes_of found.held ≡ Some bytes → found.number ≡ pointer.segment → (result : Result T LogFault)
+          → IsNamed found.number result
+          → log_answer (good (stored_at found.format bytes pointer key)) (λ place. (stored_at found.format bytes pointer key ≡ None) × (place ≡ pointer.place)) result
+          → IsAnswer (good (stored_in bytes_of logs pointer key)) (IsNowhere (stored_in bytes_of logs pointer key) pointer) (as_answer result)
+      by_case bytes here same (Ok x) named answer = subst (λ stored. good stored x) (stored_in-found bytes here) answer
+      by_case bytes here same (Err log.NoMemory) named answer = tt
+      by_case bytes here same (Err (log.Disk name)) named answer = tt
+      by_case bytes here same (Err (log.Damaged name place)) named answer =
+          (sym (stored_in-found bytes here) ∙ answer.0, named ∙ ap log_name same, answer.1)
 
       -- what reading the log answers is what is answered of all logs
-      pub answers_in : {T : Type 0} (good : Option Stored → T → Type 0) (before now : ℕ) (result : Result T LogFault)
-          → found.number ≡ pointer.segment
+      pub answers_in : (before now : ℕ) (result : Result T LogFault) → found.number ≡ pointer.segment
           → Answers before now found.number (bytes_of found.held) (λ bytes x. good (stored_at found.format bytes pointer key) x)
           (λ bytes place. (stored_at found.format bytes pointer key ≡ None) × (place ≡ pointer.place)) result
-          → (MapsTo : Type 0) → MapsTo → MapsTo
-      answers_in good before now result same answers M m = m
+          → IsAnswer (good (stored_in bytes_of logs pointer key)) (IsNowhere (stored_in bytes_of logs pointer key) pointer) (as_answer result)
+      answers_in before now result same answers =
+          let bytes = told_bytes (bytes_of found.held) (all_in (λ (log : SealedLog H). IsSome (bytes_of log.held)) logs pointer.segment found (sym is) told.told) in
+          by_case bytes.0 bytes.1 same result answers.named (answers.answer bytes.0 bytes.1)
