@@ -1,4 +1,5 @@
 pub mod Carrying
 pub mod Halted
+pub mod Opened
 pub mod Represented
 pub mod Standing

@@ -18,7 +18,6 @@ use Rattle.vl_layout.specs.Start.{layout_at_start, newest_first}
 use Rattle.vl_layout.specs.Tidy.{IsTrueLog}
 use Rattle.vl_layout.specs.declared.layout.Layout.{Layout}
 use Rattle.vl_layout.specs.declared.segment.Segment.{Segment}
-use Rattle.vl_memtable.specs.Contents.{Contents}
 use Rattle.vl_model.specs.Entries.{in_order}
 use Rattle.vl_model.specs.History.{History}
 use Rattle.vl_model.specs.Winners.{resolved}
@@ -55,19 +54,18 @@ module _ {H : Type 0} (bytes : H → Option (List ℕ)) (version : Version H) (n
 
 -- ---- at the start
 
--- memtables from the newest on have the entries of the logs from the newest on
-pub newest_entries : (held : List Contents) (logs : List Segment)
-    → map (λ (c : Contents). c.entries) held ≡ map memtable logs
-    → held_entries (reverse held) ≡ flat_map memtable (newest_first logs)
-newest_entries [] [] are = refl
-newest_entries [] (s ∷ ss) are = absurd cc
-newest_entries (c ∷ cs) [] are = absurd cc
-newest_entries (c ∷ cs) (s ∷ ss) are =
-    let here : c.entries ≡ memtable s = cc in
-    let later : map (λ (d : Contents). d.entries) cs ≡ map memtable ss = cc in
-    ap held_entries (reverse-append (c ∷ []) cs)
-    ∙ flat_map-append (λ (d : Contents). d.entries) (reverse cs) (c ∷ [])
-    ∙ ap (λ (es : List Entry). es ++ (c.entries ++ [])) (newest_entries cs ss later)
+-- what is held of logs has their entries, the newest first
+pub newest_entries : {X : Type 0} (entries : X → List Entry) (held : List X) (logs : List Segment)
+    → map entries held ≡ map memtable logs → flat_map entries (reverse held) ≡ flat_map memtable (newest_first logs)
+newest_entries entries [] [] are = refl
+newest_entries entries [] (s ∷ ss) are = absurd cc
+newest_entries entries (c ∷ cs) [] are = absurd cc
+newest_entries entries (c ∷ cs) (s ∷ ss) are =
+    let here : entries c ≡ memtable s = cc in
+    let later : map entries cs ≡ map memtable ss = cc in
+    ap (flat_map entries) (reverse-append (c ∷ []) cs)
+    ∙ flat_map-append entries (reverse cs) (c ∷ [])
+    ∙ ap (λ (es : List Entry). es ++ (entries c ++ [])) (newest_entries entries cs ss later)
     ∙ ap (λ (es : List Entry). flat_map memtable (newest_first ss) ++ (es ++ [])) here
     ∙ sym (flat_map-append memtable (newest_first ss) (s ∷ []))
 
