@@ -11,6 +11,7 @@ use Rattle.vl_engine.specs.Held.{Base, Holds, IsBase}
 use Rattle.vl_engine.specs.Shown.{no_logs}
 use Rattle.vl_engine.specs.declared.kept.Back.{Back}
 use Rattle.vl_engine.specs.declared.kept.Core.{Core}
+use Rattle.vl_layout.specs.Logs.{memtable}
 use Rattle.vl_layout.specs.Sources.{floor, sources, tables}
 use Rattle.vl_layout.specs.Tickets.{tickets_of}
 use Rattle.vl_layout.specs.Tidy.{IsTidy}
@@ -63,6 +64,8 @@ pub record StandsFor {H : Type 0} (bytes : H → Option (List ℕ)) (core : Core
     : Type 0 where
   pub fronts : Fronts core h l
   pub sources_are : HasEntries bytes core.version (sources l) (layout_logs l)
+  -- of these the ones in the memtable that takes commits are the active log's
+  pub active_is : core.version.active.entries ≡ memtable l.active
   pub tidy : IsTidy (layout_logs l) l h
   -- there are no tables, so no log that pointers lead into
   pub bare : tables l ≡ []

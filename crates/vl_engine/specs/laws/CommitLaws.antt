@@ -1,4 +1,5 @@
--- A commit's frame behind the active log of a disk that holds a layout: what a crash leaves meanwhile, and what is held then.
+-- A commit's frame behind the active log of a disk that holds a layout: what a crash leaves meanwhile, and what is held
+-- then.
 use Rattle.std.specs.Prelude.{◌≡◌, ◌≤◌, ℕ, ◌+◌, List, [], ◌∷◌, ◌++◌, length, Ok}
 use Rattle.std.specs.FinMap.{from_sorted}
 use Rattle.std.proofs.Common.{sym, ap, subst, ◌∙◌, length-append, arith, ⊎_elim}
@@ -26,7 +27,7 @@ use Rattle.vl_recover.specs.crash.Held.{GoOn, HoldsStore, opening_held}
 use Rattle.vl_recover.specs.crash.Starts.{MayOpen}
 use Rattle.vl_recover.specs.laws.crash.AppendLaws.{OpensEither, append_holds, append_leaves, append_may_open, commit_counts, goes_on, sync_leaves, sync_may_open, with_frame}
 use Rattle.vl_recover.specs.laws.crash.TornFrames.{frame_behind}
-use Rattle.vl_recover.specs.opening.Opening.{Opens}
+use Rattle.vl_recover.specs.opening.Opening.{Opening, Opens}
 use Rattle.vl_seglog.specs.Frames.{frames_grammar}
 use Rattle.vl_seglog.specs.laws.FrameLaws.{frames_end-more}
 
@@ -59,10 +60,11 @@ module _ (b : Base) (l : Layout) (h : History) (t : Transaction) (base : IsBase 
   -- the active log with the frame
   active_more : with_frame next_frame l.active ≡ after.active
   active_more =
-      let long : log_length l.active.format (l.active.frames ++ next_frame ∷ []) ≡ l.active.length + frame_length l.active.format next_frame =
-      frames_end-more l.active.format l.active.frames next_frame
-      ∙ ap (λ (n : ℕ). n + frame_length l.active.format next_frame) (sym tidy.true_logs.0) in
-      λ i. record { format = l.active.format; number = l.active.number; length = long i; frames = l.active.frames ++ next_frame ∷ [] }
+      let size = frame_length l.active.format next_frame in
+      let frames = l.active.frames ++ next_frame ∷ [] in
+      let long : log_length l.active.format frames ≡ l.active.length + size =
+      frames_end-more l.active.format l.active.frames next_frame ∙ ap (λ (n : ℕ). n + size) (sym tidy.true_logs.0) in
+      λ i. record { format = l.active.format; number = l.active.number; length = long i; frames = frames }
 
   goes_next : GoOn b.state.covered (b.before ++ with_frame next_frame l.active ∷ []) (last_number h + 1)
   goes_next = goes_on b.state.covered b.before l.active next_frame (last_number h) (last_number h + 1) base.goes
@@ -81,7 +83,8 @@ module _ (b : Base) (l : Layout) (h : History) (t : Transaction) (base : IsBase 
     since = base.since;
   }
 
-  module _ (disk : DiskState) (holds : Holds b l disk) (has : HasFrame (frames_grammar l.active.format) (commit_frame h t.writes)) where
+  module _ (disk : DiskState) (holds : Holds b l disk)
+      (has : HasFrame (frames_grammar l.active.format) (commit_frame h t.writes)) where
     -- After both calls the disk holds it.
     pub commit_holds : Holds b (committed l h t).layout (written disk)
     commit_holds = record {
@@ -94,18 +97,23 @@ module _ (b : Base) (l : Layout) (h : History) (t : Transaction) (base : IsBase 
     -- ---- meanwhile
 
     module _ (tidy_after : IsTidy no_logs (committed l h t).layout (with_commit h (from_sorted t.writes))) where
-      shown_either : (image : Image) → OpensEither b.state b.before l.active next_frame (last_number h) (last_number h + 1) image
-          → ShowsBetween h longer image
+      -- what an image opens as with this active log
+      abbrev opened_with : Segment → Opening
+      opened_with s = opening_held b.state (b.before ++ s ∷ []) (last_number h + 1)
+
+      shown_either : (image : Image)
+          → OpensEither b.state b.before l.active next_frame (last_number h) (last_number h + 1) image → ShowsBetween h longer image
       shown_either image either = ⊎_elim
           (λ (opens : Opens image (Ok (opening_held b.state (b.before ++ l.active ∷ []) (last_number h)))).
           (last_number h, omega arith, omega (arith, one_more),
           shown_later h longer (with_commit-extends h (from_sorted t.writes)) image (last_number h) (omega arith)
-          (shown_by image b.state (logs_from b l) h (last_number h) opens some since tidy.last (held_logs_show b l h base tidy))))
-          (λ (opens : Opens image (Ok (opening_held b.state (b.before ++ with_frame next_frame l.active ∷ []) (last_number h + 1)))).
+          (shown_by image b.state (logs_from b l) h (last_number h) opens some since tidy.last
+          (held_logs_show b l h base tidy))))
+          (λ (opens : Opens image (Ok (opened_with (with_frame next_frame l.active)))).
           (last_number longer, omega (arith, one_more), omega arith,
           shown_by image b.state (logs_from b after) longer (last_number longer)
           (subst (λ (n : ℕ). Opens image (Ok (opening_held b.state (logs_from b after) n))) (sym one_more)
-          (subst (λ (s : Segment). Opens image (Ok (opening_held b.state (b.before ++ s ∷ []) (last_number h + 1)))) active_more opens))
+          (subst (λ (s : Segment). Opens image (Ok (opened_with s))) active_more opens))
           some (omega (arith, since, one_more)) tidy_after.last (held_logs_show b after longer commit_base tidy_after)))
           either
         where
@@ -119,15 +127,15 @@ module _ (b : Base) (l : Layout) (h : History) (t : Transaction) (base : IsBase 
       pub append_shows : (now : DiskState) → WhileAppending log_name bytes disk now → (image : Image) → IsLeft now image
           → ShowsBetween h (with_commit h (from_sorted t.writes)) image
       append_shows now during image left =
-          shown_either image (append_leaves b.state b.before l.active next_frame disk holds.store has (last_number h) (last_number h + 1)
-          base.goes goes_next now during image left)
+          shown_either image (append_leaves b.state b.before l.active next_frame disk holds.store has
+          (last_number h) (last_number h + 1) base.goes goes_next now during image left)
 
       -- So does whatever it leaves while the frame is made durable.
       pub sync_shows : (now : DiskState) → WhileSyncing log_name (appended log_name bytes (length bytes) disk) now
           → (image : Image) → IsLeft now image → ShowsBetween h (with_commit h (from_sorted t.writes)) image
       sync_shows now during image left =
-          shown_either image (sync_leaves b.state b.before l.active next_frame disk holds.store has (last_number h) (last_number h + 1)
-          base.goes goes_next now during image left)
+          shown_either image (sync_leaves b.state b.before l.active next_frame disk holds.store has
+          (last_number h) (last_number h + 1) base.goes goes_next now during image left)
 
     -- A store may be opened on the disk again, also where the append failed,
     pub append_opens_again : (now : DiskState) → WhileAppending log_name bytes disk now → MayOpen now

@@ -1,4 +1,5 @@
--- What is kept of what lives and of the last commits is that of the layout: at a start, and behind a begin, an end and a commit.
+-- What is kept of what lives and of the last commits is that of the layout: at a start, and behind a begin, an end and a
+-- commit.
 use Rattle.std.specs.Prelude.{◌≡◌, ◌≤◌, ℕ, ◌+◌, Bool, true, false, nat_le, nat_lt, List, [], ◌∷◌, length, Option, None, Some, refl}
 use Rattle.std.specs.FinMap.{find, from_sorted, get}
 use Rattle.std.specs.Option.{option_map}
@@ -74,7 +75,8 @@ nothing_remembered floor h le = record {
 -- where nothing lives
 pub front_started : (h : History) (l : Layout) (live : LiveTickets) → l.live ≡ [] → live.last ≡ last_number h
     → live.tickets ≡ [] → IsFront live [] h l
-front_started h l live none last nothing = subst (λ (xs : List Live). IsFront live [] h (record l { live = xs })) (sym none) (record {
+front_started h l live none last nothing =
+    subst (λ (xs : List Live). IsFront live [] h (record l { live = xs })) (sym none) (record {
   last = last;
   live_are = nothing;
   lived = record { rising = tt; known = tt; few = omega arith };
@@ -88,8 +90,9 @@ module _ (live : LiveTickets) (named : List Named) (h : History) (l : Layout) (i
       → IsFront (oracle.begun live) named h (begun l (free_ticket (tickets_of l.live)) (last_number h))
   front_begun room =
       let ticket = free_ticket (tickets_of l.live) in
+      let new : Live = record { ticket = ticket; number = last_number h; pin = pin_of l } in
       let same : floor (begun l ticket (last_number h)) h ≡ floor l h =
-      floor-begun l (begun l ticket (last_number h)) h (record { ticket = ticket; number = last_number h; pin = pin_of l }) refl refl in
+      floor-begun l (begun l ticket (last_number h)) h new refl refl in
       let first = is.readable in
       record {
         last = is.last;
@@ -126,7 +129,8 @@ module _ (live : LiveTickets) (named : List Named) (h : History) (l : Layout) (i
         lived = lived_then;
         readable = omega (arith, first, up);
         remembers = subst (λ (n : ℕ). Remembers n (with_commit h (from_sorted t.writes)) named_then)
-            (same_floor after (committed l h t).layout (with_commit h (from_sorted t.writes)) last_is live_is lived_then) remembers;
+            (same_floor after (committed l h t).layout (with_commit h (from_sorted t.writes)) last_is live_is lived_then)
+            remembers;
       }
     where
       last_is : after.last ≡ last_number (with_commit h (from_sorted t.writes))
@@ -138,3 +142,18 @@ module _ (live : LiveTickets) (named : List Named) (h : History) (l : Layout) (i
       lived_then : IsLivedIn (committed l h t).layout (with_commit h (from_sorted t.writes))
       lived_then = live-committed (ended t.ticket l) (committed l h t).layout h (from_sorted t.writes) refl
           (live-ended l h is.lived t.ticket)
+
+-- The same of an oracle that is known, and of what is remembered from its floor on.
+pub front_known : (live : LiveTickets) (named : List Named) (h : History) (l : Layout) → IsFront live named h l
+    → (now : LiveTickets) (named_now : List Named) → now ≡ live → Remembers (floor_of now) h named_now
+    → IsFront now named_now h l
+front_known live named h l is now named_now same remembers =
+    let last = ap (λ (o : LiveTickets). o.last) same ∙ is.last in
+    let live_are = ap (λ (o : LiveTickets). o.tickets) same ∙ is.live_are in
+    record {
+      last = last;
+      live_are = live_are;
+      lived = is.lived;
+      readable = is.readable;
+      remembers = subst (λ (n : ℕ). Remembers n h named_now) (same_floor now l h last live_are is.lived) remembers;
+    }

@@ -48,21 +48,24 @@ module _ (b : Base) (l : Layout) (h : History) (base : IsBase b l h) where
       ∙ ap (λ (es : List Entry). memtable l.active ++ es) (entries-filtered b.before)
       ∙ sym (entries-append b.before (l.active ∷ []))
 
+  -- the entries show the history from the least numbers on that there are at a floor
+  abbrev ShowsFrom : List Entry → (at keep since : ℕ) → Type 0
+  ShowsFrom es at keep since = Shows no_logs es h (low h at keep since) (last_number h)
+
   module _ (tidy : IsTidy no_logs l h) where
     -- The logs show the history at its last number.
     pub held_logs_show : LogsShow b.state.keep b.state.since (logs_from b l) h (last_number h)
     held_logs_show = record {
-      shows = subst (λ (es : List Entry). Shows no_logs es h (low h (last_number h) b.state.keep b.state.since) (last_number h))
-          sources-logs
+      shows = subst (λ (es : List Entry). ShowsFrom es (last_number h) b.state.keep b.state.since) sources-logs
           (shows_opened no_logs (sources l) h (floor l h) b.state.keep b.state.since (floor-up l h) from_floor);
       versions = subst (AllByRecursion (IsOf h)) sources-logs tidy.versions;
       up_to = subst (AreUpTo (last_number h)) sources-logs (of_up_to h (sources l) tidy.versions);
     }
       where
-        from_floor : Shows no_logs (sources l) h (low h (floor l h) b.state.keep b.state.since) (last_number h)
+        from_floor : ShowsFrom (sources l) (floor l h) b.state.keep b.state.since
         from_floor =
-            subst (λ (k : ℕ). Shows no_logs (sources l) h (low h (floor l h) k b.state.since) (last_number h)) (sym base.keep)
-            (subst (λ (n : ℕ). Shows no_logs (sources l) h (low h (floor l h) l.keep n) (last_number h)) (sym base.since) tidy.shows)
+            subst (λ (k : ℕ). ShowsFrom (sources l) (floor l h) k b.state.since) (sym base.keep)
+            (subst (ShowsFrom (sources l) (floor l h) l.keep) (sym base.since) tidy.shows)
 
     -- Whatever a crash leaves of a disk that holds the layout shows it.
     pub held_shown : (disk : DiskState) → Holds b l disk → (image : Image) → MayLeave disk image

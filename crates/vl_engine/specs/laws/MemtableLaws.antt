@@ -59,13 +59,15 @@ module _ (format segment number : ℕ) where
     commit_before (place + record_length format w.0 w.1)
         (record_entry format segment (record { key = w.0; version = number; change = w.1; place = place })) ws
         (first_part (below_all key_cmp w.0 ws) (is_sorted key_cmp ws) sorted),
-    commit_rises (place + record_length format w.0 w.1) ws (second_part (below_all key_cmp w.0 ws) (is_sorted key_cmp ws) sorted),
+    commit_rises (place + record_length format w.0 w.1) ws
+        (second_part (below_all key_cmp w.0 ws) (is_sorted key_cmp ws) sorted),
   )
 
   -- A commit's entries are in order,
   pub commit_in_order : (place : ℕ) (ws : List (List ℕ × Change)) → T (is_sorted key_cmp ws)
       → IsInOrder (committed_entries format segment place number ws)
-  commit_in_order place ws sorted = in_order-rising (committed_entries format segment place number ws) (commit_rises place ws sorted)
+  commit_in_order place ws sorted =
+      in_order-rising (committed_entries format segment place number ws) (commit_rises place ws sorted)
 
   none_exact : (key : List ℕ) (last : ℕ) (es : List Entry) → last < number → AreUpTo last es → exact es key number ≡ None
   none_exact key last [] less up = refl
@@ -100,18 +102,20 @@ module _ (format segment number : ℕ) where
       → AreUpTo number (in_order (committed_entries format segment place number ws ++ es))
   commit_known last place es ws le up =
       all-in_order (λ (e : Entry). e.version ≤ number) (committed_entries format segment place number ws ++ es)
-      (all_both (λ (e : Entry). e.version ≤ number) (committed_entries format segment place number ws) es (commit_up_to place ws)
-      (later_up_to last es le up))
+      (all_both (λ (e : Entry). e.version ≤ number) (committed_entries format segment place number ws) es
+      (commit_up_to place ws) (later_up_to last es le up))
 
 -- ---- the memtable
 
 -- The entries of a frame behind the active log, in front of its memtable's, make that of the log with the frame.
 pub memtable_more : (l : Layout) (f : LogFrame) → IsTrueLog l.active
-    → in_order (frame_entries l.active.format l.active.number l.active.length f ++ memtable l.active) ≡ memtable (logged f l).active
+    → in_order (frame_entries l.active.format l.active.number l.active.length f ++ memtable l.active)
+    ≡ memtable (logged f l).active
 memtable_more l f is =
     let format = l.active.format in
     let old = logged_entries format l.active.number 16 l.active.frames in
-    let place : place_behind format 16 l.active.frames ≡ l.active.length = place_behind-is format 16 l.active.frames ∙ sym is in
+    let place : place_behind format 16 l.active.frames ≡ l.active.length =
+    place_behind-is format 16 l.active.frames ∙ sym is in
     in_order-back (frame_entries format l.active.number l.active.length f) old
     ∙ ap (λ (n : ℕ). in_order (frame_entries format l.active.number n f ++ old)) (sym place)
     ∙ ap in_order (sym (logged_entries-more format l.active.number 16 l.active.frames f))

@@ -24,4 +24,5 @@ module _ (logs : Logs) (es : List Entry) (h : History) (number : ℕ) (shows : S
 
   -- and a scan's rows are those of all that stands there.
   pub contents_stand : MayStandFor logs es number (contents_at h number)
-  contents_stand key = subst (λ led. MayHave led (get (contents_at h number) key)) (sym (winner_leads key)) (get-contents_at h number key)
+  contents_stand key =
+      subst (λ led. MayHave led (get (contents_at h number) key)) (sym (winner_leads key)) (get-contents_at h number key)

@@ -82,7 +82,8 @@ writes-up_to m k (w ∷ ws) = by (nat_le k m) refl (writes-up_to m (k + 1) ws)
 
 -- ---- what stands at a number
 
-change-append : (key : List ℕ) (xs ys : List Writes) → last_change (xs ++ ys) key ≡ newer (last_change xs key) (last_change ys key)
+change-append : (key : List ℕ) (xs ys : List Writes)
+    → last_change (xs ++ ys) key ≡ newer (last_change xs key) (last_change ys key)
 change-append key [] ys = nothing (last_change ys key)
   where
     nothing : (o : Option Change) → o ≡ newer None o

@@ -76,7 +76,8 @@ shown_by image state logs h m opens some since last show = record {
   since = since;
   last = last;
   logs = record {
-    shows = subst (λ (es : List Entry). Shows no_logs es h (low h m state.keep state.since) m) (sym (entries-filled logs)) show.shows;
+    shows = subst (λ (es : List Entry). Shows no_logs es h (low h m state.keep state.since) m)
+        (sym (entries-filled logs)) show.shows;
     versions = subst (AllByRecursion (IsOf h)) (sym (entries-filled logs)) show.versions;
     up_to = subst (AreUpTo m) (sym (entries-filled logs)) show.up_to;
   };
@@ -86,6 +87,7 @@ shown_by image state logs h m opens some since last show = record {
 pub shown_like : (image other : Image) (h : History) (m : ℕ) → OpensLike image other → Shown other h m
     → Shown image h m
 shown_like image other h m like shown =
+    let was : ManifestState = shown.opening.state in
     let (o, opens, alike) = like shown.opening shown.opens in
     record {
       opening = o;
@@ -95,8 +97,8 @@ shown_like image other h m like shown =
       since = subst (λ (n : ℕ). n ≤ m) (sym alike.state.since) shown.since;
       last = shown.last;
       logs = subst (λ (k : ℕ). LogsShow k o.state.since o.logs h m) (sym alike.state.keep)
-          (subst (λ (n : ℕ). LogsShow shown.opening.state.keep n o.logs h m) (sym alike.state.since)
-          (subst (λ (ss : List Segment). LogsShow shown.opening.state.keep shown.opening.state.since ss h m) (sym alike.logs) shown.logs));
+          (subst (λ (n : ℕ). LogsShow was.keep n o.logs h m) (sym alike.state.since)
+          (subst (λ (ss : List Segment). LogsShow was.keep was.since ss h m) (sym alike.logs) shown.logs));
     }
 
 -- So it is meanwhile where an opening begins on a disk of which whatever a crash leaves opens like what reads give.

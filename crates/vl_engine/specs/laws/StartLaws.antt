@@ -147,18 +147,32 @@ module _ (room : ℕ) (state : ManifestState) (before : List Segment) (active : 
   abbrev its_base : Base
   its_base = record { state = state; before = before }
 
+  abbrev ShowsLast : List Entry → (keep since : ℕ) → Type 0
+  ShowsLast es keep since = Shows no_logs es h (low h (last_number h) keep since) (last_number h)
+
   pub start_base : GoOn state.covered (before ++ new_segment log_format active [] ∷ []) (last_number h)
       → IsBase (record { state = state; before = before }) (layout_at_start room (recovered_of state before active)) h
-  start_base goes = record { goes = goes; frozen = refl; bare = refl; keep = refl; since = refl; covered = refl; format = refl }
+  start_base goes = record {
+    goes = goes;
+    frozen = refl;
+    bare = refl;
+    keep = refl;
+    since = refl;
+    covered = refl;
+    format = refl;
+  }
 
-  module _ (rising : IsRising number_of_log before) (below : AllByRecursion (λ (s : Segment). s.number < active) before) where
+  module _ (rising : IsRising number_of_log before)
+      (below : AllByRecursion (λ (s : Segment). s.number < active) before) where
     well_recovered : IsWellRecovered (recovered_of state before active)
     well_recovered = record { rising = rising; before = below; below = tt; tables = tt; footed = tt; points = tt }
 
     -- all but the active log
-    each_sealed : (P : Segment → Type 0) → AllByRecursion P before → AllByRecursion P (with_some before ++ (without_any before ++ []))
+    each_sealed : (P : Segment → Type 0) → AllByRecursion P before
+        → AllByRecursion P (with_some before ++ (without_any before ++ []))
     each_sealed P all =
-        all_both P (with_some before) (without_any before ++ []) (all_newest P (filter has_frames before) (all_filtered P has_frames before all))
+        all_both P (with_some before) (without_any before ++ [])
+        (all_newest P (filter has_frames before) (all_filtered P has_frames before all))
         (all_both P (without_any before) [] (all_filtered P (λ (t : Segment). not (has_frames t)) before all) tt)
 
     distinct_then : AreDistinct (log_numbers (begun.active ∷ sealed begun))
@@ -166,12 +180,13 @@ module _ (room : ℕ) (state : ManifestState) (before : List Segment) (active : 
       other_number active (sealed begun) (each_sealed (λ (s : Segment). s.number ≢ active)
           (all_weaker (λ (s : Segment). s.number < active) (λ (s : Segment). s.number ≢ active)
           (λ s less same. absurd (omega (arith, less, same))) before below)),
-      subst (λ (ts : List Segment). AreDistinct (log_numbers (with_some before ++ ts))) (sym (append-nil (without_any before)))
-          (distinct_sealed before rising),
+      subst (λ (ts : List Segment). AreDistinct (log_numbers (with_some before ++ ts)))
+          (sym (append-nil (without_any before))) (distinct_sealed before rising),
     )
 
     -- It is tidy where its logs show the history.
-    pub start_tidy : AllByRecursion IsTrueLog before → IsBase (record { state = state; before = before }) (layout_at_start room (recovered_of state before active)) h
+    pub start_tidy : AllByRecursion IsTrueLog before
+        → IsBase (record { state = state; before = before }) (layout_at_start room (recovered_of state before active)) h
         → 1 ≤ state.keep → state.since ≤ last_number h → last_number h ≤ max_commit_number
         → LogsShow state.keep state.since (before ++ new_segment log_format active [] ∷ []) h (last_number h)
         → IsTidy no_logs (layout_at_start room (recovered_of state before active)) h
@@ -188,8 +203,7 @@ module _ (room : ℕ) (state : ManifestState) (before : List Segment) (active : 
           last = last;
           some = some;
           since = since;
-          shows = subst (λ (es : List Entry). Shows no_logs es h (low h (last_number h) state.keep state.since) (last_number h))
-              (sym sources_are) show.shows;
+          shows = subst (λ (es : List Entry). ShowsLast es state.keep state.since) (sym sources_are) show.shows;
           job = λ o none. absurd cc;
         }
 
@@ -328,8 +342,8 @@ module _ {read : Image} (found : Finds read) where
       rise : IsRising number_of_log (as_segments found.logs)
       rise = (segments_rise read found.opening.state.head found.logs found.standing).1
 
-      below : (k : ℕ) (logs : List StandingLog) → StandingLogs read found.opening.state.head logs → log_made its_state logs ≡ Some k
-          → AllByRecursion (λ (s : Segment). s.number < k) (as_segments logs)
+      below : (k : ℕ) (logs : List StandingLog) → StandingLogs read found.opening.state.head logs
+          → log_made its_state logs ≡ Some k → AllByRecursion (λ (s : Segment). s.number < k) (as_segments logs)
       below k [] standing is = tt
       below k (q ∷ qs) standing is =
           let next = made_next its_state q qs k is in
@@ -340,7 +354,8 @@ module _ {read : Image} (found : Finds read) where
       by : (made : Option ℕ) → log_made its_state found.logs ≡ made
           → IsRising number_of_log (as_segments found.logs ++ and_made made)
       by None is = subst (IsRising number_of_log) (sym (append-nil (as_segments found.logs))) rise
-      by (Some k) is = rising_end (as_segments found.logs) (new_segment log_format k []) rise (below k found.logs found.standing is)
+      by (Some k) is =
+          rising_end (as_segments found.logs) (new_segment log_format k []) rise (below k found.logs found.standing is)
 
   -- The disk holds the layout.
   pub start_holds : (room : ℕ) (disk : DiskState) → HoldsStore (state_then found) (logs_then found) disk → IsLawful disk
@@ -351,6 +366,9 @@ module _ {read : Image} (found : Finds read) where
   -- ---- over a history that is shown
 
   module _ (h : History) (shown : Shown read h (last_number h)) where
+    abbrev opened : ManifestState
+    opened = found.opening.state
+
     one : shown.opening ≡ found.opening
     one = ok_same {E = Refusal} shown.opening found.opening
         (single_opening read (Ok shown.opening) (Ok found.opening) shown.opens found.opens)
@@ -358,13 +376,13 @@ module _ {read : Image} (found : Finds read) where
     pub opened_number : found.opening.number ≡ last_number h
     opened_number = ap (λ (o : Opening). o.number) (sym one) ∙ shown.number
 
-    shows_then : LogsShow found.opening.state.keep found.opening.state.since (logs_then found) h (last_number h)
+    shows_then : LogsShow opened.keep opened.since (logs_then found) h (last_number h)
     shows_then =
         let show = subst (λ (o : Opening). LogsShow o.state.keep o.state.since o.logs h (last_number h)) one shown.logs in
         let same : logs_entries found.opening.logs ≡ logs_entries (logs_then found) =
         sym (ap logs_entries (found_shows found).logs) ∙ entries-filled (logs_then found) in
         record {
-          shows = subst (λ (es : List Entry). Shows no_logs es h (low h (last_number h) found.opening.state.keep found.opening.state.since) (last_number h))
+          shows = subst (λ (es : List Entry). Shows no_logs es h (low h (last_number h) opened.keep opened.since) (last_number h))
               same show.shows;
           versions = subst (AllByRecursion (IsOf h)) same show.versions;
           up_to = subst (AreUpTo (last_number h)) same show.up_to;
@@ -377,9 +395,10 @@ module _ {read : Image} (found : Finds read) where
 
     pub opened_tidy : (room : ℕ) → IsTidy no_logs (layout_at_start room (recovered found)) h
     opened_tidy room =
-        let rising = rising_before before_then (new_segment log_format active_then []) (subst (IsRising number_of_log) logs_end logs_rise) in
+        let rising = rising_before before_then (new_segment log_format active_then [])
+        (subst (IsRising number_of_log) logs_end logs_rise) in
         start_tidy room its_state before_then active_then h rising.0 rising.1 true_before (opened_base room)
         (subst (λ (o : Opening). 1 ≤ o.state.keep) one shown.some)
         (subst (λ (o : Opening). o.state.since ≤ last_number h) one shown.since)
         shown.last
-        (subst (λ (ss : List Segment). LogsShow found.opening.state.keep found.opening.state.since ss h (last_number h)) logs_end shows_then)
+        (subst (λ (ss : List Segment). LogsShow opened.keep opened.since ss h (last_number h)) logs_end shows_then)

@@ -18,7 +18,6 @@ use Rattle.vl_layout.specs.Start.{layout_at_start, newest_first}
 use Rattle.vl_layout.specs.Tidy.{IsTrueLog}
 use Rattle.vl_layout.specs.declared.layout.Layout.{Layout}
 use Rattle.vl_layout.specs.declared.segment.Segment.{Segment}
-use Rattle.vl_memtable.specs.Contents.{Contents}
 use Rattle.vl_model.specs.Entries.{in_order}
 use Rattle.vl_model.specs.History.{History}
 use Rattle.vl_model.specs.Winners.{resolved}
@@ -37,7 +36,8 @@ module _ {H : Type 0} (bytes : H → Option (List ℕ)) (version : Version H) (n
       → resolved (stored_in bytes version.behind.logs.items) key body ≡ resolved no_logs key body
   leads_nowhere key (Inline value) = refl
   leads_nowhere key Gone = refl
-  leads_nowhere key (Far pointer) = ap (λ (logs : List (SealedLog H)). option_map Some (stored_in bytes logs pointer key)) none
+  leads_nowhere key (Far pointer) =
+      ap (λ (logs : List (SealedLog H)). option_map Some (stored_in bytes logs pointer key)) none
   leads_nowhere key (Logged value pointer) = refl
 
   all_nowhere : (es : List Entry) → AllByRecursion (LeadsIn bytes version no_logs) es
@@ -54,19 +54,18 @@ module _ {H : Type 0} (bytes : H → Option (List ℕ)) (version : Version H) (n
 
 -- ---- at the start
 
--- memtables from the newest on have the entries of the logs from the newest on
-pub newest_entries : (held : List Contents) (logs : List Segment)
-    → map (λ (c : Contents). c.entries) held ≡ map memtable logs
-    → held_entries (reverse held) ≡ flat_map memtable (newest_first logs)
-newest_entries [] [] are = refl
-newest_entries [] (s ∷ ss) are = absurd cc
-newest_entries (c ∷ cs) [] are = absurd cc
-newest_entries (c ∷ cs) (s ∷ ss) are =
-    let here : c.entries ≡ memtable s = cc in
-    let later : map (λ (d : Contents). d.entries) cs ≡ map memtable ss = cc in
-    ap held_entries (reverse-append (c ∷ []) cs)
-    ∙ flat_map-append (λ (d : Contents). d.entries) (reverse cs) (c ∷ [])
-    ∙ ap (λ (es : List Entry). es ++ (c.entries ++ [])) (newest_entries cs ss later)
+-- what is held of logs has their entries, the newest first
+pub newest_entries : {X : Type 0} (entries : X → List Entry) (held : List X) (logs : List Segment)
+    → map entries held ≡ map memtable logs → flat_map entries (reverse held) ≡ flat_map memtable (newest_first logs)
+newest_entries entries [] [] are = refl
+newest_entries entries [] (s ∷ ss) are = absurd cc
+newest_entries entries (c ∷ cs) [] are = absurd cc
+newest_entries entries (c ∷ cs) (s ∷ ss) are =
+    let here : entries c ≡ memtable s = cc in
+    let later : map entries cs ≡ map memtable ss = cc in
+    ap (flat_map entries) (reverse-append (c ∷ []) cs)
+    ∙ flat_map-append entries (reverse cs) (c ∷ [])
+    ∙ ap (λ (es : List Entry). es ++ (entries c ++ [])) (newest_entries entries cs ss later)
     ∙ ap (λ (es : List Entry). flat_map memtable (newest_first ss) ++ (es ++ [])) here
     ∙ sym (flat_map-append memtable (newest_first ss) (s ∷ []))
 
@@ -83,15 +82,18 @@ cancelled : (xs ys zs : List Entry) → xs ++ ys ≡ xs ++ zs → ys ≡ zs
 cancelled [] ys zs same = same
 cancelled (x ∷ xs) ys zs same = cancelled xs ys zs (let rest : xs ++ ys ≡ xs ++ zs = cc in rest)
 
+-- the entries that a commit adds
+abbrev pub next_entries : Layout → History → Transaction → List Entry
+next_entries l h t = frame_entries l.active.format l.active.number l.active.length (commit_frame h t.writes)
+
 module _ {H : Type 0} (version after : Version H) (l : Layout) (h : History) (t : Transaction)
     (active : version.active.entries ≡ memtable l.active) (true_log : IsTrueLog l.active)
-    (more : after.active.entries
-    ≡ in_order (frame_entries l.active.format l.active.number l.active.length (commit_frame h t.writes) ++ version.active.entries)) where
+    (more : after.active.entries ≡ in_order (next_entries l h t ++ version.active.entries)) where
   -- With the commit's entries over it the memtable is that of the log with its frame,
   pub active_committed : after.active.entries ≡ memtable (committed l h t).layout.active
   active_committed =
       more
-      ∙ ap (λ (es : List Entry). in_order (frame_entries l.active.format l.active.number l.active.length (commit_frame h t.writes) ++ es)) active
+      ∙ ap (λ (es : List Entry). in_order (next_entries l h t ++ es)) active
       ∙ memtable_more (ended t.ticket l) (commit_frame h t.writes) true_log
 
   -- and the sources are those in memory then, where nothing else changed.
