@@ -1,6 +1,8 @@
 pub mod Appending
+pub mod Beginning
 pub mod Carrying
 pub mod Halted
+pub mod Knowing
 pub mod Opened
 pub mod Represented
 pub mod Seeing
