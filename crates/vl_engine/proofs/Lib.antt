@@ -1,4 +1,5 @@
 pub mod Carrying
+pub mod Committing
 pub mod Halted
 pub mod Opened
 pub mod Represented
