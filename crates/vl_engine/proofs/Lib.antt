@@ -1,5 +1,6 @@
 pub mod Carrying
 pub mod Committing
+pub mod Filing
 pub mod Halted
 pub mod Opened
 pub mod Represented
