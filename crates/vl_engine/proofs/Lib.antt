@@ -1,7 +1,9 @@
+pub mod Appending
 pub mod Carrying
 pub mod Committing
 pub mod Filing
 pub mod Halted
 pub mod Opened
 pub mod Represented
+pub mod Seeing
 pub mod Standing

@@ -10,4 +10,6 @@ pub mod Reopened
 pub mod Represents
 pub mod Sees
 pub mod Shown
+pub mod Staging
+pub mod Steps
 pub mod Writing

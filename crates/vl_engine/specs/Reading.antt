@@ -11,6 +11,7 @@ use Rattle.vl_engine.specs.declared.view.View.{View}
 use Rattle.vl_model.specs.History.{History, contents_at, value_at, value_left}
 use Rattle.vl_model.specs.Keys.{Row, Stored, Writes}
 use Rattle.vl_model.specs.Reads.{rows_of}
+use Rattle.vl_model.specs.declared.change.Change.{Change}
 use Rattle.vl_model.specs.declared.way.Way.{Way}
 use Rattle.vl_seglog.specs.Sealed.{IsHere, IsSmall}
 use Rattle.vl_txn.specs.Reads.{scan_of}
@@ -89,6 +90,10 @@ abbrev pub IsSoundInto : {T : Type 0} → Result T ReadFault → Type 0
 IsSoundInto result = (MetDamageInto result → ⊥) × (ReadIntoFailed result → ⊥)
 
 -- ---- answers
+
+-- the value that a write leaves
+abbrev pub written_value : Change → Option Stored
+written_value change = value_left None (Some change)
 
 -- the value of a key under the transaction's own writes
 abbrev pub value_under : Writes → History → ℕ → List ℕ → Option Stored

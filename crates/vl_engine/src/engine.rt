@@ -9,7 +9,6 @@ mod beginning;
 mod committing;
 mod ending;
 mod opening;
-mod staging;
 
 use crate::kept::Core;
 use std::alloc::Global;

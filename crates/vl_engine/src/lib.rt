@@ -10,6 +10,7 @@
 mod engine;
 mod fails;
 mod kept;
+mod staging;
 mod txn;
 mod view;
 mod writing;

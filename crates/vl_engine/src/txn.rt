@@ -3,6 +3,7 @@
 mod reading;
 mod writing;
 
+pub(crate) use reading::tagged_value;
 use std::alloc::Global;
 use vl_txn::{Reads, Writes};
 use vl_version::Version;

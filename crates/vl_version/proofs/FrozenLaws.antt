@@ -1,10 +1,9 @@
 -- Memtables one behind the other.
-use Rattle.std.proofs.Common.{◌≡◌, ℕ, zero, suc, ◌+◌, ◌<◌, List, [], ◌∷◌, ◌++◌, length, take, get_or, refl, ap, sym, ◌∙◌, arith, append-nil}
+use Rattle.std.proofs.Common.{◌≡◌, ℕ, zero, suc, ◌+◌, ◌<◌, List, [], ◌∷◌, ◌++◌, length, take, get_or, ap, sym, ◌∙◌, arith, append-nil}
 use Rattle.std.proofs.lemmas.Grind.{flat_map-append}
 use Rattle.vl_memtable.specs.Contents.{Contents}
 use Rattle.vl_model.specs.Winners.{newest_of, winner}
 use Rattle.vl_model.specs.laws.WinnerLaws.{winner-append}
-use Rattle.vl_model.specs.declared.entry.Entry.{Entry}
 use Rattle.vl_version.specs.Sources.{held_entries}
 
 suc_more : (i : ℕ) → suc i + 1 ≡ suc (i + 1)
@@ -17,7 +16,7 @@ take_next (first ∷ all) zero held within is = ap (λ r. r ∷ []) (sym is)
 take_next (first ∷ all) (suc i) held within is =
     ap (λ n. take n (first ∷ all)) (suc_more i) ∙ ap (λ l. first ∷ l) (take_next all i held (omega arith) is)
 
-entries-push : (all : List Contents) (held : Contents) → held_entries (all ++ held ∷ []) ≡ held_entries all ++ held.entries
+pub entries-push : (all : List Contents) (held : Contents) → held_entries (all ++ held ∷ []) ≡ held_entries all ++ held.entries
 entries-push all held =
     flat_map-append (λ (m : Contents). m.entries) all (held ∷ []) ∙ ap (λ l. held_entries all ++ l) (append-nil held.entries)
 

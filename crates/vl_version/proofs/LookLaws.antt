@@ -1,7 +1,6 @@
 -- What a winner leads to in the version's logs is what it leads to.
 use Rattle.std.proofs.Common.{◌≡◌, ℕ, List, Option, Some, None, ap, sym, subst, ◌∙◌}
 use Rattle.std.specs.Prelude.{Result, Ok, Err}
-use Rattle.std.specs.List.{AllByRecursion}
 use Rattle.vl_model.specs.Keys.{Stored}
 use Rattle.vl_model.specs.Winners.{Logs, resolved, winner}
 use Rattle.vl_model.specs.declared.entry.Entry.{Entry}

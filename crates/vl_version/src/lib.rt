@@ -15,7 +15,11 @@ mod behind;
 mod fault;
 mod found;
 mod frozen;
+mod gather;
+mod own;
 mod resolving;
+mod rows;
+mod source;
 mod version;
 mod wanted;
 

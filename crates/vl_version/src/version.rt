@@ -14,11 +14,14 @@ ghost use Rattle.vl_version.specs.declared.fault.ReadFault.TheVariants as why;
 
 use crate::behind::{Behind, SharedBehind};
 use crate::frozen::find_frozen;
+use crate::gather::sources_within;
 use crate::resolving::{resolve, resolve_into};
+use crate::rows::take_rows;
 use crate::{Found, ReadFault, Wanted};
 use std::alloc::{AllocError, Global};
 use vl_disk::{HeldFile, Reader};
 use vl_memtable::{Frozen, Memtable};
+use vl_merge::{Merge, Visible, merge_of_told_sources, visible_entries_are_the_winners};
 use vl_model::{Entry, Key, Value, newest_ref};
 use vl_run::Run;
 use vl_seglog::SealedLog;
@@ -121,9 +124,9 @@ impl<H: HeldFile> Version<H> {
         }
     }
 
-    /// The rows that are wanted of what stands at a number under these own writes. Behind the last row at most one entry of
-    /// each source is read, and those of one key more.
-    pub fn rows<R: Reader<Held = H>>(
+    /// The rows that are wanted of what stands at a number under these own writes. Behind the last of them each source is
+    /// read no further than its next entry, and the entries of one key more.
+    pub fn rows<R: Reader<Held = H> + Drop>(
         &self,
         alloc: Global,
         reader: &mut R,
@@ -135,7 +138,12 @@ impl<H: HeldFile> Version<H> {
         ensures answers { (es : List Entry) (logs : Logs) → HasEntries H.bytes self.now es logs
             → IsAnswer (λ rows. AreScanned logs es number wanted.entry own.now rows.items) (SomeAstray logs es number) result }
     {
-        Err(ReadFault::NoMemory)
+        merge_of_told_sources();
+        visible_entries_are_the_winners();
+        let behind = self.behind.as_ref();
+        let sources = sources_within(alloc, own, &self.active, &behind.frozen, wanted, number)?;
+        let mut visible = Visible::new(Merge::new(sources, wanted.way)?, number);
+        take_rows(alloc, reader, &behind.logs, &mut visible, wanted.limit)
     }
 
     // Of the entries in memory of a key with a version of at most a number the one of the greatest version.

@@ -10,6 +10,7 @@ ghost use Rattle.vl_model.specs.History.{History};
 
 use crate::{BeginFail, Engine, Txn, View};
 use vl_disk::Disk;
+use vl_txn::{Reads, Writes};
 
 impl<D: Disk> Engine<D> {
     /// Begins a transaction, which reads what is committed now.
@@ -32,7 +33,22 @@ impl<D: Disk> Engine<D> {
         ensures disk { self.new.disk ≡ self.old.disk }
         ensures back { self.new.core.back ≡ self.old.core.back }
     {
-        Err(BeginFail::NoMemory)
+        let View {
+            alloc,
+            ticket,
+            number,
+            version,
+            reader,
+        } = self.view()?;
+        Ok(Txn {
+            alloc,
+            ticket,
+            number,
+            version,
+            reader,
+            reads: Reads::new(alloc),
+            writes: Writes::new(alloc),
+        })
     }
 
     /// Begins a view, which reads what is committed now, and may not write.
@@ -49,6 +65,17 @@ impl<D: Disk> Engine<D> {
         ensures disk { self.new.disk ≡ self.old.disk }
         ensures back { self.new.core.back ≡ self.old.core.back }
     {
-        Err(BeginFail::NoMemory)
+        let Ok(reader) = self.disk.reader(self.alloc) else {
+            return Err(BeginFail::NoMemory);
+        };
+        let version = self.core.version.share()?;
+        let ticket = self.core.front.begin()?;
+        Ok(View {
+            alloc: self.alloc,
+            ticket,
+            number: self.core.front.oracle.last(),
+            version,
+            reader,
+        })
     }
 }

@@ -8,7 +8,9 @@ ghost use Rattle.vl_engine.specs.Answers.{CommitFailed, commit_effects, commit_o
 ghost use Rattle.vl_engine.specs.Carries.{Carries, SameFiles};
 ghost use Rattle.vl_engine.specs.Represents.{Fronts, IsLive, Represents, StandsFor};
 ghost use Rattle.vl_engine.specs.Sees.{Sees, asked};
+ghost use Rattle.vl_engine.specs.Steps.{WritesAs};
 ghost use Rattle.vl_engine.specs.Writing.{StopsWriting};
+ghost use Rattle.vl_front.specs.Decisions.{MayWrite};
 ghost use Rattle.vl_engine.specs.declared.engine.Done.TheVariants as done;
 ghost use Rattle.vl_engine.specs.declared.fails.CommitFail.TheVariants as fails;
 ghost use Rattle.vl_engine.specs.declared.txn.Txn.{Txn};
@@ -21,8 +23,11 @@ ghost use Rattle.vl_model.specs.Notes.{AreNotesOf};
 ghost use Rattle.vl_model.specs.Reads.{IsExplained, Read};
 ghost use Rattle.vl_seglog.specs.Frames.{frame_at};
 
-use crate::{CommitFail, Done, Engine, Txn};
-use vl_disk::Disk;
+use crate::staging::{StagedCommit, stage_commit};
+use crate::{CommitFail, Done, Engine, Txn, append_durably};
+use vl_disk::{Disk, Name};
+use vl_front::Decision;
+use vl_seglog::ActiveLog;
 
 impl<D: Disk> Engine<D> {
     /// Makes a transaction the next commit, or says why not. It is synced before it is answered, by one append and one sync,
@@ -71,6 +76,67 @@ impl<D: Disk> Engine<D> {
         ensures files { SameFiles (D.told self.old.disk) (D.told self.new.disk) }
         ensures steps { self.new.core.back ≡ self.old.core.back }
     {
-        Err(CommitFail::NoMemory(txn))
+        let Ok(decision) = self
+            .core
+            .front
+            .decide(txn.number, &txn.reads, &txn.writes)
+        else {
+            return Err(CommitFail::NoMemory(txn));
+        };
+        match decision {
+            Decision::Halted(name) => {
+                self.end(txn.ticket);
+                Err(CommitFail::Halted { name })
+            }
+            Decision::Nothing => {
+                self.end(txn.ticket);
+                Ok(Done::Nothing)
+            }
+            Decision::Exhausted => Err(CommitFail::Exhausted(txn)),
+            Decision::Conflict { key, number } => {
+                self.end(txn.ticket);
+                Err(CommitFail::Conflict { key, number })
+            }
+            Decision::Full { length, frame } => Err(CommitFail::Full { txn, length, frame }),
+            Decision::Write => self.write(txn),
+        }
+    }
+
+    // Writes the commit of a transaction, which may be written.
+    fn write(
+        &mut self,
+        txn: Txn<D::Held, D::Reader>,
+    ) -> Result<Done, CommitFail<D::Held, D::Reader>>
+        requires { MayWrite self.old.core.front (entries txn.writes) }
+        ensures back { (back : Txn D.Held D.Reader) → handed_back result ≡ Some back → back ≡ txn }
+        ensures cause { HasCause (D.faults self.old.disk) (D.faults self.new.disk) (CommitFailed result) }
+        ensures steps { self.new.core.back ≡ self.old.core.back }
+        ensures as_written { WritesAs D.Watched self.old.disk self.new.disk self.old.core self.new.core txn.ticket txn.writes result }
+    {
+        let Ok(staged) = stage_commit(self.alloc, &mut self.disk, &mut self.core, &txn.writes)
+        else {
+            return Err(CommitFail::NoMemory(txn));
+        };
+        let StagedCommit {
+            frame,
+            active,
+            keys,
+        } = staged;
+        // Where the disk fails, the engine keeps the log as it was.
+        let mut log = ActiveLog {
+            number: self.core.front.log.number,
+            length: self.core.front.log.length,
+        };
+        let Ok(()) = append_durably(&mut log, &mut self.disk, &frame) else {
+            let name = Name::Log(self.core.front.log.number);
+            self.core.front.halted = Some(name);
+            self.core.front.end(txn.ticket);
+            return Err(CommitFail::Disk { name });
+        };
+        let number = self.core.front.oracle.last() + 1;
+        self.core.front.log = log;
+        self.core.version.set_active(active);
+        self.core.front.committed(txn.ticket, keys);
+        Ok(Done::At(number))
     }
 }

@@ -6,11 +6,12 @@ ghost use Rattle.vl_engine.specs.Sees.{SeesAlone};
 ghost use Rattle.vl_model.specs.History.{History, value_at};
 ghost use Rattle.vl_txn.specs.Refusals.{refused_key};
 
+use crate::txn::tagged_value;
 use crate::{Found, ReadFail, ReadFault, Rows, View};
 use vl_disk::{HeldFile, Reader};
 use vl_model::{Value, Way};
-use vl_txn::check_key;
-use vl_version::ReadFault as VersionFault;
+use vl_txn::{Writes, check_bound, check_key};
+use vl_version::{ReadFault as VersionFault, Wanted};
 
 impl<H: HeldFile, R: Reader<Held = H>> View<H, R> {
     /// The number at which it reads: that of the last commit before it began.
@@ -29,7 +30,10 @@ impl<H: HeldFile, R: Reader<Held = H>> View<H, R> {
         ensures cause { HasCause (R.faults self.old.reader) (R.faults self.new.reader) (ReadFailed result) }
         ensures sound { (h : History) → SeesAlone H.bytes self.old h → IsSound result }
     {
-        Err(ReadFail::NoMemory)
+        check_key(key)?;
+        Ok(self
+            .version
+            .get(self.alloc, &mut self.reader, key, self.number)?)
     }
 
     /// The same, with the value's tag.
@@ -41,7 +45,7 @@ impl<H: HeldFile, R: Reader<Held = H>> View<H, R> {
         ensures cause { HasCause (R.faults self.old.reader) (R.faults self.new.reader) (ReadFailed result) }
         ensures sound { (h : History) → SeesAlone H.bytes self.old h → IsSound result }
     {
-        Err(ReadFail::NoMemory)
+        Ok(self.get(key)?.map(tagged_value))
     }
 
     /// The value of a key read to the front of the caller's bytes, where it fits. It wants no memory. After a fault of the
@@ -76,6 +80,17 @@ impl<H: HeldFile, R: Reader<Held = H>> View<H, R> {
         ensures cause { HasCause (R.faults self.old.reader) (R.faults self.new.reader) (ReadFailed result) }
         ensures sound { (h : History) → SeesAlone H.bytes self.old h → IsSound result }
     {
-        Err(ReadFail::NoMemory)
+        check_bound(low)?;
+        check_bound(high)?;
+        let wanted = Wanted {
+            low,
+            high,
+            limit,
+            way,
+        };
+        let own = Writes::new(self.alloc);
+        Ok(self
+            .version
+            .rows(self.alloc, &mut self.reader, &own, wanted, self.number)?)
     }
 }

@@ -1,4 +1,4 @@
-use Rattle.std.proofs.Common.{take, sym, ap, subst, ◌≡◌, ◌∙◌, get_or}
+use Rattle.std.proofs.Common.{take, sym, ap, ◌∙◌}
 use Rattle.std.specs.Option.{option_copied}
 use Rattle.vl_memtable.specs.Contents.{Contents}
 use Rattle.vl_model.specs.Winners.{winner, newest_of}

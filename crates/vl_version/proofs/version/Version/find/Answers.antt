@@ -1,6 +1,5 @@
 use Rattle.std.proofs.Common.{ap, sym, ◌∙◌}
 use Rattle.std.specs.Option.{option_copied}
-use Rattle.vl_memtable.specs.Contents.{Contents}
 use Rattle.vl_model.specs.Winners.{newest_of, winner}
 use Rattle.vl_model.specs.laws.WinnerLaws.{winner-append}
 use Rattle.vl_version.specs.Sources.{held_entries}
