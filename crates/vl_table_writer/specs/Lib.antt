@@ -1,3 +1,6 @@
 pub mod Bodies
-pub mod Stops
+pub mod Framing
+pub mod PointSums
+pub mod Shapes
+pub mod Tails
 pub mod Writing
