@@ -5,7 +5,7 @@ use Rattle.vl_model.specs.Formats.{table_format}
 use Rattle.vl_model.specs.declared.entry.Entry.{Entry}
 use Rattle.vl_block.specs.Bytes.{blocks_bytes, filter_bytes, footer_bytes, footer_place, index_bytes, table_header}
 use Rattle.vl_block.specs.Cutting.{blocks}
-use Rattle.vl_table_writer.specs.Shapes.{IsShapeOf}
+use Rattle.vl_block.specs.Shapes.{IsShapeOf}
 use Rattle.vl_table_writer.specs.declared.tail.Tail.{Tail}
 
 -- the pieces, one behind the other

@@ -6,12 +6,11 @@ ghost use Rattle.vl_table_writer.specs.Framing.{AreBehind, IsRest};
 
 use crate::blocks_writer::BlocksWriter;
 use crate::framed::Framed;
-use crate::shape::TableShape;
 use crate::summary::Summary;
 use crate::tail::Tail;
 use byteorder::{BigEndian, ByteOrder};
 use std::alloc::{AllocError, Global};
-use vl_block::Footer;
+use vl_block::{Footer, TableShape};
 use vl_model::TABLE_FORMAT;
 
 // The bytes of the footer's place at the end.

@@ -17,13 +17,11 @@ mod numbers;
 mod point_sums;
 mod pointers;
 mod points;
-mod shape;
 mod summary;
 mod tail;
 mod writer;
 
 pub use add_fail::AddFail;
 pub use laws::tables_have_room;
-pub use shape::TableShape;
 pub use tail::Tail;
 pub use writer::TableWriter;

@@ -1,8 +1,8 @@
 ghost use Rattle.std.specs.Prelude.{◌≡◌, ◌++◌, OnOk};
 ghost use Rattle.vl_table_writer.specs.Tails.{tail_bytes};
 
-use crate::shape::TableShape;
 use std::alloc::AllocError;
+use vl_block::TableShape;
 
 /// The rest of a table, piece by piece, and what is known of the table beside its blocks.
 #[derive(Drop)]
