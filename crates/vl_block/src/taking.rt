@@ -42,9 +42,13 @@ pub fn entry_at(format: u32, bytes: &[u8], start: u16) -> Option<EntryRef<'_>>
     ensures found { (e : Entry) → IsEntry format e → StartsAt format bytes.now start e → IsSomeAnd result (λ r. entry_of r ≡ e) }
     ensures lawful { IfSome result (λ r. IsEntry format (entry_of r)) }
 {
-    let rest = bytes.get(start as usize..)?;
-    let (entry, _) = take_entry(format, rest)?;
-    Some(entry)
+    if start as usize > bytes.len() {
+        return None;
+    }
+    match take_entry(format, &bytes[start as usize..]) {
+        None => None,
+        Some((entry, _)) => Some(entry),
+    }
 }
 
 // The body at the front, with its kind.

@@ -1,0 +1,5 @@
+use Rattle.vl_table.proofs.KeptSteps.{Bringing}
+use Rattle.vl_table.proofs.block_reader.bring.Given as goal
+
+abbrev pub invariant-loop-i : goal.invariant-loop-i
+invariant-loop-i l = Bringing l.id l.fn.front l.fn.others l.front l.others l.i
