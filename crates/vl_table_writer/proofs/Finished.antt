@@ -14,7 +14,7 @@ use Rattle.vl_block.specs.Cutting.{blocks, file_length, filter_frame_length, ind
 use Rattle.vl_block.specs.Blocks.{block_body}
 use Rattle.vl_block.specs.Footer.{Foot, foot_of, footer_body}
 use Rattle.vl_block.specs.Index.{index_body}
-use Rattle.vl_block.specs.Bytes.{block_places, blocks_bytes, file_bytes, filter_bits, filter_bytes, filter_place, foot, IsTable, footer_bytes, footer_place, index_bytes, index_place, table_bytes, table_header}
+use Rattle.vl_block.specs.Bytes.{block_places, blocks_bytes, filter_bits, filter_bytes, filter_place, foot, IsTable, footer_bytes, footer_place, index_bytes, index_place, table_bytes, table_header}
 use Rattle.vl_block.specs.laws.Lengths.{length-filter_frame, length-footer, length-index}
 use Rattle.vl_table_writer.specs.Framing.{AreBehind, IsRest}
 use Rattle.vl_table_writer.specs.Tails.{IsTail, tail_bytes}

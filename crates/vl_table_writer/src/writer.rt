@@ -46,12 +46,7 @@ impl TableWriter {
     }
 
     // What `begin` does with an entry that a table may have.
-    fn of(
-        alloc: Global,
-        out: &mut Vec<u8>,
-        number: u32,
-        first: &Entry,
-    ) -> Result<Self, AllocError>
+    fn of(alloc: Global, out: &mut Vec<u8>, number: u32, first: &Entry) -> Result<Self, AllocError>
         requires { IsEntry table_format first.now }
         ensures header { OnOk result (out.new.items ≡ out.old.items ++ table_header table_format number) }
         ensures begun { IfOk result (λ w. IsWriting w number (first.now ∷ []) (table_header table_format number)) }

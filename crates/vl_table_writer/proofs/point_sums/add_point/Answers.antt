@@ -1,4 +1,4 @@
-use Rattle.std.proofs.Common.{ap, ◌∙◌, ◌+◌, ◌≡◌, sym, map, ℕ, Option}
+use Rattle.std.proofs.Common.{ap, ◌∙◌, ◌+◌, ◌≡◌, map, ℕ, Option}
 use Rattle.std.specs.Ordering.{nat_cmp}
 use Rattle.std.specs.BTreeMap.{insert_entry, is_at}
 use Rattle.std.specs.Map.{lookup}

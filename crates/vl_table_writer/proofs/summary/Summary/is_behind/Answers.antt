@@ -1,6 +1,5 @@
 use Rattle.std.proofs.Common.{◌≡◌, ◌∙◌, ap, sym}
 use Rattle.std.specs.Ordering.{is_lt}
-use Rattle.std.specs.declared.cmp.Ordering.TheVariants.{Less}
 use Rattle.vl_table_writer.proofs.Behind.{last_cmp, less_from, next_from, next_less}
 use Rattle.vl_table_writer.proofs.summary.Summary.is_behind.Goals as goal
 

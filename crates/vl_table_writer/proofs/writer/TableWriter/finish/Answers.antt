@@ -4,7 +4,6 @@ use Rattle.vl_frame.specs.declared.kinds.FrameKind.TheVariants as kinds
 use Rattle.vl_model.specs.Formats.{table_format}
 use Rattle.vl_block.specs.Blocks.{block_body}
 use Rattle.vl_table_writer.proofs.Finished.{ends, tail_whole}
-use Rattle.vl_table_writer.specs.Tails.{IsTail}
 use Rattle.vl_table_writer.specs.Writing.{IsWriting}
 use Rattle.vl_model.specs.declared.entry.Entry.{Entry}
 use Rattle.vl_table_writer.proofs.writer.TableWriter.finish.Goals as goal
