@@ -21,7 +21,7 @@ use Rattle.vl_block.specs.laws.EntryLaws.{entry-parts}
 use Rattle.vl_block.specs.declared.index.BlockPlace.{BlockPlace}
 use Rattle.vl_frame.specs.Frame.{check_of, frame_bytes}
 use Rattle.vl_frame.specs.declared.kinds.FrameKind.TheVariants as kinds
-use Rattle.vl_table.specs.Buffers.{StandsBlock}
+use Rattle.vl_table.specs.Kept.{StandsBlock}
 use Rattle.vl_table.specs.BlockEntries.{behind_key, block_entries, body_entries, body_in, entries_in, entry_in, pointer_in, short_in, value_in}
 
 -- ---- what the bytes say

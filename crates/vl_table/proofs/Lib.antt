@@ -1,17 +1,15 @@
 mod AnswerSteps
 mod BlockSays
-mod BlockSteps
-mod BufferSteps
-mod CursorSteps
+mod EntrySteps
 mod Headers
+mod KeptSteps
 mod Lookups
 mod MeetSteps
 mod OpeningSteps
 mod PartFaults
 mod Parts
-mod ScanSteps
+mod ReadSteps
 mod SeekSteps
 mod Stages
 mod TrueTables
-mod WayEntries
 pub mod Results
