@@ -9,6 +9,8 @@ mod OpeningSteps
 mod PartFaults
 mod Parts
 mod SeekSteps
+mod SpanParts
 mod Stages
+mod StretchSteps
 mod TrueTables
 pub mod Results
