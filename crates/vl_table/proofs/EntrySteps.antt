@@ -5,8 +5,9 @@ use Rattle.std.proofs.Common.{refl, sym, ap, subst, ◌∙◌, arith}
 use Rattle.vl_model.specs.declared.entry.Entry.{Entry}
 use Rattle.vl_run.specs.Lookups.{IsParted, is_ahead}
 use Rattle.vl_run.specs.laws.Lookup.{rising-parted}
-use Rattle.vl_run.specs.laws.OrderLaws.{IsBefore, IsRising}
-use Rattle.vl_block.specs.Blocks.{entries}
+use Rattle.vl_run.specs.laws.OrderLaws.{IsRising, before-all}
+use Rattle.vl_block.specs.Blocks.{IsBlock, entries}
+use Rattle.vl_block.specs.Entries.{IsEntry}
 use Rattle.vl_block.specs.Lists.{AreOrdered}
 use Rattle.vl_block.specs.Starts.{AreStarts, StartsAt}
 
@@ -87,4 +88,47 @@ some-at [] i within = absurd (omega arith)
 some-at (x ∷ xs) zero within = (x, refl)
 some-at (x ∷ xs) (suc i) within = some-at xs i (omega arith)
 
+pub at-within : {X : Type 0} (xs : List X) (i : ℕ) (x : X) → slice_get xs i ≡ Some x → i < length xs
+at-within [] i x at = absurd cc
+at-within (y ∷ ys) zero x at = omega arith
+at-within (y ∷ ys) (suc i) x at = omega (arith, at-within ys i x at)
+
+pub none_there : {X : Type 0} (o : Option X) → ((x : X) → o ≡ Some x → ⊥) → o ≡ None
+none_there None none = refl
+none_there (Some x) none = absurd (none x refl)
+
 -- entries in the order of a block are in order
+pub ordered-rising : (format : ℕ) (es : List Entry) → AreOrdered (entries format) es → IsRising es
+ordered-rising format [] ordered = tt
+ordered-rising format (e ∷ []) ordered = (tt, tt)
+ordered-rising format (e ∷ f ∷ fs) ordered =
+    let rest = ordered-rising format (f ∷ fs) ordered.1 in ((ordered.0, before-all e f fs ordered.0 rest.0), rest)
+
+module _ (key : List ℕ) (version format : ℕ) (bytes places : List ℕ) (es : List Entry) (block : IsBlock format es) (are : AreStarts format bytes places es) where
+  -- the entry with an index, and what is known of it
+  pub record At (i : ℕ) : Type 0 where
+    pub entry : Entry
+    pub at : slice_get es i ≡ Some entry
+    pub lawful : IsEntry format entry
+    pub starts : StartsAt format bytes (get_or places i 0) entry
+
+  pub entry_is : (i : ℕ) → i < length places → At i
+  entry_is i within =
+      let e = some-at es i (omega (arith, within, starts-counted format bytes places es are)) in
+      record {
+        entry = e.0;
+        at = e.1;
+        lawful = all-at (IsEntry format) es i e.0 block.each e.1;
+        starts = starts-at format bytes places es i 0 e.0 are e.1;
+      }
+
+  pub goes_up : (low high i : ℕ) (e : At i) → Between low high (prefix_len (is_ahead key version) es) → is_ahead key version e.entry ≡ true
+      → Between (i + 1) high (prefix_len (is_ahead key version) es)
+  goes_up low high i e between ahead = record {
+    from = passes-prefix (is_ahead key version) es i e.entry (rising-parted key version es (ordered-rising format es block.ordered)) e.at ahead;
+    upto = between.upto;
+  }
+
+  pub goes_down : (low high i : ℕ) (e : At i) → Between low high (prefix_len (is_ahead key version) es) → is_ahead key version e.entry ≡ false
+      → Between low i (prefix_len (is_ahead key version) es)
+  goes_down low high i e between ahead = record { from = between.from; upto = fails-prefix (is_ahead key version) es i e.entry e.at ahead }

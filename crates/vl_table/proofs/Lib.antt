@@ -8,6 +8,7 @@ mod MeetSteps
 mod OpeningSteps
 mod PartFaults
 mod Parts
+mod ReadSteps
 mod SeekSteps
 mod SpanParts
 mod Stages

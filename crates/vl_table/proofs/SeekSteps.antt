@@ -19,7 +19,9 @@ use Rattle.vl_table.specs.Answers.{Answers}
 use Rattle.vl_table.specs.Kept.{Files, HasBlock, NoBlock, id_of}
 use Rattle.vl_table.specs.KeptBlocks.{AreKept}
 use Rattle.vl_table.specs.Meets.{LooksIn}
+use Rattle.vl_table.specs.Scans.{IsScan}
 use Rattle.vl_table.specs.Seeks.{IsBadBlock}
+use Rattle.vl_table.specs.declared.entries.Scan.TheVariants as scans
 use Rattle.vl_table.specs.Tables.{IsOf, number_of, shape_of}
 use Rattle.vl_table.specs.declared.block_reader.BlockReader.{BlockReader}
 use Rattle.vl_table.specs.declared.fault.TableFault.{TableFault}
@@ -142,7 +144,7 @@ module _ {H : Type 0} (bytes_of : H → Option (List ℕ)) (t : Table H) (key : 
         (ap (first_failing (is_ahead key version)) (sym one.1) ∙ says bytes has.0 has.1) (so.so_far es is);
     met = λ bytes told.
         let has = load.answer bytes told in
-        met_behind (shape_of t) key version bytes i p within found has.0 has.1.stands (so.met bytes told) (says bytes has.0 has.1);
+        met_behind (shape_of t) key version bytes i p within found has.0 has.1.has.stands (so.met bytes told) (says bytes has.0 has.1);
   }
 
   -- what was found was met
@@ -153,7 +155,22 @@ module _ {H : Type 0} (bytes_of : H → Option (List ℕ)) (t : Table H) (key : 
   looks_here b c slot x load says met = λ bytes told.
       let has = load.answer bytes told in
       let said = says bytes has.0 has.1 in
-      met_here (shape_of t) key version bytes i p within found has.0 has.1.stands (if_of_key key) said.0 (option_map (found_of key) x) (met bytes told) said.1 said.2
+      met_here (shape_of t) key version bytes i p within found has.0 has.1.has.stands (if_of_key key) said.0 (option_map (found_of key) x) (met bytes told) said.1 said.2
+
+-- what a look-up in a block says of its first entry at or behind the place
+pub says_at : {H : Type 0} (key : List ℕ) (version : ℕ) (t : Table H) (p : BlockPlace) (slot : Slot) (f : Found)
+    → ((bytes : List ℕ) (es : List Entry) → HasBlock slot (id_of (shape_of t) p) bytes es → IsScan key (first_failing (is_ahead key version) es) (scans.At f))
+    → (bytes : List ℕ) (es : List Entry) → HasBlock slot (id_of (shape_of t) p) bytes es
+    → (e : Entry) × (first_failing (is_ahead key version) es ≡ Some e) × (option_map (found_of key) (Some f) ≡ if_of_key key (Some e))
+says_at key version t p slot f scan bytes es has =
+    let said = scan bytes es has in (found_of key f, said.0, sym (sym (ap (if_of_key key) said.0) ∙ said.1))
+
+pub says_other : {H : Type 0} (key : List ℕ) (version : ℕ) (t : Table H) (p : BlockPlace) (slot : Slot)
+    → ((bytes : List ℕ) (es : List Entry) → HasBlock slot (id_of (shape_of t) p) bytes es → IsScan key (first_failing (is_ahead key version) es) scans.Other)
+    → (bytes : List ℕ) (es : List Entry) → HasBlock slot (id_of (shape_of t) p) bytes es
+    → (e : Entry) × (first_failing (is_ahead key version) es ≡ Some e) × (option_map (found_of key) None ≡ if_of_key key (Some e))
+says_other key version t p slot scan bytes es has =
+    let said = scan bytes es has in (said.0, said.1, sym (sym (ap (if_of_key key) said.1) ∙ said.2))
 
 -- no block is left
 pub finds_none : {H R : Type 0} (bytes_of : H → Option (List ℕ)) (t : Table H) (key : List ℕ) (version : ℕ) (files : Files) (a c : ℕ)

@@ -21,6 +21,10 @@ pub record StandsBlock (format number : ℕ) (bytes : List ℕ) (place size : �
 abbrev pub NoBlock : ℕ → ℕ → BlockPlace → List ℕ → ℕ → Type 0
 NoBlock format number p bytes damage = ((es : List Entry) → StandsBlock format number bytes p.place p.length es → ⊥) × (damage ≡ p.place)
 
+-- the same of a block by all that names it
+abbrev pub IsMissing : BlockId → List ℕ → ℕ → Type 0
+IsMissing id bytes damage = ((es : List Entry) → StandsBlock id.format id.number bytes id.place id.length es → ⊥) × (damage ≡ id.place)
+
 -- the block that an index names
 abbrev pub id_of : TableShape → BlockPlace → BlockId
 id_of s p = record { format = s.format; number = s.number; place = p.place; length = p.length }
@@ -36,12 +40,16 @@ has_block id slot = by slot.block
     by None = false
     by (Some b) = is_same_block b id
 
--- the slot has the block that stands in these bytes, with these entries, and knows where they begin
+-- this is the frame of the block that stands in the bytes, with these entries, which begin at these places
+pub record HasFrame (id : BlockId) (bytes frame starts : List ℕ) (es : List Entry) : Type 0 where
+  pub stands : StandsBlock id.format id.number bytes id.place id.length es
+  pub framed : frame ≡ frame_bytes id.number id.place kinds.Block stands.body
+  pub are : AreStarts id.format (drop 4 stands.body) starts es
+
+-- the slot has the block that stands in these bytes, with these entries
 pub record HasBlock (slot : Slot) (id : BlockId) (bytes : List ℕ) (es : List Entry) : Type 0 where
   pub block : slot.block ≡ Some id
-  pub stands : StandsBlock id.format id.number bytes id.place id.length es
-  pub frame : take id.length slot.frame.items ≡ frame_bytes id.number id.place kinds.Block stands.body
-  pub starts : AreStarts id.format (drop 4 stands.body) (take slot.count slot.starts.items) es
+  pub has : HasFrame id bytes (take id.length slot.frame.items) (take slot.count slot.starts.items) es
 
 -- the bytes of files, by the numbers of their tables
 abbrev pub Files : Type 0

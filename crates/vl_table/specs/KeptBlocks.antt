@@ -25,4 +25,4 @@ AreFiles {H} bytes_of files ts = AllByRecursion (λ (t : Table H). files (number
 -- The reader keeps blocks of these files, in which these tables stand.
 pub record ReadsOf {H R : Type 0} (bytes_of : H → Option (List ℕ)) (files : Files) (b : BlockReader R) (ts : List (Table H)) : Type 0 where
   pub kept : AreKept files b
-  pub files : AreFiles bytes_of files ts
+  pub told : AreFiles bytes_of files ts

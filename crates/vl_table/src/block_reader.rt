@@ -4,9 +4,11 @@ ghost use Rattle.std.specs.Prelude.{◌≡◌, ◌<◌, ◌∷◌, [], ℕ, List
 ghost use Rattle.vl_model.specs.declared.entry.Entry.{Entry};
 ghost use Rattle.vl_block.specs.declared.index.BlockPlace.{BlockPlace};
 ghost use Rattle.vl_table.specs.Answers.{Answers, NeedsNoMemory};
-ghost use Rattle.vl_table.specs.Kept.{Files, HasBlock, NoBlock, has_block, id_of};
+ghost use Rattle.vl_table.specs.Kept.{Files, HasBlock, IsMissing, NoBlock, has_block, id_of};
+ghost use Rattle.vl_table.specs.Scans.{Lists};
 ghost use Rattle.vl_table.specs.Tables.{number_of, shape_of};
 ghost use Rattle.vl_table.specs.Used.{brought};
+ghost use Rattle.vl_table.specs.declared.slot.BlockId.{BlockId};
 
 use crate::entries::Entries;
 use crate::fault::TableFault;
@@ -80,9 +82,17 @@ impl<R: Reader> BlockReader<R> {
         self.load_block(table.held(), id)
     }
 
+    // Brings a block to the front, and reads and tests it where it isn't kept.
     fn load_block<H: HeldFile>(&mut self, held: &H, id: BlockId) -> Result<(), TableFault>
     where
         R: Reader<Held = H>,
+        ensures kept { (files : Files) → AreKept files self.old → files id.number ≡ H.bytes held.now → AreKept files self.new }
+        ensures answers { (files : Files) → AreKept files self.old → files id.number ≡ H.bytes held.now
+            → Answers (R.faults self.old.reader) (R.faults self.new.reader) id.number (H.bytes held.now)
+            (λ bytes done. (es : List Entry) × HasBlock self.new.front id bytes es) (IsMissing id) result }
+        ensures no_memory { NeedsNoMemory result }
+        ensures hit { keeps id self.old ≡ true → (result ≡ Ok tt) × (self.new.reader ≡ self.old.reader) }
+        ensures used { OnOk result (self.new.others.items ≡ (brought id self.old.front self.old.others.items).1) }
     {
         if bring(&mut self.front, &mut self.others, &id) {
             return Ok(());
@@ -91,7 +101,9 @@ impl<R: Reader> BlockReader<R> {
     }
 
     /// The entries of the block that is at the front.
-    pub fn entries(&self) -> Entries<'_> {
+    pub fn entries(&self) -> Entries<'_>
+        ensures { (id : BlockId) (bytes : List ℕ) (es : List Entry) → HasBlock self.now.front id bytes es → Lists result es }
+    {
         self.front.entries()
     }
 }

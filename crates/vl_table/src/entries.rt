@@ -1,6 +1,6 @@
 //! The entries of a block that was tested, where they lie in memory.
 
-ghost use Rattle.std.specs.Prelude.{◌≡◌, IfSome, IsSomeAnd, List, Some, length, slice_get};
+ghost use Rattle.std.specs.Prelude.{◌≡◌, ◌<◌, IfSome, IsSomeAnd, List, OnSome, Some, length, slice_get};
 ghost use Rattle.std.specs.List.{prefix_len};
 ghost use Rattle.vl_model.specs.declared.entry.Entry.{Entry};
 ghost use Rattle.vl_run.specs.Lookups.{first_failing, is_ahead};
@@ -54,6 +54,7 @@ impl<'a> Entries<'a> {
         ensures found { (es : List Entry) (e : Entry) → Lists self.now es → slice_get es index ≡ Some e
             → IsSomeAnd result (λ r. entry_of r ≡ e) }
         ensures lawful { IfSome result (λ r. IsEntry self.now.format (entry_of r)) }
+        ensures within { OnSome result (index < length self.now.starts.now) }
     {
         if index >= self.starts.len() {
             return None;

@@ -5,6 +5,7 @@
 #![tactic(auto)]
 
 mod beginning;
+mod block;
 mod block_reader;
 mod cursor;
 mod entries;

@@ -1,17 +1,14 @@
 //! One frame of a table, of which it is known where it stands and how long it is.
 
-ghost use Rattle.std.specs.Prelude.{◌≡◌, ◌<◌, ◌≤◌, ◌↔◌, ℕ, IfOk, List, length, IsTrue, take};
+ghost use Rattle.std.specs.Prelude.{◌≡◌, ◌+◌, ◌<◌, ◌≤◌, ◌↔◌, ℕ, List, length, IsTrue};
 ghost use Rattle.vl_frame.specs.Frame.{IsSpelled, frame_bytes, frame_length};
 ghost use Rattle.vl_frame.specs.declared.kinds.FileKind.TheVariants as files;
 ghost use Rattle.vl_frame.specs.declared.kinds.FrameKind.{FrameKind};
-ghost use Rattle.vl_block.specs.Cutting.{longest_body};
-ghost use Rattle.vl_frame.specs.declared.kinds.FrameKind.TheVariants as kinds;
 ghost use Rattle.vl_table.specs.Answers.{Answers, NeedsNoMemory};
 ghost use Rattle.vl_table.specs.Begun.{FrameAt};
 
 use crate::fault::{TableFault, damaged};
 use crate::reading::fill;
-use crate::slot::{BlockId, MAX_FRAME_BYTES};
 use vl_disk::{HeldFile, Reader};
 use vl_frame::{FRAME_BYTES, FileKind, FrameKind, read_frame};
 
@@ -42,33 +39,28 @@ pub fn read_part<H: HeldFile, R: Reader<Held = H>>(
     Ok(())
 }
 
-/// Reads the frame of a block to the front of a slice that has room for each block, and says how long it is.
-pub fn read_block<H: HeldFile, R: Reader<Held = H>>(
+/// Fills a slice with the frame of this kind that stands at a place of the table with this number. It wants no memory.
+pub fn read_into<H: HeldFile, R: Reader<Held = H>>(
     reader: &mut R,
     held: &H,
-    id: BlockId,
+    number: u32,
+    place: u64,
+    kind: FrameKind,
     frame: &mut [u8],
-) -> Result<usize, TableFault>
-    requires { length frame.old ≡ MAX_FRAME_BYTES }
-    ensures answers { Answers (R.faults reader.old) (R.faults reader.new) id.number (H.bytes held.now)
-        (λ bytes size. (body : List ℕ) × FrameAt id.number bytes id.place id.length kinds.Block body
-        × (take id.length frame.new ≡ frame_bytes id.number id.place kinds.Block body))
-        (λ bytes damage. ((body : List ℕ) → length body ≤ longest_body
-        → FrameAt id.number bytes id.place id.length kinds.Block body → ⊥) × (damage ≡ id.place))
+) -> Result<(), TableFault>
+    requires { place + length frame.old ≤ H.size held.now }
+    ensures answers { Answers (R.faults reader.old) (R.faults reader.new) number (H.bytes held.now)
+        (λ bytes done. (body : List ℕ) × FrameAt number bytes place (length frame.old) kind body
+        × (frame.new ≡ frame_bytes number place kind body))
+        (λ bytes damage. ((body : List ℕ) → FrameAt number bytes place (length frame.old) kind body → ⊥) × (damage ≡ place))
         result }
-    ensures size { IfOk result (λ size. (size ≡ id.length) × (size ≤ length frame.old)) }
     ensures no_memory { NeedsNoMemory result }
 {
-    let size = id.length as usize;
-    if size > frame.len() || id.place > held.len() || size as u64 > held.len() - id.place {
-        return Err(damaged(id.number, id.place));
+    fill(reader, held, number, place, frame)?;
+    if !is_frame(frame, number, place, kind) {
+        return Err(damaged(number, place));
     }
-    let room = &mut frame[..size];
-    fill(reader, held, id.number, id.place, room)?;
-    if !is_frame(room, id.number, id.place, FrameKind::Block) {
-        return Err(damaged(id.number, id.place));
-    }
-    Ok(size)
+    Ok(())
 }
 
 // Whether the bytes are a frame of this kind and nothing else.

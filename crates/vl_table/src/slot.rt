@@ -1,12 +1,13 @@
 //! Room for one block.
 
-ghost use Rattle.std.specs.Prelude.{◌≡◌, vec_len};
+ghost use Rattle.std.specs.Prelude.{◌≡◌, ◌≤◌, vec_len};
 
 use crate::entries::Entries;
-use crate::fault::{TableFault, damaged};
-use crate::part::{body_of, read_block};
+use crate::fault::TableFault;
+use crate::block::read_block;
+use crate::part::body_of;
 use std::alloc::{AllocError, Global};
-use vl_block::{BlockPlace, MAX_BLOCK_ENTRIES, MAX_BODY_BYTES, TableShape, find_starts};
+use vl_block::{BlockPlace, MAX_BLOCK_ENTRIES, MAX_BODY_BYTES, TableShape};
 use vl_disk::{HeldFile, Reader};
 use vl_frame::{FRAME_BYTES, take_u32};
 
@@ -23,8 +24,12 @@ pub struct BlockId {
 }
 
 impl BlockId {
+    ghost use Rattle.vl_table.specs.Kept.{id_of};
+
     /// The block that an index names.
-    pub fn of(shape: &TableShape, block: &BlockPlace) -> Self {
+    pub fn of(shape: &TableShape, block: &BlockPlace) -> Self
+        ensures { result ≡ id_of shape.now block.now }
+    {
         BlockId {
             format: shape.format,
             number: shape.number,
@@ -45,13 +50,14 @@ pub struct Slot {
     count: usize,
     ghost frame_room: { vec_len frame ≡ 4190 },
     ghost starts_room: { vec_len starts ≡ 347 },
+    ghost count_room: { count ≤ 347 },
 }
 
 impl Slot {
     ghost use Rattle.std.specs.Prelude.{◌≡◌, ℕ, List, Option, None, Some, IfOk, OnOk, OnErr};
     ghost use Rattle.vl_model.specs.declared.entry.Entry.{Entry};
     ghost use Rattle.vl_table.specs.Answers.{Answers, NeedsNoMemory};
-    ghost use Rattle.vl_table.specs.Kept.{HasBlock, StandsBlock, has_block};
+    ghost use Rattle.vl_table.specs.Kept.{HasBlock, IsMissing, has_block};
     ghost use Rattle.vl_table.specs.Scans.{Lists};
     ghost use Rattle.vl_table.specs.declared.slot.BlockId.{BlockId};
 
@@ -86,22 +92,16 @@ impl Slot {
     ) -> Result<(), TableFault>
         ensures answers { Answers (R.faults reader.old) (R.faults reader.new) id.number (H.bytes held.now)
             (λ bytes done. (es : List Entry) × HasBlock self.new id bytes es)
-            (λ bytes damage. ((es : List Entry) → StandsBlock id.format id.number bytes id.place id.length es → ⊥) × (damage ≡ id.place))
-            result }
+            (IsMissing id) result }
         ensures has { OnOk result (self.new.block ≡ Some id) }
         ensures empty { OnErr result (self.new.block ≡ None) }
         ensures no_memory { NeedsNoMemory result }
     {
         self.block = None;
-        let length = read_block(reader, held, id, &mut self.frame)?;
-        match find_starts(id.format, body_of(&self.frame[..length]), &mut self.starts) {
-            None => Err(damaged(id.number, id.place)),
-            Some(count) => {
-                self.count = count;
-                self.block = Some(id);
-                Ok(())
-            }
-        }
+        let count = read_block(reader, held, id, &mut self.frame, &mut self.starts)?;
+        self.count = count;
+        self.block = Some(id);
+        Ok(())
     }
 
     /// The entries of its block; none where it is empty.
@@ -118,7 +118,7 @@ impl Slot {
         ensures { (bytes : List ℕ) (es : List Entry) → HasBlock self.now id bytes es → Lists result es }
     {
         let length = id.length as usize;
-        if length > self.frame.len() || self.count > self.starts.len() {
+        if length > self.frame.len() {
             return Entries::none();
         }
         match take_u32(body_of(&self.frame[..length])) {

@@ -111,77 +111,77 @@ impl<H: HeldFile> Table<H> {
     /// and goes on to the next while all entries of a block come before the place. A block that is kept isn't read.
     pub fn find<R: Reader<Held = H>>(
         &self,
-        blocks: &mut BlockReader<R>,
+        reader: &mut BlockReader<R>,
         key: &[u8],
         number: u64,
     ) -> Result<Option<Found>, TableFault>
-        ensures kept { (files : Files) → ReadsOf H.bytes files blocks.old (self.now ∷ []) → AreKept files blocks.new }
-        ensures answers { (files : Files) → ReadsOf H.bytes files blocks.old (self.now ∷ [])
-            → Answers (R.faults blocks.old.reader) (R.faults blocks.new.reader) (number_of self.now) (H.bytes self.now.held)
+        ensures kept { (files : Files) → ReadsOf H.bytes files reader.old (self.now ∷ []) → AreKept files reader.new }
+        ensures answers { (files : Files) → ReadsOf H.bytes files reader.old (self.now ∷ [])
+            → Answers (R.faults reader.old.reader) (R.faults reader.new.reader) (number_of self.now) (H.bytes self.now.held)
             (λ bytes found. (es : List Entry) → IsOf H.bytes self.now es
             → option_map (found_of key.now) found ≡ winner es key.now number)
             (IsBadBlock (shape_of self.now)) result }
 
         // No answer hides a block that doesn't stand, also in a table that isn't true.
-        ensures looks { (files : Files) → ReadsOf H.bytes files blocks.old (self.now ∷ [])
+        ensures looks { (files : Files) → ReadsOf H.bytes files reader.old (self.now ∷ [])
             → may_hold key.now (shape_of self.now) ≡ true → LooksIn H.bytes (if_of_key key.now) self.now key.now number result }
 
         // Nothing is looked at of a table that may not have the key.
-        ensures unread { may_hold key.now (shape_of self.now) ≡ false → (result ≡ Ok None) × (blocks.new ≡ blocks.old) }
+        ensures unread { may_hold key.now (shape_of self.now) ≡ false → (result ≡ Ok None) × (reader.new ≡ reader.old) }
         ensures no_memory { NeedsNoMemory result }
     {
         if !self.may_hold(key) {
             return Ok(None);
         }
-        self.seek(blocks, key, number)
+        self.seek(reader, key, number)
     }
 
     /// The entry of a key and version. It looks where `find` would.
     pub fn exact<R: Reader<Held = H>>(
         &self,
-        blocks: &mut BlockReader<R>,
+        reader: &mut BlockReader<R>,
         key: &[u8],
         version: u64,
     ) -> Result<Option<Found>, TableFault>
-        ensures kept { (files : Files) → ReadsOf H.bytes files blocks.old (self.now ∷ []) → AreKept files blocks.new }
-        ensures answers { (files : Files) → ReadsOf H.bytes files blocks.old (self.now ∷ [])
-            → Answers (R.faults blocks.old.reader) (R.faults blocks.new.reader) (number_of self.now) (H.bytes self.now.held)
+        ensures kept { (files : Files) → ReadsOf H.bytes files reader.old (self.now ∷ []) → AreKept files reader.new }
+        ensures answers { (files : Files) → ReadsOf H.bytes files reader.old (self.now ∷ [])
+            → Answers (R.faults reader.old.reader) (R.faults reader.new.reader) (number_of self.now) (H.bytes self.now.held)
             (λ bytes found. (es : List Entry) → IsOf H.bytes self.now es
             → option_map (found_of key.now) found ≡ exact es key.now version)
             (IsBadBlock (shape_of self.now)) result }
-        ensures looks { (files : Files) → ReadsOf H.bytes files blocks.old (self.now ∷ [])
+        ensures looks { (files : Files) → ReadsOf H.bytes files reader.old (self.now ∷ [])
             → may_hold key.now (shape_of self.now) ≡ true → LooksIn H.bytes (if_exact key.now version) self.now key.now version result }
-        ensures unread { may_hold key.now (shape_of self.now) ≡ false → (result ≡ Ok None) × (blocks.new ≡ blocks.old) }
+        ensures unread { may_hold key.now (shape_of self.now) ≡ false → (result ≡ Ok None) × (reader.new ≡ reader.old) }
         ensures no_memory { NeedsNoMemory result }
     {
         if !self.may_hold(key) {
             return Ok(None);
         }
-        let found = self.seek(blocks, key, version)?;
+        let found = self.seek(reader, key, version)?;
         Ok(of_version(found, version))
     }
 
     // The first entry that doesn't come before the place of a key and a version, where it is of the key.
     fn seek<R: Reader<Held = H>>(
         &self,
-        blocks: &mut BlockReader<R>,
+        reader: &mut BlockReader<R>,
         key: &[u8],
         version: u64,
     ) -> Result<Option<Found>, TableFault>
-        ensures kept { (files : Files) → ReadsOf H.bytes files blocks.old (self.now ∷ []) → AreKept files blocks.new }
-        ensures answers { (files : Files) → ReadsOf H.bytes files blocks.old (self.now ∷ [])
-            → Answers (R.faults blocks.old.reader) (R.faults blocks.new.reader) (number_of self.now) (H.bytes self.now.held)
+        ensures kept { (files : Files) → ReadsOf H.bytes files reader.old (self.now ∷ []) → AreKept files reader.new }
+        ensures answers { (files : Files) → ReadsOf H.bytes files reader.old (self.now ∷ [])
+            → Answers (R.faults reader.old.reader) (R.faults reader.new.reader) (number_of self.now) (H.bytes self.now.held)
             (λ bytes found. (es : List Entry) → IsOf H.bytes self.now es → option_map (found_of key.now) found
             ≡ if_of_key key.now (first_over key.now version (blocks (shape_of self.now).format es)))
             (IsBadBlock (shape_of self.now)) result }
-        ensures looks { (files : Files) → ReadsOf H.bytes files blocks.old (self.now ∷ [])
+        ensures looks { (files : Files) → ReadsOf H.bytes files reader.old (self.now ∷ [])
             → LooksIn H.bytes (if_of_key key.now) self.now key.now version result }
         ensures no_memory { NeedsNoMemory result }
     {
         let places = self.shape().blocks.as_slice();
         for at in first_block(places, key)..places.len() {
-            blocks.load(self, at)?;
-            match blocks.entries().look(key, version) {
+            reader.load(self, at)?;
+            match reader.entries().look(key, version) {
                 Scan::Behind => {}
                 Scan::At(found) => return Ok(Some(found)),
                 Scan::Other => return Ok(None),

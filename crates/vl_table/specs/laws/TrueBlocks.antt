@@ -57,8 +57,8 @@ block_stands format number es i p is b =
 pub block_is : (slot : Slot) (id : BlockId) (bytes : List ℕ) (es others : List Entry) → HasBlock slot id bytes es
     → StandsBlock id.format id.number bytes id.place id.length others → es ≡ others
 block_is slot id bytes es others has stands =
-    let one = one_frame files.Table id.number id.place (drop id.place bytes) kinds.Block kinds.Block has.stands.body stands.body has.stands.frame.frame stands.frame.frame in
-    one_block id.format stands.body es others (subst (λ (l : List ℕ). SpellsBlock id.format l es) one.1 has.stands.says) stands.says
+    let one = one_frame files.Table id.number id.place (drop id.place bytes) kinds.Block kinds.Block has.has.stands.body stands.body has.has.stands.frame.frame stands.frame.frame in
+    one_block id.format stands.body es others (subst (λ (l : List ℕ). SpellsBlock id.format l es) one.1 has.has.stands.says) stands.says
 
 pub named_block : (number : ℕ) (s : TableShape) (es : List Entry) (i : ℕ) (p : BlockPlace) → IsShapeOf number es s → i < length s.blocks.items
     → p ≡ get_or s.blocks.items i p → BlockAt s.format 16 (blocks s.format es) i p
