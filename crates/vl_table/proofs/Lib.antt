@@ -5,6 +5,9 @@ mod Headers
 mod KeptSteps
 mod Lookups
 mod MeetSteps
+mod CursorLaws
+mod CursorSteps
+mod OpenSteps
 mod OpeningSteps
 mod PartFaults
 mod Parts
@@ -15,3 +18,5 @@ mod Stages
 mod StretchSteps
 mod TrueTables
 pub mod Results
+mod WholeSpans
+mod WholeTables

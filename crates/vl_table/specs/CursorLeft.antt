@@ -19,7 +19,7 @@ module _ {H R : Type 0} where
   not_begun c = on_way c.way (stretch_of c.later c.tables.items)
 
   -- the blocks that it hasn't read, as it goes
-  abbrev pub unread : TableCursor H R → List (Block {H = H})
+  abbrev pub unread : TableCursor H R → List (Block H)
   unread c = blocks_at c.way (slice_get c.tables.items c.table) c.blocks ++ blocks_over c.span c.way (not_begun c)
 
   -- The entries within its interval of the block that it has read and of those that it hasn't, as it goes: where the tables'
@@ -53,7 +53,7 @@ module _ {H R : Type 0} where
 
   -- It read the next block, which stood, and is to look at its entries.
   pub record ReadsNext (bytes_of : H → Option (List ℕ)) (c d : TableCursor H R) : Type 0 where
-    pub block : Block {H = H}
+    pub block : Block H
     pub passed : rise_over c.span c.tables.items ≡ true → unread c ≡ block ∷ unread d
     pub entries : List Entry
     pub stood : StandsWith bytes_of block entries
@@ -71,6 +71,6 @@ module _ {H R : Type 0} where
 
   -- Between the two it read blocks of which each stood, where the indexes rise.
   pub record HasRead (bytes_of : H → Option (List ℕ)) (c d : TableCursor H R) : Type 0 where
-    pub read : List (Block {H = H})
+    pub read : List (Block H)
     pub passed : rise_over c.span c.tables.items ≡ true → unread c ≡ read ++ unread d
     pub stood : AllStand bytes_of read

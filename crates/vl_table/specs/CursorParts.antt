@@ -19,11 +19,11 @@ use Rattle.vl_table.specs.declared.fault.TableFault.TheVariants.{NoMemory, Disk,
 use Rattle.vl_table.specs.declared.stretch.Stretch.{Stretch}
 use Rattle.vl_table.specs.declared.table.Table.{Table}
 
-module _ {H : Type 0} where
-  -- a block, by its table and what the index says of it
-  abbrev pub Block : Type 0
-  Block = Table H × BlockPlace
+-- a block, by its table and what the index says of it
+abbrev pub Block : Type 0 → Type 0
+Block H = Table H × BlockPlace
 
+module _ {H : Type 0} where
   abbrev pub index_of : Table H → List BlockPlace
   index_of t = (shape_of t).blocks.items
 
@@ -33,12 +33,12 @@ module _ {H : Type 0} where
   index_in (Some t) = index_of t
 
   -- the blocks at these positions of a table's index, as a way goes through them
-  abbrev pub blocks_at : Way → Option (Table H) → Stretch → List Block
+  abbrev pub blocks_at : Way → Option (Table H) → Stretch → List (Block H)
   blocks_at way None s = []
   blocks_at way (Some t) s = map (λ p. (t, p)) (on_way way (stretch_of s (index_of t)))
 
   -- those of tables that may have keys of the interval
-  abbrev pub blocks_over : Span → Way → List (Table H) → List Block
+  abbrev pub blocks_over : Span → Way → List (Table H) → List (Block H)
   blocks_over span way [] = []
   blocks_over span way (t ∷ ts) = blocks_at way (Some t) (blocks_of span (index_of t)) ++ blocks_over span way ts
 
@@ -52,19 +52,19 @@ module _ {H : Type 0} where
 
   module _ (bytes_of : H → Option (List ℕ)) where
     -- The entries of blocks whose keys are in the interval, as a way goes through them, where the tables' bytes are told.
-    abbrev pub entries_told : Span → Way → List Block → Option (List Entry)
+    abbrev pub entries_told : Span → Way → List (Block H) → Option (List Entry)
     entries_told span way [] = Some []
     entries_told span way (b ∷ bs) =
         option_and_then (λ bytes. option_map (λ later. within span (on_way way (block_entries (shape_of b.0).format bytes b.1)) ++ later)
         (entries_told span way bs)) (bytes_of b.0.held)
 
     -- the block stands, where its table's bytes are told, and has these entries
-    abbrev pub StandsWith : Block → List Entry → Type 0
+    abbrev pub StandsWith : Block H → List Entry → Type 0
     StandsWith b es = ForSome (bytes_of b.0.held)
         (λ bytes. StandsBlock (shape_of b.0).format (number_of b.0) bytes b.1.place b.1.length es)
 
     -- each of these blocks stands
-    abbrev pub AllStand : List Block → Type 0
+    abbrev pub AllStand : List (Block H) → Type 0
     AllStand bs = AllByRecursion (λ b. (es : List Entry) × StandsWith b es) bs
 
     -- What a fault of a cursor over tables may be: want of memory, or one that names one of them; and where it says that this

@@ -1,12 +1,12 @@
 //! The block that a cursor goes over. It isn't one of those that a reader keeps: many cursors go forward in turn, and none
 //! is to drive out another's block at each entry.
 
-use crate::fault::{TableFault, damaged};
-use crate::part::{body_of, read_block};
+use crate::block::read_block;
+use crate::fault::TableFault;
 use crate::slot::{BlockId, MAX_FRAME_BYTES};
 use std::alloc::{AllocError, Global};
 use std::marker::Model;
-use vl_block::{EntryRef, MAX_BLOCK_ENTRIES, entry_at, find_starts};
+use vl_block::{EntryRef, MAX_BLOCK_ENTRIES, entry_at};
 use vl_disk::{HeldFile, Reader};
 
 // How many bytes stand before a block's entries: kind and length of the frame, and their count.
@@ -40,7 +40,7 @@ impl OpenBlock {
     ghost use Rattle.vl_model.specs.declared.entry.Entry.{Entry};
     ghost use Rattle.vl_block.specs.Entries.{entry_of};
     ghost use Rattle.vl_table.specs.Answers.{Answers, NeedsNoMemory};
-    ghost use Rattle.vl_table.specs.Kept.{StandsBlock};
+    ghost use Rattle.vl_table.specs.Kept.{IsMissing, StandsBlock};
 
     /// Room without an entry. All its memory is taken here.
     pub fn new(alloc: Global) -> Result<Self, AllocError>
@@ -82,21 +82,15 @@ impl OpenBlock {
     ) -> Result<(), TableFault>
         ensures answers { Answers (R.faults reader.old) (R.faults reader.new) id.number (H.bytes held.now)
             (λ bytes done. StandsBlock id.format id.number bytes id.place id.length self.new)
-            (λ bytes damage. ((es : List Entry) → StandsBlock id.format id.number bytes id.place id.length es → ⊥) × (damage ≡ id.place))
-            result }
+            (IsMissing id) result }
         ensures few { length self.new ≤ 347 }
         ensures empty { OnErr result (self.new ≡ []) }
         ensures no_memory { NeedsNoMemory result }
     {
         self.count = 0;
-        let length = read_block(reader, held, id, &mut self.frame)?;
-        match find_starts(id.format, body_of(&self.frame[..length]), &mut self.starts) {
-            None => Err(damaged(id.number, id.place)),
-            Some(count) => {
-                self.format = id.format;
-                self.count = count;
-                Ok(())
-            }
-        }
+        let count = read_block(reader, held, id, &mut self.frame, &mut self.starts)?;
+        self.format = id.format;
+        self.count = count;
+        Ok(())
     }
 }
