@@ -10,7 +10,7 @@ use Rattle.vl_block.specs.Entries.{entry_bytes, entry_of, IsEntry}
 use Rattle.vl_block.specs.Lists.{IsNext, IsRun, items_bytes}
 use Rattle.vl_block.specs.Starts.{AreStarts, StartsAt}
 use Rattle.vl_block.specs.laws.BlockLaws.{entries-few}
-use Rattle.vl_block.specs.laws.ListLaws.{SoFar, done}
+use Rattle.vl_block.specs.laws.ListLaws.{done}
 use Rattle.vl_block.proofs.Scans.{UnderWay, reads_one}
 
 -- so many entries were read, of which the last is this, and it is known where they begin

@@ -1,7 +1,7 @@
 -- A look-up in a block halves.
 use Rattle.std.specs.Prelude.{◌≡◌, ◌+◌, ◌<◌, ◌≤◌, ℕ, zero, suc, Bool, true, false, cond, List, [], ◌∷◌, Option, None, Some, get_or, length, slice_get}
 use Rattle.std.specs.List.{AllByRecursion, prefix_len}
-use Rattle.std.proofs.Common.{refl, sym, ap, subst, ◌∙◌, arith}
+use Rattle.std.proofs.Common.{refl, ap, subst, ◌∙◌, arith}
 use Rattle.vl_model.specs.declared.entry.Entry.{Entry}
 use Rattle.vl_run.specs.Lookups.{IsParted, is_ahead}
 use Rattle.vl_run.specs.laws.Lookup.{rising-parted}
@@ -25,8 +25,11 @@ module _ {X : Type 0} (p : X → Bool) where
       same : (a b : X) → Some a ≡ Some b → a ≡ b
       same a b e = cc
   passes-prefix (y ∷ ys) (suc i) x parted at passes =
-      omega (arith, passes-prefix ys i x parted.1 at passes,
-      ap (λ (b : Bool). cond b (1 + prefix_len p ys) 0) (before ys i parted.0 at passes))
+      omega (
+        arith,
+        passes-prefix ys i x parted.1 at passes,
+        ap (λ (b : Bool). cond b (1 + prefix_len p ys) 0) (before ys i parted.0 at passes),
+      )
     where
       before : (zs : List X) (i : ℕ) → AllByRecursion (λ later. p later ≡ true → p y ≡ true) zs → slice_get zs i ≡ Some x → p x ≡ true → p y ≡ true
       before [] i all at passes = absurd cc

@@ -1,5 +1,5 @@
 -- A look-up, block by block.
-use Rattle.std.specs.Prelude.{◌≡◌, ◌+◌, ◌≤◌, ◌<◌, ℕ, List, length, drop, get_or, Option, Some, None, Result, Ok, Err}
+use Rattle.std.specs.Prelude.{◌≡◌, ◌+◌, ◌≤◌, ◌<◌, ℕ, List, length, drop, get_or, Option, Some, None, Ok, Err}
 use Rattle.std.specs.List.{prefix_len}
 use Rattle.std.specs.Option.{ForSome, option_map}
 use Rattle.std.proofs.Common.{drop_of_length-le, refl, ap, sym, subst, ◌∙◌, arith}
@@ -88,8 +88,7 @@ module _ {H : Type 0} (bytes_of : H → Option (List ℕ)) (t : Table H) (key : 
   loaded slot bytes es others told is has =
       let s = shape_of t in
       let b = named_block s.number s es i p is.shape within found in
-      let same : bytes ≡ table_bytes s.format s.number es = some_same bytes (table_bytes s.format s.number es) (sym told ∙ is.told) in
-      (
+      let same : bytes ≡ table_bytes s.format s.number es = some_same bytes (table_bytes s.format s.number es) (sym told ∙ is.told) in (
         b,
         block_is slot (id_of s p) (table_bytes s.format s.number es) others b.block
             (subst (λ (l : List ℕ). HasBlock slot (id_of (shape_of t) p) l others) same has) (block_stands s.format s.number es i p is.shape.table b),

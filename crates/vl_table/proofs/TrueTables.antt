@@ -30,7 +30,7 @@ use Rattle.vl_block.specs.laws.Lengths.{length-filter_frame, length-footer, leng
 use Rattle.vl_table.specs.Opening.{HasFooter, IsDamaged, IsRead, Said, StandsFilter, StandsFooter, StandsIndex, no_filter, no_footer, no_header, no_index, no_place, said_by, said_of}
 use Rattle.vl_table.specs.Begun.{IsBegun, IsInside, said_place}
 use Rattle.vl_table.specs.laws.TablePlaces.{behind_index, drop-end, drop-filter, drop-footer, drop-index}
-use Rattle.vl_table.specs.Tables.{IsOf, OpensAs, number_of, shape_of}
+use Rattle.vl_table.specs.Tables.{OpensAs, number_of, shape_of}
 use Rattle.vl_table.specs.declared.fault.TableFault.{TableFault}
 use Rattle.vl_table.specs.declared.fault.TableFault.TheVariants.{NoMemory, Disk, Damaged}
 use Rattle.vl_table.specs.Answers.{Answers}

@@ -2,9 +2,9 @@
 
 ghost use Rattle.std.specs.Prelude.{◌≡◌, ◌≤◌, vec_len};
 
+use crate::block::read_block;
 use crate::entries::Entries;
 use crate::fault::TableFault;
-use crate::block::read_block;
 use crate::part::body_of;
 use std::alloc::{AllocError, Global};
 use vl_block::{BlockPlace, MAX_BLOCK_ENTRIES, MAX_BODY_BYTES, TableShape};

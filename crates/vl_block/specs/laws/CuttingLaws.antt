@@ -73,8 +73,7 @@ module _ (format : ℕ) where
       (λ room.
       blocks_from-fit (open_block ++ e ∷ []) (bytes + entry_length format e) es
       (omega (arith, is, sum_by-append (entry_length format) open_block (e ∷ []), sum_by-cons (entry_length format) e []))
-      (omega (arith, below (bytes + entry_length format e) max_block_bytes room)) each.1)
-      (
+      (omega (arith, below (bytes + entry_length format e) max_block_bytes room)) each.1) (
         omega (arith, is, fits),
         blocks_from-fit (e ∷ []) (begun_length format e) es (omega (arith, sum_by-cons (entry_length format) e [])) each.0 each.1,
       )

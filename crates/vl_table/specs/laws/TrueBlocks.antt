@@ -13,7 +13,7 @@ use Rattle.vl_block.specs.laws.BlockLaws.{one_block}
 use Rattle.vl_block.specs.declared.index.BlockPlace.{BlockPlace}
 use Rattle.vl_block.specs.Bytes.{table_bytes, IsTable}
 use Rattle.vl_block.specs.laws.Lengths.{bodies-fit, length-block}
-use Rattle.vl_table.specs.Kept.{HasBlock, StandsBlock, id_of}
+use Rattle.vl_table.specs.Kept.{HasBlock, StandsBlock}
 use Rattle.vl_table.specs.Tables.{IsOf, number_of, shape_of}
 use Rattle.vl_table.specs.laws.TablePlaces.{BlockAt, block_at, block_bytes}
 use Rattle.vl_block.specs.laws.Places.{length-block_places}

@@ -1,6 +1,6 @@
 use Rattle.std.proofs.Common.{arith}
 use Rattle.vl_block.proofs.Scans.{cut_short, out_of_order}
-use Rattle.vl_block.proofs.StartSteps.{all_found, few_found, finds_one, has_room, none_found, rest-within, take_put}
+use Rattle.vl_block.proofs.StartSteps.{few_found, finds_one, has_room, none_found, take_put}
 use Rattle.vl_block.specs.Entries.{entry_of}
 use Rattle.vl_block.proofs.block.are_entries.Goals as goal
 

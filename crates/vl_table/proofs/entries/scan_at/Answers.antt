@@ -1,7 +1,5 @@
 use Rattle.std.proofs.Common.{◌≡◌, true, false, refl, sym, ap, ◌∙◌, Some, List, ℕ}
-use Rattle.std.specs.Ordering.{eq_by_cmp}
 use Rattle.std.proofs.lemmas.Map.Text.{is_eq-slice_cmp}
-use Rattle.vl_model.specs.Keys.{key_cmp}
 use Rattle.vl_model.specs.laws.WinnerLaws.{same_key}
 use Rattle.vl_block.specs.Entries.{entry_of}
 use Rattle.vl_block.specs.Founds.{found_of}

@@ -1,4 +1,4 @@
-use Rattle.std.proofs.Common.{◌≡◌, subst, Some}
+use Rattle.std.proofs.Common.{◌≡◌, subst}
 use Rattle.vl_table.specs.Kept.{HasBlock}
 use Rattle.vl_table.specs.declared.slot.BlockId.{BlockId}
 use Rattle.vl_table.proofs.slot.Slot.entries.Goals as goal

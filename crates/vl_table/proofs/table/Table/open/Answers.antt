@@ -1,12 +1,9 @@
 use Rattle.std.proofs.Common.{◌≡◌, ◌∙◌, ap, sym, refl, subst}
-use Rattle.std.specs.Prelude.{Result, Ok, Err}
-use Rattle.std.specs.Arc.{arc_value}
+use Rattle.std.specs.Prelude.{Ok, Err}
 use Rattle.std.proofs.lemmas.Result.{err_from_is_err_and}
 use Rattle.vl_block.specs.declared.shape.TableShape.{TableShape}
-use Rattle.vl_table.specs.Answers.{Answers}
-use Rattle.vl_table.specs.Opening.{IsDamaged, IsRead, said_by}
+use Rattle.vl_table.specs.Opening.{IsRead, said_by}
 use Rattle.vl_table.specs.Tables.{OpensAs, shape_of}
-use Rattle.vl_table.specs.declared.fault.TableFault.{TableFault}
 use Rattle.vl_table.specs.declared.table.Table.{Table}
 use Rattle.vl_table.proofs.AnswerSteps.{and_then, fails, gives}
 use Rattle.vl_table.proofs.TrueTables.{opens_as}

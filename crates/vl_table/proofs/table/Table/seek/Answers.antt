@@ -1,15 +1,13 @@
-use Rattle.std.proofs.Common.{◌≡◌, ◌<◌, ◌≤◌, ◌∷◌, [], ◌∙◌, ap, sym, subst, arith, refl, length, List, Option, Some, None, ℕ}
+use Rattle.std.proofs.Common.{◌≡◌, ◌<◌, ◌≤◌, ◌∷◌, [], ◌∙◌, ap, sym, subst, arith, length, List, Option, Some, None}
 use Rattle.std.specs.Prelude.{Result, Err}
 use Rattle.std.specs.List.{prefix_len}
 use Rattle.std.proofs.lemmas.Result.{err_from_is_err_and}
-use Rattle.vl_model.specs.declared.entry.Entry.{Entry}
-use Rattle.vl_run.specs.Lookups.{first_failing, if_of_key, is_ahead, is_below, IsParted}
-use Rattle.vl_block.specs.Founds.{found_of}
+use Rattle.vl_run.specs.Lookups.{if_of_key, is_below, IsParted}
 use Rattle.vl_block.specs.declared.found.Found.{Found}
 use Rattle.vl_block.specs.declared.index.BlockPlace.{BlockPlace}
 use Rattle.vl_block.specs.declared.shape.TableShape.{TableShape}
 use Rattle.vl_table.specs.Answers.{Answers}
-use Rattle.vl_table.specs.Kept.{HasBlock, id_of}
+use Rattle.vl_table.specs.Kept.{id_of}
 use Rattle.vl_table.specs.KeptBlocks.{ReadsOf}
 use Rattle.vl_table.specs.Meets.{LooksIn}
 use Rattle.vl_table.specs.Seeks.{IsBadBlock}
@@ -94,7 +92,7 @@ returns-in-Other-clause-answers g c = λ files reads.
     c.as_slice-places.ensures.value ∙ ap (λ (s : TableShape). s.blocks.items) c.shape.ensures in
     let within : c.loop-at.at < length (shape_of c.args.self.now).blocks.items = omega (arith, c.loop-at-test.true, ap length places) in
     let p = place_at (shape_of c.args.self.now).blocks.items c.loop-at.at within in
-    let says = says_other c.args.key.now c.args.version c.args.self.now p.0 c.load.new.self.front 
+    let says = says_other c.args.key.now c.args.version c.args.self.now p.0 c.load.new.self.front
     (λ bytes es has. c.in-Other.ensures es (c.entries.ensures (id_of (shape_of c.args.self.now) p.0) bytes es has)) in
     found_here g.H.HeldFile.bytes c.args.self.now c.args.key.now c.args.version c.loop-at.at p.0 within p.1 _ _ _ c.load.new.self.front None so.steady
     (c.in_ok-load.ensures.answers files p.0 over p.1) says so.so_far
@@ -107,7 +105,7 @@ returns-in-Other-clause-looks g c = λ files reads.
     c.as_slice-places.ensures.value ∙ ap (λ (s : TableShape). s.blocks.items) c.shape.ensures in
     let within : c.loop-at.at < length (shape_of c.args.self.now).blocks.items = omega (arith, c.loop-at-test.true, ap length places) in
     let p = place_at (shape_of c.args.self.now).blocks.items c.loop-at.at within in
-    let says = says_other c.args.key.now c.args.version c.args.self.now p.0 c.load.new.self.front 
+    let says = says_other c.args.key.now c.args.version c.args.self.now p.0 c.load.new.self.front
     (λ bytes es has. c.in-Other.ensures es (c.entries.ensures (id_of (shape_of c.args.self.now) p.0) bytes es has)) in
     looks_here g.H.HeldFile.bytes c.args.self.now c.args.key.now c.args.version c.loop-at.at p.0 within p.1 _ _ c.load.new.self.front None
     (c.in_ok-load.ensures.answers files p.0 over p.1) says so.met
