@@ -5,11 +5,18 @@ mod Headers
 mod KeptSteps
 mod Lookups
 mod MeetSteps
+mod CursorLaws
+mod CursorSteps
+mod OpenSteps
 mod OpeningSteps
 mod PartFaults
 mod Parts
 mod ReadSteps
 mod SeekSteps
+mod SpanParts
 mod Stages
+mod StretchSteps
 mod TrueTables
 pub mod Results
+mod WholeSpans
+mod WholeTables

@@ -1,8 +1,10 @@
 //! How a block is read and tested.
 
-ghost use Rattle.std.specs.Prelude.{◌≡◌, ◌+◌, ◌≤◌, ℕ, IfOk, IsTrue, List, Some, length, take};
+ghost use Rattle.std.specs.Prelude.{◌≡◌, ◌+◌, ◌≤◌, ℕ, IfOk, IsTrue, List, Some, drop, length, take};
+ghost use Rattle.std.specs.List.{AllByRecursion};
 ghost use Rattle.vl_model.specs.declared.entry.Entry.{Entry};
 ghost use Rattle.vl_table.specs.Answers.{Answers, NeedsNoMemory};
+ghost use Rattle.vl_table.specs.OpenBlocks.{Begins};
 ghost use Rattle.vl_table.specs.Kept.{HasFrame, IsMissing, StandsBlock};
 
 use crate::fault::{TableFault, damaged};
@@ -27,6 +29,9 @@ pub fn read_block<H: HeldFile, R: Reader<Held = H>>(
         (λ bytes count. (es : List Entry) × HasFrame id bytes (take id.length frame.new) (take count starts.new) es)
         (IsMissing id) result }
     ensures within { IfOk result (λ count. count ≤ MAX_BLOCK_ENTRIES) }
+
+    // Entries begin there also in a file that doesn't tell its bytes.
+    ensures begin { IfOk result (λ count. AllByRecursion (Begins id.format (drop 9 frame.new)) (take count starts.new)) }
     ensures no_memory { NeedsNoMemory result }
 {
     if !lies_inside(held, &id) {

@@ -7,16 +7,21 @@
 mod beginning;
 mod block;
 mod block_reader;
+mod cursor;
 mod entries;
 mod fault;
 mod laws;
+mod open_block;
 mod opening;
 mod part;
 mod reading;
 mod slot;
+mod span_blocks;
+mod stretch;
 mod table;
 
 pub use block_reader::{BlockReader, KEPT_BLOCKS};
+pub use cursor::TableCursor;
 pub use entries::{Entries, Scan};
 pub use fault::TableFault;
 pub use laws::{

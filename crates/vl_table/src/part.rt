@@ -1,6 +1,6 @@
 //! One frame of a table, of which it is known where it stands and how long it is.
 
-ghost use Rattle.std.specs.Prelude.{◌≡◌, ◌+◌, ◌<◌, ◌≤◌, ◌↔◌, ℕ, List, length, IsTrue};
+ghost use Rattle.std.specs.Prelude.{◌≡◌, ◌+◌, ◌<◌, ◌≤◌, ◌↔◌, ℕ, List, length, IsTrue, OnOk};
 ghost use Rattle.vl_frame.specs.Frame.{IsSpelled, frame_bytes, frame_length};
 ghost use Rattle.vl_frame.specs.declared.kinds.FileKind.TheVariants as files;
 ghost use Rattle.vl_frame.specs.declared.kinds.FrameKind.{FrameKind};
@@ -54,6 +54,7 @@ pub fn read_into<H: HeldFile, R: Reader<Held = H>>(
         × (frame.new ≡ frame_bytes number place kind body))
         (λ bytes damage. ((body : List ℕ) → FrameAt number bytes place (length frame.old) kind body → ⊥) × (damage ≡ place))
         result }
+    ensures framed { OnOk result ((body : List ℕ) × (frame.new ≡ frame_bytes number place kind body)) }
     ensures no_memory { NeedsNoMemory result }
 {
     fill(reader, held, number, place, frame)?;

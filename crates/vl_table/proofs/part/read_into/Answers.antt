@@ -35,3 +35,8 @@ returns-clause-answers g c =
     (λ bytes told read p bad. absurd bad)
     c.in_ok-fill.ensures.answers
     (gives _ c.args.number _ _ _ tt (λ bytes told. tt))
+
+pub returns-clause-framed : goal.returns-clause-framed
+returns-clause-framed g c =
+    let found = c.is_frame.ensures.found c.if-not-is_frame.false in
+    (found.0, fills c.args.number c.args.place c.fill.new.out c.args.kind found.0 found.1 found.2)
