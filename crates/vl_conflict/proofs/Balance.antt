@@ -49,7 +49,8 @@ nodes_of_halves (suc (suc k)) l r more is le ge a b left right sum =
 many_nodes : (tree : Tree) → IsWhole tree → 2 ^ (height_of tree / 2) ≤ length (named tree) + 1
 many_nodes Leaf whole = omega arith
 many_nodes (Fork' p left key number least greatest height right) whole =
-    nodes_of_halves height (height_of left) (height_of right) (length (named left ++ ((key, number) ∷ named right))) whole.2 whole.3.0 whole.3.1
+    nodes_of_halves height (height_of left) (height_of right)
+    (length (named left ++ ((key, number) ∷ named right))) whole.2 whole.3.0 whole.3.1
     (length (named left)) (length (named right)) (many_nodes left whole.4) (many_nodes right whole.5)
     (omega (arith, length-append (named left) ((key, number) ∷ named right)))
 
@@ -70,10 +71,12 @@ whole-low tree whole few = by (nat_le (height_of tree) 254) refl
 
 -- ---- how many keys there are
 
-pub length-put-le : (key : List ℕ) (number : ℕ) (es : List Named) → is_sorted key_cmp es ≡ true → length (put key_cmp key number es) ≤ length es + 1
+pub length-put-le : (key : List ℕ) (number : ℕ) (es : List Named) → is_sorted key_cmp es ≡ true
+    → length (put key_cmp key number es) ≤ length es + 1
 length-put-le key number es sorted =
     let P : ℕ → Type 0 = λ n. n ≤ length es + 1 in
-    subst P (sym (length-put key_cmp nat_list_cmp_total key number es (as_T (is_sorted key_cmp es) sorted))) (by (is_some (find key_cmp key es)))
+    subst P (sym (length-put key_cmp nat_list_cmp_total key number es (as_T (is_sorted key_cmp es) sorted)))
+    (by (is_some (find key_cmp key es)))
   where
     by : (b : Bool) → cond b (length es) (length es + 1) ≤ length es + 1
     by true = omega arith

@@ -90,11 +90,15 @@ module _ (number : ℕ) (es : List Named) (sorted : is_sorted key_cmp es ≡ tru
     (now_is : now ≡ lesser_of first found) where
   -- what was found so far, with one key more
   pub one_key_more : (so_far : List (List ℕ)) (key : List ℕ) → first ≡ first_of (filter (is_late_at_any number so_far) es)
-      → found ≡ first_of (filter (is_late_within number (span_of (Some key) (Some key) true)) es) → now ≡ first_of (filter (is_late_at_any number (so_far ++ key ∷ [])) es)
+      → found ≡ first_of (filter (is_late_within number (span_of (Some key) (Some key) true)) es) → now ≡ first_of
+      (filter (is_late_at_any number (so_far ++ key ∷ [])) es)
   one_key_more so_far key is one =
       now_is ∙ ap (λ o. lesser_of o found) is ∙ ap (lesser_of (first_of (filter (is_late_at_any number so_far) es))) one
-      ∙ either (is_late_at_any number so_far) (is_late_within number (span_of (Some key) (Some key) true)) es (as_T (is_sorted key_cmp es) sorted)
-      ∙ ap first_of (filter-same (λ e. is_late_at_any number so_far e || is_late_within number (span_of (Some key) (Some key) true) e) (is_late_at_any number (so_far ++ key ∷ [])) es (λ e.
+      ∙ either (is_late_at_any number so_far) (is_late_within number (span_of (Some key) (Some key) true)) es
+      (as_T (is_sorted key_cmp es) sorted)
+      ∙ ap first_of (filter-same
+      (λ e. is_late_at_any number so_far e || is_late_within number (span_of (Some key) (Some key) true) e)
+      (is_late_at_any number (so_far ++ key ∷ [])) es (λ e.
       ap (λ b. is_late_at_any number so_far e || b) (at-key number key e)
       ∙ sym (any-last (λ k. is_late_at number k e) so_far key)))
 

@@ -290,7 +290,8 @@ some-copied (Some x) = refl
 
 none-above : (floor : ℕ) (es : List Named) → AllByRecursion (λ (e : Named). e.1 ≤ floor) es → [] ≡ filter (is_above_floor floor) es
 none-above floor [] most = refl
-none-above floor (e ∷ es) most = none-above floor es most.1 ∙ sym (ap (λ b. cond b (e ∷ filter (is_above_floor floor) es) (filter (is_above_floor floor) es)) test)
+none-above floor (e ∷ es) most = none-above floor es most.1
+    ∙ sym (ap (λ b. cond b (e ∷ filter (is_above_floor floor) es) (filter (is_above_floor floor) es)) test)
   where
     test : nat_lt floor e.1 ≡ false
     test = let le = most.0 in grind (arith, nat_tests)

@@ -15,9 +15,11 @@ use Rattle.vl_front.specs.declared.decision.Decision.TheVariants.{Nothing, Exhau
 use Rattle.vl_front.specs.declared.front.Front.{Front}
 
 -- the length of the frame, by the counts of a transaction
-pub next_length-counted : (front : Front) (writes : Writes) → commit_length (len writes) (write_bytes writes) ≡ next_length front (entries writes)
+pub next_length-counted : (front : Front) (writes : Writes)
+    → commit_length (len writes) (write_bytes writes) ≡ next_length front (entries writes)
 next_length-counted front writes =
-    ap (λ (n : ℕ). commit_length n (write_bytes writes)) (len-entries writes) ∙ sym (frame_length-committed (front.oracle.last + 1) (entries writes))
+    ap (λ (n : ℕ). commit_length n (write_bytes writes)) (len-entries writes)
+    ∙ sym (frame_length-committed (front.oracle.last + 1) (entries writes))
 
 module _ (front : Front) (writes : List (List ℕ × Change)) where
   decided_by : (b : Bool) → nat_le (front.log.length + next_length front writes) front.room ≡ b
@@ -35,24 +37,33 @@ module _ (front : Front) (writes : List (List ℕ × Change)) where
   room-written written = by (nat_le (front.log.length + next_length front writes) front.room) refl written
     where
       by : (b : Bool) → nat_le (front.log.length + next_length front writes) front.room ≡ b
-          → cond b Write (Full front.log.length (next_length front writes)) ≡ Write → front.log.length + next_length front writes ≤ front.room
+          → cond b Write (Full front.log.length (next_length front writes)) ≡ Write
+          → front.log.length + next_length front writes ≤ front.room
       by true is same = grind (arith, nat_tests)
       by false is same = absurd cc
 
   module _ (conflict : Option Named) where
     pub nothing : (length writes == 0) ≡ true → Nothing ≡ running_decision front writes conflict
-    nothing none = sym (ap (λ b. cond b Nothing (cond (nat_le max_commit_number front.oracle.last) Exhausted (checked_decision front writes conflict))) none)
+    nothing none = sym (ap
+        (λ b. cond b Nothing
+        (cond (nat_le max_commit_number front.oracle.last) Exhausted (checked_decision front writes conflict))) none)
 
-    past_nothing : (length writes == 0) ≡ false → running_decision front writes conflict ≡ cond (nat_le max_commit_number front.oracle.last) Exhausted (checked_decision front writes conflict)
-    past_nothing some = ap (λ b. cond b Nothing (cond (nat_le max_commit_number front.oracle.last) Exhausted (checked_decision front writes conflict))) some
+    past_nothing : (length writes == 0) ≡ false
+        → running_decision front writes conflict ≡ cond (nat_le max_commit_number front.oracle.last) Exhausted
+        (checked_decision front writes conflict)
+    past_nothing some = ap
+        (λ b. cond b Nothing
+        (cond (nat_le max_commit_number front.oracle.last) Exhausted (checked_decision front writes conflict))) some
 
-    pub exhausted : (length writes == 0) ≡ false → max_commit_number ≤ front.oracle.last → Exhausted ≡ running_decision front writes conflict
+    pub exhausted : (length writes == 0) ≡ false → max_commit_number ≤ front.oracle.last
+        → Exhausted ≡ running_decision front writes conflict
     exhausted some le = sym (past_nothing some ∙ ap (λ b. cond b Exhausted (checked_decision front writes conflict)) test)
       where
         test : nat_le max_commit_number front.oracle.last ≡ true
         test = grind (arith, nat_tests)
 
-    pub checked : (length writes == 0) ≡ false → front.oracle.last < max_commit_number → checked_decision front writes conflict ≡ running_decision front writes conflict
+    pub checked : (length writes == 0) ≡ false → front.oracle.last < max_commit_number
+        → checked_decision front writes conflict ≡ running_decision front writes conflict
     checked some below = sym (past_nothing some ∙ ap (λ b. cond b Exhausted (checked_decision front writes conflict)) test)
       where
         test : nat_le max_commit_number front.oracle.last ≡ false

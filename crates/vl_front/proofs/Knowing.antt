@@ -9,7 +9,8 @@ use Rattle.vl_conflict.specs.Recent.{Remembers, noted_all}
 use Rattle.vl_conflict.specs.laws.RecentLaws.{since_from, with_noted}
 use Rattle.vl_front.specs.Noting.{keys_of, noted_keys}
 
-noted-keys : (number : ℕ) (writes : List (List ℕ × Change)) (named : List Named) → noted_all number writes named ≡ noted_keys number (keys_of writes) named
+noted-keys : (number : ℕ) (writes : List (List ℕ × Change)) (named : List Named)
+    → noted_all number writes named ≡ noted_keys number (keys_of writes) named
 noted-keys number [] named = refl
 noted-keys number (write ∷ later) named = noted-keys number later (put key_cmp write.0 number named)
 
@@ -36,9 +37,11 @@ remembers_more least floor number h writes keys named new remembers le number_is
 
     same : new ≡ noted_all (last_number h + 1) (entries writes) named
     same =
-        is ∙ ap (λ (n : ℕ). noted_keys n keys named) number_is ∙ ap (λ (ks : List (List ℕ)). noted_keys (last_number h + 1) ks named) keys_are
+        is ∙ ap (λ (n : ℕ). noted_keys n keys named) number_is
+        ∙ ap (λ (ks : List (List ℕ)). noted_keys (last_number h + 1) ks named) keys_are
         ∙ sym (noted-keys (last_number h + 1) (entries writes) named)
 
-pub keys_of-one_more : (writes : List (List ℕ × Change)) (write : List ℕ × Change) → keys_of (writes ++ write ∷ []) ≡ keys_of writes ++ write.0 ∷ []
+pub keys_of-one_more : (writes : List (List ℕ × Change)) (write : List ℕ × Change)
+    → keys_of (writes ++ write ∷ []) ≡ keys_of writes ++ write.0 ∷ []
 keys_of-one_more [] write = refl
 keys_of-one_more (w ∷ writes) write = ap (λ (ks : List (List ℕ)). w.0 ∷ ks) (keys_of-one_more writes write)

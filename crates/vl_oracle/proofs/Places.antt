@@ -15,7 +15,8 @@ parts_of : (t : Ticket) (ts : List Ticket) → T (is_sorted nat_cmp (t ∷ ts)) 
 parts_of t ts rising = two_parts (below_all nat_cmp t.0 ts) (is_sorted nat_cmp ts) rising
 
 -- each is at least its place further
-at_least : (low : ℕ) (live : List Ticket) (i : ℕ) (d : Ticket) → T (is_sorted nat_cmp live) → AreFrom low live → i < length live → low + i ≤ (get_or live i d).0
+at_least : (low : ℕ) (live : List Ticket) (i : ℕ) (d : Ticket) → T (is_sorted nat_cmp live) → AreFrom low live
+    → i < length live → low + i ≤ (get_or live i d).0
 at_least low [] i d rising are within = absurd (omega arith)
 at_least low (t ∷ ts) zero d rising are within = let le = are.0 in omega arith
 at_least low (t ∷ ts) (suc i) d rising are within =
@@ -37,7 +38,8 @@ taken_at : (low : ℕ) (live : List Ticket) (i : ℕ) (d : Ticket) → T (is_sor
     → (get_or live i d).0 ≡ low + i → low + i < free_from low live
 taken_at low [] i d rising are within is = absurd (omega arith)
 taken_at low (t ∷ ts) zero d rising are within is =
-    subst (λ b. low + 0 < cond b (free_from (low + 1) ts) low) (sym (tied_at t.0 low (omega arith))) (omega (arith, free_from-ge (low + 1) ts))
+    subst (λ b. low + 0 < cond b (free_from (low + 1) ts) low) (sym (tied_at t.0 low (omega arith)))
+    (omega (arith, free_from-ge (low + 1) ts))
 taken_at low (t ∷ ts) (suc i) d rising are within is =
     let parts = parts_of t ts rising in
     let le = are.0 in
@@ -47,7 +49,8 @@ taken_at low (t ∷ ts) (suc i) d rising are within is =
     subst (λ b. low + suc i < cond b (free_from (low + 1) ts) low) (sym (tied_at t.0 low first)) (omega arith)
 
 -- another stands at the free ticket's place or behind it
-gap_at : (low : ℕ) (live : List Ticket) (i : ℕ) (d : Ticket) → i < length live → ((get_or live i d).0 ≡ low + i → ⊥) → free_from low live ≤ low + i
+gap_at : (low : ℕ) (live : List Ticket) (i : ℕ) (d : Ticket) → i < length live → ((get_or live i d).0 ≡ low + i → ⊥)
+    → free_from low live ≤ low + i
 gap_at low [] i d within other = absurd (omega arith)
 gap_at low (t ∷ ts) zero d within other =
     subst (λ b. cond b (free_from (low + 1) ts) low ≤ low + 0) (sym apart) (omega arith)
@@ -60,14 +63,16 @@ gap_at low (t ∷ ts) (suc i) d within other =
       | false ↦ omega arith
     ]
 
-pub free-above : (live : List Ticket) (i : ℕ) (d : Ticket) → T (is_sorted nat_cmp live) → i < length live → (get_or live i d).0 ≡ i → i < free_from 0 live
+pub free-above : (live : List Ticket) (i : ℕ) (d : Ticket) → T (is_sorted nat_cmp live) → i < length live
+    → (get_or live i d).0 ≡ i → i < free_from 0 live
 free-above live i d rising within is = omega (arith, taken_at 0 live i d rising (all_from_zero live) within (omega arith))
 
 pub free-up_to : (live : List Ticket) (i : ℕ) (d : Ticket) → i < length live → ((get_or live i d).0 ≡ i → ⊥) → free_from 0 live ≤ i
 free-up_to live i d within other = omega (arith, gap_at 0 live i d within (λ is. other (omega arith)))
 
 -- what is put in at the free ticket's place
-insert-from : (low number : ℕ) (live : List Ticket) → T (is_sorted nat_cmp live) → AreFrom low live → (place : ℕ) → low + place ≡ free_from low live
+insert-from : (low number : ℕ) (live : List Ticket) → T (is_sorted nat_cmp live) → AreFrom low live → (place : ℕ)
+    → low + place ≡ free_from low live
     → insert live place (free_from low live, number) ≡ put nat_cmp (free_from low live) number live
 insert-from low number [] rising are zero is = refl
 insert-from low number [] rising are (suc place) is = absurd (omega arith)
@@ -89,11 +94,13 @@ insert-from low number (t ∷ ts) rising are place is =
     by : (b : Bool) → (t.0 == low) ≡ b → (place : ℕ) → low + place ≡ cond b (free_from (low + 1) ts) low
         → (t.0 ≡ low → (place : ℕ) → low + 1 + place ≡ free_from (low + 1) ts
         → insert ts place (free_from (low + 1) ts, number) ≡ put nat_cmp (free_from (low + 1) ts) number ts)
-        → insert (t ∷ ts) place (cond b (free_from (low + 1) ts) low, number) ≡ put nat_cmp (cond b (free_from (low + 1) ts) low) number (t ∷ ts)
+        → insert (t ∷ ts) place (cond b (free_from (low + 1) ts) low, number) ≡ put nat_cmp
+        (cond b (free_from (low + 1) ts) low) number (t ∷ ts)
     by true tied zero is later = absurd (omega (arith, free_from-ge (low + 1) ts))
     by true tied (suc place) is later =
         ap (λ rest. t ∷ rest) (later (same tied) place (omega arith))
-        ∙ sym (ap (λ o. by_order o ((free_from (low + 1) ts, number) ∷ t ∷ ts) ((t.0, number) ∷ ts) (t ∷ put nat_cmp (free_from (low + 1) ts) number ts))
+        ∙ sym (ap (λ o. by_order o ((free_from (low + 1) ts, number) ∷ t ∷ ts) ((t.0, number) ∷ ts)
+        (t ∷ put nat_cmp (free_from (low + 1) ts) number ts))
         (greater (free_from (low + 1) ts) (same tied) (free_from-ge (low + 1) ts)))
     by false apart zero is later =
         sym (ap (λ o. by_order o ((low, number) ∷ t ∷ ts) ((t.0, number) ∷ ts) (t ∷ put nat_cmp low number ts)) (less apart))
@@ -111,7 +118,8 @@ below_test n ticket lt = grind (arith, nat_tests)
 above_test : (n ticket : ℕ) → ticket ≤ n → nat_lt n ticket ≡ false
 above_test n ticket le = grind (arith, nat_tests)
 
-pub place-above : (ticket : ℕ) (live : List Ticket) (i : ℕ) (d : Ticket) → T (is_sorted nat_cmp live) → i < length live → (get_or live i d).0 < ticket
+pub place-above : (ticket : ℕ) (live : List Ticket) (i : ℕ) (d : Ticket) → T (is_sorted nat_cmp live)
+    → i < length live → (get_or live i d).0 < ticket
     → i < prefix_len (is_below ticket) live
 place-above ticket [] i d rising within lt = absurd (omega arith)
 place-above ticket (t ∷ ts) zero d rising within lt =
@@ -143,7 +151,8 @@ skipped : (ticket : ℕ) (t : Ticket) (ts : List Ticket) → t.0 < ticket → eq
 skipped ticket t ts lt = grind (arith, nat_tests)
 
 pub taken : (ticket : ℕ) (live : List Ticket) (d : Ticket) → T (is_sorted nat_cmp live) → prefix_len (is_below ticket) live < length live
-    → (get_or live (prefix_len (is_below ticket) live) d).0 ≡ ticket → IsTaken ticket live (get_or live (prefix_len (is_below ticket) live) d).1
+    → (get_or live (prefix_len (is_below ticket) live) d).0 ≡ ticket → IsTaken ticket live
+    (get_or live (prefix_len (is_below ticket) live) d).1
 taken ticket [] d rising within is = absurd (omega arith)
 taken ticket (t ∷ ts) d rising within is = by (is_below ticket t) refl (taken ticket ts d parts.1) within is
   where
@@ -160,7 +169,8 @@ taken ticket (t ∷ ts) d rising within is = by (is_below ticket t) refl (taken 
     further n = omega arith
 
     by : (b : Bool) → is_below ticket t ≡ b
-        → (prefix_len (is_below ticket) ts < length ts → (get_or ts (prefix_len (is_below ticket) ts) d).0 ≡ ticket → IsTaken ticket ts (get_or ts (prefix_len (is_below ticket) ts) d).1)
+        → (prefix_len (is_below ticket) ts < length ts → (get_or ts (prefix_len (is_below ticket) ts) d).0 ≡ ticket
+        → IsTaken ticket ts (get_or ts (prefix_len (is_below ticket) ts) d).1)
         → cond b (1 + prefix_len (is_below ticket) ts) 0 < length (t ∷ ts)
         → (get_or (t ∷ ts) (cond b (1 + prefix_len (is_below ticket) ts) 0) d).0 ≡ ticket
         → IsTaken ticket (t ∷ ts) (get_or (t ∷ ts) (cond b (1 + prefix_len (is_below ticket) ts) 0) d).1
@@ -183,7 +193,8 @@ taken ticket (t ∷ ts) d rising within is = by (is_below ticket t) refl (taken 
           found = ap (λ b. cond b (Some t.1) (find nat_cmp ticket ts)) here;
           left =
               ap (remove (t ∷ ts)) (ap (λ b. cond b (1 + prefix_len (is_below ticket) ts) 0) above)
-              ∙ sym (ap (λ b. cond (not b) (t ∷ without ticket ts) (without ticket ts)) here ∙ without-none ticket ts (none_behind t ts ticket parts.0 here));
+              ∙ sym (ap (λ b. cond (not b) (t ∷ without ticket ts) (without ticket ts)) here ∙ without-none ticket ts
+              (none_behind t ts ticket parts.0 here));
         }
 
 pub not_taken : (ticket : ℕ) (live : List Ticket) (d : Ticket) → T (is_sorted nat_cmp live)
@@ -206,13 +217,15 @@ not_taken ticket (t ∷ ts) d rising other = by (is_below ticket t) refl (not_ta
     all_higher low (u ∷ us) le are = (let first = are.0 in omega arith, all_higher low us le are.1)
 
     by : (b : Bool) → is_below ticket t ≡ b
-        → ((prefix_len (is_below ticket) ts < length ts → (get_or ts (prefix_len (is_below ticket) ts) d).0 ≡ ticket → ⊥) → find nat_cmp ticket ts ≡ None)
+        → ((prefix_len (is_below ticket) ts < length ts → (get_or ts (prefix_len (is_below ticket) ts) d).0 ≡ ticket
+        → ⊥) → find nat_cmp ticket ts ≡ None)
         → (cond b (1 + prefix_len (is_below ticket) ts) 0 < length (t ∷ ts)
         → (get_or (t ∷ ts) (cond b (1 + prefix_len (is_below ticket) ts) 0) d).0 ≡ ticket → ⊥)
         → find nat_cmp ticket (t ∷ ts) ≡ None
     by true below later other =
         ap (λ b. cond b (Some t.1) (find nat_cmp ticket ts)) (skipped ticket t ts (lower below))
-        ∙ later (λ within is. other (omega arith) (ap (λ (n : ℕ). (get_or (t ∷ ts) n d).0) (further (prefix_len (is_below ticket) ts)) ∙ is))
+        ∙ later (λ within is. other (omega arith)
+        (ap (λ (n : ℕ). (get_or (t ∷ ts) n d).0) (further (prefix_len (is_below ticket) ts)) ∙ is))
       where
         further : (n : ℕ) → 1 + n ≡ suc n
         further n = omega arith

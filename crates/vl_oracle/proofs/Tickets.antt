@@ -23,7 +23,8 @@ without-none ticket (t ∷ ts) none = by_test (eq_by_cmp nat_cmp ticket t.0) (wi
     by_test true further is = cc
     by_test false further is = ap (λ rest. t ∷ rest) (further is)
 
-pub none_behind : (t : Ticket) (ts : List Ticket) (ticket : ℕ) → T (below_all nat_cmp t.0 ts) → eq_by_cmp nat_cmp ticket t.0 ≡ true → find nat_cmp ticket ts ≡ None
+pub none_behind : (t : Ticket) (ts : List Ticket) (ticket : ℕ) → T (below_all nat_cmp t.0 ts)
+    → eq_by_cmp nat_cmp ticket t.0 ≡ true → find nat_cmp ticket ts ≡ None
 none_behind t ts ticket below is = find_less ticket ts (subst (λ (n : ℕ). AreFrom (n + 1) ts) (same t.0 ticket is) (above_first t.0 ts below))
   where
     same : (held ticket : ℕ) → eq_by_cmp nat_cmp ticket held ≡ true → held ≡ ticket

@@ -85,7 +85,8 @@ any-insert_key q key (x ∷ xs) = by (key_cmp key x) refl (any-insert_key q key 
         ∙ sym (or_assoc (eq_by_cmp key_cmp q x) (list_any (eq_by_cmp key_cmp q) xs) (eq_by_cmp key_cmp q key))
 
 -- equal keys are in the same lists
-any_alike : (q key : List ℕ) (keys : List (List ℕ)) → key_cmp q key ≡ Equal → list_any (eq_by_cmp key_cmp q) keys ≡ list_any (eq_by_cmp key_cmp key) keys
+any_alike : (q key : List ℕ) (keys : List (List ℕ)) → key_cmp q key ≡ Equal
+    → list_any (eq_by_cmp key_cmp q) keys ≡ list_any (eq_by_cmp key_cmp key) keys
 any_alike q key [] equal = refl
 any_alike q key (x ∷ xs) equal =
     ap (λ r. is_eq r || list_any (eq_by_cmp key_cmp q) xs) (nat_list_cmp_total.congr q key x equal)
@@ -111,10 +112,11 @@ any-with_key q notes key = by (has_key notes key) refl
     by false there = any-insert_key q key notes.keys
 
 spans-with_key : (notes : Notes) (key : List ℕ) → (with_key notes key).spans ≡ notes.spans
-spans-with_key notes key = elim (has_key notes key) as (λ b. (cond b notes (record notes { keys = insert_key key_cmp notes.keys key })).spans ≡ notes.spans) [
-  | true ↦ refl
-  | false ↦ refl
-]
+spans-with_key notes key = elim (has_key notes key) as
+    (λ b. (cond b notes (record notes { keys = insert_key key_cmp notes.keys key })).spans ≡ notes.spans) [
+      | true ↦ refl
+      | false ↦ refl
+    ]
 
 -- ---- what the notes cover
 
@@ -122,7 +124,8 @@ key_noted : (notes : Notes) (key : List ℕ) (reads : List Read) (answer : Optio
     → AreNotesOf (reads ++ (KeyRead key answer ∷ [])) (with_key notes key).keys (with_key notes key).spans
 key_noted notes key reads answer are q =
     ap (λ b. b || list_any (λ span. is_in_span span q) (with_key notes key).spans) (any-with_key q notes key)
-    ∙ ap (λ (spans : List Span). (list_any (eq_by_cmp key_cmp q) notes.keys || eq_by_cmp key_cmp q key) || list_any (λ span. is_in_span span q) spans) (spans-with_key notes key)
+    ∙ ap (λ (spans : List Span). (list_any (eq_by_cmp key_cmp q) notes.keys || eq_by_cmp key_cmp q key) || list_any
+    (λ span. is_in_span span q) spans) (spans-with_key notes key)
     ∙ key_between (list_any (eq_by_cmp key_cmp q) notes.keys) (list_any (λ span. is_in_span span q) notes.spans) (eq_by_cmp key_cmp q key)
     ∙ ap (λ b. b || eq_by_cmp key_cmp q key) (are q)
     ∙ sym (any-append (is_read_by q) reads (KeyRead key answer))
@@ -195,14 +198,18 @@ in_the_good (Err e) goes is = tt
 -- ---- keys that are held in some way
 
 module _ {X : Type 0} (key_of : X → List ℕ) where
-  pub any-keys : (key : List ℕ) (held : List X) → list_any (λ x. is_eq (key_cmp key (key_of x))) held ≡ list_any (eq_by_cmp key_cmp key) (map key_of held)
+  pub any-keys : (key : List ℕ) (held : List X)
+      → list_any (λ x. is_eq (key_cmp key (key_of x))) held ≡ list_any (eq_by_cmp key_cmp key) (map key_of held)
   any-keys key [] = refl
   any-keys key (x ∷ xs) = ap (λ b. is_eq (key_cmp key (key_of x)) || b) (any-keys key xs)
 
-  pub keys-insert_key : (new : X) (held : List X) → map key_of (insert_key (λ x y. key_cmp (key_of x) (key_of y)) held new) ≡ insert_key key_cmp (map key_of held) (key_of new)
+  pub keys-insert_key : (new : X) (held : List X)
+      → map key_of (insert_key (λ x y. key_cmp (key_of x) (key_of y)) held new) ≡ insert_key key_cmp (map key_of held) (key_of new)
   keys-insert_key new [] = refl
-  keys-insert_key new (x ∷ xs) = elim (key_cmp (key_of new) (key_of x)) as (λ o. map key_of (match_ordering o (new ∷ x ∷ xs) (x ∷ xs) (x ∷ insert_key (λ x y. key_cmp (key_of x) (key_of y)) xs new))
-      ≡ match_ordering o (key_of new ∷ key_of x ∷ map key_of xs) (key_of x ∷ map key_of xs) (key_of x ∷ insert_key key_cmp (map key_of xs) (key_of new))) [
+  keys-insert_key new (x ∷ xs) = elim (key_cmp (key_of new) (key_of x)) as
+      (λ o. map key_of (match_ordering o (new ∷ x ∷ xs) (x ∷ xs) (x ∷ insert_key (λ x y. key_cmp (key_of x) (key_of y)) xs new))
+      ≡ match_ordering o (key_of new ∷ key_of x ∷ map key_of xs) (key_of x ∷ map key_of xs)
+      (key_of x ∷ insert_key key_cmp (map key_of xs) (key_of new))) [
         | Less ↦ refl
         | Equal ↦ refl
         | Greater ↦ ap (λ ks. key_of x ∷ ks) (keys-insert_key new xs)

@@ -22,7 +22,9 @@ loop-key-preserved c =
     let so_far = map key_of c.loop-key.yielded in
     one_key_more c.args.number c.args.notes.now.named c.requires (lent c.loop-key.first) (lent c.first_newer_than.result)
     (lent c.lesser-first.result) c.lesser-first.ensures so_far (boxed_slice_items c.in-Some.key.now) c.loop-key.invariant
-    (c.first_newer_than.ensures ∙ ap (λ k. first_of (filter (is_late_within c.args.number (span_of (Some k) (Some k) true)) c.args.notes.now.named)) c.as_slice-key.ensures.value)
+    (c.first_newer_than.ensures ∙ ap
+    (λ k. first_of (filter
+    (is_late_within c.args.number (span_of (Some k) (Some k) true)) c.args.notes.now.named)) c.as_slice-key.ensures.value)
     ∙ ap (λ (keys : List (List ℕ)). first_of (filter (is_late_at_any c.args.number keys) c.args.notes.now.named))
     (sym (map-one_more key_of c.loop-key.yielded c.in-Some.key))
 

@@ -7,4 +7,5 @@ use Rattle.vl_conflict.specs.Recent.{is_late_at_any}
 use Rattle.vl_conflict.proofs.search.first_of_keys.Given as goal
 
 abbrev pub invariant-loop-key : goal.invariant-loop-key
-invariant-loop-key l = lent l.first ≡ first_of (filter (is_late_at_any l.number (map (λ k. boxed_slice_items k.now) l.yielded)) l.notes.named)
+invariant-loop-key l = lent l.first ≡ first_of
+    (filter (is_late_at_any l.number (map (λ k. boxed_slice_items k.now) l.yielded)) l.notes.named)

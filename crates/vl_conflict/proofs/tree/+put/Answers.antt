@@ -20,7 +20,9 @@ put_below-put-requires t c =
 pub put_below-put-requires-in-Greater : goal.put_below-put-requires-in-Greater
 put_below-put-requires-in-Greater t c =
     let top = c.args.top.value in
-    let right_is : c.replace-right.result ≡ top.right = c.replace-right.ensures.value ∙ ap (λ (n : Node). n.right) c.deref_mut-2.ensures.value ∙ ap (λ (n : Node). n.right) c.deref_mut.ensures.value in
+    let right_is : c.replace-right.result ≡ top.right = c.replace-right.ensures.value
+    ∙ ap (λ (n : Node). n.right) c.deref_mut-2.ensures.value
+    ∙ ap (λ (n : Node). n.right) c.deref_mut.ensures.value in
     let may = right_may top c.requires.sorted c.requires.whole c.replace-right.result right_is in
     let low = may.low in
     let size = ap the_size right_is in
@@ -32,13 +34,20 @@ put_below-returns-in-Less-clause-named t c =
     let key = c.args.node.value.key in
     let number = c.args.node.value.number in
     let left_is : c.replace-left.result ≡ top.left = c.replace-left.ensures.value ∙ ap (λ (n : Node). n.left) c.deref_mut.ensures.value in
-    let right_is : c.replace-right.result ≡ top.right = c.replace-right.ensures.value ∙ ap (λ (n : Node). n.right) c.deref_mut-2.ensures.value ∙ ap (λ (n : Node). n.right) c.deref_mut.ensures.value in
-    let compared = sym (c.order-order.ensures ∙ ap (λ (n : Node). key_cmp n.key c.deref-2.result.now.key) c.deref.ensures ∙ ap (λ (n : Node). key_cmp key n.key) c.deref-2.ensures) in
-    let entry_is = ap (λ (n : Node). (n.key, n.number)) c.deref_mut-2.ensures.value ∙ ap (λ (n : Node). (n.key, n.number)) c.deref_mut.ensures.value in
+    let right_is : c.replace-right.result ≡ top.right = c.replace-right.ensures.value
+    ∙ ap (λ (n : Node). n.right) c.deref_mut-2.ensures.value
+    ∙ ap (λ (n : Node). n.right) c.deref_mut.ensures.value in
+    let compared = sym (c.order-order.ensures ∙ ap
+    (λ (n : Node). key_cmp n.key c.deref-2.result.now.key) c.deref.ensures ∙ ap
+    (λ (n : Node). key_cmp key n.key) c.deref-2.ensures) in
+    let entry_is = ap (λ (n : Node). (n.key, n.number)) c.deref_mut-2.ensures.value
+    ∙ ap (λ (n : Node). (n.key, n.number)) c.deref_mut.ensures.value in
     c.balanced.ensures.named
-    ∙ ap (λ (l : List Named). l ++ (c.deref_mut-2.result.now.key, c.deref_mut-2.result.now.number) ∷ named c.replace-right.result) c.put.ensures.named
+    ∙ ap (λ (l : List Named). l ++
+    (c.deref_mut-2.result.now.key, c.deref_mut-2.result.now.number) ∷ named c.replace-right.result) c.put.ensures.named
     ∙ ap (λ (x : Named). put key_cmp key number (named c.replace-left.result) ++ x ∷ named c.replace-right.result) entry_is
-    ∙ put-below_left top key number c.replace-left.result c.replace-right.result left_is right_is c.requires.sorted (compared ∙ c.in-Less.is)
+    ∙ put-below_left top key number c.replace-left.result c.replace-right.result left_is right_is c.requires.sorted
+    (compared ∙ c.in-Less.is)
 
 pub put_below-returns-in-Equal-clause-named : goal.put_below-returns-in-Equal-clause-named
 put_below-returns-in-Equal-clause-named t c =
@@ -46,13 +55,19 @@ put_below-returns-in-Equal-clause-named t c =
     let key = c.args.node.value.key in
     let number = c.args.node.value.number in
     let left_is : c.replace-left.result ≡ top.left = c.replace-left.ensures.value ∙ ap (λ (n : Node). n.left) c.deref_mut.ensures.value in
-    let right_is : c.replace-right.result ≡ top.right = c.replace-right.ensures.value ∙ ap (λ (n : Node). n.right) c.deref_mut-2.ensures.value ∙ ap (λ (n : Node). n.right) c.deref_mut.ensures.value in
-    let compared = sym (c.order-order.ensures ∙ ap (λ (n : Node). key_cmp n.key c.deref-2.result.now.key) c.deref.ensures ∙ ap (λ (n : Node). key_cmp key n.key) c.deref-2.ensures) in
-    let key_is = ap (λ (n : Node). n.key) c.deref_mut-in-Equal.ensures.value ∙ ap (λ (n : Node). n.key) c.deref_mut-2.ensures.value ∙ ap (λ (n : Node). n.key) c.deref_mut.ensures.value in
+    let right_is : c.replace-right.result ≡ top.right = c.replace-right.ensures.value
+    ∙ ap (λ (n : Node). n.right) c.deref_mut-2.ensures.value
+    ∙ ap (λ (n : Node). n.right) c.deref_mut.ensures.value in
+    let compared = sym (c.order-order.ensures ∙ ap
+    (λ (n : Node). key_cmp n.key c.deref-2.result.now.key) c.deref.ensures ∙ ap
+    (λ (n : Node). key_cmp key n.key) c.deref-2.ensures) in
+    let key_is = ap (λ (n : Node). n.key) c.deref_mut-in-Equal.ensures.value
+    ∙ ap (λ (n : Node). n.key) c.deref_mut-2.ensures.value ∙ ap (λ (n : Node). n.key) c.deref_mut.ensures.value in
     c.above.ensures.named
     ∙ ap (λ (k : List ℕ). named c.replace-left.result ++ (k, c.deref-in-Equal.result.now.number) ∷ named c.replace-right.result) key_is
     ∙ ap (λ (n : Node). named c.replace-left.result ++ (top.key, n.number) ∷ named c.replace-right.result) c.deref-in-Equal.ensures
-    ∙ put-below_here top key number c.replace-left.result c.replace-right.result left_is right_is c.requires.sorted (compared ∙ c.in-Equal.is)
+    ∙ put-below_here top key number c.replace-left.result c.replace-right.result left_is right_is c.requires.sorted
+    (compared ∙ c.in-Equal.is)
 
 pub put_below-returns-in-Greater-clause-named : goal.put_below-returns-in-Greater-clause-named
 put_below-returns-in-Greater-clause-named t c =
@@ -60,10 +75,17 @@ put_below-returns-in-Greater-clause-named t c =
     let key = c.args.node.value.key in
     let number = c.args.node.value.number in
     let left_is : c.replace-left.result ≡ top.left = c.replace-left.ensures.value ∙ ap (λ (n : Node). n.left) c.deref_mut.ensures.value in
-    let right_is : c.replace-right.result ≡ top.right = c.replace-right.ensures.value ∙ ap (λ (n : Node). n.right) c.deref_mut-2.ensures.value ∙ ap (λ (n : Node). n.right) c.deref_mut.ensures.value in
-    let compared = sym (c.order-order.ensures ∙ ap (λ (n : Node). key_cmp n.key c.deref-2.result.now.key) c.deref.ensures ∙ ap (λ (n : Node). key_cmp key n.key) c.deref-2.ensures) in
-    let entry_is = ap (λ (n : Node). (n.key, n.number)) c.deref_mut-2.ensures.value ∙ ap (λ (n : Node). (n.key, n.number)) c.deref_mut.ensures.value in
+    let right_is : c.replace-right.result ≡ top.right = c.replace-right.ensures.value
+    ∙ ap (λ (n : Node). n.right) c.deref_mut-2.ensures.value
+    ∙ ap (λ (n : Node). n.right) c.deref_mut.ensures.value in
+    let compared = sym (c.order-order.ensures ∙ ap
+    (λ (n : Node). key_cmp n.key c.deref-2.result.now.key) c.deref.ensures ∙ ap
+    (λ (n : Node). key_cmp key n.key) c.deref-2.ensures) in
+    let entry_is = ap (λ (n : Node). (n.key, n.number)) c.deref_mut-2.ensures.value
+    ∙ ap (λ (n : Node). (n.key, n.number)) c.deref_mut.ensures.value in
     c.balanced-in-Greater.ensures.named
-    ∙ ap (λ (l : List Named). named c.replace-left.result ++ (c.deref_mut-2.result.now.key, c.deref_mut-2.result.now.number) ∷ l) c.put-in-Greater.ensures.named
+    ∙ ap (λ (l : List Named). named c.replace-left.result ++
+    (c.deref_mut-2.result.now.key, c.deref_mut-2.result.now.number) ∷ l) c.put-in-Greater.ensures.named
     ∙ ap (λ (x : Named). named c.replace-left.result ++ x ∷ put key_cmp key number (named c.replace-right.result)) entry_is
-    ∙ put-below_right top key number c.replace-left.result c.replace-right.result left_is right_is c.requires.sorted (compared ∙ c.in-Greater.is)
+    ∙ put-below_right top key number c.replace-left.result c.replace-right.result left_is right_is c.requires.sorted
+    (compared ∙ c.in-Greater.is)

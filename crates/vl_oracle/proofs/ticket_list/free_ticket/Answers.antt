@@ -14,7 +14,8 @@ loop-low-preserved-then-live-middle c =
     let inv0 = c.loop-low.invariant.0 in
     let inv1 = c.loop-low.invariant.1 in
     let middle = c.loop-low.low + (c.loop-low.high - c.loop-low.low) / 2 in
-    let above = free-above c.args.live.now middle _ (as_T (is_sorted nat_cmp c.args.live.now) c.requires) (omega arith) c.if-live-middle.true in
+    let above = free-above c.args.live.now middle _ (as_T (is_sorted nat_cmp c.args.live.now) c.requires)
+    (omega arith) c.if-live-middle.true in
     (omega arith, c.loop-low.invariant.1, omega arith, c.loop-low.invariant.3)
 
 pub loop-low-preserved : goal.loop-low-preserved

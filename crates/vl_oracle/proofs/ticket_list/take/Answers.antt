@@ -18,7 +18,8 @@ returns-then-index-ticket-clause-number c =
     let read = c.index.result.now in
     let at : c.place-at.result ≡ place = c.place-at.ensures ∙ ap (prefix_len (is_below ticket)) c.deref.ensures.value in
     let within : place < length live = omega (arith, c.len.ensures, c.if-at-len.true, c.args.live.now.ok) in
-    let read_is : read ≡ get_or live place gone = c.index.ensures ∙ ap (λ (n : ℕ). get_or live n read) at ∙ get_or_default live place read gone within in
+    let read_is : read ≡ get_or live place gone = c.index.ensures ∙ ap (λ (n : ℕ). get_or live n read) at
+    ∙ get_or_default live place read gone within in
     let is : (get_or live place gone).0 ≡ ticket = ap (λ (e : Ticket). e.0) (sym read_is) ∙ c.if-index-ticket.true in
     ap (λ (e : Ticket). Some e.1) (c.remove-number.ensures.value ∙ ap (λ (n : ℕ). get_or live n gone) at)
     ∙ sym (taken ticket live gone (as_T (is_sorted nat_cmp live) c.requires) within is).found
@@ -31,8 +32,11 @@ returns-then-index-ticket-clause-left c =
     let read = c.index.result.now in
     let at : c.place-at.result ≡ place = c.place-at.ensures ∙ ap (prefix_len (is_below ticket)) c.deref.ensures.value in
     let within : place < length live = omega (arith, c.len.ensures, c.if-at-len.true, c.args.live.now.ok) in
-    let is : (get_or live place read).0 ≡ ticket = ap (λ (e : Ticket). e.0) (sym (c.index.ensures ∙ ap (λ (n : ℕ). get_or live n read) at)) ∙ c.if-index-ticket.true in
-    c.remove-number.ensures.items ∙ ap (remove live) at ∙ (taken ticket live read (as_T (is_sorted nat_cmp live) c.requires) within is).left
+    let is : (get_or live place read).0 ≡ ticket = ap (λ (e : Ticket). e.0)
+    (sym (c.index.ensures ∙ ap (λ (n : ℕ). get_or live n read) at))
+    ∙ c.if-index-ticket.true in
+    c.remove-number.ensures.items ∙ ap (remove live) at
+    ∙ (taken ticket live read (as_T (is_sorted nat_cmp live) c.requires) within is).left
 
 pub returns-clause-number : goal.returns-clause-number
 returns-clause-number c =
@@ -43,7 +47,8 @@ returns-clause-number c =
     sym (not_taken ticket live (0, 0) (as_T (is_sorted nat_cmp live) c.requires) (λ within is. elim c.else-at-len.branch [
       | else-at-len-via-then-at-len+else-index-ticket w ↦
           let read = w.index.result.now in
-          let read_is : read ≡ get_or live place (0, 0) = w.index.ensures ∙ ap (λ (n : ℕ). get_or live n read) at ∙ get_or_default live place read (0, 0) within in
+          let read_is : read ≡ get_or live place (0, 0) = w.index.ensures ∙ ap (λ (n : ℕ). get_or live n read) at
+          ∙ get_or_default live place read (0, 0) within in
           w.if-index-ticket.false (ap (λ (e : Ticket). e.0) read_is ∙ is)
       | else-at-len-via-else-at-len w ↦ omega (arith, c.len.ensures, w.if-at-len.false, c.args.live.now.ok)
     ]))

@@ -17,11 +17,14 @@ returns-in_ok-share-in-Some-clause-first c =
     ∙ ap (λ r. lent r) (sym c.in-Some.is) ∙ c.lesser.ensures
     ∙ ap (λ o. lesser_of o (lent c.first_of_spans-of_spans.result)) c.first_of_keys-of_keys.ensures
     ∙ ap (lesser_of (first_of (filter (is_late_at_any number keys) c.self.inside.notes.named))) c.first_of_spans-of_spans.ensures
-    ∙ all_late number keys spans c.self.inside.notes.named c.self.invariant.0 ∙ ap (λ (k : Kept). first_newer_than number keys spans k.named) c.self.view_is
+    ∙ all_late number keys spans c.self.inside.notes.named c.self.invariant.0
+    ∙ ap (λ (k : Kept). first_newer_than number keys spans k.named) c.self.view_is
 
 pub returns-in_ok-share-in-Some-clause-conflict : goal.returns-in_ok-share-in-Some-clause-conflict
 returns-in_ok-share-in-Some-clause-conflict c h floor reads remembers le notes =
-    returns-in_ok-share-in-Some-clause-first c ∙ first_newer_than-conflict h floor c.args.number reads (map boxed_slice_items c.args.keys.now.keys) c.args.spans.now c.args.self.now.named remembers le notes
+    returns-in_ok-share-in-Some-clause-first c
+    ∙ first_newer_than-conflict h floor c.args.number reads
+    (map boxed_slice_items c.args.keys.now.keys) c.args.spans.now c.args.self.now.named remembers le notes
 
 pub returns-in-None-clause-first : goal.returns-in-None-clause-first
 returns-in-None-clause-first c =
@@ -31,8 +34,11 @@ returns-in-None-clause-first c =
     ap (λ r. lent r) (sym c.in-None.is) ∙ c.lesser.ensures
     ∙ ap (λ o. lesser_of o (lent c.first_of_spans-of_spans.result)) c.first_of_keys-of_keys.ensures
     ∙ ap (lesser_of (first_of (filter (is_late_at_any number keys) c.self.inside.notes.named))) c.first_of_spans-of_spans.ensures
-    ∙ all_late number keys spans c.self.inside.notes.named c.self.invariant.0 ∙ ap (λ (k : Kept). first_newer_than number keys spans k.named) c.self.view_is
+    ∙ all_late number keys spans c.self.inside.notes.named c.self.invariant.0
+    ∙ ap (λ (k : Kept). first_newer_than number keys spans k.named) c.self.view_is
 
 pub returns-in-None-clause-conflict : goal.returns-in-None-clause-conflict
 returns-in-None-clause-conflict c h floor reads remembers le notes =
-    returns-in-None-clause-first c ∙ first_newer_than-conflict h floor c.args.number reads (map boxed_slice_items c.args.keys.now.keys) c.args.spans.now c.args.self.now.named remembers le notes
+    returns-in-None-clause-first c
+    ∙ first_newer_than-conflict h floor c.args.number reads
+    (map boxed_slice_items c.args.keys.now.keys) c.args.spans.now c.args.self.now.named remembers le notes

@@ -10,6 +10,7 @@ returns-clause-knows c h writes knows keys_are =
     c.end.ensures.knows _ (record {
       last = ap (λ (live : LiveTickets). live.last) c.advance.ensures.advanced ∙ number ∙ sym (last_number-with_commit h writes);
       remembers =
-          remembers_more (floor_of c.args.self.now.oracle) (floor_of c.advance.new.self) _ h writes c.args.keys.items c.args.self.now.recent.named c.note_all.new.recent.named
+          remembers_more (floor_of c.args.self.now.oracle)
+          (floor_of c.advance.new.self) _ h writes c.args.keys.items c.args.self.now.recent.named c.note_all.new.recent.named
           knows.remembers c.advance.ensures.floor number keys_are c.note_all.ensures;
     })

@@ -8,5 +8,6 @@ returns-clause-knows c h knows = record {
   last = ap (λ (live : LiveTickets). live.last) c.end.ensures.ended ∙ knows.last;
   remembers =
       subst (λ (n : ℕ). Remembers n h c.prune.new.self.named) c.floor.ensures
-      (c.prune.ensures.remembers h (floor_of c.args.self.now.oracle) knows.remembers (omega (arith, c.end.ensures.floor, c.floor.ensures)));
+      (c.prune.ensures.remembers h (floor_of c.args.self.now.oracle) knows.remembers
+      (omega (arith, c.end.ensures.floor, c.floor.ensures)));
 }

@@ -12,5 +12,6 @@ returns-clause-knows c h last =
     let le : last_number h ≤ floor_of c.new.result = omega arith in
     record {
       last = ap (λ (live : LiveTickets). live.last) c.new.ensures ∙ sym last;
-      remembers = subst (λ (named : List Named). Remembers (floor_of c.new.result) h named) (sym c.new-2.ensures) (nothing_yet h (floor_of c.new.result) le);
+      remembers = subst (λ (named : List Named). Remembers (floor_of c.new.result) h named) (sym c.new-2.ensures)
+          (nothing_yet h (floor_of c.new.result) le);
     }

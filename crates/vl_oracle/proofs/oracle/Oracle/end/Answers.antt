@@ -13,7 +13,8 @@ invariant_of-self c =
     let left = c.take.ensures.left in
     let found = sym c.take.ensures.number ∙ c.in-Some.is in
     subst (λ (ts : List Ticket). IsKept (record { last = live.last; tickets = ts }) (get nat_cmp c.remove.new.numbers)) (sym left)
-    (kept-ended live (get nat_cmp c.self.inside.numbers) kept c.args.ticket c.in-Some.number (get nat_cmp c.remove.new.numbers) found (λ count n one. c.remove.ensures count one n))
+    (kept-ended live (get nat_cmp c.self.inside.numbers) kept c.args.ticket c.in-Some.number
+    (get nat_cmp c.remove.new.numbers) found (λ count n one. c.remove.ensures count one n))
 
 pub returns-in-Some-clause-ended : goal.returns-in-Some-clause-ended
 returns-in-Some-clause-ended c =
@@ -27,7 +28,8 @@ returns-in-Some-clause-floor c =
     let kept = c.self.invariant in
     let left = c.take.ensures.left in
     let found = sym c.take.ensures.number ∙ c.in-Some.is in
-    let after = kept-ended live (get nat_cmp c.self.inside.numbers) kept c.args.ticket c.in-Some.number (get nat_cmp c.remove.new.numbers) found (λ count n one. c.remove.ensures count one n) in
+    let after = kept-ended live (get nat_cmp c.self.inside.numbers) kept c.args.ticket c.in-Some.number
+    (get nat_cmp c.remove.new.numbers) found (λ count n one. c.remove.ensures count one n) in
     let floors = floor-ended c.args.ticket live kept.are after.are in
     subst (λ (ts : List Ticket). floor_of c.args.self.now ≤ floor_of (record { last = live.last; tickets = ts })) (sym left)
     (subst (λ (l : LiveTickets). floor_of l ≤ floor_of (ended c.args.ticket live)) c.self.view_is floors)
@@ -40,9 +42,11 @@ returns-in-None-clause-ended c =
 
 pub invariant_of-self-in-None : goal.invariant_of-self-in-None
 invariant_of-self-in-None c =
-    subst (λ (ts : List Ticket). IsKept (record { last = c.self.inside.last; tickets = ts }) (get nat_cmp c.self.inside.numbers)) (sym c.in-None.ensures.kept) c.self.invariant
+    subst (λ (ts : List Ticket). IsKept (record { last = c.self.inside.last; tickets = ts })
+    (get nat_cmp c.self.inside.numbers)) (sym c.in-None.ensures.kept) c.self.invariant
 
 pub returns-in-None-clause-floor : goal.returns-in-None-clause-floor
 returns-in-None-clause-floor c =
-    subst (λ (ts : List Ticket). floor_of c.args.self.now ≤ floor_of (record { last = c.self.inside.last; tickets = ts })) (sym c.in-None.ensures.kept)
+    subst (λ (ts : List Ticket). floor_of c.args.self.now ≤ floor_of
+    (record { last = c.self.inside.last; tickets = ts })) (sym c.in-None.ensures.kept)
     (subst (λ (l : LiveTickets). floor_of c.args.self.now ≤ floor_of l) (sym c.self.view_is) (omega arith))

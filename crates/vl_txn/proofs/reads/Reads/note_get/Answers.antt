@@ -27,4 +27,5 @@ returns-clause-noted c =
     let alike = written_alike c.get.result c.is_some.result _ c.get.ensures c.is_some.ensures in
     in_the_good c.add.result (λ added. get_noted c.args.own.now key old c.add.new.self (added ∙ sym (
     ap (λ b. cond b old (with_key old key)) (alike ∙ c.if-is_some.false)
-    ∙ ap (λ b. cond b old (record old { keys = insert_key key_cmp old.keys key })) (sym c.has.ensures ∙ c.if-has.false)))) c.add.ensures.ok
+    ∙ ap (λ b. cond b old (record old { keys = insert_key key_cmp old.keys key }))
+    (sym c.has.ensures ∙ c.if-has.false)))) c.add.ensures.ok
