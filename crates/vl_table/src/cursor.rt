@@ -92,12 +92,14 @@ impl<H: HeldFile, R: Reader<Held = H> + Drop> Cursor for TableCursor<H, R> {
 }
 
 impl<H: HeldFile, R: Reader<Held = H> + Drop> TableCursor<H, R> {
-    ghost use Rattle.std.specs.Prelude.{◌≡◌, ◌≤◌, ◌<◌, ◌-◌, ◌∷◌, [], List, Some, true, IfErr, IfNone, IfOk, IfSome, IsFalse, IsTrue, MatchResult, OnErr, OnOk};
+    ghost use Rattle.std.specs.Prelude.{◌≡◌, ◌≤◌, ◌<◌, ◌-◌, ◌∷◌, [], List, Some, true};
+    ghost use Rattle.std.specs.Prelude.{IfErr, IfNone, IfOk, IfSome, IsFalse, IsTrue, MatchResult, OnErr, OnOk};
     ghost use Rattle.vl_model.specs.Cursors.{IsCounted};
     ghost use Rattle.vl_model.specs.declared.entry.Entry.{Entry};
     ghost use Rattle.vl_run.specs.Order.{along, within};
     ghost use Rattle.vl_block.specs.Cutting.{joined};
-    ghost use Rattle.vl_table.specs.CursorLeft.{EndsAt, GoesOn, HasNotRead, ReadsNext, StaysIn, blocks_left, cursor_budget, in_block, unread};
+    ghost use Rattle.vl_table.specs.CursorLeft.{EndsAt, GoesOn, HasNotRead, ReadsNext, StaysIn};
+    ghost use Rattle.vl_table.specs.CursorLeft.{blocks_left, cursor_budget, in_block, unread};
     ghost use Rattle.vl_table.specs.CursorParts.{MayFailOn, is_disk_fault, rise_over};
     ghost use Rattle.vl_table.specs.Stretches.{IsNextOn};
     ghost use Rattle.vl_table.specs.OfTables.{AreOf};
