@@ -15,7 +15,8 @@ use Rattle.vl_table.specs.Tables.{IsOf, number_of, shape_of}
 use Rattle.vl_table.specs.declared.table.Table.{Table}
 use Rattle.vl_table.specs.laws.KeyRanges.{HasNone, above_turned, all_above, all_map, below_turned, none_above, of_last, up_to_below}
 use Rattle.vl_table.specs.laws.RangeLaws.{first_is, in_order, last_is, none_behind}
-use Rattle.vl_levels.specs.LevelTables.{AreApart, AreOf, ends_before, footer_of}
+use Rattle.vl_table.specs.OfTables.{AreOf}
+use Rattle.vl_levels.specs.LevelTables.{AreApart, ends_before, footer_of}
 
 greater : (r : Ordering) → is_gt r ≡ true → r ≡ Greater
 greater Less is = absurd cc

@@ -20,7 +20,8 @@ use Rattle.vl_table.specs.laws.TrueBlocks.{no_bad_block}
 use Rattle.vl_table.specs.declared.fault.TableFault.{TableFault}
 use Rattle.vl_table.specs.declared.fault.TableFault.TheVariants.{NoMemory, Disk, Damaged}
 use Rattle.vl_table.specs.declared.table.Table.{Table}
-use Rattle.vl_levels.specs.LevelTables.{AreApart, AreOf, ends_before}
+use Rattle.vl_table.specs.OfTables.{AreOf}
+use Rattle.vl_levels.specs.LevelTables.{AreApart, ends_before}
 use Rattle.vl_levels.specs.LookedUp.{LookedUp, IsAsked, IsDamagedAt, IsFaultOf, LooksOn, NamesAsked}
 use Rattle.vl_levels.specs.Looks.{better, is_wanted, sought}
 use Rattle.vl_levels.specs.declared.look.Look.{Look}

@@ -1,4 +1,4 @@
--- Tables of which entries are looked up: which entries they hold, and in which order they are.
+-- In which order the tables of a level are.
 use Rattle.std.specs.Prelude.{◌≡◌, ℕ, Bool, false, List, [], ◌∷◌, ◌++◌, Option}
 use Rattle.std.specs.List.{AllByRecursion}
 use Rattle.std.specs.Ordering.{is_gt}
@@ -12,13 +12,6 @@ use Rattle.vl_table.specs.declared.table.Table.{Table}
 module _ {H : Type 0} where
   abbrev pub footer_of : Table H → Footer
   footer_of t = (shape_of t).footer
-
-  -- the tables are true ones with these entries, table by table
-  abbrev pub AreOf : (H → Option (List ℕ)) → List (Table H) → List (List Entry) → Type 0
-  AreOf bytes_of [] [] = Unit {0}
-  AreOf bytes_of [] (es ∷ others) = ⊥
-  AreOf bytes_of (t ∷ ts) [] = ⊥
-  AreOf bytes_of (t ∷ ts) (es ∷ others) = IsOf bytes_of t es × AreOf bytes_of ts others
 
   -- each table ends before the next one begins, by their footers
   abbrev pub AreApart : List (Table H) → Type 0

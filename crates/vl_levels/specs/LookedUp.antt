@@ -16,7 +16,7 @@ use Rattle.vl_table.specs.Tables.{number_of, shape_of}
 use Rattle.vl_table.specs.declared.fault.TableFault.{TableFault}
 use Rattle.vl_table.specs.declared.fault.TableFault.TheVariants.{NoMemory, Disk, Damaged}
 use Rattle.vl_table.specs.declared.table.Table.{Table}
-use Rattle.vl_levels.specs.LevelTables.{AreOf}
+use Rattle.vl_table.specs.OfTables.{AreOf}
 use Rattle.vl_levels.specs.Looks.{better, is_asked, makes, place_version, sought}
 use Rattle.vl_levels.specs.declared.look.Look.{Look}
 

@@ -1,7 +1,8 @@
 -- What a cursor over memory or over a table has left, and how it may fail.
 use Rattle.std.specs.Prelude.{◌≡◌, ℕ, List, length, Option, Some}
 use Rattle.vl_model.specs.declared.entry.Entry.{Entry}
-use Rattle.vl_table.specs.CursorLeft.{MayFailOn, cursor_budget, cursor_left}
+use Rattle.vl_table.specs.CursorLeft.{cursor_budget, cursor_left}
+use Rattle.vl_table.specs.CursorParts.{MayFailOn}
 use Rattle.vl_table.specs.declared.fault.TableFault.{TableFault}
 use Rattle.vl_table.specs.declared.fault.TableFault.TheVariants.{NoMemory}
 use Rattle.vl_table_tests.specs.declared.source.Source.{Source}
@@ -18,4 +19,4 @@ module _ {H R : Type 0} where
 
   abbrev pub SourceMayFail : (H → Option (List ℕ)) → Source H R → TableFault → Type 0
   SourceMayFail bytes_of (Memory es) fault = fault ≡ NoMemory
-  SourceMayFail bytes_of (Table c) fault = MayFailOn bytes_of c.table.now fault
+  SourceMayFail bytes_of (Table c) fault = MayFailOn bytes_of c.tables.items fault

@@ -1,23 +1,60 @@
-//! A table, read both ways.
+//! Tables, gone over both ways and in an interval.
 
-use crate::disk::open;
-use crate::tables::TABLE;
+use crate::disk::{blocks, open, versions_of, whole};
+use crate::tables::FILTERED;
+use std::alloc::Global;
 use std::test::Fail;
-use vl_model::{Cursor, Way};
-use vl_table::TableCursor;
+use vl_mem::{MemHeld, MemReader};
+use vl_model::{Bytes, Cursor, Span, Way};
+use vl_table::{BlockReader, Table, TableCursor};
+
+// A table of the keys a and b, and behind it one of three versions of c.
+fn tables(alloc: Global) -> Result<Vec<Table<MemHeld>>, Fail> {
+    let mut tables = Vec::new(alloc);
+    tables.push(open(alloc, 1, &FILTERED)?)?;
+    tables.push(versions_of(alloc, 2, b"c", &[9, 5, 2])?)?;
+    Ok(tables)
+}
+
+// The versions that a cursor gives, one behind the other.
+fn versions(
+    alloc: Global,
+    reader: &mut BlockReader<MemReader>,
+    span: Span,
+    way: Way,
+) -> Result<Vec<u64>, Fail> {
+    let mut cursor = TableCursor::new(alloc, tables(alloc)?, span, way)?;
+    let mut versions = Vec::new(alloc);
+    for _ in 0..9 {
+        if let Some(entry) = cursor.next(reader)? {
+            versions.push(entry.version)?;
+        }
+    }
+    Ok(versions)
+}
 
 #[test]
-fn a_table_is_read_both_ways(rt: HostRuntime) -> Result<(), Fail> {
+fn tables_are_gone_over_both_ways(rt: HostRuntime) -> Result<(), Fail> {
     let alloc = rt.alloc();
-    let (table, mut reader) = open(alloc, 1, &TABLE)?;
-    let mut up = TableCursor::new(alloc, &table, Way::Up);
-    let first = up.next(&mut reader)?.ok_or("none")?;
-    assert_eq!(rt; first.key.as_slice(), b"a".as_slice());
-    assert!(rt; up.next(&mut reader)?.is_some());
-    assert!(rt; up.next(&mut reader)?.is_none());
+    let mut reader = blocks(alloc, &[])?;
+    let up = versions(alloc, &mut reader, whole(), Way::Up)?;
+    assert_eq!(rt; up.as_slice(), [1, 1, 9, 5, 2].as_slice());
+    let down = versions(alloc, &mut reader, whole(), Way::Down)?;
+    assert_eq!(rt; down.as_slice(), [2, 5, 9, 1, 1].as_slice());
+    Ok(())
+}
 
-    let mut down = TableCursor::new(alloc, &table, Way::Down);
-    let last = down.next(&mut reader)?.ok_or("none")?;
-    assert_eq!(rt; last.key.as_slice(), b"b".as_slice());
+// Of the first table no block is read: the second read would fail.
+#[test]
+fn an_interval_is_gone_over(rt: HostRuntime) -> Result<(), Fail> {
+    let alloc = rt.alloc();
+    let mut reader = blocks(alloc, &[2])?;
+    let from_c = Span {
+        lo: Some(Bytes::copy_of(alloc, b"c")?),
+        hi: None,
+        closed: false,
+    };
+    let found = versions(alloc, &mut reader, from_c, Way::Up)?;
+    assert_eq!(rt; found.as_slice(), [9, 5, 2].as_slice());
     Ok(())
 }

@@ -6,7 +6,7 @@ use std::alloc::Global;
 use std::test::Fail;
 use vl_disk::{Disk, FaultPlan, Name, make_file};
 use vl_mem::{MemDisk, MemHeld, MemReader};
-use vl_model::{Body, Bytes, Entry};
+use vl_model::{Body, Bytes, Entry, Span};
 use vl_table::{BlockReader, KEPT_BLOCKS, Table};
 use vl_table_writer::TableWriter;
 
@@ -42,6 +42,15 @@ pub fn open(alloc: Global, number: u32, bytes: &[u8]) -> Result<Table<MemHeld>, 
 // A reader of blocks that fails at the reads with these numbers.
 pub fn blocks(alloc: Global, reads: &[u64]) -> Result<BlockReader<MemReader>, Fail> {
     Ok(BlockReader::new(alloc, failing(alloc, reads)?, KEPT_BLOCKS)?)
+}
+
+// All keys.
+pub fn whole() -> Span {
+    Span {
+        lo: None,
+        hi: None,
+        closed: false,
+    }
 }
 
 pub fn gone(alloc: Global, key: &[u8], version: u64) -> Result<Entry, Fail> {

@@ -2,10 +2,17 @@
 #![tactic(auto)]
 
 #[cfg(test)]
+mod cursors;
+#[cfg(test)]
 mod disk;
 #[cfg(test)]
 mod levels;
 #[cfg(test)]
+mod merging;
+mod source;
+#[cfg(test)]
 mod tables;
 #[cfg(test)]
 mod warm;
+
+pub use source::Source;
