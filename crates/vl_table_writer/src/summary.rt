@@ -90,8 +90,13 @@ impl Summary {
     ) -> Result<Footer, AllocError>
         ensures { IfOk result (λ footer. foot_of footer ≡ record {
           head = record {
-            filter = Some filter; index_place = index.place; index_length = index.length;
-            count = self.count; greatest = self.greatest; first = self.first; last = self.last;
+            filter = Some filter;
+            index_place = index.place;
+            index_length = index.length;
+            count = self.count;
+            greatest = self.greatest;
+            first = self.first;
+            last = self.last;
           };
           points = points_in self.points;
         }) }
