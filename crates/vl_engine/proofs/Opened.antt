@@ -6,12 +6,12 @@ use Rattle.std.proofs.Common.{sym, ap, subst, ◌∙◌, arith}
 use Rattle.vl_disk.specs.Crash.{Image}
 use Rattle.vl_disk.specs.Disk.{Stands}
 use Rattle.vl_disk.specs.DiskState.{DiskState, File, IsLawful}
-use Rattle.vl_disk.specs.Started.{IsRead}
 use Rattle.vl_disk.specs.Moments.{HoldsThroughout, holds_weaker}
+use Rattle.vl_disk.specs.Started.{IsRead}
 use Rattle.vl_disk.specs.declared.name.Name.TheVariants as names
 use Rattle.vl_disk.specs.declared.watched.Watched.{Ghosts}
 use Rattle.vl_engine.specs.Opening.{IsDurable, recovered, state_then}
-use Rattle.vl_engine.specs.Represents.{Fronts, IsHeld, Represents, StandsFor, file_of}
+use Rattle.vl_engine.specs.Represents.{Fronts, Represents, StandsFor, file_of}
 use Rattle.vl_engine.specs.Shown.{LeavesBetween, Shown}
 use Rattle.vl_engine.specs.declared.kept.Core.{Core}
 use Rattle.vl_engine.specs.laws.FrontLaws.{front_known, front_started}
