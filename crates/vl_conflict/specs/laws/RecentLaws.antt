@@ -17,7 +17,7 @@ use Rattle.vl_model.specs.declared.change.Change.{Change}
 use Rattle.vl_model.specs.declared.span.Span.{Span}
 use Rattle.vl_model.specs.Notes.{is_noted, AreNotesOf}
 use Rattle.vl_conflict.specs.Notes.{is_above_floor}
-use Rattle.vl_conflict.proofs.OrderLaws.{as_T, from_T, filter_rises}
+use Rattle.vl_conflict.specs.laws.OrderLaws.{as_T, from_T, filter_rises}
 use Rattle.vl_conflict.specs.Recent.{is_late, first_newer_than, since, Remembers, noted_all}
 
 -- lists in order that find the same are the same
