@@ -47,7 +47,7 @@ pub record IsWatched {D : Type 0} (g : Ghosts D) : Type 0 where
   pub counts_now : (disk : D) (state : DiskState) (t : ℕ) → g.told disk ≡ Some state → t ≤ g.moment disk
       → g.states_since disk t state
 
-extends_itself : (h : History) → Extends h h
+pub extends_itself : (h : History) → Extends h h
 extends_itself h = record { first = refl; base = refl; later = []; commits = sym (append-nil h.commits) }
 
 module _ {D : Type 0} (g : Ghosts D) (watched : IsWatched g) where

@@ -1,14 +1,16 @@
 -- What an engine that was just opened stands for, and represents.
-use Rattle.std.specs.Prelude.{◌≡◌, ◌≤◌, ℕ, ◌+◌, max, List, [], ◌∷◌, ◌++◌, map, reverse, Option, None, Some, refl}
+use Rattle.std.specs.Prelude.{◌≡◌, ◌≤◌, ℕ, ◌+◌, ◌-◌, ◌^◌, min, max, List, [], ◌∷◌, ◌++◌, map, reverse, Option, None, Some, IsSome, refl}
+use Rattle.std.specs.FinMap.{get}
 use Rattle.std.specs.Option.{option_map}
-use Rattle.std.proofs.Common.{sym, ap, subst, ◌∙◌}
+use Rattle.std.proofs.Common.{sym, ap, subst, ◌∙◌, arith}
 use Rattle.vl_disk.specs.Crash.{Image}
-use Rattle.vl_disk.specs.DiskState.{DiskState, IsLawful}
+use Rattle.vl_disk.specs.Disk.{Stands}
+use Rattle.vl_disk.specs.DiskState.{DiskState, File, IsLawful}
 use Rattle.vl_disk.specs.Started.{IsRead}
 use Rattle.vl_disk.specs.Moments.{HoldsThroughout, holds_weaker}
-use Rattle.vl_disk.specs.declared.name.Name.{Name}
+use Rattle.vl_disk.specs.declared.name.Name.TheVariants as names
 use Rattle.vl_disk.specs.declared.watched.Watched.{Ghosts}
-use Rattle.vl_engine.specs.Opening.{IsDurable, recovered, state_then}
+use Rattle.vl_engine.specs.Opening.{IsDurable, IsMadeOf, recovered, state_then}
 use Rattle.vl_engine.specs.Represents.{Fronts, IsHeld, Represents, StandsFor, file_of}
 use Rattle.vl_engine.specs.Shown.{LeavesBetween, Shown}
 use Rattle.vl_engine.specs.declared.kept.Core.{Core}
@@ -16,7 +18,6 @@ use Rattle.vl_engine.specs.laws.FrontLaws.{front_known, front_started}
 use Rattle.vl_engine.specs.laws.ShownLaws.{between_itself, opening_shown}
 use Rattle.vl_engine.specs.laws.StartLaws.{base_at_start, opened_base, opened_number, opened_tidy, start_holds}
 use Rattle.vl_engine.specs.laws.VersionLaws.{has_entries, newest_entries, sources_started}
-use Rattle.vl_front.specs.Front.{Knows}
 use Rattle.vl_layout.specs.Logs.{memtable}
 use Rattle.vl_layout.specs.Sources.{sources}
 use Rattle.vl_layout.specs.Start.{layout_at_start}
@@ -73,19 +74,16 @@ entries_found (s ∷ ss) = ap (λ rest. memtable s ∷ rest) (entries_found ss)
 
 -- ---- what an engine makes of it
 
--- The engine is made of the parts that an opening found.
-pub record IsMadeOf {D H : Type 0} (parts : Parts D) (room : ℕ) (core : Core H) : Type 0 where
-  pub last : core.front.oracle ≡ record { last = parts.number; tickets = [] }
-  pub knows : (h : History) → last_number h ≡ parts.number → Knows core.front h
-  pub log : core.front.log ≡ parts.active
-  pub room_is : core.front.room ≡ room
-  pub halted : core.front.halted ≡ None
-  pub state : core.back.state ≡ parts.state
-  pub next_log : core.back.next_log ≡ max parts.state.next_log (parts.active.number + 1)
-  pub version_number : core.back.version_number ≡ 0
-  pub active : core.version.active.entries ≡ []
-  pub frozen : core.version.behind.frozen.items ≡ reverse parts.frozen.items
-  pub alone : core.version.behind.logs.items ≡ []
+-- the number of a log that stands leaves room for the next one
+number_stands : (disk : DiskState) (number : ℕ) → IsLawful disk → Stands (names.Log number) disk → number ≤ 2 ^ 32 - 2
+number_stands disk number lawful stands = by (get disk.standing (names.Log number)) refl stands
+  where
+    by : (file : Option File) → get disk.standing (names.Log number) ≡ file → IsSome file → number ≤ 2 ^ 32 - 2
+    by None is some = absurd cc
+    by (Some file) is some = (lawful.numbered (names.Log number) file is).1
+
+least_within : (number : ℕ) → number ≤ 2 ^ 32 - 2 → min (number + 1) (2 ^ 32 - 1) ≡ number + 1
+least_within number within = omega (arith, within)
 
 module _ {D H : Type 0} (bytes : H → Option (List ℕ)) (parts : Parts D) (room : ℕ) (core : Core H)
     (made : IsMadeOf parts room core) (short : parts.active.length ≡ 16) (roomy : room ≤ max_room)
@@ -147,9 +145,10 @@ module _ {D H : Type 0} (bytes : H → Option (List ℕ)) (parts : Parts D) (roo
   }
 
   -- and where the disk holds what was opened it represents them.
-  pub opened_represents : (told : Option DiskState) (now : DiskState) → told ≡ Some now → HoldsStore parts.state (logs_then found) now
-      → IsLawful now → Represents bytes core told h its_layout
-  opened_represents told now is_told holds lawful = record {
+  pub opened_represents : (told : Option DiskState) (now : DiskState) → told ≡ Some now
+      → HoldsStore parts.state (logs_then found) now → IsLawful now → Stands (names.Log parts.active.number) now
+      → Represents bytes core told h its_layout
+  opened_represents told now is_told holds lawful stand = record {
     stands = opened_stands;
     held = λ running. record {
       state = now;
@@ -158,7 +157,9 @@ module _ {D H : Type 0} (bytes : H → Option (List ℕ)) (parts : Parts D) (roo
       is_base = opened_base found h shown room;
       back_is = record {
         state = made.state ∙ parts_state;
-        next_log = made.next_log ∙ (λ i. max (parts_state i).next_log (active_number i + 1));
+        next_log = made.next_log
+            ∙ ap (max parts.state.next_log) (least_within parts.active.number (number_stands now parts.active.number lawful stand))
+            ∙ (λ i. max (parts_state i).next_log (active_number i + 1));
         next_table = refl;
       };
       holds = start_holds found room now (subst (λ s. HoldsStore s (logs_then found) now) parts_state holds) lawful;

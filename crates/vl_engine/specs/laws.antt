@@ -1,6 +1,7 @@
 pub mod CommitLaws
 pub mod FrontLaws
 pub mod HeldLaws
+pub mod KnownLaws
 pub mod LiveLaws
 pub mod LogEntries
 pub mod MemtableLaws

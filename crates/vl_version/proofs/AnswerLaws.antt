@@ -23,7 +23,7 @@ use Rattle.vl_version.specs.Rows.{AreRowsOf, IsKept, OneAstray}
 use Rattle.vl_version.specs.Scans.{AreScanned, MayHave, SomeAstray}
 use Rattle.vl_version.specs.declared.fault.ReadFault.{ReadFault}
 use Rattle.vl_version.specs.declared.fault.ReadFault.TheVariants.{NoMemory, Disk, Damaged}
-use Rattle.vl_version.specs.Gives.{left_in}
+use Rattle.vl_version.specs.Gives.{is_disk_fault, left_in}
 use Rattle.vl_version.specs.Sources.{HasEntries, LeadsIn, stored_in}
 use Rattle.vl_version.specs.declared.source.Source.{Source}
 use Rattle.vl_version.specs.declared.version.Version.{Version}
@@ -148,3 +148,9 @@ pub none_damaged : {R : Type 0} → (sources : List (Source R)) (name : Name) (p
 none_damaged [] name place one = one
 none_damaged (c ∷ sources) name place (inl is) = cc
 none_damaged (c ∷ sources) name place (inr later) = none_damaged sources name place later
+
+pub none_fails : {R : Type 0} → (sources : List (Source R)) (fault : ReadFault)
+    → OneMayFail (λ (c : Source R) (fault : ReadFault). fault ≡ NoMemory) sources fault → is_disk_fault fault ≡ false
+none_fails [] fault one = absurd one
+none_fails (c ∷ sources) fault (inl is) = ap is_disk_fault is
+none_fails (c ∷ sources) fault (inr later) = none_fails sources fault later

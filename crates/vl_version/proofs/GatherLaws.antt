@@ -7,6 +7,7 @@ use Rattle.std.proofs.lemmas.List.{reverse-append}
 use Rattle.std.specs.List.{AllByRecursion, filter, flat_map}
 use Rattle.std.proofs.lemmas.Grind.{flat_map-append}
 use Rattle.vl_memtable.specs.Contents.{Contents, GiveWithin, all_of}
+use Rattle.vl_memtable.specs.declared.frozen_log.FrozenLog.{FrozenLog}
 use Rattle.vl_merge.specs.Merging.{IsAlong, IsFirst}
 use Rattle.vl_model.specs.Entries.{entry_cmp}
 use Rattle.vl_model.specs.Keys.{key_cmp}
@@ -151,11 +152,11 @@ give_next span way es held left cursors now give joined so =
     (give_both span way es held.entries left cursors so (give_memtable span way held cursors give))
 
 -- the entries behind which the next memtable's stand
-pub entries_next : (own active : List Entry) (all : List Contents) (i : ℕ) (held : Contents) → i < length all → held ≡ get_or all i held
-    → (own ++ (active ++ held_entries (take i all))) ++ held.entries ≡ own ++ (active ++ held_entries (take (i + 1) all))
+pub entries_next : (own active : List Entry) (all : List FrozenLog) (i : ℕ) (held : FrozenLog) → i < length all → held ≡ get_or all i held
+    → (own ++ (active ++ held_entries (take i all))) ++ held.memtable.entries ≡ own ++ (active ++ held_entries (take (i + 1) all))
 entries_next own active all i held within is =
-    append_assoc own (active ++ held_entries (take i all)) held.entries
-    ∙ ap (λ l. own ++ l) (append_assoc active (held_entries (take i all)) held.entries)
+    append_assoc own (active ++ held_entries (take i all)) held.memtable.entries
+    ∙ ap (λ l. own ++ l) (append_assoc active (held_entries (take i all)) held.memtable.entries)
     ∙ sym (ap (λ l. own ++ (active ++ l)) (ap held_entries (take_next all i held within is) ∙ entries-push (take i all) held))
 
 module _ (low high : List ℕ) (way : Way) (own active : List Entry) (span : Span) (spans : span ≡ span_of low high) (left now : List (List Entry)) where
@@ -167,13 +168,13 @@ module _ (low high : List ℕ) (way : Way) (own active : List Entry) (span : Spa
       (subst (λ (s : Span). GiveWinners s way (own ++ active) now) spans
       (adds own (subst (λ (s : Span). GiveWinners s way own left) (sym spans) so)))
 
-  pub gather_next : (all : List Contents) (i : ℕ) (held : Contents) → i < length all → held ≡ get_or all i held
+  pub gather_next : (all : List FrozenLog) (i : ℕ) (held : FrozenLog) → i < length all → held ≡ get_or all i held
       → GiveWinners (span_of low high) way (own ++ (active ++ held_entries (take i all))) left
-      → ((es : List Entry) → GiveWinners span way es left → GiveWinners span way (es ++ held.entries) now)
+      → ((es : List Entry) → GiveWinners span way es left → GiveWinners span way (es ++ held.memtable.entries) now)
       → GiveWinners (span_of low high) way (own ++ (active ++ held_entries (take (i + 1) all))) now
   gather_next all i held within is so adds =
       subst (λ (l : List Entry). GiveWinners (span_of low high) way l now) (entries_next own active all i held within is)
-      (subst (λ (s : Span). GiveWinners s way ((own ++ (active ++ held_entries (take i all))) ++ held.entries) now) spans
+      (subst (λ (s : Span). GiveWinners s way ((own ++ (active ++ held_entries (take i all))) ++ held.memtable.entries) now) spans
       (adds (own ++ (active ++ held_entries (take i all))) (subst (λ (s : Span). GiveWinners s way (own ++ (active ++ held_entries (take i all))) left) (sym spans) so)))
 
 -- the one source of own writes

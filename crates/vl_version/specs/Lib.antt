@@ -3,6 +3,7 @@ pub mod Faults
 pub mod Gathered
 pub mod Gives
 pub mod Own
+pub mod Place
 pub mod Rows
 pub mod Scans
 pub mod Sources

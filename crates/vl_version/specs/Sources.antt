@@ -1,16 +1,16 @@
 -- What the sources of a version hold, and where their pointers lead.
 use Rattle.std.specs.Prelude.{◌≡◌, ℕ, ◌<◌, ◌==◌, if◌then◌else◌, IsSome, List, [], ◌∷◌, ◌++◌, option_and_then, Option, Some, None}
 use Rattle.std.specs.List.{AllByRecursion, flat_map}
-use Rattle.vl_memtable.specs.Contents.{Contents}
+use Rattle.vl_memtable.specs.declared.frozen_log.FrozenLog.{FrozenLog}
 use Rattle.vl_model.specs.Winners.{Logs, resolved}
 use Rattle.vl_model.specs.declared.entry.Entry.{Entry}
 use Rattle.vl_seglog.specs.Stored.{stored_at}
 use Rattle.vl_seglog.specs.declared.sealed.SealedLog.{SealedLog}
 use Rattle.vl_version.specs.declared.version.Version.{Version}
 
--- the entries of memtables, end to end
-abbrev pub held_entries : List Contents → List Entry
-held_entries all = flat_map (λ (held : Contents). held.entries) all
+-- the entries of frozen logs, end to end
+abbrev pub held_entries : List FrozenLog → List Entry
+held_entries all = flat_map (λ (log : FrozenLog). log.memtable.entries) all
 
 module _ {H : Type 0} where
   -- ---- logs

@@ -13,7 +13,7 @@ use crate::own::OwnCursor;
 use crate::source::Source;
 use crate::wanted::Wanted;
 use std::alloc::{AllocError, Global};
-use vl_memtable::{Frozen, Memtable};
+use vl_memtable::{FrozenLog, Memtable};
 use vl_model::{Key, Span, Way};
 use vl_run::RunCursor;
 use vl_txn::Writes;
@@ -23,7 +23,7 @@ pub fn sources_within<'a, R: Drop>(
     alloc: Global,
     own: &'a Writes,
     active: &Memtable,
-    frozen: &[Frozen],
+    frozen: &[FrozenLog],
     wanted: Wanted<'_>,
     number: u64,
 ) -> Result<Vec<Source<'a, R>>, AllocError>
@@ -34,8 +34,8 @@ pub fn sources_within<'a, R: Drop>(
     let span = span_of(alloc, wanted.low, wanted.high)?;
     let mut sources = own_source(alloc, own, wanted, number)?;
     add_memtable(&mut sources, active, &span, wanted.way)?;
-    for held in frozen {
-        add_memtable(&mut sources, held.memtable(), &span, wanted.way)?;
+    for log in frozen {
+        add_memtable(&mut sources, log.memtable.memtable(), &span, wanted.way)?;
     }
     Ok(sources)
 }

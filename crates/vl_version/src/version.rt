@@ -20,7 +20,7 @@ use crate::rows::take_rows;
 use crate::{Found, ReadFault, Wanted};
 use std::alloc::{AllocError, Global};
 use vl_disk::{HeldFile, Reader};
-use vl_memtable::{Frozen, Memtable};
+use vl_memtable::{FrozenLog, Memtable};
 use vl_merge::{Merge, Visible, merge_of_told_sources, visible_entries_are_the_winners};
 use vl_model::{Entry, Key, Value, newest_ref};
 use vl_run::Run;
@@ -37,14 +37,10 @@ pub struct Version<H> {
 impl<H: HeldFile> Version<H> {
     /// The version of a store that was opened: with an empty memtable that takes commits, over the memtables of these logs,
     /// the oldest first, and with these sealed logs, their numbers rising.
-    pub fn new(
-        alloc: Global,
-        frozen: Vec<Frozen>,
-        logs: Vec<SealedLog<H>>,
-    ) -> Result<Self, AllocError>
-        ensures active { IfOk result (λ version. version.active ≡ record { entries = []; lengths = [] }) }
-        ensures frozen { IfOk result (λ version. version.behind.frozen.items ≡ reverse frozen.items) }
-        ensures logs { IfOk result (λ version. version.behind.logs.items ≡ logs.items) }
+    pub fn new(alloc: Global, frozen: Vec<FrozenLog>, logs: Vec<SealedLog<H>>) -> Self
+        ensures active { result.active ≡ record { entries = []; lengths = [] } }
+        ensures frozen { result.behind.frozen.items ≡ reverse frozen.items }
+        ensures logs { result.behind.logs.items ≡ logs.items }
     {
         let mut newest_first = frozen;
         newest_first.reverse();
@@ -52,15 +48,16 @@ impl<H: HeldFile> Version<H> {
             frozen: newest_first,
             logs,
         };
-        Ok(Version {
+        Version {
             active: Memtable::new(alloc),
-            behind: SharedBehind::new(alloc, behind)?,
-        })
+            behind: SharedBehind::new(behind),
+        }
     }
 
     /// The same once more. It may want memory.
-    pub fn share(&self) -> Result<Self, AllocError>
-        ensures { IfOk result (λ shared. shared ≡ self.now) }
+    pub fn share(&mut self) -> Result<Self, AllocError>
+        ensures same { self.new ≡ self.old }
+        ensures shared { IfOk result (λ shared. shared ≡ self.old) }
     {
         Ok(Version {
             active: self.active.share()?,
@@ -86,7 +83,8 @@ impl<H: HeldFile> Version<H> {
         self.active = active;
     }
 
-    /// The value of a key at a number: that of its greatest version that is at most the number.
+    /// The value of a key at a number: that of its greatest version that is at most the number. Where there is no sealed
+    /// log, no file is read.
     pub fn get<R: Reader<Held = H>>(
         &self,
         alloc: Global,
@@ -95,6 +93,7 @@ impl<H: HeldFile> Version<H> {
         number: u64,
     ) -> Result<Option<Value>, ReadFault>
         ensures cause { HasCause (R.faults reader.old) (R.faults reader.new) (Failed result) }
+        ensures alone { self.now.behind.logs.items ≡ [] → Failed result → ⊥ }
         ensures answers { (es : List Entry) (logs : Logs) → HasEntries H.bytes self.now es logs
             → Gives logs (winner es key.now number) result }
     {
@@ -114,6 +113,7 @@ impl<H: HeldFile> Version<H> {
         out: &mut [u8],
     ) -> Result<Found, ReadFault>
         ensures cause { HasCause (R.faults reader.old) (R.faults reader.new) (Failed result) }
+        ensures alone { self.now.behind.logs.items ≡ [] → Failed result → ⊥ }
         ensures answers { (es : List Entry) (logs : Logs) → HasEntries H.bytes self.now es logs
             → Fills logs (winner es key.now number) out.old out.new result }
         ensures no_memory { IsErrOf result why.NoMemory → ⊥ }
@@ -135,6 +135,7 @@ impl<H: HeldFile> Version<H> {
         number: u64,
     ) -> Result<Vec<(Key, Value)>, ReadFault>
         ensures cause { HasCause (R.faults reader.old) (R.faults reader.new) (Failed result) }
+        ensures alone { self.now.behind.logs.items ≡ [] → Failed result → ⊥ }
         ensures answers { (es : List Entry) (logs : Logs) → HasEntries H.bytes self.now es logs
             → IsAnswer (λ rows. AreScanned logs es number wanted.entry own.now rows.items) (SomeAstray logs es number) result }
     {

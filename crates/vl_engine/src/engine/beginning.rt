@@ -69,13 +69,15 @@ impl<D: Disk> Engine<D> {
             return Err(BeginFail::NoMemory);
         };
         let version = self.core.version.share()?;
-        let ticket = self.core.front.begin()?;
-        Ok(View {
-            alloc: self.alloc,
-            ticket,
-            number: self.core.front.oracle.last(),
-            version,
-            reader,
-        })
+        match self.core.front.begin() {
+            Ok(ticket) => Ok(View {
+                alloc: self.alloc,
+                ticket,
+                number: self.core.front.oracle.last(),
+                version,
+                reader,
+            }),
+            Err(why) => Err(why),
+        }
     }
 }

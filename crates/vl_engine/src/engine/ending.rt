@@ -39,7 +39,10 @@ impl<D: Disk> Engine<D> {
     // Ends what has this ticket.
     pub(super) fn end(&mut self, ticket: u32)
         ensures decides { (h : History) (l : Layout) → Fronts self.old.core h l → Fronts self.new.core h (ended ticket l) }
-        ensures version { self.new.core.version ≡ self.old.core.version }
+        ensures stands { (h : History) (l : Layout) → StandsFor D.Held.bytes self.old.core h l
+            → StandsFor D.Held.bytes self.new.core h (ended ticket l) }
+        ensures represents { (h : History) (l : Layout) → Represents D.Held.bytes self.old.core (D.told self.old.disk) h l
+            → Represents D.Held.bytes self.new.core (D.told self.new.disk) h (ended ticket l) }
         ensures disk { self.new.disk ≡ self.old.disk }
         ensures back { self.new.core.back ≡ self.old.core.back }
     {

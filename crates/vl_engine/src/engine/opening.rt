@@ -18,9 +18,13 @@ ghost use Rattle.vl_recover.specs.opening.Answers.{AreStrayNames, Finds, IsNotOp
 ghost use Rattle.vl_recover.specs.opening.Results.{recovery_by};
 ghost use Rattle.vl_recover.specs.repairing.Steps.{MakesSome};
 
-use crate::{Engine, OpenError, OpenFail};
+use crate::kept::{Back, Core};
+use crate::{Engine, OpenFail};
 use std::alloc::Global;
 use vl_disk::Disk;
+use vl_front::Front;
+use vl_recover::{Parts, recover};
+use vl_version::Version;
 
 impl<D: Disk> Engine<D> {
     /// Opens the store on a disk, or makes one where nothing stands. Each log may have so many bytes.
@@ -73,9 +77,33 @@ impl<D: Disk> Engine<D> {
             → D.told disk ≡ Some state → IsRead read state → AreStrayNames read found.opening.state.head strays
             → IfErr result (λ fail. MakesSome (calls_to_open found (length strays)) (D.calls disk) (D.calls fail.disk)) }
     {
-        Err(OpenFail {
-            why: OpenError::NoMemory,
+        let parts = match recover(alloc, disk, room) {
+            Ok(parts) => parts,
+            Err(fail) => return Err(fail),
+        };
+        let Parts {
             disk,
+            room,
+            number,
+            state,
+            manifest,
+            frozen,
+            active,
+        } = parts;
+        let next_log = state.next_log.max(active.number.saturating_add(1));
+        Ok(Engine {
+            alloc,
+            disk,
+            core: Core {
+                version: Version::new(alloc, frozen, Vec::new(alloc)),
+                front: Front::new(alloc, number, active, room),
+                back: Back {
+                    manifest,
+                    state,
+                    next_log,
+                    version_number: 0,
+                },
+            },
         })
     }
 }

@@ -6,8 +6,8 @@ use Rattle.vl_version.specs.Own.{own_entries}
 use Rattle.vl_version.specs.Sources.{held_entries}
 use Rattle.vl_version.proofs.gather.sources_within.Given as goal
 
-abbrev pub invariant-loop-held : goal.invariant-loop-held
-invariant-loop-held g l =
+abbrev pub invariant-loop-log : goal.invariant-loop-log
+invariant-loop-log g l =
     GiveWinners (span_of l.fn.wanted.low.now l.fn.wanted.high.now) l.fn.wanted.way
-    (own_entries l.number (entries l.own) ++ (l.active.entries ++ held_entries (take l.held-index l.frozen)))
+    (own_entries l.number (entries l.own) ++ (l.active.entries ++ held_entries (take l.log-index l.frozen)))
     (map left_in l.sources.items)
