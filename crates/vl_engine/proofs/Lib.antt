@@ -8,4 +8,5 @@ pub mod Knowing
 pub mod Opened
 pub mod Represented
 pub mod Seeing
+pub mod Staged
 pub mod Standing

@@ -13,7 +13,7 @@ use vl_model::{Value, Way};
 use vl_txn::{Writes, check_bound, check_key};
 use vl_version::{ReadFault as VersionFault, Wanted};
 
-impl<H: HeldFile, R: Reader<Held = H>> View<H, R> {
+impl<H: HeldFile, R: Reader<Held = H> + Drop> View<H, R> {
     /// The number at which it reads: that of the last commit before it began.
     pub fn number(&self) -> u64
         ensures { result ≡ self.now.number }
