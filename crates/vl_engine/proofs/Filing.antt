@@ -1,12 +1,11 @@
 -- Which files stand behind a commit, and how a failed one was stopped.
-use Rattle.std.specs.Prelude.{◌≡◌, ◌≢◌, ◌⊎◌, ◌≤◌, ℕ, ◌+◌, List, length, Option, None, Some, IsTrue, refl}
+use Rattle.std.specs.Prelude.{◌≡◌, ◌≢◌, ◌≤◌, ℕ, ◌+◌, List, length, Option, None, Some, IsTrue, refl}
 use Rattle.std.specs.FinMap.{entries, get}
 use Rattle.std.specs.Option.{option_map}
 use Rattle.std.proofs.Common.{sym, ap, subst, ◌∙◌, arith, ⊎_elim}
 use Rattle.vl_disk.specs.Calls.{ChangesNothing}
 use Rattle.vl_disk.specs.Changes.{changed_elsewhere, changed_there}
 use Rattle.vl_disk.specs.Crash.{WhileAppending, WhileSyncing}
-use Rattle.vl_disk.specs.Disk.{IsChangedBy}
 use Rattle.vl_disk.specs.DiskState.{DiskState, File, appended, synced, synced_file, lengthened, with_file}
 use Rattle.vl_disk.specs.Faults.{after_calls}
 use Rattle.vl_disk.specs.Moments.{While}
@@ -18,10 +17,9 @@ use Rattle.vl_engine.proofs.Carrying.{IsWatched}
 use Rattle.vl_engine.specs.Carries.{HasSameFiles, SameFiles}
 use Rattle.vl_engine.specs.Represents.{Fronts}
 use Rattle.vl_engine.specs.Staging.{next_frame}
-use Rattle.vl_engine.specs.Steps.{Hands, IsFailed, IsUnwritten, IsWritten, frame_of, log_of}
-use Rattle.vl_engine.specs.Writing.{PassedOne, StopsWriting, WhileWriting, at_append, at_sync, written}
+use Rattle.vl_engine.specs.Steps.{Hands, IsFailed, frame_of, log_of}
+use Rattle.vl_engine.specs.Writing.{StopsWriting, WhileWriting, at_append, at_sync, written}
 use Rattle.vl_engine.specs.declared.kept.Core.{Core}
-use Rattle.vl_front.specs.declared.front.Front.{Front}
 use Rattle.vl_layout.specs.Rulings.Commit.{commit_frame}
 use Rattle.vl_layout.specs.declared.layout.Layout.{Layout}
 use Rattle.vl_model.specs.Formats.{log_format}

@@ -10,3 +10,4 @@ pub mod Represented
 pub mod Seeing
 pub mod Staged
 pub mod Standing
+pub mod Written
