@@ -219,7 +219,7 @@ module _ {H : Type 0} (bytes : H → Option (List ℕ)) (before after : Core H) 
   -- ---- it was decided that it is written
 
   module _ (write : committed l h t ≡ ruling) where
-    accepted : IsAccepted l h t
+    pub accepted : IsAccepted l h t
     accepted = answered_accepted l h t (last_number h + 1) (ap (λ (r : Ruling CommitAnswer). r.answer) (sym write))
 
     next_is : Fronts before h l → next_frame before.front writes ≡ commit_frame h (entries writes)

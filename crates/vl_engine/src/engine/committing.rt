@@ -27,6 +27,7 @@ use crate::staging::{StagedCommit, stage_commit};
 use crate::{CommitFail, Done, Engine, Txn, append_durably};
 use vl_disk::{Disk, Name};
 use vl_front::Decision;
+use vl_model::reads_without_conflict_stay_explained;
 use vl_seglog::ActiveLog;
 
 impl<D: Disk> Engine<D> {
@@ -98,7 +99,10 @@ impl<D: Disk> Engine<D> {
                 Err(CommitFail::Conflict { key, number })
             }
             Decision::Full { length, frame } => Err(CommitFail::Full { txn, length, frame }),
-            Decision::Write => self.write(txn),
+            Decision::Write => {
+                reads_without_conflict_stay_explained();
+                self.write(txn)
+            }
         }
     }
 
