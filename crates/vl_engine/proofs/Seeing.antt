@@ -2,14 +2,16 @@
 use Rattle.std.specs.Prelude.{IsErrAnd, ◌≡◌, ℕ, List, [], ◌∷◌, ◌++◌, Bool, false, is_some, if◌then◌else◌, Option, None, Some, Result, Ok, Err}
 use Rattle.std.specs.FinMap.{get}
 use Rattle.std.specs.List.{AllByRecursion}
+use Rattle.std.specs.Option.{option_map}
 use Rattle.std.proofs.Common.{ap, refl, sym, subst, ◌∙◌, cond}
 use Rattle.vl_disk.specs.declared.name.Name.{Name}
-use Rattle.vl_engine.specs.Reading.{IsSound}
+use Rattle.vl_engine.specs.Reading.{IsSound, value_under, written_value}
 use Rattle.vl_engine.specs.Refusing.{as_failed_read}
 use Rattle.vl_engine.specs.Sees.{Sees, ShowsAt}
 use Rattle.vl_engine.specs.declared.fails.ReadFail.{ReadFail}
+use Rattle.vl_engine.specs.declared.fails.ReadFail.TheVariants as fails
 use Rattle.vl_engine.specs.declared.txn.Txn.{Txn}
-use Rattle.vl_model.specs.History.{History, contents_at, value_at}
+use Rattle.vl_model.specs.History.{History, contents_at, value_at, value_left}
 use Rattle.vl_model.specs.Keys.{Row, Stored, Writes}
 use Rattle.vl_model.specs.Notes.{AreNotesOf}
 use Rattle.vl_model.specs.Reads.{IsExplained, IsExplainedRead, KeyRead, RangeRead, Read, rows_of}
@@ -32,6 +34,36 @@ fault_sound {U = U} good bad fine faults.NoMemory alone is (Err e) failed =
     subst (λ (e : ReadFail). IsSound {T = U} (Err e)) (sym failed) ((λ (b : ⊥). b), λ (b : ⊥). b)
 fault_sound good bad fine (faults.Disk name) alone is (Err e) failed = absurd (alone tt)
 fault_sound good bad fine (faults.Damaged name place) alone is (Err e) failed = absurd (fine name place is)
+
+-- a failure that is handed on is as sound
+sound_still : (T U : Type 0) (why : ReadFail) → IsSound {T = T} (Err why) → IsSound {T = U} (Err why)
+sound_still T U fails.EmptyKey sound = sound
+sound_still T U fails.KeyTooLong sound = sound
+sound_still T U fails.NoMemory sound = sound
+sound_still T U (fails.Disk name) sound = sound
+sound_still T U (fails.Damaged name place) sound = sound
+
+pub handed_on : (T U : Type 0) (why : ReadFail) → IsSound {T = T} (Err why) → (result : Result U ReadFail)
+    → IsErrAnd result (λ e. e ≡ why) → IsSound result
+handed_on T U why sound (Ok answer) failed = absurd failed
+handed_on T U why sound (Err e) failed =
+    subst (λ (f : ReadFail). IsSound {T = U} (Err f)) (sym failed) (sound_still T U why sound)
+
+-- ---- own writes
+
+-- a key that has no own write
+pub unwritten : (change : Option Change) (own : Option (Option Stored)) → own ≡ option_map written_value change → own ≡ None
+    → change ≡ None
+unwritten None own is none = refl
+unwritten (Some change) own is none = absurd (apart (written_value change) (sym is ∙ none))
+  where
+    apart : (value : Option Stored) → Some value ≡ None → ⊥
+    apart value e = cc
+
+-- has what is seen of it
+pub seen_under : (own : Writes) (h : History) (n : ℕ) (key : List ℕ) → get own key ≡ None
+    → value_at h n key ≡ value_under own h n key
+seen_under own h n key none = ap (value_left (value_at h n key)) (sym none)
 
 -- ---- what is noted
 
