@@ -16,7 +16,7 @@ loop-i-preserved c =
     let ps = c.args.pointers.now in
     let (segment, place, lead) = c.requires in
     let same : length ps ≡ length ws =
-        ap length lead ∙ as_many log_format segment place (entries c.args.writes.now) ∙ sym (ap length c.as_slice-writes.ensures.entries) in
+    ap length lead ∙ as_many log_format segment place (entries c.args.writes.now) ∙ sym (ap length c.as_slice-writes.ensures.entries) in
     rw add-one
     (c.in_ok-push.ensures.items
     ∙ ap (λ (es : List Entry). es ++ c.in_ok-entry_of.field-0 ∷ []) c.loop-i.invariant
@@ -41,5 +41,5 @@ bounds-pointers-i c =
     let ws = c.as_slice-writes.result.now in
     let (segment, place, lead) = c.requires in
     let same : length c.args.pointers.now ≡ length ws =
-        ap length lead ∙ as_many log_format segment place (entries c.args.writes.now) ∙ sym (ap length c.as_slice-writes.ensures.entries) in
+    ap length lead ∙ as_many log_format segment place (entries c.args.writes.now) ∙ sym (ap length c.as_slice-writes.ensures.entries) in
     omega (arith, same, c.loop-i-test.true)

@@ -16,7 +16,6 @@ returns-clause-decides g c h l is =
     fronts_ended c.args.self.now.core h l is _ c.end.ensures.log refl (c.end.ensures.knows h (knows_of c.args.self.now.core h l is))
     c.args.ticket c.end.ensures.oracle
 
-
 pub returns-clause-stands : goal.returns-clause-stands
 returns-clause-stands g c h l is =
     stands_ended g.D.Held.HeldFile.bytes c.args.self.now.core _ h l is refl c.args.ticket (returns-clause-decides g c h l is.fronts)
