@@ -56,8 +56,7 @@ files_changed name change disk q = (standing, (λ none. none, λ none. none))
     standing : (get after.standing q ≡ None → get disk.standing q ≡ None) × (get disk.standing q ≡ None → get after.standing q ≡ None)
     standing = ⊎_elim
         (λ (same : q ≡ name).
-        let there = changed_there name disk change in
-        (
+        let there = changed_there name disk change in (
           λ none. ap (get disk.standing) same
               ∙ mapped_none change (get disk.standing name) (sym there ∙ ap (get after.standing) (sym same) ∙ none),
           λ none. ap (get after.standing) same ∙ there
@@ -78,18 +77,18 @@ files_writing : (name : Name) (frame : List ℕ) (disk now : DiskState) → Whil
     → HasSameFiles disk now
 files_writing name frame disk now during = ⊎_elim
     (λ (appending : WhileAppending name frame disk now). ⊎_elim
-      (λ (none : now ≡ disk). subst (HasSameFiles disk) (sym none) (files_themselves disk))
-      (λ (some : (taken : ℕ) × (taken ≤ length frame) × (now ≡ appended name frame taken disk)).
-      subst (HasSameFiles disk) (sym some.2) (files_changed name (lengthened frame some.0) disk))
-      appending)
+    (λ (none : now ≡ disk). subst (HasSameFiles disk) (sym none) (files_themselves disk))
+    (λ (some : (taken : ℕ) × (taken ≤ length frame) × (now ≡ appended name frame taken disk)).
+    subst (HasSameFiles disk) (sym some.2) (files_changed name (lengthened frame some.0) disk))
+    appending)
     (λ (syncing : WhileSyncing name (appended name frame (length frame) disk) now).
     let mid = appended name frame (length frame) disk in
     let first = files_changed name (lengthened frame (length frame)) disk in
     ⊎_elim
-      (λ (none : now ≡ mid). subst (HasSameFiles disk) (sym none) first)
-      (λ (all : now ≡ synced name mid).
-      subst (HasSameFiles disk) (sym all) (files_then disk mid (synced name mid) first (files_changed name synced_file mid)))
-      syncing)
+    (λ (none : now ≡ mid). subst (HasSameFiles disk) (sym none) first)
+    (λ (all : now ≡ synced name mid).
+    subst (HasSameFiles disk) (sym all) (files_then disk mid (synced name mid) first (files_changed name synced_file mid)))
+    syncing)
     during
 
 same_state : (a b : DiskState) → Some a ≡ Some b → a ≡ b
@@ -135,7 +134,7 @@ module _ {D H : Type 0} (g : Ghosts D) (old new : D) (before after : Core H) (ti
       (frame_at log_format l.active.number l.active.length (commit_frame h (entries writes))) old new
   stops_failed h l is failed clean =
       subst (λ (n : ℕ). StopsWriting g (names.Log n)
-        (frame_at log_format l.active.number l.active.length (commit_frame h (entries writes))) old new) is.number
+      (frame_at log_format l.active.number l.active.length (commit_frame h (entries writes))) old new) is.number
       (subst (λ (frame : List ℕ). StopsWriting g (log_of before.front) frame old new) (frame_as h l is)
       (stops_earlier failed.hands.mid (log_of before.front) (frame_of before.front writes) failed.hands.before (failed.stopped clean)))
     where

@@ -1,5 +1,5 @@
 -- What a commit answers where it was decided that it is written, whatever writing it came to; and where it wasn't.
-use Rattle.std.specs.Prelude.{◌≡◌, ◌≤◌, ℕ, ◌+◌, List, Option, None, Some, Result, Ok, Err, IsTrue, refl}
+use Rattle.std.specs.Prelude.{◌≡◌, ◌≤◌, ℕ, List, Option, None, Result, Ok, Err, IsTrue, refl}
 use Rattle.std.specs.FinMap.{entries}
 use Rattle.std.proofs.Common.{sym, ap, subst, ◌∙◌, arith}
 use Rattle.vl_disk.specs.Calls.{ChangesNothing}
@@ -27,17 +27,16 @@ use Rattle.vl_engine.specs.laws.RulingLaws.{ruled, ruled_so}
 use Rattle.vl_conflict.specs.Recent.{Remembers}
 use Rattle.vl_front.specs.Decisions.{decision_of}
 use Rattle.vl_front.specs.declared.decision.Decision.{Decision}
-use Rattle.vl_layout.specs.Decides.{Answered, Decides, Failed, NoMemory, Otherwise, as_before, no_effects}
+use Rattle.vl_layout.specs.Decides.{Answered, Decides, Failed, Otherwise, as_before, no_effects}
 use Rattle.vl_layout.specs.Ruling.{Ruling, leaving}
 use Rattle.vl_layout.specs.Rulings.Commit.{CommitAnswer, Transaction, commit_frame, commit_lost, commit_ruling, committed}
 use Rattle.vl_layout.specs.Sources.{floor}
 use Rattle.vl_layout.specs.declared.layout.Layout.{Layout}
 use Rattle.vl_model.specs.Conflicts.{first_conflict}
 use Rattle.vl_model.specs.Formats.{log_format}
-use Rattle.vl_model.specs.History.{History, last_number}
+use Rattle.vl_model.specs.History.{History}
 use Rattle.vl_model.specs.Keys.{Writes}
-use Rattle.vl_model.specs.Notes.{AreNotesOf}
-use Rattle.vl_model.specs.Reads.{IsExplained, Read}
+use Rattle.vl_model.specs.Reads.{Read}
 use Rattle.vl_seglog.specs.Frames.{frame_at}
 
 -- the ruling is that on what the front decided

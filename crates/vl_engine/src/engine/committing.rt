@@ -77,11 +77,7 @@ impl<D: Disk> Engine<D> {
         ensures files { SameFiles (D.told self.old.disk) (D.told self.new.disk) }
         ensures steps { self.new.core.back ≡ self.old.core.back }
     {
-        let Ok(decision) = self
-            .core
-            .front
-            .decide(txn.number, &txn.reads, &txn.writes)
-        else {
+        let Ok(decision) = self.core.front.decide(txn.number, &txn.reads, &txn.writes) else {
             return Err(CommitFail::NoMemory(txn));
         };
         match decision {

@@ -1,7 +1,7 @@
-use Rattle.std.proofs.Common.{◌≡◌, ℕ, ◌+◌, ◌++◌, ◌∷◌, [], List, add-one, ap, arith, length, refl, sym, subst, take, ◌∙◌}
+use Rattle.std.proofs.Common.{◌≡◌, ℕ, ◌++◌, ◌∷◌, [], List, add-one, ap, arith, length, refl, sym, subst, take, ◌∙◌}
 use Rattle.std.specs.FinMap.{entries, entries_sorted}
 use Rattle.vl_engine.proofs.Staged.{all_taken, as_many, entries_lead, one_entry_more}
-use Rattle.vl_engine.specs.Staging.{LeadTo, commit_entries}
+use Rattle.vl_engine.specs.Staging.{commit_entries}
 use Rattle.vl_engine.specs.laws.MemtableLaws.{commit_in_order}
 use Rattle.vl_model.specs.Formats.{log_format}
 use Rattle.vl_model.specs.declared.change.Change.{Change}
@@ -16,7 +16,7 @@ loop-i-preserved c =
     let ps = c.args.pointers.now in
     let (segment, place, lead) = c.requires in
     let same : length ps ≡ length ws =
-        ap length lead ∙ as_many log_format segment place (entries c.args.writes.now) ∙ sym (ap length c.as_slice-writes.ensures.entries) in
+    ap length lead ∙ as_many log_format segment place (entries c.args.writes.now) ∙ sym (ap length c.as_slice-writes.ensures.entries) in
     rw add-one
     (c.in_ok-push.ensures.items
     ∙ ap (λ (es : List Entry). es ++ c.in_ok-entry_of.field-0 ∷ []) c.loop-i.invariant
@@ -41,5 +41,5 @@ bounds-pointers-i c =
     let ws = c.as_slice-writes.result.now in
     let (segment, place, lead) = c.requires in
     let same : length c.args.pointers.now ≡ length ws =
-        ap length lead ∙ as_many log_format segment place (entries c.args.writes.now) ∙ sym (ap length c.as_slice-writes.ensures.entries) in
+    ap length lead ∙ as_many log_format segment place (entries c.args.writes.now) ∙ sym (ap length c.as_slice-writes.ensures.entries) in
     omega (arith, same, c.loop-i-test.true)
