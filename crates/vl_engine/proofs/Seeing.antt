@@ -1,9 +1,8 @@
 -- What reads leave of what a transaction sees.
-use Rattle.std.specs.Prelude.{IsErrAnd, ◌≡◌, ℕ, List, [], ◌∷◌, ◌++◌, Bool, false, is_some, if◌then◌else◌, Option, None, Some, Result, Ok, Err}
+use Rattle.std.specs.Prelude.{IsErrAnd, ◌≡◌, ℕ, List, [], ◌∷◌, ◌++◌, is_some, if◌then◌else◌, Option, None, Some, Result, Ok, Err}
 use Rattle.std.specs.FinMap.{get}
-use Rattle.std.specs.List.{AllByRecursion}
 use Rattle.std.specs.Option.{option_map}
-use Rattle.std.proofs.Common.{ap, refl, sym, subst, ◌∙◌, cond}
+use Rattle.std.proofs.Common.{ap, refl, sym, subst, ◌∙◌}
 use Rattle.vl_disk.specs.declared.name.Name.{Name}
 use Rattle.vl_engine.specs.Reading.{IsSound, value_under, written_value}
 use Rattle.vl_engine.specs.Refusing.{as_failed_read}
@@ -17,7 +16,7 @@ use Rattle.vl_model.specs.Notes.{AreNotesOf}
 use Rattle.vl_model.specs.Reads.{IsExplained, IsExplainedRead, KeyRead, RangeRead, Read, rows_of}
 use Rattle.vl_model.specs.declared.change.Change.{Change}
 use Rattle.vl_model.specs.declared.way.Way.{Way}
-use Rattle.vl_txn.specs.Reads.{Notes, NotesGet, NotesScan, scan_of, with_get, with_scan}
+use Rattle.vl_txn.specs.Reads.{NotesGet, NotesScan, scan_of, with_get, with_scan}
 use Rattle.vl_version.specs.Answers.{IsAnswer}
 use Rattle.vl_version.specs.Faults.{Failed}
 use Rattle.vl_version.specs.declared.fault.ReadFault.{ReadFault as VersionFault}

@@ -1,5 +1,5 @@
 -- A commit that is staged: it can be spelled, and the entries that it has in memory, one after the other, are its frame's.
-use Rattle.std.specs.FinMap.{entries, is_sorted}
+use Rattle.std.specs.FinMap.{is_sorted}
 use Rattle.std.specs.List.{AllByRecursion}
 use Rattle.std.specs.Prelude.{IsTrue, true, ◌≡◌, ℕ, zero, suc, ◌+◌, ◌++◌, List, [], ◌∷◌, length, take, refl}
 use Rattle.std.proofs.Common.{◌<◌, ◌≤◌, ap, arith, get_or, subst, sym, ◌∙◌}

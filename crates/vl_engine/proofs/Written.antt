@@ -1,7 +1,7 @@
 -- What writing a commit leaves, from what its calls do.
-use Rattle.std.specs.Prelude.{◌≡◌, ℕ, ◌+◌, ◌-◌, ◌^◌, ◌++◌, min, List, length, Option, Some, IsTrue, true}
+use Rattle.std.specs.Prelude.{◌≡◌, ℕ, ◌+◌, ◌-◌, ◌^◌, ◌++◌, min, List, length, Some, true}
 use Rattle.std.specs.FinMap.{entries}
-use Rattle.std.proofs.Common.{◌<◌, ◌≤◌, ap, arith, subst, sym, ◌∙◌}
+use Rattle.std.proofs.Common.{ap, arith, subst, sym, ◌∙◌}
 use Rattle.vl_conflict.specs.Recent.{Remembers}
 use Rattle.vl_disk.specs.Calls.{ChangesNothing}
 use Rattle.vl_disk.specs.Disk.{IsChangedBy}
@@ -15,7 +15,6 @@ use Rattle.vl_engine.specs.Steps.{Hands, frame_of, log_of}
 use Rattle.vl_engine.specs.Writing.{StopsWriting, WhileWriting, written}
 use Rattle.vl_engine.specs.laws.KnownLaws.{known_up_to, up_to_known}
 use Rattle.vl_engine.specs.laws.MemtableLaws.{commit_known}
-use Rattle.vl_frame.specs.Runs.{HasFrame}
 use Rattle.vl_front.specs.Front.{Knows}
 use Rattle.vl_front.specs.declared.front.Front.{Front}
 use Rattle.vl_layout.specs.Logs.{frame_entries}
@@ -23,11 +22,10 @@ use Rattle.vl_model.specs.Conflicts.{Named}
 use Rattle.vl_model.specs.Entries.{in_order}
 use Rattle.vl_model.specs.Formats.{log_format}
 use Rattle.vl_model.specs.Frames.{frame_length}
-use Rattle.vl_model.specs.History.{History, last_number}
+use Rattle.vl_model.specs.History.{History}
 use Rattle.vl_model.specs.Keys.{Writes}
 use Rattle.vl_model.specs.declared.entry.Entry.{Entry}
 use Rattle.vl_oracle.specs.LiveTickets.{LiveTickets, floor_of}
-use Rattle.vl_seglog.specs.Frames.{frame_at, frames_grammar}
 use Rattle.vl_seglog.specs.Staging.{IsStaged}
 use Rattle.vl_seglog.specs.declared.staged.Staged.{Staged}
 use Rattle.vl_seglog.specs.laws.FrameLaws.{length-item_frame}

@@ -1,6 +1,6 @@
 -- Whether no version is above a number, as a test and as a fact.
 use Rattle.std.specs.Prelude.{◌≡◌, ℕ, Bool, true, false, ◌&&◌, nat_le, List, [], ◌∷◌, refl}
-use Rattle.std.proofs.Common.{◌≤◌, arith, sym}
+use Rattle.std.proofs.Common.{arith}
 use Rattle.std.proofs.lemmas.Bool.Decides.{nat_tests}
 use Rattle.vl_engine.specs.Known.{are_known}
 use Rattle.vl_layout.specs.Shows.{AreUpTo}

@@ -1,7 +1,7 @@
-use Rattle.std.proofs.Common.{◌≡◌, ℕ, ◌+◌, ◌++◌, ◌∷◌, [], List, add-one, ap, arith, length, refl, sym, subst, take, ◌∙◌}
+use Rattle.std.proofs.Common.{◌≡◌, ℕ, ◌++◌, ◌∷◌, [], List, add-one, ap, arith, length, refl, sym, subst, take, ◌∙◌}
 use Rattle.std.specs.FinMap.{entries, entries_sorted}
 use Rattle.vl_engine.proofs.Staged.{all_taken, as_many, entries_lead, one_entry_more}
-use Rattle.vl_engine.specs.Staging.{LeadTo, commit_entries}
+use Rattle.vl_engine.specs.Staging.{commit_entries}
 use Rattle.vl_engine.specs.laws.MemtableLaws.{commit_in_order}
 use Rattle.vl_model.specs.Formats.{log_format}
 use Rattle.vl_model.specs.declared.change.Change.{Change}

@@ -1,8 +1,6 @@
-use Rattle.std.proofs.Common.{◌≡◌, ◌+◌, ◌++◌, ℕ, List, ap, arith, length, refl, sym, subst, ◌∙◌, ◌<◌}
+use Rattle.std.proofs.Common.{◌≡◌, ◌+◌, ◌++◌, ℕ, List, ap, arith, length, sym, subst, ◌∙◌, ◌<◌}
 use Rattle.std.specs.FinMap.{entries}
 use Rattle.vl_engine.proofs.Staged.{is_commit, staged_entries, staged_new, staged_some}
-use Rattle.vl_engine.specs.Staging.{IsStagedCommit, commit_entries, next_frame}
-use Rattle.vl_front.specs.Noting.{keys_of}
 use Rattle.vl_layout.specs.Logs.{frame_entries}
 use Rattle.vl_memtable.specs.Contents.{IsNewTo}
 use Rattle.vl_model.specs.Entries.{in_order}
@@ -10,7 +8,6 @@ use Rattle.vl_model.specs.Formats.{log_format}
 use Rattle.vl_model.specs.declared.change.Change.{Change}
 use Rattle.vl_model.specs.declared.entry.Entry.{Entry}
 use Rattle.vl_model.specs.declared.log_frame.LogFrame.TheVariants.{Committed}
-use Rattle.vl_model.specs.declared.pointer.Pointer.{Pointer}
 use Rattle.vl_seglog.specs.Staging.{IsStaged}
 use Rattle.vl_seglog.specs.Stored.{pointers_from}
 use Rattle.vl_engine.proofs.staging.stage_commit.Goals as goal

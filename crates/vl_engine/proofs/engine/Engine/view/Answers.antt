@@ -1,5 +1,4 @@
 use Rattle.std.proofs.Common.{ap, refl, sym, subst, ◌∙◌}
-use Rattle.std.specs.Prelude.{Err}
 use Rattle.vl_engine.proofs.Beginning.{decides_begun, decides_refused, has_room, is_full, sees_now, ticket_is}
 use Rattle.vl_engine.proofs.Knowing.{knows_of}
 use Rattle.vl_engine.proofs.Represented.{represents_live}
@@ -10,7 +9,6 @@ use Rattle.vl_layout.specs.Rulings.Begin.{begun}
 use Rattle.vl_layout.specs.Tickets.{free_ticket, tickets_of}
 use Rattle.vl_model.specs.History.{last_number}
 use Rattle.vl_oracle.specs.LiveTickets.{LiveTickets}
-use Rattle.vl_oracle.specs.declared.begin_fail.BeginFail.{BeginFail}
 use Rattle.vl_version.specs.declared.version.Version.{Version}
 use Rattle.vl_engine.proofs.engine.Engine.view.Goals as goal
 

@@ -1,4 +1,4 @@
-use Rattle.std.proofs.Common.{◌≡◌, ℕ, List, ap, ◌∙◌}
+use Rattle.std.proofs.Common.{ap, ◌∙◌}
 use Rattle.vl_engine.specs.Reading.{rows_under}
 use Rattle.vl_engine.specs.laws.ReadLaws.{contents_stand}
 use Rattle.vl_model.specs.History.{contents_at}
