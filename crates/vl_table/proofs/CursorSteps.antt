@@ -1,6 +1,6 @@
 -- What a cursor has left, step by step.
-use Rattle.std.specs.Prelude.{◌≡◌, ◌+◌, ◌-◌, ◌<◌, ◌≤◌, ◌*◌, ◌&&◌, ℕ, zero, suc, Bool, true, false, if◌then◌else◌, List, [], ◌∷◌, ◌++◌, get_or, length, map, Option, Some, None, Err}
-use Rattle.std.specs.List.{AllByRecursion, filter, list_all, slice_get, sum_by}
+use Rattle.std.specs.Prelude.{◌≡◌, ◌+◌, ◌-◌, ◌<◌, ◌≤◌, ◌&&◌, ℕ, zero, suc, Bool, true, false, if◌then◌else◌, List, [], ◌∷◌, ◌++◌, get_or, length, map, Option, Some, None, Err}
+use Rattle.std.specs.List.{list_all, slice_get}
 use Rattle.std.specs.Option.{ForSome, option_and_then, option_map}
 use Rattle.std.proofs.Common.{cond, refl, ap, sym, subst, ◌∙◌, arith}
 use Rattle.std.proofs.lemmas.List.{take_all}
@@ -14,7 +14,7 @@ use Rattle.vl_run.specs.Order.{within}
 use Rattle.vl_run.specs.laws.Places.{slice_get-within}
 use Rattle.vl_block.specs.declared.index.BlockPlace.{BlockPlace}
 use Rattle.vl_table.specs.BlockEntries.{block_entries}
-use Rattle.vl_table.specs.CursorParts.{AllStand, Block, StandsWith, MayFailOn, block_count, blocks_at, blocks_over, entries_told, index_in, index_of, rise_over}
+use Rattle.vl_table.specs.CursorParts.{Block, StandsWith, MayFailOn, block_count, blocks_at, blocks_over, entries_told, index_in, index_of, rise_over}
 use Rattle.vl_table.specs.SpanBlocks.{blocks_of, rises_over}
 use Rattle.vl_table.specs.Stretches.{IsNextOn, on_way, stretch_of}
 use Rattle.vl_table.specs.Tables.{number_of, shape_of}

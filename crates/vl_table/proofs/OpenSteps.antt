@@ -1,9 +1,8 @@
 -- The entries of a block that was read into memory.
-use Rattle.std.specs.Prelude.{◌≡◌, ◌≤◌, ◌<◌, ℕ, zero, suc, List, [], ◌∷◌, ◌++◌, drop, get_or, length, map, take}
+use Rattle.std.specs.Prelude.{◌≡◌, ◌≤◌, ◌<◌, ℕ, zero, suc, List, [], ◌∷◌, ◌++◌, drop, get_or, length, take}
 use Rattle.std.specs.List.{AllByRecursion}
 use Rattle.std.proofs.Common.{ap, arith, length-append, length-drop, length-take, refl, subst, sym, append_assoc, ◌∙◌}
 use Rattle.std.proofs.lemmas.List.{drop-append-le, get_or-map, get_or-take, length-map, take-append-drop}
-use Rattle.byteorder.specs.Endian.{big_bytes}
 use Rattle.vl_frame.specs.Frame.{check_of, frame_bytes}
 use Rattle.vl_frame.specs.declared.kinds.FrameKind.TheVariants as kinds
 use Rattle.vl_model.specs.declared.entry.Entry.{Entry}

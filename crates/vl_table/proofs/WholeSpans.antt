@@ -1,7 +1,7 @@
 -- A cursor over true tables has all their entries within its interval to give.
-use Rattle.std.specs.Prelude.{◌≡◌, ◌+◌, ◌-◌, ◌<◌, ◌≤◌, ◌&&◌, ℕ, zero, suc, min, not, Bool, true, false, List, [], ◌∷◌, ◌++◌, Option, Some, None, drop, length, reverse, take}
-use Rattle.std.specs.List.{AllByRecursion, filter, prefix_len}
-use Rattle.std.specs.Ordering.{is_gt, is_lt}
+use Rattle.std.specs.Prelude.{◌≡◌, ◌+◌, ◌-◌, ◌≤◌, ◌&&◌, ℕ, zero, suc, min, not, Bool, true, false, List, [], ◌∷◌, ◌++◌, Option, Some, None, drop, length, reverse, take}
+use Rattle.std.specs.List.{AllByRecursion, prefix_len}
+use Rattle.std.specs.Ordering.{is_lt}
 use Rattle.std.specs.declared.cmp.Ordering.{Ordering}
 use Rattle.std.specs.declared.cmp.Ordering.TheVariants.{Less, Equal, Greater}
 use Rattle.std.proofs.Common.{cond, refl, ap, sym, subst, ◌∙◌, append_assoc, append-nil, arith}

@@ -1,8 +1,8 @@
 -- What a cursor over true tables is told of their blocks.
 use Rattle.std.specs.Prelude.{◌≡◌, ◌+◌, ◌-◌, ◌&&◌, ℕ, zero, suc, Bool, true, Option, Some, None, List, [], ◌∷◌, ◌++◌, drop, length, map, reverse, take}
-use Rattle.std.specs.List.{AllByRecursion, list_all, sum_by}
+use Rattle.std.specs.List.{sum_by}
 use Rattle.std.specs.Option.{option_and_then, option_map}
-use Rattle.std.proofs.Common.{refl, ap, sym, subst, ◌∙◌, append_assoc, append-nil, arith}
+use Rattle.std.proofs.Common.{refl, ap, sym, subst, ◌∙◌, append_assoc, arith}
 use Rattle.std.proofs.lemmas.List.{reverse-append, take_all}
 use Rattle.std.proofs.lemmas.List.Sums.{sum_by-cons}
 use Rattle.vl_model.specs.declared.entry.Entry.{Entry}
@@ -21,7 +21,6 @@ use Rattle.vl_table.specs.OfTables.{AreOf}
 use Rattle.vl_table.specs.SpanBlocks.{blocks_of, rises_over}
 use Rattle.vl_table.specs.Stretches.{on_way, stretch_of}
 use Rattle.vl_table.specs.Tables.{IsOf, number_of, shape_of}
-use Rattle.vl_table.specs.declared.stretch.Stretch.{Stretch}
 use Rattle.vl_table.specs.declared.table.Table.{Table}
 use Rattle.vl_table.specs.laws.TrueBlocks.{block_stands}
 use Rattle.vl_table.proofs.BlockSays.{block_entries-says}

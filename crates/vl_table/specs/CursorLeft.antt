@@ -1,5 +1,5 @@
 -- What a cursor over tables has still to give.
-use Rattle.std.specs.Prelude.{◌≡◌, ◌≤◌, ◌+◌, ◌*◌, ◌-◌, ℕ, if◌then◌else◌, true, Option, None, List, [], ◌∷◌, ◌++◌}
+use Rattle.std.specs.Prelude.{◌≡◌, ◌+◌, ◌*◌, ◌-◌, ℕ, if◌then◌else◌, true, Option, None, List, [], ◌∷◌, ◌++◌}
 use Rattle.std.specs.List.{slice_get}
 use Rattle.std.specs.Option.{option_map}
 use Rattle.vl_model.specs.declared.entry.Entry.{Entry}

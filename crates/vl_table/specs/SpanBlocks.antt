@@ -1,5 +1,5 @@
 -- Which blocks of a table may have keys of an interval, by its index.
-use Rattle.std.specs.Prelude.{ℕ, ◌+◌, Bool, ◌&&◌, not, List, drop, length, min}
+use Rattle.std.specs.Prelude.{◌+◌, Bool, ◌&&◌, not, List, drop, length, min}
 use Rattle.std.specs.List.{list_all, prefix_len}
 use Rattle.vl_model.specs.Reads.{is_from, is_up_to}
 use Rattle.vl_model.specs.declared.span.Span.{Span}

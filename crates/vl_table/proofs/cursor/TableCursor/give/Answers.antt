@@ -1,4 +1,4 @@
-use Rattle.std.proofs.Common.{◌≡◌, ◌∷◌, ◌∙◌, List, ap, arith, sym}
+use Rattle.std.proofs.Common.{◌∷◌, ◌∙◌, ap, arith, sym}
 use Rattle.vl_model.specs.declared.entry.Entry.{Entry}
 use Rattle.vl_run.specs.Order.{within}
 use Rattle.vl_block.specs.Entries.{entry_of}

@@ -1,4 +1,4 @@
-use Rattle.std.proofs.Common.{◌≡◌, ◌≤◌, ◌<◌, ◌∙◌, Option, Some, List, ap, arith, get_or, length, refl, subst, sym}
+use Rattle.std.proofs.Common.{◌≡◌, ◌≤◌, ◌<◌, ◌∙◌, Option, Some, List, ap, arith, get_or, length, subst, sym}
 use Rattle.std.specs.Prelude.{Result, Err}
 use Rattle.std.specs.List.{slice_get}
 use Rattle.std.specs.Result.{IfErr}

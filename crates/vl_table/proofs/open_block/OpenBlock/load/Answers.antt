@@ -1,7 +1,7 @@
-use Rattle.std.proofs.Common.{◌≡◌, length, refl, arith}
+use Rattle.std.proofs.Common.{◌≡◌, length, arith}
 use Rattle.std.proofs.lemmas.List.{with_items_is}
 use Rattle.vl_table.proofs.AnswerSteps.{and_then, gives}
-use Rattle.vl_table.proofs.OpenSteps.{opened, opens}
+use Rattle.vl_table.proofs.OpenSteps.{opened}
 use Rattle.vl_table.proofs.open_block.OpenBlock.load.Goals as goal
 
 pub returns-clause-answers : goal.returns-clause-answers
