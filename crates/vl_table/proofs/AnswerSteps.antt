@@ -112,3 +112,11 @@ handed_need S T (Damaged name place) need = tt
 pub none_needed : (S : Type 0) {T : Type 0} (e f : TableFault) (r : Result T TableFault) → r ≡ Err f → f ≡ e → NeedsNoMemory {T = S} (Err e) → NeedsNoMemory r
 none_needed S {T} e f r is same need =
     subst (NeedsNoMemory {T = T}) (sym is) (subst (λ (why : TableFault). NeedsNoMemory {T = T} (Err why)) (sym same) (handed_need S T e need))
+
+-- nothing that was read before is damage
+pub behind : {S T : Type 0} (before mid now number : ℕ) (told : Option (List ℕ)) (good : List ℕ → S → Type 0) (last : List ℕ → T → Type 0)
+    (worst : List ℕ → ℕ → Type 0) (s : S) (r : Result T TableFault)
+    → Answers before mid number told good (λ bytes damage. ⊥) (Ok s) → Answers mid now number told last worst r → Answers before now number told last worst r
+behind before mid now number told good last worst s r first second =
+    and_then before mid now number told good last last (λ bytes damage. ⊥) worst worst s r
+    (λ bytes is read x fine. fine) (λ bytes is read place bad. bad) first second

@@ -1,7 +1,7 @@
 -- One frame of a table, cut out of its bytes.
 use Rattle.std.specs.Prelude.{◌≡◌, ◌+◌, ◌-◌, ◌≤◌, ℕ, List, [], ◌∷◌, ◌++◌, take, drop, length}
 use Rattle.std.proofs.Common.{refl, ap, sym, ◌∙◌, append-nil, length-append, arith, Vec}
-use Rattle.std.proofs.lemmas.List.{take_at, take-append-drop, length-drop, length-take-le, with_items_is}
+use Rattle.std.proofs.lemmas.List.{drop-append-le, drop-drop, take_at, take-append-drop, take-append-le, length-drop, length-take-le, with_items_is}
 use Rattle.std.proofs.Math.Seq.{take-length}
 use Rattle.std.specs.Vec.{with_items}
 use Rattle.vl_disk.specs.DiskState.{bytes_at}
@@ -84,3 +84,13 @@ cut_from place size bytes v read n is sized filled inside =
 pub whole_rest : (place size : ℕ) (bytes : List ℕ) → size ≡ length bytes - place → bytes_at place size bytes ≡ drop place bytes
 whole_rest place size bytes is =
     ap (λ (n : ℕ). take n (drop place bytes)) (is ∙ sym (length-drop place bytes)) ∙ take-length (drop place bytes)
+
+-- a part of the bytes that stand from a place on
+pub part_of : (place from n : ℕ) (bytes items rest : List ℕ) → from ≤ place → (place - from) + n ≤ length items → drop from bytes ≡ items ++ rest
+    → take n (drop (place - from) items) ≡ bytes_at place n bytes
+part_of place from n bytes items rest le within is =
+    let past = place - from in
+    let there : place ≡ from + past = omega (arith, le) in
+    let enough : n ≤ length (drop past items) = omega (arith, within, length-drop past items) in
+    sym (ap (λ (k : ℕ). take n (drop k bytes)) there ∙ ap (take n) (sym (drop-drop past from bytes)) ∙ ap (λ (l : List ℕ). take n (drop past l)) is
+    ∙ ap (take n) (drop-append-le past items rest (omega (arith, within))) ∙ take-append-le n (drop past items) rest enough)

@@ -11,6 +11,7 @@ pub mod OfTables
 pub mod OpenBlocks
 pub mod Opening
 pub mod OpeningParts
+pub mod ReadAhead
 pub mod Scans
 pub mod Seeks
 pub mod SpanBlocks

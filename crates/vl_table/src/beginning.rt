@@ -3,9 +3,10 @@
 ghost use Rattle.std.specs.Prelude.{◌≡◌, ◌+◌, ◌-◌, ◌≤◌, ℕ, length, IfOk, IfNone, IfSome, OnOk};
 ghost use Rattle.vl_table.specs.Answers.{Answers};
 ghost use Rattle.vl_table.specs.Begun.{HasHeader, IsBegun, IsInside, said_place};
+ghost use Rattle.vl_table.specs.ReadAhead.{IsAhead};
 
 use crate::fault::{TableFault, damaged};
-use crate::reading::fill;
+use crate::reading::{Ahead, fill, fill_from};
 use byteorder::{BigEndian, ByteOrder};
 use vl_disk::{HeldFile, Reader};
 use vl_frame::{FileKind, HEADER_BYTES, read_header};
@@ -48,9 +49,11 @@ fn format_in(bytes: &[u8], number: u32) -> Option<u32>
 pub fn read_place<H: HeldFile, R: Reader<Held = H>>(
     reader: &mut R,
     held: &H,
+    ahead: &Ahead,
     number: u32,
 ) -> Result<u64, TableFault>
-    requires { 24 ≤ H.size held.now }
+    requires long { 24 ≤ H.size held.now }
+    requires ahead { IsAhead (H.bytes held.now) ahead.now }
     ensures answers { Answers (R.faults reader.old) (R.faults reader.new) number (H.bytes held.now)
         (λ bytes place. (place ≡ said_place bytes) × IsInside bytes place)
         (λ bytes damage. (IsInside bytes (said_place bytes) → ⊥) × (damage ≡ length bytes - 8)) result }
@@ -58,7 +61,7 @@ pub fn read_place<H: HeldFile, R: Reader<Held = H>>(
 {
     let end = held.len() - 8;
     let mut last = [0; 8];
-    fill(reader, held, number, end, &mut last)?;
+    fill_from(reader, held, ahead, number, end, &mut last)?;
     let place = BigEndian::read_u64(&last);
     if place < HEADER_BYTES as u64 || place > end - 13 {
         return Err(damaged(number, end));

@@ -6,9 +6,10 @@ ghost use Rattle.vl_frame.specs.declared.kinds.FileKind.TheVariants as files;
 ghost use Rattle.vl_frame.specs.declared.kinds.FrameKind.{FrameKind};
 ghost use Rattle.vl_table.specs.Answers.{Answers, NeedsNoMemory};
 ghost use Rattle.vl_table.specs.Begun.{FrameAt};
+ghost use Rattle.vl_table.specs.ReadAhead.{IsAhead};
 
 use crate::fault::{TableFault, damaged};
-use crate::reading::fill;
+use crate::reading::{Ahead, fill, fill_from};
 use vl_disk::{HeldFile, Reader};
 use vl_frame::{FRAME_BYTES, FileKind, FrameKind, read_frame};
 
@@ -16,12 +17,14 @@ use vl_frame::{FRAME_BYTES, FileKind, FrameKind, read_frame};
 pub fn read_part<H: HeldFile, R: Reader<Held = H>>(
     reader: &mut R,
     held: &H,
+    ahead: &Ahead,
     number: u32,
     place: u64,
     size: u32,
     kind: FrameKind,
     frame: &mut Vec<u8>,
 ) -> Result<(), TableFault>
+    requires { IsAhead (H.bytes held.now) ahead.now }
     ensures answers { Answers (R.faults reader.old) (R.faults reader.new) number (H.bytes held.now)
         (λ bytes done. (body : List ℕ) × FrameAt number bytes place size kind body
         × (frame.new.items ≡ frame_bytes number place kind body))
@@ -32,7 +35,7 @@ pub fn read_part<H: HeldFile, R: Reader<Held = H>>(
         return Err(damaged(number, place));
     }
     frame.resize(size as usize, 0)?;
-    fill(reader, held, number, place, frame)?;
+    fill_from(reader, held, ahead, number, place, frame)?;
     if !is_frame(frame, number, place, kind) {
         return Err(damaged(number, place));
     }

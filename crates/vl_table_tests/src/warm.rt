@@ -18,15 +18,19 @@ fn long(alloc: Global, version: u64) -> Result<Entry, Fail> {
     })
 }
 
-// Table 1 of the key k at the versions from 100 down to 1. Its two blocks have 52 and 48 of them.
-fn two_blocks(alloc: Global) -> Result<Table<MemHeld>, Fail> {
+// The bytes of table 1 of the key k at the versions from 100 down to 1. Its two blocks have 52 and 48 of them.
+fn two_blocks_of(alloc: Global) -> Result<Vec<u8>, Fail> {
     let mut out = Vec::new(alloc);
     let mut writer = TableWriter::begin(alloc, &mut out, 1, &long(alloc, 100)?)?;
     for past in 1..100u64 {
         writer.add(&mut out, &long(alloc, 100 - past)?)?;
     }
     writer.finish(alloc)?.append_to(&mut out)?;
-    open(alloc, 1, &out)
+    Ok(out)
+}
+
+fn two_blocks(alloc: Global) -> Result<Table<MemHeld>, Fail> {
+    open(alloc, 1, &two_blocks_of(alloc)?)
 }
 
 // Whether reading failed, and not otherwise.
@@ -83,5 +87,22 @@ fn nothing_is_read_where_the_key_is_refused(rt: HostRuntime) -> Result<(), Fail>
     assert!(rt; table.find(&mut reader, b"A", 9)?.is_none());
     assert!(rt; table.find(&mut reader, b"ab", 9)?.is_none());
     assert!(rt; is_disk_fault(&table.find(&mut reader, b"a", 9)));
+    Ok(())
+}
+
+// Whether the table with these bytes is opened by the reads before one.
+fn opens_before(alloc: Global, bytes: &[u8], read: u64) -> Result<bool, Fail> {
+    let mut reader = failing(alloc, &[read])?;
+    let held = held(alloc, 1, bytes)?;
+    Ok(Table::open(alloc, &mut reader, held, 1).is_ok())
+}
+
+#[test]
+fn a_table_is_opened_in_few_reads(rt: HostRuntime) -> Result<(), Fail> {
+    let alloc = rt.alloc();
+    assert!(rt; opens_before(alloc, &FILTERED, 3)?);
+    assert!(rt; !opens_before(alloc, &FILTERED, 2)?);
+    let long = two_blocks_of(alloc)?;
+    assert!(rt; opens_before(alloc, &long, 3)?);
     Ok(())
 }

@@ -7,7 +7,7 @@ use Rattle.vl_table.specs.Answers.{Answers}
 use Rattle.vl_table.specs.OpeningParts.{LedTo, NotLedTo}
 use Rattle.vl_table.specs.declared.fault.TableFault.{TableFault}
 use Rattle.vl_table.proofs.PartFaults.{filter_fails}
-use Rattle.vl_table.proofs.opening.read_led_to.Goals as goal
+use Rattle.vl_table.proofs.opening.read_named.Goals as goal
 
 pub returns-in_err-filter-in-Some : goal.returns-in_err-filter-in-Some
 returns-in_err-filter-in-Some g c =
