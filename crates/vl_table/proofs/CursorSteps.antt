@@ -15,7 +15,7 @@ use Rattle.vl_run.specs.laws.Places.{slice_get-within}
 use Rattle.vl_block.specs.declared.index.BlockPlace.{BlockPlace}
 use Rattle.vl_table.specs.BlockEntries.{block_entries}
 use Rattle.vl_table.specs.CursorParts.{Block, StandsWith, MayFailOn, block_count, blocks_at, blocks_over, entries_told, index_in, index_of, rise_over}
-use Rattle.vl_table.specs.SpanBlocks.{blocks_of, rises_over}
+use Rattle.vl_table.specs.SpanBlocks.{blocks_in, rises_over}
 use Rattle.vl_table.specs.Stretches.{IsNextOn, on_way, stretch_of}
 use Rattle.vl_table.specs.Tables.{number_of, shape_of}
 use Rattle.vl_table.specs.Answers.{Answers}
@@ -86,7 +86,7 @@ module _ {H : Type 0} where
   -- a table is begun
   pub begun : (span : Span) (way : Way) (ts : List (Table H)) (later rest : Stretch) (at table : ℕ) (t : Table H) (old new : Stretch)
       → later.end ≤ length ts → IsNextOn way later at rest → t ≡ get_or ts at t → old.end ≤ old.first
-      → (rises_over span (index_of t) ≡ true → new ≡ blocks_of span (index_of t)) → rise_over span ts ≡ true
+      → (rises_over span (index_of t) ≡ true → new ≡ blocks_in span (shape_of t)) → rise_over span ts ≡ true
       → blocks_at way (slice_get ts at) new ++ blocks_over span way (on_way way (stretch_of rest ts))
       ≡ blocks_at way (slice_get ts table) old ++ blocks_over span way (on_way way (stretch_of later ts))
   begun span way ts later rest at table t old new within_is next found past range rises =

@@ -11,7 +11,7 @@ use Rattle.vl_disk.specs.declared.name.Name.TheVariants.{Table as table_name}
 use Rattle.vl_table.specs.BlockEntries.{block_entries}
 use Rattle.vl_table.specs.Kept.{StandsBlock}
 use Rattle.vl_table.specs.Seeks.{IsBadBlock}
-use Rattle.vl_table.specs.SpanBlocks.{blocks_of, rises_over}
+use Rattle.vl_table.specs.SpanBlocks.{blocks_in, rises_over}
 use Rattle.vl_table.specs.Stretches.{on_way, stretch_of}
 use Rattle.vl_table.specs.Tables.{number_of, shape_of}
 use Rattle.vl_table.specs.declared.fault.TableFault.{TableFault}
@@ -40,7 +40,7 @@ module _ {H : Type 0} where
   -- those of tables that may have keys of the interval
   abbrev pub blocks_over : Span → Way → List (Table H) → List (Block H)
   blocks_over span way [] = []
-  blocks_over span way (t ∷ ts) = blocks_at way (Some t) (blocks_of span (index_of t)) ++ blocks_over span way ts
+  blocks_over span way (t ∷ ts) = blocks_at way (Some t) (blocks_in span (shape_of t)) ++ blocks_over span way ts
 
   -- whether the tables' indexes rise, as far as the interval can tell
   abbrev pub rise_over : Span → List (Table H) → Bool

@@ -8,7 +8,7 @@ use crate::block_reader::BlockReader;
 use crate::fault::TableFault;
 use crate::open_block::OpenBlock;
 use crate::slot::BlockId;
-use crate::span_blocks::{blocks_of, is_in_span};
+use crate::span_blocks::{blocks_in, is_in_span};
 use crate::stretch::Stretch;
 use crate::table::Table;
 use std::alloc::{AllocError, Global};
@@ -222,7 +222,7 @@ impl<H: HeldFile, R: Reader<Held = H> + Drop> TableCursor<H, R> {
         let Some((at, rest)) = self.later.next(self.way) else {
             return false;
         };
-        let blocks = blocks_of(&self.tables[at].shape().blocks, &self.span);
+        let blocks = blocks_in(self.tables[at].shape(), &self.span);
         self.later = rest;
         self.table = at;
         self.blocks = blocks;

@@ -58,3 +58,18 @@ fn an_interval_is_gone_over(rt: HostRuntime) -> Result<(), Fail> {
     assert_eq!(rt; found.as_slice(), [9, 5, 2].as_slice());
     Ok(())
 }
+
+// Of the second table, which begins above the interval, no block is read: the second read would fail.
+#[test]
+fn a_table_above_an_interval_is_not_read(rt: HostRuntime) -> Result<(), Fail> {
+    let alloc = rt.alloc();
+    let mut reader = blocks(alloc, &[2])?;
+    let up_to_b = Span {
+        lo: None,
+        hi: Some(Bytes::copy_of(alloc, b"b")?),
+        closed: true,
+    };
+    let found = versions(alloc, &mut reader, up_to_b, Way::Up)?;
+    assert_eq!(rt; found.as_slice(), [1, 1].as_slice());
+    Ok(())
+}
