@@ -1,6 +1,6 @@
 -- A begin is answered as the ruling has it.
-use Rattle.std.specs.Prelude.{◌≡◌, ◌↔◌, ℕ, Bool, true, false, nat_le, if◌then◌else◌, List, length, map, Option, Result, Ok, Err}
-use Rattle.std.proofs.Common.{◌≤◌, sym, ap, subst, ◌∙◌, refl, arith}
+use Rattle.std.specs.Prelude.{◌≡◌, ℕ, Bool, true, false, nat_le, if◌then◌else◌, List, length, Option, Err}
+use Rattle.std.proofs.Common.{sym, ap, subst, ◌∙◌, refl, arith}
 use Rattle.std.proofs.lemmas.List.{length-map}
 use Rattle.std.proofs.lemmas.Bool.Decides.{nat_tests}
 use Rattle.vl_engine.specs.Answers.{view_outcome}
@@ -9,7 +9,7 @@ use Rattle.vl_engine.specs.Sees.{ShowsAt}
 use Rattle.vl_engine.specs.declared.kept.Core.{Core}
 use Rattle.vl_engine.specs.laws.LiveLaws.{same_free_ticket}
 use Rattle.vl_engine.specs.laws.SeesLaws.{shows_last}
-use Rattle.vl_layout.specs.Decides.{Answered, Decides, NoMemory, Outcome, as_before, no_effects}
+use Rattle.vl_layout.specs.Decides.{Answered, Decides, NoMemory, as_before, no_effects}
 use Rattle.vl_layout.specs.Ruling.{Ruling, leaving}
 use Rattle.vl_layout.specs.Rulings.Begin.{BeginAnswer, Begun, TooMany, begin_ruling, begun}
 use Rattle.vl_layout.specs.Sources.{sources}

@@ -1,21 +1,21 @@
 -- What a commit carries out over a disk that holds the engine's layout, by each of its exits.
-use Rattle.std.specs.Prelude.{◌≡◌, ◌⊎◌, ◌≤◌, ℕ, ◌+◌, T, List, [], ◌∷◌, ◌++◌, length, Option, None, Some, refl}
+use Rattle.std.specs.Prelude.{◌≡◌, ◌≤◌, ℕ, ◌+◌, T, List, [], length, Option, None, Some, refl}
 use Rattle.std.specs.FinMap.{from_sorted, is_sorted}
 use Rattle.std.specs.Option.{option_map}
 use Rattle.std.proofs.Common.{sym, ap, subst, ◌∙◌, append-nil, arith, ⊎_elim}
 use Rattle.vl_disk.specs.Calls.{ChangesNothing}
-use Rattle.vl_disk.specs.Crash.{Image, Unchanged, WhileAppending, WhileSyncing}
+use Rattle.vl_disk.specs.Crash.{Unchanged, WhileAppending, WhileSyncing}
 use Rattle.vl_disk.specs.Disk.{IsChangedBy}
 use Rattle.vl_disk.specs.DiskState.{DiskState, appended}
 use Rattle.vl_disk.specs.Faults.{after_calls}
 use Rattle.vl_disk.specs.Moments.{Elapses, While, goes_by, holds_weaker, waits}
-use Rattle.vl_disk.specs.declared.name.Name.{Name}
 use Rattle.vl_disk.specs.declared.name.Name.TheVariants as names
+use Rattle.vl_disk.specs.declared.name.Name.{Name}
 use Rattle.vl_disk.specs.declared.watched.Watched.{Ghosts}
 use Rattle.vl_engine.proofs.Represented.{represents_committed, represents_halted, represents_same}
 use Rattle.vl_engine.proofs.Standing.{tidy_then}
 use Rattle.vl_engine.specs.Carries.{Carries, CrashesShow, Tells}
-use Rattle.vl_engine.specs.Held.{Base, Holds, IsBase}
+use Rattle.vl_engine.specs.Held.{IsBase}
 use Rattle.vl_engine.specs.Represents.{IsHeld, Represents, StandsFor, file_of}
 use Rattle.vl_engine.specs.Shown.{LeavesBetween, no_logs}
 use Rattle.vl_engine.specs.Writing.{WhileWriting, written}
@@ -26,15 +26,14 @@ use Rattle.vl_engine.specs.laws.HeldLaws.{held_opens_again, held_shown}
 use Rattle.vl_engine.specs.laws.RulingLaws.{IsAccepted}
 use Rattle.vl_engine.specs.laws.ShownLaws.{between_itself, between_wider}
 use Rattle.vl_frame.specs.Runs.{HasFrame}
-use Rattle.vl_layout.specs.Decides.{Answered, Effects, Failed, NoMemory, Otherwise, Outcome, as_before, no_effects}
+use Rattle.vl_layout.specs.Decides.{Answered, Effects, Failed, NoMemory, Otherwise, as_before, no_effects}
 use Rattle.vl_layout.specs.Ruling.{Ruling, ended, halted_at, leaving}
-use Rattle.vl_layout.specs.Rulings.Commit.{At, CommitAnswer, Transaction, commit_frame, commit_lost, committed}
+use Rattle.vl_layout.specs.Rulings.Commit.{At, Transaction, commit_frame, commit_lost, committed}
 use Rattle.vl_layout.specs.Tidy.{IsTidy}
 use Rattle.vl_layout.specs.declared.layout.Layout.{Layout}
 use Rattle.vl_model.specs.Formats.{log_format}
 use Rattle.vl_model.specs.History.{Extends, History, last_number, with_commit}
 use Rattle.vl_model.specs.Keys.{key_cmp}
-use Rattle.vl_model.specs.declared.log_frame.LogFrame.{LogFrame}
 use Rattle.vl_model.specs.laws.HistoryLaws.{with_commit-extends}
 use Rattle.vl_recover.specs.crash.Starts.{MayOpen}
 use Rattle.vl_recover.specs.laws.crash.TornFrames.{frame_behind}

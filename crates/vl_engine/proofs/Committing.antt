@@ -1,38 +1,36 @@
 -- What a commit comes to, at each of its exits, by the ruling on it.
 use Rattle.std.specs.Prelude.{◌≡◌, ℕ, ◌+◌, ◌++◌, List, Option, None, Some, T, refl}
-use Rattle.std.specs.FinMap.{entries, entries-from_sorted, entries_sorted, from_sorted, get, get-entries, get-from_sorted, is_sorted, nat_cmp-IsAntisymmetric, same_map, slice_cmp-IsAntisymmetric}
+use Rattle.std.specs.FinMap.{entries, entries_sorted, from_sorted, get-entries, get-from_sorted, is_sorted, nat_cmp-IsAntisymmetric, same_map, slice_cmp-IsAntisymmetric}
 use Rattle.std.specs.Cmp.Lexicographic.{nat_list_cmp_total}
 use Rattle.std.specs.Option.{option_map}
 use Rattle.std.proofs.Common.{sym, ap, subst, ◌∙◌}
-use Rattle.vl_disk.specs.Calls.{ChangesNothing}
+use Rattle.vl_conflict.specs.Recent.{Remembers}
 use Rattle.vl_disk.specs.Disk.{IsChangedBy}
 use Rattle.vl_disk.specs.DiskState.{DiskState}
 use Rattle.vl_disk.specs.Moments.{Elapses}
 use Rattle.vl_disk.specs.declared.name.Name.TheVariants as names
 use Rattle.vl_disk.specs.declared.watched.Watched.{Ghosts}
 use Rattle.vl_engine.proofs.Carrying.{IsWatched, carries_committed, carries_failed, carries_leaving, carries_no_memory, extends_itself}
+use Rattle.vl_engine.proofs.Knowing.{knows_of}
 use Rattle.vl_engine.proofs.Represented.{represents_live}
 use Rattle.vl_engine.proofs.Standing.{decides_as, fronts_committed, fronts_ended, fronts_halted, stands_committed, stands_ended, stands_halted}
 use Rattle.vl_engine.specs.Carries.{Carries}
 use Rattle.vl_engine.specs.Represents.{Fronts, Represents, StandsFor, file_of}
 use Rattle.vl_engine.specs.Shown.{no_logs}
 use Rattle.vl_engine.specs.Staging.{next_frame}
-use Rattle.vl_engine.specs.Steps.{IsFailed, IsUnwritten, IsWritten, frame_of, log_of}
+use Rattle.vl_engine.specs.Steps.{IsFailed, IsUnwritten, IsWritten, frame_of}
 use Rattle.vl_engine.specs.Writing.{WhileWriting, written}
 use Rattle.vl_engine.specs.declared.kept.Back.{Back}
 use Rattle.vl_engine.specs.declared.kept.Core.{Core}
 use Rattle.vl_engine.specs.laws.FrontLaws.{front_known}
-use Rattle.vl_engine.specs.laws.LiveLaws.{same_floor}
 use Rattle.vl_engine.specs.laws.RulingLaws.{IsAccepted, answered_accepted, ruled, ruled_so}
-use Rattle.vl_engine.specs.laws.VersionLaws.{has_entries, next_entries}
+use Rattle.vl_engine.specs.laws.VersionLaws.{next_entries}
 use Rattle.vl_frame.specs.Runs.{HasFrame}
 use Rattle.vl_front.specs.Decisions.{decision_of}
-use Rattle.vl_front.specs.Front.{IsSame, Knows, SameLog}
+use Rattle.vl_front.specs.Front.{IsSame, Knows}
 use Rattle.vl_front.specs.declared.decision.Decision.TheVariants as decisions
 use Rattle.vl_front.specs.declared.decision.Decision.{Decision}
-use Rattle.vl_front.specs.declared.front.Front.{Front}
-use Rattle.vl_conflict.specs.Recent.{Remembers}
-use Rattle.vl_layout.specs.Decides.{Answered, Decides, Effects, Failed, NoMemory, Otherwise, Outcome, as_before, effects_of, no_effects}
+use Rattle.vl_layout.specs.Decides.{Answered, Decides, Effects, Failed, NoMemory, Otherwise, as_before, effects_of, no_effects}
 use Rattle.vl_layout.specs.Logs.{frame_entries}
 use Rattle.vl_layout.specs.Ruling.{Ruling, ended, halted_at, leaving}
 use Rattle.vl_layout.specs.Rulings.Commit.{At, CommitAnswer, Transaction, commit_frame, commit_lost, commit_ruling, committed}
@@ -46,12 +44,10 @@ use Rattle.vl_model.specs.Frames.{frame_length}
 use Rattle.vl_model.specs.History.{Extends, History, last_number, with_commit}
 use Rattle.vl_model.specs.Keys.{Writes, key_cmp}
 use Rattle.vl_model.specs.Reads.{Read}
-use Rattle.vl_model.specs.declared.entry.Entry.{Entry}
-use Rattle.vl_model.specs.declared.log_frame.LogFrame.{LogFrame}
 use Rattle.vl_model.specs.declared.log_frame.LogFrame.TheVariants.{Committed}
+use Rattle.vl_model.specs.declared.log_frame.LogFrame.{LogFrame}
 use Rattle.vl_model.specs.laws.HistoryLaws.{with_commit-extends}
 use Rattle.vl_oracle.specs.LiveTickets.{LiveTickets, floor_of}
-use Rattle.vl_oracle.specs.LiveTickets as oracle
 use Rattle.vl_seglog.specs.Frames.{frame_at, frames_grammar}
 use Rattle.vl_seglog.specs.declared.active.ActiveLog.{ActiveLog}
 use Rattle.vl_version.specs.Sources.{HasEntries}
@@ -103,14 +99,6 @@ module _ {A : Type 0} (S : History → Layout → Type 0) (h : History) (l : Lay
   }
 
 -- ---- what is known
-
--- what a front knows of the history for which it stands
-pub knows_of : {H : Type 0} (core : Core H) (h : History) (l : Layout) → Fronts core h l → Knows core.front h
-knows_of core h l is = record {
-  last = is.front.last;
-  remembers = subst (λ (n : ℕ). Remembers n h core.front.recent.named)
-      (sym (same_floor core.front.oracle l h is.front.last is.front.live_are is.front.lived)) is.front.remembers;
-}
 
 -- writes are those of their entries
 same_writes : (writes : Writes) → from_sorted (entries writes) ≡ writes
@@ -223,7 +211,7 @@ module _ {H : Type 0} (bytes : H → Option (List ℕ)) (before after : Core H) 
   -- ---- it was decided that it is written
 
   module _ (write : committed l h t ≡ ruling) where
-    accepted : IsAccepted l h t
+    pub accepted : IsAccepted l h t
     accepted = answered_accepted l h t (last_number h + 1) (ap (λ (r : Ruling CommitAnswer). r.answer) (sym write))
 
     next_is : Fronts before h l → next_frame before.front writes ≡ commit_frame h (entries writes)

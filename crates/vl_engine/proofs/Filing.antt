@@ -1,12 +1,11 @@
 -- Which files stand behind a commit, and how a failed one was stopped.
-use Rattle.std.specs.Prelude.{◌≡◌, ◌≢◌, ◌⊎◌, ◌≤◌, ℕ, ◌+◌, List, length, Option, None, Some, IsTrue, refl}
+use Rattle.std.specs.Prelude.{◌≡◌, ◌≢◌, ◌≤◌, ℕ, ◌+◌, List, length, Option, None, Some, IsTrue, refl}
 use Rattle.std.specs.FinMap.{entries, get}
 use Rattle.std.specs.Option.{option_map}
 use Rattle.std.proofs.Common.{sym, ap, subst, ◌∙◌, arith, ⊎_elim}
 use Rattle.vl_disk.specs.Calls.{ChangesNothing}
 use Rattle.vl_disk.specs.Changes.{changed_elsewhere, changed_there}
 use Rattle.vl_disk.specs.Crash.{WhileAppending, WhileSyncing}
-use Rattle.vl_disk.specs.Disk.{IsChangedBy}
 use Rattle.vl_disk.specs.DiskState.{DiskState, File, appended, synced, synced_file, lengthened, with_file}
 use Rattle.vl_disk.specs.Faults.{after_calls}
 use Rattle.vl_disk.specs.Moments.{While}
@@ -18,10 +17,9 @@ use Rattle.vl_engine.proofs.Carrying.{IsWatched}
 use Rattle.vl_engine.specs.Carries.{HasSameFiles, SameFiles}
 use Rattle.vl_engine.specs.Represents.{Fronts}
 use Rattle.vl_engine.specs.Staging.{next_frame}
-use Rattle.vl_engine.specs.Steps.{Hands, IsFailed, IsUnwritten, IsWritten, frame_of, log_of}
-use Rattle.vl_engine.specs.Writing.{PassedOne, StopsWriting, WhileWriting, at_append, at_sync, written}
+use Rattle.vl_engine.specs.Steps.{Hands, IsFailed, frame_of, log_of}
+use Rattle.vl_engine.specs.Writing.{StopsWriting, WhileWriting, at_append, at_sync, written}
 use Rattle.vl_engine.specs.declared.kept.Core.{Core}
-use Rattle.vl_front.specs.declared.front.Front.{Front}
 use Rattle.vl_layout.specs.Rulings.Commit.{commit_frame}
 use Rattle.vl_layout.specs.declared.layout.Layout.{Layout}
 use Rattle.vl_model.specs.Formats.{log_format}
@@ -58,8 +56,7 @@ files_changed name change disk q = (standing, (λ none. none, λ none. none))
     standing : (get after.standing q ≡ None → get disk.standing q ≡ None) × (get disk.standing q ≡ None → get after.standing q ≡ None)
     standing = ⊎_elim
         (λ (same : q ≡ name).
-        let there = changed_there name disk change in
-        (
+        let there = changed_there name disk change in (
           λ none. ap (get disk.standing) same
               ∙ mapped_none change (get disk.standing name) (sym there ∙ ap (get after.standing) (sym same) ∙ none),
           λ none. ap (get after.standing) same ∙ there
@@ -80,18 +77,18 @@ files_writing : (name : Name) (frame : List ℕ) (disk now : DiskState) → Whil
     → HasSameFiles disk now
 files_writing name frame disk now during = ⊎_elim
     (λ (appending : WhileAppending name frame disk now). ⊎_elim
-      (λ (none : now ≡ disk). subst (HasSameFiles disk) (sym none) (files_themselves disk))
-      (λ (some : (taken : ℕ) × (taken ≤ length frame) × (now ≡ appended name frame taken disk)).
-      subst (HasSameFiles disk) (sym some.2) (files_changed name (lengthened frame some.0) disk))
-      appending)
+    (λ (none : now ≡ disk). subst (HasSameFiles disk) (sym none) (files_themselves disk))
+    (λ (some : (taken : ℕ) × (taken ≤ length frame) × (now ≡ appended name frame taken disk)).
+    subst (HasSameFiles disk) (sym some.2) (files_changed name (lengthened frame some.0) disk))
+    appending)
     (λ (syncing : WhileSyncing name (appended name frame (length frame) disk) now).
     let mid = appended name frame (length frame) disk in
     let first = files_changed name (lengthened frame (length frame)) disk in
     ⊎_elim
-      (λ (none : now ≡ mid). subst (HasSameFiles disk) (sym none) first)
-      (λ (all : now ≡ synced name mid).
-      subst (HasSameFiles disk) (sym all) (files_then disk mid (synced name mid) first (files_changed name synced_file mid)))
-      syncing)
+    (λ (none : now ≡ mid). subst (HasSameFiles disk) (sym none) first)
+    (λ (all : now ≡ synced name mid).
+    subst (HasSameFiles disk) (sym all) (files_then disk mid (synced name mid) first (files_changed name synced_file mid)))
+    syncing)
     during
 
 same_state : (a b : DiskState) → Some a ≡ Some b → a ≡ b
@@ -137,7 +134,7 @@ module _ {D H : Type 0} (g : Ghosts D) (old new : D) (before after : Core H) (ti
       (frame_at log_format l.active.number l.active.length (commit_frame h (entries writes))) old new
   stops_failed h l is failed clean =
       subst (λ (n : ℕ). StopsWriting g (names.Log n)
-        (frame_at log_format l.active.number l.active.length (commit_frame h (entries writes))) old new) is.number
+      (frame_at log_format l.active.number l.active.length (commit_frame h (entries writes))) old new) is.number
       (subst (λ (frame : List ℕ). StopsWriting g (log_of before.front) frame old new) (frame_as h l is)
       (stops_earlier failed.hands.mid (log_of before.front) (frame_of before.front writes) failed.hands.before (failed.stopped clean)))
     where

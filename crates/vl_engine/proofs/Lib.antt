@@ -7,5 +7,8 @@ pub mod Halted
 pub mod Knowing
 pub mod Opened
 pub mod Represented
+pub mod Ruled
 pub mod Seeing
+pub mod Staged
 pub mod Standing
+pub mod Written

@@ -6,18 +6,19 @@ use Rattle.std.proofs.Common.{sym, ap, subst, ◌∙◌, arith}
 use Rattle.vl_disk.specs.Crash.{Image}
 use Rattle.vl_disk.specs.Disk.{Stands}
 use Rattle.vl_disk.specs.DiskState.{DiskState, File, IsLawful}
-use Rattle.vl_disk.specs.Started.{IsRead}
 use Rattle.vl_disk.specs.Moments.{HoldsThroughout, holds_weaker}
+use Rattle.vl_disk.specs.Started.{IsRead}
 use Rattle.vl_disk.specs.declared.name.Name.TheVariants as names
 use Rattle.vl_disk.specs.declared.watched.Watched.{Ghosts}
-use Rattle.vl_engine.specs.Opening.{IsDurable, IsMadeOf, recovered, state_then}
-use Rattle.vl_engine.specs.Represents.{Fronts, IsHeld, Represents, StandsFor, file_of}
+use Rattle.vl_engine.specs.Opening.{IsDurable, recovered, state_then}
+use Rattle.vl_engine.specs.Represents.{Fronts, Represents, StandsFor, file_of}
 use Rattle.vl_engine.specs.Shown.{LeavesBetween, Shown}
 use Rattle.vl_engine.specs.declared.kept.Core.{Core}
 use Rattle.vl_engine.specs.laws.FrontLaws.{front_known, front_started}
 use Rattle.vl_engine.specs.laws.ShownLaws.{between_itself, opening_shown}
 use Rattle.vl_engine.specs.laws.StartLaws.{base_at_start, opened_base, opened_number, opened_tidy, start_holds}
 use Rattle.vl_engine.specs.laws.VersionLaws.{has_entries, newest_entries, sources_started}
+use Rattle.vl_front.specs.Front.{Knows}
 use Rattle.vl_layout.specs.Logs.{memtable}
 use Rattle.vl_layout.specs.Sources.{sources}
 use Rattle.vl_layout.specs.Start.{layout_at_start}
@@ -73,6 +74,20 @@ entries_found [] = refl
 entries_found (s ∷ ss) = ap (λ rest. memtable s ∷ rest) (entries_found ss)
 
 -- ---- what an engine makes of it
+
+-- The engine is made of the parts that an opening found.
+pub record IsMadeOf {D H : Type 0} (parts : Parts D) (room : ℕ) (core : Core H) : Type 0 where
+  pub last : core.front.oracle ≡ record { last = parts.number; tickets = [] }
+  pub knows : (h : History) → last_number h ≡ parts.number → Knows core.front h
+  pub log : core.front.log ≡ parts.active
+  pub room_is : core.front.room ≡ room
+  pub halted : core.front.halted ≡ None
+  pub state : core.back.state ≡ parts.state
+  pub next_log : core.back.next_log ≡ max parts.state.next_log (min (parts.active.number + 1) (2 ^ 32 - 1))
+  pub version_number : core.back.version_number ≡ 0
+  pub active : core.version.active.entries ≡ []
+  pub frozen : core.version.behind.frozen.items ≡ reverse parts.frozen.items
+  pub alone : core.version.behind.logs.items ≡ []
 
 -- the number of a log that stands leaves room for the next one
 number_stands : (disk : DiskState) (number : ℕ) → IsLawful disk → Stands (names.Log number) disk → number ≤ 2 ^ 32 - 2

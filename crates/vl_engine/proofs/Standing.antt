@@ -15,20 +15,19 @@ use Rattle.vl_engine.specs.laws.VersionLaws.{active_committed, has_entries, next
 use Rattle.vl_front.specs.Front.{Knows, SameLog}
 use Rattle.vl_layout.specs.Ruling.{Ruling, ended, halted_at}
 use Rattle.vl_layout.specs.Rulings.Begin.{begun}
-use Rattle.vl_layout.specs.Rulings.Commit.{CommitAnswer, Transaction, commit_ruling, committed}
+use Rattle.vl_layout.specs.Rulings.Commit.{CommitAnswer, Transaction, committed}
 use Rattle.vl_layout.specs.Sources.{sources}
 use Rattle.vl_layout.specs.Tickets.{free_ticket, tickets_of}
 use Rattle.vl_layout.specs.Tidy.{IsRuledTidy, IsTidy}
 use Rattle.vl_layout.specs.declared.layout.Layout.{Layout}
 use Rattle.vl_layout_laws.specs.laws.TidyRulings.{commit_tidy}
 use Rattle.vl_layout_laws.specs.laws.TidySteps.{tidy_begun, tidy_ended}
-use Rattle.vl_memtable.specs.Contents.{Contents}
 use Rattle.vl_model.specs.Entries.{in_order}
 use Rattle.vl_model.specs.History.{History, last_number, with_commit}
 use Rattle.vl_model.specs.Keys.{key_cmp}
 use Rattle.vl_model.specs.Limits.{max_live}
-use Rattle.vl_oracle.specs.LiveTickets.{LiveTickets}
 use Rattle.vl_oracle.specs.LiveTickets as oracle
+use Rattle.vl_oracle.specs.LiveTickets.{LiveTickets}
 use Rattle.vl_seglog.specs.declared.active.ActiveLog.{ActiveLog}
 use Rattle.vl_version.specs.Sources.{HasEntries}
 use Rattle.vl_version.specs.declared.version.Version.{Version}

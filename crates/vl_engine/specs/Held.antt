@@ -1,5 +1,5 @@
 -- What a disk holds of an engine's layout, while no store has tables.
-use Rattle.std.specs.Prelude.{◌≡◌, ℕ, List, [], ◌∷◌, ◌++◌, Option, Some}
+use Rattle.std.specs.Prelude.{◌≡◌, List, [], ◌∷◌, ◌++◌}
 use Rattle.std.specs.List.{filter}
 use Rattle.vl_disk.specs.DiskState.{DiskState, IsLawful}
 use Rattle.vl_layout.specs.Sources.{tables}

@@ -1,22 +1,18 @@
 -- What an opening gives, where a store was opened and where not.
-use Rattle.std.specs.Prelude.{◌≡◌, ℕ, ◌+◌, ◌-◌, ◌^◌, min, max, reverse, List, [], ◌∷◌, Option, None, Some, Result, Ok, Err}
+use Rattle.std.specs.Prelude.{◌≡◌, List, [], ◌∷◌, Option, None, Some, Result, Ok, Err}
 use Rattle.vl_disk.specs.Crash.{Image}
 use Rattle.vl_disk.specs.DiskState.{DiskState}
 use Rattle.vl_disk.specs.Started.{IsRead}
 use Rattle.vl_disk.specs.declared.watched.Watched.{Ghosts}
 use Rattle.vl_engine.specs.declared.engine.Engine.{Engine}
-use Rattle.vl_engine.specs.declared.kept.Core.{Core}
-use Rattle.vl_front.specs.Front.{Knows}
 use Rattle.vl_layout.specs.Start.{Recovered, no_tables}
 use Rattle.vl_layout.specs.declared.segment.Segment.{Segment}
 use Rattle.vl_manifest.specs.declared.state.ManifestState.{ManifestState}
-use Rattle.vl_model.specs.History.{History, last_number}
 use Rattle.vl_recover.specs.crash.Alike.{IsLeft, OpensLike}
 use Rattle.vl_recover.specs.crash.Starts.{MayOpen}
 use Rattle.vl_recover.specs.declared.fails.OpenError.{OpenError}
 use Rattle.vl_recover.specs.declared.fails.OpenError.TheVariants as why
 use Rattle.vl_recover.specs.declared.fails.OpenFail.{OpenFail}
-use Rattle.vl_recover.specs.declared.parts.Parts.{Parts}
 use Rattle.vl_recover.specs.opening.Answers.{AnswersBy, Finds, logs_then, used_up}
 use Rattle.vl_recover.specs.opening.Plans.{active_log, new_state}
 use Rattle.vl_recover.specs.opening.Results.{recovery_by}
@@ -84,19 +80,3 @@ recovered found = record {
   since = (state_then found).since;
   gone = (state_then found).gone;
 }
-
--- ---- what an engine makes of it
-
--- The engine is made of the parts that an opening found.
-pub record IsMadeOf {D H : Type 0} (parts : Parts D) (room : ℕ) (core : Core H) : Type 0 where
-  pub last : core.front.oracle ≡ record { last = parts.number; tickets = [] }
-  pub knows : (h : History) → last_number h ≡ parts.number → Knows core.front h
-  pub log : core.front.log ≡ parts.active
-  pub room_is : core.front.room ≡ room
-  pub halted : core.front.halted ≡ None
-  pub state : core.back.state ≡ parts.state
-  pub next_log : core.back.next_log ≡ max parts.state.next_log (min (parts.active.number + 1) (2 ^ 32 - 1))
-  pub version_number : core.back.version_number ≡ 0
-  pub active : core.version.active.entries ≡ []
-  pub frozen : core.version.behind.frozen.items ≡ reverse parts.frozen.items
-  pub alone : core.version.behind.logs.items ≡ []

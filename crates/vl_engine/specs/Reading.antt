@@ -15,7 +15,7 @@ use Rattle.vl_model.specs.declared.change.Change.{Change}
 use Rattle.vl_model.specs.declared.way.Way.{Way}
 use Rattle.vl_seglog.specs.Sealed.{IsHere, IsSmall}
 use Rattle.vl_txn.specs.Reads.{scan_of}
-use Rattle.vl_txn.specs.Refusals.{refused_bound, refused_key}
+use Rattle.vl_txn.specs.Refusals.{refused_bound}
 use Rattle.vl_txn.specs.declared.key_fail.KeyFail.{KeyFail}
 use Rattle.vl_txn.specs.declared.key_fail.KeyFail.TheVariants.{EmptyKey, KeyTooLong}
 use Rattle.vl_version.specs.declared.found.Found.{Found}

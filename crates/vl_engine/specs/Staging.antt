@@ -14,6 +14,7 @@ use Rattle.vl_model.specs.declared.log_frame.LogFrame.{LogFrame}
 use Rattle.vl_model.specs.declared.log_frame.LogFrame.TheVariants.{Committed}
 use Rattle.vl_model.specs.declared.pointer.Pointer.{Pointer}
 use Rattle.vl_seglog.specs.Staging.{IsStaged, IsStagedFor}
+use Rattle.vl_seglog.specs.Stored.{pointers_from}
 
 -- the entry of a write whose record lies at this pointer
 abbrev pub write_entry : ℕ → List ℕ × Change → Pointer → Entry
@@ -25,6 +26,10 @@ commit_entries number [] pointers = []
 commit_entries number (write ∷ writes) [] = []
 commit_entries number (write ∷ writes) (pointer ∷ pointers) =
     write_entry number write pointer ∷ commit_entries number writes pointers
+
+-- these lead to the records of a commit, wherever its frame is to stand
+abbrev pub LeadTo : List Pointer → List (List ℕ × Change) → Type 0
+LeadTo pointers writes = (segment : ℕ) × (place : ℕ) × (pointers ≡ pointers_from log_format segment place writes)
 
 -- the frame by which these writes become the next commit
 abbrev pub next_frame : Front → Writes → LogFrame

@@ -3,21 +3,27 @@ ghost use Rattle.std.specs.Prelude.{◌≡◌};
 
 use crate::Txn;
 use std::alloc::AllocError;
+use thiserror::Error;
 use vl_disk::Name;
 use vl_model::Key;
 use vl_txn::KeyFail;
 use vl_version::ReadFault as VersionFault;
 
 /// Why a read gave nothing. Nothing was noted or changed.
-#[derive(Clone, Copy, Debug, PartialEq, Eq)]
+#[derive(Clone, Copy, Debug, PartialEq, Eq, Error)]
 pub enum ReadFail {
+    #[error("empty key")]
     EmptyKey,
     /// The key, or a bound of the scan.
+    #[error("key too long")]
     KeyTooLong,
+    #[error("no memory")]
     NoMemory,
     /// The reader failed at this file.
+    #[error("the disk failed at {name:?}")]
     Disk { name: Name },
     /// What stands at this place of a file isn't what was written there.
+    #[error("{name:?} is damaged at {place}")]
     Damaged { name: Name, place: u64 },
 }
 
@@ -59,13 +65,17 @@ impl From<AllocError> for ReadFail {
 }
 
 /// Why a read without memory gave nothing. After the last two the caller's bytes may be anything.
-#[derive(Clone, Copy, Debug, PartialEq, Eq)]
+#[derive(Clone, Copy, Debug, PartialEq, Eq, Error)]
 pub enum ReadFault {
+    #[error("empty key")]
     EmptyKey,
+    #[error("key too long")]
     KeyTooLong,
     /// The reader failed at this file.
+    #[error("the disk failed at {name:?}")]
     Disk { name: Name },
     /// What stands at this place of a file isn't what was written there.
+    #[error("{name:?} is damaged at {place}")]
     Damaged { name: Name, place: u64 },
 }
 

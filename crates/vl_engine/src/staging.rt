@@ -5,7 +5,7 @@ ghost use Rattle.vl_disk.specs.Calls.{ChangesNothing};
 ghost use Rattle.vl_disk.specs.Spare.{CanAppend};
 ghost use Rattle.vl_disk.specs.declared.name.Name.TheVariants as names;
 ghost use Rattle.vl_engine.specs.Known.{are_known};
-ghost use Rattle.vl_engine.specs.Staging.{IsStagedCommit, commit_entries, write_entry};
+ghost use Rattle.vl_engine.specs.Staging.{IsStagedCommit, LeadTo, commit_entries, write_entry};
 ghost use Rattle.vl_front.specs.Decisions.{MayWrite};
 ghost use Rattle.vl_front.specs.Front.{IsSame};
 ghost use Rattle.vl_model.specs.Keys.{key_cmp};
@@ -70,7 +70,7 @@ fn run_of(
     writes: &Writes,
     pointers: &[Pointer],
 ) -> Result<Run, AllocError>
-    requires { length pointers.now ≡ length (entries writes.now) }
+    requires { LeadTo pointers.now (entries writes.now) }
     ensures { IfOk result (λ run. run ≡ commit_entries number (entries writes.now) pointers.now) }
 {
     let writes = writes.as_slice();

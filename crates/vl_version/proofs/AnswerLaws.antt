@@ -1,5 +1,6 @@
 -- What a scan answers of all sources, from what is visible of them.
-use Rattle.std.proofs.Common.{◌≡◌, ℕ, Bool, true, false, cond, List, [], ◌∷◌, ◌++◌, map, take, refl, ap, sym, ◌∙◌, subst, Option, Some, None, Vec, Global}
+use Rattle.std.proofs.Common.{◌≡◌, ℕ, Bool, true, false, cond, List, [], ◌∷◌, ◌++◌, map, take, refl, ap, sym, ◌∙◌, subst}
+use Rattle.std.proofs.Common.{Option, Some, None, Vec, Global}
 use Rattle.std.specs.Prelude.{◌⊎◌, Ok, Err, Result}
 use Rattle.std.proofs.Common.{inl, inr}
 use Rattle.std.specs.FinMap.{entries, entries_sorted, find, get-entries}
@@ -58,7 +59,9 @@ module _ (held logs : Logs) (es : List Entry) (number : ℕ) (own : Writes) (wan
 
   scanned_so : (rows : List Row) → AreRowsOf held (take wanted.limit seen) rows → AreScanned logs es number wanted own rows
   scanned_so rows are pairs may =
-      rows_are_scanned held number (entries own) es wanted.low.now wanted.high.now wanted.way wanted.limit all seen rows (entries pairs) wins along winners (entries_sorted pairs)
+      rows_are_scanned held number (entries own)
+      es wanted.low.now wanted.high.now wanted.way wanted.limit all seen rows (entries pairs) wins along winners
+      (entries_sorted pairs)
       (λ key. subst (λ led. MayHave led (find key_cmp key (entries pairs))) (sym (same_led key))
       (subst (MayHave (resolved_at logs (winner es key number))) (get-entries pairs key) (may key))) are
 
@@ -67,7 +70,8 @@ module _ (held logs : Logs) (es : List Entry) (number : ℕ) (own : Writes) (wan
   abbrev Finds_astray : Entry → Type 0
   Finds_astray e = (name : Name) (place : ℕ) → IsAstray held (Some e) name place → SomeAstray logs es number name place
 
-  own_leads : (key : List ℕ) (change : Change) (e : Entry) (name : Name) (place : ℕ) → own_entry number (key, change) ≡ e → LeadsTo (Some e) name place → ⊥
+  own_leads : (key : List ℕ) (change : Change) (e : Entry) (name : Name) (place : ℕ)
+      → own_entry number (key, change) ≡ e → LeadsTo (Some e) name place → ⊥
   own_leads key change e name place is leads = by change (subst (λ (f : Entry). LeadsTo (Some f) name place) (sym is) leads)
     where
       by : (c : Change) → LeadsTo (Some (own_entry number (key, c))) name place → ⊥
@@ -92,7 +96,8 @@ module _ (held logs : Logs) (es : List Entry) (number : ℕ) (own : Writes) (wan
   of_winner key None is = tt
   of_winner key (Some e) is = by (is_gone e.body)
     where
-      in_interval : (b : Bool) → cond b (winner (own_entries number (entries own) ++ es) key number) None ≡ Some e → winner (own_entries number (entries own) ++ es) key number ≡ Some e
+      in_interval : (b : Bool) → cond b (winner (own_entries number (entries own) ++ es) key number) None ≡ Some e
+          → winner (own_entries number (entries own) ++ es) key number ≡ Some e
       in_interval true win = win
       in_interval false win = absurd cc
 
@@ -108,17 +113,21 @@ module _ (held logs : Logs) (es : List Entry) (number : ℕ) (own : Writes) (wan
       by false = (here, tt)
 
   all_find : AllByRecursion Finds_astray seen
-  all_find = all_by_key Finds_astray seen (λ key. subst (AllByRecursion Finds_astray) (sym (winners key)) (of_winner key (winner all key number) refl))
+  all_find = all_by_key Finds_astray seen
+      (λ key. subst (AllByRecursion Finds_astray) (sym (winners key)) (of_winner key (winner all key number) refl))
 
-  one_finds : (fs : List Entry) → AllByRecursion Finds_astray fs → (name : Name) (place : ℕ) → OneAstray held fs name place → SomeAstray logs es number name place
+  one_finds : (fs : List Entry) → AllByRecursion Finds_astray fs → (name : Name) (place : ℕ)
+      → OneAstray held fs name place → SomeAstray logs es number name place
   one_finds [] find name place one = absurd one
   one_finds (f ∷ fs) find name place (inl astray) = find.0 name place astray
   one_finds (f ∷ fs) find name place (inr later) = one_finds fs find.1 name place later
 
   -- ---- all answers
 
-  pub scan_answers : (bad : Name → ℕ → Type 0) → ((name : Name) (place : ℕ) → bad name place → ⊥) → (result : Result (Vec Row Global) ReadFault)
-      → IsAnswer (λ rows. AreRowsOf held (take wanted.limit seen) rows.items) (λ name place. bad name place ⊎ OneAstray held seen name place) result
+  pub scan_answers : (bad : Name → ℕ → Type 0) → ((name : Name) (place : ℕ) → bad name place → ⊥)
+      → (result : Result (Vec Row Global) ReadFault)
+      → IsAnswer (λ rows. AreRowsOf held (take wanted.limit seen) rows.items)
+      (λ name place. bad name place ⊎ OneAstray held seen name place) result
       → IsAnswer (λ rows. AreScanned logs es number wanted own rows.items) (SomeAstray logs es number) result
   scan_answers bad never (Ok rows) answer = scanned_so rows.items answer
   scan_answers bad never (Err NoMemory) answer = tt
@@ -128,7 +137,8 @@ module _ (held logs : Logs) (es : List Entry) (number : ℕ) (own : Writes) (wan
 
 -- ---- of a version
 
-module _ {H : Type 0} (bytes_of : H → Option (List ℕ)) (version : Version H) (es : List Entry) (logs : Logs) (has : HasEntries bytes_of version es logs) where
+module _ {H : Type 0} (bytes_of : H → Option (List ℕ)) (version : Version H) (es : List Entry) (logs : Logs)
+    (has : HasEntries bytes_of version es logs) where
   pub same_led : (number : ℕ) (key : List ℕ)
       → resolved_at (stored_in bytes_of version.behind.logs.items) (winner es key number) ≡ resolved_at logs (winner es key number)
   same_led number key = by (winner es key number) refl
@@ -138,7 +148,8 @@ module _ {H : Type 0} (bytes_of : H → Option (List ℕ)) (version : Version H)
       by (Some e) is = winner-has key number (LeadsIn bytes_of version logs) es e has.leads is
 
 -- what sources have left is told
-pub told_lefts : {R : Type 0} → (sources : List (Source R)) → map (λ (c : Source R). Some (left_in c)) sources ≡ map Some (map left_in sources)
+pub told_lefts : {R : Type 0} → (sources : List (Source R)) → map (λ (c : Source R). Some (left_in c)) sources
+    ≡ map Some (map left_in sources)
 told_lefts [] = refl
 told_lefts (c ∷ sources) = ap (λ l. Some (left_in c) ∷ l) (told_lefts sources)
 

@@ -95,14 +95,18 @@ below-parted : (key : List ℕ) (write : Write) (ws : List Write) → T (below_a
     → AllByRecursion (λ later. is_key_below key later ≡ true → is_key_below key write ≡ true) ws
 below-parted key write [] below = tt
 below-parted key write (w ∷ ws) below = (
-  (λ lower. ap is_lt (nat_list_cmp_total.trans write.0 w.0 key (is_less (key_cmp write.0 w.0) (first_part (is_lt (key_cmp write.0 w.0)) (below_all key_cmp write.0 ws) below)) (less_of (key_cmp w.0 key) lower))),
+  (λ lower. ap is_lt (nat_list_cmp_total.trans write.0 w.0 key
+      (is_less (key_cmp write.0 w.0) (first_part (is_lt (key_cmp write.0 w.0)) (below_all key_cmp write.0 ws) below))
+      (less_of (key_cmp w.0 key) lower))),
   below-parted key write ws (second_part (is_lt (key_cmp write.0 w.0)) (below_all key_cmp write.0 ws) below),
 )
 
 pub sorted-parted : (key : List ℕ) (ws : List Write) → T (is_sorted key_cmp ws) → IsParted (is_key_below key) ws
 sorted-parted key [] sorted = tt
-sorted-parted key (w ∷ ws) sorted =
-    (below-parted key w ws (first_part (below_all key_cmp w.0 ws) (is_sorted key_cmp ws) sorted), sorted-parted key ws (second_part (below_all key_cmp w.0 ws) (is_sorted key_cmp ws) sorted))
+sorted-parted key (w ∷ ws) sorted = (
+  below-parted key w ws (first_part (below_all key_cmp w.0 ws) (is_sorted key_cmp ws) sorted),
+  sorted-parted key ws (second_part (below_all key_cmp w.0 ws) (is_sorted key_cmp ws) sorted),
+)
 
 pub true_T : (b : Bool) → b ≡ true → T b
 true_T true is = tt
@@ -135,7 +139,9 @@ cut_none low [] ws none = refl
 cut_none low (b ∷ bs) ws none = absurd cc
 
 pub cut_both : (low high : List ℕ) (ws : List Write) → (high ≡ [] → ⊥)
-    → filter (is_key_below high) (filter (λ write. not (is_key_below low write)) ws) ≡ filter (λ (write : Write). is_within low high write.0) ws
+    → filter (is_key_below high) (filter (λ write. not (is_key_below low write)) ws) ≡ filter
+    (λ (write : Write). is_within low high write.0) ws
 cut_both low [] ws some = absurd (some refl)
 cut_both low (b ∷ bs) ws some =
-    filter-filter (λ write. not (is_key_below low write)) (is_key_below (b ∷ bs)) (λ (write : Write). is_within low (b ∷ bs) write.0) ws (λ write. refl)
+    filter-filter (λ write. not (is_key_below low write)) (is_key_below (b ∷ bs))
+    (λ (write : Write). is_within low (b ∷ bs) write.0) ws (λ write. refl)

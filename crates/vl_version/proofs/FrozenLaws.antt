@@ -18,9 +18,11 @@ take_next (first ∷ all) (suc i) held within is =
 
 pub entries-push : (all : List FrozenLog) (held : FrozenLog) → held_entries (all ++ held ∷ []) ≡ held_entries all ++ held.memtable.entries
 entries-push all held =
-    flat_map-append (λ (m : FrozenLog). m.memtable.entries) all (held ∷ []) ∙ ap (λ l. held_entries all ++ l) (append-nil held.memtable.entries)
+    flat_map-append (λ (m : FrozenLog). m.memtable.entries) all (held ∷ [])
+    ∙ ap (λ l. held_entries all ++ l) (append-nil held.memtable.entries)
 
 pub winner-push : (key : List ℕ) (number : ℕ) (all : List FrozenLog) (held : FrozenLog)
-    → winner (held_entries (all ++ held ∷ [])) key number ≡ newest_of (winner (held_entries all) key number) (winner held.memtable.entries key number)
+    → winner (held_entries (all ++ held ∷ [])) key number
+    ≡ newest_of (winner (held_entries all) key number) (winner held.memtable.entries key number)
 winner-push key number all held =
     ap (λ l. winner l key number) (entries-push all held) ∙ winner-append key number (held_entries all) held.memtable.entries

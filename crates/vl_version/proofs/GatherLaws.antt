@@ -1,5 +1,6 @@
 -- Cursors are put together source by source.
-use Rattle.std.proofs.Common.{◌≡◌, ℕ, ◌+◌, ◌<◌, Bool, true, false, cond, List, [], ◌∷◌, ◌++◌, length, map, take, get_or, reverse, refl, ap, sym, ◌∙◌, subst, append-nil, append_assoc}
+use Rattle.std.proofs.Common.{◌≡◌, ℕ, ◌+◌, ◌<◌, Bool, true, false, cond, List, [], ◌∷◌, ◌++◌, length, map, take, get_or}
+use Rattle.std.proofs.Common.{reverse, refl, ap, sym, ◌∙◌, subst, append-nil, append_assoc}
 use Rattle.std.specs.Prelude.{Option, None, IsTrue}
 use Rattle.std.specs.FinMap.{is_sorted}
 use Rattle.std.specs.Ordering.{is_gt}
@@ -64,8 +65,10 @@ module _ (span : Span) (way : Way) where
       ≡ cond (is_in_span span key) (winner (all_of runs) key number) None
   cut_runs [] in_order key number = none_inside (is_in_span span key) key number
   cut_runs (run ∷ runs) in_order key number =
-      winner-append key number (along way (within span run)) (flat_map (λ (gs : List Entry). gs) (map (λ r. along way (within span r)) runs))
-      ∙ ap (λ w. newest_of w (winner (flat_map (λ (gs : List Entry). gs) (map (λ r. along way (within span r)) runs)) key number)) (winner-cut key number span way run (rising run in_order.0))
+      winner-append key number (along way (within span run))
+      (flat_map (λ (gs : List Entry). gs) (map (λ r. along way (within span r)) runs))
+      ∙ ap (λ w. newest_of w (winner (flat_map (λ (gs : List Entry). gs) (map (λ r. along way (within span r)) runs))
+      key number)) (winner-cut key number span way run (rising run in_order.0))
       ∙ ap (newest_of (cond (is_in_span span key) (winner run key number) None)) (cut_runs runs in_order.1 key number)
       ∙ both_inside (is_in_span span key) (winner run key number) (winner (all_of runs) key number)
       ∙ ap (λ w. cond (is_in_span span key) w None) (sym (winner-append key number run (all_of runs)))
@@ -87,7 +90,8 @@ first-before : (e : Entry) (es : List Entry) → IsBefore e es → IsFirst Up e 
 first-before e [] before = tt
 first-before e (f ∷ fs) before = (ap is_gt before.0, first-before e fs before.1)
 
-along-last : (es : List Entry) (e : Entry) → IsAlong Down es → AllByRecursion (λ f. is_gt (way_cmp Down f e) ≡ false) es → IsAlong Down (es ++ e ∷ [])
+along-last : (es : List Entry) (e : Entry) → IsAlong Down es
+    → AllByRecursion (λ f. is_gt (way_cmp Down f e) ≡ false) es → IsAlong Down (es ++ e ∷ [])
 along-last [] e along behind = (tt, tt)
 along-last (f ∷ fs) e along behind = (first-more fs along.0, along-last fs e along.1 behind.1)
   where
@@ -109,18 +113,23 @@ along-rising Up (e ∷ es) rising = (first-before e es rising.0, along-rising Up
 along-rising Down [] rising = tt
 along-rising Down (e ∷ es) rising =
     subst (IsAlong Down) (sym (reverse-append (e ∷ []) es))
-    (along-last (reverse es) e (along-rising Down es rising.1) (all-reverse (λ f. is_gt (entry_cmp e f) ≡ false) es (first-before e es rising.0)))
+    (along-last (reverse es) e (along-rising Down es rising.1)
+    (all-reverse (λ f. is_gt (entry_cmp e f) ≡ false) es (first-before e es rising.0)))
 
 own-within : (low high : List ℕ) (number : ℕ) (ws : List Write)
     → own_entries number (filter (λ (write : Write). is_within low high write.0) ws) ≡ within (span_of low high) (own_entries number ws)
 own-within low high number [] = refl
 own-within low high number (w ∷ ws) =
     by (is_within low high w.0) (own-within low high number ws)
-    ∙ ap (λ b. cond b (own_entry number w ∷ within (span_of low high) (own_entries number ws)) (within (span_of low high) (own_entries number ws))) (sym (in_span_of low high w.0))
+    ∙ ap (λ b. cond b (own_entry number w ∷ within (span_of low high) (own_entries number ws))
+    (within (span_of low high) (own_entries number ws))) (sym (in_span_of low high w.0))
   where
-    by : (b : Bool) → own_entries number (filter (λ (write : Write). is_within low high write.0) ws) ≡ within (span_of low high) (own_entries number ws)
-        → own_entries number (cond b (w ∷ filter (λ (write : Write). is_within low high write.0) ws) (filter (λ (write : Write). is_within low high write.0) ws))
-        ≡ cond b (own_entry number w ∷ within (span_of low high) (own_entries number ws)) (within (span_of low high) (own_entries number ws))
+    by : (b : Bool) → own_entries number (filter (λ (write : Write). is_within low high write.0) ws) ≡ within
+        (span_of low high) (own_entries number ws)
+        → own_entries number (cond b (w ∷ filter (λ (write : Write). is_within low high write.0) ws)
+        (filter (λ (write : Write). is_within low high write.0) ws))
+        ≡ cond b (own_entry number w ∷ within (span_of low high) (own_entries number ws))
+        (within (span_of low high) (own_entries number ws))
     by true later = ap (λ l. own_entry number w ∷ l) later
     by false later = later
 
@@ -131,11 +140,14 @@ pub give_own : (low high : List ℕ) (way : Way) (number : ℕ) (ws : List Write
 give_own low high way number ws sorted = record {
   along = (
     subst (λ l. IsAlong way (along way l)) (sym (own-within low high number ws))
-        (along-rising way (within (span_of low high) (own_entries number ws)) (rising-within [] 0 (span_of low high) (own_entries number ws) rises)),
+        (along-rising way (within (span_of low high) (own_entries number ws))
+        (rising-within [] 0 (span_of low high) (own_entries number ws) rises)),
     tt,
   );
   winners = λ key n.
-      ap (λ l. winner l key n) (append-nil (along way (own_entries number (filter (λ (write : Write). is_within low high write.0) ws))) ∙ ap (along way) (own-within low high number ws))
+      ap (λ l. winner l key n) (append-nil
+      (along way (own_entries number (filter (λ (write : Write). is_within low high write.0) ws)))
+      ∙ ap (along way) (own-within low high number ws))
       ∙ winner-cut key n (span_of low high) way (own_entries number ws) rises;
 }
   where
@@ -146,7 +158,8 @@ give_own low high way number ws sorted = record {
 
 -- a memtable's cursors behind others
 pub give_next : (span : Span) (way : Way) (es : List Entry) (held : Contents) (left cursors now : List (List Entry))
-    → GiveWithin span way held cursors → now ≡ left ++ cursors → GiveWinners span way es left → GiveWinners span way (es ++ held.entries) now
+    → GiveWithin span way held cursors → now ≡ left ++ cursors → GiveWinners span way es left
+    → GiveWinners span way (es ++ held.entries) now
 give_next span way es held left cursors now give joined so =
     subst (GiveWinners span way (es ++ held.entries)) (sym joined)
     (give_both span way es held.entries left cursors so (give_memtable span way held cursors give))
@@ -159,7 +172,8 @@ entries_next own active all i held within is =
     ∙ ap (λ l. own ++ l) (append_assoc active (held_entries (take i all)) held.memtable.entries)
     ∙ sym (ap (λ l. own ++ (active ++ l)) (ap held_entries (take_next all i held within is) ∙ entries-push (take i all) held))
 
-module _ (low high : List ℕ) (way : Way) (own active : List Entry) (span : Span) (spans : span ≡ span_of low high) (left now : List (List Entry)) where
+module _ (low high : List ℕ) (way : Way) (own active : List Entry) (span : Span) (spans : span ≡ span_of low high)
+    (left now : List (List Entry)) where
   pub gather_first : GiveWinners (span_of low high) way own left
       → ((es : List Entry) → GiveWinners span way es left → GiveWinners span way (es ++ active) now)
       → GiveWinners (span_of low high) way (own ++ (active ++ [])) now
@@ -175,13 +189,17 @@ module _ (low high : List ℕ) (way : Way) (own active : List Entry) (span : Spa
   gather_next all i held within is so adds =
       subst (λ (l : List Entry). GiveWinners (span_of low high) way l now) (entries_next own active all i held within is)
       (subst (λ (s : Span). GiveWinners s way ((own ++ (active ++ held_entries (take i all))) ++ held.memtable.entries) now) spans
-      (adds (own ++ (active ++ held_entries (take i all))) (subst (λ (s : Span). GiveWinners s way (own ++ (active ++ held_entries (take i all))) left) (sym spans) so)))
+      (adds (own ++ (active ++ held_entries (take i all)))
+      (subst (λ (s : Span). GiveWinners s way (own ++ (active ++ held_entries (take i all))) left) (sym spans)
+      so)))
 
 -- the one source of own writes
 pub gather_own : (low high : List ℕ) (way : Way) (number : ℕ) (ws writes : List Write) → writes ≡ ws → IsTrue (is_sorted key_cmp writes)
-    → (left held : List Entry) → left ≡ held → held ≡ along way (own_entries number (filter (λ (write : Write). is_within low high write.0) writes))
+    → (left held : List Entry) → left ≡ held → held
+    ≡ along way (own_entries number (filter (λ (write : Write). is_within low high write.0) writes))
     → (lefts : List (List Entry)) → lefts ≡ left ∷ [] → GiveWinners (span_of low high) way (own_entries number ws) lefts
 gather_own low high way number ws writes same sorted left held left_is held_is lefts is =
     subst (GiveWinners (span_of low high) way (own_entries number ws)) (sym (is ∙ ap (λ l. l ∷ []) (left_is ∙ held_is)))
-    (subst (λ (w : List Write). GiveWinners (span_of low high) way (own_entries number w) (along way (own_entries number (filter (λ (write : Write). is_within low high write.0) writes)) ∷ [])) same
+    (subst (λ (w : List Write). GiveWinners (span_of low high) way (own_entries number w)
+    (along way (own_entries number (filter (λ (write : Write). is_within low high write.0) writes)) ∷ [])) same
     (give_own low high way number writes sorted))

@@ -40,7 +40,10 @@ module _ {H : Type 0} where
           → AllByRecursion (λ later. is_lower number later ≡ true → is_lower number next ≡ true) ls
           → AllByRecursion (λ later. is_lower number later ≡ true → is_lower number first ≡ true) ls
       skipped [] up all = tt
-      skipped (l ∷ ls) up all = ((λ lower. let lower_next = all.0 lower in let less = below in grind (arith, nat_tests)), skipped ls up all.1)
+      skipped (l ∷ ls) up all = (
+        (λ lower. let lower_next = all.0 lower in let less = below in grind (arith, nat_tests)),
+        skipped ls up all.1,
+      )
 
   rising-rest : (first : SealedLog H) (logs : List (SealedLog H)) → AreRising (first ∷ logs) → AreRising logs
   rising-rest first [] rising = tt
@@ -100,7 +103,8 @@ module _ {H : Type 0} where
   all_in P [] number log is all = absurd cc
   all_in P (first ∷ logs) number log is all = by (first.number == number) is (all_in P logs number log)
     where
-      by : (b : Bool) → cond b (Some first) (log_in logs number) ≡ Some log → (log_in logs number ≡ Some log → AllByRecursion P logs → P log) → P log
+      by : (b : Bool) → cond b (Some first) (log_in logs number) ≡ Some log
+          → (log_in logs number ≡ Some log → AllByRecursion P logs → P log) → P log
       by true is later = let same : first ≡ log = cc in subst P same all.0
       by false is later = later is all.1
 
@@ -127,13 +131,16 @@ module _ {H : Type 0} (bytes_of : H → Option (List ℕ)) (logs : List (SealedL
     stored_in-found : (bytes : List ℕ) → bytes_of found.held ≡ Some bytes
         → stored_at found.format bytes pointer key ≡ stored_in bytes_of logs pointer key
     stored_in-found bytes here =
-        sym (ap (λ l. option_and_then at_log l) (sym is) ∙ ap (λ o. option_and_then (λ bytes. stored_at found.format bytes pointer key) o) here)
+        sym (ap (λ l. option_and_then at_log l) (sym is)
+        ∙ ap (λ o. option_and_then (λ bytes. stored_at found.format bytes pointer key) o) here)
 
     module _ {T : Type 0} (good : Option Stored → T → Type 0) where
       by_case : (bytes : List ℕ) → bytes_of found.held ≡ Some bytes → found.number ≡ pointer.segment → (result : Result T LogFault)
           → IsNamed found.number result
-          → log_answer (good (stored_at found.format bytes pointer key)) (λ place. (stored_at found.format bytes pointer key ≡ None) × (place ≡ pointer.place)) result
-          → IsAnswer (good (stored_in bytes_of logs pointer key)) (IsNowhere (stored_in bytes_of logs pointer key) pointer) (as_answer result)
+          → log_answer (good (stored_at found.format bytes pointer key))
+          (λ place. (stored_at found.format bytes pointer key ≡ None) × (place ≡ pointer.place)) result
+          → IsAnswer (good (stored_in bytes_of logs pointer key))
+          (IsNowhere (stored_in bytes_of logs pointer key) pointer) (as_answer result)
       by_case bytes here same (Ok x) named answer = subst (λ stored. good stored x) (stored_in-found bytes here) answer
       by_case bytes here same (Err log.NoMemory) named answer = tt
       by_case bytes here same (Err (log.Disk name)) named answer = tt
@@ -144,7 +151,10 @@ module _ {H : Type 0} (bytes_of : H → Option (List ℕ)) (logs : List (SealedL
       pub answers_in : (before now : ℕ) (result : Result T LogFault) → found.number ≡ pointer.segment
           → Answers before now found.number (bytes_of found.held) (λ bytes x. good (stored_at found.format bytes pointer key) x)
           (λ bytes place. (stored_at found.format bytes pointer key ≡ None) × (place ≡ pointer.place)) result
-          → IsAnswer (good (stored_in bytes_of logs pointer key)) (IsNowhere (stored_in bytes_of logs pointer key) pointer) (as_answer result)
+          → IsAnswer (good (stored_in bytes_of logs pointer key))
+          (IsNowhere (stored_in bytes_of logs pointer key) pointer) (as_answer result)
       answers_in before now result same answers =
-          let bytes = told_bytes (bytes_of found.held) (all_in (λ (log : SealedLog H). IsSome (bytes_of log.held)) logs pointer.segment found (sym is) told.told) in
+          let bytes = told_bytes (bytes_of found.held)
+          (all_in (λ (log : SealedLog H). IsSome (bytes_of log.held)) logs pointer.segment found (sym is)
+          told.told) in
           by_case bytes.0 bytes.1 same result answers.named (answers.answer bytes.0 bytes.1)

@@ -36,14 +36,16 @@ module _ (held logs : Logs) (e : Entry) (leads : resolved held e.key e.body ≡ 
   fills_as old new (Err (Disk name)) is = tt
   fills_as old new (Err (Damaged name place)) is = (sym leads ∙ is.0, is.1)
 
-module _ {H : Type 0} (bytes_of : H → Option (List ℕ)) (version : Version H) (es : List Entry) (logs : Logs) (has : HasEntries bytes_of version es logs)
+module _ {H : Type 0} (bytes_of : H → Option (List ℕ)) (version : Version H) (es : List Entry) (logs : Logs)
+    (has : HasEntries bytes_of version es logs)
     (key : List ℕ) (number : ℕ) (e : Entry) (found : Some e ≡ winner (in_memory version) key number)
     (held : List (SealedLog H)) (are : held ≡ version.behind.logs.items) where
   wins : winner es key number ≡ Some e
   wins = ap (λ l. winner l key number) has.entries ∙ sym found
 
   leads : resolved (stored_in bytes_of held) e.key e.body ≡ resolved logs e.key e.body
-  leads = ap (λ l. resolved (stored_in bytes_of l) e.key e.body) are ∙ winner-has key number (LeadsIn bytes_of version logs) es e has.leads wins
+  leads = ap (λ l. resolved (stored_in bytes_of l) e.key e.body) are
+      ∙ winner-has key number (LeadsIn bytes_of version logs) es e has.leads wins
 
   told : AreTold bytes_of held
   told = subst (AreTold bytes_of) (sym are) has.told
@@ -51,9 +53,11 @@ module _ {H : Type 0} (bytes_of : H → Option (List ℕ)) (version : Version H)
   -- what is answered of the entry that was found
   pub given_of : (result : Result (Option Stored) ReadFault) → (AreTold bytes_of held → Gives (stored_in bytes_of held) (Some e) result)
       → Gives logs (winner es key number) result
-  given_of result answers = subst (λ w. Gives logs w result) (sym wins) (gives_as (stored_in bytes_of held) logs e leads result (answers told))
+  given_of result answers = subst (λ w. Gives logs w result) (sym wins)
+      (gives_as (stored_in bytes_of held) logs e leads result (answers told))
 
-  pub filled_of : (old new : List ℕ) (result : Result Found ReadFault) → (AreTold bytes_of held → Fills (stored_in bytes_of held) (Some e) old new result)
+  pub filled_of : (old new : List ℕ) (result : Result Found ReadFault)
+      → (AreTold bytes_of held → Fills (stored_in bytes_of held) (Some e) old new result)
       → Fills logs (winner es key number) old new result
   filled_of old new result answers =
       subst (λ w. Fills logs w old new result) (sym wins) (fills_as (stored_in bytes_of held) logs e leads old new result (answers told))

@@ -43,17 +43,23 @@ at_most n = grind (arith, nat_tests)
 module _ (number : ℕ) where
   -- ---- as entries
 
-  before-own : (write : Write) (ws : List Write) → T (below_all key_cmp write.0 ws) → IsBefore (own_entry number write) (own_entries number ws)
+  before-own : (write : Write) (ws : List Write) → T (below_all key_cmp write.0 ws)
+      → IsBefore (own_entry number write) (own_entries number ws)
   before-own write [] below = tt
   before-own write (w ∷ ws) below = (
-    ap (λ r. ordering_then r (nat_cmp number number)) (is_less (key_cmp write.0 w.0) (first_part (is_lt (key_cmp write.0 w.0)) (below_all key_cmp write.0 ws) below)),
+    ap (λ r. ordering_then r (nat_cmp number number))
+        (is_less (key_cmp write.0 w.0)
+        (first_part (is_lt (key_cmp write.0 w.0)) (below_all key_cmp write.0 ws) below)),
     before-own write ws (second_part (is_lt (key_cmp write.0 w.0)) (below_all key_cmp write.0 ws) below),
   )
 
   pub rising-own : (ws : List Write) → T (is_sorted key_cmp ws) → IsRising (own_entries number ws)
   rising-own [] sorted = tt
-  rising-own (w ∷ ws) sorted =
-      (before-own w ws (first_part (below_all key_cmp w.0 ws) (is_sorted key_cmp ws) sorted), rising-own ws (second_part (below_all key_cmp w.0 ws) (is_sorted key_cmp ws) sorted))
+  rising-own (w ∷ ws) sorted = (
+    before-own w ws (first_part (below_all key_cmp w.0 ws) (is_sorted key_cmp ws) sorted),
+    rising-own ws
+        (second_part (below_all key_cmp w.0 ws) (is_sorted key_cmp ws) sorted),
+  )
 
   -- an entry of the number counts before all that count at it
   pub newest_of-own : (write : Write) (w : Option Entry) → ((e : Entry) → w ≡ Some e → nat_le e.version number ≡ true)
@@ -72,7 +78,8 @@ module _ (number : ℕ) where
   pub winner-own : (ws : List Write) (key : List ℕ) → winner (own_entries number ws) key number ≡ entry_of key (find key_cmp key ws)
   winner-own [] key = refl
   winner-own (w ∷ ws) key =
-      ap (λ b. newest_of (only_if (eq_by_cmp key_cmp key w.0 && b) (own_entry number w)) (winner (own_entries number ws) key number)) (at_most number)
+      ap (λ b. newest_of (only_if (eq_by_cmp key_cmp key w.0 && b) (own_entry number w))
+      (winner (own_entries number ws) key number)) (at_most number)
       ∙ by (eq_by_cmp key_cmp key w.0) refl (winner-own ws key)
     where
       by : (b : Bool) → eq_by_cmp key_cmp key w.0 ≡ b → winner (own_entries number ws) key number ≡ entry_of key (find key_cmp key ws)
@@ -111,5 +118,6 @@ find-rows_written ((k, Delete) ∷ ws) rows key =
     let p : List ℕ → Bool = λ x. not (eq_by_cmp key_cmp k x) in
     find-where_key key_cmp p key (tie_alike p key) (rows_written ws rows)
     ∙ ap (λ found. cond (p key) found None) (find-rows_written ws rows key)
-    ∙ ap (λ b. cond (not b) (value_left (find key_cmp key rows) (find key_cmp key ws)) None) ((eq_by_cmp_equiv nat_list_cmp_total).symm k key)
+    ∙ ap (λ b. cond (not b) (value_left (find key_cmp key rows) (find key_cmp key ws)) None)
+    ((eq_by_cmp_equiv nat_list_cmp_total).symm k key)
     ∙ left_without (eq_by_cmp key_cmp key k) (find key_cmp key rows) (find key_cmp key ws)

@@ -1,5 +1,6 @@
 -- Entries of which each key stands once, as a way goes, give the rows that a finite map has that way.
-use Rattle.std.proofs.Common.{◌≡◌, ℕ, zero, suc, ◌≤◌, Bool, true, false, cond, ◌&&◌, List, [], ◌∷◌, ◌++◌, length, map, take, reverse, refl, ap, sym, ◌∙◌, subst, arith}
+use Rattle.std.proofs.Common.{◌≡◌, ℕ, zero, suc, ◌≤◌, Bool, true, false, cond, ◌&&◌, List, [], ◌∷◌, ◌++◌, length, map, take}
+use Rattle.std.proofs.Common.{reverse, refl, ap, sym, ◌∙◌, subst, arith}
 use Rattle.std.proofs.lemmas.List.{reverse-append, reverse-reverse, take-map}
 use Rattle.std.specs.Prelude.{T, Option, Some, None, IsSome, unwrap_or}
 use Rattle.std.specs.Cmp.Lexicographic.{nat_list_cmp_total}
@@ -91,7 +92,8 @@ first-last : (e f : Entry) (es : List Entry) → IsFirst Up e es → is_gt (way_
 first-last e f [] first last = (last, tt)
 first-last e f (g ∷ es) first last = (first.0, first-last e f es first.1 last)
 
-along-last : (es : List Entry) (e : Entry) → IsAlong Up es → AllByRecursion (λ f. is_gt (way_cmp Up f e) ≡ false) es → IsAlong Up (es ++ e ∷ [])
+along-last : (es : List Entry) (e : Entry) → IsAlong Up es → AllByRecursion (λ f. is_gt (way_cmp Up f e) ≡ false) es
+    → IsAlong Up (es ++ e ∷ [])
 along-last [] e along before = (tt, tt)
 along-last (f ∷ es) e along before = (first-last f e es along.0 before.0, along-last es e along.1 before.1)
 
@@ -101,7 +103,8 @@ all-last P (f ∷ es) e all last = (all.0, all-last P es e all.1 last)
 
 all-reverse : (P : Entry → Type 0) (es : List Entry) → AllByRecursion P es → AllByRecursion P (reverse es)
 all-reverse P [] all = tt
-all-reverse P (e ∷ es) all = subst (AllByRecursion P) (sym (reverse-append (e ∷ []) es)) (all-last P (reverse es) e (all-reverse P es all.1) all.0)
+all-reverse P (e ∷ es) all = subst (AllByRecursion P) (sym (reverse-append (e ∷ []) es))
+    (all-last P (reverse es) e (all-reverse P es all.1) all.0)
 
 along-reverse : (es : List Entry) → IsAlong Down es → IsAlong Up (reverse es)
 along-reverse [] along = tt
@@ -187,7 +190,8 @@ find-rows cut key [] = refl
 find-rows cut key (e ∷ es) = by (eq_by_cmp key_cmp key e.key) (find-rows cut key es)
   where
     by : (b : Bool) → find key_cmp key (map (row_at cut) es) ≡ first_of cut (of_key key es)
-        → cond b (Some (row_at cut e).1) (find key_cmp key (map (row_at cut) es)) ≡ first_of cut (cond b (e ∷ of_key key es) (of_key key es))
+        → cond b (Some (row_at cut e).1) (find key_cmp key (map (row_at cut) es)) ≡ first_of cut
+        (cond b (e ∷ of_key key es) (of_key key es))
     by true later = refl
     by false later = later
 
@@ -203,7 +207,8 @@ led_by logs key (Inline v) value kept have = subst IsSome (sym have) refl
 led_by logs key Gone value kept have = absurd cc
 led_by logs key (Far pointer) value kept have = by (logs pointer key) have
   where
-    by : (o : Option Stored) → MayHave (elim o as (λ _. Option (Option Stored)) [ Some v ↦ Some (Some v) | None ↦ None ]) value → IsSome value
+    by : (o : Option Stored) → MayHave
+        (elim o as (λ _. Option (Option Stored)) [ Some v ↦ Some (Some v) | None ↦ None ]) value → IsSome value
     by None have = have
     by (Some v) have = subst IsSome (sym have) refl
 led_by logs key (Logged v pointer) value kept have = subst IsSome (sym have) refl
@@ -229,7 +234,8 @@ module _ (logs : Logs) (all : List Entry) (number : ℕ) (cut : List Row)
         tt,
       )
 
-  gone-none : (key : List ℕ) (body : Body) (value : Option Stored) → is_gone body ≡ true → MayHave (resolved logs key body) value → None ≡ value
+  gone-none : (key : List ℕ) (body : Body) (value : Option Stored) → is_gone body ≡ true
+      → MayHave (resolved logs key body) value → None ≡ value
   gone-none key (Inline v) value gone have = absurd cc
   gone-none key Gone value gone have = sym have
   gone-none key (Far pointer) value gone have = absurd cc
@@ -279,9 +285,12 @@ module _ (logs : Logs) (all : List Entry) (number : ℕ) (cut : List Row)
         sym (reverse-reverse (map (row_at cut) seen)) ∙ ap reverse (sym (map-reverse (row_at cut) seen) ∙ same)
 
     all_seen : AllByRecursion (Is_seen logs cut) seen
-    all_seen = all_by_key (Is_seen logs cut) seen (λ key. subst (AllByRecursion (Is_seen logs cut)) (sym (winners key)) (seen_of key (winner all key number) refl))
+    all_seen = all_by_key (Is_seen logs cut) seen
+        (λ key. subst (AllByRecursion (Is_seen logs cut)) (sym (winners key))
+        (seen_of key (winner all key number) refl))
 
-    led-same : (led : Option (Option Stored)) (v : Stored) (value : Option Stored) → led ≡ Some (Some v) → MayHave led value → v ≡ unwrap_or value (untagged [])
+    led-same : (led : Option (Option Stored)) (v : Stored) (value : Option Stored) → led ≡ Some (Some v)
+        → MayHave led value → v ≡ unwrap_or value (untagged [])
     led-same led v value is may =
         let same : value ≡ Some v = subst (λ l. MayHave l value) is may in sym (ap (λ o. unwrap_or o (untagged [])) same)
 
@@ -293,7 +302,8 @@ module _ (logs : Logs) (all : List Entry) (number : ℕ) (cut : List Row)
     rows-taken (suc n) [] (row ∷ rows) all are = absurd are
     rows-taken (suc n) (e ∷ es) [] all are = absurd are
     rows-taken (suc n) (e ∷ es) (row ∷ rows) all are =
-        let first : row ≡ row_at cut e = λ i. (are.0 i, led-same (resolved logs e.key e.body) row.1 (find key_cmp e.key cut) are.1 all.0.1 i) in
+        let first : row ≡ row_at cut e = λ i.
+        (are.0 i, led-same (resolved logs e.key e.body) row.1 (find key_cmp e.key cut) are.1 all.0.1 i) in
         let later = rows-taken n es rows all.1 are.2 in
         ap (λ r. r ∷ rows) first ∙ ap (λ l. row_at cut e ∷ l) later
 

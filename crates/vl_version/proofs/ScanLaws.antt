@@ -41,8 +41,10 @@ in_span_of (l ∷ ls) (h ∷ hs) q = refl
 sorted_written : (own : List (List ℕ × Change)) (rows : List Row) → T (is_sorted key_cmp rows)
     → T (is_sorted key_cmp (rows_written own rows))
 sorted_written [] rows rising = rising
-sorted_written ((key, Set value) ∷ own) rows rising = is_sorted-put key_cmp nat_list_cmp_total key value (rows_written own rows) (sorted_written own rows rising)
-sorted_written ((key, Delete) ∷ own) rows rising = is_sorted-where_key key_cmp (λ k. not (eq_by_cmp key_cmp key k)) (rows_written own rows) (sorted_written own rows rising)
+sorted_written ((key, Set value) ∷ own) rows rising = is_sorted-put key_cmp nat_list_cmp_total key value
+    (rows_written own rows) (sorted_written own rows rising)
+sorted_written ((key, Delete) ∷ own) rows rising = is_sorted-where_key key_cmp (λ k. not (eq_by_cmp key_cmp key k))
+    (rows_written own rows) (sorted_written own rows rising)
 
 module _ (logs : Logs) (number : ℕ) (own : List (List ℕ × Change)) (es : List Entry) where
   -- ---- what wins under own writes
@@ -53,7 +55,9 @@ module _ (logs : Logs) (number : ℕ) (own : List (List ℕ × Change)) (es : Li
 
   may_have_changed : (key : List ℕ) (change : Option Change) (old : Option Stored)
       → MayHave (resolved_at logs (winner es key number)) old
-      → MayHave (resolved_at logs (newest_of (elim change as (λ _. Option Entry) [ Some c ↦ Some (own_entry number (key, c)) | None ↦ None ]) (winner es key number))) (value_left old change)
+      → MayHave (resolved_at logs
+      (newest_of (elim change as (λ _. Option Entry) [ Some c ↦ Some (own_entry number (key, c)) | None ↦ None ])
+      (winner es key number))) (value_left old change)
   may_have_changed key None old have = have
   may_have_changed key (Some (Set v)) old have =
       subst (λ (w : Option Entry). MayHave (resolved_at logs w) (Some v)) (sym (won_over key (Set v))) refl
@@ -67,7 +71,8 @@ module _ (logs : Logs) (number : ℕ) (own : List (List ℕ × Change)) (es : Li
     found_cut : (key : List ℕ)
         → find key_cmp key cut ≡ cond (is_within low high key) (value_left (find key_cmp key rows_at) (find key_cmp key own)) None
     found_cut key =
-        find-where_key key_cmp (is_within low high) key (λ x tied. ap (is_within low high) (sym (key_exact key x tied))) (rows_written own rows_at)
+        find-where_key key_cmp (is_within low high) key
+        (λ x tied. ap (is_within low high) (sym (key_exact key x tied))) (rows_written own rows_at)
         ∙ ap (λ found. cond (is_within low high key) found None) (find-rows_written own rows_at key)
 
     have_cut : (key : List ℕ) (all : List Entry)
@@ -75,15 +80,21 @@ module _ (logs : Logs) (number : ℕ) (own : List (List ℕ × Change)) (es : Li
         → MayHave (resolved_at logs (winner es key number)) (find key_cmp key rows_at)
         → MayHave (resolved_at logs (winner all key number)) (find key_cmp key cut)
     have_cut key all wins have =
-        subst (λ (w : Option Entry). MayHave (resolved_at logs w) (find key_cmp key cut)) (sym (wins ∙ ap (λ b. cond b (winner (own_entries number own ++ es) key number) None) (in_span_of low high key)))
-        (subst (MayHave (resolved_at logs (cond (is_within low high key) (winner (own_entries number own ++ es) key number) None))) (sym (found_cut key))
+        subst (λ (w : Option Entry). MayHave (resolved_at logs w) (find key_cmp key cut))
+        (sym (wins ∙ ap (λ b. cond b (winner (own_entries number own ++ es) key number) None)
+        (in_span_of low high key)))
+        (subst (MayHave (resolved_at logs
+        (cond (is_within low high key) (winner (own_entries number own ++ es) key number) None)))
+        (sym (found_cut key))
         (by (is_within low high key)))
       where
         by : (b : Bool)
-            → MayHave (resolved_at logs (cond b (winner (own_entries number own ++ es) key number) None)) (cond b (value_left (find key_cmp key rows_at) (find key_cmp key own)) None)
+            → MayHave (resolved_at logs (cond b (winner (own_entries number own ++ es) key number) None))
+            (cond b (value_left (find key_cmp key rows_at) (find key_cmp key own)) None)
         by true =
             subst (λ (w : Option Entry). MayHave (resolved_at logs w) (value_left (find key_cmp key rows_at) (find key_cmp key own)))
-            (sym (winner-append key number (own_entries number own) es ∙ ap (λ w. newest_of w (winner es key number)) (winner-own number own key)))
+            (sym (winner-append key number (own_entries number own) es
+            ∙ ap (λ w. newest_of w (winner es key number)) (winner-own number own key)))
             (may_have_changed key (find key_cmp key own) (find key_cmp key rows_at) have)
         by false = refl
 
@@ -91,11 +102,13 @@ module _ (logs : Logs) (number : ℕ) (own : List (List ℕ × Change)) (es : Li
 
   -- the rows that are taken are those of the scan
   pub rows_are_scanned : (low high : List ℕ) (way : Way) (n : ℕ) (all seen : List Entry) (rows rows_at : List Row)
-      → ((key : List ℕ) → winner all key number ≡ cond (is_in_span (span_of low high) key) (winner (own_entries number own ++ es) key number) None)
+      → ((key : List ℕ) → winner all key number
+      ≡ cond (is_in_span (span_of low high) key) (winner (own_entries number own ++ es) key number) None)
       → IsAlong way seen → ((key : List ℕ) → of_key key seen ≡ shown (winner all key number))
       → T (is_sorted key_cmp rows_at) → ((key : List ℕ) → MayHave (resolved_at logs (winner es key number)) (find key_cmp key rows_at))
       → AreRowsOf logs (take n seen) rows
       → rows ≡ take n (in_direction way (where_key key_cmp (is_within low high) (rows_written own rows_at)))
   rows_are_scanned low high way n all seen rows rows_at wins along winners sorted have are =
-      rows_are_taken logs all number (where_key key_cmp (is_within low high) (rows_written own rows_at)) (λ key. have_cut low high rows_at key all (wins key) (have key)) way seen along winners
+      rows_are_taken logs all number (where_key key_cmp (is_within low high) (rows_written own rows_at))
+      (λ key. have_cut low high rows_at key all (wins key) (have key)) way seen along winners
       (is_sorted-where_key key_cmp (is_within low high) (rows_written own rows_at) (sorted_written own rows_at sorted)) n rows are

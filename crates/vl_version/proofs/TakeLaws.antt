@@ -1,5 +1,6 @@
 -- Rows are taken one after the other.
-use Rattle.std.proofs.Common.{◌≡◌, ℕ, zero, suc, ◌<◌, ◌≤◌, List, [], ◌∷◌, ◌++◌, length, take, drop, refl, ap, sym, ◌∙◌, subst, arith, append_assoc, length-append, append-nil, Option, Some, None, inl, inr}
+use Rattle.std.proofs.Common.{◌≡◌, ℕ, zero, suc, ◌<◌, ◌≤◌, List, [], ◌∷◌, ◌++◌, length, take, drop, refl, ap, sym, ◌∙◌, subst}
+use Rattle.std.proofs.Common.{arith, append_assoc, length-append, append-nil, Option, Some, None, inl, inr}
 use Rattle.std.specs.Prelude.{Err}
 use Rattle.std.proofs.lemmas.List.{drop_all, take_all}
 use Rattle.std.specs.List.{AllByRecursion}
@@ -52,7 +53,8 @@ drop_front (x ∷ xs) ys zero exact = absurd (omega arith)
 drop_front (x ∷ xs) ys (suc n) exact = drop_front xs ys n (omega arith)
 
 module _ (logs : Logs) (whole : List Entry) where
-  pub takes_none : (left : Option (List Entry)) (limit : ℕ) → left ≡ Some whole → AllByRecursion IsKept whole → TakesFront logs whole left [] limit
+  pub takes_none : (left : Option (List Entry)) (limit : ℕ) → left ≡ Some whole → AllByRecursion IsKept whole
+      → TakesFront logs whole left [] limit
   takes_none left limit is kept = record { front = []; rest = whole; parts = refl; behind = is; kept = kept; are = tt; few = omega arith }
 
   module _ (left now : Option (List Entry)) (rows : List Row) (limit : ℕ) (so : TakesFront logs whole left rows limit) where
@@ -80,7 +82,8 @@ module _ (logs : Logs) (whole : List Entry) where
         }
 
     -- one of all that is astray is one of those that are left
-    astray_behind : (fs rest : List Entry) (name : Name) (place : ℕ) → OneAstray logs rest name place → OneAstray logs (fs ++ rest) name place
+    astray_behind : (fs rest : List Entry) (name : Name) (place : ℕ) → OneAstray logs rest name place
+        → OneAstray logs (fs ++ rest) name place
     astray_behind [] rest name place one = one
     astray_behind (f ∷ fs) rest name place one = inr (astray_behind fs rest name place one)
 
@@ -98,7 +101,8 @@ module _ (logs : Logs) (whole : List Entry) where
     pub takes_all : limit ≤ length rows → AreRowsOf logs (take limit whole) rows × (left ≡ Some (drop limit whole))
     takes_all full =
         let exact : length so.front ≡ limit = let few = so.few in let l = long in omega arith in (
-          subst (λ (es : List Entry). AreRowsOf logs es rows) (sym (ap (take limit) so.parts ∙ take_front so.front so.rest limit exact)) so.are,
+          subst (λ (es : List Entry). AreRowsOf logs es rows)
+              (sym (ap (take limit) so.parts ∙ take_front so.front so.rest limit exact)) so.are,
           so.behind ∙ ap Some (sym (ap (drop limit) so.parts ∙ drop_front so.front so.rest limit exact)),
         )
 

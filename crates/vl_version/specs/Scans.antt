@@ -1,5 +1,5 @@
 -- What a scan answers.
-use Rattle.std.specs.Prelude.{◌≡◌, ℕ, IsSome, List, Option, Some, None, Result}
+use Rattle.std.specs.Prelude.{◌≡◌, ℕ, IsSome, List, Option, Some, None}
 use Rattle.std.specs.FinMap.{get}
 use Rattle.vl_disk.specs.declared.name.Name.{Name}
 use Rattle.vl_model.specs.Keys.{Pairs, Row, Stored, Writes}
@@ -7,8 +7,7 @@ use Rattle.vl_model.specs.Reads.{Scan, rows_of}
 use Rattle.vl_model.specs.Winners.{Logs, resolved_at, winner}
 use Rattle.vl_model.specs.declared.entry.Entry.{Entry}
 use Rattle.vl_txn.specs.Reads.{scan_of}
-use Rattle.vl_version.specs.Answers.{IsAnswer, IsAstray}
-use Rattle.vl_version.specs.declared.fault.ReadFault.{ReadFault}
+use Rattle.vl_version.specs.Answers.{IsAstray}
 use Rattle.vl_version.specs.declared.wanted.Wanted.{Wanted}
 
 -- a key has the value to which its winner leads, and some value where that doesn't stand
@@ -33,8 +32,3 @@ scan_by wanted own rows = scan_of wanted.low.now wanted.high.now wanted.limit wa
 abbrev pub AreScanned : Logs → List Entry → ℕ → Wanted → Writes → List Row → Type 0
 AreScanned logs es number wanted own rows =
     (pairs : Pairs) → MayStandFor logs es number pairs → rows ≡ rows_of pairs (scan_by wanted own rows)
-
--- just these rows are answered, or damage where some winner leads astray
-abbrev pub GivesRows : Logs → List Entry → ℕ → Wanted → Writes → Result (List Row) ReadFault → Type 0
-GivesRows logs es number wanted own result =
-    IsAnswer (AreScanned logs es number wanted own) (SomeAstray logs es number) result

@@ -104,17 +104,23 @@ module _ (b : Base) (l : Layout) (h : History) (t : Transaction) (base : IsBase 
       shown_either : (image : Image)
           → OpensEither b.state b.before l.active next_frame (last_number h) (last_number h + 1) image → ShowsBetween h longer image
       shown_either image either = ⊎_elim
-          (λ (opens : Opens image (Ok (opening_held b.state (b.before ++ l.active ∷ []) (last_number h)))).
-          (last_number h, omega arith, omega (arith, one_more),
-          shown_later h longer (with_commit-extends h (from_sorted t.writes)) image (last_number h) (omega arith)
-          (shown_by image b.state (logs_from b l) h (last_number h) opens some since tidy.last
-          (held_logs_show b l h base tidy))))
-          (λ (opens : Opens image (Ok (opened_with (with_frame next_frame l.active)))).
-          (last_number longer, omega (arith, one_more), omega arith,
-          shown_by image b.state (logs_from b after) longer (last_number longer)
-          (subst (λ (n : ℕ). Opens image (Ok (opening_held b.state (logs_from b after) n))) (sym one_more)
-          (subst (λ (s : Segment). Opens image (Ok (opened_with s))) active_more opens))
-          some (omega (arith, since, one_more)) tidy_after.last (held_logs_show b after longer commit_base tidy_after)))
+          (λ (opens : Opens image (Ok (opening_held b.state (b.before ++ l.active ∷ []) (last_number h)))). (
+            last_number h,
+            omega arith,
+            omega (arith, one_more),
+            shown_later h longer (with_commit-extends h (from_sorted t.writes)) image (last_number h) (omega arith)
+                (shown_by image b.state (logs_from b l) h (last_number h) opens some since tidy.last
+                (held_logs_show b l h base tidy)),
+          ))
+          (λ (opens : Opens image (Ok (opened_with (with_frame next_frame l.active)))). (
+            last_number longer,
+            omega (arith, one_more),
+            omega arith,
+            shown_by image b.state (logs_from b after) longer (last_number longer)
+                (subst (λ (n : ℕ). Opens image (Ok (opening_held b.state (logs_from b after) n))) (sym one_more)
+                (subst (λ (s : Segment). Opens image (Ok (opened_with s))) active_more opens))
+                some (omega (arith, since, one_more)) tidy_after.last (held_logs_show b after longer commit_base tidy_after),
+          ))
           either
         where
           some : 1 ≤ b.state.keep

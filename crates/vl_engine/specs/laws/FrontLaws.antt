@@ -77,12 +77,12 @@ pub front_started : (h : History) (l : Layout) (live : LiveTickets) → l.live �
     → live.tickets ≡ [] → IsFront live [] h l
 front_started h l live none last nothing =
     subst (λ (xs : List Live). IsFront live [] h (record l { live = xs })) (sym none) (record {
-  last = last;
-  live_are = nothing;
-  lived = record { rising = tt; known = tt; few = omega arith };
-  readable = omega arith;
-  remembers = nothing_remembered (last_number h) h (omega arith);
-})
+      last = last;
+      live_are = nothing;
+      lived = record { rising = tt; known = tt; few = omega arith };
+      readable = omega arith;
+      remembers = nothing_remembered (last_number h) h (omega arith);
+    })
 
 module _ (live : LiveTickets) (named : List Named) (h : History) (l : Layout) (is : IsFront live named h l) where
   -- behind a begin,

@@ -27,6 +27,7 @@ use crate::staging::{StagedCommit, stage_commit};
 use crate::{CommitFail, Done, Engine, Txn, append_durably};
 use vl_disk::{Disk, Name};
 use vl_front::Decision;
+use vl_model::reads_without_conflict_stay_explained;
 use vl_seglog::ActiveLog;
 
 impl<D: Disk> Engine<D> {
@@ -76,11 +77,7 @@ impl<D: Disk> Engine<D> {
         ensures files { SameFiles (D.told self.old.disk) (D.told self.new.disk) }
         ensures steps { self.new.core.back ≡ self.old.core.back }
     {
-        let Ok(decision) = self
-            .core
-            .front
-            .decide(txn.number, &txn.reads, &txn.writes)
-        else {
+        let Ok(decision) = self.core.front.decide(txn.number, &txn.reads, &txn.writes) else {
             return Err(CommitFail::NoMemory(txn));
         };
         match decision {
@@ -98,7 +95,10 @@ impl<D: Disk> Engine<D> {
                 Err(CommitFail::Conflict { key, number })
             }
             Decision::Full { length, frame } => Err(CommitFail::Full { txn, length, frame }),
-            Decision::Write => self.write(txn),
+            Decision::Write => {
+                reads_without_conflict_stay_explained();
+                self.write(txn)
+            }
         }
     }
 

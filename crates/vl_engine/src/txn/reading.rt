@@ -16,7 +16,7 @@ use vl_model::{Change, Value, Way};
 use vl_txn::{Writes, check_bound, check_key};
 use vl_version::Wanted;
 
-impl<H: HeldFile, R: Reader<Held = H>> Txn<H, R> {
+impl<H: HeldFile, R: Reader<Held = H> + Drop> Txn<H, R> {
     /// The number at which it reads: that of the last commit before it began.
     pub fn number(&self) -> u64
         ensures { result ≡ self.now.number }

@@ -10,7 +10,7 @@ ghost use Rattle.vl_txn.specs.Refusals.{IsWritten};
 use crate::{SetFail, Txn};
 use vl_disk::{HeldFile, Reader};
 
-impl<H: HeldFile, R: Reader<Held = H>> Txn<H, R> {
+impl<H: HeldFile, R: Reader<Held = H> + Drop> Txn<H, R> {
     /// Writes a value, in the place of an earlier write of its key. It is refused exactly by the limits, and then nothing changes.
     pub fn set(&mut self, key: &[u8], value: &[u8]) -> Result<(), SetFail>
         ensures written { IsWritten self.old.writes key.now (Set (untagged value.now)) self.new.writes result }

@@ -13,7 +13,7 @@ use vl_model::{Value, Way};
 use vl_txn::{Writes, check_bound, check_key};
 use vl_version::{ReadFault as VersionFault, Wanted};
 
-impl<H: HeldFile, R: Reader<Held = H>> View<H, R> {
+impl<H: HeldFile, R: Reader<Held = H> + Drop> View<H, R> {
     /// The number at which it reads: that of the last commit before it began.
     pub fn number(&self) -> u64
         ensures { result ≡ self.now.number }
@@ -31,9 +31,10 @@ impl<H: HeldFile, R: Reader<Held = H>> View<H, R> {
         ensures sound { (h : History) → SeesAlone H.bytes self.old h → IsSound result }
     {
         check_key(key)?;
-        Ok(self
-            .version
-            .get(self.alloc, &mut self.reader, key, self.number)?)
+        Ok(
+            self.version
+                .get(self.alloc, &mut self.reader, key, self.number)?,
+        )
     }
 
     /// The same, with the value's tag.
@@ -89,8 +90,9 @@ impl<H: HeldFile, R: Reader<Held = H>> View<H, R> {
             way,
         };
         let own = Writes::new(self.alloc);
-        Ok(self
-            .version
-            .rows(self.alloc, &mut self.reader, &own, wanted, self.number)?)
+        Ok(
+            self.version
+                .rows(self.alloc, &mut self.reader, &own, wanted, self.number)?,
+        )
     }
 }

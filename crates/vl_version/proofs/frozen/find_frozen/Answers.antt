@@ -15,5 +15,7 @@ loop-log-preserved c =
     let log = c.log-item.result in
     c.newest_ref-best.ensures
     ∙ ap (λ x. newest_of x (option_copied c.find.result)) c.loop-log.invariant
-    ∙ ap (newest_of (winner (held_entries (take i all)) key number)) (c.find.ensures ∙ ap (λ (m : Contents). winner m.entries key number) c.memtable.ensures)
-    ∙ sym (ap (λ l. winner (held_entries l) key number) (take_next all i log c.loop-log-test.true c.log-item.is) ∙ winner-push key number (take i all) log)
+    ∙ ap (newest_of (winner (held_entries (take i all)) key number))
+    (c.find.ensures ∙ ap (λ (m : Contents). winner m.entries key number) c.memtable.ensures)
+    ∙ sym (ap (λ l. winner (held_entries l) key number) (take_next all i log c.loop-log-test.true c.log-item.is)
+    ∙ winner-push key number (take i all) log)

@@ -8,6 +8,7 @@ pub returns : goal.returns
 returns g c =
     on_ok_weaker c.add_runs.result
     (λ joined es so.
-    give_next c.args.span.now c.args.way es c.args.memtable.now (map left_in c.args.sources.now.items) c.in_ok-cursors_within.field-0.items (map left_in c.add_runs.new.sources.items)
+    give_next c.args.span.now c.args.way es c.args.memtable.now (map left_in c.args.sources.now.items)
+    c.in_ok-cursors_within.field-0.items (map left_in c.add_runs.new.sources.items)
     c.in_ok-cursors_within.ensures joined so)
     c.add_runs.ensures

@@ -10,7 +10,8 @@ use Rattle.vl_version.proofs.gather.sources_within.Goals as goal
 
 pub loop-log-init : goal.loop-log-init
 loop-log-init g c =
-    gather_first c.args.wanted.low.now c.args.wanted.high.now c.args.wanted.way (own_entries c.args.number (entries c.args.own.now)) c.args.active.now.entries
+    gather_first c.args.wanted.low.now c.args.wanted.high.now c.args.wanted.way
+    (own_entries c.args.number (entries c.args.own.now)) c.args.active.now.entries
     c.in_ok-span.span c.in_ok-span.ensures (map left_in c.in_ok-sources.sources.items) (map left_in c.add_memtable.new.sources.items)
     c.in_ok-sources.ensures c.in_ok-add_memtable.ensures
 
@@ -18,7 +19,8 @@ pub loop-log-preserved : goal.loop-log-preserved
 loop-log-preserved g c =
     let way = c.args.wanted.way in
     let log = c.log-item.result in
-    gather_next c.args.wanted.low.now c.args.wanted.high.now way (own_entries c.args.number (entries c.args.own.now)) c.args.active.now.entries
+    gather_next c.args.wanted.low.now c.args.wanted.high.now way (own_entries c.args.number (entries c.args.own.now))
+    c.args.active.now.entries
     c.in_ok-span.span c.in_ok-span.ensures (map left_in c.loop-log.sources.items) (map left_in c.add_memtable-in-loop-log.new.sources.items)
     c.args.frozen.now c.loop-log.log-index log c.loop-log-test.true c.log-item.is c.loop-log.invariant
     (subst (λ (m : Contents). (es : List Entry) → GiveWinners c.in_ok-span.span way es (map left_in c.loop-log.sources.items)

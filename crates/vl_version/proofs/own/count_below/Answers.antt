@@ -10,5 +10,6 @@ pub returns-clause-count : goal.returns-clause-count
 returns-clause-count c =
     let test = λ (write : List ℕ × Change). is_key_below c.args.key.now write in
     let writes = c.args.writes.now in
-    let point = IsPartitionPoint-from_clause test _ _ c.partition_point.ensures.partitioned (parted_at test writes (parted writes c.requires c.args.key.now)) (λ a r q k. search rules) in
+    let point = IsPartitionPoint-from_clause test _ _ c.partition_point.ensures.partitioned
+    (parted_at test writes (parted writes c.requires c.args.key.now)) (λ a r q k. search rules) in
     point-prefix test writes _ c.partition_point.ensures.bound point

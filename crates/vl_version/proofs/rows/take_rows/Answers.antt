@@ -17,14 +17,16 @@ returns-in_default-clause-answers g c told left is kept =
     let before = g.C.Cursor.left c.taking.entries in
     let now = g.C.Cursor.left c.next.new.self in
     let gives = subst (λ (o : Option Entry). Gives before now o) c.in_default.is c.in_ok-entry.ensures.given in
-    (takes_end (stored_in g.H.HeldFile.bytes c.args.logs.now) left before now c.taking.rows.items c.args.limit (c.taking.invariant.taken told left is kept) gives).0
+    (takes_end (stored_in g.H.HeldFile.bytes c.args.logs.now) left before now c.taking.rows.items c.args.limit
+    (c.taking.invariant.taken told left is kept) gives).0
 
 pub returns-in_default-clause-no_further : goal.returns-in_default-clause-no_further
 returns-in_default-clause-no_further g c told left is kept =
     let before = g.C.Cursor.left c.taking.entries in
     let now = g.C.Cursor.left c.next.new.self in
     let gives = subst (λ (o : Option Entry). Gives before now o) c.in_default.is c.in_ok-entry.ensures.given in
-    (takes_end (stored_in g.H.HeldFile.bytes c.args.logs.now) left before now c.taking.rows.items c.args.limit (c.taking.invariant.taken told left is kept) gives).1
+    (takes_end (stored_in g.H.HeldFile.bytes c.args.logs.now) left before now c.taking.rows.items c.args.limit
+    (c.taking.invariant.taken told left is kept) gives).1
 
 pub taking-preserved : goal.taking-preserved
 taking-preserved g c = record {
@@ -53,18 +55,27 @@ returns-in_err-push_row-clause-answers g c told left is kept =
     let so = c.taking.invariant.taken told left is kept in
     let gives = subst (λ (o : Option Entry). Gives before now o) c.in-Some.is c.in_ok-entry.ensures.given in
     let p = err_from_is_err_and c.from_residual-in_err-push_row.result c.from_residual-in_err-push_row.ensures.1 in
-    subst (λ (r : Result (Vec Row Global) ReadFault). IsAnswer (λ rows. AreRowsOf logs (take c.args.limit left) rows.items) (λ name place. g.C.Cursor.may_fail c.args.entries.now (Damaged name place) ⊎ OneAstray logs left name place) r)
+    subst (λ (r : Result (Vec Row Global) ReadFault). IsAnswer
+    (λ rows. AreRowsOf logs (take c.args.limit left) rows.items)
+    (λ name place. g.C.Cursor.may_fail c.args.entries.now (Damaged name place) ⊎ OneAstray logs left name place)
+    r)
     (sym (p.1 ∙ ap Err p.2))
-    (err_answer {T = Unit {0}} {U = Vec Row Global} (λ _. PushesRow logs c.in-Some.entry rows c.push_row.new.rows.items) (λ rows. AreRowsOf logs (take c.args.limit left) rows.items) (IsAstray logs (Some c.in-Some.entry)) (λ name place. g.C.Cursor.may_fail c.args.entries.now (Damaged name place) ⊎ OneAstray logs left name place) c.in_err-push_row.field-0.0
+    (err_answer {T = Unit {0}} {U = Vec Row Global}
+    (λ _. PushesRow logs c.in-Some.entry rows c.push_row.new.rows.items)
+    (λ rows. AreRowsOf logs (take c.args.limit left) rows.items) (IsAstray logs (Some c.in-Some.entry))
+    (λ name place. g.C.Cursor.may_fail c.args.entries.now (Damaged name place) ⊎ OneAstray logs left name place)
+    c.in_err-push_row.field-0.0
     (λ name place astray. inr (astray_next logs left before now rows c.args.limit so c.in-Some.entry name place gives astray))
     (c.in_err-push_row.ensures.answers told (next_kept logs left before now rows c.args.limit so c.in-Some.entry gives)))
 
 pub returns-clause-answers : goal.returns-clause-answers
 returns-clause-answers g c told left is kept =
     let at = g.C.Cursor.left c.taking.entries in
-    (takes_all (stored_in g.H.HeldFile.bytes c.args.logs.now) left at at c.taking.rows.items c.args.limit (c.taking.invariant.taken told left is kept) (omega arith)).0
+    (takes_all (stored_in g.H.HeldFile.bytes c.args.logs.now) left at at c.taking.rows.items c.args.limit
+    (c.taking.invariant.taken told left is kept) (omega arith)).0
 
 pub returns-clause-no_further : goal.returns-clause-no_further
 returns-clause-no_further g c told left is kept =
     let at = g.C.Cursor.left c.taking.entries in
-    (takes_all (stored_in g.H.HeldFile.bytes c.args.logs.now) left at at c.taking.rows.items c.args.limit (c.taking.invariant.taken told left is kept) (omega arith)).1
+    (takes_all (stored_in g.H.HeldFile.bytes c.args.logs.now) left at at c.taking.rows.items c.args.limit
+    (c.taking.invariant.taken told left is kept) (omega arith)).1

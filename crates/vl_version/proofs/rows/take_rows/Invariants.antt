@@ -10,7 +10,8 @@ abbrev pub invariant-taking : goal.invariant-taking
 invariant-taking g l = record {
   steady : g.R.Reader.faults l.reader ≡ g.R.Reader.faults l.initial.reader;
   fails : (fault : _) → g.C.Cursor.may_fail l.entries fault → g.C.Cursor.may_fail l.initial.entries fault;
-  taken : AreTold g.H.HeldFile.bytes l.logs → (left : List Entry) → g.C.Cursor.left l.initial.entries ≡ Some left → AllByRecursion IsKept left
+  taken : AreTold g.H.HeldFile.bytes l.logs → (left : List Entry) → g.C.Cursor.left l.initial.entries ≡ Some left
+      → AllByRecursion IsKept left
       → TakesFront (stored_in g.H.HeldFile.bytes l.logs) left (g.C.Cursor.left l.entries) l.rows.items l.limit;
 }
 

@@ -28,22 +28,33 @@ returns-clause-answers g c es logs has =
     let lefts : List (List Entry) = map left_in c.in_ok-sources.sources.items in
     let all : List Entry = flat_map (λ (l : List Entry). l) lefts in
     let seen : List Entry = visible number (merged way all) in
-    let frozen : c.deref.result.now ≡ self.behind.frozen.items = c.deref.ensures.value ∙ ap (λ (b : Behind g.row.H.Denot). b.frozen.items) c.as_ref-behind.ensures in
-    let kept : c.deref-2.result.now ≡ self.behind.logs.items = c.deref-2.ensures.value ∙ ap (λ (b : Behind g.row.H.Denot). b.logs.items) c.as_ref-behind.ensures in
+    let frozen : c.deref.result.now ≡ self.behind.frozen.items = c.deref.ensures.value
+    ∙ ap (λ (b : Behind g.row.H.Denot). b.frozen.items) c.as_ref-behind.ensures in
+    let kept : c.deref-2.result.now ≡ self.behind.logs.items = c.deref-2.ensures.value
+    ∙ ap (λ (b : Behind g.row.H.Denot). b.logs.items) c.as_ref-behind.ensures in
     let give : GiveWinners (span_of wanted.low.now wanted.high.now) way (own ++ es) lefts =
     subst (λ (l : List Entry). GiveWinners (span_of wanted.low.now wanted.high.now) way (own ++ l) lefts)
     (ap (λ (l : List FrozenLog). self.active.entries ++ held_entries l) frozen ∙ sym has.entries) c.in_ok-sources.ensures in
-    let led = λ (key : List ℕ). ap (λ (l : List (SealedLog g.row.H.Denot)). resolved_at (stored_in bytes l) (winner es key number)) kept ∙ same_led bytes self es logs has number key in
+    let led = λ (key : List ℕ). ap
+    (λ (l : List (SealedLog g.row.H.Denot)). resolved_at (stored_in bytes l) (winner es key number)) kept
+    ∙ same_led bytes self es logs has number key in
     let along = c.visible_entries_are_the_winners.ensures.along way all number in
     let winners = λ (key : List ℕ). c.visible_entries_are_the_winners.ensures.winners way all key number in
-    let left = c.new-visible.ensures.left ∙ ap (option_map (visible number)) (c.in_ok-new.ensures.left ∙ ap (merge_of way) (told_lefts c.in_ok-sources.sources.items) ∙ c.merge_of_told_sources.ensures way lefts give.along) in
-    scan_answers (stored_in bytes c.deref-2.result.now) logs es number c.args.own.now wanted all seen led (λ key. give.winners key number) along winners _
-    (λ name place bad. none_damaged c.in_ok-sources.sources.items name place (c.in_ok-new.ensures.may_fail _ (c.new-visible.ensures.may_fail _ bad)))
+    let left = c.new-visible.ensures.left
+    ∙ ap (option_map (visible number))
+    (c.in_ok-new.ensures.left ∙ ap (merge_of way) (told_lefts c.in_ok-sources.sources.items)
+    ∙ c.merge_of_told_sources.ensures way lefts give.along) in
+    scan_answers (stored_in bytes c.deref-2.result.now) logs es number c.args.own.now wanted all seen led
+    (λ key. give.winners key number) along winners _
+    (λ name place bad. none_damaged c.in_ok-sources.sources.items name place
+    (c.in_ok-new.ensures.may_fail _ (c.new-visible.ensures.may_fail _ bad)))
     c.take_rows.result
     (c.take_rows.ensures.answers (subst (AreTold bytes) (sym kept) has.told) seen left
-    (all_kept (stored_in bytes c.deref-2.result.now) logs es number c.args.own.now wanted all seen led (λ key. give.winners key number) along winners))
+    (all_kept (stored_in bytes c.deref-2.result.now) logs es number c.args.own.now wanted all seen led
+    (λ key. give.winners key number) along winners))
 
 pub returns-clause-alone : goal.returns-clause-alone
 returns-clause-alone g c none =
     c.take_rows.ensures.alone (c.deref-2.ensures.value ∙ ap (λ (b : Behind g.row.H.Denot). b.logs.items) c.as_ref-behind.ensures ∙ none)
-    (λ fault may. none_fails c.in_ok-sources.sources.items fault (c.in_ok-new.ensures.may_fail fault (c.new-visible.ensures.may_fail fault may)))
+    (λ fault may. none_fails c.in_ok-sources.sources.items fault
+    (c.in_ok-new.ensures.may_fail fault (c.new-visible.ensures.may_fail fault may)))
