@@ -11,6 +11,7 @@ use Rattle.vl_disk.specs.Moments.{Elapses}
 use Rattle.vl_disk.specs.declared.name.Name.TheVariants as names
 use Rattle.vl_disk.specs.declared.watched.Watched.{Ghosts}
 use Rattle.vl_engine.proofs.Carrying.{IsWatched, carries_committed, carries_failed, carries_leaving, carries_no_memory, extends_itself}
+use Rattle.vl_engine.proofs.Knowing.{knows_of}
 use Rattle.vl_engine.proofs.Represented.{represents_live}
 use Rattle.vl_engine.proofs.Standing.{decides_as, fronts_committed, fronts_ended, fronts_halted, stands_committed, stands_ended, stands_halted}
 use Rattle.vl_engine.specs.Carries.{Carries}
@@ -22,7 +23,6 @@ use Rattle.vl_engine.specs.Writing.{WhileWriting, written}
 use Rattle.vl_engine.specs.declared.kept.Back.{Back}
 use Rattle.vl_engine.specs.declared.kept.Core.{Core}
 use Rattle.vl_engine.specs.laws.FrontLaws.{front_known}
-use Rattle.vl_engine.specs.laws.LiveLaws.{same_floor}
 use Rattle.vl_engine.specs.laws.RulingLaws.{IsAccepted, answered_accepted, ruled, ruled_so}
 use Rattle.vl_engine.specs.laws.VersionLaws.{next_entries}
 use Rattle.vl_frame.specs.Runs.{HasFrame}
@@ -99,14 +99,6 @@ module _ {A : Type 0} (S : History → Layout → Type 0) (h : History) (l : Lay
   }
 
 -- ---- what is known
-
--- what a front knows of the history for which it stands
-pub knows_of : {H : Type 0} (core : Core H) (h : History) (l : Layout) → Fronts core h l → Knows core.front h
-knows_of core h l is = record {
-  last = is.front.last;
-  remembers = subst (λ (n : ℕ). Remembers n h core.front.recent.named)
-      (sym (same_floor core.front.oracle l h is.front.last is.front.live_are is.front.lived)) is.front.remembers;
-}
 
 -- writes are those of their entries
 same_writes : (writes : Writes) → from_sorted (entries writes) ≡ writes
