@@ -9,7 +9,7 @@ use vlstore::{CommitFail, Disk, Done, Engine, HeldFile, Reader, Rows, Txn, Way};
 const TRIES: u32 = 10;
 
 /// Counts so many more of a fruit, in a transaction.
-pub fn add<H: HeldFile, R: Reader<Held = H>>(
+pub fn add<H: HeldFile, R: Reader<Held = H> + Drop>(
     alloc: Global,
     txn: &mut Txn<H, R>,
     fruit: &str,
