@@ -11,4 +11,5 @@ pub mod Ruled
 pub mod Seeing
 pub mod Staged
 pub mod Standing
+pub mod Untouched
 pub mod Written

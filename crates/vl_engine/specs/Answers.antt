@@ -63,3 +63,14 @@ CommitFailed (Err (fails.Conflict key number)) = ⊥
 CommitFailed (Err (fails.Full txn length frame)) = ⊥
 CommitFailed (Err (fails.NoMemory txn)) = ⊥
 CommitFailed (Err (fails.Disk name)) = Unit {0}
+
+-- nothing was written: all answers but an accepted commit's and a fault's
+abbrev pub LeavesDisk : {H R : Type 0} → Result Done (CommitFail H R) → Type 0
+LeavesDisk (Ok (done.At number)) = ⊥
+LeavesDisk (Ok done.Nothing) = Unit {0}
+LeavesDisk (Err (fails.Halted name)) = Unit {0}
+LeavesDisk (Err (fails.Exhausted txn)) = Unit {0}
+LeavesDisk (Err (fails.Conflict key number)) = Unit {0}
+LeavesDisk (Err (fails.Full txn length frame)) = Unit {0}
+LeavesDisk (Err (fails.NoMemory txn)) = Unit {0}
+LeavesDisk (Err (fails.Disk name)) = ⊥

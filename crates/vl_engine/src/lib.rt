@@ -10,6 +10,7 @@
 mod engine;
 mod fails;
 mod kept;
+mod laws;
 mod staging;
 mod txn;
 mod view;
@@ -17,13 +18,13 @@ mod writing;
 
 pub use engine::{Done, Engine};
 pub use fails::{CommitFail, ReadFail, ReadFault};
+pub use laws::what_is_seen_stays;
 pub use txn::Txn;
 pub use view::View;
 pub use vl_oracle::BeginFail;
 pub use vl_recover::{OpenError, OpenFail};
 pub use vl_txn::SetFail;
 pub use vl_version::Found;
-pub use writing::append_durably;
 
 /// The rows of a scan: keys with their values.
 pub type Rows = std::vec::Vec<(vl_model::Key, vl_model::Value)>;

@@ -1,6 +1,8 @@
 -- What is seen at a begin stays as it was, whatever is committed later.
-use Rattle.std.specs.Prelude.{◌≤◌, ℕ, List}
-use Rattle.std.proofs.Common.{arith}
+use Rattle.std.specs.Prelude.{◌≤◌, ℕ, List, length, Option}
+use Rattle.std.proofs.Common.{ap, arith, length-append, ◌∙◌}
+use Rattle.vl_engine.specs.Sees.{Sees, ShowsAt}
+use Rattle.vl_engine.specs.declared.txn.Txn.{Txn}
 use Rattle.vl_layout.specs.Shown.{ShowsLow, low_at}
 use Rattle.vl_layout.specs.Shows.{Shows}
 use Rattle.vl_layout.specs.Sources.{floor, sources}
@@ -8,7 +10,16 @@ use Rattle.vl_layout.specs.declared.layout.Layout.{Layout}
 use Rattle.vl_layout.specs.laws.LowShows.{floor-up, low_up, shows-extends, shows_from}
 use Rattle.vl_model.specs.History.{Extends, History, last_number}
 use Rattle.vl_model.specs.Winners.{Logs}
+use Rattle.vl_model.specs.Reads.{Read}
 use Rattle.vl_model.specs.declared.entry.Entry.{Entry}
+use Rattle.vl_model.specs.laws.ExplainedLaws.{explained-extends}
+use Rattle.vl_version.specs.declared.version.Version.{Version}
+
+last-extended : (least most : History) → Extends least most → last_number least ≤ last_number most
+last-extended least most extends =
+    let first = extends.first in
+    let more = ap length extends.commits ∙ length-append least.commits extends.later in
+    omega (arith, first, more)
 
 -- The sources show the history at each number from the floor on, also at the last one, at which what begins reads.
 pub shows_at : (logs : Logs) (l : Layout) (h : History) (number : ℕ) → floor l h ≤ number → number ≤ last_number h
@@ -32,3 +43,32 @@ pub shows_at_later : (logs : Logs) (es : List Entry) (least most : History) (num
     → number ≤ last_number least → Shows logs es least (λ key. number) number → Shows logs es most (λ key. number) number
 shows_at_later logs es least most number extends known shows =
     shows-extends logs es least most (λ key. number) number extends known shows
+
+-- ---- what a reader sees
+
+-- So a version shows to a later history what it shows,
+pub version_later : {H : Type 0} (bytes : H → Option (List ℕ)) (version : Version H) (least most : History) (number : ℕ)
+    → Extends least most → ShowsAt bytes version least number → ShowsAt bytes version most number
+version_later bytes version least most number extends shows =
+    let known = shows.known in
+    let readable = shows.readable in
+    let first = extends.first in
+    let later = last-extended least most extends in
+    record {
+      entries_of = shows.entries_of;
+      logs = shows.logs;
+      has = shows.has;
+      shows = shows_at_later shows.logs shows.entries_of least most number extends known shows.shows;
+      alone = shows.alone;
+      readable = omega (arith, readable, first);
+      known = omega (arith, known, later);
+    }
+
+-- and a transaction sees there what it sees.
+pub sees_later : {H R : Type 0} (bytes : H → Option (List ℕ)) (txn : Txn H R) (least most : History) (reads : List Read)
+    → Extends least most → Sees bytes txn least reads → Sees bytes txn most reads
+sees_later bytes txn least most reads extends sees = record {
+  version = version_later bytes txn.version least most txn.number extends sees.version;
+  notes = sees.notes;
+  explained = explained-extends least most extends txn.number sees.version.known reads sees.explained;
+}

@@ -1,10 +1,11 @@
 ghost use Rattle.std.specs.Prelude.{◌≡◌, ℕ, List, IsTrue, None, Ok, Some};
 ghost use Rattle.std.specs.FinMap.{entries};
 ghost use Rattle.vl_disk.specs.DiskState.{DiskState};
+ghost use Rattle.vl_disk.specs.Calls.{ChangesNothing};
 ghost use Rattle.vl_disk.specs.Faults.{HasCause};
 ghost use Rattle.vl_disk.specs.declared.name.Name.{Name};
 ghost use Rattle.vl_disk.specs.declared.name.Name.TheVariants as names;
-ghost use Rattle.vl_engine.specs.Answers.{CommitFailed, commit_effects, commit_outcome, handed_back};
+ghost use Rattle.vl_engine.specs.Answers.{CommitFailed, LeavesDisk, commit_effects, commit_outcome, handed_back};
 ghost use Rattle.vl_engine.specs.Carries.{Carries, SameFiles};
 ghost use Rattle.vl_engine.specs.Represents.{Fronts, IsLive, Represents, StandsFor};
 ghost use Rattle.vl_engine.specs.Sees.{Sees, asked};
@@ -24,7 +25,8 @@ ghost use Rattle.vl_model.specs.Reads.{IsExplained, Read};
 ghost use Rattle.vl_seglog.specs.Frames.{frame_at};
 
 use crate::staging::{StagedCommit, stage_commit};
-use crate::{CommitFail, Done, Engine, Txn, append_durably};
+use crate::writing::append_durably;
+use crate::{CommitFail, Done, Engine, Txn};
 use vl_disk::{Disk, Name};
 use vl_front::Decision;
 use vl_model::reads_without_conflict_stay_explained;
@@ -59,6 +61,9 @@ impl<D: Disk> Engine<D> {
         ensures explained { (h : History) (l : Layout) (reads : List Read) (number : ℕ) → Fronts self.old.core h l
             → IsLive l txn.ticket txn.number → Sees D.Held.bytes txn h reads
             → result ≡ Ok (done.At number) → IsExplained h (last_number h) reads }
+
+        // Where nothing is committed and the disk didn't fail, the disk was left alone, at each moment.
+        ensures untouched { LeavesDisk result → ChangesNothing D.Watched self.old.disk self.new.disk ⊥ }
 
         // One that is handed back is as it was.
         ensures back { (back : Txn D.Held D.Reader) → handed_back result ≡ Some back → back ≡ txn }
@@ -111,6 +116,7 @@ impl<D: Disk> Engine<D> {
         ensures back { (back : Txn D.Held D.Reader) → handed_back result ≡ Some back → back ≡ txn }
         ensures cause { HasCause (D.faults self.old.disk) (D.faults self.new.disk) (CommitFailed result) }
         ensures steps { self.new.core.back ≡ self.old.core.back }
+        ensures untouched { LeavesDisk result → ChangesNothing D.Watched self.old.disk self.new.disk ⊥ }
         ensures as_written { WritesAs D.Watched self.old.disk self.new.disk self.old.core self.new.core txn.ticket txn.writes result }
     {
         let Ok(staged) = stage_commit(self.alloc, &mut self.disk, &mut self.core, &txn.writes)

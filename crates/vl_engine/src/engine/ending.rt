@@ -1,10 +1,8 @@
 ghost use Rattle.std.specs.Prelude.{◌≡◌};
 ghost use Rattle.vl_engine.specs.Represents.{Fronts, Represents, StandsFor};
-ghost use Rattle.vl_engine.specs.Sees.{asked, asked_view};
 ghost use Rattle.vl_layout.specs.Ruling.{ended};
 ghost use Rattle.vl_layout.specs.declared.layout.Layout.{Layout};
 ghost use Rattle.vl_model.specs.History.{History, last_number};
-ghost use Rattle.vl_model.specs.Reads.{Read};
 
 use crate::{Engine, Txn, View};
 use vl_disk::Disk;

@@ -1,4 +1,5 @@
 ghost use Rattle.std.specs.Prelude.{◌≡◌, ◌≤◌, List, length, Some, IfErr, IfOk, IsErr};
+ghost use Rattle.vl_disk.specs.Calls.{ChangesNothing};
 ghost use Rattle.vl_disk.specs.Crash.{Image};
 ghost use Rattle.vl_disk.specs.DiskState.{DiskState};
 ghost use Rattle.vl_disk.specs.Faults.{HasCause, after_calls};
@@ -12,6 +13,7 @@ ghost use Rattle.vl_engine.specs.Shown.{Shown};
 ghost use Rattle.vl_layout.specs.Start.{layout_at_start};
 ghost use Rattle.vl_model.specs.History.{History, last_number};
 ghost use Rattle.vl_model.specs.Limits.{max_room};
+ghost use Rattle.vl_recover.specs.crash.Alike.{OpensAsOf};
 ghost use Rattle.vl_recover.specs.crash.Meanwhile.{FaultsAt, IsMeanwhile, IsRepaired};
 ghost use Rattle.vl_recover.specs.crash.Starts.{MayOpen};
 ghost use Rattle.vl_recover.specs.opening.Answers.{AreStrayNames, Finds, IsNotOpened, calls_to_open};
@@ -40,9 +42,12 @@ impl<D: Disk> Engine<D> {
             → MayOpen state → IsRead read state → Shown read h (last_number h)
             → IfOk result (λ engine. Represents D.Held.bytes engine.core (D.told engine.disk) h (layout_at_start room (recovered found))) }
 
-        // What a crash leaves meanwhile shows what was opened.
+        // What a crash leaves meanwhile shows what was opened; and opens as something that one could have left before.
         ensures through { (state : DiskState) (read : Image) (h : History) → D.told disk ≡ Some state → IsDurable state
             → IsRead read state → Shown read h (last_number h) → CrashesShow D.Watched disk (disk_behind result) h h }
+
+        ensures as_of { (state : DiskState) → D.told disk ≡ Some state → MayOpen state
+            → HoldsThroughout D.Watched disk (disk_behind result) (OpensAsOf state) }
 
         // It answers what reads give, unless memory runs out or the disk fails. Where that is a refusal nothing is changed,
         // whatever is answered; and nothing where memory ran out.
@@ -50,6 +55,8 @@ impl<D: Disk> Engine<D> {
             → AnswersOpening read (why_of result) }
         ensures not_opened { (state : DiskState) (read : Image) → D.told disk ≡ Some state → IsRead read state
             → IsNotOpened read → IsAsBefore D.Watched disk (disk_behind result) }
+        ensures untouched { (IsFault (why_of result) → ⊥) → IsErr result
+            → ChangesNothing D.Watched disk (disk_behind result) ⊥ }
         ensures left_alone { (IsFault (why_of result) → ⊥) → IsErr result
             → IsAsBefore D.Watched disk (disk_behind result) }
 

@@ -6,7 +6,7 @@ ghost use Rattle.vl_engine.specs.Reading.{IsRefusedBy, IsSound, NotesNothing, On
 ghost use Rattle.vl_engine.specs.Sees.{Sees};
 ghost use Rattle.vl_model.specs.History.{History, value_at};
 ghost use Rattle.vl_model.specs.Reads.{KeyRead, Read};
-ghost use Rattle.vl_txn.specs.Reads.{scan_of, with_get, with_scan};
+ghost use Rattle.vl_txn.specs.Reads.{AddsSpan, after_get, scan_of, with_get, with_scan};
 ghost use Rattle.vl_txn.specs.Refusals.{refused_key};
 
 use crate::{ReadFail, Rows, Txn};
@@ -31,6 +31,7 @@ impl<H: HeldFile, R: Reader<Held = H> + Drop> Txn<H, R> {
             → IfOk result (λ value. value ≡ value_under self.old.writes h self.old.number key.now) }
         ensures sees { (h : History) (reads : List Read) → Sees H.bytes self.old h reads
             → OnOk result (Sees H.bytes self.new h (with_get self.old.writes reads key.now (value_at h self.old.number key.now))) }
+        ensures noted { OnOk result (self.new.reads ≡ after_get self.old.writes key.now self.old.reads) }
         ensures keeps { OnlyNotes self.old self.new }
 
         // It is refused exactly by the limits, and then nothing is noted.
@@ -54,6 +55,7 @@ impl<H: HeldFile, R: Reader<Held = H> + Drop> Txn<H, R> {
             → IfOk result (λ value. value ≡ tagged_under self.old.writes h self.old.number key.now) }
         ensures sees { (h : History) (reads : List Read) → Sees H.bytes self.old h reads
             → OnOk result (Sees H.bytes self.new h (with_get self.old.writes reads key.now (value_at h self.old.number key.now))) }
+        ensures noted { OnOk result (self.new.reads ≡ after_get self.old.writes key.now self.old.reads) }
         ensures keeps { OnlyNotes self.old self.new }
         ensures refused { IsRefusedBy (refused_key key.now) result }
         ensures kept { OnErr result (NotesNothing self.old self.new) }
@@ -72,6 +74,8 @@ impl<H: HeldFile, R: Reader<Held = H> + Drop> Txn<H, R> {
         ensures sees { (h : History) (reads : List Read) → Sees H.bytes self.old h reads
             → IfOk result (λ rows. Sees H.bytes self.new h
             (with_scan reads (scan_of low.now high.now limit way rows.items self.old.writes))) }
+        ensures noted { IfOk result (λ rows.
+            AddsSpan (scan_of low.now high.now limit way rows.items) self.old.reads self.new.reads) }
         ensures keeps { OnlyNotes self.old self.new }
         ensures refused { IsRefusedBy (refused_bounds low.now high.now) result }
         ensures kept { OnErr result (NotesNothing self.old self.new) }
@@ -104,6 +108,7 @@ impl<H: HeldFile, R: Reader<Held = H> + Drop> Txn<H, R> {
             → IfOk result (λ value. value ≡ value_at h self.old.number key.now) }
         ensures sees { (h : History) (reads : List Read) → Sees H.bytes self.old h reads
             → OnOk result (Sees H.bytes self.new h (reads ++ KeyRead key.now (value_at h self.old.number key.now) ∷ [])) }
+        ensures noted { OnOk result (self.new.reads ≡ after_get self.old.writes key.now self.old.reads) }
         ensures keeps { OnlyNotes self.old self.new }
         ensures allowed { IsRefusedBy None result }
         ensures kept { OnErr result (NotesNothing self.old self.new) }

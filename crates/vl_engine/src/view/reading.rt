@@ -1,4 +1,4 @@
-ghost use Rattle.std.specs.Prelude.{◌≡◌, ◌≤◌, IfOk};
+ghost use Rattle.std.specs.Prelude.{◌≡◌, ◌≤◌, IfOk, IsErr, None};
 ghost use Rattle.std.specs.FinMap.{empty};
 ghost use Rattle.vl_disk.specs.Faults.{HasCause};
 ghost use Rattle.vl_engine.specs.Reading.{IsFound, IsRefusedBy, IsRefusedInto, IsSound, IsSoundInto, OnlyReads, ReadFailed, ReadIntoFailed, refused_bounds, rows_under, with_its_tag};
@@ -50,12 +50,13 @@ impl<H: HeldFile, R: Reader<Held = H> + Drop> View<H, R> {
     }
 
     /// The value of a key read to the front of the caller's bytes, where it fits. It wants no memory. After a fault of the
-    /// reader or damage these bytes may be anything.
+    /// reader or damage these bytes may be anything; at a refused key they are as they were.
     pub fn get_into(&mut self, key: &[u8], out: &mut [u8]) -> Result<Found, ReadFault>
         ensures value { (h : History) → SeesAlone H.bytes self.old h
             → IfOk result (IsFound (value_at h self.old.number key.now) out.old out.new) }
         ensures keeps { OnlyReads self.old self.new }
         ensures refused { IsRefusedInto (refused_key key.now) result }
+        ensures kept { IsErr result → (refused_key key.now ≡ None → ⊥) → out.new ≡ out.old }
         ensures cause { HasCause (R.faults self.old.reader) (R.faults self.new.reader) (ReadIntoFailed result) }
         ensures sound { (h : History) → SeesAlone H.bytes self.old h → IsSoundInto result }
     {

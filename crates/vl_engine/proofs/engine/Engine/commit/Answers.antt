@@ -2,6 +2,7 @@ use Rattle.std.proofs.Common.{refl, sym, ◌∙◌}
 use Rattle.std.specs.Prelude.{[]}
 use Rattle.vl_engine.proofs.Committing.{carries_unwritten, decides_leaving}
 use Rattle.vl_engine.proofs.Ruled.{carries_by, carries_refused_by, decides_by, files_by, no_conflict_by, ruling_so, stands_by, stops_by, unwritten_here}
+use Rattle.vl_engine.proofs.Untouched.{alone}
 use Rattle.vl_engine.proofs.engine.Engine.commit.Goals as goal
 use Rattle.vl_engine.specs.Represents.{Fronts, StandsFor, file_of}
 use Rattle.vl_front.specs.declared.decision.Decision.TheVariants as decisions
@@ -181,3 +182,23 @@ returns-in-Write-clause-files g c =
     files_by g.D.Watched (record { only_now = g.met.D.Disk.only_now; counts_now = g.met.D.Disk.counts_now })
     c.args.self.now.disk c.write.new.self.disk c.args.self.now.core c.write.new.self.core c.args.txn.ticket c.args.txn.writes
     c.write.result c.write.ensures.as_written
+
+-- ---- the disk is left alone
+
+pub returns-in_default-clause-untouched : goal.returns-in_default-clause-untouched
+returns-in_default-clause-untouched g c leaves = alone g.D.Watched _ _ refl
+
+pub returns-in-Halted-clause-untouched : goal.returns-in-Halted-clause-untouched
+returns-in-Halted-clause-untouched g c leaves = alone g.D.Watched _ _ c.end.ensures.disk
+
+pub returns-in-Nothing-clause-untouched : goal.returns-in-Nothing-clause-untouched
+returns-in-Nothing-clause-untouched g c leaves = alone g.D.Watched _ _ c.end-in-Nothing.ensures.disk
+
+pub returns-in-Exhausted-clause-untouched : goal.returns-in-Exhausted-clause-untouched
+returns-in-Exhausted-clause-untouched g c leaves = alone g.D.Watched _ _ refl
+
+pub returns-in-Conflict-clause-untouched : goal.returns-in-Conflict-clause-untouched
+returns-in-Conflict-clause-untouched g c leaves = alone g.D.Watched _ _ c.end-in-Conflict.ensures.disk
+
+pub returns-in-Full-clause-untouched : goal.returns-in-Full-clause-untouched
+returns-in-Full-clause-untouched g c leaves = alone g.D.Watched _ _ refl
