@@ -137,7 +137,8 @@ impl<H: HeldFile, R: Reader<Held = H> + Drop> TableCursor<H, R> {
     // The next entry of the block that was read, and None where none of it is left.
     fn give(&mut self) -> Result<Option<Entry>, AllocError>
         ensures given { IfOk result (λ next. IfSome next (λ e. in_block self.old ≡ e ∷ in_block self.new)) }
-        ensures none { IfOk result (λ next. IfNone next ((in_block self.old ≡ []) × (self.new.entries.end ≤ self.new.entries.first))) }
+        ensures none { IfOk result (λ next. IfNone next
+            ((in_block self.old ≡ []) × (self.new.entries.end ≤ self.new.entries.first))) }
         ensures kept { OnErr result (in_block self.new ≡ in_block self.old) }
         ensures fewer { MatchResult result (λ next. IfSome next (λ e.
             self.new.entries.end - self.new.entries.first < self.old.entries.end - self.old.entries.first))
