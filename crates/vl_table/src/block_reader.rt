@@ -60,7 +60,11 @@ impl<R: Reader> BlockReader<R> {
     ghost use Rattle.vl_table.specs.KeptBlocks.{AreKept, ReadsOf, keeps};
 
     /// Brings a block of a table to the front, and reads and tests it where it isn't kept. After a fault one slot is empty.
-    pub fn load<H: HeldFile>(&mut self, table: &Table<H>, at: usize) -> Result<(), TableFault>
+    pub(crate) fn load<H: HeldFile>(
+        &mut self,
+        table: &Table<H>,
+        at: usize,
+    ) -> Result<(), TableFault>
     where
         R: Reader<Held = H>,
         requires { at < length (shape_of table.now).blocks.items }
@@ -109,7 +113,7 @@ impl<R: Reader> BlockReader<R> {
     }
 
     /// The entries of the block that is at the front.
-    pub fn entries(&self) -> Entries<'_>
+    pub(crate) fn entries(&self) -> Entries<'_>
         ensures { (id : BlockId) (bytes : List ℕ) (es : List Entry) → HasBlock self.now.front id bytes es → Lists result es }
     {
         self.front.entries()

@@ -26,7 +26,6 @@ mod table;
 
 pub use block_reader::{BlockReader, KEPT_BLOCKS};
 pub use cursor::TableCursor;
-pub use entries::{Entries, Scan};
 pub use fault::TableFault;
 pub use laws::{
     a_worked_table, bodies_are_read_in_one_way, tables_are_read_in_one_way,
