@@ -9,7 +9,7 @@ use Rattle.vl_block.specs.Blocks.{entries}
 use Rattle.vl_block.specs.Entries.{entry_bytes, entry_of, IsEntry}
 use Rattle.vl_block.specs.Lists.{IsNext, IsRun}
 use Rattle.vl_block.specs.Lists.{last_item}
-use Rattle.vl_block.specs.laws.ListLaws.{SoFar, Behind, cut, goes_on, last-push, next, not_next, one_more}
+use Rattle.vl_block.specs.laws.ListLaws.{SoFar, cut, goes_on, last-push, not_next}
 
 -- so many entries were read, and the last of them is this
 pub record UnderWay (format : ℕ) (bytes : List ℕ) (total count : ℕ) (last : Option EntryRef) (rest : List ℕ) : Type 0 where
@@ -40,9 +40,3 @@ pub out_of_order : (format : ℕ) (bytes : List ℕ) (total count : ℕ) (last :
 out_of_order format bytes total count last rest e after u lawful spelled apart es run =
     not_next (entries format) bytes total count u.taken rest (entry_of e) after u.so_far (entry_is_some format (entry_of e)) lawful spelled
     (λ follows. apart (subst (λ (o : Option Entry). IsNext (entries format) o (entry_of e)) u.last_is follows)) es run
-
--- of a block's entries so many were copied
-pub copies_one : (format : ℕ) (es copied : List Entry) (rest : List ℕ) (e : Entry) (after : List ℕ)
-    → Behind (entries format) es copied rest → IsEntry format e → rest ≡ entry_bytes format e ++ after → Behind (entries format) es (copied ++ e ∷ []) after
-copies_one format es copied rest e after behind lawful spelled =
-    one_more (entries format) es copied e after (next (entries format) es copied rest e after behind (entry_is_some format e) lawful spelled)

@@ -1,6 +1,6 @@
 //! How a block's body is read. A body that isn't a block's to its last byte is none, and so is one that is too long.
 
-ghost use Rattle.std.specs.Prelude.{◌≡◌, ◌↔◌, ◌+◌, ◌<◌, ◌≤◌, List, Option, IfOk, IfNone, IfSome, IsTrue, drop, length, take};
+ghost use Rattle.std.specs.Prelude.{◌↔◌, ◌+◌, ◌≤◌, List, Option, IfNone, IfSome, IsTrue, drop, length, take};
 ghost use Rattle.std.specs.Option.{option_map};
 ghost use Rattle.vl_model.specs.declared.entry.Entry.{Entry};
 ghost use Rattle.vl_block.specs.Blocks.{SpellsBlock, entries};
@@ -10,9 +10,8 @@ ghost use Rattle.vl_block.specs.Starts.{AreStarts};
 
 use crate::entry_ref::EntryRef;
 use crate::taking::take_entry;
-use std::alloc::{AllocError, Global};
 use vl_frame::take_u32;
-use vl_model::{Entry, place_order};
+use vl_model::place_order;
 
 /// The longest body of a block. No store writes a longer one, and none is read.
 pub const MAX_BODY_BYTES: usize = 4177;
@@ -37,25 +36,6 @@ pub fn find_starts(format: u32, body: &[u8], starts: &mut [u16]) -> Option<usize
         return None;
     }
     Some(count as usize)
-}
-
-/// The entries of a block's body, each with a key and a value of its own.
-pub fn block_entries(alloc: Global, format: u32, body: &[u8]) -> Result<Vec<Entry>, AllocError>
-    ensures { (es : List Entry) → SpellsBlock format body.now es → IfOk result (λ entries. entries.items ≡ es) }
-{
-    let mut entries = Vec::new(alloc);
-    let Some((count, bytes)) = take_u32(body) else {
-        return Ok(entries);
-    };
-    entries.reserve(count as usize)?;
-    let mut rest = bytes;
-    'entries: loop {
-        let Some((entry, after)) = take_entry(format, rest) else {
-            return Ok(entries);
-        };
-        entries.push(entry.to_entry(alloc)?)?;
-        rest = after;
-    }
 }
 
 // Whether these bytes are so many entries, one behind the other, in order. Where they are, it finds where each begins.

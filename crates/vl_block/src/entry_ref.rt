@@ -28,8 +28,8 @@ pub struct EntryRef<'a> {
 }
 
 impl ValueRef<'_> {
-    /// The value with bytes of its own.
-    pub fn to_value(&self, alloc: Global) -> Result<Value, AllocError>
+    // The value with bytes of its own.
+    fn to_value(&self, alloc: Global) -> Result<Value, AllocError>
         ensures { IfOk result (λ value. value ≡ value_of self.now) }
     {
         Value::copy_of(alloc, self.bytes, self.tag)
@@ -37,8 +37,8 @@ impl ValueRef<'_> {
 }
 
 impl BodyRef<'_> {
-    /// The body with a value of its own.
-    pub fn to_body(&self, alloc: Global) -> Result<Body, AllocError>
+    // The body with a value of its own.
+    fn to_body(&self, alloc: Global) -> Result<Body, AllocError>
         ensures { IfOk result (λ body. body ≡ body_of self.now) }
     {
         Ok(match self {

@@ -9,8 +9,9 @@ use crate::points::{Point, read_points};
 use std::alloc::{AllocError, Global};
 use vl_model::{Bytes, Key};
 
-/// What a table's footer says: where the filter's frame stands, if there is one, where the index's frame stands and how long it is, how many entries there are, the greatest
-/// version among them, the first and the last key, and the segments that they lead into, rising.
+/// What a table's footer says: where the filter's frame stands, if there is one, where the index's frame stands and how
+/// long it is, how many entries there are, the greatest version among them, the first and the last key, and the segments
+/// that they lead into, rising.
 #[derive(Drop)]
 pub struct Footer {
     pub filter: Option<FramePlace>,

@@ -30,7 +30,8 @@ pub struct FooterHead<'a> {
 pub fn take_head(format: u32, bytes: &[u8]) -> Option<(FooterHead<'_>, &[u8])>
     ensures found { IfSome result (λ r. bytes.now ≡ head_bytes (head_of r.0) ++ r.1.now) }
     ensures lawful { IfSome result (λ r. IsHead format (head_of r.0)) }
-    ensures none { IfNone result ((head : Head) (rest : List ℕ) → IsHead format head → bytes.now ≡ head_bytes head ++ rest → ⊥) }
+    ensures none { IfNone result
+        ((head : Head) (rest : List ℕ) → IsHead format head → bytes.now ≡ head_bytes head ++ rest → ⊥) }
 {
     let (filter, rest) = take_filter(format, bytes)?;
     let (index_place, rest) = take_u64(rest)?;

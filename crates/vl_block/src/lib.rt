@@ -20,15 +20,13 @@ mod shape;
 mod short_value;
 mod taking;
 
-pub use block::{MAX_BLOCK_ENTRIES, MAX_BODY_BYTES, block_entries, find_starts};
+pub use block::{MAX_BLOCK_ENTRIES, MAX_BODY_BYTES, find_starts};
 pub use entry_ref::{BodyRef, EntryRef, ValueRef};
 pub use footer::{Footer, read_footer};
 pub use footer_head::{FooterHead, FramePlace};
-pub use format::{has_filter, has_tags};
 pub use found::{Found, FoundBody};
 pub use index::{BlockPlace, read_index};
 pub use points::Point;
 pub use shape::TableShape;
 pub use short_value::ShortValue;
-pub use taking::{FAR, GONE, INLINE, entry_at, take_entry};
-pub use vl_model::TABLE_FORMAT;
+pub use taking::{FAR, GONE, INLINE, entry_at};

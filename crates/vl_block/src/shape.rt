@@ -10,6 +10,6 @@ pub struct TableShape {
     pub footer: Footer,
     pub footer_place: u64,
     pub blocks: Vec<BlockPlace>,
-    /// None where the format has no filter.
+    /// No bits where the format has no filter.
     pub filter: Vec<u8>,
 }

@@ -1,13 +1,14 @@
 -- What a run's status says of how it ended.
-use Rattle.std.proofs.Common.{◌≡◌, ◌≢◌, ◌<◌, ⊎_elim, ℕ, List, Some, refl, sym, ◌∙◌, ap, subst, arith}
+use Rattle.std.proofs.Common.{◌≡◌, ◌≢◌, ◌<◌, ◌⊎◌, ⊎_elim, inl, inr, ℕ, List, Some, refl, sym, ◌∙◌, ap, subst, arith}
 use Rattle.vl_disk.specs.Faults.{Rose}
+use Rattle.vl_disk.specs.declared.name.Name.{Name}
 use Rattle.vl_io.specs.declared.sink.Sink as sink
 use Rattle.vl_replay.specs.Endings.{Culprit, TheDisk, TheSource, TheSink, CountsFaultsOf, culprit_of, status_of}
 use Rattle.vl_replay.specs.Runs.{IsFront}
 use Rattle.vl_replay.specs.Steps.{Finishes}
 use Rattle.vl_replay.specs.declared.ending.Ending.{Ending}
 use Rattle.vl_replay.specs.declared.fails.Refusal.{Refusal}
-use Rattle.vl_replay.specs.declared.ending.Ending.TheVariants.{Complete, BadLine, BadWords, DiskFault, Refused, NoMemory, ReadFault, WriteFault, AnswerCut, Stopped}
+use Rattle.vl_replay.specs.declared.ending.Ending.TheVariants.{Complete, BadLine, BadWords, DiskFault, Refused, Damaged, NoMemory, ReadFault, WriteFault, AnswerCut, Stopped}
 
 -- the status of an ending by an object
 abbrev pub StatusBy : Culprit → ℕ → Type 0
@@ -19,6 +20,7 @@ disk_status BadLine = (λ e. cc, λ e. cc)
 disk_status BadWords = (λ e. cc, λ e. cc)
 disk_status DiskFault = (λ e. refl, λ e. refl)
 disk_status (Refused refusal) = (λ e. cc, λ e. cc)
+disk_status (Damaged name place) = (λ e. cc, λ e. cc)
 disk_status NoMemory = (λ e. cc, λ e. cc)
 disk_status ReadFault = (λ e. cc, λ e. cc)
 disk_status WriteFault = (λ e. cc, λ e. cc)
@@ -31,6 +33,7 @@ source_status BadLine = (λ e. cc, λ e. cc)
 source_status BadWords = (λ e. cc, λ e. cc)
 source_status DiskFault = (λ e. cc, λ e. cc)
 source_status (Refused refusal) = (λ e. cc, λ e. cc)
+source_status (Damaged name place) = (λ e. cc, λ e. cc)
 source_status NoMemory = (λ e. cc, λ e. cc)
 source_status ReadFault = (λ e. refl, λ e. refl)
 source_status WriteFault = (λ e. cc, λ e. cc)
@@ -43,18 +46,21 @@ sink_status BadLine = (λ e. cc, λ e. cc)
 sink_status BadWords = (λ e. cc, λ e. cc)
 sink_status DiskFault = (λ e. cc, λ e. cc)
 sink_status (Refused refusal) = (λ e. cc, λ e. cc)
+sink_status (Damaged name place) = (λ e. cc, λ e. cc)
 sink_status NoMemory = (λ e. cc, λ e. cc)
 sink_status ReadFault = (λ e. cc, λ e. cc)
 sink_status WriteFault = (λ e. refl, λ e. refl)
 sink_status AnswerCut = (λ e. refl, λ e. refl)
 sink_status Stopped = (λ e. cc, λ e. cc)
 
-pub is_refused : (ending : Ending) → status_of ending ≡ 4 → (refusal : Refusal) × (ending ≡ Refused refusal)
+pub is_refused : (ending : Ending) → status_of ending ≡ 4
+    → ((refusal : Refusal) × (ending ≡ Refused refusal)) ⊎ ((name : Name) × (place : ℕ) × (ending ≡ Damaged name place))
 is_refused Complete e = absurd (cc)
 is_refused BadLine e = absurd (cc)
 is_refused BadWords e = absurd (cc)
 is_refused DiskFault e = absurd (cc)
-is_refused (Refused refusal) e = (refusal, refl)
+is_refused (Refused refusal) e = inl (refusal, refl)
+is_refused (Damaged name place) e = inr (name, place, refl)
 is_refused NoMemory e = absurd (cc)
 is_refused ReadFault e = absurd (cc)
 is_refused WriteFault e = absurd (cc)
@@ -67,6 +73,7 @@ is_bad_words BadLine e = cc
 is_bad_words BadWords e = refl
 is_bad_words DiskFault e = cc
 is_bad_words (Refused refusal) e = cc
+is_bad_words (Damaged name place) e = cc
 is_bad_words NoMemory e = cc
 is_bad_words ReadFault e = cc
 is_bad_words WriteFault e = cc

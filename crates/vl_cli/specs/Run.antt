@@ -1,5 +1,6 @@
 -- Whole runs of the command line: what is done for its words and its input.
 use Rattle.std.specs.Prelude.{◌≡◌, ◌≢◌, ℕ, List, Option, None, Some}
+use Rattle.vl_disk.specs.declared.name.Name.{Name}
 use Rattle.vl_disk.specs.declared.watched.Watched.{Ghosts}
 use Rattle.vl_cli.specs.Words.{command_of}
 use Rattle.vl_cli.specs.declared.command_line.words.Command.{Command}
@@ -11,7 +12,7 @@ use Rattle.vl_replay.specs.Start.{AnswersInput}
 use Rattle.vl_replay.specs.Steps.{FinishesBy, EndsWithoutOpening}
 use Rattle.vl_replay.specs.Trial.{EndsTrial, Trial}
 use Rattle.vl_replay.specs.declared.ending.Ending.{Ending}
-use Rattle.vl_replay.specs.declared.ending.Ending.TheVariants.{Stopped}
+use Rattle.vl_replay.specs.declared.ending.Ending.TheVariants.{Damaged, Stopped}
 use Rattle.vl_replay.specs.declared.fails.Refusal.{Refusal}
 
 -- the words are plain, and ask for this
@@ -43,6 +44,13 @@ StatusWithoutOpening g k disk disk' sink sink' refusal status =
 abbrev pub TellsOfInput : (old new : Streams) → (status : ℕ) → Type 0
 TellsOfInput old new status = (input : List ℕ) → old.left ≡ Some input
     → (ending : Ending) × (status ≡ status_of ending) × ReadsInput input old new ending
+
+-- A run met damage: a read gave bytes of this file that aren't what should stand at this place. So much it tells of the input
+-- that its source had left: the lines before were answered, and the line of the damage was put last.
+abbrev pub MetDamage : (old new : Streams) → Type 0
+MetDamage old new =
+    (name : Name) × (place : ℕ)
+    × ((input : List ℕ) → old.left ≡ Some input → ReadsInput input old new (Damaged name place))
 
 -- A trial has the status of its ending, and printed what such a trial prints.
 abbrev pub StatusOfTrial : Trial → (held held' left : Option (List ℕ)) → (status : ℕ) → Type 0

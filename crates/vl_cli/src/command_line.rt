@@ -2,7 +2,7 @@
 
 mod words;
 
-ghost use Rattle.std.specs.Prelude.{◌≡◌, ◌≢◌, ◌<◌, ℕ, List, map, string_bytes, Some};
+ghost use Rattle.std.specs.Prelude.{◌≡◌, ◌≢◌, ◌<◌, ◌⊎◌, ℕ, List, map, string_bytes, Some};
 ghost use Rattle.vl_disk.specs.Crash.{Image};
 ghost use Rattle.vl_disk.specs.DiskState.{DiskState};
 ghost use Rattle.vl_disk.specs.Faults.{Rose};
@@ -21,7 +21,7 @@ ghost use Rattle.vl_replay.specs.declared.fails.Refusal.{Refusal};
 ghost use Rattle.vl_replay.specs.Trial.{begun};
 ghost use Rattle.vl_replay.specs.Trying.{trial_of};
 ghost use Rattle.vl_mem.specs.declared.outcome.Outcome.{Outcome};
-ghost use Rattle.vl_cli.specs.Run.{AreNotPlain, AskFor, EndsBy, StatusOfAnswers, StatusOfTrial, StatusWithoutOpening, TellsOfInput};
+ghost use Rattle.vl_cli.specs.Run.{AreNotPlain, AskFor, EndsBy, MetDamage, StatusOfAnswers, StatusOfTrial, StatusWithoutOpening, TellsOfInput};
 ghost use Rattle.vl_cli.specs.declared.command_line.words.Command.{Command as Commands};
 
 use crate::command_line::words::{Command, command_in};
@@ -63,7 +63,7 @@ pub fn run<S: Source, K: Sink, D: Disk>(
         → S.left source.old ≡ Some input
         → StatusOfTrial (trial_of stop input outcome) (K.held sink.old) (K.held sink.new) (S.left source.new) result.status }
 
-    // What was read is explained by the history at the reader's number. This is a law of the sequential store's answers,
+    // What was read is explained by the history at the reader's own number. This is a law of the sequential store's answers,
     // and says nothing of the body. It stands here so that this contract has the whole headline.
     ensures explained { (s : State) (input : List ℕ) → StartsIn D.Watched disk s
         → AreExplained (exchanges_from s (lines_of input)) }
@@ -88,12 +88,13 @@ pub fn run<S: Source, K: Sink, D: Disk>(
     ensures no_disk_fault { result.status ≢ 3 → result.status ≢ 7
         → D.faults result.disk ≡ D.faults disk }
 
-    // In a replay, status 4 comes exactly where reads of the disk refuse it as a store, but not where the disk failed, memory
-    // ran out, or the last line couldn't be put. Then no line was read, and the disk wasn't changed. The last line is all that
-    // is printed.
+    // In a replay, status 4 comes where reads of the disk refuse it as a store, always but where the disk failed, memory ran
+    // out, or the last line couldn't be put. Then no line was read, and the disk wasn't changed. The last line is all that is
+    // printed. Else it comes only where a line met damage.
     ensures refused { AskFor (map string_bytes words.now) Command.Replay → result.status ≡ 4
-        → ((refusal : Refusal) × IsRefusedRun D.Watched K.Sink disk result.disk sink.old sink.new refusal)
-        × (source.new ≡ source.old) }
+        → (((refusal : Refusal) × IsRefusedRun D.Watched K.Sink disk result.disk sink.old sink.new refusal)
+        × (source.new ≡ source.old))
+        ⊎ MetDamage (streams S.Source K.Sink source.old sink.old) (streams S.Source K.Sink source.new sink.new) }
     ensures refuses { AskFor (map string_bytes words.now) Command.Replay → (state : DiskState) (read : Image) (refusal : Refusal)
         → D.told disk ≡ Some state → IsRead read state → IsRefused read refusal
         → StatusWithoutOpening D.Watched K.Sink disk result.disk sink.old sink.new refusal result.status

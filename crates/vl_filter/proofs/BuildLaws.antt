@@ -19,7 +19,7 @@ zero_at zero k = refl
 zero_at (suc n) zero = refl
 zero_at (suc n) (suc k) = zero_at n k
 
-zeros_unset : (n p : ℕ) → is_set (replicate {A = ℕ} n 0) p ≡ false
+pub zeros_unset : (n p : ℕ) → is_set (replicate {A = ℕ} n 0) p ≡ false
 unfolding is_set
 zeros_unset n p = ap (λ b. bit_at b (p % 8) == 1) (zero_at n (p / 8)) ∙ ap (λ b. b == 1) (bit_at-zero (p % 8))
 

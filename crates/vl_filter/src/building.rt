@@ -26,8 +26,8 @@ pub fn build(alloc: Global, keys: &[Hashes]) -> Result<Vec<u8>, AllocError>
     Ok(body)
 }
 
-/// How many bytes the bits of so many keys take.
-pub fn bytes_for(keys: usize) -> usize
+// How many bytes the bits of so many keys take.
+fn bytes_for(keys: usize) -> usize
     requires { 8 * byte_count keys < 2 ^ 32 }
     ensures { result ≡ byte_count keys }
 {

@@ -1,5 +1,5 @@
 // Laws of filters: each is the contract of a function that does nothing.
-ghost use Rattle.std.specs.Prelude.{◌≡◌, ◌<◌, ◌*◌, ◌^◌, ◌∷◌, [], ℕ, true, List, length, map};
+ghost use Rattle.std.specs.Prelude.{◌≡◌, ◌<◌, ◌*◌, ◌^◌, ◌∷◌, [], ℕ, true, false, List, length, map, replicate};
 ghost use Rattle.std.specs.List.{AllByRecursion};
 ghost use Rattle.vl_filter.specs.Bits.{is_set};
 ghost use Rattle.vl_filter.specs.Filters.{SpellsFilter, byte_count, filter_body, filter_bytes, is_marked, may_hold};
@@ -17,6 +17,11 @@ pub fn filters_have_the_bits_of_their_keys()
 /// A filter may hold every key that it was built of.
 pub fn built_filters_hold_their_keys()
     ensures { (keys : List (List ℕ)) → AllByRecursion (λ key. may_hold (filter_bytes keys) key ≡ true) keys }
+{}
+
+/// A filter whose bits are all 0 holds no key.
+pub fn filters_of_zeros_hold_no_key()
+    ensures { (count : ℕ) (key : List ℕ) → may_hold (replicate count 0) key ≡ false }
 {}
 
 /// A body is read as the filter that it spells, and as no other.

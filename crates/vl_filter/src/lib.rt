@@ -11,12 +11,12 @@ mod filter;
 mod hashes;
 mod laws;
 
-pub use building::{build, bytes_for};
+pub use building::build;
 pub use filter::{Filter, passes, read};
 pub use hashes::Hashes;
 pub use laws::{
     a_worked_filter, built_filters_hold_their_keys, filters_are_read_in_one_way,
-    filters_have_the_bits_of_their_keys,
+    filters_have_the_bits_of_their_keys, filters_of_zeros_hold_no_key,
 };
 
 #[cfg(test)]
@@ -31,6 +31,8 @@ mod tests {
         assert_eq!(rt; body.as_slice(), expected.as_slice());
         let filter = read(&body).ok_or("none")?;
         assert!(rt; filter.may_hold(b"abc"));
+        let zeros = read(&[0, 0, 0, 64, 0, 0, 0, 0, 0, 0, 0, 0]).ok_or("none")?;
+        assert!(rt; !zeros.may_hold(b"abc"));
         Ok(())
     }
 }

@@ -10,10 +10,10 @@ use Rattle.vl_table.specs.KeptBlocks.{AreKept}
 use Rattle.vl_table.specs.declared.block_reader.BlockReader.{BlockReader}
 use Rattle.vl_table.specs.declared.fault.TableFault.{TableFault}
 use Rattle.vl_table.specs.declared.table.Table.{Table}
-use Rattle.vl_levels.specs.LookedUp.{LooksOn, LooksThrough}
+use Rattle.vl_levels.specs.LookedUp.{LooksInAll, LooksOn, LooksThrough}
 use Rattle.vl_levels.specs.declared.look.Look.{Look}
 use Rattle.vl_levels.proofs.LookSteps.{fails_on, goes_on}
-use Rattle.vl_levels.proofs.Through.{through-append}
+use Rattle.vl_levels.proofs.Through.{in_all-append, in_all-front, through-append}
 
 -- in these tables was looked, and this counts so far
 pub record SoFar {H R : Type 0} (bytes_of : H → Option (List ℕ)) (files : Files) (ts : List (Table H)) (Lawful Laid : Type 0) (look : Look) (key : List ℕ)
@@ -45,3 +45,12 @@ module _ {H R : Type 0} (bytes_of : H → Option (List ℕ)) (files : Files) (A 
       (subst (λ (s : Result (Option Found) TableFault). LooksOn bytes_of ((ts ++ us) ++ more) A look key first before now s) (sym is)
       (fails_on bytes_of look key (ts ++ us) more A A first before now e (λ a. a)
       (goes_on bytes_of look key ts us A B A first before mid now best (Err e) (λ a. a) f so.answer answer)))
+
+  -- and that was the first table on which it did
+  pub stops_there : (more all : List (Table H)) (M : Type 0) (e : TableFault) (r : Result (Option Found) TableFault) → all ≡ (ts ++ us) ++ more → r ≡ Err e → (L → M)
+      → (M → LooksInAll bytes_of look key (option_map (found_of key) best) us (Err e)) → L → LooksInAll bytes_of look key first all r
+  stops_there more all M e r parts is f looks laid =
+      subst (λ (l : List (Table H)). LooksInAll bytes_of look key first l r) (sym parts)
+      (subst (λ (s : Result (Option Found) TableFault). LooksInAll bytes_of look key first ((ts ++ us) ++ more) s) (sym is)
+      (in_all-front bytes_of look key (ts ++ us) more first e
+      (in_all-append bytes_of look key ts us first (option_map (found_of key) best) (Err e) (so.looks laid) (looks (f laid)))))

@@ -1,28 +1,33 @@
 -- What a look-up looks at in tables that need not be true, one more table at a time.
-use Rattle.std.specs.Prelude.{◌≡◌, ◌<◌, ◌≤◌, ◌+◌, ◌&&◌, ℕ, suc, not, Bool, true, false, List, [], ◌∷◌, ◌++◌, length, get_or, Option, None, Result, Ok, Err}
+use Rattle.std.specs.Prelude.{◌≡◌, ◌<◌, ◌≤◌, ◌+◌, ◌&&◌, ℕ, suc, not, Bool, true, false, List, [], ◌∷◌, ◌++◌, length, get_or, take, drop, Option, None, Result, Ok, Err}
 use Rattle.std.specs.List.{AllByRecursion, prefix_len}
 use Rattle.std.specs.Cmp.Lexicographic.{nat_list_cmp_total}
 use Rattle.std.specs.Option.{option_map}
 use Rattle.std.specs.Ordering.{is_gt, is_lt}
 use Rattle.std.specs.declared.cmp.Ordering.{Ordering}
 use Rattle.std.specs.declared.cmp.Ordering.TheVariants.{Less, Equal, Greater}
-use Rattle.std.proofs.Common.{refl, ap, sym, subst, ◌∙◌, arith, cond}
+use Rattle.std.proofs.Common.{refl, ap, sym, subst, ◌∙◌, append_assoc, arith, cond}
 use Rattle.vl_model.specs.Keys.{key_cmp}
 use Rattle.vl_model.specs.declared.entry.Entry.{Entry}
 use Rattle.vl_run.specs.Lookups.{IsParted}
 use Rattle.vl_block.specs.Founds.{found_of}
 use Rattle.vl_block.specs.declared.found.Found.{Found}
+use Rattle.vl_disk.specs.declared.name.Name.{Name}
+use Rattle.vl_table.specs.Answers.{Answers}
 use Rattle.vl_table.specs.MayHold.{may_hold}
 use Rattle.vl_table.specs.Meets.{LooksIn}
-use Rattle.vl_table.specs.Tables.{shape_of}
+use Rattle.vl_table.specs.Seeks.{IsBadBlock}
+use Rattle.vl_table.specs.Tables.{number_of, shape_of}
 use Rattle.vl_table.specs.declared.fault.TableFault.{TableFault}
+use Rattle.vl_table.specs.declared.fault.TableFault.TheVariants.{NoMemory, Disk, Damaged}
 use Rattle.vl_table.specs.declared.table.Table.{Table}
 use Rattle.vl_table.specs.laws.KeyRanges.{above_turned, all_map, below_turned, below_up_to, up_to_below}
 use Rattle.vl_levels.specs.LevelTables.{AreApart, AreRanged, ends_before, footer_of}
-use Rattle.vl_levels.specs.LookedUp.{LooksAt, LooksInAll, LooksThrough}
+use Rattle.vl_levels.specs.LookedUp.{IsDamagedAt, LooksAt, LooksInAll, LooksThrough, StopsAt}
 use Rattle.vl_levels.specs.Looks.{better, is_asked, is_wanted, makes, place_version}
 use Rattle.vl_levels.specs.declared.look.Look.{Look}
 use Rattle.vl_levels.proofs.LookLaws.{none-better}
+use Rattle.vl_levels.proofs.Parts.{split_at}
 
 greater : (r : Ordering) → is_gt r ≡ true → r ≡ Greater
 greater Less is = absurd cc
@@ -43,9 +48,48 @@ module _ {H : Type 0} (bytes_of : H → Option (List ℕ)) (look : Look) (key : 
   both_tests true b is refused = refused
   both_tests false b is refused = absurd cc
 
+  asked_of : (a b : Bool) → a ≡ true → (b ≡ false → ⊥) → (a && b) ≡ true
+  asked_of true true is held = refl
+  asked_of true false is held = absurd (held refl)
+  asked_of false b is held = absurd cc
+
   second_test : (a b : Bool) → (a && b) ≡ true → b ≡ true
   second_test true b is = is
   second_test false b is = absurd cc
+
+  -- one that is wanted and isn't asked may not have the key
+  pub unheld : (best : Option Entry) (t : Table H) → is_wanted look best (footer_of t).greatest ≡ true → is_asked look key best (shape_of t) ≡ false
+      → may_hold key (shape_of t) ≡ false
+  unheld best t wanted refused = both_tests (is_wanted look best (footer_of t).greatest) (may_hold key (shape_of t)) wanted refused
+
+  -- it fails at one that is wanted, and was read
+  pub stops_here : (best : Option Entry) (t : Table H) (before now : ℕ) (good : List ℕ → Option Found → Type 0) (e : TableFault)
+      → is_wanted look best (footer_of t).greatest ≡ true → (may_hold key (shape_of t) ≡ false → ⊥)
+      → Answers {T = Option Found} before now (number_of t) (bytes_of t.held) good (IsBadBlock (shape_of t)) (Err e)
+      → LooksInAll bytes_of look key best (t ∷ []) (Err e)
+  stops_here best t before now good NoMemory wanted held a = tt
+  stops_here best t before now good (Disk name) wanted held a = record {
+    front = [];
+    table = t;
+    back = [];
+    among = refl;
+    next = best;
+    through = refl;
+    asked = asked_of (is_wanted look best (footer_of t).greatest) (may_hold key (shape_of t)) wanted held;
+    named = a.named;
+    why = tt;
+  }
+  stops_here best t before now good (Damaged name place) wanted held a = record {
+    front = [];
+    table = t;
+    back = [];
+    among = refl;
+    next = best;
+    through = refl;
+    asked = asked_of (is_wanted look best (footer_of t).greatest) (may_hold key (shape_of t)) wanted held;
+    named = a.named;
+    why = a.answer;
+  }
 
   -- a table that is wanted was asked
   pub looks_in : (best : Option Entry) (t : Table H) (older x : Option Found) → is_wanted look best (footer_of t).greatest ≡ true
@@ -72,11 +116,48 @@ module _ {H : Type 0} (bytes_of : H → Option (List ℕ)) (look : Look) (key : 
   through-append [] us best mid found first second = subst (λ (o : Option Entry). LooksThrough bytes_of look key o us found) first second
   through-append (t ∷ ts) us best mid found first second = (first.0, first.1, through-append ts us first.0 mid found first.2 second)
 
-  pub in_all-append : (ts us : List (Table H)) (best : Option Entry) (x : Option Found) (r : Result (Option Found) TableFault)
-      → LooksThrough bytes_of look key best ts (option_map (found_of key) x) → LooksInAll bytes_of look key (option_map (found_of key) x) us r
-      → LooksInAll bytes_of look key best (ts ++ us) r
-  in_all-append ts us best x (Ok y) first second = through-append ts us best (option_map (found_of key) x) (option_map (found_of key) y) first second
-  in_all-append ts us best x (Err e) first second = tt
+  -- it fails behind tables that were looked in
+  stops-back : (ts us : List (Table H)) (best mid : Option Entry) (name : Name) (P : Table H → Type 0) → LooksThrough bytes_of look key best ts mid
+      → StopsAt bytes_of look key mid us name P → StopsAt bytes_of look key best (ts ++ us) name P
+  stops-back ts us best mid name P first s = record {
+    front = ts ++ s.front;
+    table = s.table;
+    back = s.back;
+    among = ap (λ (l : List (Table H)). ts ++ l) s.among ∙ sym (append_assoc ts s.front (s.table ∷ s.back));
+    next = s.next;
+    through = through-append ts s.front best mid s.next first s.through;
+    asked = s.asked;
+    named = s.named;
+    why = s.why;
+  }
+
+  -- or before others
+  stops-front : (ts us : List (Table H)) (best : Option Entry) (name : Name) (P : Table H → Type 0) → StopsAt bytes_of look key best ts name P
+      → StopsAt bytes_of look key best (ts ++ us) name P
+  stops-front ts us best name P s = record {
+    front = s.front;
+    table = s.table;
+    back = s.back ++ us;
+    among = ap (λ (l : List (Table H)). l ++ us) s.among ∙ append_assoc s.front (s.table ∷ s.back) us;
+    next = s.next;
+    through = s.through;
+    asked = s.asked;
+    named = s.named;
+    why = s.why;
+  }
+
+  pub in_all-append : (ts us : List (Table H)) (best mid : Option Entry) (r : Result (Option Found) TableFault)
+      → LooksThrough bytes_of look key best ts mid → LooksInAll bytes_of look key mid us r → LooksInAll bytes_of look key best (ts ++ us) r
+  in_all-append ts us best mid (Ok y) first second = through-append ts us best mid (option_map (found_of key) y) first second
+  in_all-append ts us best mid (Err NoMemory) first second = tt
+  in_all-append ts us best mid (Err (Disk name)) first second = stops-back ts us best mid name (λ t. Unit {0}) first second
+  in_all-append ts us best mid (Err (Damaged name place)) first second = stops-back ts us best mid name (IsDamagedAt bytes_of place) first second
+
+  pub in_all-front : (ts us : List (Table H)) (best : Option Entry) (e : TableFault) → LooksInAll bytes_of look key best ts (Err e)
+      → LooksInAll bytes_of look key best (ts ++ us) (Err e)
+  in_all-front ts us best NoMemory stops = tt
+  in_all-front ts us best (Disk name) stops = stops-front ts us best name (λ t. Unit {0}) stops
+  in_all-front ts us best (Damaged name place) stops = stops-front ts us best name (IsDamagedAt bytes_of place) stops
 
   pub through_one : (best : Option Entry) (t : Table H) (found : Option Entry) → LooksAt bytes_of look key best t found
       → LooksThrough bytes_of look key best (t ∷ []) found
@@ -179,6 +260,18 @@ module _ {H : Type 0} (bytes_of : H → Option (List ℕ)) (look : Look) (key : 
         );
       }
 
+  -- of those in front none is asked
+  front_passed : (ts : List (Table H)) (best : Option Entry) → LooksThrough bytes_of look key best (take (prefix_len (ends_before key) ts) ts) best
+  front_passed [] best = refl
+  front_passed (t ∷ ts) best = by (front_passed ts best) (ends_before key t) refl
+    where
+      by : LooksThrough bytes_of look key best (take (prefix_len (ends_before key) ts) ts) best → (b : Bool) → ends_before key t ≡ b
+          → LooksThrough bytes_of look key best (take (cond b (1 + prefix_len (ends_before key) ts) 0) (t ∷ ts)) best
+      by later true ends =
+          subst (λ (n : ℕ). LooksThrough bytes_of look key best (take n (t ∷ ts)) best) (one_more (prefix_len (ends_before key) ts))
+          (best, looks_past best t (past_end best t ends), later)
+      by later false ends = refl
+
   -- where the one at a position was looked in, the level was
   pub reaches : (ts : List (Table H)) (t : Table H) (best : Option Entry) (at : ℕ) (r : Result (Option Found) TableFault)
       → at ≡ prefix_len (ends_before key) ts → at < length ts → t ≡ get_or ts at t → AreApart ts → AreRanged ts
@@ -187,4 +280,8 @@ module _ {H : Type 0} (bytes_of : H → Option (List ℕ)) (look : Look) (key : 
       let reached = level_reached ts best apart ranged in
       reached.here t (option_map (found_of key) x) (omega (arith, within, first)) (is ∙ ap (λ (n : ℕ). get_or ts n t) first)
       (subst (λ (o : Option Entry). LooksAt bytes_of look key best t o) (sym looks.2) looks.1)
-  reaches ts t best at (Err e) first within is apart ranged looks = tt
+  reaches ts t best at (Err e) first within is apart ranged looks =
+      subst (λ (l : List (Table H)). LooksInAll bytes_of look key best l (Err e)) (sym (split_at ts at t within is))
+      (in_all-front (take at ts ++ t ∷ []) (drop (suc at) ts) best e
+      (in_all-append (take at ts) (t ∷ []) best best (Err e)
+      (subst (λ (n : ℕ). LooksThrough bytes_of look key best (take n ts) best) (sym first) (front_passed ts best)) looks))

@@ -55,7 +55,8 @@ module _ {H : Type 0} (bytes_of : H → Option (List ℕ)) where
   pub record LooksAt (look : Look) (key : List ℕ) (best : Option Entry) (t : Table H) (next : Option Entry) : Type 0 where
     pub skips : is_asked look key best (shape_of t) ≡ false → next ≡ best
     pub asks : is_asked look key best (shape_of t) ≡ true
-        → (met : Option Entry) × ForSome (bytes_of t.held) (λ bytes. Looks (makes look key) (shape_of t) key (place_version look) bytes met)
+        → (met : Option Entry)
+        × ForSome (bytes_of t.held) (λ bytes. Looks (makes look key) (shape_of t) key (place_version look) bytes met)
         × (next ≡ better look best met)
 
   -- so were all these tables, one behind the other
@@ -63,10 +64,24 @@ module _ {H : Type 0} (bytes_of : H → Option (List ℕ)) where
   LooksThrough look key best [] found = found ≡ best
   LooksThrough look key best (t ∷ ts) found = (next : Option Entry) × LooksAt look key best t next × LooksThrough look key next ts found
 
-  -- an answer is so
+  -- So were these tables up to one that was to be asked, and there it failed.
+  pub record StopsAt (look : Look) (key : List ℕ) (best : Option Entry) (ts : List (Table H)) (name : Name) (P : Table H → Type 0) : Type 0 where
+    pub front : List (Table H)
+    pub table : Table H
+    pub back : List (Table H)
+    pub among : ts ≡ front ++ table ∷ back
+    pub next : Option Entry
+    pub through : LooksThrough look key best front next
+    pub asked : is_asked look key next (shape_of table) ≡ true
+    pub named : name ≡ table_name (number_of table)
+    pub why : P table
+
+  -- an answer is so: all of them were looked in, or those up to the first that failed
   abbrev pub LooksInAll : Look → List ℕ → (best : Option Entry) → List (Table H) → Result (Option Found) TableFault → Type 0
   LooksInAll look key best ts (Ok found) = LooksThrough look key best ts (option_map (found_of key) found)
-  LooksInAll look key best ts (Err e) = Unit {0}
+  LooksInAll look key best ts (Err NoMemory) = Unit {0}
+  LooksInAll look key best ts (Err (Disk name)) = StopsAt look key best ts name (λ t. Unit {0})
+  LooksInAll look key best ts (Err (Damaged name place)) = StopsAt look key best ts name (IsDamagedAt place)
 
   -- ---- the answer
 

@@ -63,7 +63,8 @@ impl<H: HeldFile> Levels<H> {
             → LookedUp H.bytes (tables_of self.now) (AreInOrder self.now) (λ es. winner es key.now number) key.now
             (R.faults reader.old.reader) (R.faults reader.new.reader) result }
 
-        // No answer hides a block that doesn't stand, of each table that is to be asked, also where tables aren't true.
+        // Where tables are laid out no answer hides a block that doesn't stand, of each table that is to be asked, also if
+        // they aren't true; and a fault is that of the first such table on which one was met.
         ensures looks { (files : Files) → ReadsOf H.bytes files reader.old (tables_of self.now) → AreLaidOut self.now
             → LooksInAll H.bytes (looks.UpTo number) key.now None (tables_of self.now) result }
         ensures no_memory { NeedsNoMemory result }

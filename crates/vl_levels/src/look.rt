@@ -1,6 +1,6 @@
 //! What is looked for in tables.
 
-ghost use Rattle.std.specs.Prelude.{◌≡◌, ℕ, List};
+ghost use Rattle.std.specs.Prelude.{◌≡◌, ℕ, List, None};
 ghost use Rattle.std.specs.Option.{option_map};
 ghost use Rattle.vl_block.specs.Founds.{found_of};
 ghost use Rattle.vl_model.specs.Winners.{newest_of};
@@ -19,8 +19,9 @@ pub enum Look {
 
 // Of what newer sources have of a key and what older ones have the one that counts.
 pub fn better(look: Look, newer: Option<Found>, older: Option<Found>) -> Option<Found>
-    ensures { (key : List ℕ) → option_map (found_of key) result
+    ensures counts { (key : List ℕ) → option_map (found_of key) result
         ≡ better look (option_map (found_of key) newer) (option_map (found_of key) older) }
+    ensures same { older ≡ None → result ≡ newer }
 {
     match look {
         Look::UpTo(_) => greater(newer, older),
@@ -30,8 +31,9 @@ pub fn better(look: Look, newer: Option<Found>, older: Option<Found>) -> Option<
 
 // The one of the greater version, and of two of one version the first.
 fn greater(newer: Option<Found>, older: Option<Found>) -> Option<Found>
-    ensures { (key : List ℕ) → option_map (found_of key) result
+    ensures counts { (key : List ℕ) → option_map (found_of key) result
         ≡ newest_of (option_map (found_of key) newer) (option_map (found_of key) older) }
+    ensures same { older ≡ None → result ≡ newer }
 {
     match (newer, older) {
         (Some(a), Some(b)) => Some(if b.version <= a.version { a } else { b }),

@@ -13,7 +13,7 @@ ghost use Rattle.vl_table.specs.Seeks.{IsBadBlock};
 ghost use Rattle.vl_table.specs.Tables.{IsOf, number_of, shape_of};
 ghost use Rattle.vl_levels.specs.LevelTables.{AreApart, AreRanged};
 ghost use Rattle.vl_levels.specs.LookedUp.{LooksInAll, LooksOn};
-ghost use Rattle.vl_levels.specs.Looks.{makes, place_version, sought};
+ghost use Rattle.vl_levels.specs.Looks.{is_asked, makes, place_version, sought};
 
 use crate::level::ending_before;
 use crate::look::{Look, better, is_wanted};
@@ -33,9 +33,10 @@ fn ask<H: HeldFile, R: Reader<Held = H>>(
         → Answers (R.faults reader.old.reader) (R.faults reader.new.reader) (number_of table.now) (H.bytes table.now.held)
         (λ bytes found. (es : List Entry) → IsOf H.bytes table.now es → option_map (found_of key.now) found ≡ sought look key.now es)
         (IsBadBlock (shape_of table.now)) result }
-    ensures looks { (files : Files) → ReadsOf H.bytes files reader.old (table.now ∷ []) → may_hold key.now (shape_of table.now) ≡ true
+    ensures looks { (files : Files) → ReadsOf H.bytes files reader.old (table.now ∷ [])
+        → may_hold key.now (shape_of table.now) ≡ true
         → LooksIn H.bytes (makes look key.now) table.now key.now (place_version look) result }
-    ensures unread { may_hold key.now (shape_of table.now) ≡ false → result ≡ Ok None }
+    ensures unread { may_hold key.now (shape_of table.now) ≡ false → (result ≡ Ok None) × (reader.new ≡ reader.old) }
     ensures no_memory { NeedsNoMemory result }
 {
     match look {
@@ -58,6 +59,10 @@ pub fn look_in<H: HeldFile, R: Reader<Held = H>>(
         (R.faults reader.old.reader) (R.faults reader.new.reader) result }
     ensures looks { (files : Files) → ReadsOf H.bytes files reader.old (table.now ∷ [])
         → LooksInAll H.bytes look key.now (option_map (found_of key.now) best) (table.now ∷ []) result }
+
+    // A table that isn't to be asked isn't read.
+    ensures unread { is_asked look key.now (option_map (found_of key.now) best) (shape_of table.now) ≡ false
+        → (result ≡ Ok best) × (reader.new ≡ reader.old) }
     ensures no_memory { NeedsNoMemory result }
 {
     if !is_wanted(look, &best, table.shape().footer.greatest) {

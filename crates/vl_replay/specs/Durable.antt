@@ -1,8 +1,8 @@
 -- What a disk holds while a script is answered, and what a crash leaves of it. `holds` says what a disk holds of a state,
--- and `shows` what an image shows of a history at a number: both are parameters throughout.
-use Rattle.std.specs.Prelude.{◌≡◌, ◌⊎◌, ℕ, ◌≤◌, List, [], ◌∷◌, Some, Err, Result, OnOk, IsTrue}
-use Rattle.vl_model.specs.History.{Extends, History, last_number, with_commit}
-use Rattle.vl_model.specs.Keys.{Writes}
+-- `shows` what an image shows of a history at a number, and `stops` what a line leaves that was stopped: all three are
+-- parameters throughout.
+use Rattle.std.specs.Prelude.{◌≡◌, ◌⊎◌, ℕ, suc, ◌<◌, ◌≤◌, List, [], ◌∷◌, Some, Err, Result, OnOk, IsTrue}
+use Rattle.vl_model.specs.History.{Extends, History, last_number}
 use Rattle.vl_disk.specs.declared.watched.Watched.{Ghosts}
 use Rattle.vl_disk.specs.Faults.{Rose, after_calls}
 use Rattle.vl_disk.specs.DiskState.{DiskState}
@@ -13,12 +13,10 @@ use Rattle.vl_recover.specs.crash.Starts.{MayOpen}
 use Rattle.vl_replay.specs.Sequential.{State}
 use Rattle.vl_replay.specs.Exchanges.{Exchange, last_state}
 pub use Rattle.vl_replay.specs.Between.{Holding}
-use Rattle.vl_replay.specs.Between.{Showing, ShowsBetween}
+use Rattle.vl_replay.specs.Between.{HasPassed, Showing, ShowsBetween, Stopping}
 use Rattle.vl_replay.specs.Endings.{CutsAnswer, IsBetweenLines, TheDisk, culprit_of}
 use Rattle.vl_replay.specs.Runs.{Course}
 use Rattle.vl_replay.specs.Halts.{HaltsByDisk}
-use Rattle.vl_replay.specs.Stopped.{IsStoppedIn, append_passed, calls_until}
-use Rattle.vl_replay.specs.Writing.{PassedOne}
 use Rattle.vl_replay.specs.declared.fails.Halt.{Halt}
 use Rattle.vl_replay.specs.declared.fails.Halt.TheVariants as why
 use Rattle.vl_replay.specs.declared.ending.Ending.TheVariants.{NoMemory}
@@ -31,7 +29,7 @@ Leaves P disk = (image : Image) → IsLeft disk image → P image
 abbrev pub IsAsBefore : {D : Type 0} → Ghosts D → (old new : D) → Type 0
 IsAsBefore g old new = (g.told new ≡ g.told old) × (g.calls new ≡ g.calls old)
 
--- ---- what the loop needs of the two parameters
+-- ---- what the loop needs of the first two parameters
 
 -- Of a disk that holds a state:
 pub record LeavesItsHistory (holds : Holding) (shows : Showing) : Type 0 where
@@ -63,10 +61,13 @@ pub record HoldsState {D : Type 0} (g : Ghosts D) (holds : Holding)
   pub calls : g.calls disk ≡ s.calls
   pub there : Tells g disk (holds s)
 
--- it holds the commits of a state and nothing else, and was asked for the changing calls that this one counts; the numbers of
--- its files are bounded as there
+-- it holds the commits of a state and nothing else, whatever changing calls it was asked for
 abbrev pub HoldsCommits : {D : Type 0} → Ghosts D → Holding → State → D → Type 0
-HoldsCommits g holds t disk =
+HoldsCommits g holds t disk = (s : State) × (s.history ≡ t.history) × Tells g disk (holds s)
+
+-- and it was asked for those that the state counts; the numbers of its files are bounded as there
+abbrev pub HoldsCounted : {D : Type 0} → Ghosts D → Holding → State → D → Type 0
+HoldsCounted g holds t disk =
     (s : State) × (s.history ≡ t.history) × (s.calls ≡ t.calls) × (s.files ≡ t.files) × HoldsState g holds s disk
 
 -- Whatever a crash leaves at any moment from the old disk to the new one shows at least the one history and at most the
@@ -76,41 +77,42 @@ abbrev pub CrashesShow : {D : Type 0} → Ghosts D → Showing → (old new : D)
 CrashesShow g shows old new least most =
     HoldsThroughout g old new (Leaves (ShowsBetween shows least most))
 
--- A disk that failed, and failed cleanly, was stopped within a commit, which makes one state the next. So it is since an old disk
--- on which nothing failed before.
-pub record StopsWithin {D : Type 0} (g : Ghosts D) (holds : Holding) (before after : State) (old new : D)
+-- A disk that failed, and failed cleanly, was stopped within a line, which makes one state the next. So it is since an old
+-- disk on which nothing failed before.
+pub record StopsWithin {D : Type 0} (g : Ghosts D) (stops : Stopping) (before after : State) (old new : D)
     : Type 0 where
-  -- so much of the commit is on the disk;
+  -- so many of the line's calls passed, of more that it makes,
+  pub passed : ℕ
+  pub has_passed : HasPassed g old (after_calls passed before.calls)
+  pub all : ℕ
+  pub more : passed < all
+  pub all_counted : after.calls ≡ after_calls all before.calls
+  -- the one behind them failed, and was the last,
+  pub calls : g.calls new ≡ after_calls (suc passed) before.calls
+  -- and so much of the line is on the disk
   pub now : DiskState
   pub told : g.told new ≡ Some now
-  pub stopped : IsStoppedIn holds before after now
-  -- the call that failed, the commit's first or second one, was the last;
-  pub calls : g.calls new ≡ after_calls (calls_until stopped) before.calls
-  pub passed : IsTrue (append_passed stopped) → PassedOne g old (after_calls 1 before.calls)
-  -- and the state after has these writes more, and counts both calls
-  pub writes : Writes
-  pub one_more : after.history ≡ with_commit before.history writes
-  pub both : after.calls ≡ after_calls 2 before.calls
+  pub stopped : stops before after passed now
 
 -- A call took a disk from one state to the next, or failed on the way.
-pub record LeadsTo {D T : Type 0} (g : Ghosts D) (holds : Holding) (shows : Showing)
+pub record LeadsTo {D T : Type 0} (g : Ghosts D) (holds : Holding) (shows : Showing) (stops : Stopping)
     (old new : D) (before after : State) (result : Result T Halt) : Type 0 where
   -- where it was answered the disk holds the state after it;
   pub answered : OnOk result (HoldsState g holds after new)
-  -- where memory ran out it holds the commits before and no more;
+  -- where memory ran out it holds the commits before and no more, whatever calls came first;
   pub no_commit : result ≡ Err why.NoMemory → HoldsCommits g holds before new
   -- it tells its bytes, and a store may be opened on them, also where it failed;
   pub tells : Tells g new MayOpen
   -- what a crash meanwhile leaves shows the commits before, or those after it;
   pub through : CrashesShow g shows old new before.history after.history
-  -- and where the disk failed, and fails cleanly, it was stopped within the commit that leads from one state to the next
-  pub stopped : HaltsByDisk result → IsTrue g.fails_cleanly → StopsWithin g holds before after old new
+  -- and where the disk failed, and fails cleanly, it was stopped within the line that leads from one state to the next
+  pub stopped : HaltsByDisk result → IsTrue g.fails_cleanly → StopsWithin g stops before after old new
 
 -- A line, or a text, was carried out: so it is where the disk held the state before.
-abbrev pub CarriesOut : {D T : Type 0} → Ghosts D → Holding → Showing → (old new : D)
+abbrev pub CarriesOut : {D T : Type 0} → Ghosts D → Holding → Showing → Stopping → (old new : D)
     → (before after : State) → Result T Halt → Type 0
-CarriesOut g holds shows old new before after result =
-    HoldsState g holds before old → LeadsTo g holds shows old new before after result
+CarriesOut g holds shows stops old new before after result =
+    HoldsState g holds before old → LeadsTo g holds shows stops old new before after result
 
 -- A disk that held the commits of a state went through this one for the next line. When the line was answered isn't said.
 pub record PassesLine {D : Type 0} (g : Ghosts D) (holds : Holding) (shows : Showing) (new : D) (most : State)
@@ -118,7 +120,7 @@ pub record PassesLine {D : Type 0} (g : Ghosts D) (holds : Holding) (shows : Sho
   -- what a crash leaves up to it shows the commits before the line, or those after it;
   pub before : CrashesShow g shows disk passed s.history e.after.history
   -- it held the commits up to the line and nothing else, after just the changing calls of these lines;
-  pub held : HoldsCommits g holds e.after passed
+  pub held : HoldsCounted g holds e.after passed
   -- no fault was counted meanwhile;
   pub steady : g.faults passed ≡ g.faults disk
   -- and what a crash leaves from it on, until the run's end, shows at least the latter
@@ -134,7 +136,7 @@ GoesAlong {D} g holds shows new most disk s (e ∷ later) =
 
 -- What a run that came so far did to its disk. The commits of the answered lines are the acknowledged ones. Where the store
 -- wasn't opened, `unopened` says what the disk is, and `failed_to_open` what is said of a fault.
-pub record DiskEnds {D : Type 0} (g : Ghosts D) (holds : Holding) (shows : Showing)
+pub record DiskEnds {D : Type 0} (g : Ghosts D) (holds : Holding) (shows : Showing) (stops : Stopping)
     (unopened failed_to_open : Type 0) (old new : D) (run : Course) : Type 0 where
   -- what a crash at any moment since the begin leaves shows a first part of the commits
   pub crash_during : CrashesShow g shows old new run.first.history run.most.history
@@ -151,20 +153,19 @@ pub record DiskEnds {D : Type 0} (g : Ghosts D) (holds : Holding) (shows : Showi
   -- where the run ended by want of memory, it wasn't opened, or holds just the acknowledged ones
   pub no_memory : run.ending ≡ NoMemory
       → unopened ⊎ HoldsCommits g holds (last_state run.first run.answered) new
-  -- where the run ended between two lines, the disk holds just the acknowledged ones
+  -- where the run ended between two lines, the disk holds just the acknowledged ones, after just the calls of their lines
   pub between_lines : IsBetweenLines (culprit_of run.ending)
-      → HoldsCommits g holds (last_state run.first run.answered) new
+      → HoldsCounted g holds (last_state run.first run.answered) new
   -- and where it ended while an answer was put, the commit of that answer's line too
-  pub answer_cut : CutsAnswer run.ending → HoldsCommits g holds run.most new
+  pub answer_cut : CutsAnswer run.ending → HoldsCounted g holds run.most new
   -- however it ended, a store may be opened on the disk again
   pub again : Tells g new MayOpen
-  -- where it ended by a disk that fails cleanly, the store wasn't opened, or the disk was stopped within the commit of one
-  -- line more
+  -- where it ended by a disk that fails cleanly, the store wasn't opened, or the disk was stopped within one line more
   pub stopped : culprit_of run.ending ≡ TheDisk → IsTrue g.fails_cleanly
-      → failed_to_open ⊎ StopsWithin g holds (last_state run.first run.answered) run.most old new
+      → failed_to_open ⊎ StopsWithin g stops (last_state run.first run.answered) run.most old new
 
 -- so it is of a run over an open store, where the disk held the state in which it began
-abbrev pub DiskEndsFrom : {D : Type 0} → Ghosts D → Holding → Showing → (old new : D) → State
+abbrev pub DiskEndsFrom : {D : Type 0} → Ghosts D → Holding → Showing → Stopping → (old new : D) → State
     → Course → Type 0
-DiskEndsFrom g holds shows old new s run =
-    HoldsState g holds s old → DiskEnds g holds shows ⊥ ⊥ old new run
+DiskEndsFrom g holds shows stops old new s run =
+    HoldsState g holds s old → DiskEnds g holds shows stops ⊥ ⊥ old new run

@@ -7,11 +7,11 @@ use Rattle.vl_disk.specs.declared.name.Name.{Name}
 use Rattle.vl_disk.specs.declared.name.Name.TheVariants.{Log, Table, Manifest}
 use Rattle.vl_script.specs.Script.{counter_text}
 use Rattle.vl_replay.specs.declared.fails.Refusal.{Refusal}
-use Rattle.vl_replay.specs.declared.fails.Refusal.TheVariants.{NotAStore, NewerFormat, Damaged, Exhausted}
+use Rattle.vl_replay.specs.declared.fails.Refusal.TheVariants.{NotAStore, NewerFormat, Damaged as DamagedFile, Exhausted}
 use Rattle.vl_replay.specs.declared.ending.Ending.{Ending}
 use Rattle.vl_replay.specs.declared.ending.OnFault.{OnFault}
 use Rattle.vl_replay.specs.declared.ending.OnFault.TheVariants.{Report, Stop}
-use Rattle.vl_replay.specs.declared.ending.Ending.TheVariants.{Complete, BadLine, BadWords, DiskFault, Refused, NoMemory, ReadFault, WriteFault, AnswerCut, Stopped}
+use Rattle.vl_replay.specs.declared.ending.Ending.TheVariants.{Complete, BadLine, BadWords, DiskFault, Refused, Damaged, NoMemory, ReadFault, WriteFault, AnswerCut, Stopped}
 
 -- a count of lines stands still at its type's end
 abbrev pub line_number : ℕ → ℕ
@@ -35,11 +35,15 @@ file_text (Log number) = codes "log " ++ decimal number
 file_text (Table number) = codes "table " ++ decimal number
 file_text (Manifest number) = codes "manifest " ++ decimal number
 
+-- of bytes of a file that aren't what should stand there
+abbrev pub damage_line : Name → ℕ → List ℕ
+damage_line name place = codes "damaged " ++ file_text name ++ codes " at " ++ decimal place ++ (10 ∷ [])
+
 -- of what isn't opened
 abbrev pub refusal_line : Refusal → List ℕ
 refusal_line NotAStore = codes "not a store" ++ (10 ∷ [])
 refusal_line (NewerFormat format) = codes "newer format " ++ decimal format ++ (10 ∷ [])
-refusal_line (Damaged name place) = codes "damaged " ++ file_text name ++ codes " at " ++ decimal place ++ (10 ∷ [])
+refusal_line (DamagedFile name place) = damage_line name place
 refusal_line (Exhausted counter) = codes "exhausted " ++ counter_text counter ++ (10 ∷ [])
 
 abbrev pub no_memory_line : List ℕ
@@ -59,6 +63,8 @@ pub data Culprit : Type 0 where
   TheDisk : Culprit
   -- what stands on the disk and is no store
   TheFiles : Culprit
+  -- bytes of a file at a place, which a read of an open store met and which aren't what should stand there
+  TheBytes : Name → ℕ → Culprit
   -- want of memory
   Memory : Culprit
   TheSource : Culprit
@@ -87,6 +93,8 @@ end_of BadLine = record { status = 1; culprit = TheLine; last = BadLinePiece }
 end_of BadWords = record { status = 2; culprit = TheWords; last = Line usage_line }
 end_of DiskFault = record { status = 3; culprit = TheDisk; last = Line disk_fault_line }
 end_of (Refused refusal) = record { status = 4; culprit = TheFiles; last = Line (refusal_line refusal) }
+end_of (Damaged name place) =
+    record { status = 4; culprit = TheBytes name place; last = Line (damage_line name place) }
 end_of NoMemory = record { status = 5; culprit = Memory; last = Line no_memory_line }
 end_of ReadFault = record { status = 6; culprit = TheSource; last = Line read_fault_line }
 end_of WriteFault = record { status = 7; culprit = TheSink; last = LineFront }
@@ -117,6 +125,7 @@ IsBetweenLines TheLine = Unit {0}
 IsBetweenLines TheWords = ⊥
 IsBetweenLines TheDisk = ⊥
 IsBetweenLines TheFiles = ⊥
+IsBetweenLines (TheBytes name place) = ⊥
 IsBetweenLines Memory = ⊥
 IsBetweenLines TheSource = Unit {0}
 IsBetweenLines TheSink = ⊥
@@ -148,6 +157,7 @@ Evidence by_source by_disk TheLine = ⊥
 Evidence by_source by_disk TheWords = ⊥
 Evidence by_source by_disk TheDisk = by_disk
 Evidence by_source by_disk TheFiles = ⊥
+Evidence by_source by_disk (TheBytes name place) = ⊥
 Evidence by_source by_disk Memory = ⊥
 Evidence by_source by_disk TheSource = by_source
 Evidence by_source by_disk TheSink = ⊥

@@ -3,10 +3,10 @@ use Rattle.std.specs.Prelude.{◌≡◌, ◌+◌, ◌-◌, ◌≤◌, ℕ, ◌==
 use Rattle.std.specs.List.{flat_map, AllByRecursion}
 use Rattle.std.specs.FinMap.{get}
 use Rattle.std.specs.Option.{option_map}
-use Rattle.vl_model.specs.History.{last_number, value_at}
+use Rattle.vl_model.specs.History.{History, value_at}
 use Rattle.vl_model.specs.Reads.{Read, IsExplained}
 use Rattle.vl_model.specs.Keys.{Writes, is_key_length}
-use Rattle.vl_replay.specs.Sequential.{State, answer_to, state_after, OpenTransaction, OpenView, found, with_tag}
+use Rattle.vl_replay.specs.Sequential.{Handle, State, answer_to, state_after, OpenTransaction, OpenView, found, with_tag}
 use Rattle.vl_script.specs.Script.{line_of, text_of}
 use Rattle.vl_script.specs.declared.line.Line.{Line}
 use Rattle.vl_script.specs.declared.line.Line.TheVariants.{Begin, View, Get, Set, SetTagged, GetTagged, Delete, Commit, Drop}
@@ -65,18 +65,26 @@ KeepsUp bytes asked answered =
     (earlier : List ℕ) × (asked ≡ Some earlier)
     × (ended_lines bytes ≤ answered + ended_lines earlier)
 
--- What is read is explained by the history at the reader's number: what a view reads, by that at the view's own
--- number, where the key is within its limits; what the transaction of an accepted commit has read, by that at the
--- commit's number less one, and no commit came between.
+-- what a read of a key is answered by the history at a number, where the key is within its limits
+abbrev pub read_at : History → ℕ → List ℕ → Answer
+read_at h number key = if is_key_length (length key) then found (value_at h number key) else Invalid
+
+-- this reads from the history, at this number: a view, or a transaction that hasn't written the key
+abbrev pub ReadsAt : Option Handle → List ℕ → ℕ → Type 0
+ReadsAt None key number = ⊥
+ReadsAt (Some (OpenView n)) key number = number ≡ n
+ReadsAt (Some (OpenTransaction n reads writes)) key number = (number ≡ n) × (get writes key ≡ None)
+
+-- What is read is explained by the history at the reader's own number. What the transaction of an accepted commit has read is
+-- explained by that, and by the history at the commit's number less one.
 abbrev pub IsExplainedExchange : Line → Exchange → Type 0
 IsExplainedExchange (Begin name) e = Unit {0}
 IsExplainedExchange (View name) e = Unit {0}
 IsExplainedExchange (Get name key) e =
-    (number : ℕ) → get e.before.handles name ≡ Some (OpenView number)
-    → e.answer ≡ (if is_key_length (length key) then found (value_at e.before.history number key) else Invalid)
+    (number : ℕ) → ReadsAt (get e.before.handles name) key number → e.answer ≡ read_at e.before.history number key
 IsExplainedExchange (GetTagged name key) e =
-    (number : ℕ) → get e.before.handles name ≡ Some (OpenView number)
-    → e.answer ≡ with_tag (if is_key_length (length key) then found (value_at e.before.history number key) else Invalid)
+    (number : ℕ) → ReadsAt (get e.before.handles name) key number
+    → e.answer ≡ with_tag (read_at e.before.history number key)
 IsExplainedExchange (SetTagged name key value tag) e = Unit {0}
 IsExplainedExchange (Set name key value) e = Unit {0}
 IsExplainedExchange (Delete name key) e = Unit {0}
@@ -84,7 +92,7 @@ IsExplainedExchange (Commit name) e =
     (number : ℕ) (reads : List Read) (writes : Writes) (n : ℕ)
     → get e.before.handles name ≡ Some (OpenTransaction number reads writes)
     → e.answer ≡ Number n
-    → IsExplained e.after.history (n - 1) reads × (number ≡ last_number e.before.history)
+    → IsExplained e.after.history number reads × IsExplained e.after.history (n - 1) reads
 IsExplainedExchange (Drop name) e = Unit {0}
 
 -- so it is in each of these exchanges

@@ -11,6 +11,7 @@ pub mod Opened
 pub mod Opening
 pub mod Reading
 pub mod Reopens
+pub mod Replaying
 pub mod Represents
 pub mod Runs
 pub mod Sequential

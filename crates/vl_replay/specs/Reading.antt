@@ -8,9 +8,10 @@ use Rattle.vl_script.specs.Script.{line_of, lines_of, text_of}
 use Rattle.vl_script.specs.declared.answer.Answer.{Answer}
 use Rattle.vl_script.specs.declared.line.Line.{Line}
 use Rattle.vl_replay.specs.Exchanges.{KeepsUp, ended_lines}
-use Rattle.vl_replay.specs.Endings.{bad_line, line_number}
+use Rattle.vl_disk.specs.declared.name.Name.{Name}
+use Rattle.vl_replay.specs.Endings.{bad_line, damage_line, line_number}
 use Rattle.vl_replay.specs.declared.ending.Ending.{Ending}
-use Rattle.vl_replay.specs.declared.ending.Ending.TheVariants.{Complete, BadLine}
+use Rattle.vl_replay.specs.declared.ending.Ending.TheVariants.{Complete, BadLine, Damaged}
 
 -- a text is a line of the language, or none
 abbrev pub IsLine : List ℕ → Type 0
@@ -44,6 +45,10 @@ abbrev pub BeginsBadly : List (List ℕ) → Type 0
 BeginsBadly lines =
     (text : List ℕ) × (later : List (List ℕ)) × (lines ≡ text ∷ later) × IsNoLine text
 
+-- the first of these is one of the language
+abbrev pub BeginsWell : List (List ℕ) → Type 0
+BeginsWell lines = (text : List ℕ) × (later : List (List ℕ)) × (lines ≡ text ∷ later) × IsLine text
+
 -- What a run that ended so tells of the lines of its input.
 pub record ReadsInput (input : List ℕ) (old new : Streams) (ending : Ending) : Type 0 where
   -- the lines that were answered, and those behind them
@@ -61,6 +66,10 @@ pub record ReadsInput (input : List ℕ) (old new : Streams) (ending : Ending) :
   -- before it, and then the bad line with its number.
   pub bad : ending ≡ BadLine
       → BeginsBadly others × TakesAnswers old.held new.held (length answered) (bad_line (length answered + 1))
+  -- A run that met damage ended at a line of the language. Its sink took an answer for each line before it, and then the line
+  -- of that damage.
+  pub damaged : (name : Name) (place : ℕ) → ending ≡ Damaged name place
+      → BeginsWell others × TakesAnswers old.held new.held (length answered) (damage_line name place)
   -- each answer was put whole before the next line was read
   pub kept_up : KeepsUp input new.asked (length answered)
 
@@ -96,12 +105,17 @@ ReadsText text None = IsNoLine text
 abbrev pub TakesBadLine : (count : ℕ) → (held held' : Option (List ℕ)) → Type 0
 TakesBadLine count held held' = (before : ℕ) → count ≡ line_number before → Takes held held' (bad_line (before + 1))
 
--- a run took some last piece and ended incomplete, and at a bad line only with this and with the line's number
-abbrev pub EndsBadly : (by : Type 0) → (count : ℕ) → Ending → (held held' : Option (List ℕ)) → Type 0
-EndsBadly by count ending held held' =
-    TakesSome held held' × (ending ≢ Complete) × (ending ≡ BadLine → by × TakesBadLine count held held')
+-- A run took some last piece and ended incomplete: at a bad line only with `by` and with the line's number, and at damage only
+-- with `met` and with its line.
+pub record EndsBadly (by met : Type 0) (count : ℕ) (ending : Ending) (held held' : Option (List ℕ)) : Type 0 where
+  pub some : TakesSome held held'
+  pub incomplete : ending ≢ Complete
+  pub bad : ending ≡ BadLine → by × TakesBadLine count held held'
+  pub damaged : (name : Name) (place : ℕ) → ending ≡ Damaged name place
+      → met × Takes held held' (damage_line name place)
 
--- a line of the language was answered; or the run ended there, at a bad line only where the text is none of the language
+-- a line of the language was answered; or the run ended there, at a bad line only where the text is none of the language, and
+-- at damage only where it is one
 abbrev pub AnswersText : List ℕ → (count : ℕ) → Option Ending → (held held' : Option (List ℕ)) → Type 0
 AnswersText text count None held held' = IsLine text × ((answer : Answer) × Takes held held' (text_of answer))
-AnswersText text count (Some ending) held held' = EndsBadly (IsNoLine text) count ending held held'
+AnswersText text count (Some ending) held held' = EndsBadly (IsNoLine text) (IsLine text) count ending held held'

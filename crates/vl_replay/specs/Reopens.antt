@@ -23,10 +23,10 @@ state_left Kept true before after = after
 state_left Halved passed before after = before
 
 -- the commit that was stopped
-abbrev pub commits_of : {holds : Holding} {before after : State} {now : DiskState} → IsStoppedIn holds before after now
-    → Commits holds before after
-commits_of (append_failed commits is) = commits
-commits_of (sync_failed commits is) = commits
+abbrev pub commits_of : {holds : Holding} {before after : State} {passed : ℕ} {now : DiskState}
+    → IsStoppedIn holds before after passed now → Commits holds before after
+commits_of (append_failed commits first is) = commits
+commits_of (sync_failed commits second is) = commits
 
 -- no file of the image has a greater number
 abbrev pub NamesUpTo : ℕ → Image → Type 0

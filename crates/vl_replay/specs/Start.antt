@@ -19,7 +19,7 @@ use Rattle.vl_replay.specs.laws.Laws.{IsSound, exchanges_from-explained, none_in
 use Rattle.vl_replay.specs.Runs.{Course, EndsRun, Outside, script_of}
 use Rattle.vl_replay.specs.Sequential.{Handle, State}
 use Rattle.vl_replay.specs.Stopped.{AreNumberedUpTo, GivesUpTo}
-use Rattle.vl_replay.specs.Stored.{IsStored, LogsShow, Shown}
+use Rattle.vl_replay.specs.Stored.{IsStopped, IsStored, LogsShow, Shown}
 use Rattle.vl_replay.specs.declared.ending.Ending.{Ending}
 
 -- An opening of a disk on which this is found makes a store of which no file passes this number.
@@ -71,7 +71,7 @@ StaysOpenable g old new = Tells g old MayOpen → Tells g new MayOpen
 -- no line was answered.
 abbrev pub DiskEndsFromStart : {D : Type 0} → Ghosts D → (old new : D) → Course → Type 0
 DiskEndsFromStart g old new run =
-    Tells g old IsDurable → DiskEnds g IsStored Shown (IsAsBefore g old new) (run.answered ≡ []) old new run
+    Tells g old IsDurable → DiskEnds g IsStored Shown IsStopped (IsAsBefore g old new) (run.answered ≡ []) old new run
 
 -- A run answered the lines of the input that its source had left, as the sequential store does from the state in which a run
 -- over its disk begins, and ended so. It says what was printed and how many lines were answered, that each answer was put before

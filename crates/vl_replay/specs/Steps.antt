@@ -4,11 +4,12 @@ use Rattle.vl_disk.specs.Crash.{Image}
 use Rattle.vl_disk.specs.DiskState.{DiskState}
 use Rattle.vl_disk.specs.Faults.{Rose}
 use Rattle.vl_disk.specs.Started.{IsRead}
+use Rattle.vl_disk.specs.declared.name.Name.{Name}
 use Rattle.vl_disk.specs.declared.watched.Watched.{Ghosts}
 use Rattle.vl_io.specs.declared.sink.Sink as sink
 use Rattle.vl_io.specs.Sink.{Takes}
 use Rattle.vl_script.specs.Script.{text_of, lines_of}
-use Rattle.vl_replay.specs.Between.{Showing}
+use Rattle.vl_replay.specs.Between.{Showing, Stopping}
 use Rattle.vl_replay.specs.Sequential.{State}
 use Rattle.vl_replay.specs.Input.{HasNoLineEnd}
 use Rattle.vl_replay.specs.Exchanges.{Exchange, exchange_at, KeepsUp}
@@ -17,11 +18,9 @@ use Rattle.vl_replay.specs.Opening.{IsRefused, ending_unopened, why_refused}
 use Rattle.vl_recover.specs.declared.fails.OpenError.{OpenError}
 use Rattle.vl_recover.specs.declared.fails.OpenError.TheVariants as why
 use Rattle.vl_replay.specs.Runs.{Script, script_of, IsFront, EndsSo, Outside, EndsRun}
-use Rattle.vl_replay.specs.Represents.{Represents}
 use Rattle.vl_replay.specs.Durable.{Holding, HoldsState, CrashesShow, DiskEnds, DiskEndsFrom, IsAsBefore}
-use Rattle.vl_replay.specs.declared.replayer.store.Store.{Store}
 use Rattle.vl_replay.specs.declared.ending.Ending.{Ending}
-use Rattle.vl_replay.specs.declared.ending.Ending.TheVariants.{Refused, WriteFault}
+use Rattle.vl_replay.specs.declared.ending.Ending.TheVariants.{Damaged, NoMemory, Refused, WriteFault}
 use Rattle.vl_replay.specs.declared.fails.Refusal.{Refusal}
 
 -- the last line was printed whole, or the sink failed behind some first bytes of it and counted that
@@ -38,6 +37,11 @@ abbrev pub FinishesBy : {K : Type 0} → sink.Ghosts K → (old new : K) → (en
     → Type 0
 FinishesBy g old new ending result =
     (line : List ℕ) × (last_line 0 ending ≡ Some line) × Finishes g old new line ending result
+
+-- the run's last line says that a read met this damage, or that memory ran out
+abbrev pub EndsAtDamage : {K : Type 0} → sink.Ghosts K → (old new : K) → Name → (place : ℕ) → Ending → Type 0
+EndsAtDamage g old new name place result =
+    FinishesBy g old new (Damaged name place) result ⊎ FinishesBy g old new NoMemory result
 
 -- ---- runs whose store wasn't opened
 
@@ -82,12 +86,12 @@ pub record EndsWithoutOpening {D K : Type 0} (g : Ghosts D) (k : sink.Ghosts K) 
   -- and the disk was left as it was
   pub unchanged : IsAsBefore g disk disk'
 
--- a text has this answer, and the store stands for the state after it; or it has none, and is a bad line
-abbrev pub IsAnswered : State → List ℕ → Store → Option (List ℕ) → Type 0
-IsAnswered s text after (Some out) =
-    (e : Exchange) × (exchange_at s text ≡ Some e) × Represents after e.after
+-- a text has this answer, and the state after it is one for which a replayer stands; or it has none, and is a bad line
+abbrev pub IsAnswered : State → List ℕ → (stands : State → Type 0) → Option (List ℕ) → Type 0
+IsAnswered s text stands (Some out) =
+    (e : Exchange) × (exchange_at s text ≡ Some e) × stands e.after
     × (out ≡ text_of e.answer)
-IsAnswered s text after None = exchange_at s text ≡ None
+IsAnswered s text stands None = exchange_at s text ≡ None
 
 -- this text is the next line of the script
 abbrev pub IsNext : Script → List ℕ → Type 0
@@ -110,12 +114,12 @@ EndsAtBadLine answered ending held held' =
 
 -- the next line was answered and printed, and the run goes on; or it ended there, whatever the source has left. `failed` says
 -- that the disk failed.
-abbrev pub PrintsStep : (failed : Type 0) → Script → List ℕ → Store → Option Ending
+abbrev pub PrintsStep : (failed : Type 0) → Script → List ℕ → (stands : State → Type 0) → Option Ending
     → (held held' : Option (List ℕ)) → Type 0
-PrintsStep failed script text after None held held' =
-    (e : Exchange) × (exchange_at script.start text ≡ Some e) × Represents after e.after
+PrintsStep failed script text stands None held held' =
+    (e : Exchange) × (exchange_at script.start text ≡ Some e) × stands e.after
     × Takes held held' (text_of e.answer)
-PrintsStep failed script text after (Some ending) held held' =
+PrintsStep failed script text stands (Some ending) held held' =
     (left : Option (List ℕ)) → EndsBefore (OnlyByDisk failed) script left ending held held'
 
 -- the disk holds the state after a line, and a crash meanwhile left what was before it or after it
@@ -127,25 +131,26 @@ pub record MovesOn {D : Type 0} (g : Ghosts D) (holds : Holding) (shows : Showin
   pub steady : g.faults new ≡ g.faults old
 
 -- what a step did to a disk that held the state before it
-abbrev pub DiskSteps : {D : Type 0} → Ghosts D → Holding → Showing → (old new : D)
+abbrev pub DiskSteps : {D : Type 0} → Ghosts D → Holding → Showing → Stopping → (old new : D)
     → (before after : State) → Option Ending → Type 0
-DiskSteps g holds shows old new before after None = MovesOn g holds shows old new before after
-DiskSteps g holds shows old new before after (Some ending) =
-    DiskEnds g holds shows ⊥ ⊥ old new (record { ending = ending; first = before; answered = []; most = after })
+DiskSteps g holds shows stops old new before after None = MovesOn g holds shows old new before after
+DiskSteps g holds shows stops old new before after (Some ending) =
+    DiskEnds g holds shows stops ⊥ ⊥ old new (record { ending = ending; first = before; answered = []; most = after })
 
--- what a run under way keeps: its store, the bytes that were read and not answered yet, and how many lines were answered
-pub record Kept : Type 0 where
-  pub store : Store
+-- what a run under way keeps: for which states its replayer stands, the bytes that were read and not answered yet, and how
+-- many lines were answered
+pub record Kept : Type 1 where
+  pub stands : State → Type 0
   pub buffer : List ℕ
   pub answered : ℕ
 
-abbrev pub kept : Store → List ℕ → ℕ → Kept
-kept store buffer answered = record { store = store; buffer = buffer; answered = answered }
+abbrev pub kept : (State → Type 0) → List ℕ → ℕ → Kept
+kept stands buffer answered = record { stands = stands; buffer = buffer; answered = answered }
 
 -- A run that keeps this has a script still to do.
 pub record HasToDo {D : Type 0} (script : Script) (kept : Kept) (now : Outside D) : Type 0 where
-  -- its store stands for the state in which the script starts, and the lines before it were answered;
-  pub stands : Represents kept.store script.start
+  -- its replayer stands for the state in which the script starts, and the lines before it were answered;
+  pub stands : kept.stands script.start
   pub count : kept.answered ≡ line_number script.before
   -- the script's bytes are those that were read, and those that the source has left;
   pub rest : List ℕ
@@ -173,8 +178,8 @@ pub record GoesOn {D : Type 0} (g : Ghosts D) (holds : Holding) (shows : Showing
       → MovesOn g holds shows old.disk new.disk script.start exchange.after
 
 -- so it was, or the run ended
-abbrev pub Steps : {D : Type 0} → Ghosts D → Holding → Showing → Script → (old new : Outside D)
+abbrev pub Steps : {D : Type 0} → Ghosts D → Holding → Showing → Stopping → Script → (old new : Outside D)
     → Kept → Option Ending → Type 0
-Steps g holds shows script old new kept None = GoesOn g holds shows script old new kept
-Steps g holds shows script old new kept (Some ending) =
-    EndsRun g (DiskEndsFrom g holds shows old.disk new.disk script.start) script old new ending
+Steps g holds shows stops script old new kept None = GoesOn g holds shows script old new kept
+Steps g holds shows stops script old new kept (Some ending) =
+    EndsRun g (DiskEndsFrom g holds shows stops old.disk new.disk script.start) script old new ending

@@ -1,5 +1,5 @@
 -- How far a commit came on a disk that then failed, and failed cleanly. And the numbers that a disk's files have.
-use Rattle.std.specs.Prelude.{◌≡◌, ◌≢◌, ◌≤◌, ℕ, ◌+◌, Bool, true, false, List, length, None}
+use Rattle.std.specs.Prelude.{◌≡◌, ◌≢◌, ◌≤◌, ℕ, ◌+◌, List, length, None}
 use Rattle.std.specs.FinMap.{get}
 use Rattle.vl_model.specs.Formats.{log_format}
 use Rattle.vl_disk.specs.DiskState.{DiskState, appended}
@@ -8,6 +8,8 @@ use Rattle.vl_disk.specs.declared.name.Name.{Name}
 use Rattle.vl_disk.specs.declared.name.Name.TheVariants.{Log}
 use Rattle.vl_frame.specs.Runs.{HasFrame}
 use Rattle.vl_manifest.specs.declared.state.ManifestState.{ManifestState}
+use Rattle.vl_model.specs.History.{with_commit}
+use Rattle.vl_model.specs.Keys.{Writes}
 use Rattle.vl_model.specs.declared.log_frame.LogFrame.{LogFrame}
 use Rattle.vl_seglog.specs.Frames.{frame_at, frames_grammar}
 use Rattle.vl_replay.specs.Between.{Holding}
@@ -28,31 +30,22 @@ pub record Commits (holds : Holding) (before after : State) : Type 0 where
   pub frame_is : frame ≡ frame_at log_format before.log.number before.log.length item
   -- and once it is written the disk holds the state after
   pub done : holds after (written (Log before.log.number) frame old)
+  -- that state has these writes more
+  pub writes : Writes
+  pub one_more : after.history ≡ with_commit before.history writes
 
 -- the disk whose log took so many bytes of the frame
 abbrev pub with_taken : {holds : Holding} {before after : State} → Commits holds before after → ℕ → DiskState
 with_taken {before} commits taken = appended (Log before.log.number) commits.frame taken commits.old
 
--- What a commit left of a disk that failed, and failed cleanly.
-pub data IsStoppedIn (holds : Holding) (before after : State) (now : DiskState) : Type 0 where
+-- What a commit left of a disk that failed, and failed cleanly, behind so many of its two calls.
+pub data IsStoppedIn (holds : Holding) (before after : State) (passed : ℕ) (now : DiskState) : Type 0 where
   -- its append failed, and the log took nothing of the frame
-  append_failed : (commits : Commits holds before after) → now ≡ with_taken commits 0
-      → IsStoppedIn holds before after now
+  append_failed : (commits : Commits holds before after) → passed ≡ 0 → now ≡ with_taken commits 0
+      → IsStoppedIn holds before after passed now
   -- its sync failed, and the log took all of the frame
-  sync_failed : (commits : Commits holds before after) → now ≡ with_taken commits (length commits.frame)
-      → IsStoppedIn holds before after now
-
--- whether its append passed
-abbrev pub append_passed : {holds : Holding} {before after : State} {now : DiskState}
-    → IsStoppedIn holds before after now → Bool
-append_passed (append_failed commits is) = false
-append_passed (sync_failed commits is) = true
-
--- how many of the commit's calls were asked for
-abbrev pub calls_until : {holds : Holding} {before after : State} {now : DiskState}
-    → IsStoppedIn holds before after now → ℕ
-calls_until (append_failed commits is) = 1
-calls_until (sync_failed commits is) = 2
+  sync_failed : (commits : Commits holds before after) → passed ≡ 1 → now ≡ with_taken commits (length commits.frame)
+      → IsStoppedIn holds before after passed now
 
 -- ---- numbers of files
 

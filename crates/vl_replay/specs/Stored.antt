@@ -15,7 +15,8 @@ use Rattle.vl_recover.specs.crash.Held.{HoldsStore}
 use Rattle.vl_recover.specs.opening.Opening.{Opening, Opens}
 use Rattle.vl_recover.specs.crash.Held.{GoOn}
 use Rattle.vl_replay.specs.Sequential.{State}
-use Rattle.vl_replay.specs.Stopped.{AreNumberedUpTo, GivesUpTo}
+use Rattle.vl_replay.specs.Between.{Stopping}
+use Rattle.vl_replay.specs.Stopped.{AreNumberedUpTo, GivesUpTo, IsStoppedIn}
 
 -- the entries of logs that rise, end to end, the newest first
 abbrev pub logs_entries : List Segment → List Entry
@@ -58,3 +59,7 @@ pub record IsStored (s : State) (disk : DiskState) : Type 0 where
   pub numbered : AreNumberedUpTo s.files disk
   -- and the manifest gives at most the next one
   pub next : GivesUpTo s.files manifest
+
+-- A line that was stopped was a commit.
+abbrev pub IsStopped : Stopping
+IsStopped = IsStoppedIn IsStored

@@ -13,7 +13,7 @@ use Rattle.vl_replay.specs.Runs.{IsFront}
 use Rattle.vl_replay.specs.Sequential.{State}
 use Rattle.vl_replay.specs.laws.StartLaws.{empty_store}
 use Rattle.vl_replay.specs.declared.ending.Ending.{Ending}
-use Rattle.vl_replay.specs.declared.ending.Ending.TheVariants.{Complete, BadLine, BadWords, DiskFault, Refused, NoMemory, ReadFault, WriteFault, AnswerCut, Stopped}
+use Rattle.vl_replay.specs.declared.ending.Ending.TheVariants.{Complete, BadLine, BadWords, DiskFault, Refused, Damaged, NoMemory, ReadFault, WriteFault, AnswerCut, Stopped}
 
 -- what is tried: the lines of some bytes, over an empty disk of which each changing call behind so many fails; and what a
 -- crash then does to what isn't durable
@@ -61,7 +61,8 @@ abbrev pub answered_state : Trial → State
 answered_state t = last_state begun (answered_lines t)
 
 -- The state whose commits are shown when the image is opened: that behind the answered lines; and that behind the line that met
--- the stop, where its append, the first of its two calls, passed, and what isn't durable is kept.
+-- the stop, where the first of its calls passed and what isn't durable is kept. Only a commit, which makes two, leaves other
+-- commits than it found.
 abbrev pub state_behind_stop : Outcome → (stop : ℕ) → State → Option Exchange → State
 state_behind_stop outcome stop s None = s
 state_behind_stop outcome stop s (Some e) = state_left outcome (nat_le (s.calls + 1) stop) s e.after
@@ -104,8 +105,8 @@ abbrev pub IsAnswerFront : Trial → (count : ℕ) → (piece : List ℕ) → Ty
 IsAnswerFront t count piece =
     (e : Exchange) × (slice_get (answered_lines t) count ≡ Some e) × IsFront piece (text_of e.answer)
 
--- What a trial that ended so printed. It comes to no other endings: a stop is no fault of the disk, and what is opened behind
--- it isn't refused.
+-- What a trial that ended so printed. It comes to no other endings: a stop is no fault of the disk, what is opened behind it
+-- isn't refused, and nothing is damaged.
 abbrev pub EndsTrial : Trial → (held held' left : Option (List ℕ)) → Ending → Type 0
 EndsTrial t held held' left Complete =
     ReachesEnd t × (left ≡ Some []) × Takes held held' (answers_text (answered_lines t) ++ trial_text t)
@@ -114,6 +115,7 @@ EndsTrial t held held' left BadLine =
 EndsTrial t held held' left BadWords = ⊥
 EndsTrial t held held' left DiskFault = ⊥
 EndsTrial t held held' left (Refused refusal) = ⊥
+EndsTrial t held held' left (Damaged name place) = ⊥
 EndsTrial t held held' left NoMemory = (count : ℕ) × TakesFirst t held held' count no_memory_line
 EndsTrial t held held' left ReadFault = (count : ℕ) × TakesFirst t held held' count read_fault_line
 EndsTrial t held held' left WriteFault =

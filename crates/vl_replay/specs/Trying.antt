@@ -16,18 +16,16 @@ use Rattle.vl_replay.specs.Durable.{HoldsState}
 use Rattle.vl_replay.specs.Endings.{no_memory_line, read_fault_line}
 use Rattle.vl_replay.specs.Exchanges.{answers_text}
 use Rattle.vl_replay.specs.Reopens.{Reopens}
-use Rattle.vl_replay.specs.Represents.{Represents}
 use Rattle.vl_replay.specs.Sequential.{State}
 use Rattle.vl_replay.specs.Steps.{Finishes}
 use Rattle.vl_replay.specs.Stored.{IsStored}
 use Rattle.vl_replay.specs.Trial.{EndsTrial, MeetsStop, ReachesEnd, Trial, answered_lines, begun, reopened_state}
 use Rattle.vl_replay.specs.declared.ending.Ending.{Ending}
-use Rattle.vl_replay.specs.declared.ending.Ending.TheVariants.{Complete, BadLine, BadWords, DiskFault, Refused, NoMemory, ReadFault, WriteFault, AnswerCut, Stopped}
-use Rattle.vl_replay.specs.declared.replayer.store.Store.{Store}
+use Rattle.vl_replay.specs.declared.ending.Ending.TheVariants.{Complete, BadLine, BadWords, DiskFault, Refused, Damaged, NoMemory, ReadFault, WriteFault, AnswerCut, Stopped}
 
 -- A store was opened on an empty disk that stops.
-pub record IsOnTrial (stop : ℕ) (store : Store) (disk : MemDisk) : Type 0 where
-  pub stands : Represents store begun
+pub record IsOnTrial (stop : ℕ) (stands : State → Type 0) (disk : MemDisk) : Type 0 where
+  pub stands_for : stands begun
   pub held : HoldsState memory.ghosts IsStored begun disk
   -- its stop is still ahead, and nothing has failed
   pub past : FailsPast disk (Some stop)
@@ -66,6 +64,7 @@ ComesTo t held held' left disk BadLine = (outcome : Outcome) → EndsTrial (t ou
 ComesTo t held held' left disk BadWords = ⊥
 ComesTo t held held' left disk DiskFault = ⊥
 ComesTo t held held' left disk (Refused refusal) = ⊥
+ComesTo t held held' left disk (Damaged name place) = ⊥
 ComesTo t held held' left disk NoMemory = (outcome : Outcome) → EndsTrial (t outcome) held held' left NoMemory
 ComesTo t held held' left disk ReadFault = (outcome : Outcome) → EndsTrial (t outcome) held held' left ReadFault
 ComesTo t held held' left disk WriteFault = (outcome : Outcome) → EndsTrial (t outcome) held held' left WriteFault

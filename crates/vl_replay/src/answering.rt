@@ -1,21 +1,23 @@
 //! One line of a script: carried out, and answered.
-ghost use Rattle.std.specs.Prelude.{◌≡◌, ◌≢◌, None, Some, Err, IfOk, OnOk};
+ghost use Rattle.std.specs.Prelude.{◌≡◌, ◌≢◌, ℕ, None, Some, Err, IfOk, OnOk};
 ghost use Rattle.std.specs.Option.{option_map};
 ghost use Rattle.vl_disk.specs.Faults.{Rose, HasCause};
 ghost use Rattle.vl_replay.specs.Sequential.{State};
-ghost use Rattle.vl_replay.specs.Represents.{Represents};
+ghost use Rattle.vl_disk.specs.declared.name.Name.{Name};
+ghost use Rattle.vl_replay.specs.Replaying.{StandsFor, TakesLines, disk_of};
 ghost use Rattle.vl_replay.specs.Exchanges.{exchange_at, state_behind};
 ghost use Rattle.vl_replay.specs.Endings.{TheDisk, TheSink, TheSource, CountsFaultsOf, CutsAnswer, EndsAs, culprit_of, line_number};
 ghost use Rattle.vl_replay.specs.Runs.{Script};
 ghost use Rattle.vl_replay.specs.Durable.{HoldsState, CarriesOut};
-ghost use Rattle.vl_replay.specs.Stored.{IsStored, Shown};
+ghost use Rattle.vl_replay.specs.Stored.{IsStopped, IsStored, Shown};
 ghost use Rattle.vl_replay.specs.Steps.{IsAnswered, IsNext, EndsAtBadLine, PrintsStep, DiskSteps};
 ghost use Rattle.vl_replay.specs.Halts.{HaltsByDisk};
-ghost use Rattle.vl_replay.specs.Reading.{AnswersText, EndsBadly, ReadsText};
+ghost use Rattle.vl_replay.specs.Reading.{AnswersText, EndsBadly, IsLine, ReadsText};
 ghost use Rattle.vl_replay.specs.declared.fails.Refusal.{Refusal};
 
 use crate::ending::{Ending, NO_MEMORY, OnFault, end_at_fault, finish};
 use crate::fails::Halt;
+use crate::refusing::end_at_damage;
 use crate::replayer::Replayer;
 use std::alloc::Global;
 use vl_disk::Disk;
@@ -29,14 +31,18 @@ fn execute_line<D: Disk>(
     replayer: &mut Replayer<D>,
     text: &[u8],
 ) -> Result<Option<Vec<u8>>, Halt>
-    requires { replayer.old.halted ≡ None }
-    ensures answers { (s : State) → Represents replayer.old.store s
-        → IfOk result (λ out. IsAnswered s text.now replayer.new.store (option_map (λ text. text.items) out)) }
-    ensures carries { (s : State) → Represents replayer.old.store s
-        → CarriesOut D.Watched IsStored Shown replayer.old.disk replayer.new.disk s (state_behind s (exchange_at s text.now)) result }
-    ensures cause { HasCause (D.faults replayer.old.disk) (D.faults replayer.new.disk) (HaltsByDisk result) }
+    requires { TakesLines replayer.old }
+    ensures answers { (s : State) → StandsFor replayer.old s
+        → IfOk result (λ out. IsAnswered s text.now (StandsFor replayer.new) (option_map (λ text. text.items) out)) }
+    ensures carries { (s : State) → StandsFor replayer.old s
+        → CarriesOut D.Watched IsStored Shown IsStopped (disk_of replayer.old) (disk_of replayer.new) s
+        (state_behind s (exchange_at s text.now)) result }
+    ensures cause { HasCause (D.faults (disk_of replayer.old)) (D.faults (disk_of replayer.new)) (HaltsByDisk result) }
+    ensures undamaged { (s : State) → StandsFor replayer.old s
+        → (name : Name) (place : ℕ) → result ≢ Err (Halt.Damaged name place) }
+    ensures met { (name : Name) (place : ℕ) → result ≡ Err (Halt.Damaged name place) → IsLine text.now }
     ensures reads { IfOk result (λ out. ReadsText text.now (option_map (λ text. text.items) out)) }
-    ensures goes_on { OnOk result (replayer.new.halted ≡ None) }
+    ensures goes_on { OnOk result (TakesLines replayer.new) }
 {
     let Some(line) = parse_line(alloc, text)? else {
         return Ok(None);
@@ -56,7 +62,7 @@ pub fn end_at_bad_line<K: Sink>(alloc: Global, answered: u64, sink: &mut K) -> E
     ensures not_the_files { (refusal : Refusal) → result ≢ Ending.Refused refusal }
     ensures not_the_words { result ≢ Ending.BadWords }
     ensures whole { CutsAnswer result → ⊥ }
-    ensures reads { EndsBadly (Unit {0}) answered result (K.held sink.old) (K.held sink.new) }
+    ensures reads { EndsBadly (Unit {0}) ⊥ answered result (K.held sink.old) (K.held sink.new) }
 {
     let mut line = Vec::new(alloc);
     match print_bad_line(&mut line, answered.saturating_add(1)) {
@@ -74,23 +80,24 @@ pub fn answer<K: Sink, D: Disk>(
     sink: &mut K,
     on_fault: OnFault,
 ) -> Option<Ending>
-    requires { replayer.old.halted ≡ None }
-    ensures printed { (script : Script) → Represents replayer.old.store script.start
+    requires { TakesLines replayer.old }
+    ensures printed { (script : Script) → StandsFor replayer.old script.start
         → answered ≡ line_number script.before
         → IsNext script text.now
-        → PrintsStep (Rose (D.faults replayer.old.disk) (D.faults replayer.new.disk)) script text.now replayer.new.store
-        result (K.held sink.old) (K.held sink.new) }
-    ensures moves { (s : State) → Represents replayer.old.store s
-        → HoldsState D.Watched IsStored s replayer.old.disk
-        → DiskSteps D.Watched IsStored Shown replayer.old.disk replayer.new.disk s (state_behind s (exchange_at s text.now)) result }
+        → PrintsStep (Rose (D.faults (disk_of replayer.old)) (D.faults (disk_of replayer.new))) script text.now
+        (StandsFor replayer.new) result (K.held sink.old) (K.held sink.new) }
+    ensures moves { (s : State) → StandsFor replayer.old s
+        → HoldsState D.Watched IsStored s (disk_of replayer.old)
+        → DiskSteps D.Watched IsStored Shown IsStopped (disk_of replayer.old) (disk_of replayer.new) s
+        (state_behind s (exchange_at s text.now)) result }
     ensures sink_faults { CountsFaultsOf TheSink result (K.faults sink.old) (K.faults sink.new) }
-    ensures disk_faults { CountsFaultsOf TheDisk result (D.faults replayer.old.disk) (D.faults replayer.new.disk) }
+    ensures disk_faults { CountsFaultsOf TheDisk result (D.faults (disk_of replayer.old)) (D.faults (disk_of replayer.new)) }
     ensures not_the_source { option_map culprit_of result ≢ Some TheSource }
     ensures not_the_files { (refusal : Refusal) → result ≢ Some (Ending.Refused refusal) }
     ensures not_the_words { result ≢ Some Ending.BadWords }
     ensures reads { AnswersText text.now answered result (K.held sink.old) (K.held sink.new) }
     ensures as_meant { EndsAs on_fault result }
-    ensures goes_on { result ≡ None → replayer.new.halted ≡ None }
+    ensures goes_on { result ≡ None → TakesLines replayer.new }
 {
     match execute_line(alloc, replayer, text) {
         Ok(Some(answer)) => match sink.put(&answer) {
@@ -99,6 +106,7 @@ pub fn answer<K: Sink, D: Disk>(
         },
         Ok(None) => Some(end_at_bad_line(alloc, answered, sink)),
         Err(Halt::NoMemory) => Some(finish(sink, NO_MEMORY, Ending::NoMemory)),
+        Err(Halt::Damaged { name, place }) => Some(end_at_damage(alloc, sink, name, place)),
         Err(Halt::Disk { .. }) => Some(end_at_fault(sink, on_fault)),
     }
 }

@@ -4,6 +4,7 @@ ghost use Rattle.vl_replay.specs.Endings.{ending_at, line_at};
 ghost use Rattle.vl_replay.specs.Steps.{Finishes};
 
 use crate::fails::Refusal;
+use vl_disk::Name;
 use vl_io::Sink;
 
 /// How a run ended, and the disk.
@@ -25,6 +26,8 @@ pub enum Ending {
     DiskFault,
     /// Status 4: what stands on the disk isn't opened.
     Refused(Refusal),
+    /// Status 4: a line's read met bytes of this file that aren't what should stand at this place.
+    Damaged { name: Name, place: u64 },
     /// Status 5: memory ran out.
     NoMemory,
     /// Status 6: the source failed.
@@ -58,7 +61,7 @@ impl Ending {
             Ending::BadLine => 1,
             Ending::BadWords => 2,
             Ending::DiskFault | Ending::Stopped => 3,
-            Ending::Refused(_) => 4,
+            Ending::Refused(_) | Ending::Damaged { .. } => 4,
             Ending::NoMemory => 5,
             Ending::ReadFault => 6,
             Ending::WriteFault | Ending::AnswerCut => 7,

@@ -1,8 +1,8 @@
-//! How a run ends whose store wasn't opened.
+//! How a run ends whose store wasn't opened, or had bytes that couldn't be read.
 ghost use Rattle.std.specs.Prelude.{◌≡◌, IfOk, string_bytes};
-ghost use Rattle.vl_replay.specs.Endings.{refusal_line};
+ghost use Rattle.vl_replay.specs.Endings.{damage_line, refusal_line};
 ghost use Rattle.vl_replay.specs.Opening.{why_refused};
-ghost use Rattle.vl_replay.specs.Steps.{EndsUnopened};
+ghost use Rattle.vl_replay.specs.Steps.{EndsAtDamage, EndsUnopened};
 
 use crate::ending::{DISK_FAULT, Ending, NO_MEMORY, finish};
 use crate::fails::Refusal;
@@ -24,6 +24,16 @@ pub fn end_unopened<K: Sink>(alloc: Global, sink: &mut K, why: OpenError) -> End
         OpenError::Exhausted(counter) => refuse(alloc, sink, Refusal::Exhausted(counter)),
         OpenError::NoMemory => finish(sink, NO_MEMORY, Ending::NoMemory),
         OpenError::Disk { .. } => finish(sink, DISK_FAULT, Ending::DiskFault),
+    }
+}
+
+/// Ends a run whose line met damage, or by want of memory where there is none for what is to be said.
+pub fn end_at_damage<K: Sink>(alloc: Global, sink: &mut K, name: Name, place: u64) -> Ending
+    ensures { EndsAtDamage K.Sink sink.old sink.new name place result }
+{
+    match damage_line(alloc, name, place) {
+        Ok(line) => finish(sink, line.as_bytes(), Ending::Damaged { name, place }),
+        Err(_) => finish(sink, NO_MEMORY, Ending::NoMemory),
     }
 }
 
@@ -52,7 +62,7 @@ fn line_of(alloc: Global, refusal: Refusal) -> Result<Vec<u8>, AllocError>
 
 /// The line that is printed for a damaged file.
 fn damage_line(alloc: Global, name: Name, place: u64) -> Result<String, AllocError>
-    ensures { IfOk result (λ line. string_bytes line ≡ refusal_line (Refusal.Damaged name place)) }
+    ensures { IfOk result (λ line. string_bytes line ≡ damage_line name place) }
 {
     match name {
         Name::Log(number) => format!(in alloc; "damaged log {number} at {place}\n"),

@@ -1,5 +1,5 @@
 //! A script's lines answered, one after the other, over the disk that holds the store.
-ghost use Rattle.std.specs.Prelude.{◌≡◌, ◌≢◌, ◌≤◌, ◌^◌, ◌-◌, None, Some, Err, IfOk, IfErr, IsErr, OnOk, OnErr};
+ghost use Rattle.std.specs.Prelude.{◌≡◌, ◌≢◌, ◌≤◌, ◌^◌, ◌-◌, ℕ, None, Some, Err, IfOk, IfErr, IsErr, OnOk, OnErr};
 ghost use Rattle.std.specs.Option.{ForSome};
 ghost use Rattle.vl_disk.specs.declared.name.Name.TheVariants as names;
 ghost use Rattle.vl_disk.specs.DiskState.{DiskState};
@@ -7,10 +7,9 @@ ghost use Rattle.vl_disk.specs.Disk.{Stands};
 ghost use Rattle.vl_disk.specs.Faults.{HasCause};
 ghost use Rattle.vl_disk.specs.Moments.{HoldsThroughout};
 ghost use Rattle.vl_replay.specs.Durable.{CarriesOut, CrashesShow, HoldsState, IsAsBefore, StillTells, Tells};
-ghost use Rattle.vl_replay.specs.Stored.{IsStored, Shown};
+ghost use Rattle.vl_replay.specs.Stored.{IsStopped, IsStored, Shown};
 ghost use Rattle.vl_replay.specs.Start.{IsDurable, StartsIn};
 ghost use Rattle.vl_replay.specs.Sequential.{State, answer_to, state_after};
-ghost use Rattle.vl_replay.specs.Represents.{Represents};
 ghost use Rattle.vl_replay.specs.Halts.{HaltsByDisk};
 ghost use Rattle.vl_replay.specs.declared.fails.Halt.{Halt as Halts};
 ghost use Rattle.vl_replay.specs.declared.fails.Refusal.{Refusal};
@@ -57,15 +56,16 @@ pub struct Replayer<D: Disk> {
 
 impl<D: Disk> Replayer<D> {
     ghost use Rattle.vl_replay.specs.Opening.{IsFault, IsRefused, AnswersOpening, disk_behind, why_of};
+    ghost use Rattle.vl_replay.specs.Replaying.{StandsFor, TakesLines, disk_of};
 
     /// Opens the store on a disk, or makes one where nothing stands. Each log may have 1,073,741,824 bytes.
     pub fn new(alloc: Global, disk: D) -> Result<Self, OpenFail<D>>
         // It stands for the store that the disk opens as, and the disk holds it.
         ensures store { (s : State) → StartsIn D.Watched disk s
-            → IfOk result (λ replayer. Represents replayer.store s) }
-        ensures goes_on { IfOk result (λ replayer. replayer.halted ≡ None) }
+            → IfOk result (λ replayer. StandsFor replayer s) }
+        ensures goes_on { IfOk result TakesLines }
         ensures holds { (s : State) → StartsIn D.Watched disk s → Tells D.Watched disk MayOpen
-            → IfOk result (λ replayer. HoldsState D.Watched IsStored s replayer.disk) }
+            → IfOk result (λ replayer. HoldsState D.Watched IsStored s (disk_of replayer)) }
 
         // What a crash leaves meanwhile shows what was opened.
         ensures through { (s : State) → StartsIn D.Watched disk s → Tells D.Watched disk IsDurable
@@ -110,32 +110,34 @@ impl<D: Disk> Replayer<D> {
         }
     }
 
-    /// Answers a line. Want of memory leaves the store and the disk's bytes as they were. A fault of the disk leaves the
-    /// store as it was, and the disk may then hold less or more than the store. So a line that is given no answer is the
-    /// last one: each line behind it is halted as it was.
+    /// Answers a line. Want of memory leaves the commits as they were. A fault of the disk leaves the store as it was, and
+    /// the disk may then hold less or more than the store. So a line that is given no answer is the last one: each line
+    /// behind it is halted as it was.
     pub fn line(&mut self, line: Line) -> Result<Answer, Halt>
-        ensures answer { (s : State) → Represents self.old.store s
+        ensures answer { (s : State) → StandsFor self.old s
             → IfOk result (λ answer. answer ≡ answer_to s line) }
-        ensures after { (s : State) → Represents self.old.store s
-            → OnOk result (Represents self.new.store (state_after s line)) }
-        ensures kept { (s : State) → Represents self.old.store s
-            → OnErr result (Represents self.new.store s) }
+        ensures after { (s : State) → StandsFor self.old s
+            → OnOk result (StandsFor self.new (state_after s line)) }
+        ensures kept { (s : State) → StandsFor self.old s
+            → OnErr result (StandsFor self.new s) }
 
         // A halt stays: each line behind it is halted so too, and changes nothing.
         ensures halts { (halt : Halts) → result ≡ Err halt → self.new.halted ≡ Some halt }
-        ensures goes_on { OnOk result (self.new.halted ≡ None) }
+        ensures goes_on { OnOk result (TakesLines self.new) }
         ensures stays_halted { (halt : Halts) → self.old.halted ≡ Some halt
             → (result ≡ Err halt) × (self.new ≡ self.old) }
 
         // Over a disk that holds the state: where there is an answer it holds the state behind the line, in which a commit has
         // made two calls and its log is longer by a frame. However the line ends, a store may be opened on the disk again.
-        ensures carries { self.old.halted ≡ None → (s : State) → Represents self.old.store s
-            → CarriesOut D.Watched IsStored Shown self.old.disk self.new.disk s (state_after s line) result }
-        ensures no_memory { result ≡ Err Halt.NoMemory
-            → D.told self.new.disk ≡ D.told self.old.disk }
-        ensures cause { self.old.halted ≡ None
-            → HasCause (D.faults self.old.disk) (D.faults self.new.disk) (HaltsByDisk result) }
-        ensures named { self.old.halted ≡ None → (name : Name) → result ≡ Err (Halt.Disk name) → name ≡ names.Log self.old.store.log.number }
+        ensures carries { TakesLines self.old → (s : State) → StandsFor self.old s
+            → CarriesOut D.Watched IsStored Shown IsStopped (disk_of self.old) (disk_of self.new) s (state_after s line) result }
+        ensures cause { TakesLines self.old
+            → HasCause (D.faults (disk_of self.old)) (D.faults (disk_of self.new)) (HaltsByDisk result) }
+
+        // What the store has can be read.
+        ensures undamaged { TakesLines self.old → (s : State) → StandsFor self.old s
+            → (name : Name) (place : ℕ) → result ≢ Err (Halt.Damaged name place) }
+        ensures named { TakesLines self.old → (name : Name) → result ≡ Err (Halt.Disk name) → name ≡ names.Log self.old.store.log.number }
     {
         if let Some(halt) = self.halted {
             return Err(halt);
@@ -151,7 +153,7 @@ impl<D: Disk> Replayer<D> {
 
     /// The disk. What is open is ended.
     pub fn close(self) -> D
-        ensures { result ≡ self.disk }
+        ensures { result ≡ disk_of self }
     {
         self.disk
     }

@@ -4,14 +4,14 @@ ghost use Rattle.vl_disk.specs.Crash.{Image};
 ghost use Rattle.vl_disk.specs.DiskState.{DiskState};
 ghost use Rattle.vl_disk.specs.Started.{IsRead};
 ghost use Rattle.vl_replay.specs.Sequential.{State};
-ghost use Rattle.vl_replay.specs.Represents.{Represents};
+ghost use Rattle.vl_replay.specs.Replaying.{StandsFor, TakesLines, disk_of};
 ghost use Rattle.vl_replay.specs.Exchanges.{exchange_at, state_behind};
 ghost use Rattle.vl_replay.specs.Endings.{TheDisk, TheSink, TheSource, CountsFaultsOf, EndsAs, culprit_of, line_number};
 ghost use Rattle.std.specs.Option.{option_map};
 ghost use Rattle.vl_disk.specs.Faults.{Rose};
 ghost use Rattle.vl_replay.specs.Runs.{Script, script_of, outside, EndsRun};
 ghost use Rattle.vl_replay.specs.Durable.{HoldsState, DiskEndsFrom};
-ghost use Rattle.vl_replay.specs.Stored.{IsStored, Shown};
+ghost use Rattle.vl_replay.specs.Stored.{IsStopped, IsStored, Shown};
 ghost use Rattle.vl_replay.specs.Start.{AnswersInput, StartsIn, StaysOpenable};
 ghost use Rattle.vl_replay.specs.Opening.{IsRefused};
 ghost use Rattle.vl_replay.specs.declared.fails.Refusal.{Refusal};
@@ -43,20 +43,21 @@ struct Progress<D: Disk> {
 impl<D: Disk> Progress<D> {
     /// Reads a line and answers it. None where the run goes on.
     fn step<S: Source, K: Sink>(&mut self, source: &mut S, sink: &mut K) -> Option<Ending>
-        requires { self.old.replayer.halted ≡ None }
+        requires { TakesLines self.old.replayer }
         ensures runs { (script : Script)
-            → HasToDo script (kept self.old.replayer.store self.old.buffer self.old.answered)
-            (outside S.Source K.Sink source.old sink.old self.old.replayer.disk)
-            → Steps D.Watched IsStored Shown script
-            (outside S.Source K.Sink source.old sink.old self.old.replayer.disk)
-            (outside S.Source K.Sink source.new sink.new self.new.replayer.disk)
-            (kept self.new.replayer.store self.new.buffer self.new.answered) result }
+            → HasToDo script (kept (StandsFor self.old.replayer) self.old.buffer self.old.answered)
+            (outside S.Source K.Sink source.old sink.old (disk_of self.old.replayer))
+            → Steps D.Watched IsStored Shown IsStopped script
+            (outside S.Source K.Sink source.old sink.old (disk_of self.old.replayer))
+            (outside S.Source K.Sink source.new sink.new (disk_of self.new.replayer))
+            (kept (StandsFor self.new.replayer) self.new.buffer self.new.answered) result }
         // A step after which the run goes on leaves less to be read, so that the run ends.
         ensures shorter { result ≡ None
             → length self.new.buffer + S.budget source.new < length self.old.buffer + S.budget source.old }
         ensures source_faults { CountsFaultsOf TheSource result (S.faults source.old) (S.faults source.new) }
         ensures sink_faults { CountsFaultsOf TheSink result (K.faults sink.old) (K.faults sink.new) }
-        ensures disk_faults { CountsFaultsOf TheDisk result (D.faults self.old.replayer.disk) (D.faults self.new.replayer.disk) }
+        ensures disk_faults { CountsFaultsOf TheDisk result
+            (D.faults (disk_of self.old.replayer)) (D.faults (disk_of self.new.replayer)) }
         ensures not_the_files { (refusal : Refusal) → result ≢ Some (Ending.Refused refusal) }
         ensures not_the_words { result ≢ Some Ending.BadWords }
         ensures reads { (input : List ℕ) (begin : Streams)
@@ -64,7 +65,7 @@ impl<D: Disk> Progress<D> {
             → ReadsOn input begin (streams S.Source K.Sink source.new sink.new) self.new.buffer self.new.answered result }
         ensures as_meant { EndsAs self.old.on_fault result }
         ensures same_mode { self.new.on_fault ≡ self.old.on_fault }
-        ensures goes_on { result ≡ None → self.new.replayer.halted ≡ None }
+        ensures goes_on { result ≡ None → TakesLines self.new.replayer }
         ensures still_told { (left : List ℕ) → S.left source.old ≡ Some left → (rest : List ℕ) × (S.left source.new ≡ Some rest) }
     {
         match read_line(&mut self.buffer, source, &mut self.line) {
@@ -79,27 +80,28 @@ impl<D: Disk> Progress<D> {
 
     /// Answers the line that was read.
     fn answer<K: Sink>(&mut self, sink: &mut K) -> Option<Ending>
-        requires { self.old.replayer.halted ≡ None }
-        ensures printed { (script : Script) → Represents self.old.replayer.store script.start
+        requires { TakesLines self.old.replayer }
+        ensures printed { (script : Script) → StandsFor self.old.replayer script.start
             → self.old.answered ≡ line_number script.before → IsNext script self.old.line.items
-            → PrintsStep (Rose (D.faults self.old.replayer.disk) (D.faults self.new.replayer.disk)) script self.old.line.items
-            self.new.replayer.store result (K.held sink.old) (K.held sink.new) }
-        ensures moves { (s : State) → Represents self.old.replayer.store s
-            → HoldsState D.Watched IsStored s self.old.replayer.disk
-            → DiskSteps D.Watched IsStored Shown self.old.replayer.disk self.new.replayer.disk s
+            → PrintsStep (Rose (D.faults (disk_of self.old.replayer)) (D.faults (disk_of self.new.replayer))) script
+            self.old.line.items (StandsFor self.new.replayer) result (K.held sink.old) (K.held sink.new) }
+        ensures moves { (s : State) → StandsFor self.old.replayer s
+            → HoldsState D.Watched IsStored s (disk_of self.old.replayer)
+            → DiskSteps D.Watched IsStored Shown IsStopped (disk_of self.old.replayer) (disk_of self.new.replayer) s
             (state_behind s (exchange_at s self.old.line.items)) result }
         ensures counted { (before : ℕ) → self.old.answered ≡ line_number before
             → self.new.answered ≡ line_number (before + 1) }
         ensures same { self.new.buffer ≡ self.old.buffer }
         ensures sink_faults { CountsFaultsOf TheSink result (K.faults sink.old) (K.faults sink.new) }
-        ensures disk_faults { CountsFaultsOf TheDisk result (D.faults self.old.replayer.disk) (D.faults self.new.replayer.disk) }
+        ensures disk_faults { CountsFaultsOf TheDisk result
+            (D.faults (disk_of self.old.replayer)) (D.faults (disk_of self.new.replayer)) }
         ensures not_the_source { option_map culprit_of result ≢ Some TheSource }
         ensures not_the_files { (refusal : Refusal) → result ≢ Some (Ending.Refused refusal) }
         ensures not_the_words { result ≢ Some Ending.BadWords }
         ensures reads { AnswersText self.old.line.items self.old.answered result (K.held sink.old) (K.held sink.new) }
         ensures as_meant { EndsAs self.old.on_fault result }
         ensures same_mode { self.new.on_fault ≡ self.old.on_fault }
-        ensures goes_on { result ≡ None → self.new.replayer.halted ≡ None }
+        ensures goes_on { result ≡ None → TakesLines self.new.replayer }
     {
         let ended = answer(
             self.alloc,
@@ -168,15 +170,15 @@ pub(crate) fn answer_lines<S: Source, K: Sink, D: Disk>(
     replayer: Replayer<D>,
     on_fault: OnFault,
 ) -> Ended<D>
-    requires { replayer.halted ≡ None }
-    ensures runs { (s : State) (input : List ℕ) → Represents replayer.store s
+    requires { TakesLines replayer }
+    ensures runs { (s : State) (input : List ℕ) → StandsFor replayer s
         → S.left source.old ≡ Some input
-        → EndsRun D.Watched (DiskEndsFrom D.Watched IsStored Shown replayer.disk result.disk s)
-        (script_of s 0 input) (outside S.Source K.Sink source.old sink.old replayer.disk)
+        → EndsRun D.Watched (DiskEndsFrom D.Watched IsStored Shown IsStopped (disk_of replayer) result.disk s)
+        (script_of s 0 input) (outside S.Source K.Sink source.old sink.old (disk_of replayer))
         (outside S.Source K.Sink source.new sink.new result.disk) result.ending }
     ensures source_faults { CountsFaultsOf TheSource (Some result.ending) (S.faults source.old) (S.faults source.new) }
     ensures sink_faults { CountsFaultsOf TheSink (Some result.ending) (K.faults sink.old) (K.faults sink.new) }
-    ensures disk_faults { CountsFaultsOf TheDisk (Some result.ending) (D.faults replayer.disk) (D.faults result.disk) }
+    ensures disk_faults { CountsFaultsOf TheDisk (Some result.ending) (D.faults (disk_of replayer)) (D.faults result.disk) }
     ensures not_the_files { (refusal : Refusal) → result.ending ≢ Ending.Refused refusal }
     ensures not_the_words { result.ending ≢ Ending.BadWords }
     ensures input { (input : List ℕ) → S.left source.old ≡ Some input

@@ -7,6 +7,7 @@ ghost use Rattle.vl_model.specs.History.{History};
 ghost use Rattle.vl_replay.specs.Endings.{TheDisk, TheSink, TheSource, CountsFaultsOf, culprit_of};
 ghost use Rattle.vl_replay.specs.Opening.{IsFault};
 ghost use Rattle.vl_replay.specs.Reopens.{Reopens};
+ghost use Rattle.vl_replay.specs.Replaying.{StandsFor, TakesLines, disk_of};
 ghost use Rattle.vl_replay.specs.Trial.{EndsTrial};
 ghost use Rattle.vl_replay.specs.Trying.{ComesTo, IsOnTrial, PassesAndReopens, ReopensAs, StopsOpening, trial_of};
 
@@ -100,8 +101,8 @@ fn is_fault(why: &OpenError) -> bool
 
 // Opens a store on an empty disk that stops behind so many changing calls.
 fn begin(alloc: Global, stop: u32) -> Result<Replayer<MemDisk>, OpenFail<MemDisk>>
-    ensures opened { IfOk result (λ replayer. IsOnTrial stop replayer.store replayer.disk) }
-    ensures goes_on { IfOk result (λ replayer. replayer.halted ≡ None) }
+    ensures opened { IfOk result (λ replayer. IsOnTrial stop (StandsFor replayer) (disk_of replayer)) }
+    ensures goes_on { IfOk result TakesLines }
     ensures stopped { IfErr result (λ fail. StopsOpening stop fail.why fail.disk) }
 {
     let mut disk = MemDisk::new(alloc, Vec::new(alloc), Vec::new(alloc));

@@ -14,12 +14,12 @@ use Rattle.vl_run.specs.Order.{within}
 use Rattle.vl_run.specs.laws.Places.{slice_get-within}
 use Rattle.vl_block.specs.declared.index.BlockPlace.{BlockPlace}
 use Rattle.vl_table.specs.BlockEntries.{block_entries}
-use Rattle.vl_table.specs.CursorParts.{Block, StandsWith, MayFailOn, block_count, blocks_at, blocks_over, entries_told, index_in, index_of, rise_over}
-use Rattle.vl_table.specs.SpanBlocks.{blocks_of, rises_over}
+use Rattle.vl_table.specs.CursorParts.{Block, StandsWith, MayFailOn, StopsBefore, block_count, blocks_at, blocks_over, entries_told, index_in, index_of, rise_over}
+use Rattle.vl_table.specs.SpanBlocks.{blocks_in, rises_over}
 use Rattle.vl_table.specs.Stretches.{IsNextOn, on_way, stretch_of}
 use Rattle.vl_table.specs.Tables.{number_of, shape_of}
 use Rattle.vl_table.specs.Answers.{Answers}
-use Rattle.vl_table.specs.Kept.{IsMissing, StandsBlock, id_of}
+use Rattle.vl_table.specs.Kept.{IsMissing, NoBlock, StandsBlock, id_of}
 use Rattle.vl_table.specs.Seeks.{IsBadBlock}
 use Rattle.vl_table.specs.declared.fault.TableFault.{TableFault}
 use Rattle.vl_table.specs.declared.fault.TableFault.TheVariants.{NoMemory, Disk, Damaged}
@@ -86,7 +86,7 @@ module _ {H : Type 0} where
   -- a table is begun
   pub begun : (span : Span) (way : Way) (ts : List (Table H)) (later rest : Stretch) (at table : ℕ) (t : Table H) (old new : Stretch)
       → later.end ≤ length ts → IsNextOn way later at rest → t ≡ get_or ts at t → old.end ≤ old.first
-      → (rises_over span (index_of t) ≡ true → new ≡ blocks_of span (index_of t)) → rise_over span ts ≡ true
+      → (rises_over span (index_of t) ≡ true → new ≡ blocks_in span (shape_of t)) → rise_over span ts ≡ true
       → blocks_at way (slice_get ts at) new ++ blocks_over span way (on_way way (stretch_of rest ts))
       ≡ blocks_at way (slice_get ts table) old ++ blocks_over span way (on_way way (stretch_of later ts))
   begun span way ts later rest at table t old new within_is next found past range rises =
@@ -145,6 +145,21 @@ module _ {H : Type 0} where
       none = subst (λ (x : BlockId). IsMissing x bytes place) named (a.answer bytes (ap bytes_of is ∙ told));
     }),
   )
+
+  -- where that is damage it is the next one
+  pub stops_before : (bytes_of : H → Option (List ℕ)) (bs later : List (Block H)) (t : Table H) (s : TableShape) (held : H) (id : BlockId) (p : BlockPlace) (before now : ℕ)
+      (good : List ℕ → Unit {0} → Type 0) (e : TableFault) → bs ≡ (t, p) ∷ later → s ≡ shape_of t → held ≡ t.held → id ≡ id_of s p
+      → Answers {T = Unit {0}} before now id.number (bytes_of held) good (IsMissing id) (Err e) → StopsBefore bytes_of bs e
+  stops_before bytes_of bs later t s held id p before now good NoMemory first shape is named a = tt
+  stops_before bytes_of bs later t s held id p before now good (Disk name) first shape is named a = tt
+  stops_before bytes_of bs later t s held id p before now good (Damaged name place) first shape is named a = record {
+    block = (t, p);
+    later = later;
+    first = first;
+    named = a.named ∙ ap table_name (ap (λ (x : BlockId). x.number) named ∙ ap (λ (x : TableShape). x.number) shape);
+    none = λ bytes told. subst (λ (x : TableShape). NoBlock x.format x.number p bytes place) shape
+        (subst (λ (x : BlockId). IsMissing x bytes place) named (a.answer bytes (ap bytes_of is ∙ told)));
+  }
 
   -- what it says of one that was
   pub stands_at : (bytes_of : H → Option (List ℕ)) (t : Table H) (s : TableShape) (held : H) (id : BlockId) (p : BlockPlace) (es : List Entry) → s ≡ shape_of t → held ≡ t.held

@@ -19,12 +19,12 @@ use Rattle.vl_run.specs.Order.{within}
 use Rattle.vl_run.specs.laws.LookupLaws.{all-back, all-front, rising-back, rising-front}
 use Rattle.vl_run.specs.laws.OrderLaws.{IsBefore, IsRising}
 use Rattle.vl_block.specs.Bytes.{block_places}
-use Rattle.vl_block.specs.Cutting.{block_frame_length, joined, last_key}
+use Rattle.vl_block.specs.Cutting.{block_frame_length, first_key, joined, last_key}
 use Rattle.vl_block.specs.declared.index.BlockPlace.{BlockPlace}
 use Rattle.vl_block.specs.laws.Places.{length-block_places}
 use Rattle.vl_table.specs.SpanBlocks.{blocks_of, ends_before, ends_within, rises_over}
 use Rattle.vl_table.specs.Stretches.{on_way, stretch_of}
-use Rattle.vl_table.specs.laws.KeyRanges.{below_up_to, keys_up, up_to_below}
+use Rattle.vl_table.specs.laws.KeyRanges.{all_map, below_up_to, keys_up, up_to_below}
 use Rattle.vl_table.proofs.SpanParts.{parted_to}
 
 -- ---- a test that passes of no key above one of which it fails
@@ -144,6 +144,17 @@ past_out span b all = none_within span b (each b all)
     each : (b : List Entry) → AllByRecursion (λ e. is_up_to span.hi span.closed e.key ≡ false) b → AllByRecursion (λ e. is_in_span span e.key ≡ false) b
     each [] all = tt
     each (e ∷ b) all = (ap (λ (t : Bool). is_from span.lo e.key && t) all.0 ∙ and_false (is_from span.lo e.key), each b all.1)
+
+-- entries whose first one is above it
+pub above_out : (span : Span) (es : List Entry) → IsRising es → is_up_to span.hi span.closed (first_key es) ≡ false → within span es ≡ []
+above_out span [] rises is = refl
+above_out span (e ∷ es) rises is =
+    past_out span (e ∷ es) (is, all_map (λ f. entry_cmp e f ≡ Less) (λ f. is_up_to span.hi span.closed f.key ≡ false)
+    (λ f less. fails (is_up_to span.hi span.closed f.key) (is_up_to span.hi span.closed e.key) is (up_to_falls span.hi span.closed e f less)) es rises.0)
+  where
+    fails : (t b : Bool) → b ≡ false → (t ≡ true → b ≡ true) → t ≡ false
+    fails true b is sends = let same = sends refl in cc
+    fails false b is sends = refl
 
 one_more : (n : ℕ) → 1 + n ≡ suc n
 one_more n = omega arith

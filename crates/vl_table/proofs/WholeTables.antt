@@ -1,10 +1,11 @@
 -- What a cursor over true tables is told of their blocks.
-use Rattle.std.specs.Prelude.{◌≡◌, ◌+◌, ◌-◌, ◌&&◌, ℕ, zero, suc, Bool, true, Option, Some, None, List, [], ◌∷◌, ◌++◌, drop, length, map, reverse, take}
+use Rattle.std.specs.Prelude.{◌≡◌, ◌+◌, ◌-◌, ◌&&◌, ℕ, zero, suc, Bool, true, false, Option, Some, None, List, [], ◌∷◌, ◌++◌, drop, length, map, reverse, take}
 use Rattle.std.specs.List.{sum_by}
 use Rattle.std.specs.Option.{option_and_then, option_map}
-use Rattle.std.proofs.Common.{refl, ap, sym, subst, ◌∙◌, append_assoc, arith}
+use Rattle.std.proofs.Common.{cond, refl, ap, sym, subst, ◌∙◌, append_assoc, arith}
 use Rattle.std.proofs.lemmas.List.{reverse-append, take_all}
 use Rattle.std.proofs.lemmas.List.Sums.{sum_by-cons}
+use Rattle.vl_model.specs.Reads.{is_up_to}
 use Rattle.vl_model.specs.declared.entry.Entry.{Entry}
 use Rattle.vl_model.specs.declared.span.Span.{Span}
 use Rattle.vl_model.specs.declared.way.Way.{Way}
@@ -18,13 +19,16 @@ use Rattle.vl_block.specs.laws.CuttingLaws.{blocks-some, blocks-whole}
 use Rattle.vl_table.specs.BlockEntries.{block_entries}
 use Rattle.vl_table.specs.CursorParts.{Block, blocks_at, blocks_over, entries_told, index_of, rise_over}
 use Rattle.vl_table.specs.OfTables.{AreOf}
-use Rattle.vl_table.specs.SpanBlocks.{blocks_of, rises_over}
+use Rattle.vl_table.specs.SpanBlocks.{blocks_in, blocks_of, no_blocks, rises_over}
 use Rattle.vl_table.specs.Stretches.{on_way, stretch_of}
 use Rattle.vl_table.specs.Tables.{IsOf, number_of, shape_of}
 use Rattle.vl_table.specs.declared.table.Table.{Table}
+use Rattle.vl_table.specs.declared.stretch.Stretch.{Stretch}
+use Rattle.vl_table.specs.laws.RangeLaws.{first_is, in_order}
 use Rattle.vl_table.specs.laws.TrueBlocks.{block_stands}
 use Rattle.vl_table.proofs.BlockSays.{block_entries-says}
-use Rattle.vl_table.proofs.WholeSpans.{flat, flat_way, index_rises, span_blocks, within_way}
+use Rattle.vl_table.proofs.CursorSteps.{none_at}
+use Rattle.vl_table.proofs.WholeSpans.{above_out, flat, flat_way, index_rises, span_blocks, within_way}
 
 -- ---- what the bytes say of blocks
 
@@ -108,11 +112,11 @@ module _ {H : Type 0} (bytes_of : H → Option (List ℕ)) (span : Span) (way : 
       twice None = refl
       twice (Some later) = ap Some (sym (append_assoc (within span (on_way way b)) (flat span way bs) later))
 
-  -- of one true table
-  told_table : (t : Table H) (es : List Entry) (others : List (Block H)) → IsOf bytes_of t es
+  -- of one true table, of the blocks that its index names
+  told_index : (t : Table H) (es : List Entry) (others : List (Block H)) → IsOf bytes_of t es
       → entries_told bytes_of span way (blocks_at way (Some t) (blocks_of span (index_of t)) ++ others)
       ≡ option_map (λ later. within span (on_way way es) ++ later) (entries_told bytes_of span way others)
-  told_table t es others is =
+  told_index t es others is =
       let s = shape_of t in
       let format = s.format in
       let bytes = table_bytes format (number_of t) es in
@@ -131,6 +135,32 @@ module _ {H : Type 0} (bytes_of : H → Option (List ℕ)) (span : Span) (way : 
       ap (λ (l : List BlockPlace). entries_told bytes_of span way (map (λ p. (t, p)) (on_way way (stretch_of (blocks_of span l) l)) ++ others)) is.shape.blocks
       ∙ told_front t bytes (on_way way (stretch_of range ps)) (on_way way (stretch_of range bs)) others is.told part
       ∙ ap (λ (l : List Entry). option_map (λ later. l ++ later) (entries_told bytes_of span way others)) same
+
+  no_entries : (way : Way) → on_way {X = Entry} way [] ≡ []
+  no_entries Up = refl
+  no_entries Down = refl
+
+  -- where it begins above the interval it has none to tell
+  told_table : (t : Table H) (es : List Entry) (others : List (Block H)) → IsOf bytes_of t es
+      → entries_told bytes_of span way (blocks_at way (Some t) (blocks_in span (shape_of t)) ++ others)
+      ≡ option_map (λ later. within span (on_way way es) ++ later) (entries_told bytes_of span way others)
+  told_table t es others is = by (is_up_to span.hi span.closed (shape_of t).footer.first) refl
+    where
+      same : (o : Option (List Entry)) → o ≡ option_map (λ (later : List Entry). later) o
+      same None = refl
+      same (Some later) = refl
+
+      by : (b : Bool) → is_up_to span.hi span.closed (shape_of t).footer.first ≡ b
+          → entries_told bytes_of span way (blocks_at way (Some t) (cond {A = Stretch} b (blocks_of span (index_of t)) no_blocks) ++ others)
+          ≡ option_map (λ later. within span (on_way way es) ++ later) (entries_told bytes_of span way others)
+      by true up = told_index t es others is
+      by false up =
+          let first = ap (is_up_to span.hi span.closed) (sym (first_is (number_of t) (shape_of t) es is.shape)) ∙ up in
+          let none : within span (on_way way es) ≡ [] =
+          within_way span way es ∙ ap (on_way way) (above_out span es (in_order (number_of t) (shape_of t) es is.shape) first) ∙ no_entries way in
+          ap (λ (l : List (Block H)). entries_told bytes_of span way (l ++ others)) (none_at way (Some t) no_blocks (omega arith))
+          ∙ same (entries_told bytes_of span way others)
+          ∙ ap (λ (l : List Entry). option_map (λ later. l ++ later) (entries_told bytes_of span way others)) (sym none)
 
   told_tables : (ts : List (Table H)) (ess : List (List Entry)) → AreOf bytes_of ts ess → entries_told bytes_of span way (blocks_over span way ts) ≡ Some (flat span way ess)
   told_tables [] [] are = refl

@@ -7,11 +7,12 @@ use Rattle.vl_model.specs.declared.span.Span.{Span}
 use Rattle.vl_model.specs.declared.way.Way.{Way}
 use Rattle.vl_run.specs.Order.{within}
 use Rattle.vl_block.specs.declared.index.BlockPlace.{BlockPlace}
+use Rattle.vl_disk.specs.declared.name.Name.{Name}
 use Rattle.vl_disk.specs.declared.name.Name.TheVariants.{Table as table_name}
 use Rattle.vl_table.specs.BlockEntries.{block_entries}
-use Rattle.vl_table.specs.Kept.{StandsBlock}
+use Rattle.vl_table.specs.Kept.{NoBlock, StandsBlock}
 use Rattle.vl_table.specs.Seeks.{IsBadBlock}
-use Rattle.vl_table.specs.SpanBlocks.{blocks_of, rises_over}
+use Rattle.vl_table.specs.SpanBlocks.{blocks_in, rises_over}
 use Rattle.vl_table.specs.Stretches.{on_way, stretch_of}
 use Rattle.vl_table.specs.Tables.{number_of, shape_of}
 use Rattle.vl_table.specs.declared.fault.TableFault.{TableFault}
@@ -40,7 +41,7 @@ module _ {H : Type 0} where
   -- those of tables that may have keys of the interval
   abbrev pub blocks_over : Span → Way → List (Table H) → List (Block H)
   blocks_over span way [] = []
-  blocks_over span way (t ∷ ts) = blocks_at way (Some t) (blocks_of span (index_of t)) ++ blocks_over span way ts
+  blocks_over span way (t ∷ ts) = blocks_at way (Some t) (blocks_in span (shape_of t)) ++ blocks_over span way ts
 
   -- whether the tables' indexes rise, as far as the interval can tell
   abbrev pub rise_over : Span → List (Table H) → Bool
@@ -74,6 +75,20 @@ module _ {H : Type 0} where
     MayFailOn ts (Disk name) = (i : ℕ) × (t : Table H) × (slice_get ts i ≡ Some t) × (name ≡ table_name (number_of t))
     MayFailOn ts (Damaged name place) = (i : ℕ) × (t : Table H) × (slice_get ts i ≡ Some t) × (name ≡ table_name (number_of t))
         × ForSome (bytes_of t.held) (λ bytes. IsBadBlock (shape_of t) bytes place)
+
+    -- the first of these blocks is the one at the place of the named table, and doesn't stand
+    pub record IsFirstBad (bs : List (Block H)) (name : Name) (place : ℕ) : Type 0 where
+      pub block : Block H
+      pub later : List (Block H)
+      pub first : bs ≡ block ∷ later
+      pub named : name ≡ table_name (number_of block.0)
+      pub none : ForSome (bytes_of block.0.held) (λ bytes. NoBlock (shape_of block.0).format (number_of block.0) block.1 bytes place)
+
+    -- so it is where the fault is damage
+    abbrev pub StopsBefore : List (Block H) → TableFault → Type 0
+    StopsBefore bs NoMemory = Unit {0}
+    StopsBefore bs (Disk name) = Unit {0}
+    StopsBefore bs (Damaged name place) = IsFirstBad bs name place
 
 -- whether reading failed
 abbrev pub is_disk_fault : TableFault → Bool

@@ -19,11 +19,13 @@ pub record StandsBlock (format number : ℕ) (bytes : List ℕ) (place size : �
 
 -- none does, and that is the damage
 abbrev pub NoBlock : ℕ → ℕ → BlockPlace → List ℕ → ℕ → Type 0
-NoBlock format number p bytes damage = ((es : List Entry) → StandsBlock format number bytes p.place p.length es → ⊥) × (damage ≡ p.place)
+NoBlock format number p bytes damage =
+    ((es : List Entry) → StandsBlock format number bytes p.place p.length es → ⊥) × (damage ≡ p.place)
 
 -- the same of a block by all that names it
 abbrev pub IsMissing : BlockId → List ℕ → ℕ → Type 0
-IsMissing id bytes damage = ((es : List Entry) → StandsBlock id.format id.number bytes id.place id.length es → ⊥) × (damage ≡ id.place)
+IsMissing id bytes damage =
+    ((es : List Entry) → StandsBlock id.format id.number bytes id.place id.length es → ⊥) × (damage ≡ id.place)
 
 -- the block that an index names
 abbrev pub id_of : TableShape → BlockPlace → BlockId

@@ -23,6 +23,7 @@ abbrev pub AreFiles : {H : Type 0} → (H → Option (List ℕ)) → Files → L
 AreFiles {H} bytes_of files ts = AllByRecursion (λ (t : Table H). files (number_of t) ≡ bytes_of t.held) ts
 
 -- The reader keeps blocks of these files, in which these tables stand.
-pub record ReadsOf {H R : Type 0} (bytes_of : H → Option (List ℕ)) (files : Files) (b : BlockReader R) (ts : List (Table H)) : Type 0 where
+pub record ReadsOf {H R : Type 0} (bytes_of : H → Option (List ℕ)) (files : Files) (b : BlockReader R)
+    (ts : List (Table H)) : Type 0 where
   pub kept : AreKept files b
   pub told : AreFiles bytes_of files ts

@@ -1,4 +1,5 @@
--- What a look-up meets in a table's blocks, also where the table isn't true: so no answer hides a block that doesn't stand.
+-- What a look-up meets in a table's blocks where its index rises, also if the table isn't true: so no answer hides a block
+-- that doesn't stand.
 use Rattle.std.specs.Prelude.{◌≡◌, ℕ, List, [], ◌∷◌, drop, Option, Some, None, Result, Ok, Err}
 use Rattle.std.specs.List.{prefix_len}
 use Rattle.std.specs.Option.{ForSome, option_map}
@@ -19,7 +20,8 @@ MeetsFirst None found behind = behind
 MeetsFirst (Some e) found behind = found ≡ Some e
 
 -- The first entry at or behind the place of a key and a version that these blocks have. Each block up to it stands.
-abbrev pub Meets : (format number : ℕ) → (bytes key : List ℕ) → (version : ℕ) → List BlockPlace → (found : Option Entry) → Type 0
+abbrev pub Meets : (format number : ℕ) → (bytes key : List ℕ) → (version : ℕ) → List BlockPlace → (found : Option Entry)
+    → Type 0
 Meets format number bytes key version [] found = found ≡ None
 Meets format number bytes key version (p ∷ later) found =
     (es : List Entry) × StandsBlock format number bytes p.place p.length es
@@ -44,5 +46,6 @@ pub record Looks (makes : Option Entry → Option Entry) (s : TableShape) (key :
 -- an answer is so, of a table that tells its bytes
 abbrev pub LooksIn : {H : Type 0} → (H → Option (List ℕ)) → (makes : Option Entry → Option Entry) → Table H → List ℕ → ℕ
     → Result (Option Found) TableFault → Type 0
-LooksIn bytes_of makes t key version (Ok found) = ForSome (bytes_of t.held) (λ bytes. Looks makes (shape_of t) key version bytes (option_map (found_of key) found))
+LooksIn bytes_of makes t key version (Ok found) =
+    ForSome (bytes_of t.held) (λ bytes. Looks makes (shape_of t) key version bytes (option_map (found_of key) found))
 LooksIn bytes_of makes t key version (Err e) = Unit {0}

@@ -1,10 +1,10 @@
 -- Which blocks of a table may have keys of an interval, by its index.
-use Rattle.std.specs.Prelude.{◌+◌, Bool, ◌&&◌, not, List, drop, length, min}
+use Rattle.std.specs.Prelude.{◌+◌, Bool, ◌&&◌, if◌then◌else◌, not, List, drop, length, min}
 use Rattle.std.specs.List.{list_all, prefix_len}
 use Rattle.vl_model.specs.Reads.{is_from, is_up_to}
 use Rattle.vl_model.specs.declared.span.Span.{Span}
 use Rattle.vl_block.specs.declared.index.BlockPlace.{BlockPlace}
-use Rattle.vl_table.specs.Stretches.{stretch_of}
+use Rattle.vl_block.specs.declared.shape.TableShape.{TableShape}
 use Rattle.vl_table.specs.declared.stretch.Stretch.{Stretch}
 
 -- a block's last key is below the interval, and isn't above it
@@ -21,8 +21,12 @@ blocks_of span ps = record {
   end = min (prefix_len (ends_within span) ps + 1) (length ps);
 }
 
-abbrev pub blocks_within : Span → List BlockPlace → List BlockPlace
-blocks_within span ps = stretch_of (blocks_of span ps) ps
+abbrev pub no_blocks : Stretch
+no_blocks = record { first = 0; end = 0 }
+
+-- Those of a table, and none where its first key is above the interval.
+abbrev pub blocks_in : Span → TableShape → Stretch
+blocks_in span s = if is_up_to span.hi span.closed s.footer.first then blocks_of span s.blocks.items else no_blocks
 
 -- whether no element that passes stands behind one that fails
 abbrev pub is_parted : {X : Type 0} → (X → Bool) → List X → Bool

@@ -1,6 +1,6 @@
 //! What a transaction, a view or a job reads with: a reader, and the blocks that it read and tested.
 
-ghost use Rattle.std.specs.Prelude.{◌≡◌, ◌<◌, ◌∷◌, [], ℕ, List, Ok, OnOk, OnErr, IfOk, true, length, get_or};
+ghost use Rattle.std.specs.Prelude.{◌≡◌, ◌<◌, ◌-◌, ◌∷◌, [], ℕ, List, Ok, None, OnOk, OnErr, IfOk, true, length, get_or};
 ghost use Rattle.vl_model.specs.declared.entry.Entry.{Entry};
 ghost use Rattle.vl_block.specs.declared.index.BlockPlace.{BlockPlace};
 ghost use Rattle.vl_table.specs.Answers.{Answers, NeedsNoMemory};
@@ -41,6 +41,7 @@ impl<R: Drop> BlockReader<R> {
     pub fn new(alloc: Global, reader: R, blocks: usize) -> Result<Self, AllocError>
         ensures reader { IfOk result (λ b. b.reader ≡ reader) }
         ensures kept { (files : Files) → IfOk result (AreKept files) }
+        ensures slots { IfOk result (λ b. length b.others.items ≡ blocks - 1) }
     {
         let front = Slot::new(alloc)?;
         let mut others = Vec::new(alloc);
@@ -59,7 +60,7 @@ impl<R: Reader> BlockReader<R> {
     ghost use Rattle.vl_table.specs.KeptBlocks.{AreKept, ReadsOf, keeps};
 
     /// Brings a block of a table to the front, and reads and tests it where it isn't kept. After a fault one slot is empty.
-    pub fn load<H: HeldFile>(&mut self, table: &Table<H>, at: usize) -> Result<(), TableFault>
+    pub(crate) fn load<H: HeldFile>(&mut self, table: &Table<H>, at: usize) -> Result<(), TableFault>
     where
         R: Reader<Held = H>,
         requires { at < length (shape_of table.now).blocks.items }
@@ -71,11 +72,16 @@ impl<R: Reader> BlockReader<R> {
             (NoBlock (shape_of table.now).format (number_of table.now) p) result }
         ensures no_memory { NeedsNoMemory result }
 
+        // Where it answers, the block is at the front; after a fault that slot is empty.
+        ensures has { (p : BlockPlace) → p ≡ get_or (shape_of table.now).blocks.items at p
+            → OnOk result (has_block (id_of (shape_of table.now) p) self.new.front ≡ true) }
+        ensures empty { OnErr result (self.new.front.block ≡ None) }
+
         // A block that is kept isn't read.
         ensures hit { (p : BlockPlace) → p ≡ get_or (shape_of table.now).blocks.items at p
             → keeps (id_of (shape_of table.now) p) self.old ≡ true → (result ≡ Ok tt) × (self.new.reader ≡ self.old.reader) }
         ensures used { (p : BlockPlace) → p ≡ get_or (shape_of table.now).blocks.items at p
-            → OnOk result (self.new.others.items ≡ (brought (id_of (shape_of table.now) p) self.old.front self.old.others.items).1) }
+            → self.new.others.items ≡ (brought (id_of (shape_of table.now) p) self.old.front self.old.others.items).1 }
     {
         let shape = table.shape();
         let id = BlockId::of(shape, &shape.blocks[at]);
@@ -91,8 +97,10 @@ impl<R: Reader> BlockReader<R> {
             → Answers (R.faults self.old.reader) (R.faults self.new.reader) id.number (H.bytes held.now)
             (λ bytes done. (es : List Entry) × HasBlock self.new.front id bytes es) (IsMissing id) result }
         ensures no_memory { NeedsNoMemory result }
+        ensures has { OnOk result (has_block id self.new.front ≡ true) }
+        ensures empty { OnErr result (self.new.front.block ≡ None) }
         ensures hit { keeps id self.old ≡ true → (result ≡ Ok tt) × (self.new.reader ≡ self.old.reader) }
-        ensures used { OnOk result (self.new.others.items ≡ (brought id self.old.front self.old.others.items).1) }
+        ensures used { self.new.others.items ≡ (brought id self.old.front self.old.others.items).1 }
     {
         if bring(&mut self.front, &mut self.others, &id) {
             return Ok(());
@@ -101,7 +109,7 @@ impl<R: Reader> BlockReader<R> {
     }
 
     /// The entries of the block that is at the front.
-    pub fn entries(&self) -> Entries<'_>
+    pub(crate) fn entries(&self) -> Entries<'_>
         ensures { (id : BlockId) (bytes : List ℕ) (es : List Entry) → HasBlock self.now.front id bytes es → Lists result es }
     {
         self.front.entries()

@@ -8,7 +8,7 @@ use crate::block_reader::BlockReader;
 use crate::fault::TableFault;
 use crate::open_block::OpenBlock;
 use crate::slot::BlockId;
-use crate::span_blocks::{blocks_of, is_in_span};
+use crate::span_blocks::{blocks_in, is_in_span};
 use crate::stretch::Stretch;
 use crate::table::Table;
 use std::alloc::{AllocError, Global};
@@ -42,8 +42,8 @@ pub struct TableCursor<H, R> {
 impl<H: HeldFile, R: Reader<Held = H> + Drop> Cursor for TableCursor<H, R> {
     ghost use Rattle.std.specs.Prelude.{◌≡◌, ◌≤◌, IfErr, IfOk, MatchResult, OnErr, OnOk};
     ghost use Rattle.vl_model.specs.Cursors.{Gives, IsCounted, Keeps, Spends};
-    ghost use Rattle.vl_table.specs.CursorLeft.{GoesOn, HasRead, cursor_budget, cursor_left};
-    ghost use Rattle.vl_table.specs.CursorParts.{MayFailOn, is_disk_fault};
+    ghost use Rattle.vl_table.specs.CursorLeft.{GoesOn, HasRead, cursor_budget, cursor_left, unread};
+    ghost use Rattle.vl_table.specs.CursorParts.{MayFailOn, StopsBefore, is_disk_fault};
     ghost use Rattle.vl_table.specs.declared.fault.TableFault.{TableFault};
 
     type Fault = TableFault;
@@ -72,8 +72,9 @@ impl<H: HeldFile, R: Reader<Held = H> + Drop> Cursor for TableCursor<H, R> {
         ensures keeps { (fault : TableFault) → MayFailOn H.bytes self.new.tables.items fault
             → MayFailOn H.bytes self.old.tables.items fault }
 
-        // Each block that it read stood; after a fault the one that didn't is the next again.
+        // Each block that it read stood; where one doesn't, that is the next again.
         ensures read { HasRead H.bytes self.old self.new }
+        ensures stopped { IfErr result (λ fault. StopsBefore H.bytes (unread self.new) fault) }
         ensures goes { GoesOn self.old self.new }
 
         // The blocks that the reader keeps stay.
@@ -92,13 +93,15 @@ impl<H: HeldFile, R: Reader<Held = H> + Drop> Cursor for TableCursor<H, R> {
 }
 
 impl<H: HeldFile, R: Reader<Held = H> + Drop> TableCursor<H, R> {
-    ghost use Rattle.std.specs.Prelude.{◌≡◌, ◌≤◌, ◌<◌, ◌-◌, ◌∷◌, [], List, Some, true, IfErr, IfNone, IfOk, IfSome, IsFalse, IsTrue, MatchResult, OnErr, OnOk};
+    ghost use Rattle.std.specs.Prelude.{◌≡◌, ◌≤◌, ◌<◌, ◌-◌, ◌∷◌, [], List, Some, true};
+    ghost use Rattle.std.specs.Prelude.{IfErr, IfNone, IfOk, IfSome, IsFalse, IsTrue, MatchResult, OnErr, OnOk};
     ghost use Rattle.vl_model.specs.Cursors.{IsCounted};
     ghost use Rattle.vl_model.specs.declared.entry.Entry.{Entry};
     ghost use Rattle.vl_run.specs.Order.{along, within};
     ghost use Rattle.vl_block.specs.Cutting.{joined};
-    ghost use Rattle.vl_table.specs.CursorLeft.{EndsAt, GoesOn, HasNotRead, ReadsNext, StaysIn, blocks_left, cursor_budget, in_block, unread};
-    ghost use Rattle.vl_table.specs.CursorParts.{MayFailOn, is_disk_fault, rise_over};
+    ghost use Rattle.vl_table.specs.CursorLeft.{EndsAt, GoesOn, HasNotRead, ReadsNext, StaysIn};
+    ghost use Rattle.vl_table.specs.CursorLeft.{blocks_left, cursor_budget, in_block, unread};
+    ghost use Rattle.vl_table.specs.CursorParts.{MayFailOn, StopsBefore, is_disk_fault, rise_over};
     ghost use Rattle.vl_table.specs.Stretches.{IsNextOn};
     ghost use Rattle.vl_table.specs.OfTables.{AreOf};
     ghost use Rattle.vl_table.specs.declared.fault.TableFault.{TableFault};
@@ -135,7 +138,8 @@ impl<H: HeldFile, R: Reader<Held = H> + Drop> TableCursor<H, R> {
     // The next entry of the block that was read, and None where none of it is left.
     fn give(&mut self) -> Result<Option<Entry>, AllocError>
         ensures given { IfOk result (λ next. IfSome next (λ e. in_block self.old ≡ e ∷ in_block self.new)) }
-        ensures none { IfOk result (λ next. IfNone next ((in_block self.old ≡ []) × (self.new.entries.end ≤ self.new.entries.first))) }
+        ensures none { IfOk result (λ next. IfNone next
+            ((in_block self.old ≡ []) × (self.new.entries.end ≤ self.new.entries.first))) }
         ensures kept { OnErr result (in_block self.new ≡ in_block self.old) }
         ensures fewer { MatchResult result (λ next. IfSome next (λ e.
             self.new.entries.end - self.new.entries.first < self.old.entries.end - self.old.entries.first))
@@ -166,6 +170,7 @@ impl<H: HeldFile, R: Reader<Held = H> + Drop> TableCursor<H, R> {
         ensures cause { MatchResult result (λ _. R.faults reader.new ≡ R.faults reader.old)
             (λ fault. IsCounted (is_disk_fault fault) (R.faults reader.old) (R.faults reader.new)) }
         ensures may_fail { IfErr result (λ fault. MayFailOn H.bytes self.old.tables.items fault) }
+        ensures stopped { IfErr result (λ fault. StopsBefore H.bytes (unread self.new) fault) }
         ensures goes { GoesOn self.old self.new }
     {
         'tables: loop {
@@ -190,6 +195,7 @@ impl<H: HeldFile, R: Reader<Held = H> + Drop> TableCursor<H, R> {
         ensures cause { MatchResult result (λ _. R.faults reader.new ≡ R.faults reader.old)
             (λ fault. IsCounted (is_disk_fault fault) (R.faults reader.old) (R.faults reader.new)) }
         ensures may_fail { IfErr result (λ fault. MayFailOn H.bytes self.old.tables.items fault) }
+        ensures stopped { IfErr result (λ fault. StopsBefore H.bytes (unread self.new) fault) }
         ensures goes { GoesOn self.old self.new }
     {
         let Some(table) = self.tables.get(self.table) else {
@@ -220,7 +226,7 @@ impl<H: HeldFile, R: Reader<Held = H> + Drop> TableCursor<H, R> {
         let Some((at, rest)) = self.later.next(self.way) else {
             return false;
         };
-        let blocks = blocks_of(&self.tables[at].shape().blocks, &self.span);
+        let blocks = blocks_in(self.tables[at].shape(), &self.span);
         self.later = rest;
         self.table = at;
         self.blocks = blocks;

@@ -42,13 +42,6 @@ impl<'a> Entries<'a> {
         }
     }
 
-    /// How many there are.
-    pub fn len(&self) -> usize
-        ensures { (es : List Entry) → Lists self.now es → result ≡ length es }
-    {
-        self.starts.len()
-    }
-
     /// The entry with an index.
     pub fn get(&self, index: usize) -> Option<EntryRef<'a>>
         ensures found { (es : List Entry) (e : Entry) → Lists self.now es → slice_get es index ≡ Some e

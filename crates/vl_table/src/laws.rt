@@ -18,9 +18,11 @@ use vl_disk::HeldFile;
 
 /// A body spells one block, one index and one footer at most.
 pub fn bodies_are_read_in_one_way()
-    ensures block { (format : ℕ) (body : List ℕ) (es fs : List Entry) → SpellsBlock format body es → SpellsBlock format body fs → es ≡ fs }
+    ensures block { (format : ℕ) (body : List ℕ) (es fs : List Entry)
+        → SpellsBlock format body es → SpellsBlock format body fs → es ≡ fs }
     ensures index { (body : List ℕ) (ps qs : List BlockPlace) → SpellsIndex body ps → SpellsIndex body qs → ps ≡ qs }
-    ensures footer { (format : ℕ) (body : List ℕ) (f g : Foot) → SpellsFooter format body f → SpellsFooter format body g → f ≡ g }
+    ensures footer { (format : ℕ) (body : List ℕ) (f g : Foot)
+        → SpellsFooter format body f → SpellsFooter format body g → f ≡ g }
 {}
 
 /// The whole bytes of a table with a short value and one whose record stands in a log.

@@ -1,7 +1,11 @@
-//! Tables: entries in order, in a file that never changes, opened and searched. docs/FORMATS.md has their bytes.
+//! Tables: entries in order, in a file that never changes, opened, searched, and gone over both ways. docs/FORMATS.md has
+//! their bytes.
 //!
 //! A look-up asks the table's range and its filter first, and reads nothing where one of them says no. Else it reads blocks
 //! through a `BlockReader`, which keeps some of them and has tested each, and halves in them. It wants no memory.
+//!
+//! A `TableCursor` begins by the index, and reads each block that may have keys of its interval once, into memory of its own:
+//! many cursors go forward in turn, and none drives out another's block. An entry is decoded and copied when it is given.
 #![tactic(auto)]
 
 mod beginning;
@@ -22,7 +26,6 @@ mod table;
 
 pub use block_reader::{BlockReader, KEPT_BLOCKS};
 pub use cursor::TableCursor;
-pub use entries::{Entries, Scan};
 pub use fault::TableFault;
 pub use laws::{
     a_worked_table, bodies_are_read_in_one_way, tables_are_read_in_one_way,

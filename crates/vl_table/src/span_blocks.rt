@@ -6,11 +6,22 @@ ghost use Rattle.vl_model.specs.Reads as reads;
 ghost use Rattle.vl_table.specs.SpanBlocks as spans;
 
 use crate::stretch::Stretch;
-use vl_block::BlockPlace;
+use vl_block::{BlockPlace, TableShape};
 use vl_model::Span;
 
-/// The blocks that may have keys of an interval, found by halving.
-pub fn blocks_of(blocks: &[BlockPlace], span: &Span) -> Stretch
+/// The blocks of a table that may have keys of an interval: none where it begins above it.
+pub fn blocks_in(shape: &TableShape, span: &Span) -> Stretch
+    ensures exact { spans.rises_over span.now shape.now.blocks.items ≡ true → result ≡ spans.blocks_in span.now shape.now }
+    ensures within { result.end ≤ length shape.now.blocks.items }
+{
+    if !is_up_to(span, shape.footer.first.as_slice()) {
+        return Stretch { first: 0, end: 0 };
+    }
+    blocks_of(&shape.blocks, span)
+}
+
+// Those that an index names, found by halving.
+fn blocks_of(blocks: &[BlockPlace], span: &Span) -> Stretch
     ensures exact { spans.rises_over span.now blocks.now ≡ true → result ≡ spans.blocks_of span.now blocks.now }
     ensures within { result.end ≤ length blocks.now }
 {

@@ -122,9 +122,10 @@ impl<H: HeldFile> Table<H> {
             → option_map (found_of key.now) found ≡ winner es key.now number)
             (IsBadBlock (shape_of self.now)) result }
 
-        // No answer hides a block that doesn't stand, also in a table that isn't true.
+        // Where the index rises no answer hides a block that doesn't stand, also if the table isn't true.
         ensures looks { (files : Files) → ReadsOf H.bytes files reader.old (self.now ∷ [])
-            → may_hold key.now (shape_of self.now) ≡ true → LooksIn H.bytes (if_of_key key.now) self.now key.now number result }
+            → may_hold key.now (shape_of self.now) ≡ true
+            → LooksIn H.bytes (if_of_key key.now) self.now key.now number result }
 
         // Nothing is looked at of a table that may not have the key.
         ensures unread { may_hold key.now (shape_of self.now) ≡ false → (result ≡ Ok None) × (reader.new ≡ reader.old) }
@@ -150,7 +151,8 @@ impl<H: HeldFile> Table<H> {
             → option_map (found_of key.now) found ≡ exact es key.now version)
             (IsBadBlock (shape_of self.now)) result }
         ensures looks { (files : Files) → ReadsOf H.bytes files reader.old (self.now ∷ [])
-            → may_hold key.now (shape_of self.now) ≡ true → LooksIn H.bytes (if_exact key.now version) self.now key.now version result }
+            → may_hold key.now (shape_of self.now) ≡ true
+            → LooksIn H.bytes (if_exact key.now version) self.now key.now version result }
         ensures unread { may_hold key.now (shape_of self.now) ≡ false → (result ≡ Ok None) × (reader.new ≡ reader.old) }
         ensures no_memory { NeedsNoMemory result }
     {

@@ -62,7 +62,12 @@ pub fn gone(alloc: Global, key: &[u8], version: u64) -> Result<Entry, Fail> {
 }
 
 // The table with this number of these versions of one key, each of which is a deletion.
-pub fn versions_of(alloc: Global, number: u32, key: &[u8], versions: &[u64]) -> Result<Table<MemHeld>, Fail>
+pub fn versions_of(
+    alloc: Global,
+    number: u32,
+    key: &[u8],
+    versions: &[u64],
+) -> Result<Table<MemHeld>, Fail>
     requires some { 1 ≤ number }
     requires few { number ≤ 9 }
 {

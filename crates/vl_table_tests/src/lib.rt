@@ -9,6 +9,8 @@ mod disk;
 mod levels;
 #[cfg(test)]
 mod merging;
+#[cfg(test)]
+mod sharing;
 mod source;
 #[cfg(test)]
 mod tables;

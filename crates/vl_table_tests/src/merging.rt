@@ -26,12 +26,7 @@ fn one_reader_serves_memory_and_a_table(rt: HostRuntime) -> Result<(), Fail> {
     let run = short_run(alloc, b"b", 2)?;
     let mut sources = Vec::new(alloc);
     sources.push(Source::Memory(run.cursor(Way::Up)?))?;
-    sources.push(Source::Table(TableCursor::new(
-        alloc,
-        tables,
-        whole(),
-        Way::Up,
-    )?))?;
+    sources.push(Source::Table(TableCursor::new(alloc, tables, whole(), Way::Up)?))?;
     let mut merge = Merge::new(sources, Way::Up)?;
     for version in [1, 2, 1] {
         let entry = merge.next(&mut reader)?.ok_or("none")?;

@@ -58,7 +58,8 @@ pub record IsWriting (w : TableWriter) (number : ℕ) (es : List Entry) (given :
   pub given_out : given ≡ table_header table_format number ++ blocks_bytes table_format number 16 closed
   pub last : last_key open_block ≡ last_key es
   -- whatever comes, this is how it is cut
-  pub cut : (later : List Entry) → blocks table_format (es ++ later) ≡ closed ++ blocks_from table_format open_block (length (block_body table_format open_block)) later
+  pub cut : (later : List Entry) → blocks table_format (es ++ later)
+      ≡ closed ++ blocks_from table_format open_block (length (block_body table_format open_block)) later
 
 -- The same, and the open block has room for this entry, or no entry yet.
 pub record HasRoom (w : TableWriter) (number : ℕ) (es : List Entry) (given : List ℕ) (e : Entry) : Type 0 where

@@ -1,5 +1,8 @@
-//! Tables, written: `TableWriter` gives the bytes of one piece by piece. Below it stand the bodies of its frames, which
-//! `vl_block` spells and reads. docs/FORMATS.md lists them.
+//! Tables, written: `TableWriter` gives the bytes of one piece by piece, and at its end its shape (`Tail`). Below it stand the
+//! bodies of its frames, which `vl_block` spells and reads. docs/FORMATS.md lists them.
+//!
+//! An entry takes the same time however many there are, but for the search of a segment's sum in a map. What is held grows
+//! with a table by 16 bytes a key for the filter, 12 and a last key for each closed block, and a sum for each segment.
 #![tactic(auto)]
 
 mod add_fail;

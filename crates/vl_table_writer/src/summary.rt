@@ -89,7 +89,15 @@ impl Summary {
         index: FramePlace,
     ) -> Result<Footer, AllocError>
         ensures { IfOk result (λ footer. foot_of footer ≡ record {
-          head = record { filter = Some filter; index_place = index.place; index_length = index.length; count = self.count; greatest = self.greatest; first = self.first; last = self.last };
+          head = record {
+            filter = Some filter;
+            index_place = index.place;
+            index_length = index.length;
+            count = self.count;
+            greatest = self.greatest;
+            first = self.first;
+            last = self.last;
+          };
           points = points_in self.points;
         }) }
     {

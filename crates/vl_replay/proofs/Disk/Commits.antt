@@ -32,10 +32,10 @@ use Rattle.vl_seglog.specs.Frames.{frame_at, frames_end, frames_grammar}
 use Rattle.vl_seglog.specs.Staging.{IsStaged}
 use Rattle.vl_seglog.specs.declared.staged.Staged.{Staged}
 use Rattle.vl_replay.specs.Between.{ShowsBetween}
-use Rattle.vl_replay.specs.Durable.{CrashesShow, HoldsState, LeadsTo, Leaves, StopsWithin}
+use Rattle.vl_replay.specs.Durable.{CrashesShow, HoldsCommits, HoldsState, LeadsTo, Leaves, StopsWithin}
 use Rattle.vl_replay.specs.Halts.{HaltsByDisk}
 use Rattle.vl_replay.specs.Stopped.{Commits, append_failed, sync_failed}
-use Rattle.vl_replay.specs.Stored.{IsStored, Shown, logs_of}
+use Rattle.vl_replay.specs.Stored.{IsStopped, IsStored, Shown, logs_of}
 use Rattle.vl_replay.specs.Writing.{StopsWriting, WhileWriting, at_append, at_sync, written}
 use Rattle.vl_replay.proofs.Store.Deciding.{same_frame, staged_frame}
 use Rattle.vl_replay.proofs.Disk.Logged.{numbers_next, shown_by, shown_stays, stored_exactly, stored_kept, stored_next}
@@ -47,7 +47,7 @@ use Rattle.vl_replay.specs.declared.fails.Halt.{Halt}
 use Rattle.vl_replay.specs.declared.fails.Halt.TheVariants as why
 use Rattle.vl_replay.proofs.Disk.Betweens.{extends_itself, extends_same, extends_one, last-extends}
 use Rattle.vl_replay.proofs.Store.Outcomes.{Keeps}
-use Rattle.vl_replay.proofs.Disk.DiskSteps.{IsWatched, rests, rests_until, goes_then, goes_wider, it_holds, opens_again}
+use Rattle.vl_replay.proofs.Disk.DiskSteps.{IsWatched, rests, rests_until, goes_then, goes_wider, opens_again}
 
 -- ---- results
 
@@ -95,7 +95,7 @@ module _ {D : Type 0} (g : Ghosts D) (watched : IsWatched g) where
   looked s old new failed no_change held =
       let (state, is, here) = held.there in
       let P = Leaves (ShowsBetween Shown s.history s.history) in
-      let start = rests g watched IsStored Shown shown_stays stored_exactly s old held in (
+      let start = rests g watched IsStored Shown IsStopped shown_stays stored_exactly s old held in (
         record { calls = no_change.calls ∙ held.calls; there = (state, no_change.told ∙ is, here) },
         goes_by g P old old new state Unchanged is start no_change.time (λ now same. subst P (sym same) (start.each state (watched.counts_now old state (g.moment old) is (omega arith)))),
       )
@@ -104,26 +104,30 @@ module _ {D : Type 0} (g : Ghosts D) (watched : IsWatched g) where
   pub held_kept : (before after : State) (disk : D) → Keeps before after → HoldsState g IsStored before disk → HoldsState g IsStored after disk
   held_kept before after disk keeps held = record { calls = held.calls ∙ sym keeps.calls; there = (held.there.0, held.there.1, stored_kept before after held.there.0 keeps held.there.2) }
 
+  -- it holds the commits
+  kept_commits : (s : State) (disk : D) → HoldsState g IsStored s disk → HoldsCommits g IsStored s disk
+  kept_commits s disk held = (s, refl, held.there)
+
   -- the disk was left alone, and the commits stay
-  pub carries_kept : {T : Type 0} (s after : State) (disk : D) (result : Result T Halt) → (HaltsByDisk result → ⊥) → Keeps s after → HoldsState g IsStored s disk → LeadsTo g IsStored Shown disk disk s after result
+  pub carries_kept : {T : Type 0} (s after : State) (disk : D) (result : Result T Halt) → (HaltsByDisk result → ⊥) → Keeps s after → HoldsState g IsStored s disk → LeadsTo g IsStored Shown IsStopped disk disk s after result
   carries_kept s after disk result sound keeps held = record {
     answered = on_ok_of result _ (held_kept s after disk keeps held);
-    no_commit = λ _. it_holds g watched IsStored Shown shown_stays stored_exactly s disk held;
-    tells = opens_again g watched IsStored Shown shown_stays stored_exactly s disk held;
-    through = rests_until g watched IsStored Shown shown_stays stored_exactly s after.history (extends_same s.history after.history keeps.history) disk held;
+    no_commit = λ _. kept_commits s disk held;
+    tells = opens_again g watched IsStored Shown IsStopped shown_stays stored_exactly s disk held;
+    through = rests_until g watched IsStored Shown IsStopped shown_stays stored_exactly s after.history (extends_same s.history after.history keeps.history) disk held;
     stopped = λ by. absurd (sound by);
   }
 
   -- memory ran out before anything was written
   pub carries_no_memory : {T : Type 0} (s after : State) (old new : D) (failed : Type 0) (result : Result T Halt) → IsErr result → (HaltsByDisk result → ⊥) → Extends s.history after.history → ChangesNothing g old new failed → HoldsState g IsStored s old
-      → LeadsTo g IsStored Shown old new s after result
+      → LeadsTo g IsStored Shown IsStopped old new s after result
   carries_no_memory s after old new failed result err sound extends no_change held =
       let (kept, goes) = looked s old new failed no_change held in
       record {
         answered = on_ok_at_err result _ err;
-        no_commit = λ _. it_holds g watched IsStored Shown shown_stays stored_exactly s new kept;
-        tells = opens_again g watched IsStored Shown shown_stays stored_exactly s new kept;
-        through = goes_wider g watched IsStored Shown shown_stays stored_exactly old new s.history s.history s.history after.history (extends_itself s.history) extends goes;
+        no_commit = λ _. kept_commits s new kept;
+        tells = opens_again g watched IsStored Shown IsStopped shown_stays stored_exactly s new kept;
+        through = goes_wider g watched IsStored Shown IsStopped shown_stays stored_exactly old new s.history s.history s.history after.history (extends_itself s.history) extends goes;
         stopped = λ by. absurd (sound by);
       }
 
@@ -187,8 +191,8 @@ module _ {D : Type 0} (g : Ghosts D) (watched : IsWatched g) where
     goes_written =
         let (kept, goes) = looked s old mid failed no_change held in
         let told : g.told mid ≡ Some state = no_change.told ∙ held.there.1 in
-        let wide = rests_until g watched IsStored Shown shown_stays stored_exactly s after.history extends mid (record { calls = no_change.calls ∙ held.calls; there = (state, told, stored) }) in
-        goes_then g watched IsStored Shown shown_stays stored_exactly old mid new s.history s.history after.history (extends_itself s.history) extends goes
+        let wide = rests_until g watched IsStored Shown IsStopped shown_stays stored_exactly s after.history extends mid (record { calls = no_change.calls ∙ held.calls; there = (state, told, stored) }) in
+        goes_then g watched IsStored Shown IsStopped shown_stays stored_exactly old mid new s.history s.history after.history (extends_itself s.history) extends goes
         (goes_by g (Leaves between) mid mid new state (WhileWriting (names.Log s.log.number) bytes) told wide time
         (λ now during. frame_leaves now (subst (λ (frame : List ℕ). WhileWriting (names.Log s.log.number) frame state now) staged.1 during)))
 
@@ -222,48 +226,54 @@ module _ {D : Type 0} (g : Ghosts D) (watched : IsWatched g) where
       frame = bytes;
       frame_is = staged.1 ∙ ap (λ (n : ℕ). frame_at log_format s.log.number n (next_frame s.history writes)) (sym stored.length_is);
       done = subst (λ (frame : List ℕ). IsStored after (written (names.Log s.log.number) frame state)) (sym staged.1) (stored_next s name writes state stored staged.0);
+      writes = writes;
+      one_more = refl;
     }
 
     told_after : (change : DiskState → DiskState) → IsChangedBy change (g.told mid) (g.told new) → g.told new ≡ Some (change state)
     told_after change changed = changed ∙ ap (option_map change) (no_change.told ∙ held.there.1)
 
-    counted : (n : ℕ) → g.calls new ≡ after_calls n (g.calls mid) → g.calls new ≡ after_calls n s.calls
-    counted n calls = calls ∙ ap (after_calls n) (no_change.calls ∙ held.calls)
-
-    not_true : IsTrue false → ⊥
-    not_true e = cc
+    counted : (n : ℕ) (disk : D) → g.calls disk ≡ after_calls n (g.calls mid) → g.calls disk ≡ after_calls n s.calls
+    counted n disk calls = calls ∙ ap (after_calls n) (no_change.calls ∙ held.calls)
 
     -- a disk that fails cleanly took nothing of it, or all
-    stops_within : (failed → ⊥) → StopsWriting g (names.Log s.log.number) bytes mid new → StopsWithin g IsStored s after old new
+    stops_within : (failed → ⊥) → StopsWriting g (names.Log s.log.number) bytes mid new → StopsWithin g IsStopped s after old new
     stops_within fine (at_append changed calls) = record {
+      passed = 0;
+      has_passed = record {
+        mid = mid;
+        counted = counted 0 mid refl;
+        steady = no_change.cause.steady fine;
+        as_planned = no_change.time.as_planned;
+      };
+      all = 2;
+      more = omega arith;
+      all_counted = refl;
+      calls = counted 1 new calls;
       now = appended (names.Log s.log.number) bytes 0 state;
       told = told_after (appended (names.Log s.log.number) bytes 0) changed;
-      stopped = append_failed commits refl;
-      calls = counted 1 calls;
-      passed = λ append. absurd (not_true append);
-      writes = writes;
-      one_more = refl;
-      both = refl;
+      stopped = append_failed commits refl refl;
     }
     stops_within fine (at_sync changed calls one) = record {
-      now = appended (names.Log s.log.number) bytes (length bytes) state;
-      told = told_after (appended (names.Log s.log.number) bytes (length bytes)) changed;
-      stopped = sync_failed commits refl;
-      calls = counted 2 calls;
-      passed = λ _. record {
+      passed = 1;
+      has_passed = record {
         mid = one.mid;
-        counted = one.counted ∙ ap (after_calls 1) (no_change.calls ∙ held.calls);
+        counted = counted 1 one.mid one.counted;
         steady = one.steady ∙ no_change.cause.steady fine;
         as_planned = λ stop past. one.as_planned stop (no_change.time.as_planned stop past);
       };
-      writes = writes;
-      one_more = refl;
-      both = refl;
+      all = 2;
+      more = omega arith;
+      all_counted = refl;
+      calls = counted 2 new calls;
+      now = appended (names.Log s.log.number) bytes (length bytes) state;
+      told = told_after (appended (names.Log s.log.number) bytes (length bytes)) changed;
+      stopped = sync_failed commits refl refl;
     }
 
     -- the disk failed while it was written
     pub carries_failed : {T : Type 0} (result : Result T Halt) → IsErr result → (result ≡ Err why.NoMemory → ⊥) → (now : DiskState) × (g.told new ≡ Some now)
-        → (failed → ⊥) → (IsTrue g.fails_cleanly → StopsWriting g (names.Log s.log.number) bytes mid new) → LeadsTo g IsStored Shown old new s after result
+        → (failed → ⊥) → (IsTrue g.fails_cleanly → StopsWriting g (names.Log s.log.number) bytes mid new) → LeadsTo g IsStored Shown IsStopped old new s after result
     carries_failed result err no_room tells fine stops = record {
       answered = on_ok_at_err result _ err;
       no_commit = λ none. absurd (no_room none);
@@ -274,7 +284,7 @@ module _ {D : Type 0} (g : Ghosts D) (watched : IsWatched g) where
 
     -- it was written
     pub carries_commit : {T : Type 0} (answer : T) → g.calls new ≡ after_calls 2 (g.calls mid) → IsChangedBy (written (names.Log s.log.number) bytes) (g.told mid) (g.told new)
-        → LeadsTo g IsStored Shown old new s after (Ok answer)
+        → LeadsTo g IsStored Shown IsStopped old new s after (Ok answer)
     carries_commit answer calls changed =
         let told : g.told mid ≡ Some state = no_change.told ∙ held.there.1 in
         let whole = frame_behind log_format s.log.number stored.frames (next_frame s.history writes) in

@@ -12,9 +12,9 @@ use Rattle.vl_script.specs.declared.line.Line.{Line}
 use Rattle.vl_script.specs.Script.{line_of}
 use Rattle.vl_replay.specs.Sequential.{State, state_after}
 use Rattle.vl_replay.specs.Exchanges.{Exchange, exchange_at, exchanged, state_behind, exchanges_from, and_later, last_state}
-use Rattle.vl_replay.specs.Between.{Showing, ShowsBetween}
+use Rattle.vl_replay.specs.Between.{Showing, ShowsBetween, Stopping}
 use Rattle.vl_replay.specs.Endings.{CutsAnswer, IsBetweenLines, TheDisk, culprit_of}
-use Rattle.vl_replay.specs.Durable.{DiskEnds, GoesAlong, CrashesShow, Holding, HoldsCommits, HoldsState, Leaves, LeavesItsHistory, StaysShown, StopsWithin, Tells}
+use Rattle.vl_replay.specs.Durable.{DiskEnds, GoesAlong, CrashesShow, Holding, HoldsCommits, HoldsCounted, HoldsState, Leaves, LeavesItsHistory, StaysShown, StopsWithin, Tells}
 use Rattle.vl_replay.specs.declared.ending.Ending.{Ending}
 use Rattle.vl_replay.specs.declared.ending.Ending.TheVariants.{NoMemory}
 use Rattle.vl_replay.proofs.Disk.Betweens.{extends_itself, extends_then, between_wider, between_exactly}
@@ -78,7 +78,7 @@ leaves_weaker P Q weaker state leaves image left = weaker image (leaves image le
 pub rose_earlier : (f a b : ℕ) → f ≤ a → Rose a b → Rose f b
 rose_earlier f a b le rose = omega arith
 
-module _ {D : Type 0} (g : Ghosts D) (watched : IsWatched g) (holds : Holding) (shows : Showing)
+module _ {D : Type 0} (g : Ghosts D) (watched : IsWatched g) (holds : Holding) (shows : Showing) (stops : Stopping)
     (stays : StaysShown shows) (exactly : LeavesItsHistory holds shows) where
   -- a wider pair of histories
   pub goes_wider : (old new : D) (least less more most : History) → Extends least less → Extends more most → CrashesShow g shows old new less more → CrashesShow g shows old new least most
@@ -103,8 +103,12 @@ module _ {D : Type 0} (g : Ghosts D) (watched : IsWatched g) (holds : Holding) (
       (goes_wider a b least least mid most (extends_itself least) upper first)
       (goes_wider b c least mid most most lower (extends_itself most) second)
 
-  pub it_holds : (s : State) (disk : D) → HoldsState g holds s disk → HoldsCommits g holds s disk
+  pub it_holds : (s : State) (disk : D) → HoldsState g holds s disk → HoldsCounted g holds s disk
   it_holds s disk held = (s, refl, refl, refl, held)
+
+  -- whatever was counted
+  pub its_commits : (s : State) (disk : D) → HoldsCounted g holds s disk → HoldsCommits g holds s disk
+  its_commits s disk (u, history, calls, files, held) = (u, history, held.there)
 
   -- a store may be opened on it
   pub opens_again : (s : State) (disk : D) → HoldsState g holds s disk → Tells g disk MayOpen
@@ -117,10 +121,10 @@ module _ {D : Type 0} (g : Ghosts D) (watched : IsWatched g) (holds : Holding) (
   -- the run ended before a line was answered
   pub ends_within : (old new : D) (ending : Ending) (least most : State) → CrashesShow g shows old new least.history most.history → Tells g new MayOpen
       → ((Rose (g.faults old) (g.faults new) → ⊥) → HoldsCommits g holds least new ⊎ HoldsCommits g holds most new)
-      → (ending ≡ NoMemory → HoldsCommits g holds least new) → (IsBetweenLines (culprit_of ending) → HoldsCommits g holds least new) → (CutsAnswer ending → HoldsCommits g holds most new)
-      → (culprit_of ending ≡ TheDisk → IsTrue g.fails_cleanly → StopsWithin g holds least most old new)
-      → DiskEnds g holds shows ⊥ ⊥ old new (record { ending = ending; first = least; answered = []; most = most })
-  ends_within old new ending least most goes tells settled no_memory whole cut stops = record {
+      → (ending ≡ NoMemory → HoldsCommits g holds least new) → (IsBetweenLines (culprit_of ending) → HoldsCounted g holds least new) → (CutsAnswer ending → HoldsCounted g holds most new)
+      → (culprit_of ending ≡ TheDisk → IsTrue g.fails_cleanly → StopsWithin g stops least most old new)
+      → DiskEnds g holds shows stops ⊥ ⊥ old new (record { ending = ending; first = least; answered = []; most = most })
+  ends_within old new ending least most goes tells settled no_memory whole cut stopped = record {
     crash_during = goes;
     line_by_line = tt;
     crash_after = at_end old new least.history most.history goes tells;
@@ -129,23 +133,23 @@ module _ {D : Type 0} (g : Ghosts D) (watched : IsWatched g) (holds : Holding) (
     between_lines = whole;
     answer_cut = cut;
     again = tells;
-    stopped = λ fault clean. inr (stops fault clean);
+    stopped = λ fault clean. inr (stopped fault clean);
   }
 
   -- it still holds what it held
-  pub ends_unchanged : (old new : D) (ending : Ending) (least most : State) → CrashesShow g shows old new least.history most.history → Tells g new MayOpen → HoldsCommits g holds least new
-      → (CutsAnswer ending → HoldsCommits g holds most new) → (culprit_of ending ≡ TheDisk → ⊥) → DiskEnds g holds shows ⊥ ⊥ old new (record { ending = ending; first = least; answered = []; most = most })
-  ends_unchanged old new ending least most goes tells held cut sound = ends_within old new ending least most goes tells (λ sound. inl held) (λ out. held) (λ whole. held) cut (λ fault. absurd (sound fault))
+  pub ends_unchanged : (old new : D) (ending : Ending) (least most : State) → CrashesShow g shows old new least.history most.history → Tells g new MayOpen → HoldsCounted g holds least new
+      → (CutsAnswer ending → HoldsCounted g holds most new) → (culprit_of ending ≡ TheDisk → ⊥) → DiskEnds g holds shows stops ⊥ ⊥ old new (record { ending = ending; first = least; answered = []; most = most })
+  ends_unchanged old new ending least most goes tells held cut sound = ends_within old new ending least most goes tells (λ sound. inl (its_commits least new held)) (λ out. its_commits least new held) (λ whole. held) cut (λ fault. absurd (sound fault))
 
   -- the disk was left alone
   pub ends_untouched : (s most : State) → Extends s.history most.history → (disk : D) (ending : Ending) → LeavesDisk ending → HoldsState g holds s disk
-      → DiskEnds g holds shows ⊥ ⊥ disk disk (record { ending = ending; first = s; answered = []; most = most })
+      → DiskEnds g holds shows stops ⊥ ⊥ disk disk (record { ending = ending; first = s; answered = []; most = most })
   ends_untouched s most extends disk ending (none, sound) held =
       ends_unchanged disk disk ending s most (rests_until s most.history extends disk held) (opens_again s disk held) (it_holds s disk held) (λ cuts. absurd (none cuts)) sound
 
   -- the last line was answered
   pub ends_answered : (old new : D) (ending : Ending) (before : State) (e : Exchange) → (culprit_of ending ≡ TheDisk → ⊥) → CrashesShow g shows old new before.history e.after.history → HoldsState g holds e.after new → g.faults new ≡ g.faults old
-      → DiskEnds g holds shows ⊥ ⊥ old new (record { ending = ending; first = before; answered = e ∷ []; most = e.after })
+      → DiskEnds g holds shows stops ⊥ ⊥ old new (record { ending = ending; first = before; answered = e ∷ []; most = e.after })
   ends_answered old new ending before e sound goes held steady =
       let there = it_holds e.after new held in
       let rest = rests e.after new held in
@@ -153,8 +157,8 @@ module _ {D : Type 0} (g : Ghosts D) (watched : IsWatched g) (holds : Holding) (
         crash_during = goes;
         line_by_line = (new, record { before = goes; held = there; steady = steady; behind = rest }, tt);
         crash_after = at_end new new e.after.history e.after.history rest (opens_again e.after new held);
-        without_fault = λ sound. inr (inl there);
-        no_memory = λ out. inr there;
+        without_fault = λ sound. inr (inl (its_commits e.after new there));
+        no_memory = λ out. inr (its_commits e.after new there);
         between_lines = λ whole. there;
         answer_cut = λ cuts. there;
         again = opens_again e.after new held;
@@ -163,17 +167,18 @@ module _ {D : Type 0} (g : Ghosts D) (watched : IsWatched g) (holds : Holding) (
 
   -- a stop since a later disk, up to which nothing failed
   stops_earlier : (first old new : D) (before after : State) → g.faults old ≡ g.faults first → ((stop : Option ℕ) → g.fails_past first stop → g.fails_past old stop)
-      → StopsWithin g holds before after old new → StopsWithin g holds before after first new
+      → StopsWithin g stops before after old new → StopsWithin g stops before after first new
   stops_earlier first old new before after steady planned within = record {
+    passed = within.passed;
+    has_passed = let some = within.has_passed in
+        record { mid = some.mid; counted = some.counted; steady = some.steady ∙ steady; as_planned = λ stop past. some.as_planned stop (planned stop past) };
+    all = within.all;
+    more = within.more;
+    all_counted = within.all_counted;
+    calls = within.calls;
     now = within.now;
     told = within.told;
     stopped = within.stopped;
-    calls = within.calls;
-    passed = λ append. let one = within.passed append in
-        record { mid = one.mid; counted = one.counted; steady = one.steady ∙ steady; as_planned = λ stop past. one.as_planned stop (planned stop past) };
-    writes = within.writes;
-    one_more = within.one_more;
-    both = within.both;
   }
 
   -- a run that began earlier, and had answered some lines
@@ -181,12 +186,14 @@ module _ {D : Type 0} (g : Ghosts D) (watched : IsWatched g) (holds : Holding) (
       → CrashesShow g shows first old start.history before.history
       → (CrashesShow g shows old new before.history most.history → GoesAlong g holds shows new most old before answered → GoesAlong g holds shows new most first start whole)
       → last_state before answered ≡ last_state start whole
-      → DiskEnds g holds shows ⊥ ⊥ old new (record { ending = ending; first = before; answered = answered; most = most })
-      → DiskEnds g holds shows unopened failed_to_open first new (record { ending = ending; first = start; answered = whole; most = most })
+      → DiskEnds g holds shows stops ⊥ ⊥ old new (record { ending = ending; first = before; answered = answered; most = most })
+      → DiskEnds g holds shows stops unopened failed_to_open first new (record { ending = ending; first = start; answered = whole; most = most })
   ends_later unopened failed_to_open first old new ending start before most answered whole lower upper steady so_far longer same ends =
       let earlier : g.faults first ≤ g.faults old = omega (arith, steady) in
       let moved : HoldsCommits g holds (last_state before answered) new → HoldsCommits g holds (last_state start whole) new =
       λ (held : HoldsCommits g holds (last_state before answered) new). subst (λ (s : State). HoldsCommits g holds s new) same held in
+      let counted : HoldsCounted g holds (last_state before answered) new → HoldsCounted g holds (last_state start whole) new =
+      λ (held : HoldsCounted g holds (last_state before answered) new). subst (λ (s : State). HoldsCounted g holds s new) same held in
       record {
         crash_during = goes_then first old new start.history before.history most.history lower upper so_far ends.crash_during;
         line_by_line = longer ends.crash_during ends.line_by_line;
@@ -202,12 +209,12 @@ module _ {D : Type 0} (g : Ghosts D) (watched : IsWatched g) (holds : Holding) (
             (λ (never : ⊥). absurd never)
             (λ (held : HoldsCommits g holds (last_state before answered) new). inr (moved held))
             (ends.no_memory out);
-        between_lines = λ between. moved (ends.between_lines between);
+        between_lines = λ between. counted (ends.between_lines between);
         answer_cut = ends.answer_cut;
         again = ends.again;
         stopped = λ fault clean. ⊎_elim
             (λ (never : ⊥). absurd never)
-            (λ (within : StopsWithin g holds (last_state before answered) most old new).
-            inr (subst (λ (s : State). StopsWithin g holds s most first new) same (stops_earlier first old new (last_state before answered) most steady so_far.time.as_planned within)))
+            (λ (within : StopsWithin g stops (last_state before answered) most old new).
+            inr (subst (λ (s : State). StopsWithin g stops s most first new) same (stops_earlier first old new (last_state before answered) most steady so_far.time.as_planned within)))
             (ends.stopped fault clean);
       }

@@ -13,7 +13,7 @@ use Rattle.vl_model.specs.laws.WinnerLaws.{winner-append, winner-in_order}
 use Rattle.vl_model.specs.Winners.{newest_of, resolved_at, winner}
 use Rattle.vl_model.specs.declared.entry.Entry.{Entry}
 use Rattle.vl_model.specs.declared.way.Way.TheVariants.{Up}
-use Rattle.vl_recover.specs.declared.parts.FrozenLog.{FrozenLog}
+use Rattle.vl_memtable.specs.declared.frozen_log.FrozenLog.{FrozenLog}
 use Rattle.vl_run.specs.Order.{along}
 use Rattle.vl_seglog.specs.declared.active.ActiveLog.{ActiveLog}
 use Rattle.vl_replay.specs.Contents.{GiveEntries}

@@ -24,7 +24,7 @@ use Rattle.vl_recover.specs.opening.Plans.{Greatest, active_log, active_of, last
 use Rattle.vl_recover.specs.laws.repairing.RecoveredLaws.{found_goes_on, found_shows}
 use Rattle.vl_recover.specs.opening.Results.{frozen_log, opened_of}
 use Rattle.vl_recover.specs.opening.Walk.{StandingLog, format_of}
-use Rattle.vl_recover.specs.declared.parts.FrozenLog.{FrozenLog}
+use Rattle.vl_memtable.specs.declared.frozen_log.FrozenLog.{FrozenLog}
 use Rattle.vl_recover.specs.declared.parts.Parts.{Parts}
 use Rattle.vl_replay.specs.Opened.{IsOpenedStore, entries_in}
 use Rattle.vl_replay.specs.Opening.{IsRefused}

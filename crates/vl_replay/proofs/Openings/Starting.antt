@@ -16,7 +16,7 @@ use Rattle.vl_model.specs.declared.entry.Entry.{Entry}
 use Rattle.vl_recover.specs.crash.Alike.{IsLeft, OpensAsOf}
 use Rattle.vl_recover.specs.opening.Answers.{Finds}
 use Rattle.vl_recover.specs.repairing.Steps.{MakesSome}
-use Rattle.vl_recover.specs.declared.parts.FrozenLog.{FrozenLog}
+use Rattle.vl_memtable.specs.declared.frozen_log.FrozenLog.{FrozenLog}
 use Rattle.vl_seglog.specs.declared.active.ActiveLog.{ActiveLog}
 use Rattle.vl_replay.specs.Opened.{IsOpenedStore, any_number, body_value, entries_in, entry_value, opened_value}
 use Rattle.vl_replay.specs.Represents.{ShowsHistory}

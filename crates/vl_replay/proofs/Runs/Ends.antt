@@ -8,6 +8,7 @@ use Rattle.std.specs.Option.{option_map}
 use Rattle.std.specs.Fmt.{decimal}
 use Rattle.std.proofs.lemmas.Bool.Decides.{nat_tests}
 use Rattle.vl_disk.specs.Faults.{HasCause, Rose}
+use Rattle.vl_disk.specs.declared.name.Name.{Name}
 use Rattle.vl_io.specs.declared.sink.Sink as sink
 use Rattle.vl_io.specs.Sink.{Takes, TakesPrefix}
 use Rattle.vl_script.specs.declared.line.Line.{Line as ScriptLine}
@@ -17,11 +18,11 @@ use Rattle.vl_script.specs.Script.{text_of, lines_of, line_of}
 use Rattle.vl_replay.specs.Sequential.{State, answer_to, state_after}
 use Rattle.vl_replay.specs.Input.{HasNoLineEnd}
 use Rattle.vl_replay.specs.Exchanges.{Exchange, exchange_at, exchanged, exchanges_from, and_later, answers_text, ended_lines, KeepsUp}
-use Rattle.vl_replay.specs.Endings.{Culprit, NoOne, TheLine, TheWords, TheDisk, TheFiles, Memory, TheSource, TheSink, LastPiece, NoPiece, BadLinePiece, Line, LineFront, AnswerFront, CountsFaultsOf, EndsAs, Evidence, CutsAnswer, culprit_of, end_of, ending_at, last_line, line_at, line_of_piece, line_number, bad_line}
+use Rattle.vl_replay.specs.Endings.{Culprit, NoOne, TheLine, TheWords, TheDisk, TheFiles, TheBytes, Memory, TheSource, TheSink, LastPiece, NoPiece, BadLinePiece, Line, LineFront, AnswerFront, CountsFaultsOf, EndsAs, Evidence, CutsAnswer, culprit_of, end_of, ending_at, last_line, line_at, line_of_piece, line_number, bad_line}
 use Rattle.vl_replay.specs.Runs.{Script, exchanges, next_number, IsFront, Stops, Puts, EndsSo}
-use Rattle.vl_replay.specs.Steps.{Finishes, IsNext, EndsBefore}
+use Rattle.vl_replay.specs.Steps.{EndsAtDamage, Finishes, FinishesBy, IsNext, EndsBefore}
 use Rattle.vl_replay.specs.declared.ending.Ending.{Ending}
-use Rattle.vl_replay.specs.declared.ending.Ending.TheVariants.{Complete, DiskFault, WriteFault, AnswerCut, Stopped}
+use Rattle.vl_replay.specs.declared.ending.Ending.TheVariants.{Complete, Damaged, DiskFault, NoMemory, WriteFault, AnswerCut, Stopped}
 use Rattle.vl_replay.specs.declared.ending.OnFault.{OnFault}
 use Rattle.vl_replay.specs.declared.ending.OnFault.TheVariants.{Report, Stop}
 use Rattle.vl_replay.specs.laws.Laws.{ended_lines-cons}
@@ -195,6 +196,7 @@ module _ (cause cause' : Culprit → Type 0) (weaker : (culprit : Culprit) → c
   stops_weaker TheWords h = h
   stops_weaker TheDisk h = weaker TheDisk h
   stops_weaker TheFiles h = h
+  stops_weaker (TheBytes name place) h = h
   stops_weaker Memory h = h
   stops_weaker TheSource h = (weaker TheSource h.0, h.1)
   stops_weaker TheSink h = h
@@ -220,6 +222,7 @@ evidence_weaker A B A' B' f g TheLine c = c
 evidence_weaker A B A' B' f g TheWords c = c
 evidence_weaker A B A' B' f g TheDisk c = g c
 evidence_weaker A B A' B' f g TheFiles c = c
+evidence_weaker A B A' B' f g (TheBytes name place) c = c
 evidence_weaker A B A' B' f g Memory c = c
 evidence_weaker A B A' B' f g TheSource c = f c
 evidence_weaker A B A' B' f g TheSink c = c
@@ -254,6 +257,7 @@ module _ (whole rest : Script) (line : List ℕ) (e : Exchange) (parts : whole.b
     stops_later TheWords h = h
     stops_later TheDisk h = h
     stops_later TheFiles h = h
+    stops_later (TheBytes name place) h = h
     stops_later Memory h = h
     stops_later TheSource (fault, (given, others, split, told, at)) = (
       fault,
@@ -366,6 +370,14 @@ fault_counts g old new line result f before now failed by cause finishes = recor
       finishes.how);
 }
 
+-- what holds of the endings where a read met damage holds of the result
+pub at_damage : {K : Type 0} (g : sink.Ghosts K) (old new : K) (name : Name) (place : ℕ) (result : Ending) (P : Ending → Type 0) → EndsAtDamage g old new name place result
+    → P (Damaged name place) → P NoMemory → P WriteFault → P result
+at_damage g old new name place result P ends damage out cut = ⊎_elim
+    (λ (met : FinishesBy g old new (Damaged name place) result). or_cut g old new met.0 (Damaged name place) result P met.2 damage cut)
+    (λ (short : FinishesBy g old new NoMemory result). or_cut g old new short.0 NoMemory result P short.2 out cut)
+    ends
+
 -- no answer was cut, and the disk didn't fail
 abbrev pub LeavesDisk : Ending → Type 0
 LeavesDisk ending = (CutsAnswer ending → ⊥) × (culprit_of ending ≡ TheDisk → ⊥)
@@ -390,3 +402,17 @@ finish_counts g old new line ending result other f = ⊎_elim
     (λ (failed : (result ≡ WriteFault) × IsFront f.printed line × Rose (g.faults old) (g.faults new)).
     record { later = f.later; rose = λ _. failed.2; steady = λ other _. absurd (other (ap (λ (e : Ending). Some (culprit_of e)) failed.0)) })
     f.how
+
+-- where a read met damage, the sink counts its own faults, and the disk none
+pub damage_counts_sink : {K : Type 0} (g : sink.Ghosts K) (old new : K) (name : Name) (place : ℕ) (result : Ending) → EndsAtDamage g old new name place result
+    → CountsFaultsOf TheSink (Some result) (g.faults old) (g.faults new)
+damage_counts_sink g old new name place result ends = ⊎_elim
+    (λ (met : FinishesBy g old new (Damaged name place) result). finish_counts g old new met.0 (Damaged name place) result (λ e. cc) met.2)
+    (λ (short : FinishesBy g old new NoMemory result). finish_counts g old new short.0 NoMemory result (λ e. cc) short.2)
+    ends
+
+pub damage_counts : {K : Type 0} (g : sink.Ghosts K) (old new : K) (name : Name) (place : ℕ) (result : Ending) → EndsAtDamage g old new name place result
+    → (before now : ℕ) → now ≡ before → CountsFaultsOf TheDisk (Some result) before now
+damage_counts g old new name place result ends before now same =
+    subst (λ (n : ℕ). CountsFaultsOf TheDisk (Some result) before n) (sym same)
+    (counts_none TheDisk result before (at_damage g old new name place result (λ (e : Ending). culprit_of e ≢ TheDisk) ends (λ e. cc) (λ e. cc) (λ e. cc)))

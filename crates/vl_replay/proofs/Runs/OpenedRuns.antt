@@ -11,7 +11,7 @@ use Rattle.vl_script.specs.Script.{lines_of}
 use Rattle.vl_replay.specs.Sequential.{State}
 use Rattle.vl_replay.specs.Exchanges.{Exchange, KeepsUp, last_state}
 use Rattle.vl_model.specs.History.{Extends}
-use Rattle.vl_replay.specs.Between.{Showing}
+use Rattle.vl_replay.specs.Between.{Showing, Stopping}
 use Rattle.vl_replay.specs.Endings.{Culprit, TheDisk, TheSink, TheSource, CountsFaultsOf, Evidence, CutsAnswer, IsBetweenLines, culprit_of, last_line}
 use Rattle.vl_replay.specs.Runs.{Script, exchanges, next_number, Stops, Course, Outside, EvidenceOf, EndsRun}
 use Rattle.vl_replay.specs.Durable.{Holding, IsAsBefore, LeavesItsHistory, StaysShown, Tells, HoldsState, CrashesShow, GoesAlong, DiskEnds, DiskEndsFrom}
@@ -81,10 +81,10 @@ out_of_memory k old new how result (line, own, finishes) = or_cut k old new line
     of why.NoMemory e is = is
     of (why.Disk name) e is = cc
 
-module _ {D : Type 0} (g : Ghosts D) (watched : IsWatched g) (holds : Holding) (shows : Showing)
+module _ {D : Type 0} (g : Ghosts D) (watched : IsWatched g) (holds : Holding) (shows : Showing) (stops : Stopping)
     (stays : StaysShown shows) (exactly : LeavesItsHistory holds shows) (P : Type 0) (script : Script) (first end : Outside D) where
   abbrev pub SoFar : Course → Type 0
-  SoFar run = P → DiskEnds g holds shows (IsAsBefore g first.disk end.disk) (run.answered ≡ []) first.disk end.disk run
+  SoFar run = P → DiskEnds g holds shows stops (IsAsBefore g first.disk end.disk) (run.answered ≡ []) first.disk end.disk run
 
   -- nothing was opened
   pub ends_refused : (ending : Ending) → AnswersNothing ending → EndsBefore (EvidenceOf g first end) script end.left ending first.held end.held → KeepsUp script.bytes end.asked 0
@@ -101,11 +101,11 @@ module _ {D : Type 0} (g : Ghosts D) (watched : IsWatched g) (holds : Holding) (
         ends = before.ends;
         kept_up = kept_up;
         disk = λ p.
-            let through = goes_wider g watched holds shows stays exactly first.disk end.disk h h h most (extends_itself h) (exchanges_extend (lines_of script.bytes) script.start 1) (goes p) in
+            let through = goes_wider g watched holds shows stops stays exactly first.disk end.disk h h h most (extends_itself h) (exchanges_extend (lines_of script.bytes) script.start 1) (goes p) in
             record {
               crash_during = through;
               line_by_line = tt;
-              crash_after = at_end g watched holds shows stays exactly first.disk end.disk h most through (tells p);
+              crash_after = at_end g watched holds shows stops stays exactly first.disk end.disk h most through (tells p);
               without_fault = λ sound. inl (kept sound);
               no_memory = λ out. inl (kept_out out);
               between_lines = λ between. absurd (none between);
@@ -125,7 +125,7 @@ module _ {D : Type 0} (g : Ghosts D) (watched : IsWatched g) (holds : Holding) (
   along_opened mid new s most (e ∷ all) (suc m) extends goes steady (passed, line, later) = (
     passed,
     record {
-      before = goes_then g watched holds shows stays exactly first.disk mid passed s.history s.history e.after.history (extends_itself s.history) extends goes line.before;
+      before = goes_then g watched holds shows stops stays exactly first.disk mid passed s.history s.history e.after.history (extends_itself s.history) extends goes line.before;
       held = line.held;
       steady = line.steady ∙ steady;
       behind = line.behind;
@@ -135,7 +135,7 @@ module _ {D : Type 0} (g : Ghosts D) (watched : IsWatched g) (holds : Holding) (
 
   pub ends_opened : (mid : Outside D) (ending : Ending) → mid.source_faults ≡ first.source_faults → mid.held ≡ first.held → g.faults mid.disk ≡ g.faults first.disk
       → (P → HoldsState g holds script.start mid.disk) → (P → CrashesShow g shows first.disk mid.disk script.start.history script.start.history)
-      → EndsRun g (DiskEndsFrom g holds shows mid.disk end.disk script.start) script mid end ending
+      → EndsRun g (DiskEndsFrom g holds shows stops mid.disk end.disk script.start) script mid end ending
       → EndsRun g SoFar script first end ending
   ends_opened mid ending same_faults same_held steady opened goes run =
       let earlier : g.faults first.disk ≤ g.faults mid.disk = omega (arith, steady) in
@@ -153,7 +153,7 @@ module _ {D : Type 0} (g : Ghosts D) (watched : IsWatched g) (holds : Holding) (
             script end.left m ending run.printed run.ends;
         kept_up = run.kept_up;
         disk = λ p.
-            ends_later g watched holds shows stays exactly (IsAsBefore g first.disk end.disk) (take m all ≡ []) first.disk mid.disk end.disk ending s s (last_state s (take (suc m) all)) (take m all) (take m all)
+            ends_later g watched holds shows stops stays exactly (IsAsBefore g first.disk end.disk) (take m all ≡ []) first.disk mid.disk end.disk ending s s (last_state s (take (suc m) all)) (take m all) (take m all)
             (extends_itself s.history) (extends (suc m)) steady (goes p) (λ _ along. along_opened mid.disk end.disk s (last_state s (take (suc m) all)) all m (extends 1) (goes p) steady along) refl
             (run.disk (opened p));
       }

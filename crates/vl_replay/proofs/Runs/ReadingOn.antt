@@ -12,13 +12,14 @@ use Rattle.vl_recover.specs.declared.fails.OpenError.{OpenError}
 use Rattle.vl_script.specs.Script.{lines_of, text_of, longest_line}
 use Rattle.vl_script.specs.declared.answer.Answer.{Answer}
 use Rattle.vl_replay.specs.Exchanges.{KeepsUp, ended_lines}
-use Rattle.vl_replay.specs.Endings.{bad_line, line_number}
+use Rattle.vl_disk.specs.declared.name.Name.{Name}
+use Rattle.vl_replay.specs.Endings.{bad_line, damage_line, line_number}
 use Rattle.vl_replay.specs.Input.{ReadsLine}
 use Rattle.vl_replay.specs.Opening.{ending_unopened}
-use Rattle.vl_replay.specs.Reading.{IsLine, IsNoLine, Streams, TakesAnswers, TakesSome, BeginsBadly, ReadsInput, HasRead, ReadsOn, EndsBadly, AnswersText}
-use Rattle.vl_replay.specs.Steps.{Finishes, FinishesBy}
+use Rattle.vl_replay.specs.Reading.{IsLine, IsNoLine, Streams, TakesAnswers, TakesSome, BeginsBadly, BeginsWell, ReadsInput, HasRead, ReadsOn, EndsBadly, AnswersText}
+use Rattle.vl_replay.specs.Steps.{EndsAtDamage, Finishes, FinishesBy}
 use Rattle.vl_replay.specs.declared.ending.Ending.{Ending}
-use Rattle.vl_replay.specs.declared.ending.Ending.TheVariants.{Complete, BadLine, WriteFault}
+use Rattle.vl_replay.specs.declared.ending.Ending.TheVariants.{Complete, BadLine, Damaged, NoMemory, WriteFault}
 use Rattle.vl_replay.specs.declared.input.lines.Next.TheVariants.{Line as WholeLine, LastLine, TooLong}
 use Rattle.vl_replay.proofs.Runs.Ends.{ended_lines-line, keeps_up_after, takes_both, takes_nothing, or_cut}
 use Rattle.vl_replay.proofs.Runs.Lines.{lines_of-ended, lines_of-unended}
@@ -26,23 +27,30 @@ use Rattle.vl_replay.proofs.Runs.OpenedRuns.{of_unopened}
 
 -- ---- endings
 
--- neither complete nor at a bad line
-pub ends_otherwise : (by : Type 0) (count : ℕ) (ending : Ending) (held held' : Option (List ℕ)) → TakesSome held held' → ending ≢ Complete → ending ≢ BadLine → EndsBadly by count ending held held'
-ends_otherwise by count ending held held' taken some good = (taken, some, λ bad. absurd (good bad))
+-- neither complete, nor at a bad line, nor at damage
+abbrev pub IsOtherwise : Ending → Type 0
+IsOtherwise ending = (ending ≢ Complete) × (ending ≢ BadLine) × ((name : Name) (place : ℕ) → ending ≢ Damaged name place)
 
--- a last line that couldn't be put is neither
-pub finished_incomplete : {K : Type 0} (g : sink.Ghosts K) (old new : K) (line : List ℕ) (ending result : Ending) → ending ≢ Complete → ending ≢ BadLine → Finishes g old new line ending result → (result ≢ Complete) × (result ≢ BadLine)
-finished_incomplete g old new line ending result some good finishes = (
-  or_cut g old new line ending result (λ (e : Ending). e ≢ Complete) finishes some (λ e. cc),
-  or_cut g old new line ending result (λ (e : Ending). e ≢ BadLine) finishes good (λ e. cc),
-)
+pub ends_otherwise : (by met : Type 0) (count : ℕ) (ending : Ending) (held held' : Option (List ℕ)) → TakesSome held held' → IsOtherwise ending → EndsBadly by met count ending held held'
+ends_otherwise by met count ending held held' taken other = record {
+  some = taken;
+  incomplete = other.0;
+  bad = λ bad. absurd (other.1 bad);
+  damaged = λ name place is. absurd (other.2 name place is);
+}
+
+-- a last line that couldn't be put is none of them
+pub cut_otherwise : IsOtherwise WriteFault
+cut_otherwise = (λ e. cc, λ e. cc, λ name place e. cc)
+
+pub finished_otherwise : {K : Type 0} (g : sink.Ghosts K) (old new : K) (line : List ℕ) (ending result : Ending) → IsOtherwise ending → Finishes g old new line ending result → IsOtherwise result
+finished_otherwise g old new line ending result other finishes = or_cut g old new line ending result IsOtherwise finishes other cut_otherwise
 
 -- by a last line that is of something else
-pub finishes_otherwise : {K : Type 0} (g : sink.Ghosts K) (old new : K) (line : List ℕ) (ending result : Ending) (by : Type 0) (count : ℕ) → ending ≢ Complete → ending ≢ BadLine
-    → Finishes g old new line ending result → EndsBadly by count result (g.held old) (g.held new)
-finishes_otherwise g old new line ending result by count some good finishes =
-    let incomplete = finished_incomplete g old new line ending result some good finishes in
-    ends_otherwise by count result (g.held old) (g.held new) (finishes.printed, finishes.taken) incomplete.0 incomplete.1
+pub finishes_otherwise : {K : Type 0} (g : sink.Ghosts K) (old new : K) (line : List ℕ) (ending result : Ending) (by met : Type 0) (count : ℕ) → IsOtherwise ending
+    → Finishes g old new line ending result → EndsBadly by met count result (g.held old) (g.held new)
+finishes_otherwise g old new line ending result by met count other finishes =
+    ends_otherwise by met count result (g.held old) (g.held new) (finishes.printed, finishes.taken) (finished_otherwise g old new line ending result other finishes)
 
 bad_is_not_complete : BadLine ≢ Complete
 bad_is_not_complete e = cc
@@ -50,25 +58,67 @@ bad_is_not_complete e = cc
 cut_is_not_bad : WriteFault ≢ BadLine
 cut_is_not_bad e = cc
 
+complete_is_not_damage : (name : Name) (place : ℕ) → Complete ≢ Damaged name place
+complete_is_not_damage name place e = cc
+
 -- by the bad line
 pub finishes_badly : {K : Type 0} (g : sink.Ghosts K) (old new : K) (line : List ℕ) (result : Ending) (count : ℕ) → ((before : ℕ) → count ≡ line_number before → line ≡ bad_line (before + 1))
-    → Finishes g old new line BadLine result → EndsBadly (Unit {0}) count result (g.held old) (g.held new)
-finishes_badly g old new line result count text finishes = (
-  (finishes.printed, finishes.taken),
-  or_cut g old new line BadLine result (λ (e : Ending). e ≢ Complete) finishes bad_is_not_complete (λ e. cc),
-  λ bad. (
+    → Finishes g old new line BadLine result → EndsBadly (Unit {0}) ⊥ count result (g.held old) (g.held new)
+finishes_badly g old new line result count text finishes = record {
+  some = (finishes.printed, finishes.taken);
+  incomplete = or_cut g old new line BadLine result (λ (e : Ending). e ≢ Complete) finishes bad_is_not_complete (λ e. cc);
+  bad = λ bad. (
     tt,
     λ before counted. ⊎_elim
         (λ (whole : (result ≡ BadLine) × (finishes.printed ≡ line) × (g.faults new ≡ g.faults old)).
         subst (λ (p : List ℕ). Takes (g.held old) (g.held new) p) (whole.1 ∙ text before counted) finishes.taken)
         (λ (cut : (result ≡ WriteFault) × IsFront finishes.printed line × Rose (g.faults old) (g.faults new)). absurd (cut_is_not_bad (sym cut.0 ∙ bad)))
         finishes.how,
-  ),
-)
+  );
+  damaged = λ name place is. absurd (or_cut g old new line BadLine result (λ (e : Ending). e ≢ Damaged name place) finishes (λ e. cc) (λ e. cc) is);
+}
+
+-- by damage
+same_name : (m n : Name) (x y : ℕ) → Damaged m x ≡ Damaged n y → (m ≡ n) × (x ≡ y)
+same_name m n x y e = (cc, cc)
+
+some_line : (a b : List ℕ) → Some a ≡ Some b → a ≡ b
+some_line a b e = cc
+
+pub finishes_damaged : {K : Type 0} (g : sink.Ghosts K) (old new : K) (name : Name) (place : ℕ) (result : Ending) (by met : Type 0) (count : ℕ) → met
+    → EndsAtDamage g old new name place result → EndsBadly by met count result (g.held old) (g.held new)
+finishes_damaged g old new name place result by met count reason ends = ⊎_elim at_damage
+    (λ (out : FinishesBy g old new NoMemory result). finishes_otherwise g old new out.0 NoMemory result by met count (λ e. cc, λ e. cc, λ n x e. cc) out.2)
+    ends
+  where
+    cut_is_not_damage : (n : Name) (x : ℕ) → WriteFault ≢ Damaged n x
+    cut_is_not_damage n x e = cc
+
+    at_damage : FinishesBy g old new (Damaged name place) result → EndsBadly by met count result (g.held old) (g.held new)
+    at_damage (line, own, finishes) = record {
+      some = (finishes.printed, finishes.taken);
+      incomplete = or_cut g old new line (Damaged name place) result (λ (e : Ending). e ≢ Complete) finishes (λ e. cc) (λ e. cc);
+      bad = λ bad. absurd (or_cut g old new line (Damaged name place) result (λ (e : Ending). e ≢ BadLine) finishes (λ e. cc) (λ e. cc) bad);
+      damaged = λ n x is. (
+        reason,
+        ⊎_elim
+            (λ (whole : (result ≡ Damaged name place) × (finishes.printed ≡ line) × (g.faults new ≡ g.faults old)).
+            let same = same_name name n place x (sym whole.0 ∙ is) in
+            subst (λ (p : List ℕ). Takes (g.held old) (g.held new) p)
+            (whole.1 ∙ sym (some_line (damage_line name place) line own) ∙ ap (λ (m : Name). damage_line m place) same.0 ∙ ap (damage_line n) same.1) finishes.taken)
+            (λ (cut : (result ≡ WriteFault) × IsFront finishes.printed line × Rose (g.faults old) (g.faults new)). absurd (cut_is_not_damage n x (sym cut.0 ∙ is)))
+            finishes.how,
+      );
+    }
 
 -- a text that is none of the language has another reason as well
-pub ends_for : (by by' : Type 0) (count : ℕ) (ending : Ending) (held held' : Option (List ℕ)) → by' → EndsBadly by count ending held held' → EndsBadly by' count ending held held'
-ends_for by by' count ending held held' reason (taken, some, bad) = (taken, some, λ is. (reason, (bad is).1))
+pub ends_for : (by by' met met' : Type 0) (count : ℕ) (ending : Ending) (held held' : Option (List ℕ)) → (by → by') → (met → met') → EndsBadly by met count ending held held' → EndsBadly by' met' count ending held held'
+ends_for by by' met met' count ending held held' reason meets ends = record {
+  some = ends.some;
+  incomplete = ends.incomplete;
+  bad = λ is. let it = ends.bad is in (reason it.0, it.1);
+  damaged = λ name place is. let it = ends.damaged name place is in (meets it.0, it.1);
+}
 
 chosen_false : {A : Type 0} (b : Bool) (x y : A) → b ≡ false → cond b x y ≡ y
 chosen_false true x y e = absurd (cc)
@@ -79,10 +129,11 @@ pub too_long_is_none : (text : List ℕ) → longest_line < length text → IsNo
 too_long_is_none text long = chosen_false (nat_le (length text) longest_line) _ None (grind (arith, nat_tests))
 
 -- what was read of a line is too long
-pub ends_at_long : (had line buffer : List ℕ) (left : Option (List ℕ)) (count : ℕ) (ending : Ending) (held held' : Option (List ℕ)) → ReadsLine TooLong had line buffer left → EndsBadly (Unit {0}) count ending held held'
-    → EndsBadly (BeginsBadly (lines_of had)) count ending held held'
+pub ends_at_long : (had line buffer : List ℕ) (left : Option (List ℕ)) (count : ℕ) (ending : Ending) (held held' : Option (List ℕ)) → ReadsLine TooLong had line buffer left → EndsBadly (Unit {0}) ⊥ count ending held held'
+    → EndsBadly (BeginsBadly (lines_of had)) (BeginsWell (lines_of had)) count ending held held'
 ends_at_long had line buffer left count ending held held' (text, texts, lines, long) ends =
-    ends_for (Unit {0}) (BeginsBadly (lines_of had)) count ending held held' (text, texts, lines, too_long_is_none text long) ends
+    ends_for (Unit {0}) (BeginsBadly (lines_of had)) ⊥ (BeginsWell (lines_of had)) count ending held held'
+    (λ _. (text, texts, lines, too_long_is_none text long)) (λ never. absurd never) ends
 
 -- ---- runs under way
 
@@ -103,25 +154,26 @@ read_nothing input begin told kept_up = record {
 }
 
 -- a run that was never under way
-pub reads_nothing : (input : List ℕ) (old new : Streams) (ending : Ending) → TakesSome old.held new.held → ending ≢ Complete → ending ≢ BadLine → KeepsUp input new.asked 0 → ReadsInput input old new ending
-reads_nothing input old new ending (piece, taken) some good kept_up = record {
+pub reads_nothing : (input : List ℕ) (old new : Streams) (ending : Ending) → TakesSome old.held new.held → IsOtherwise ending → KeepsUp input new.asked 0 → ReadsInput input old new ending
+reads_nothing input old new ending (piece, taken) other kept_up = record {
   answered = [];
   others = lines_of input;
   lines_are = refl;
   of_language = tt;
   taken = (piece, ([], refl, taken));
-  complete = λ is. absurd (some is);
-  bad = λ is. absurd (good is);
+  complete = λ is. absurd (other.0 is);
+  bad = λ is. absurd (other.1 is);
+  damaged = λ name place is. absurd (other.2 name place is);
   kept_up = kept_up;
 }
 
 pub unopened_reads_nothing : {K : Type 0} (g : sink.Ghosts K) (old new : K) (how : OpenError) (result : Ending) → FinishesBy g old new (ending_unopened how) result → (input : List ℕ) (begin end : Streams) → (TakesSome (g.held old) (g.held new) → TakesSome begin.held end.held)
     → KeepsUp input end.asked 0 → ReadsInput input begin end result
 unopened_reads_nothing g old new how result (line, own, finishes) input begin end seen kept_up =
-    let incomplete = finished_incomplete g old new line (ending_unopened how) result
-    (of_unopened (λ (e : Ending). e ≢ Complete) (λ refusal e. cc) (λ e. cc) (λ e. cc) how)
-    (of_unopened (λ (e : Ending). e ≢ BadLine) (λ refusal e. cc) (λ e. cc) (λ e. cc) how) finishes in
-    reads_nothing input begin end result (seen (finishes.printed, finishes.taken)) incomplete.0 incomplete.1 kept_up
+    reads_nothing input begin end result (seen (finishes.printed, finishes.taken))
+    (finished_otherwise g old new line (ending_unopened how) result (of_unopened IsOtherwise
+    (λ refusal. (λ e. cc, λ e. cc, λ name place e. cc)) (λ e. cc, λ e. cc, λ name place e. cc) (λ e. cc, λ e. cc, λ name place e. cc) how) finishes)
+    kept_up
 
 all_and_one : (texts : List (List ℕ)) (text : List ℕ) → AllByRecursion IsLine texts → IsLine text → AllByRecursion IsLine (texts ++ (text ∷ []))
 all_and_one [] text all is = (is, tt)
@@ -142,17 +194,21 @@ module _ (input : List ℕ) (begin old new : Streams) (buffer : List ℕ) (count
   still (earlier, was, le) = let ends = h.ends_are in (earlier, was, omega arith)
 
   -- the run ended before it answered a line
-  pub reads_end : (ending : Ending) → KeepsUp had new.asked 0 → EndsBadly (BeginsBadly (lines_of had)) count ending old.held new.held → ReadsInput input begin new ending
-  reads_end ending kept_up (taken, some, bad) = record {
+  pub reads_end : (ending : Ending) → KeepsUp had new.asked 0 → EndsBadly (BeginsBadly (lines_of had)) (BeginsWell (lines_of had)) count ending old.held new.held → ReadsInput input begin new ending
+  reads_end ending kept_up ends = let taken = ends.some in record {
     answered = h.answered;
     others = lines_of had;
     lines_are = h.lines_are;
     of_language = h.of_language;
     taken = (taken.0, (h.answers, h.as_many, takes_both begin.held old.held new.held (flat_map text_of h.answers) taken.0 h.taken taken.1));
-    complete = λ is. absurd (some is);
-    bad = λ is. (
-      (bad is).0,
-      (h.answers, h.as_many, takes_both begin.held old.held new.held (flat_map text_of h.answers) (bad_line (so_many + 1)) h.taken ((bad is).1 so_many h.count_is)),
+    complete = λ is. absurd (ends.incomplete is);
+    bad = λ is. let bad = ends.bad is in (
+      bad.0,
+      (h.answers, h.as_many, takes_both begin.held old.held new.held (flat_map text_of h.answers) (bad_line (so_many + 1)) h.taken (bad.1 so_many h.count_is)),
+    );
+    damaged = λ name place is. let met = ends.damaged name place is in (
+      met.0,
+      (h.answers, h.as_many, takes_both begin.held old.held new.held (flat_map text_of h.answers) (damage_line name place) h.taken met.1),
     );
     kept_up = still kept_up;
   }
@@ -167,6 +223,7 @@ module _ (input : List ℕ) (begin old new : Streams) (buffer : List ℕ) (count
     taken = ([], all);
     complete = λ is. (refl, told, all);
     bad = λ is. absurd (bad_is_not_complete (sym is));
+    damaged = λ name place is. absurd (complete_is_not_damage name place is);
     kept_up = still kept_up;
   }
     where
@@ -196,8 +253,10 @@ module _ (input : List ℕ) (begin old new : Streams) (buffer : List ℕ) (count
         subst (λ (p : List ℕ). Takes begin.held new.held p) (answers_and_one h.answers answer)
         (takes_both begin.held old.held new.held (flat_map text_of h.answers) (text_of answer) h.taken taken)
 
-    begins_badly : (later : List (List ℕ)) (ending : Ending) → lines_of had ≡ line ∷ later → EndsBadly (IsNoLine line) count ending old.held new.held → EndsBadly (BeginsBadly (lines_of had)) count ending old.held new.held
-    begins_badly later ending lines (taken, some, bad) = (taken, some, λ is. ((line, later, lines, (bad is).0), (bad is).1))
+    begins_so : (later : List (List ℕ)) (ending : Ending) → lines_of had ≡ line ∷ later → EndsBadly (IsNoLine line) (IsLine line) count ending old.held new.held
+        → EndsBadly (BeginsBadly (lines_of had)) (BeginsWell (lines_of had)) count ending old.held new.held
+    begins_so later ending lines ends = ends_for (IsNoLine line) (BeginsBadly (lines_of had)) (IsLine line) (BeginsWell (lines_of had)) count ending old.held new.held
+        (λ none. (line, later, lines, none)) (λ is. (line, later, lines, is)) ends
 
     -- a line that was read with its end was answered, or the run ended there
     pub reads_line : (buffer' : List ℕ) (count' : ℕ) (result : Option Ending) → ((before : ℕ) → count ≡ line_number before → count' ≡ line_number (before + 1))
@@ -218,7 +277,7 @@ module _ (input : List ℕ) (begin old new : Streams) (buffer : List ℕ) (count
           kept_up = keeps_up_after had line later new.asked parts unended kept_up;
         }
     reads_line buffer' count' (Some ending) counted (rest, told, parts, unended) ends kept_up =
-        reads_end ending kept_up (begins_badly (lines_of (buffer' ++ rest)) ending (ap lines_of parts ∙ lines_of-ended line (buffer' ++ rest) unended) ends)
+        reads_end ending kept_up (begins_so (lines_of (buffer' ++ rest)) ending (ap lines_of parts ∙ lines_of-ended line (buffer' ++ rest) unended) ends)
 
     -- the last line was answered, and so the run is complete, or it ended there
     pub reads_last : (buffer' : List ℕ) (ended_by : Option Ending) (result : Ending) → result ≡ unwrap_or ended_by Complete → ReadsLine LastLine had line buffer' new.left
@@ -232,6 +291,7 @@ module _ (input : List ℕ) (begin old new : Streams) (buffer : List ℕ) (count
           taken = ([], all);
           complete = λ is_complete. (refl, told, all);
           bad = λ is_bad. absurd (bad_is_not_complete (sym is_bad));
+          damaged = λ name place is_damage. absurd (complete_is_not_damage name place is_damage);
           kept_up = still_more (still kept_up);
         })
       where
@@ -242,4 +302,4 @@ module _ (input : List ℕ) (begin old new : Streams) (buffer : List ℕ) (count
         still_more (earlier, was, le) = let n = one_more in (earlier, was, omega arith)
     reads_last buffer' (Some ending) result r (told, same, unended, some) ends kept_up =
         subst (λ (e : Ending). ReadsInput input begin new e) (sym r)
-        (reads_end ending kept_up (begins_badly [] ending (ap lines_of same ∙ lines_of-unended line unended some) ends))
+        (reads_end ending kept_up (begins_so [] ending (ap lines_of same ∙ lines_of-unended line unended some) ends))

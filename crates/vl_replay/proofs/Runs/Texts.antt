@@ -1,5 +1,5 @@
 -- What taking a text for a line does to the disk, and how a run ends there.
-use Rattle.std.proofs.Common.{◌≡◌, inr, ℕ, List, [], None, Some, Result, Ok, Err, OnOk, refl, sym, ◌∙◌, ap, subst}
+use Rattle.std.proofs.Common.{◌≡◌, inl, inr, ℕ, List, [], None, Some, Result, Ok, Err, OnOk, refl, sym, ◌∙◌, ap, subst}
 use Rattle.std.specs.Prelude.{IsOk, IsErr, IsErrAnd}
 use Rattle.std.specs.Option.{option_map}
 use Rattle.vl_disk.specs.declared.watched.Watched.{Ghosts}
@@ -15,7 +15,7 @@ use Rattle.vl_disk.specs.declared.name.Name.{Name}
 use Rattle.vl_replay.specs.Halts.{HaltsByDisk}
 use Rattle.vl_replay.specs.Endings.{CutsAnswer, IsBetweenLines, TheDisk, culprit_of, ending_at}
 use Rattle.vl_replay.specs.Durable.{HoldsState, HoldsCommits, LeadsTo, DiskEnds}
-use Rattle.vl_replay.specs.Stored.{IsStored, Shown}
+use Rattle.vl_replay.specs.Stored.{IsStopped, IsStored, Shown}
 use Rattle.vl_replay.specs.Steps.{Finishes}
 use Rattle.vl_replay.specs.declared.fails.Halt.{Halt}
 use Rattle.vl_replay.specs.declared.fails.Halt.TheVariants as why
@@ -23,7 +23,7 @@ use Rattle.vl_replay.specs.declared.ending.Ending.{Ending}
 use Rattle.vl_replay.specs.declared.ending.Ending.TheVariants.{NoMemory, AnswerCut}
 use Rattle.vl_replay.specs.declared.ending.OnFault.{OnFault}
 use Rattle.vl_replay.proofs.Runs.Ends.{at_fault, or_cut}
-use Rattle.vl_replay.proofs.Disk.DiskSteps.{IsWatched, text_extends, rests_until, it_holds, opens_again, ends_within, ends_unchanged}
+use Rattle.vl_replay.proofs.Disk.DiskSteps.{IsWatched, text_extends, rests_until, it_holds, its_commits, opens_again, ends_within, ends_unchanged}
 use Rattle.vl_replay.proofs.Disk.Logged.{shown_stays, stored_exactly}
 use Rattle.vl_replay.proofs.Store.Outcomes.{line_keeps}
 
@@ -71,31 +71,31 @@ module _ {D : Type 0} (g : Ghosts D) (watched : IsWatched g) (s : State) (text :
   behind = state_behind s (exchange_at s text)
 
   -- memory ran out before the text was looked at
-  pub carries_nothing : {T : Type 0} (disk : D) (result : Result T Halt) → IsErr result → (HaltsByDisk result → ⊥) → HoldsState g IsStored s disk → LeadsTo g IsStored Shown disk disk s behind result
+  pub carries_nothing : {T : Type 0} (disk : D) (result : Result T Halt) → IsErr result → (HaltsByDisk result → ⊥) → HoldsState g IsStored s disk → LeadsTo g IsStored Shown IsStopped disk disk s behind result
   carries_nothing disk result err sound held = record {
     answered = on_ok_at_err result _ err;
-    no_commit = λ _. it_holds g watched IsStored Shown shown_stays stored_exactly s disk held;
-    tells = opens_again g watched IsStored Shown shown_stays stored_exactly s disk held;
-    through = rests_until g watched IsStored Shown shown_stays stored_exactly s behind.history (text_extends s text) disk held;
+    no_commit = λ _. (s, refl, held.there);
+    tells = opens_again g watched IsStored Shown IsStopped shown_stays stored_exactly s disk held;
+    through = rests_until g watched IsStored Shown IsStopped shown_stays stored_exactly s behind.history (text_extends s text) disk held;
     stopped = λ by. absurd (sound by);
   }
 
   -- it is a bad line
-  pub carries_bad : {T : Type 0} (disk : D) (x : T) → exchange_at s text ≡ None → HoldsState g IsStored s disk → LeadsTo g IsStored Shown disk disk s behind (Ok x)
+  pub carries_bad : {T : Type 0} (disk : D) (x : T) → exchange_at s text ≡ None → HoldsState g IsStored s disk → LeadsTo g IsStored Shown IsStopped disk disk s behind (Ok x)
   carries_bad disk x bad held = record {
     answered = subst (λ (t : State). HoldsState g IsStored t disk) (sym (bad_behind s text bad)) held;
     no_commit = λ out. absurd (ok_not_out x out);
-    tells = opens_again g watched IsStored Shown shown_stays stored_exactly s disk held;
-    through = rests_until g watched IsStored Shown shown_stays stored_exactly s behind.history (text_extends s text) disk held;
+    tells = opens_again g watched IsStored Shown IsStopped shown_stays stored_exactly s disk held;
+    through = rests_until g watched IsStored Shown IsStopped shown_stays stored_exactly s behind.history (text_extends s text) disk held;
     stopped = λ by. absurd by;
   }
 
   module _ (old new : D) where
     -- the line was carried out, or failed
-    pub carries_line : {T U : Type 0} (line : Line) (carried : Result U Halt) (result : Result T Halt) → line_of text ≡ Some line → LeadsTo g IsStored Shown old new s (state_after s line) carried
-        → (IsOk result → IsOk carried) → (HaltsByDisk result → HaltsByDisk carried) → (result ≡ Err why.NoMemory → HoldsCommits g IsStored s new) → LeadsTo g IsStored Shown old new s behind result
+    pub carries_line : {T U : Type 0} (line : Line) (carried : Result U Halt) (result : Result T Halt) → line_of text ≡ Some line → LeadsTo g IsStored Shown IsStopped old new s (state_after s line) carried
+        → (IsOk result → IsOk carried) → (HaltsByDisk result → HaltsByDisk carried) → (result ≡ Err why.NoMemory → HoldsCommits g IsStored s new) → LeadsTo g IsStored Shown IsStopped old new s behind result
     carries_line line carried result spelled carries ok by_disk out =
-        subst (λ (t : State). LeadsTo g IsStored Shown old new s t result) (sym (line_behind s text line spelled)) (record {
+        subst (λ (t : State). LeadsTo g IsStored Shown IsStopped old new s t result) (sym (line_behind s text line spelled)) (record {
           answered = on_ok_if result carried _ ok carries.answered;
           no_commit = out;
           tells = carries.tells;
@@ -105,37 +105,39 @@ module _ {D : Type 0} (g : Ghosts D) (watched : IsWatched g) (s : State) (text :
 
     -- the answer to a line that makes no commit found no memory
     pub kept_without_number : (line : Line) (answer : Answer) → answer ≡ answer_to s line → ((n : ℕ) → answer ≡ Number n → ⊥) → HoldsState g IsStored (state_after s line) new → HoldsCommits g IsStored s new
-    kept_without_number line answer is none held = let kept = line_keeps s line (λ n numbered. none n (is ∙ numbered)) in (state_after s line, kept.history, kept.calls, kept.files, held)
+    kept_without_number line answer is none held = let kept = line_keeps s line (λ n numbered. none n (is ∙ numbered)) in (state_after s line, kept.history, held.there)
 
     -- ---- how a run ends there
 
     -- the sink failed within the answer
-    pub ends_cut : {T : Type 0} (result : Result T Halt) → IsOk result → LeadsTo g IsStored Shown old new s behind result → DiskEnds g IsStored Shown ⊥ ⊥ old new (record { ending = AnswerCut; first = s; answered = []; most = behind })
+    pub ends_cut : {T : Type 0} (result : Result T Halt) → IsOk result → LeadsTo g IsStored Shown IsStopped old new s behind result → DiskEnds g IsStored Shown IsStopped ⊥ ⊥ old new (record { ending = AnswerCut; first = s; answered = []; most = behind })
     ends_cut result ok carries =
-        let held = it_holds g watched IsStored Shown shown_stays stored_exactly behind new (of_ok result _ ok carries.answered) in
-        ends_within g watched IsStored Shown shown_stays stored_exactly old new AnswerCut s behind carries.through carries.tells (λ sound. inr held) (λ out. cc) (λ whole. absurd whole) (λ cuts. held) (λ fault. cc)
+        let held = it_holds g watched IsStored Shown IsStopped shown_stays stored_exactly behind new (of_ok result _ ok carries.answered) in
+        ends_within g watched IsStored Shown IsStopped shown_stays stored_exactly old new AnswerCut s behind carries.through carries.tells (λ sound. inr (its_commits g watched IsStored Shown IsStopped shown_stays stored_exactly behind new held)) (λ out. cc) (λ whole. absurd whole) (λ cuts. held) (λ fault. cc)
 
     -- it is a bad line, whatever could be put
-    pub ends_bad : {T : Type 0} (result : Result T Halt) (ending : Ending) → IsOk result → (culprit_of ending ≡ TheDisk → ⊥) → exchange_at s text ≡ None → LeadsTo g IsStored Shown old new s behind result
-        → DiskEnds g IsStored Shown ⊥ ⊥ old new (record { ending = ending; first = s; answered = []; most = behind })
+    pub ends_bad : {T : Type 0} (result : Result T Halt) (ending : Ending) → IsOk result → (culprit_of ending ≡ TheDisk → ⊥) → exchange_at s text ≡ None → LeadsTo g IsStored Shown IsStopped old new s behind result
+        → DiskEnds g IsStored Shown IsStopped ⊥ ⊥ old new (record { ending = ending; first = s; answered = []; most = behind })
     ends_bad result ending ok sound bad carries =
         let held = of_ok result _ ok carries.answered in
-        ends_unchanged g watched IsStored Shown shown_stays stored_exactly old new ending s behind carries.through carries.tells
-        (behind, ap (λ (t : State). t.history) (bad_behind s text bad), ap (λ (t : State). t.calls) (bad_behind s text bad), ap (λ (t : State). t.files) (bad_behind s text bad), held) (λ cuts. it_holds g watched IsStored Shown shown_stays stored_exactly behind new held) sound
+        ends_unchanged g watched IsStored Shown IsStopped shown_stays stored_exactly old new ending s behind carries.through carries.tells
+        (behind, ap (λ (t : State). t.history) (bad_behind s text bad), ap (λ (t : State). t.calls) (bad_behind s text bad), ap (λ (t : State). t.files) (bad_behind s text bad), held) (λ cuts. it_holds g watched IsStored Shown IsStopped shown_stays stored_exactly behind new held) sound
 
     -- memory ran out
     pub ends_out : {T K : Type 0} (k : sink.Ghosts K) (sink_old sink_new : K) (line : List ℕ) (result : Result T Halt) (ending : Ending) → result ≡ Err why.NoMemory → Finishes k sink_old sink_new line NoMemory ending
-        → LeadsTo g IsStored Shown old new s behind result → DiskEnds g IsStored Shown ⊥ ⊥ old new (record { ending = ending; first = s; answered = []; most = behind })
+        → LeadsTo g IsStored Shown IsStopped old new s behind result → DiskEnds g IsStored Shown IsStopped ⊥ ⊥ old new (record { ending = ending; first = s; answered = []; most = behind })
     ends_out k sink_old sink_new line result ending out finishes carries =
-        ends_unchanged g watched IsStored Shown shown_stays stored_exactly old new ending s behind carries.through carries.tells (carries.no_commit out)
+        let held = carries.no_commit out in
+        ends_within g watched IsStored Shown IsStopped shown_stays stored_exactly old new ending s behind carries.through carries.tells (λ sound. inl held) (λ _. held)
+        (λ whole. absurd (or_cut k sink_old sink_new line NoMemory ending (λ (e : Ending). IsBetweenLines (culprit_of e) → ⊥) finishes (λ never. never) (λ never. never) whole))
         (λ cuts. absurd (or_cut k sink_old sink_new line NoMemory ending (λ (e : Ending). CutsAnswer e → ⊥) finishes (λ e. cc) (λ e. cc) cuts))
-        (or_cut k sink_old sink_new line NoMemory ending (λ (e : Ending). culprit_of e ≡ TheDisk → ⊥) finishes (λ e. cc) (λ e. cc))
+        (λ fault. absurd (or_cut k sink_old sink_new line NoMemory ending (λ (e : Ending). culprit_of e ≡ TheDisk → ⊥) finishes (λ e. cc) (λ e. cc) fault))
 
     -- the disk failed
     pub ends_fault : {T K : Type 0} (k : sink.Ghosts K) (sink_old sink_new : K) (line : List ℕ) (result : Result T Halt) (f : OnFault) (ending : Ending) → Rose (g.faults old) (g.faults new) → HaltsByDisk result → Finishes k sink_old sink_new line (ending_at f) ending
-        → LeadsTo g IsStored Shown old new s behind result → DiskEnds g IsStored Shown ⊥ ⊥ old new (record { ending = ending; first = s; answered = []; most = behind })
+        → LeadsTo g IsStored Shown IsStopped old new s behind result → DiskEnds g IsStored Shown IsStopped ⊥ ⊥ old new (record { ending = ending; first = s; answered = []; most = behind })
     ends_fault k sink_old sink_new line result f ending rose by finishes carries =
-        ends_within g watched IsStored Shown shown_stays stored_exactly old new ending s behind carries.through carries.tells (λ sound. absurd (sound rose))
+        ends_within g watched IsStored Shown IsStopped shown_stays stored_exactly old new ending s behind carries.through carries.tells (λ sound. absurd (sound rose))
         (λ out. absurd (or_cut k sink_old sink_new line (ending_at f) ending (λ (e : Ending). e ≡ NoMemory → ⊥) finishes (at_fault (λ (e : Ending). e ≡ NoMemory → ⊥) (λ e. cc) (λ e. cc) f) (λ e. cc) out))
         (λ whole. absurd (or_cut k sink_old sink_new line (ending_at f) ending (λ (e : Ending). IsBetweenLines (culprit_of e) → ⊥) finishes (at_fault (λ (e : Ending). IsBetweenLines (culprit_of e) → ⊥) (λ never. never) (λ never. never) f) (λ never. never) whole))
         (λ cuts. absurd (or_cut k sink_old sink_new line (ending_at f) ending (λ (e : Ending). CutsAnswer e → ⊥) finishes (at_fault (λ (e : Ending). CutsAnswer e → ⊥) (λ e. cc) (λ e. cc) f) (λ e. cc) cuts))

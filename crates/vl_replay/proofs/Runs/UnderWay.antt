@@ -6,15 +6,13 @@ use Rattle.vl_disk.specs.Faults.{Rose}
 use Rattle.vl_io.specs.Sink.{Takes}
 use Rattle.vl_script.specs.Script.{text_of, lines_of}
 use Rattle.vl_replay.specs.Sequential.{State}
-use Rattle.vl_replay.specs.Represents.{Represents}
 use Rattle.vl_replay.specs.Exchanges.{Exchange, KeepsUp, last_state}
 use Rattle.vl_model.specs.History.{Extends}
-use Rattle.vl_replay.specs.Between.{Showing}
+use Rattle.vl_replay.specs.Between.{Showing, Stopping}
 use Rattle.vl_replay.specs.Endings.{Evidence}
 use Rattle.vl_replay.specs.Runs.{Script, script_of, exchanges, Outside, EvidenceOf, EndsSo, EndsRun}
 use Rattle.vl_replay.specs.Durable.{Holding, LeavesItsHistory, StaysShown, HoldsState, CrashesShow, GoesAlong, DiskEnds, DiskEndsFrom}
 use Rattle.vl_replay.specs.Steps.{Kept, kept, HasToDo, GoesOn}
-use Rattle.vl_replay.specs.declared.replayer.store.Store.{Store}
 use Rattle.vl_replay.specs.declared.ending.Ending.{Ending}
 use Rattle.vl_replay.specs.laws.Laws.{keeps_up_at_first}
 use Rattle.vl_replay.proofs.Disk.Betweens.{extends_itself, extends_then}
@@ -44,14 +42,14 @@ pub record UnderWay {D : Type 0} (g : Ghosts D) (holds : Holding) (shows : Showi
   pub later_state : (m : ℕ) → last_state rest.start (take m (exchanges rest)) ≡ last_state whole.start (take (m + rest.before) (exchanges whole))
   pub carried : HoldsState g holds whole.start begin.disk → Carried g holds shows begin.disk now.disk whole rest
 
-module _ {D : Type 0} (g : Ghosts D) (watched : IsWatched g) (holds : Holding) (shows : Showing)
+module _ {D : Type 0} (g : Ghosts D) (watched : IsWatched g) (holds : Holding) (shows : Showing) (stops : Stopping)
     (stays : StaysShown shows) (exactly : LeavesItsHistory holds shows) (start : State) (input : List ℕ) (begin : Outside D) where
   abbrev whole : Script
   whole = script_of start 0 input
 
-  pub begun : (store : Store) → Represents store start → begin.left ≡ Some input
-      → ((rest : List ℕ) → begin.left ≡ Some rest → (given : List ℕ) × (begin.asked ≡ Some (given ++ rest))) → UnderWay g holds shows whole begin begin (kept store [] 0)
-  begun store stands is since_asked =
+  pub begun : (stands_for : State → Type 0) → stands_for start → begin.left ≡ Some input
+      → ((rest : List ℕ) → begin.left ≡ Some rest → (given : List ℕ) × (begin.asked ≡ Some (given ++ rest))) → UnderWay g holds shows whole begin begin (kept stands_for [] 0)
+  begun stands_for stands is since_asked =
       let none : (m : ℕ) → m ≡ m + 0 = λ m. omega arith in
       record {
         rest = whole;
@@ -71,7 +69,7 @@ module _ {D : Type 0} (g : Ghosts D) (watched : IsWatched g) (holds : Holding) (
         later_state = λ m. ap (λ (n : ℕ). last_state start (take n (exchanges whole))) (none m);
         carried = λ held. record {
           held = held;
-          goes = rests g watched holds shows stays exactly start begin.disk held;
+          goes = rests g watched holds shows stops stays exactly start begin.disk held;
           along = λ new most m extends goes along. subst (λ (k : ℕ). GoesAlong g holds shows new most begin.disk start (take k (exchanges whole))) (none m) along;
         };
       }
@@ -109,19 +107,19 @@ module _ {D : Type 0} (g : Ghosts D) (watched : IsWatched g) (holds : Holding) (
               let moves = s.moves c.held in
               record {
                 held = moves.held;
-                goes = goes_then g watched holds shows stays exactly begin.disk now.disk next.disk start.history rest.start.history e.after.history u.extends step c.goes moves.through;
+                goes = goes_then g watched holds shows stops stays exactly begin.disk now.disk next.disk start.history rest.start.history e.after.history u.extends step c.goes moves.through;
                 along = λ new most k extends goes along.
                     subst (λ (j : ℕ). GoesAlong g holds shows new most begin.disk start (take j (exchanges whole))) (on k)
                     (c.along new most (suc k) (extends_then rest.start.history e.after.history most.history step extends)
-                    (goes_then g watched holds shows stays exactly now.disk next.disk new rest.start.history e.after.history most.history step extends moves.through goes)
+                    (goes_then g watched holds shows stops stays exactly now.disk next.disk new rest.start.history e.after.history most.history step extends moves.through goes)
                     (subst (λ (es : List Exchange). GoesAlong g holds shows new most now.disk rest.start (take (suc k) es)) (sym all)
-                    (next.disk, record { before = moves.through; held = it_holds g watched holds shows stays exactly e.after next.disk moves.held; steady = moves.steady; behind = goes }, along)));
+                    (next.disk, record { before = moves.through; held = it_holds g watched holds shows stops stays exactly e.after next.disk moves.held; steady = moves.steady; behind = goes }, along)));
               };
         }
 
     pub over : (ending : Ending) → begin.source_faults ≤ now.source_faults → g.faults now.disk ≡ g.faults begin.disk
-        → EndsRun g (DiskEndsFrom g holds shows now.disk next.disk rest.start) rest now next ending
-        → EndsRun g (DiskEndsFrom g holds shows begin.disk next.disk start) whole begin next ending
+        → EndsRun g (DiskEndsFrom g holds shows stops now.disk next.disk rest.start) rest now next ending
+        → EndsRun g (DiskEndsFrom g holds shows stops begin.disk next.disk start) whole begin next ending
     over ending earlier steady run =
         let earlier_disk : g.faults begin.disk ≤ g.faults now.disk = omega (arith, steady) in
         let m = run.answered in
@@ -143,7 +141,7 @@ module _ {D : Type 0} (g : Ghosts D) (watched : IsWatched g) (holds : Holding) (
           disk = λ held.
               let c = u.carried held in
               let extends = exchanges_extend (lines_of rest.bytes) rest.start (suc m) in
-              subst (λ (s : State). DiskEnds g holds shows ⊥ ⊥ begin.disk next.disk (record { ending = ending; first = start; answered = take (m + rest.before) (exchanges whole); most = s })) most_is
-              (ends_later g watched holds shows stays exactly ⊥ ⊥ begin.disk now.disk next.disk ending start rest.start most (take m (exchanges rest)) (take (m + rest.before) (exchanges whole))
+              subst (λ (s : State). DiskEnds g holds shows stops ⊥ ⊥ begin.disk next.disk (record { ending = ending; first = start; answered = take (m + rest.before) (exchanges whole); most = s })) most_is
+              (ends_later g watched holds shows stops stays exactly ⊥ ⊥ begin.disk now.disk next.disk ending start rest.start most (take m (exchanges rest)) (take (m + rest.before) (exchanges whole))
               u.extends extends steady c.goes (c.along next.disk most m extends) (u.later_state m) (run.disk c.held));
         }

@@ -32,7 +32,7 @@ use Rattle.vl_replay.specs.Endings.{no_memory_line}
 use Rattle.vl_replay.specs.Opened.{IsOpenedStore}
 use Rattle.vl_replay.specs.Opening.{AnswersOpening, IsFault, IsRefused, disk_behind, ending_unopened, why_of}
 use Rattle.vl_replay.specs.Reopens.{Reopens}
-use Rattle.vl_replay.specs.Represents.{Represents}
+use Rattle.vl_replay.specs.Replaying.{StandsFor, disk_of}
 use Rattle.vl_replay.specs.Sequential.{State}
 use Rattle.vl_replay.specs.Start.{IsDurable, OpensUpTo, StartsIn}
 use Rattle.vl_replay.specs.laws.StartLaws.{finds_nothing, gone_on_from, opens_up_to, reopened, started_durable, starts_empty}
@@ -77,14 +77,14 @@ module _ (stop : ℕ) (disk : MemDisk) (told : told_by disk ≡ Some empty_disk)
       (r : Result (Replayer MemDisk Held Reader Writer watched held cloned read write) (OpenFail MemDisk))
       → HasCause (faults_of disk) (faults_of (disk_behind r)) (IsFault (why_of r))
       → HoldsThroughout memory.ghosts disk (disk_behind r) (IsMeanwhile empty empty_disk)
-      → IfOk r (λ replayer. Represents replayer.store begun) → IfOk r (λ replayer. HoldsState memory.ghosts IsStored begun replayer.disk)
-      → IfOk r (λ replayer. IsOnTrial stop replayer.store replayer.disk)
+      → IfOk r (λ replayer. StandsFor replayer begun) → IfOk r (λ replayer. HoldsState memory.ghosts IsStored begun (disk_of replayer))
+      → IfOk r (λ replayer. IsOnTrial stop (StandsFor replayer) (disk_of replayer))
   opened (Ok replayer) cause meanwhile stands holds =
       let past_then = meanwhile.time.as_planned (Some stop) past in
       let sound_then : faults_of replayer.disk ≡ 0 = cause.steady (λ by. by) ∙ sound in
       let counts = counted_past replayer.disk (Some stop) past_then in
       record {
-        stands = stands;
+        stands_for = stands;
         held = holds;
         past = past_then;
         sound = sound_then;

@@ -1,6 +1,6 @@
 -- What a stop leaves of a disk: which history the image of its crash shows.
 use Rattle.std.proofs.Common.{◌≡◌, ⊎_elim, ℕ, ◌+◌, ◌<◌, ◌≤◌, List, [], ◌∷◌, ◌++◌, length, map, take, Option, Some, None, Ok, true, false, refl, sym, ◌∙◌, ap, subst, arith, length-append}
-use Rattle.std.specs.Prelude.{◌≢◌, ◌-◌, ◌/◌}
+use Rattle.std.specs.Prelude.{◌≢◌, ◌-◌, ◌/◌, nat_le}
 use Rattle.std.specs.FinMap.{get}
 use Rattle.std.specs.List.{AllByRecursion}
 use Rattle.std.specs.Option.{option_map}
@@ -42,8 +42,8 @@ use Rattle.vl_seglog.specs.LogReading.{IsLogFormat}
 use Rattle.vl_seglog.specs.laws.LogReadingLaws.{SaysFrames, reads_with_tail}
 use Rattle.vl_replay.specs.Reopens.{NamesUpTo, Reopens, commits_of, state_left}
 use Rattle.vl_replay.specs.Sequential.{State}
-use Rattle.vl_replay.specs.Stopped.{AreNumberedUpTo, Commits, GivesUpTo, IsStoppedIn, append_failed, append_passed, sync_failed, with_taken}
-use Rattle.vl_replay.specs.Stored.{IsStored, Shown, logs_of}
+use Rattle.vl_replay.specs.Stopped.{AreNumberedUpTo, Commits, GivesUpTo, append_failed, sync_failed, with_taken}
+use Rattle.vl_replay.specs.Stored.{IsStopped, IsStored, Shown, logs_of}
 use Rattle.vl_replay.specs.Writing.{written}
 use Rattle.vl_replay.proofs.Disk.Logged.{shown_by}
 use Rattle.vl_replay.proofs.Openings.NumbersLeft.{names_left, numbered_changed, numbers_left, reopens_by}
@@ -226,12 +226,6 @@ pub stored_opens : (s : State) (disk : DiskState) (stored : IsStored s disk) (im
 stored_opens s disk stored image may =
     held_opens stored.manifest (logs_of s stored.frozen stored.frames) (last_number s.history) disk stored.holds stored.numbers image may
 
--- The image of a crash shows the history of the state that its disk held.
-pub stored_shows : (s : State) (disk : DiskState) → IsStored s disk → (outcome : Outcome)
-    → Shown (crash_image outcome disk) s.history (last_number s.history)
-stored_shows s disk stored outcome = held_shows s disk stored (crash_image outcome disk)
-    (stored_opens s disk stored (crash_image outcome disk) (crash_left outcome disk stored.lawful))
-
 module _ (before after : State) (commits : Commits IsStored before after) where
   abbrev old : DiskState
   old = commits.old
@@ -271,32 +265,6 @@ module _ (before after : State) (commits : Commits IsStored before after) where
       (crash_image Kept (with_taken commits (length commits.frame)))
   sync_failed_kept = stored_opens after (written (Log number) commits.frame old) commits.done
       (crash_image Kept (with_taken commits (length commits.frame))) (kept_left (Log number) (with_taken commits (length commits.frame)))
-
--- Behind a stop in a commit the image shows the commits before it, or with it where its append passed and all is kept.
-pub stopped_shows : (before after : State) (now : DiskState) (stopped : IsStoppedIn IsStored before after now) (outcome : Outcome)
-    → Shown (crash_image outcome now) (state_left outcome (append_passed stopped) before after).history
-    (last_number (state_left outcome (append_passed stopped) before after).history)
-stopped_shows before after now (append_failed commits is) outcome =
-    subst (λ (s : State). Shown (crash_image outcome now) s.history (last_number s.history)) (of outcome)
-    (subst (λ (d : DiskState). Shown (crash_image outcome d) before.history (last_number before.history)) (sym is)
-    (held_shows before commits.old commits.held (crash_image outcome (with_taken commits 0)) (append_failed_opens before after commits outcome)))
-  where
-    of : (o : Outcome) → before ≡ state_left o false before after
-    of Lost = refl
-    of Kept = refl
-    of Halved = refl
-stopped_shows before after now (sync_failed commits is) outcome =
-    subst (λ (d : DiskState). Shown (crash_image outcome d) (state_left outcome true before after).history
-    (last_number (state_left outcome true before after).history)) (sym is) (of outcome)
-  where
-    all : DiskState
-    all = with_taken commits (length commits.frame)
-
-    of : (o : Outcome) → Shown (crash_image o all) (state_left o true before after).history (last_number (state_left o true before after).history)
-    of Lost = held_shows before commits.old commits.held (crash_image Lost all) (sync_failed_lost before after commits)
-    of Kept = held_shows after (written (Log before.log.number) commits.frame commits.old) commits.done (crash_image Kept all)
-        (sync_failed_kept before after commits)
-    of Halved = held_shows before commits.old commits.held (crash_image Halved all) (sync_failed_halved before after commits)
 
 -- ---- numbers that are left
 
@@ -357,22 +325,23 @@ module _ (before after : State) (commits : Commits IsStored before after) (n : �
 
 -- Behind a stop in a commit the image opens again, showing the commits before it, or with it where its append passed and all
 -- is kept.
-pub stopped_reopens : (before after : State) (now : DiskState) (stopped : IsStoppedIn IsStored before after now) (outcome : Outcome)
-    (n k : ℕ) → n + 2 ≤ max_file_number → k + 2 ≤ max_file_number
+pub stopped_reopens : (before after : State) (passed : ℕ) (now : DiskState) (stopped : IsStopped before after passed now)
+    (outcome : Outcome) (n k : ℕ) → n + 2 ≤ max_file_number → k + 2 ≤ max_file_number
     → AreNumberedUpTo n (commits_of stopped).old → GivesUpTo n (commits_of stopped).held.manifest
     → AreNumberedUpTo k (written (Log before.log.number) (commits_of stopped).frame (commits_of stopped).old)
-    → GivesUpTo k (commits_of stopped).done.manifest → let s = state_left outcome (append_passed stopped) before after in
+    → GivesUpTo k (commits_of stopped).done.manifest → let s = state_left outcome (nat_le 1 passed) before after in
     Reopens (crash_image outcome now) s.history (last_number s.history)
-stopped_reopens before after now (append_failed commits is) outcome n k fits fits_after numbered gives numbered_after gives_after =
-    subst (λ (s : State). Reopens (crash_image outcome now) s.history (last_number s.history)) (of outcome)
+stopped_reopens before after passed now (append_failed commits none is) outcome n k fits fits_after numbered gives numbered_after gives_after =
+    subst (λ (m : ℕ). let s = state_left outcome (nat_le 1 m) before after in Reopens (crash_image outcome now) s.history (last_number s.history)) (sym none)
+    (subst (λ (s : State). Reopens (crash_image outcome now) s.history (last_number s.history)) (of outcome)
     (subst (λ (d : DiskState). Reopens (crash_image outcome d) before.history (last_number before.history)) (sym is)
-    (append_failed_reopens before after commits n fits numbered gives outcome))
+    (append_failed_reopens before after commits n fits numbered gives outcome)))
   where
     of : (o : Outcome) → before ≡ state_left o false before after
     of Lost = refl
     of Kept = refl
     of Halved = refl
-stopped_reopens before after now (sync_failed commits is) outcome n k fits fits_after numbered gives numbered_after gives_after =
-    subst (λ (d : DiskState). Reopens (crash_image outcome d) (state_left outcome true before after).history
-    (last_number (state_left outcome true before after).history)) (sym is)
-    (sync_failed_reopens before after commits n fits numbered gives k fits_after numbered_after gives_after outcome)
+stopped_reopens before after passed now (sync_failed commits one is) outcome n k fits fits_after numbered gives numbered_after gives_after =
+    subst (λ (m : ℕ). let s = state_left outcome (nat_le 1 m) before after in Reopens (crash_image outcome now) s.history (last_number s.history)) (sym one)
+    (subst (λ (d : DiskState). let s = state_left outcome true before after in Reopens (crash_image outcome d) s.history (last_number s.history)) (sym is)
+    (sync_failed_reopens before after commits n fits numbered gives k fits_after numbered_after gives_after outcome))

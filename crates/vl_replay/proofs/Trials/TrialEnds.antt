@@ -23,7 +23,7 @@ use Rattle.vl_replay.specs.Steps.{EndsUnopened, Finishes}
 use Rattle.vl_replay.specs.Trial.{EndsTrial, IsLastFront, ReachesEnd, TakesFirst, Trial, exchanges_unstopped, answered_lines, answered_state, at_stop, before_stop, begun, reopened_state, state_behind_stop, trial_text}
 use Rattle.vl_replay.specs.Trying.{ComesTo, LeavesToOpen, ReopensAs, StopsOpening, trial_of}
 use Rattle.vl_replay.specs.declared.ending.Ending.{Ending}
-use Rattle.vl_replay.specs.declared.ending.Ending.TheVariants.{Complete, BadLine, BadWords, DiskFault, Refused, NoMemory, ReadFault, WriteFault, AnswerCut, Stopped}
+use Rattle.vl_replay.specs.declared.ending.Ending.TheVariants.{Complete, BadLine, BadWords, DiskFault, Refused, Damaged, NoMemory, ReadFault, WriteFault, AnswerCut, Stopped}
 use Rattle.vl_replay.proofs.Runs.Ends.{or_cut, takes_both, takes_nothing}
 use Rattle.vl_replay.proofs.Trials.TrialLines.{chosen_false, is_past}
 use Rattle.vl_replay.proofs.Runs.Refusals.{fault_for}
@@ -178,6 +178,7 @@ ends_so t held held' left disk BadLine comes whole silent o = comes o
 ends_so t held held' left disk BadWords comes whole silent o = absurd comes
 ends_so t held held' left disk DiskFault comes whole silent o = absurd comes
 ends_so t held held' left disk (Refused refusal) comes whole silent o = absurd comes
+ends_so t held held' left disk (Damaged name place) comes whole silent o = absurd comes
 ends_so t held held' left disk NoMemory comes whole silent o = comes o
 ends_so t held held' left disk ReadFault comes whole silent o = comes o
 ends_so t held held' left disk WriteFault comes whole silent o = comes o
@@ -191,6 +192,7 @@ not_the_disk BadLine fault silent e = cc
 not_the_disk BadWords fault silent e = cc
 not_the_disk DiskFault fault silent e = fault refl
 not_the_disk (Refused refusal) fault silent e = cc
+not_the_disk (Damaged name place) fault silent e = cc
 not_the_disk NoMemory fault silent e = cc
 not_the_disk ReadFault fault silent e = cc
 not_the_disk WriteFault fault silent e = cc

@@ -1,7 +1,8 @@
 -- What the run of a trial came to, by what it did to its disk.
-use Rattle.std.proofs.Common.{◌≡◌, ⊎_elim, inr, ℕ, suc, ◌+◌, ◌-◌, ◌^◌, ◌<◌, ◌≤◌, Bool, List, [], ◌∷◌, ◌++◌, length, take, Some, None, IsTrue, refl, sym, ◌∙◌, ap, subst, arith, append-nil}
+use Rattle.std.proofs.Common.{◌≡◌, ⊎_elim, inr, ℕ, zero, suc, min, ◌+◌, ◌-◌, ◌^◌, ◌<◌, ◌≤◌, Bool, List, [], ◌∷◌, ◌++◌, length, take, Some, None, refl, sym, ◌∙◌, ap, subst, arith, append-nil}
 use Rattle.std.specs.Prelude.{Option, nat_le}
 use Rattle.std.specs.List.{AllByRecursion, slice_get}
+use Rattle.std.proofs.lemmas.Bool.Decides.{nat_tests}
 use Rattle.std.proofs.lemmas.List.{take_all}
 use Rattle.vl_disk.specs.DiskState.{DiskState}
 use Rattle.vl_disk.specs.Faults.{Rose, after_calls}
@@ -15,23 +16,20 @@ use Rattle.vl_mem.specs.declared.outcome.Outcome.{Outcome}
 use Rattle.vl_model.specs.History.{History, last_number}
 use Rattle.vl_model.specs.Limits.{max_file_number}
 use Rattle.vl_script.specs.Script.{lines_of}
-use Rattle.vl_replay.specs.Durable.{DiskEnds, DiskEndsFrom, GoesAlong, HoldsCommits, StopsWithin}
+use Rattle.vl_replay.specs.Durable.{DiskEnds, DiskEndsFrom, GoesAlong, HoldsCounted, StopsWithin}
 use Rattle.vl_replay.specs.Endings.{CountsFaultsOf, EndsAs, TheDisk, bad_line, last_line, no_memory_line, read_fault_line}
 use Rattle.vl_replay.specs.Exchanges.{Exchange, answers_text, last_state}
 use Rattle.vl_replay.specs.Reopens.{Reopens, commits_of, state_left}
 use Rattle.vl_replay.specs.Runs.{EndsRun, Outside, Script, course, exchanges, script_of}
 use Rattle.vl_replay.specs.Sequential.{State}
-use Rattle.vl_replay.specs.Stopped.{IsStoppedIn, append_failed, append_passed, calls_until, sync_failed}
-use Rattle.vl_replay.specs.Stored.{IsStored, Shown}
+use Rattle.vl_replay.specs.Stored.{IsStopped, IsStored, Shown}
 use Rattle.vl_replay.specs.Trial.{MeetsStop, TakesFirst, Trial, answered_lines, at_stop, before_stop, begun, reopened_state, state_behind_stop, stopped_line}
 use Rattle.vl_replay.specs.Trying.{ComesTo, IsOnTrial, trial_of}
-use Rattle.vl_replay.specs.Writing.{PassedOne}
 use Rattle.vl_replay.specs.declared.ending.Ending.{Ending}
-use Rattle.vl_replay.specs.declared.ending.Ending.TheVariants.{Complete, BadLine, BadWords, DiskFault, Refused, NoMemory, ReadFault, WriteFault, AnswerCut, Stopped}
+use Rattle.vl_replay.specs.declared.ending.Ending.TheVariants.{Complete, BadLine, BadWords, DiskFault, Refused, Damaged, NoMemory, ReadFault, WriteFault, AnswerCut, Stopped}
 use Rattle.vl_replay.specs.declared.ending.OnFault.TheVariants.{Stop}
-use Rattle.vl_replay.specs.declared.replayer.store.Store.{Store}
 use Rattle.vl_replay.proofs.Trials.StoppedLaws.{stopped_reopens, stored_reopens}
-use Rattle.vl_replay.proofs.Trials.TrialLines.{Passes, all_next, before_all, before_front, before_get, before_met, chosen_true, is_past, is_within, last_files, last_next, last_within, none_next}
+use Rattle.vl_replay.proofs.Trials.TrialLines.{Passes, all_next, before_all, before_front, before_get, before_met, chosen_true, is_within, last_files, last_next, last_within, none_next}
 
 some_state : (a b : DiskState) → Some a ≡ Some b → a ≡ b
 some_state a b e = cc
@@ -39,10 +37,18 @@ some_state a b e = cc
 none_some : {X : Type 0} (x : X) → None ≡ Some x → ⊥
 none_some x e = cc
 
+-- how many changing calls are counted
+calls_counted : (n count : ℕ) → count ≤ 2 ^ 64 - 1 → after_calls n count ≡ min (count + n) (2 ^ 64 - 1)
+calls_counted zero count small = omega (arith, small)
+calls_counted (suc n) count small = let so_far = calls_counted n count small in omega (arith, so_far, small)
+
+some_left : (a b : ℕ) → nat_le (a + 1) (a + b) ≡ nat_le 1 b
+some_left a b = grind (arith, nat_tests)
+
 -- ---- disks
 
 -- what a crash leaves of a disk that holds the commits of a state opens showing the last of them
-pub holds_reopens : (s : State) (disk : MemDisk) → HoldsCommits memory.ghosts IsStored s disk → s.files + 2 ≤ max_file_number
+pub holds_reopens : (s : State) (disk : MemDisk) → HoldsCounted memory.ghosts IsStored s disk → s.files + 2 ≤ max_file_number
     → (outcome : Outcome) → Reopens (crash_image outcome (state_of disk)) s.history (last_number s.history)
 holds_reopens s disk (u, history, calls, files, held) fits outcome =
     let (state, told, stored) = held.there in
@@ -68,7 +74,7 @@ module _ (stop : ℕ) where
 
 -- ---- the run
 
-module _ (stop : ℕ) (small : stop < 2 ^ 64 - 3) (input : List ℕ) (store : Store) (old new : Outside MemDisk) (trial : IsOnTrial stop store old.disk) where
+module _ (stop : ℕ) (small : stop < 2 ^ 64 - 3) (input : List ℕ) (stands : State → Type 0) (old new : Outside MemDisk) (trial : IsOnTrial stop stands old.disk) where
   abbrev script : Script
   script = script_of begun 0 input
 
@@ -79,7 +85,7 @@ module _ (stop : ℕ) (small : stop < 2 ^ 64 - 3) (input : List ℕ) (store : St
   t = trial_of stop input
 
   abbrev Run : Ending → Type 0
-  Run ending = EndsRun memory.ghosts (DiskEndsFrom memory.ghosts IsStored Shown old.disk new.disk begun) script old new ending
+  Run ending = EndsRun memory.ghosts (DiskEndsFrom memory.ghosts IsStored Shown IsStopped old.disk new.disk begun) script old new ending
 
   answered_is : (o : Outcome) → answered_lines (t o) ≡ before_stop stop es
   answered_is o = chosen_true (nat_le begun.calls stop) (before_stop stop es) [] (is_within begun.calls stop trial.opened)
@@ -91,7 +97,7 @@ module _ (stop : ℕ) (small : stop < 2 ^ 64 - 3) (input : List ℕ) (store : St
     abbrev m : ℕ
     m = run.answered
 
-    abbrev ends : DiskEnds memory.ghosts IsStored Shown ⊥ ⊥ old.disk new.disk (course script run.answered ending)
+    abbrev ends : DiskEnds memory.ghosts IsStored Shown IsStopped ⊥ ⊥ old.disk new.disk (course script run.answered ending)
     ends = run.disk trial.held
 
     abbrev last : State
@@ -159,35 +165,29 @@ module _ (stop : ℕ) (small : stop < 2 ^ 64 - 3) (input : List ℕ) (store : St
           ∙ ap (last_state begun) (all_answered o ∙ sym every)
 
     -- where a line met the stop
-    module _ (stops : StopsWithin memory.ghosts IsStored last most old.disk new.disk) (rose : Rose (faults_of old.disk) (faults_of new.disk)) where
+    module _ (stops : StopsWithin memory.ghosts IsStopped last most old.disk new.disk) (rose : Rose (faults_of old.disk) (faults_of new.disk)) where
       failed : 1 ≤ faults_of new.disk
       failed = omega (arith, rose, trial.sound)
 
-      counted : (calls : ℕ) → memory.ghosts.calls new.disk ≡ calls → calls ≤ last.calls + 2 → stop < calls
-      counted calls is few =
-          let exactly = (counted_past new.disk (Some stop) past).exactly (omega (arith, is, few, within, small)) in
-          omega (arith, exactly, failed, is)
+      small_last : last.calls ≤ 2 ^ 64 - 1
+      small_last = omega (arith, within, small)
+
+      -- as many of its calls passed as were left
+      left : last.calls + stops.passed ≡ stop
+      left =
+          let some = stops.has_passed in
+          let before = (counted_past some.mid (Some stop) (some.as_planned (Some stop) trial.past)).at_least in
+          let at_most : last.calls + stops.passed ≤ stop =
+          omega (arith, before, some.counted, some.steady, trial.sound, small, calls_counted stops.passed last.calls small_last) in
+          let exactly = (counted_past new.disk (Some stop) past).exactly
+          (omega (arith, at_most, small, stops.calls, calls_counted (suc stops.passed) last.calls small_last)) in
+          omega (arith, exactly, failed, at_most, small, stops.calls, calls_counted (suc stops.passed) last.calls small_last)
 
       met : stop < most.calls
-      met = of stops.stopped stops.calls
-        where
-          of : (stopped : IsStoppedIn IsStored last most stops.now) → memory.ghosts.calls new.disk ≡ after_calls (calls_until stopped) last.calls → stop < most.calls
-          of (append_failed commits is) calls =
-              let lt = counted (after_calls 1 last.calls) calls (omega arith) in omega (arith, lt, within, small, stops.both)
-          of (sync_failed commits is) calls =
-              let lt = counted (after_calls 2 last.calls) calls (omega arith) in omega (arith, lt, within, small, stops.both)
+      met = omega (arith, left, small, stops.more, stops.all_counted, calls_counted stops.all last.calls small_last)
 
-      passed_is : nat_le (last.calls + 1) stop ≡ append_passed stops.stopped
-      passed_is = of stops.stopped stops.calls stops.passed
-        where
-          of : (stopped : IsStoppedIn IsStored last most stops.now) → memory.ghosts.calls new.disk ≡ after_calls (calls_until stopped) last.calls
-              → (IsTrue (append_passed stopped) → PassedOne memory.ghosts old.disk (after_calls 1 last.calls)) → nat_le (last.calls + 1) stop ≡ append_passed stopped
-          of (append_failed commits is) calls passed =
-              let lt = counted (after_calls 1 last.calls) calls (omega arith) in is_past (last.calls + 1) stop (omega (arith, lt, within, small))
-          of (sync_failed commits is) calls passed =
-              let one = passed refl in
-              let counts = counted_past one.mid (Some stop) (one.as_planned (Some stop) trial.past) in
-              is_within (last.calls + 1) stop (omega (arith, counts.at_least, one.counted, one.steady, trial.sound, within, small))
+      passed_is : nat_le (last.calls + 1) stop ≡ nat_le 1 stops.passed
+      passed_is = ap (nat_le (last.calls + 1)) (sym left) ∙ some_left last.calls stops.passed
 
       line : (e : Exchange) × (slice_get es m ≡ Some e) × (most ≡ e.after)
       line = of (slice_get es m) refl
@@ -205,7 +205,7 @@ module _ (stop : ℕ) (small : stop < 2 ^ 64 - 3) (input : List ℕ) (store : St
       stop_answered : (o : Outcome) → take m es ≡ answered_lines (t o)
       stop_answered o = sym (answered_is o ∙ parted.0)
 
-      stop_state : (o : Outcome) → reopened_state (t o) ≡ state_left o (append_passed stops.stopped) last most
+      stop_state : (o : Outcome) → reopened_state (t o) ≡ state_left o (nat_le 1 stops.passed) last most
       stop_state o =
           ap (state_behind_stop o stop (last_state begun (answered_lines (t o)))) (stopped_is o ∙ parted.1)
           ∙ ap (λ (xs : List Exchange). state_behind_stop o stop (last_state begun xs) (Some line.0)) (sym (stop_answered o))
@@ -216,11 +216,11 @@ module _ (stop : ℕ) (small : stop < 2 ^ 64 - 3) (input : List ℕ) (store : St
       stop_reopens o =
           let commits = commits_of stops.stopped in
           let here : state_of new.disk ≡ stops.now = some_state (state_of new.disk) stops.now stops.told in
-          let again = stopped_reopens last most stops.now stops.stopped o last.files most.files last_fits most_fits
+          let again = stopped_reopens last most stops.passed stops.now stops.stopped o last.files most.files last_fits most_fits
           commits.held.numbered commits.held.next commits.done.numbered commits.done.next in
           subst (λ (s : State). Reopens (crash_image o (state_of new.disk)) s.history (last_number s.history)) (sym (stop_state o))
-          (subst (λ (d : DiskState). Reopens (crash_image o d) (state_left o (append_passed stops.stopped) last most).history
-          (last_number (state_left o (append_passed stops.stopped) last most).history)) (sym here) again)
+          (subst (λ (d : DiskState). Reopens (crash_image o d) (state_left o (nat_le 1 stops.passed) last most).history
+          (last_number (state_left o (nat_le 1 stops.passed) last most).history)) (sym here) again)
 
   -- ---- by its ending
 
@@ -252,6 +252,7 @@ module _ (stop : ℕ) (small : stop < 2 ^ 64 - 3) (input : List ℕ) (store : St
       not_so : ◌≡◌ {A = Option Ending} (Some DiskFault) (Some Stopped) → ⊥
       not_so e = cc
   comes (Refused refusal) run as_meant counts rest told = absurd run.ends.puts.0
+  comes (Damaged name place) run as_meant counts rest told = absurd run.ends.puts.0
   comes NoMemory run as_meant counts rest told = λ o. (run.answered, takes_first NoMemory run o no_memory_line run.ends.puts.1)
   comes ReadFault run as_meant counts rest told = λ o. (run.answered, takes_first ReadFault run o read_fault_line run.ends.puts.1)
   comes WriteFault run as_meant counts rest told =
@@ -278,7 +279,7 @@ module _ (stop : ℕ) (small : stop < 2 ^ 64 - 3) (input : List ℕ) (store : St
       )
   comes Stopped run as_meant counts rest told = ⊎_elim
       (λ (never : ⊥). absurd never)
-      (λ (stops : StopsWithin memory.ghosts IsStored (last Stopped run) (most Stopped run) old.disk new.disk).
+      (λ (stops : StopsWithin memory.ghosts IsStopped (last Stopped run) (most Stopped run) old.disk new.disk).
       let rose = counts.rose refl in (
         meets Stopped run stops rose,
         (rest, told),

@@ -15,7 +15,7 @@ use Rattle.vl_model.specs.declared.change.Change.{Change}
 use Rattle.vl_model.specs.declared.change.Change.TheVariants.{Set as Put, Delete}
 use Rattle.vl_replay.specs.Sequential.{Handle, OpenTransaction, OpenView, State, Outcome, with_handle, without_handle, opened, found, read, read_in_transaction, with_tag, is_lawful_write, written, committed, dropped, after_commit, bytes_in_log, fits_transaction, state_after}
 use Rattle.vl_script.specs.Script.{line_of}
-use Rattle.vl_replay.specs.Exchanges.{exchanged, exchanges_from, and_later, IsExplainedExchange, AreExplained, ended_lines, KeepsUp}
+use Rattle.vl_replay.specs.Exchanges.{exchanged, exchanges_from, and_later, read_at, ReadsAt, IsExplainedExchange, AreExplained, ended_lines, KeepsUp}
 use Rattle.vl_script.specs.declared.line.Line.{Line}
 use Rattle.vl_script.specs.declared.line.Line.TheVariants.{Begin, View, Get, Set, SetTagged, GetTagged, Delete as DeleteLine, Commit, Drop}
 use Rattle.vl_script.specs.declared.answer.Answer.{Answer}
@@ -170,7 +170,7 @@ same_reads : (h : History) (writes : Writes) (n : ℕ) (reads : List Read) → n
 same_reads h writes n [] le p = tt
 same_reads h writes n (x ∷ reads) le p = (same_read h writes n x le p.0, same_reads h writes n reads le p.1)
 
--- a view's answer is that at its number
+-- a view's answer is that at its number,
 abbrev answer_in : Outcome → Answer
 answer_in r = r.0
 
@@ -178,29 +178,41 @@ answer_by : (s : State) (b : Bool) (x y : Answer) → answer_in (cond b (x, s) (
 answer_by s true x y = refl
 answer_by s false x y = refl
 
-view_read : (s : State) (name key : List ℕ) (number : ℕ) (o : Option Handle) → o ≡ Some (OpenView number) → (read s name key o).0 ≡ cond (is_key_length (length key)) (found (value_at s.history number key)) Invalid
-view_read s name key number o is = ap (λ (o : Option Handle). (read s name key o).0) is ∙ answer_by s (is_key_length (length key)) (found (value_at s.history number key)) Invalid
+-- and so is that of a transaction which hasn't written the key
+noted_read : (s : State) (name key : List ℕ) (n : ℕ) (reads : List Read) (writes : Writes) (b : Bool) (o : Option Change) → o ≡ None
+    → (cond b (read_in_transaction s name key n reads writes o) (Invalid, s)).0 ≡ cond b (found (value_at s.history n key)) Invalid
+noted_read s name key n reads writes true None none = refl
+noted_read s name key n reads writes false None none = refl
+noted_read s name key n reads writes b (Some change) none = absurd (cc)
+
+reads_at : (s : State) (name key : List ℕ) (number : ℕ) (o : Option Handle) → ReadsAt o key number → (read s name key o).0 ≡ read_at s.history number key
+reads_at s name key number None by = absurd by
+reads_at s name key number (Some (OpenView n)) by =
+    answer_by s (is_key_length (length key)) (found (value_at s.history n key)) Invalid ∙ ap (λ (m : ℕ). read_at s.history m key) (sym by)
+reads_at s name key number (Some (OpenTransaction n reads writes)) (by, none) =
+    noted_read s name key n reads writes (is_key_length (length key)) (get writes key) none ∙ ap (λ (m : ℕ). read_at s.history m key) (sym by)
 
 numbered : (m n : ℕ) → Number m ≡ Number n → m ≡ n
 numbered m n e = cc
 
--- the reads of a commit are explained at its number less one
+-- the reads of a commit are explained at its transaction's number, and at its own less one
 commit_explained : (s : State) (name : List ℕ) (number : ℕ) (reads : List Read) (writes : Writes) (n : ℕ) (o : Option Handle) → IsSound s → get s.handles name ≡ Some (OpenTransaction number reads writes) → o ≡ Some (OpenTransaction number reads writes) →
-    (committed s name o).0 ≡ Number n → IsExplained (committed s name o).1.history (n - 1) reads × (number ≡ last_number s.history)
+    (committed s name o).0 ≡ Number n → IsExplained (committed s name o).1.history number reads × IsExplained (committed s name o).1.history (n - 1) reads
 commit_explained s name number reads writes n o sound is same =
     let now = sound.current name (OpenTransaction number reads writes) is in
-    subst (λ (o : Option Handle). (committed s name o).0 ≡ Number n → IsExplained (committed s name o).1.history (n - 1) reads × (number ≡ last_number s.history)) (sym same)
-    (pick (λ r. r.0 ≡ Number n → IsExplained r.1.history (n - 1) reads × (number ≡ last_number s.history)) (len writes == 0) _ _ (λ nothing e. absurd (cc)) (λ some.
-    pick (λ r. r.0 ≡ Number n → IsExplained r.1.history (n - 1) reads × (number ≡ last_number s.history)) (nat_le max_commit_number (last_number s.history)) (Exhausted CommitNumber, s) (cond (has_room s writes) (accepted s name writes) (Full, s)) (λ exhausted e. absurd (cc)) (λ left.
-    pick (λ r. r.0 ≡ Number n → IsExplained r.1.history (n - 1) reads × (number ≡ last_number s.history)) (has_room s writes) (accepted s name writes) (Full, s) (λ room e.
+    subst (λ (o : Option Handle). (committed s name o).0 ≡ Number n → IsExplained (committed s name o).1.history number reads × IsExplained (committed s name o).1.history (n - 1) reads) (sym same)
+    (pick (λ r. r.0 ≡ Number n → IsExplained r.1.history number reads × IsExplained r.1.history (n - 1) reads) (len writes == 0) _ _ (λ nothing e. absurd (cc)) (λ some.
+    pick (λ r. r.0 ≡ Number n → IsExplained r.1.history number reads × IsExplained r.1.history (n - 1) reads) (nat_le max_commit_number (last_number s.history)) (Exhausted CommitNumber, s) (cond (has_room s writes) (accepted s name writes) (Full, s)) (λ exhausted e. absurd (cc)) (λ left.
+    pick (λ r. r.0 ≡ Number n → IsExplained r.1.history number reads × IsExplained r.1.history (n - 1) reads) (has_room s writes) (accepted s name writes) (Full, s) (λ room e.
     let at : n - 1 ≡ number = let m = numbered (last_number s.history + 1) n e in let c = now.1 in omega arith in
-    (rw at (same_reads s.history writes number reads (let c = now.1 in omega arith) now.0), now.1)) (λ full e. absurd (cc)))))
+    let explained = same_reads s.history writes number reads (let c = now.1 in omega arith) now.0 in
+    (explained, rw at explained)) (λ full e. absurd (cc)))))
 
 exchange_explained : (s : State) (line : Line) → IsSound s → IsExplainedExchange line (exchanged s line)
 exchange_explained s (Begin name) sound = tt
 exchange_explained s (View name) sound = tt
-exchange_explained s (Get name key) sound = λ number is. view_read s name key number (get s.handles name) is
-exchange_explained s (GetTagged name key) sound = λ number is. ap with_tag (view_read s name key number (get s.handles name) is)
+exchange_explained s (Get name key) sound = λ number by. reads_at s name key number (get s.handles name) by
+exchange_explained s (GetTagged name key) sound = λ number by. ap with_tag (reads_at s name key number (get s.handles name) by)
 exchange_explained s (SetTagged name key value tag) sound = tt
 exchange_explained s (Set name key value) sound = tt
 exchange_explained s (DeleteLine name key) sound = tt

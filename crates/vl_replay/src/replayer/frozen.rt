@@ -4,8 +4,8 @@ ghost use Rattle.std.specs.Option.{option_copied};
 ghost use Rattle.vl_model.specs.Winners.{newest_of, winner};
 ghost use Rattle.vl_replay.specs.Opened.{any_number, entries_in};
 
+use vl_memtable::FrozenLog;
 use vl_model::Entry;
-use vl_recover::FrozenLog;
 
 /// Of the entries of a key in these logs, which rise, the one of the greatest version, and of two of one version the one
 /// in the newer log.

@@ -1,5 +1,5 @@
 //! A store's state, and how it answers a line over the disk that holds it.
-ghost use Rattle.std.specs.Prelude.{◌≡◌, ◌+◌, ℕ, List, [], None, Some, Err, IfOk, IfErr, OnOk, OnErr};
+ghost use Rattle.std.specs.Prelude.{◌≡◌, ◌≢◌, ◌+◌, ℕ, List, [], None, Some, Err, IfOk, IfErr, OnOk, OnErr};
 ghost use Rattle.std.specs.Option.{ForSome, option_copied};
 ghost use Rattle.std.specs.FinMap.{get, empty};
 ghost use Rattle.vl_disk.specs.declared.name.Name.{Name};
@@ -12,7 +12,7 @@ ghost use Rattle.vl_replay.specs.Sequential.{State, answer_to, state_after, open
 ghost use Rattle.vl_replay.specs.Sequential as sequential;
 ghost use Rattle.vl_replay.specs.Represents.{Represents, IsOutcome, StandsFor, HasOpen, HasWritesToCommit, Decides, handle_named, write_answer, writes_after, answer_of};
 ghost use Rattle.vl_replay.specs.Durable.{CarriesOut};
-ghost use Rattle.vl_replay.specs.Stored.{IsStored, Shown};
+ghost use Rattle.vl_replay.specs.Stored.{IsStopped, IsStored, Shown};
 ghost use Rattle.vl_replay.specs.Halts.{HaltsByDisk};
 ghost use Rattle.vl_replay.specs.Memtable.{newest};
 ghost use Rattle.vl_replay.specs.Opened.{IsOpenedStore, entry_value, opened_value};
@@ -25,8 +25,8 @@ use crate::replayer::writing::append_durably;
 use crate::replayer::{Decision, Handle, Memtable, Open};
 use std::alloc::Global;
 use vl_disk::{Disk, Name};
+use vl_memtable::FrozenLog;
 use vl_model::{Body, Change, Counter, Entry, Key, MAX_COMMIT_NUMBER, MAX_ROOM, Value, is_key_len};
-use vl_recover::FrozenLog;
 use vl_script::{Answer, Ident, Line};
 use vl_seglog::{ActiveLog, commit_length};
 use vl_txn::{SetFail, Writes};
@@ -69,9 +69,9 @@ impl Store {
         ensures kept { (s : State) → Represents self.old s
             → OnErr result (Represents self.new s) }
         ensures carries { (s : State) → Represents self.old s
-            → CarriesOut D.Watched IsStored Shown disk.old disk.new s (state_after s line) result }
+            → CarriesOut D.Watched IsStored Shown IsStopped disk.old disk.new s (state_after s line) result }
         ensures stands { ForSome (D.told disk.new) (Stands (names.Log self.new.log.number)) }
-        ensures no_memory { result ≡ Err Halt.NoMemory → D.told disk.new ≡ D.told disk.old }
+        ensures undamaged { (name : Name) (place : ℕ) → result ≢ Err (Halt.Damaged name place) }
         ensures cause { HasCause (D.faults disk.old) (D.faults disk.new) (HaltsByDisk result) }
         ensures named { (name : Name) → result ≡ Err (Halt.Disk name) → name ≡ names.Log self.old.log.number }
     {
@@ -204,9 +204,9 @@ impl Store {
         ensures kept { (s : State) → Represents self.old s
             → OnErr result (Represents self.new s) }
         ensures carries { (s : State) → Represents self.old s
-            → CarriesOut D.Watched IsStored Shown disk.old disk.new s (state_after s (Line.Commit name)) result }
+            → CarriesOut D.Watched IsStored Shown IsStopped disk.old disk.new s (state_after s (Line.Commit name)) result }
         ensures stands { ForSome (D.told disk.new) (Stands (names.Log self.new.log.number)) }
-        ensures no_memory { result ≡ Err Halt.NoMemory → D.told disk.new ≡ D.told disk.old }
+        ensures undamaged { (name : Name) (place : ℕ) → result ≢ Err (Halt.Damaged name place) }
         ensures cause { HasCause (D.faults disk.old) (D.faults disk.new) (HaltsByDisk result) }
         ensures named { (name : Name) → result ≡ Err (Halt.Disk name) → name ≡ names.Log self.old.log.number }
     {
@@ -256,9 +256,9 @@ impl Store {
             → OnErr result (Represents self.new s) }
         ensures carries { (s : State) (name : List ℕ) (writes : Writes) → Represents self.old s
             → HasOpen self.old name writes
-            → CarriesOut D.Watched IsStored Shown disk.old disk.new s (after_commit s name writes) result }
+            → CarriesOut D.Watched IsStored Shown IsStopped disk.old disk.new s (after_commit s name writes) result }
         ensures stands { ForSome (D.told disk.new) (Stands (names.Log self.new.log.number)) }
-        ensures no_memory { result ≡ Err Halt.NoMemory → D.told disk.new ≡ D.told disk.old }
+        ensures undamaged { (name : Name) (place : ℕ) → result ≢ Err (Halt.Damaged name place) }
         ensures cause { HasCause (D.faults disk.old) (D.faults disk.new) (HaltsByDisk result) }
         ensures named { (name : Name) → result ≡ Err (Halt.Disk name) → name ≡ names.Log self.old.log.number }
     {

@@ -1,4 +1,4 @@
-use Rattle.std.proofs.Common.{◌≡◌, ◌≢◌, ◌<◌, ◌≤◌, ℕ, Option, None, Some, refl, sym, ap, subst, ◌∙◌, arith}
+use Rattle.std.proofs.Common.{◌≡◌, ◌≢◌, ◌<◌, ◌≤◌, ⊎_elim, inl, inr, ℕ, List, Option, None, Some, refl, sym, ap, subst, ◌∙◌, arith}
 use Rattle.vl_mem.specs.declared.outcome.Outcome.{Outcome}
 use Rattle.vl_replay.specs.Trial.{EndsTrial, begun}
 use Rattle.vl_replay.specs.Trying.{trial_of}
@@ -6,7 +6,11 @@ use Rattle.vl_cli.specs.declared.command_line.words.Command.{Command}
 use Rattle.vl_cli.specs.declared.command_line.words.Command.TheVariants.{Replay, Trial}
 use Rattle.vl_script.specs.Script.{lines_of}
 use Rattle.vl_replay.specs.Endings.{TheDisk, TheSource, TheSink, status_of, usage_line}
+use Rattle.vl_disk.specs.declared.name.Name.{Name}
+use Rattle.vl_replay.specs.Reading.{ReadsInput, streams}
 use Rattle.vl_replay.specs.Start.{all_explained, explained_from}
+use Rattle.vl_replay.specs.declared.ending.Ending.TheVariants.{Damaged, Refused}
+use Rattle.vl_replay.specs.declared.fails.Refusal.{Refusal}
 use Rattle.vl_cli.proofs.Words.{disk_status, source_status, sink_status, is_refused, is_bad_words, rose_by, steady_by, refused_status, refused_rose, refused_steady}
 use Rattle.vl_cli.proofs.command_line.run.Goals as goal
 
@@ -71,9 +75,14 @@ returns-in-Some-Replay-clause-no_disk_fault g c other whole =
 
 pub returns-in-Some-Replay-clause-refused : goal.returns-in-Some-Replay-clause-refused
 returns-in-Some-Replay-clause-refused g c plain is =
-    let by = is_refused c.replay-ending.result.ending (sym c.status-status.ensures ∙ is) in
-    let refused = c.replay-ending.ensures.refused by.0 by.1 in
-    ((by.0, refused.0), refused.1)
+    let ending = c.replay-ending.result.ending in
+    let old = streams g.S.Source g.K.Sink c.args.source.now c.args.sink.now in
+    let new = streams g.S.Source g.K.Sink c.replay-ending.new.source c.replay-ending.new.sink in
+    ⊎_elim
+    (λ (by : (refusal : Refusal) × (ending ≡ Refused refusal)). let refused = c.replay-ending.ensures.refused by.0 by.1 in inl ((by.0, refused.0), refused.1))
+    (λ (by : (name : Name) × (place : ℕ) × (ending ≡ Damaged name place)).
+    inr (by.0, by.1, λ input told. subst (ReadsInput input old new) by.2 (c.replay-ending.ensures.input input told)))
+    (is_refused ending (sym c.status-status.ensures ∙ is))
 
 pub returns-in-Some-Replay-clause-refuses : goal.returns-in-Some-Replay-clause-refuses
 returns-in-Some-Replay-clause-refuses g c plain state read refusal told is_read is_refused =

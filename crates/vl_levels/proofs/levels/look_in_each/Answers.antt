@@ -7,7 +7,7 @@ use Rattle.std.proofs.Common.{subst}
 use Rattle.vl_block.specs.Founds.{found_of}
 use Rattle.vl_table.specs.declared.table.Table.{Table}
 use Rattle.vl_levels.specs.LookedUp.{LooksOn, LooksThrough}
-use Rattle.vl_levels.proofs.LooksSoFar.{fails_there, looks_on}
+use Rattle.vl_levels.proofs.LooksSoFar.{fails_there, looks_on, stops_there}
 use Rattle.vl_levels.proofs.Parts.{split_at, take_next}
 use Rattle.vl_levels.proofs.ReadsOfSome.{read_at, read_on}
 use Rattle.vl_levels.proofs.levels.look_in_each.Goals as goal
@@ -60,3 +60,17 @@ pub returns-clause-looks : goal.returns-clause-looks
 returns-clause-looks g c = λ files reads.
     subst (λ (l : List (Table g.row.H.Denot)). LooksThrough g.H.HeldFile.bytes c.args.look c.args.key.now None l (option_map (found_of c.args.key.now) c.loop-table.best))
     (take_all c.loop-table.table-index c.args.tables.now c.loop-table-test.false) ((c.loop-table.invariant files reads).looks tt)
+
+pub returns-in_err-best-clause-looks : goal.returns-in_err-best-clause-looks
+returns-in_err-best-clause-looks g c = λ files reads.
+    let i = c.loop-table.table-index in
+    let ts = c.args.tables.now in
+    let t = c.table-item.result in
+    let so = c.loop-table.invariant files reads in
+    let now = read_on g.H.HeldFile.bytes files c.args.reader.now c.loop-table.reader ts so.kept reads in
+    let p = err_from_is_err_and c.from_residual.result c.from_residual.ensures.1 in
+    stops_there g.H.HeldFile.bytes files (Unit {0}) (Unit {0}) c.args.look c.args.key.now None (take i ts) (t ∷ [])
+    (g.R.Reader.faults c.args.reader.now.reader) (g.R.Reader.faults c.loop-table.reader.reader) (g.R.Reader.faults c.look_in.new.reader.reader)
+    c.loop-table.reader c.loop-table.best so (drop (suc i) ts) ts (Unit {0}) c.in_err-best.field-0.0 c.from_residual.result
+    (split_at ts i t c.loop-table-test.true c.table-item.is) (p.1 ∙ ap Err p.2) (λ u. u)
+    (λ u. c.in_err-best.ensures.looks files (read_at g.H.HeldFile.bytes files c.loop-table.reader ts i t c.loop-table-test.true c.table-item.is now)) tt

@@ -4,13 +4,14 @@ use Rattle.std.specs.Prelude.{is_ok}
 use Rattle.vl_io.specs.Sink.{Takes, TakesPrefix}
 use Rattle.vl_disk.specs.Faults.{Rose}
 use Rattle.vl_replay.specs.Runs.{next_number}
-use Rattle.vl_replay.specs.Endings.{OnlyByDisk, TheSink, TheSource, culprit_of, ending_at, line_at, no_memory_line}
+use Rattle.vl_replay.specs.Endings.{OnlyByDisk, TheSink, TheSource, culprit_of, ending_at, line_at, no_memory_line, TheDisk}
 use Rattle.vl_replay.specs.Halts.{HaltsByDisk}
+use Rattle.vl_replay.specs.Replaying.{disk_of}
 use Rattle.vl_replay.specs.declared.ending.Ending.{Ending}
-use Rattle.vl_replay.specs.declared.ending.Ending.TheVariants.{AnswerCut, BadLine, BadWords, Complete, NoMemory, Refused}
-use Rattle.vl_replay.proofs.Runs.Ends.{answer_cut, finished, finish_counts, before_weaker, at_fault, ends_as, fault_as, fault_counts, fault_line, fault_stops, or_cut, otherwise_as}
+use Rattle.vl_replay.specs.declared.ending.Ending.TheVariants.{AnswerCut, BadWords, NoMemory, Refused}
+use Rattle.vl_replay.proofs.Runs.Ends.{answer_cut, finished, finish_counts, before_weaker, at_damage, at_fault, damage_counts, damage_counts_sink, ends_as, fault_as, fault_counts, fault_line, fault_stops, or_cut, otherwise_as}
 use Rattle.vl_replay.proofs.Runs.Texts.{halts, of_ok, ends_cut, ends_bad, ends_out, ends_fault}
-use Rattle.vl_replay.proofs.Runs.ReadingOn.{ends_for, ends_otherwise, finishes_otherwise}
+use Rattle.vl_replay.proofs.Runs.ReadingOn.{IsOtherwise, ends_for, ends_otherwise, finishes_damaged, finishes_otherwise}
 use Rattle.vl_replay.proofs.answering.answer.Goals as goal
 
 pub returns-in-Ok-clause-printed : goal.returns-in-Ok-clause-printed
@@ -31,7 +32,7 @@ returns-in-Ok-Some-clause-printed g c script stands count next left =
 
 pub returns-in-Ok-Some-clause-moves : goal.returns-in-Ok-Some-clause-moves
 returns-in-Ok-Some-clause-moves g c s stands held =
-    ends_cut g.D.Watched (record { only_now = g.met.D.Disk.only_now; counts_now = g.met.D.Disk.counts_now }) s c.args.text.now c.args.replayer.now.disk c.execute_line.new.replayer.disk c.execute_line.result (ap is_ok c.in-Ok-Some.is) (c.execute_line.ensures.carries s stands held)
+    ends_cut g.D.Watched (record { only_now = g.met.D.Disk.only_now; counts_now = g.met.D.Disk.counts_now }) s c.args.text.now (disk_of c.args.replayer.now) (disk_of c.execute_line.new.replayer) c.execute_line.result (ap is_ok c.in-Ok-Some.is) (c.execute_line.ensures.carries s stands held)
 
 pub returns-in-Ok-None-clause-printed : goal.returns-in-Ok-None-clause-printed
 returns-in-Ok-None-clause-printed g c script stands count next left =
@@ -41,7 +42,7 @@ returns-in-Ok-None-clause-printed g c script stands count next left =
 pub returns-in-Ok-None-clause-moves : goal.returns-in-Ok-None-clause-moves
 returns-in-Ok-None-clause-moves g c s stands held =
     let bad = rw c.in-Ok-None.field-0-is at (c.in-Ok-None.ensures.answers s stands) in
-    ends_bad g.D.Watched (record { only_now = g.met.D.Disk.only_now; counts_now = g.met.D.Disk.counts_now }) s c.args.text.now c.args.replayer.now.disk c.execute_line.new.replayer.disk c.execute_line.result c.end_at_bad_line.result (ap is_ok c.in-Ok-None.is) c.end_at_bad_line.ensures.not_the_disk bad (c.execute_line.ensures.carries s stands held)
+    ends_bad g.D.Watched (record { only_now = g.met.D.Disk.only_now; counts_now = g.met.D.Disk.counts_now }) s c.args.text.now (disk_of c.args.replayer.now) (disk_of c.execute_line.new.replayer) c.execute_line.result c.end_at_bad_line.result (ap is_ok c.in-Ok-None.is) c.end_at_bad_line.ensures.not_the_disk bad (c.execute_line.ensures.carries s stands held)
 
 pub returns-in-Err-NoMemory-clause-printed : goal.returns-in-Err-NoMemory-clause-printed
 returns-in-Err-NoMemory-clause-printed g c script stands count next left =
@@ -49,7 +50,7 @@ returns-in-Err-NoMemory-clause-printed g c script stands count next left =
 
 pub returns-in-Err-NoMemory-clause-moves : goal.returns-in-Err-NoMemory-clause-moves
 returns-in-Err-NoMemory-clause-moves g c s stands held =
-    ends_out g.D.Watched (record { only_now = g.met.D.Disk.only_now; counts_now = g.met.D.Disk.counts_now }) s c.args.text.now c.args.replayer.now.disk c.execute_line.new.replayer.disk g.K.Sink c.args.sink.now c.finish.new.sink no_memory_line c.execute_line.result c.finish.result
+    ends_out g.D.Watched (record { only_now = g.met.D.Disk.only_now; counts_now = g.met.D.Disk.counts_now }) s c.args.text.now (disk_of c.args.replayer.now) (disk_of c.execute_line.new.replayer) g.K.Sink c.args.sink.now c.finish.new.sink no_memory_line c.execute_line.result c.finish.result
     (c.in-Err-NoMemory.is ∙ ap Err c.in-Err-NoMemory.field-0-is) c.finish.ensures (c.execute_line.ensures.carries s stands held)
 
 pub returns-in-Err-NoMemory-clause-sink_faults : goal.returns-in-Err-NoMemory-clause-sink_faults
@@ -58,12 +59,12 @@ returns-in-Err-NoMemory-clause-sink_faults g c = finish_counts g.K.Sink _ _ _ No
 pub returns-clause-printed : goal.returns-clause-printed
 returns-clause-printed g c script stands count next left =
     finished g.K.Sink c.args.sink.now c.end_at_fault.new.sink _ script left (ending_at c.args.on_fault) c.end_at_fault.result (line_at c.args.on_fault) (fault_line (next_number script 0) c.args.on_fault)
-    (fault_stops (OnlyByDisk (Rose (g.D.Watched.faults c.args.replayer.now.disk) (g.D.Watched.faults c.execute_line.new.replayer.disk))) script left 0 (c.execute_line.ensures.cause.rose (halts c.execute_line.result c.in-Err-Disk.field-0-0 (c.in-Err-Disk.is ∙ ap Err c.in-Err-Disk.field-0-is))) c.args.on_fault) c.end_at_fault.ensures
+    (fault_stops (OnlyByDisk (Rose (g.D.Watched.faults (disk_of c.args.replayer.now)) (g.D.Watched.faults (disk_of c.execute_line.new.replayer)))) script left 0 (c.execute_line.ensures.cause.rose (halts c.execute_line.result c.in-Err-Disk.field-0-0 (c.in-Err-Disk.is ∙ ap Err c.in-Err-Disk.field-0-is))) c.args.on_fault) c.end_at_fault.ensures
 
 pub returns-clause-moves : goal.returns-clause-moves
 returns-clause-moves g c s stands held =
     let by = halts c.execute_line.result c.in-Err-Disk.field-0-0 (c.in-Err-Disk.is ∙ ap Err c.in-Err-Disk.field-0-is) in
-    ends_fault g.D.Watched (record { only_now = g.met.D.Disk.only_now; counts_now = g.met.D.Disk.counts_now }) s c.args.text.now c.args.replayer.now.disk c.execute_line.new.replayer.disk g.K.Sink c.args.sink.now c.end_at_fault.new.sink (line_at c.args.on_fault) c.execute_line.result c.args.on_fault c.end_at_fault.result
+    ends_fault g.D.Watched (record { only_now = g.met.D.Disk.only_now; counts_now = g.met.D.Disk.counts_now }) s c.args.text.now (disk_of c.args.replayer.now) (disk_of c.execute_line.new.replayer) g.K.Sink c.args.sink.now c.end_at_fault.new.sink (line_at c.args.on_fault) c.execute_line.result c.args.on_fault c.end_at_fault.result
     (c.execute_line.ensures.cause.rose by) by c.end_at_fault.ensures (c.execute_line.ensures.carries s stands held)
 
 pub returns-clause-sink_faults : goal.returns-clause-sink_faults
@@ -75,21 +76,21 @@ returns-in-Ok-clause-reads g c =
     (is, (answer, subst (λ (l : List ℕ). Takes (g.K.Sink.held c.args.sink.now) (g.K.Sink.held c.put.new.self) l) ((rw c.in-Ok-Some.field-0-is at c.deref.ensures.value) ∙ out_is) c.in-Ok.ensures.taken))
 
 pub returns-in-Ok-Some-clause-reads : goal.returns-in-Ok-Some-clause-reads
-returns-in-Ok-Some-clause-reads g c = ends_otherwise _ c.args.answered AnswerCut _ _ (_, c.in-Err.ensures.part.2) (λ e. cc) (λ e. cc)
+returns-in-Ok-Some-clause-reads g c = ends_otherwise _ _ c.args.answered AnswerCut _ _ (_, c.in-Err.ensures.part.2) (λ e. cc, λ e. cc, λ name place e. cc)
 
 pub returns-in-Ok-None-clause-reads : goal.returns-in-Ok-None-clause-reads
 returns-in-Ok-None-clause-reads g c =
     let none = rw c.in-Ok-None.field-0-is at c.in-Ok-None.ensures.reads in
-    ends_for (Unit {0}) _ c.args.answered c.end_at_bad_line.result _ _ none c.end_at_bad_line.ensures.reads
+    ends_for (Unit {0}) _ ⊥ _ c.args.answered c.end_at_bad_line.result _ _ (λ _. none) (λ never. absurd never) c.end_at_bad_line.ensures.reads
 
 pub returns-in-Err-NoMemory-clause-reads : goal.returns-in-Err-NoMemory-clause-reads
 returns-in-Err-NoMemory-clause-reads g c =
-    finishes_otherwise g.K.Sink c.args.sink.now c.finish.new.sink no_memory_line NoMemory c.finish.result _ c.args.answered (λ e. cc) (λ e. cc) c.finish.ensures
+    finishes_otherwise g.K.Sink c.args.sink.now c.finish.new.sink no_memory_line NoMemory c.finish.result _ _ c.args.answered (λ e. cc, λ e. cc, λ name place e. cc) c.finish.ensures
 
 pub returns-clause-reads : goal.returns-clause-reads
 returns-clause-reads g c =
-    finishes_otherwise g.K.Sink c.args.sink.now c.end_at_fault.new.sink (line_at c.args.on_fault) (ending_at c.args.on_fault) c.end_at_fault.result _ c.args.answered
-    (at_fault (λ (e : Ending). e ≢ Complete) (λ e. cc) (λ e. cc) c.args.on_fault) (at_fault (λ (e : Ending). e ≢ BadLine) (λ e. cc) (λ e. cc) c.args.on_fault) c.end_at_fault.ensures
+    finishes_otherwise g.K.Sink c.args.sink.now c.end_at_fault.new.sink (line_at c.args.on_fault) (ending_at c.args.on_fault) c.end_at_fault.result _ _ c.args.answered
+    (at_fault IsOtherwise (λ e. cc, λ e. cc, λ name place e. cc) (λ e. cc, λ e. cc, λ name place e. cc) c.args.on_fault) c.end_at_fault.ensures
 
 -- ---- how it ends where the disk fails
 
@@ -127,3 +128,42 @@ returns-in-Ok-Some-clause-as_meant g c = ends_as c.args.on_fault AnswerCut (inl 
 
 pub returns-in-Ok-clause-as_meant : goal.returns-in-Ok-clause-as_meant
 returns-in-Ok-clause-as_meant g c by = absurd (cc)
+
+-- ---- how it ends where a read met damage
+
+pub returns-in-Err-Damaged-clause-printed : goal.returns-in-Err-Damaged-clause-printed
+returns-in-Err-Damaged-clause-printed g c script stands count next =
+    absurd (c.execute_line.ensures.undamaged script.start stands c.in-Err-Damaged.name c.in-Err-Damaged.place (c.in-Err-Damaged.is ∙ ap Err c.in-Err-Damaged.field-0-is))
+
+pub returns-in-Err-Damaged-clause-moves : goal.returns-in-Err-Damaged-clause-moves
+returns-in-Err-Damaged-clause-moves g c s stands held =
+    absurd (c.execute_line.ensures.undamaged s stands c.in-Err-Damaged.name c.in-Err-Damaged.place (c.in-Err-Damaged.is ∙ ap Err c.in-Err-Damaged.field-0-is))
+
+pub returns-in-Err-Damaged-clause-sink_faults : goal.returns-in-Err-Damaged-clause-sink_faults
+returns-in-Err-Damaged-clause-sink_faults g c = damage_counts_sink g.K.Sink _ _ _ _ c.end_at_damage.result c.end_at_damage.ensures
+
+pub returns-in-Err-Damaged-clause-disk_faults : goal.returns-in-Err-Damaged-clause-disk_faults
+returns-in-Err-Damaged-clause-disk_faults g c =
+    damage_counts g.K.Sink _ _ _ _ c.end_at_damage.result c.end_at_damage.ensures _ _
+    (c.execute_line.ensures.cause.steady (subst (λ r. HaltsByDisk r → ⊥) (sym (c.in-Err-Damaged.is ∙ ap Err c.in-Err-Damaged.field-0-is)) (λ by. by)))
+
+pub returns-in-Err-Damaged-clause-not_the_source : goal.returns-in-Err-Damaged-clause-not_the_source
+returns-in-Err-Damaged-clause-not_the_source g c =
+    at_damage g.K.Sink _ _ _ _ c.end_at_damage.result (λ (e : Ending). Some (culprit_of e) ≢ Some TheSource) c.end_at_damage.ensures (λ e. cc) (λ e. cc) (λ e. cc)
+
+pub returns-in-Err-Damaged-clause-not_the_files : goal.returns-in-Err-Damaged-clause-not_the_files
+returns-in-Err-Damaged-clause-not_the_files g c refusal =
+    at_damage g.K.Sink _ _ _ _ c.end_at_damage.result (λ (e : Ending). Some e ≢ Some (Refused refusal)) c.end_at_damage.ensures (λ e. cc) (λ e. cc) (λ e. cc)
+
+pub returns-in-Err-Damaged-clause-not_the_words : goal.returns-in-Err-Damaged-clause-not_the_words
+returns-in-Err-Damaged-clause-not_the_words g c =
+    at_damage g.K.Sink _ _ _ _ c.end_at_damage.result (λ (e : Ending). Some e ≢ Some BadWords) c.end_at_damage.ensures (λ e. cc) (λ e. cc) (λ e. cc)
+
+pub returns-in-Err-Damaged-clause-reads : goal.returns-in-Err-Damaged-clause-reads
+returns-in-Err-Damaged-clause-reads g c =
+    finishes_damaged g.K.Sink _ _ _ _ c.end_at_damage.result _ _ c.args.answered
+    (c.execute_line.ensures.met c.in-Err-Damaged.name c.in-Err-Damaged.place (c.in-Err-Damaged.is ∙ ap Err c.in-Err-Damaged.field-0-is)) c.end_at_damage.ensures
+
+pub returns-in-Err-Damaged-clause-as_meant : goal.returns-in-Err-Damaged-clause-as_meant
+returns-in-Err-Damaged-clause-as_meant g c =
+    ends_as c.args.on_fault c.end_at_damage.result (inl (at_damage g.K.Sink _ _ _ _ c.end_at_damage.result (λ (e : Ending). culprit_of e ≢ TheDisk) c.end_at_damage.ensures (λ e. cc) (λ e. cc) (λ e. cc)))

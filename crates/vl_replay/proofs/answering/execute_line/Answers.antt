@@ -3,10 +3,11 @@ use Rattle.std.specs.Prelude.{Err, is_ok, is_err}
 use Rattle.std.specs.Option.{option_map}
 use Rattle.vl_script.specs.Script.{text_of}
 use Rattle.vl_replay.specs.Exchanges.{exchanged}
+use Rattle.vl_replay.specs.Replaying.{disk_of}
 use Rattle.vl_replay.specs.Sequential.{state_after}
 use Rattle.vl_replay.specs.declared.fails.Halt.TheVariants as why
 use Rattle.vl_replay.proofs.Runs.Ends.{exchange_at-answered}
-use Rattle.vl_replay.proofs.Disk.Halting.{by_disk_still, out_not_by_disk}
+use Rattle.vl_replay.proofs.Disk.Halting.{by_disk_still, damage_still, out_not_by_disk, out_undamaged}
 use Rattle.vl_replay.proofs.Runs.Texts.{carries_nothing, carries_bad, carries_line, kept_without_number, of_ok, ok_not_err, ok_not_out, same_halt}
 use Rattle.vl_replay.proofs.answering.execute_line.Goals as goal
 
@@ -22,22 +23,22 @@ returns-clause-answers g c s stands =
 
 pub returns-in_err-line-clause-carries : goal.returns-in_err-line-clause-carries
 returns-in_err-line-clause-carries g c s stands held =
-    carries_nothing g.D.Watched (record { only_now = g.met.D.Disk.only_now; counts_now = g.met.D.Disk.counts_now }) s c.args.text.now c.args.replayer.now.disk c.from_residual.result c.from_residual.ensures.0 (out_not_by_disk c.from_residual.result c.from_residual.ensures.1) held
+    carries_nothing g.D.Watched (record { only_now = g.met.D.Disk.only_now; counts_now = g.met.D.Disk.counts_now }) s c.args.text.now (disk_of c.args.replayer.now) c.from_residual.result c.from_residual.ensures.0 (out_not_by_disk c.from_residual.result c.from_residual.ensures.1) held
 
 pub returns-in_default-clause-carries : goal.returns-in_default-clause-carries
 returns-in_default-clause-carries g c s stands held =
-    carries_bad g.D.Watched (record { only_now = g.met.D.Disk.only_now; counts_now = g.met.D.Disk.counts_now }) s c.args.text.now c.args.replayer.now.disk _ (ap (option_map (exchanged s)) (sym c.in_ok-line.ensures ∙ c.in_default.is)) held
+    carries_bad g.D.Watched (record { only_now = g.met.D.Disk.only_now; counts_now = g.met.D.Disk.counts_now }) s c.args.text.now (disk_of c.args.replayer.now) _ (ap (option_map (exchanged s)) (sym c.in_ok-line.ensures ∙ c.in_default.is)) held
 
 pub returns-in_err-out-clause-carries : goal.returns-in_err-out-clause-carries
 returns-in_err-out-clause-carries g c s stands held =
-    carries_nothing g.D.Watched (record { only_now = g.met.D.Disk.only_now; counts_now = g.met.D.Disk.counts_now }) s c.args.text.now c.args.replayer.now.disk c.from_residual-in_err-out.result c.from_residual-in_err-out.ensures.0
+    carries_nothing g.D.Watched (record { only_now = g.met.D.Disk.only_now; counts_now = g.met.D.Disk.counts_now }) s c.args.text.now (disk_of c.args.replayer.now) c.from_residual-in_err-out.result c.from_residual-in_err-out.ensures.0
     (out_not_by_disk c.from_residual-in_err-out.result c.from_residual-in_err-out.ensures.1) held
 
 pub returns-in_err-answer-clause-carries : goal.returns-in_err-answer-clause-carries
 returns-in_err-answer-clause-carries g c s stands held =
     let residual = c.from_residual-in_err-answer in
     let carried = c.line.ensures.carries c.requires s stands held in
-    carries_line g.D.Watched (record { only_now = g.met.D.Disk.only_now; counts_now = g.met.D.Disk.counts_now }) s c.args.text.now c.args.replayer.now.disk c.line.new.self.disk c.in-Some.line c.line.result residual.result
+    carries_line g.D.Watched (record { only_now = g.met.D.Disk.only_now; counts_now = g.met.D.Disk.counts_now }) s c.args.text.now (disk_of c.args.replayer.now) (disk_of c.line.new.self) c.in-Some.line c.line.result residual.result
     (sym c.in_ok-line.ensures ∙ c.in-Some.is) carried
     (λ ok. absurd (ok_not_err residual.result ok residual.ensures.0))
     (by_disk_still c.line.result residual.result _ c.in_err-answer.was residual.ensures.1)
@@ -48,17 +49,17 @@ returns-in_err-print_answer-clause-carries g c s stands held =
     let residual = c.from_residual-in_err-print_answer in
     let carried = c.line.ensures.carries c.requires s stands held in
     let ok = ap is_ok c.in_ok-answer.was in
-    carries_line g.D.Watched (record { only_now = g.met.D.Disk.only_now; counts_now = g.met.D.Disk.counts_now }) s c.args.text.now c.args.replayer.now.disk c.line.new.self.disk c.in-Some.line c.line.result residual.result
+    carries_line g.D.Watched (record { only_now = g.met.D.Disk.only_now; counts_now = g.met.D.Disk.counts_now }) s c.args.text.now (disk_of c.args.replayer.now) (disk_of c.line.new.self) c.in-Some.line c.line.result residual.result
     (sym c.in_ok-line.ensures ∙ c.in-Some.is) carried
     (λ is_it. absurd (ok_not_err residual.result is_it residual.ensures.0))
     (λ by. absurd (out_not_by_disk residual.result residual.ensures.1 by))
-    (λ out. kept_without_number g.D.Watched (record { only_now = g.met.D.Disk.only_now; counts_now = g.met.D.Disk.counts_now }) s c.args.text.now c.args.replayer.now.disk c.line.new.self.disk c.in-Some.line c.in_ok-answer.answer (c.in_ok-answer.ensures.answer s stands)
+    (λ out. kept_without_number g.D.Watched (record { only_now = g.met.D.Disk.only_now; counts_now = g.met.D.Disk.counts_now }) s c.args.text.now (disk_of c.args.replayer.now) (disk_of c.line.new.self) c.in-Some.line c.in_ok-answer.answer (c.in_ok-answer.ensures.answer s stands)
     (λ number is_number. ok_not_err c.print_answer.result (c.print_answer.ensures.room number is_number (omega (arith, ap length c.in_ok-out.ensures.items, c.in_ok-out.ensures.capacity))) (ap is_err c.in_err-print_answer.was))
     (of_ok c.line.result _ ok carried.answered))
 
 pub returns-clause-carries : goal.returns-clause-carries
 returns-clause-carries g c s stands held =
-    carries_line g.D.Watched (record { only_now = g.met.D.Disk.only_now; counts_now = g.met.D.Disk.counts_now }) s c.args.text.now c.args.replayer.now.disk c.line.new.self.disk c.in-Some.line c.line.result _
+    carries_line g.D.Watched (record { only_now = g.met.D.Disk.only_now; counts_now = g.met.D.Disk.counts_now }) s c.args.text.now (disk_of c.args.replayer.now) (disk_of c.line.new.self) c.in-Some.line c.line.result _
     (sym c.in_ok-line.ensures ∙ c.in-Some.is) (c.line.ensures.carries c.requires s stands held) (λ ok. ap is_ok c.in_ok-answer.was) (λ by. absurd by) (λ out. absurd (ok_not_out _ out))
 
 pub returns-in_default-clause-reads : goal.returns-in_default-clause-reads
@@ -70,3 +71,31 @@ returns-clause-reads g c =
       (c.in-Some.line, sym c.in_ok-line.ensures ∙ c.in-Some.is),
       (answer, c.in_ok-print_answer.ensures.text ∙ ap (λ (l : List ℕ). l ++ text_of answer) c.in_ok-out.ensures.items),
     )
+
+-- ---- damage
+
+pub returns-in_err-line-clause-undamaged : goal.returns-in_err-line-clause-undamaged
+returns-in_err-line-clause-undamaged g c s stands = out_undamaged c.from_residual.result c.from_residual.ensures.1
+
+pub returns-in_err-out-clause-undamaged : goal.returns-in_err-out-clause-undamaged
+returns-in_err-out-clause-undamaged g c s stands = out_undamaged c.from_residual-in_err-out.result c.from_residual-in_err-out.ensures.1
+
+pub returns-in_err-answer-clause-undamaged : goal.returns-in_err-answer-clause-undamaged
+returns-in_err-answer-clause-undamaged g c s stands name place is =
+    c.line.ensures.undamaged c.requires s stands name place
+    (damage_still c.line.result c.from_residual-in_err-answer.result _ name place c.in_err-answer.was c.from_residual-in_err-answer.ensures.1 is)
+
+pub returns-in_err-print_answer-clause-undamaged : goal.returns-in_err-print_answer-clause-undamaged
+returns-in_err-print_answer-clause-undamaged g c s stands = out_undamaged c.from_residual-in_err-print_answer.result c.from_residual-in_err-print_answer.ensures.1
+
+pub returns-in_err-line-clause-met : goal.returns-in_err-line-clause-met
+returns-in_err-line-clause-met g c name place is = absurd (out_undamaged c.from_residual.result c.from_residual.ensures.1 name place is)
+
+pub returns-in_err-out-clause-met : goal.returns-in_err-out-clause-met
+returns-in_err-out-clause-met g c name place is = (c.in-Some.line, sym c.in_ok-line.ensures ∙ c.in-Some.is)
+
+pub returns-in_err-answer-clause-met : goal.returns-in_err-answer-clause-met
+returns-in_err-answer-clause-met g c name place is = (c.in-Some.line, sym c.in_ok-line.ensures ∙ c.in-Some.is)
+
+pub returns-in_err-print_answer-clause-met : goal.returns-in_err-print_answer-clause-met
+returns-in_err-print_answer-clause-met g c name place is = (c.in-Some.line, sym c.in_ok-line.ensures ∙ c.in-Some.is)

@@ -3,8 +3,7 @@ use Rattle.std.proofs.lemmas.Result.{IfOk-weaker}
 use Rattle.std.specs.Fmt.{decimal}
 use Rattle.std.specs.Prelude.{codes}
 use Rattle.vl_disk.specs.declared.name.Name.{Name}
-use Rattle.vl_replay.specs.Endings.{refusal_line}
-use Rattle.vl_replay.specs.declared.fails.Refusal.TheVariants.{Damaged}
+use Rattle.vl_replay.specs.Endings.{damage_line}
 use Rattle.vl_replay.proofs.refusing.damage_line.Goals as goal
 
 -- behind the kind: the file's number, and the place
@@ -15,16 +14,16 @@ pub returns-in-Log : goal.returns-in-Log
 returns-in-Log c =
     IfOk-weaker c.format.result _ _
     (λ line is. is ∙ ap (λ (l : List ℕ). codes "damaged log " ++ l) (regrouped (decimal c.in-Log.number) (decimal c.args.place))
-    ∙ sym (ap (λ (name : Name). refusal_line (Damaged name c.args.place)) c.in-Log.is)) c.format.ensures.ok
+    ∙ sym (ap (λ (name : Name). damage_line name c.args.place) c.in-Log.is)) c.format.ensures.ok
 
 pub returns-in-Table : goal.returns-in-Table
 returns-in-Table c =
     IfOk-weaker c.format-in-Table.result _ _
     (λ line is. is ∙ ap (λ (l : List ℕ). codes "damaged table " ++ l) (regrouped (decimal c.in-Table.number) (decimal c.args.place))
-    ∙ sym (ap (λ (name : Name). refusal_line (Damaged name c.args.place)) c.in-Table.is)) c.format-in-Table.ensures.ok
+    ∙ sym (ap (λ (name : Name). damage_line name c.args.place) c.in-Table.is)) c.format-in-Table.ensures.ok
 
 pub returns-in-Manifest : goal.returns-in-Manifest
 returns-in-Manifest c =
     IfOk-weaker c.format-in-Manifest.result _ _
     (λ line is. is ∙ ap (λ (l : List ℕ). codes "damaged manifest " ++ l) (regrouped (decimal c.in-Manifest.number) (decimal c.args.place))
-    ∙ sym (ap (λ (name : Name). refusal_line (Damaged name c.args.place)) c.in-Manifest.is)) c.format-in-Manifest.ensures.ok
+    ∙ sym (ap (λ (name : Name). damage_line name c.args.place) c.in-Manifest.is)) c.format-in-Manifest.ensures.ok

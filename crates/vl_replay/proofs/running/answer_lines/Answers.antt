@@ -4,13 +4,14 @@ use Rattle.vl_replay.specs.Endings.{EndsAs, Evidence, no_memory_line}
 use Rattle.vl_replay.specs.declared.ending.OnFault.{OnFault}
 use Rattle.vl_replay.specs.laws.Laws.{keeps_up_at_first}
 use Rattle.vl_replay.specs.Reading.{HasRead, streams}
+use Rattle.vl_replay.specs.Replaying.{StandsFor, disk_of}
 use Rattle.vl_replay.specs.Runs.{script_of, outside}
 use Rattle.vl_replay.specs.Steps.{kept}
-use Rattle.vl_replay.specs.Stored.{IsStored, Shown}
+use Rattle.vl_replay.specs.Stored.{IsStopped, IsStored, Shown}
 use Rattle.vl_replay.specs.declared.ending.Ending.TheVariants.{NoMemory}
 use Rattle.vl_replay.proofs.Runs.Ends.{finished, line_leaves_disk, otherwise_as}
 use Rattle.vl_replay.proofs.Disk.Logged.{shown_stays, stored_exactly}
-use Rattle.vl_replay.proofs.Runs.ReadingOn.{finished_incomplete, read_nothing, reads_nothing}
+use Rattle.vl_replay.proofs.Runs.ReadingOn.{finished_otherwise, read_nothing, reads_nothing}
 use Rattle.vl_replay.proofs.Runs.Stepping.{step_apart}
 use Rattle.vl_replay.proofs.Runs.UnderWay.{UnderWay, begun, further, over}
 use Rattle.vl_replay.proofs.running.answer_lines.Goals as goal
@@ -18,8 +19,8 @@ use Rattle.vl_replay.proofs.running.answer_lines.Goals as goal
 pub returns-in_default-clause-runs : goal.returns-in_default-clause-runs
 returns-in_default-clause-runs g c s input stands told =
     let script = script_of s 0 input in
-    step_apart g.D.Watched (record { only_now = g.met.D.Disk.only_now; counts_now = g.met.D.Disk.counts_now }) IsStored Shown shown_stays stored_exactly script
-    (outside g.S.Source g.K.Sink c.args.source.now c.args.sink.now c.args.replayer.disk) (outside g.S.Source g.K.Sink c.args.source.now c.finish.new.sink c.close.result)
+    step_apart g.D.Watched (record { only_now = g.met.D.Disk.only_now; counts_now = g.met.D.Disk.counts_now }) IsStored Shown IsStopped shown_stays stored_exactly script
+    (outside g.S.Source g.K.Sink c.args.source.now c.args.sink.now (disk_of c.args.replayer)) (outside g.S.Source g.K.Sink c.args.source.now c.finish.new.sink c.close.result)
     ⊥ (λ never. absurd never) c.finish.result (line_leaves_disk g.K.Sink _ _ _ NoMemory c.finish.result (λ e. cc, λ e. cc) c.finish.ensures) c.close.ensures
     (finished g.K.Sink c.args.sink.now c.finish.new.sink (Evidence ⊥ ⊥) script (g.S.Source.left c.args.source.now) NoMemory c.finish.result no_memory_line refl tt c.finish.ensures)
     (keeps_up_at_first input (g.S.Source.asked c.args.source.now) (g.met.S.Source.since_asked c.args.source.now input told))
@@ -27,9 +28,9 @@ returns-in_default-clause-runs g c s input stands told =
 pub lines-init : goal.lines-init
 lines-init g c = record {
   under_way = λ s input stands told.
-      let begin = outside g.S.Source g.K.Sink c.args.source.now c.args.sink.now c.args.replayer.disk in
-      subst (λ (b : List ℕ). UnderWay g.D.Watched IsStored Shown (script_of s 0 input) begin begin (kept c.args.replayer.store b 0)) (sym c.in-Ok.ensures)
-      (begun g.D.Watched (record { only_now = g.met.D.Disk.only_now; counts_now = g.met.D.Disk.counts_now }) IsStored Shown shown_stays stored_exactly s input begin c.args.replayer.store stands told (g.met.S.Source.since_asked c.args.source.now));
+      let begin = outside g.S.Source g.K.Sink c.args.source.now c.args.sink.now (disk_of c.args.replayer) in
+      subst (λ (b : List ℕ). UnderWay g.D.Watched IsStored Shown (script_of s 0 input) begin begin (kept (StandsFor c.args.replayer) b 0)) (sym c.in-Ok.ensures)
+      (begun g.D.Watched (record { only_now = g.met.D.Disk.only_now; counts_now = g.met.D.Disk.counts_now }) IsStored Shown IsStopped shown_stays stored_exactly s input begin (StandsFor c.args.replayer) stands told (g.met.S.Source.since_asked c.args.source.now));
   has_read = λ input told.
       let begin = streams g.S.Source g.K.Sink c.args.source.now c.args.sink.now in
       subst (λ (b : List ℕ). HasRead input begin begin b 0) (sym c.in-Ok.ensures)
@@ -45,9 +46,9 @@ pub lines-preserved : goal.lines-preserved
 lines-preserved g c = record {
   under_way = λ s input stands told.
       let u = c.lines.invariant.under_way s input stands told in
-      further g.D.Watched (record { only_now = g.met.D.Disk.only_now; counts_now = g.met.D.Disk.counts_now }) IsStored Shown shown_stays stored_exactly s input
-      (outside g.S.Source g.K.Sink c.args.source.now c.args.sink.now c.args.replayer.disk) (outside g.S.Source g.K.Sink c.lines.source c.lines.sink c.lines.progress.replayer.disk) (outside g.S.Source g.K.Sink c.step.new.source c.step.new.sink c.step.new.self.replayer.disk)
-      (kept c.lines.progress.replayer.store c.lines.progress.buffer c.lines.progress.answered) (kept c.step.new.self.replayer.store c.step.new.self.buffer c.step.new.self.answered) u
+      further g.D.Watched (record { only_now = g.met.D.Disk.only_now; counts_now = g.met.D.Disk.counts_now }) IsStored Shown IsStopped shown_stays stored_exactly s input
+      (outside g.S.Source g.K.Sink c.args.source.now c.args.sink.now (disk_of c.args.replayer)) (outside g.S.Source g.K.Sink c.lines.source c.lines.sink (disk_of c.lines.progress.replayer)) (outside g.S.Source g.K.Sink c.step.new.source c.step.new.sink (disk_of c.step.new.self.replayer))
+      (kept (StandsFor c.lines.progress.replayer) c.lines.progress.buffer c.lines.progress.answered) (kept (StandsFor c.step.new.self.replayer) c.step.new.self.buffer c.step.new.self.answered) u
       (c.in_default-step.ensures.runs u.rest u.to_do);
   has_read = λ input told. c.in_default-step.ensures.reads input (streams g.S.Source g.K.Sink c.args.source.now c.args.sink.now) (c.lines.invariant.has_read input told);
   source_steady = c.in_default-step.ensures.source_faults.steady (λ e. cc) (λ e. cc) ∙ c.lines.invariant.source_steady;
@@ -62,15 +63,15 @@ returns-in-Some-clause-runs g c s input stands told =
     let u = c.lines.invariant.under_way s input stands told in
     let same = c.lines.invariant.source_steady in
     let same_disk = c.lines.invariant.disk_steady in
-    rw c.close-in-Some.ensures (over g.D.Watched (record { only_now = g.met.D.Disk.only_now; counts_now = g.met.D.Disk.counts_now }) IsStored Shown shown_stays stored_exactly s input
-    (outside g.S.Source g.K.Sink c.args.source.now c.args.sink.now c.args.replayer.disk) (outside g.S.Source g.K.Sink c.lines.source c.lines.sink c.lines.progress.replayer.disk) (outside g.S.Source g.K.Sink c.step.new.source c.step.new.sink c.step.new.self.replayer.disk)
-    (kept c.lines.progress.replayer.store c.lines.progress.buffer c.lines.progress.answered) (kept c.step.new.self.replayer.store c.step.new.self.buffer c.step.new.self.answered) u
+    rw c.close-in-Some.ensures (over g.D.Watched (record { only_now = g.met.D.Disk.only_now; counts_now = g.met.D.Disk.counts_now }) IsStored Shown IsStopped shown_stays stored_exactly s input
+    (outside g.S.Source g.K.Sink c.args.source.now c.args.sink.now (disk_of c.args.replayer)) (outside g.S.Source g.K.Sink c.lines.source c.lines.sink (disk_of c.lines.progress.replayer)) (outside g.S.Source g.K.Sink c.step.new.source c.step.new.sink (disk_of c.step.new.self.replayer))
+    (kept (StandsFor c.lines.progress.replayer) c.lines.progress.buffer c.lines.progress.answered) (kept (StandsFor c.step.new.self.replayer) c.step.new.self.buffer c.step.new.self.answered) u
     c.in-Some.ending (omega arith) same_disk (c.in-Some.ensures.runs u.rest u.to_do))
 
 pub returns-in_default-clause-input : goal.returns-in_default-clause-input
 returns-in_default-clause-input g c input told =
-    let (some, good) = finished_incomplete g.K.Sink c.args.sink.now c.finish.new.sink no_memory_line NoMemory c.finish.result (λ e. cc) (λ e. cc) c.finish.ensures in
-    reads_nothing input (streams g.S.Source g.K.Sink c.args.source.now c.args.sink.now) (streams g.S.Source g.K.Sink c.args.source.now c.finish.new.sink) c.finish.result (c.finish.ensures.printed, c.finish.ensures.taken) some good
+    let other = finished_otherwise g.K.Sink c.args.sink.now c.finish.new.sink no_memory_line NoMemory c.finish.result (λ e. cc, λ e. cc, λ name place e. cc) c.finish.ensures in
+    reads_nothing input (streams g.S.Source g.K.Sink c.args.source.now c.args.sink.now) (streams g.S.Source g.K.Sink c.args.source.now c.finish.new.sink) c.finish.result (c.finish.ensures.printed, c.finish.ensures.taken) other
     (keeps_up_at_first input (g.S.Source.asked c.args.source.now) (g.met.S.Source.since_asked c.args.source.now input told))
 
 pub returns-in-Some-clause-input : goal.returns-in-Some-clause-input

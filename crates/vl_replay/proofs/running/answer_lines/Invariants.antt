@@ -1,6 +1,6 @@
-use Rattle.std.proofs.Common.{◌≡◌, ◌+◌, ℕ, List, length, None, Some}
+use Rattle.std.proofs.Common.{◌≡◌, ◌+◌, ℕ, List, length, Some}
 use Rattle.vl_replay.specs.Reading.{HasRead, streams}
-use Rattle.vl_replay.specs.Represents.{Represents}
+use Rattle.vl_replay.specs.Replaying.{TakesLines, StandsFor, disk_of}
 use Rattle.vl_replay.specs.Runs.{script_of, outside}
 use Rattle.vl_replay.specs.Sequential.{State}
 use Rattle.vl_replay.specs.Steps.{kept}
@@ -10,18 +10,18 @@ use Rattle.vl_replay.proofs.running.answer_lines.Given as goal
 
 abbrev pub invariant-lines : goal.invariant-lines
 invariant-lines g l =
-    let begin = outside g.S.Source g.K.Sink l.fn.source l.fn.sink l.fn.replayer.disk in
-    let now = outside g.S.Source g.K.Sink l.source l.sink l.progress.replayer.disk in
+    let begin = outside g.S.Source g.K.Sink l.fn.source l.fn.sink (disk_of l.fn.replayer) in
+    let now = outside g.S.Source g.K.Sink l.source l.sink (disk_of l.progress.replayer) in
     record {
-      under_way : (s : State) (input : List ℕ) → Represents l.fn.replayer.store s → begin.left ≡ Some input
-          → UnderWay g.D.Watched IsStored Shown (script_of s 0 input) begin now (kept l.progress.replayer.store l.progress.buffer l.progress.answered);
+      under_way : (s : State) (input : List ℕ) → StandsFor l.fn.replayer s → begin.left ≡ Some input
+          → UnderWay g.D.Watched IsStored Shown (script_of s 0 input) begin now (kept (StandsFor l.progress.replayer) l.progress.buffer l.progress.answered);
       has_read : (input : List ℕ) → begin.left ≡ Some input
           → HasRead input (streams g.S.Source g.K.Sink l.fn.source l.fn.sink) (streams g.S.Source g.K.Sink l.source l.sink) l.progress.buffer l.progress.answered;
       source_steady : g.S.Source.faults l.source ≡ g.S.Source.faults l.fn.source;
       sink_steady : g.K.Sink.faults l.sink ≡ g.K.Sink.faults l.fn.sink;
-      disk_steady : g.D.Watched.faults l.progress.replayer.disk ≡ g.D.Watched.faults l.fn.replayer.disk;
+      disk_steady : g.D.Watched.faults (disk_of l.progress.replayer) ≡ g.D.Watched.faults (disk_of l.fn.replayer);
       mode : l.progress.on_fault ≡ l.fn.on_fault;
-      goes_on : l.progress.replayer.halted ≡ None;
+      goes_on : TakesLines l.progress.replayer;
     }
 
 abbrev pub decreases-lines : goal.decreases-lines

@@ -10,9 +10,10 @@ use Rattle.vl_replay.specs.declared.ending.Ending.TheVariants.{DiskFault, Stoppe
 use Rattle.vl_replay.specs.laws.Laws.{keeps_up_at_first}
 use Rattle.vl_replay.specs.Opening.{IsFault}
 use Rattle.vl_replay.specs.Reading.{streams}
+use Rattle.vl_replay.specs.Replaying.{disk_of}
 use Rattle.vl_replay.specs.Runs.{script_of, outside}
 use Rattle.vl_replay.specs.Start.{IsDurable}
-use Rattle.vl_replay.specs.Stored.{IsStored, Shown}
+use Rattle.vl_replay.specs.Stored.{IsStopped, IsStored, Shown}
 use Rattle.std.specs.Prelude.{Some, true, false}
 use Rattle.vl_replay.proofs.Disk.Logged.{shown_stays, stored_exactly}
 use Rattle.vl_replay.proofs.Runs.OpenedRuns.{ends_opened, ends_refused, refused, refused_nothing, refused_as, refused_line, not_for_words, not_silent, out_of_memory, counts_sink, counts_source, counts_disk}
@@ -22,10 +23,10 @@ use Rattle.vl_replay.proofs.running.replay.Goals as goal
 
 pub returns-in-Ok-clause-runs : goal.returns-in-Ok-clause-runs
 returns-in-Ok-clause-runs g c s input starts told =
-    ends_opened g.D.Watched (record { only_now = g.met.D.Disk.only_now; counts_now = g.met.D.Disk.counts_now }) IsStored Shown shown_stays stored_exactly
+    ends_opened g.D.Watched (record { only_now = g.met.D.Disk.only_now; counts_now = g.met.D.Disk.counts_now }) IsStored Shown IsStopped shown_stays stored_exactly
     (Tells g.D.Watched c.args.disk IsDurable) (script_of s 0 input)
     (outside g.S.Source g.K.Sink c.args.source.now c.args.sink.now c.args.disk) (outside g.S.Source g.K.Sink c.answer_lines.new.source c.answer_lines.new.sink c.answer_lines.result.disk)
-    (outside g.S.Source g.K.Sink c.args.source.now c.args.sink.now c.in-Ok.replayer.disk) c.answer_lines.result.ending refl refl (c.in-Ok.ensures.cause.steady (λ by. by))
+    (outside g.S.Source g.K.Sink c.args.source.now c.args.sink.now (disk_of c.in-Ok.replayer)) c.answer_lines.result.ending refl refl (c.in-Ok.ensures.cause.steady (λ by. by))
     (λ durable. c.in-Ok.ensures.holds s starts (durable.0, durable.1, durable.2.may_open)) (c.in-Ok.ensures.through s starts) (c.answer_lines.ensures.runs s input (c.in-Ok.ensures.store s starts) told)
 
 pub returns-in-Ok-clause-refused : goal.returns-in-Ok-clause-refused
@@ -44,7 +45,7 @@ returns-in-Err-clause-runs g c s input starts told =
     let how = ended.ensures.0 in
     let script = script_of s 0 input in
     let by_disk = Rose (g.D.Watched.faults c.args.disk) (g.D.Watched.faults c.in-Err.field-0.disk) in
-    ends_refused g.D.Watched (record { only_now = g.met.D.Disk.only_now; counts_now = g.met.D.Disk.counts_now }) IsStored Shown shown_stays stored_exactly
+    ends_refused g.D.Watched (record { only_now = g.met.D.Disk.only_now; counts_now = g.met.D.Disk.counts_now }) IsStored Shown IsStopped shown_stays stored_exactly
     (Tells g.D.Watched c.args.disk IsDurable) script
     (outside g.S.Source g.K.Sink c.args.source.now c.args.sink.now c.args.disk) (outside g.S.Source g.K.Sink c.args.source.now ended.new.sink c.in-Err.field-0.disk)
     ended.result (refused_nothing g.K.Sink c.args.sink.now ended.new.sink how ended.result ended.ensures.2)

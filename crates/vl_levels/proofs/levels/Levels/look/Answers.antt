@@ -1,8 +1,10 @@
-use Rattle.std.specs.Prelude.{Ok, Err, None}
+use Rattle.std.specs.Prelude.{Ok, Err, None, Option, Result}
 use Rattle.std.specs.Option.{option_map}
 use Rattle.std.proofs.Common.{◌∙◌, ◌++◌, ap, refl, sym, subst, List}
 use Rattle.std.proofs.lemmas.Result.{err_from_is_err_and}
 use Rattle.vl_block.specs.Founds.{found_of}
+use Rattle.vl_block.specs.declared.found.Found.{Found}
+use Rattle.vl_table.specs.declared.fault.TableFault.{TableFault}
 use Rattle.vl_table.specs.KeptBlocks.{ReadsOf}
 use Rattle.vl_table.specs.declared.table.Table.{Table}
 use Rattle.vl_levels.specs.LevelTables.{AreAllApart, AreAllRanged, all_tables}
@@ -10,7 +12,7 @@ use Rattle.vl_levels.specs.LevelsLooked.{AreInOrder}
 use Rattle.vl_levels.specs.LookedUp.{LooksInAll, LooksOn}
 use Rattle.vl_levels.proofs.LookSteps.{fails_on, goes_on, looked_up}
 use Rattle.vl_levels.proofs.ReadsOfSome.{read_back, read_front, read_on}
-use Rattle.vl_levels.proofs.Through.{in_all-append}
+use Rattle.vl_levels.proofs.Through.{in_all-append, in_all-front}
 use Rattle.vl_levels.proofs.levels.Levels.look.Goals as goal
 
 pub returns-in_err-newer-clause-kept : goal.returns-in_err-newer-clause-kept
@@ -76,9 +78,22 @@ returns-clause-looks g c = λ files reads laid.
     let back = subst (λ (l : List (List (Table g.row.H.Denot))). ReadsOf bytes_of files c.look_in_each.new.reader (all_tables l)) (sym c.deref-2.ensures.value)
     (read_on bytes_of files c.args.reader.now c.look_in_each.new.reader (all_tables self.deeper.items) (c.look_in_each.ensures.kept files front)
     (read_back bytes_of files c.args.reader.now self.newest.items (all_tables self.deeper.items) reads)) in
-    in_all-append bytes_of c.args.look c.args.key.now self.newest.items (all_tables self.deeper.items) None c.in_ok-newer.newer c.look_in_levels.result
+    in_all-append bytes_of c.args.look c.args.key.now self.newest.items (all_tables self.deeper.items) None (option_map (found_of c.args.key.now) c.in_ok-newer.newer) c.look_in_levels.result
     (subst (λ (l : List (Table g.row.H.Denot)). LooksInAll bytes_of c.args.look c.args.key.now None l (Ok c.in_ok-newer.newer)) c.deref.ensures.value
     (c.in_ok-newer.ensures.looks files front))
     (subst (λ (l : List (List (Table g.row.H.Denot))). AreAllApart l → AreAllRanged l → LooksInAll bytes_of c.args.look c.args.key.now
     (option_map (found_of c.args.key.now) c.in_ok-newer.newer) (all_tables l) c.look_in_levels.result)
     c.deref-2.ensures.value (c.look_in_levels.ensures.looks files back) laid.0 laid.1)
+
+pub returns-in_err-newer-clause-looks : goal.returns-in_err-newer-clause-looks
+returns-in_err-newer-clause-looks g c = λ files reads laid.
+    let self = c.args.self.now in
+    let bytes_of = g.H.HeldFile.bytes in
+    let front = subst (ReadsOf bytes_of files c.args.reader.now) (sym c.deref.ensures.value)
+    (read_front bytes_of files c.args.reader.now self.newest.items (all_tables self.deeper.items) reads) in
+    let p = err_from_is_err_and c.from_residual.result c.from_residual.ensures.1 in
+    subst (λ (r : Result (Option Found) TableFault). LooksInAll bytes_of c.args.look c.args.key.now None (self.newest.items ++ all_tables self.deeper.items) r)
+    (sym (p.1 ∙ ap Err p.2))
+    (in_all-front bytes_of c.args.look c.args.key.now self.newest.items (all_tables self.deeper.items) None c.in_err-newer.field-0.0
+    (subst (λ (l : List (Table g.row.H.Denot)). LooksInAll bytes_of c.args.look c.args.key.now None l (Err c.in_err-newer.field-0.0))
+    c.deref.ensures.value (c.in_err-newer.ensures.looks files front)))

@@ -2,9 +2,10 @@ use Rattle.std.proofs.Common.{◌∙◌, ◌++◌, ℕ, List, refl, subst, sym, 
 use Rattle.vl_disk.specs.Faults.{Rose}
 use Rattle.vl_replay.specs.Endings.{Evidence, no_memory_line, read_fault_line}
 use Rattle.vl_replay.specs.Reading.{ReadsOn, streams}
+use Rattle.vl_replay.specs.Replaying.{StandsFor, disk_of}
 use Rattle.vl_replay.specs.Runs.{outside}
 use Rattle.vl_replay.specs.Steps.{kept, Steps}
-use Rattle.vl_replay.specs.Stored.{IsStored, Shown}
+use Rattle.vl_replay.specs.Stored.{IsStopped, IsStored, Shown}
 use Rattle.vl_replay.specs.declared.ending.Ending.TheVariants.{NoMemory, ReadFault}
 use Rattle.vl_replay.specs.declared.input.lines.Next.TheVariants.{Line as WholeLine, LastLine, TooLong, End}
 use Rattle.vl_replay.proofs.Runs.Ends.{too_long_is_bad, finished, finish_counts, line_leaves_disk, ended_lines-none}
@@ -16,19 +17,19 @@ use Rattle.vl_replay.proofs.running.Progress.step.Goals as goal
 pub returns-in-Ok-Line-clause-runs : goal.returns-in-Ok-Line-clause-runs
 returns-in-Ok-Line-clause-runs g c script to_do =
     let reads = reads_script WholeLine script.bytes (c.args.self.now.buffer ++ to_do.rest) c.read_line.new.line.items c.read_line.new.buffer (g.S.Source.left c.read_line.new.source) to_do.bytes_are (rw c.in-Ok-Line.field-0-is at (c.in-Ok-Line.ensures.line to_do.rest to_do.left_is)) in
-    let old = outside g.S.Source g.K.Sink c.args.source.now c.args.sink.now c.args.self.now.replayer.disk in
-    let new = outside g.S.Source g.K.Sink c.read_line.new.source c.answer.new.sink c.answer.new.self.replayer.disk in
-    subst (λ (b : List ℕ). Steps g.D.Watched IsStored Shown script old new (kept c.answer.new.self.replayer.store b c.answer.new.self.answered) c.answer.result) (sym c.answer.ensures.same)
-    (step_line g.D.Watched (record { only_now = g.met.D.Disk.only_now; counts_now = g.met.D.Disk.counts_now }) IsStored Shown shown_stays stored_exactly script old new c.read_line.new.line.items c.answer.new.self.replayer.store c.read_line.new.buffer c.answer.new.self.answered c.answer.result (c.answer.ensures.counted script.before to_do.count) reads
+    let old = outside g.S.Source g.K.Sink c.args.source.now c.args.sink.now (disk_of c.args.self.now.replayer) in
+    let new = outside g.S.Source g.K.Sink c.read_line.new.source c.answer.new.sink (disk_of c.answer.new.self.replayer) in
+    subst (λ (b : List ℕ). Steps g.D.Watched IsStored Shown IsStopped script old new (kept (StandsFor c.answer.new.self.replayer) b c.answer.new.self.answered) c.answer.result) (sym c.answer.ensures.same)
+    (step_line g.D.Watched (record { only_now = g.met.D.Disk.only_now; counts_now = g.met.D.Disk.counts_now }) IsStored Shown IsStopped shown_stays stored_exactly script old new c.read_line.new.line.items (StandsFor c.answer.new.self.replayer) c.read_line.new.buffer c.answer.new.self.answered c.answer.result (c.answer.ensures.counted script.before to_do.count) reads
     (c.answer.ensures.printed script to_do.stands to_do.count (next_line script c.read_line.new.line.items c.read_line.new.buffer (g.S.Source.left c.read_line.new.source) reads)) (c.answer.ensures.moves script.start to_do.stands) (still_keeps_up script.bytes (c.args.self.now.buffer ++ to_do.rest) (g.S.Source.asked c.args.source.now) (g.S.Source.asked c.read_line.new.source) to_do.bytes_are (c.read_line.ensures.keeps_up to_do.rest to_do.left_is) to_do.kept_up))
 
 pub returns-in-Ok-LastLine-clause-runs : goal.returns-in-Ok-LastLine-clause-runs
 returns-in-Ok-LastLine-clause-runs g c script to_do =
     let reads = reads_script LastLine script.bytes (c.args.self.now.buffer ++ to_do.rest) c.read_line.new.line.items c.read_line.new.buffer (g.S.Source.left c.read_line.new.source) to_do.bytes_are (rw c.in-Ok-LastLine.field-0-is at (c.in-Ok-LastLine.ensures.line to_do.rest to_do.left_is)) in
     let answered = c.answer-in-Ok-LastLine in
-    let old = outside g.S.Source g.K.Sink c.args.source.now c.args.sink.now c.args.self.now.replayer.disk in
-    let new = outside g.S.Source g.K.Sink c.read_line.new.source answered.new.sink answered.new.self.replayer.disk in
-    step_last g.D.Watched (record { only_now = g.met.D.Disk.only_now; counts_now = g.met.D.Disk.counts_now }) IsStored Shown shown_stays stored_exactly script old new c.read_line.new.line.items answered.new.self.replayer.store c.read_line.new.buffer answered.result c.unwrap_or.result c.unwrap_or.ensures reads
+    let old = outside g.S.Source g.K.Sink c.args.source.now c.args.sink.now (disk_of c.args.self.now.replayer) in
+    let new = outside g.S.Source g.K.Sink c.read_line.new.source answered.new.sink (disk_of answered.new.self.replayer) in
+    step_last g.D.Watched (record { only_now = g.met.D.Disk.only_now; counts_now = g.met.D.Disk.counts_now }) IsStored Shown IsStopped shown_stays stored_exactly script old new c.read_line.new.line.items (StandsFor answered.new.self.replayer) c.read_line.new.buffer answered.result c.unwrap_or.result c.unwrap_or.ensures reads
     (answered.ensures.printed script to_do.stands to_do.count (next_last script c.read_line.new.line.items c.read_line.new.buffer (g.S.Source.left c.read_line.new.source) reads)) (answered.ensures.moves script.start to_do.stands) (still_keeps_up script.bytes (c.args.self.now.buffer ++ to_do.rest) (g.S.Source.asked c.args.source.now) (g.S.Source.asked c.read_line.new.source) to_do.bytes_are (c.read_line.ensures.keeps_up to_do.rest to_do.left_is) to_do.kept_up)
 
 pub returns-in-Ok-TooLong-clause-runs : goal.returns-in-Ok-TooLong-clause-runs
@@ -36,21 +37,21 @@ returns-in-Ok-TooLong-clause-runs g c script to_do =
     let (text, texts, lines, long) = reads_script TooLong script.bytes (c.args.self.now.buffer ++ to_do.rest) c.read_line.new.line.items c.read_line.new.buffer (g.S.Source.left c.read_line.new.source) to_do.bytes_are (rw c.in-Ok-TooLong.field-0-is at (c.in-Ok-TooLong.ensures.line to_do.rest to_do.left_is)) in
     let left = g.S.Source.left c.read_line.new.source in
     let ended = c.end_at_bad_line in
-    step_apart g.D.Watched (record { only_now = g.met.D.Disk.only_now; counts_now = g.met.D.Disk.counts_now }) IsStored Shown shown_stays stored_exactly script
-    (outside g.S.Source g.K.Sink c.args.source.now c.args.sink.now c.args.self.now.replayer.disk) (outside g.S.Source g.K.Sink c.read_line.new.source ended.new.sink c.args.self.now.replayer.disk)
+    step_apart g.D.Watched (record { only_now = g.met.D.Disk.only_now; counts_now = g.met.D.Disk.counts_now }) IsStored Shown IsStopped shown_stays stored_exactly script
+    (outside g.S.Source g.K.Sink c.args.source.now c.args.sink.now (disk_of c.args.self.now.replayer)) (outside g.S.Source g.K.Sink c.read_line.new.source ended.new.sink (disk_of c.args.self.now.replayer))
     ⊥ (λ never. absurd never) ended.result (ended.ensures.whole, ended.ensures.not_the_disk) refl (ended.ensures.printed script text left to_do.count (texts, lines) (too_long_is_bad script.start text long)) (still_keeps_up script.bytes (c.args.self.now.buffer ++ to_do.rest) (g.S.Source.asked c.args.source.now) (g.S.Source.asked c.read_line.new.source) to_do.bytes_are (c.read_line.ensures.keeps_up to_do.rest to_do.left_is) to_do.kept_up)
 
 pub returns-in-Ok-End-clause-runs : goal.returns-in-Ok-End-clause-runs
 returns-in-Ok-End-clause-runs g c script to_do =
     let reads = reads_script End script.bytes (c.args.self.now.buffer ++ to_do.rest) c.read_line.new.line.items c.read_line.new.buffer (g.S.Source.left c.read_line.new.source) to_do.bytes_are (rw c.in-Ok-End.field-0-is at (c.in-Ok-End.ensures.line to_do.rest to_do.left_is)) in
-    step_end g.D.Watched (record { only_now = g.met.D.Disk.only_now; counts_now = g.met.D.Disk.counts_now }) IsStored Shown shown_stays stored_exactly script
-    (outside g.S.Source g.K.Sink c.args.source.now c.args.sink.now c.args.self.now.replayer.disk) (outside g.S.Source g.K.Sink c.read_line.new.source c.args.sink.now c.args.self.now.replayer.disk)
+    step_end g.D.Watched (record { only_now = g.met.D.Disk.only_now; counts_now = g.met.D.Disk.counts_now }) IsStored Shown IsStopped shown_stays stored_exactly script
+    (outside g.S.Source g.K.Sink c.args.source.now c.args.sink.now (disk_of c.args.self.now.replayer)) (outside g.S.Source g.K.Sink c.read_line.new.source c.args.sink.now (disk_of c.args.self.now.replayer))
     reads.1 reads.0 refl refl (still_keeps_up script.bytes (c.args.self.now.buffer ++ to_do.rest) (g.S.Source.asked c.args.source.now) (g.S.Source.asked c.read_line.new.source) to_do.bytes_are (c.read_line.ensures.keeps_up to_do.rest to_do.left_is) to_do.kept_up)
 
 pub returns-in-Err-NoMemory-clause-runs : goal.returns-in-Err-NoMemory-clause-runs
 returns-in-Err-NoMemory-clause-runs g c script to_do =
-    step_apart g.D.Watched (record { only_now = g.met.D.Disk.only_now; counts_now = g.met.D.Disk.counts_now }) IsStored Shown shown_stays stored_exactly script
-    (outside g.S.Source g.K.Sink c.args.source.now c.args.sink.now c.args.self.now.replayer.disk) (outside g.S.Source g.K.Sink c.read_line.new.source c.finish.new.sink c.args.self.now.replayer.disk)
+    step_apart g.D.Watched (record { only_now = g.met.D.Disk.only_now; counts_now = g.met.D.Disk.counts_now }) IsStored Shown IsStopped shown_stays stored_exactly script
+    (outside g.S.Source g.K.Sink c.args.source.now c.args.sink.now (disk_of c.args.self.now.replayer)) (outside g.S.Source g.K.Sink c.read_line.new.source c.finish.new.sink (disk_of c.args.self.now.replayer))
     ⊥ (λ never. absurd never) c.finish.result (line_leaves_disk g.K.Sink _ _ _ NoMemory c.finish.result (λ e. cc, λ e. cc) c.finish.ensures) refl
     (finished g.K.Sink c.args.sink.now c.finish.new.sink (Evidence ⊥ ⊥) script (g.S.Source.left c.read_line.new.source) NoMemory c.finish.result no_memory_line refl tt c.finish.ensures)
     (still_keeps_up script.bytes (c.args.self.now.buffer ++ to_do.rest) (g.S.Source.asked c.args.source.now) (g.S.Source.asked c.read_line.new.source) to_do.bytes_are (c.read_line.ensures.keeps_up to_do.rest to_do.left_is) to_do.kept_up)
@@ -64,8 +65,8 @@ returns-in-Err-Fault-clause-runs g c script to_do =
     let fault = c.in-Err-Fault.is ∙ ap Err c.in-Err-Fault.field-0-is in
     let (given, rest, left_is, parts, unended) = c.read_line.ensures.within fault to_do.rest to_do.left_is in
     let rose = c.read_line.ensures.cause.rose fault in
-    step_apart g.D.Watched (record { only_now = g.met.D.Disk.only_now; counts_now = g.met.D.Disk.counts_now }) IsStored Shown shown_stays stored_exactly script
-    (outside g.S.Source g.K.Sink c.args.source.now c.args.sink.now c.args.self.now.replayer.disk) (outside g.S.Source g.K.Sink c.read_line.new.source ended.new.sink c.args.self.now.replayer.disk)
+    step_apart g.D.Watched (record { only_now = g.met.D.Disk.only_now; counts_now = g.met.D.Disk.counts_now }) IsStored Shown IsStopped shown_stays stored_exactly script
+    (outside g.S.Source g.K.Sink c.args.source.now c.args.sink.now (disk_of c.args.self.now.replayer)) (outside g.S.Source g.K.Sink c.read_line.new.source ended.new.sink (disk_of c.args.self.now.replayer))
     (Rose (g.S.Source.faults c.args.source.now) (g.S.Source.faults c.read_line.new.source)) (λ rose. rose) ended.result (line_leaves_disk g.K.Sink _ _ _ ReadFault ended.result (λ e. cc, λ e. cc) ended.ensures) refl
     (finished g.K.Sink c.args.sink.now ended.new.sink (Evidence (Rose (g.S.Source.faults c.args.source.now) (g.S.Source.faults c.read_line.new.source)) ⊥) script (g.S.Source.left c.read_line.new.source) ReadFault ended.result read_fault_line refl
     (rose, (given, rest, to_do.bytes_are ∙ parts, left_is, sym (ended_lines-none given unended))) ended.ensures)
@@ -122,7 +123,7 @@ returns-in-Err-NoMemory-clause-reads g c input begin h =
     let buffer = c.args.self.now.buffer in
     let count = c.args.self.now.answered in
     reads_end input begin old new buffer count h c.finish.result (c.read_line.ensures.keeps_up h.rest h.left_is h.kept_up)
-    (finishes_otherwise g.K.Sink c.args.sink.now c.finish.new.sink no_memory_line NoMemory c.finish.result _ count (λ e. cc) (λ e. cc) c.finish.ensures)
+    (finishes_otherwise g.K.Sink c.args.sink.now c.finish.new.sink no_memory_line NoMemory c.finish.result _ _ count (λ e. cc, λ e. cc, λ name place e. cc) c.finish.ensures)
 
 pub returns-in-Err-Fault-clause-reads : goal.returns-in-Err-Fault-clause-reads
 returns-in-Err-Fault-clause-reads g c input begin h =
@@ -132,4 +133,4 @@ returns-in-Err-Fault-clause-reads g c input begin h =
     let buffer = c.args.self.now.buffer in
     let count = c.args.self.now.answered in
     reads_end input begin old new buffer count h ended.result (c.read_line.ensures.keeps_up h.rest h.left_is h.kept_up)
-    (finishes_otherwise g.K.Sink c.args.sink.now ended.new.sink read_fault_line ReadFault ended.result _ count (λ e. cc) (λ e. cc) ended.ensures)
+    (finishes_otherwise g.K.Sink c.args.sink.now ended.new.sink read_fault_line ReadFault ended.result _ _ count (λ e. cc, λ e. cc, λ name place e. cc) ended.ensures)

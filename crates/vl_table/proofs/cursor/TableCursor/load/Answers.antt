@@ -7,11 +7,12 @@ use Rattle.vl_model.specs.declared.entry.Entry.{Entry}
 use Rattle.vl_run.specs.Order.{within}
 use Rattle.vl_run.specs.laws.Places.{slice_get-lent}
 use Rattle.vl_block.specs.declared.shape.TableShape.{TableShape}
-use Rattle.vl_table.specs.CursorParts.{MayFailOn, blocks_over, index_in}
+use Rattle.vl_table.specs.CursorLeft.{unread}
+use Rattle.vl_table.specs.CursorParts.{MayFailOn, StopsBefore, blocks_over, index_in}
 use Rattle.vl_table.specs.Stretches.{on_way, stretch_of}
 use Rattle.vl_table.specs.declared.fault.TableFault.{TableFault}
 use Rattle.vl_table.specs.declared.table.Table.{Table}
-use Rattle.vl_table.proofs.CursorSteps.{block_taken, fails_at, stands_at, whole_block}
+use Rattle.vl_table.proofs.CursorSteps.{block_taken, fails_at, stands_at, stops_before, whole_block}
 use Rattle.vl_table.proofs.StretchSteps.{less_on}
 use Rattle.vl_table.proofs.cursor.TableCursor.load.Goals as goal
 
@@ -49,3 +50,19 @@ returns-clause-read g c =
           c.in_ok-load.ensures.answers.answer;
       taken = ap (λ (l : List Entry). within s.span (on_way s.way l)) (whole_block c.load.new.self c.len.result c.len.ensures.exact);
     }
+
+pub returns-in_err-load-clause-stopped : goal.returns-in_err-load-clause-stopped
+returns-in_err-load-clause-stopped g c =
+    let s = c.args.self.now in
+    let t = c.in-Some.table.now in
+    let shape = c.shape-shape.result.now in
+    let here : slice_get s.tables.items s.table ≡ Some t =
+    sym (slice_get-lent c.deref.result.now s.table (Some c.in-Some.table) c.in-Some.ensures.lookup ∙ ap (λ (l : List (Table g.row.H.Denot)). slice_get l s.table) c.deref.ensures.value) in
+    let block = c.index.result.now in
+    let others = blocks_over s.span s.way (on_way s.way (stretch_of s.later s.tables.items)) in
+    let first = block_taken s.way s.tables.items s.table t s.blocks c.args.rest c.args.at block others here s.named c.requires.next
+    (c.index.ensures ∙ ap (λ (h : TableShape). get_or h.blocks.items c.args.at block) c.shape-shape.ensures) in
+    let p = err_from_is_err_and c.from_residual.result c.from_residual.ensures.1 in
+    subst (λ (r : Result (Unit {0}) TableFault). IfErr r (λ fault. StopsBefore g.H.HeldFile.bytes (unread s) fault)) (sym (p.1 ∙ ap Err p.2))
+    (stops_before g.H.HeldFile.bytes (unread s) _ t shape c.held.result.now c.of-id.result block _ _ _ c.in_err-load.field-0.0 first c.shape-shape.ensures
+    c.held.ensures c.of-id.ensures c.in_err-load.ensures.answers)

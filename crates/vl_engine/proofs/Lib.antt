@@ -1,0 +1,14 @@
+pub mod Appending
+pub mod Beginning
+pub mod Carrying
+pub mod Committing
+pub mod Filing
+pub mod Halted
+pub mod Knowing
+pub mod Opened
+pub mod Represented
+pub mod Ruled
+pub mod Seeing
+pub mod Staged
+pub mod Standing
+pub mod Written

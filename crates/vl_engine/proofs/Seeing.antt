@@ -1,0 +1,111 @@
+-- What reads leave of what a transaction sees.
+use Rattle.std.specs.Prelude.{IsErrAnd, ◌≡◌, ℕ, List, [], ◌∷◌, ◌++◌, is_some, if◌then◌else◌, Option, None, Some, Result, Ok, Err}
+use Rattle.std.specs.FinMap.{get}
+use Rattle.std.specs.Option.{option_map}
+use Rattle.std.proofs.Common.{ap, refl, sym, subst, ◌∙◌}
+use Rattle.vl_disk.specs.declared.name.Name.{Name}
+use Rattle.vl_engine.specs.Reading.{IsSound, value_under, written_value}
+use Rattle.vl_engine.specs.Refusing.{as_failed_read}
+use Rattle.vl_engine.specs.Sees.{Sees, ShowsAt}
+use Rattle.vl_engine.specs.declared.fails.ReadFail.{ReadFail}
+use Rattle.vl_engine.specs.declared.fails.ReadFail.TheVariants as fails
+use Rattle.vl_engine.specs.declared.txn.Txn.{Txn}
+use Rattle.vl_model.specs.History.{History, contents_at, value_at, value_left}
+use Rattle.vl_model.specs.Keys.{Row, Stored, Writes}
+use Rattle.vl_model.specs.Notes.{AreNotesOf}
+use Rattle.vl_model.specs.Reads.{IsExplained, IsExplainedRead, KeyRead, RangeRead, Read, rows_of}
+use Rattle.vl_model.specs.declared.change.Change.{Change}
+use Rattle.vl_model.specs.declared.way.Way.{Way}
+use Rattle.vl_txn.specs.Reads.{NotesGet, NotesScan, scan_of, with_get, with_scan}
+use Rattle.vl_version.specs.Answers.{IsAnswer}
+use Rattle.vl_version.specs.Faults.{Failed}
+use Rattle.vl_version.specs.declared.fault.ReadFault.{ReadFault as VersionFault}
+use Rattle.vl_version.specs.declared.fault.ReadFault.TheVariants as faults
+
+-- ---- faults
+
+-- Where nothing is astray and no log is read, a read that fails has met neither damage nor a fault of its reader.
+pub fault_sound : {T U : Type 0} (good : T → Type 0) (bad : Name → ℕ → Type 0) → ((name : Name) (place : ℕ) → bad name place → ⊥)
+    → (fault : VersionFault) → (Failed {T = T} (Err fault) → ⊥) → IsAnswer good bad (Err fault)
+    → (result : Result U ReadFail) → IsErrAnd result (λ why. why ≡ as_failed_read fault) → IsSound result
+fault_sound good bad fine fault alone is (Ok answer) failed = absurd failed
+fault_sound {U = U} good bad fine faults.NoMemory alone is (Err e) failed =
+    subst (λ (e : ReadFail). IsSound {T = U} (Err e)) (sym failed) ((λ (b : ⊥). b), λ (b : ⊥). b)
+fault_sound good bad fine (faults.Disk name) alone is (Err e) failed = absurd (alone tt)
+fault_sound good bad fine (faults.Damaged name place) alone is (Err e) failed = absurd (fine name place is)
+
+-- a failure that is handed on is as sound
+sound_still : (T U : Type 0) (why : ReadFail) → IsSound {T = T} (Err why) → IsSound {T = U} (Err why)
+sound_still T U fails.EmptyKey sound = sound
+sound_still T U fails.KeyTooLong sound = sound
+sound_still T U fails.NoMemory sound = sound
+sound_still T U (fails.Disk name) sound = sound
+sound_still T U (fails.Damaged name place) sound = sound
+
+pub handed_on : (T U : Type 0) (why : ReadFail) → IsSound {T = T} (Err why) → (result : Result U ReadFail)
+    → IsErrAnd result (λ e. e ≡ why) → IsSound result
+handed_on T U why sound (Ok answer) failed = absurd failed
+handed_on T U why sound (Err e) failed =
+    subst (λ (f : ReadFail). IsSound {T = U} (Err f)) (sym failed) (sound_still T U why sound)
+
+-- ---- own writes
+
+-- a key that has no own write
+pub unwritten : (change : Option Change) (own : Option (Option Stored)) → own ≡ option_map written_value change → own ≡ None
+    → change ≡ None
+unwritten None own is none = refl
+unwritten (Some change) own is none = absurd (apart (written_value change) (sym is ∙ none))
+  where
+    apart : (value : Option Stored) → Some value ≡ None → ⊥
+    apart value e = cc
+
+-- has what is seen of it
+pub seen_under : (own : Writes) (h : History) (n : ℕ) (key : List ℕ) → get own key ≡ None
+    → value_at h n key ≡ value_under own h n key
+seen_under own h n key none = ap (value_left (value_at h n key)) (sym none)
+
+-- ---- what is noted
+
+-- with one more read that is explained, all are
+pub explained_too : (h : History) (n : ℕ) (reads : List Read) (read : Read) → IsExplained h n reads
+    → IsExplainedRead h n read → IsExplained h n (reads ++ read ∷ [])
+explained_too h n [] read all one = (one, tt)
+explained_too h n (r ∷ rs) read all one = (all.0, explained_too h n rs read all.1 one)
+
+-- a get without an own write is one read more
+pub one_read_more : (own : Writes) (reads : List Read) (key : List ℕ) (answer : Option Stored) → get own key ≡ None
+    → with_get own reads key answer ≡ reads ++ KeyRead key answer ∷ []
+one_read_more own reads key answer none =
+    ap (λ (change : Option Change). if is_some change then reads else (reads ++ KeyRead key answer ∷ [])) none
+
+module _ {H R : Type 0} (bytes : H → Option (List ℕ)) (old new : Txn H R) (h : History) (reads : List Read)
+    (sees : Sees bytes old h reads) where
+  -- behind a get of a key that it hasn't written
+  pub sees_get : (key : List ℕ) → new.version ≡ old.version → new.number ≡ old.number → get old.writes key ≡ None
+      → NotesGet old.writes key old.reads new.reads
+      → Sees bytes new h (reads ++ KeyRead key (value_at h old.number key) ∷ [])
+  sees_get key version number none noted = record {
+    version = subst (λ (n : ℕ). ShowsAt bytes new.version h n) (sym number)
+        (subst (λ v. ShowsAt bytes v h old.number) (sym version) sees.version);
+    notes = subst (λ (rs : List Read). AreNotesOf rs new.reads.keys new.reads.spans)
+        (one_read_more old.writes reads key (value_at h old.number key) none) (noted reads (value_at h old.number key) sees.notes);
+    explained = subst (λ (n : ℕ). IsExplained h n (reads ++ KeyRead key (value_at h old.number key) ∷ [])) (sym number)
+        (explained_too h old.number reads (KeyRead key (value_at h old.number key)) sees.explained refl);
+  }
+
+  -- behind a scan
+  pub sees_scan : (low high : List ℕ) (limit : ℕ) (way : Way) (given rows : List Row) → given ≡ rows
+      → new.version ≡ old.version → new.number ≡ old.number
+      → rows ≡ rows_of (contents_at h old.number) (scan_of low high limit way rows old.writes)
+      → NotesScan (scan_of low high limit way given) old.reads new.reads
+      → Sees bytes new h (with_scan reads (scan_of low high limit way rows old.writes))
+  sees_scan low high limit way given rows same version number is noted =
+      let scan = scan_of low high limit way rows old.writes in
+      record {
+        version = subst (λ (n : ℕ). ShowsAt bytes new.version h n) (sym number)
+            (subst (λ v. ShowsAt bytes v h old.number) (sym version) sees.version);
+        notes = subst (λ (rs : List Row). AreNotesOf (with_scan reads (scan_of low high limit way rs old.writes)) new.reads.keys new.reads.spans)
+            same (noted reads old.writes sees.notes);
+        explained = subst (λ (n : ℕ). IsExplained h n (with_scan reads scan)) (sym number)
+            (explained_too h old.number reads (RangeRead scan) sees.explained is);
+      }

@@ -1,0 +1,183 @@
+use Rattle.std.proofs.Common.{refl, sym, ◌∙◌}
+use Rattle.std.specs.Prelude.{[]}
+use Rattle.vl_engine.proofs.Committing.{carries_unwritten, decides_leaving}
+use Rattle.vl_engine.proofs.Ruled.{carries_by, carries_refused_by, decides_by, files_by, no_conflict_by, ruling_so, stands_by, stops_by, unwritten_here}
+use Rattle.vl_engine.proofs.engine.Engine.commit.Goals as goal
+use Rattle.vl_engine.specs.Represents.{Fronts, StandsFor, file_of}
+use Rattle.vl_front.specs.declared.decision.Decision.TheVariants as decisions
+use Rattle.vl_layout.specs.Ruling.{ended}
+use Rattle.vl_layout.specs.Rulings.Commit as answers
+use Rattle.vl_model.specs.declared.counter.Counter.TheVariants as counters
+
+pub returns-in_default-clause-carries : goal.returns-in_default-clause-carries
+returns-in_default-clause-carries g c h l reads is lives notes =
+    let core = c.args.self.now.core in
+    let disk = c.args.self.now.disk in
+    carries_unwritten g.D.Held.HeldFile.bytes core core h l c.args.txn.ticket c.args.txn.number reads c.args.txn.writes refl
+    g.D.Watched disk disk (unwritten_here g.D.Watched disk core)
+    (record { only_now = g.met.D.Disk.only_now; counts_now = g.met.D.Disk.counts_now }) is
+
+pub returns-in-Halted-clause-decides : goal.returns-in-Halted-clause-decides
+returns-in-Halted-clause-decides g c h l reads is lives notes =
+    decides_leaving (Fronts c.end.new.self.core) h l _ _ (answers.Halted (file_of c.in-Halted.name)) (ended c.args.txn.ticket l)
+    (ruling_so c.args.self.now.core h l is c.args.txn.ticket c.args.txn.number reads c.args.txn.writes (decisions.Halted c.in-Halted.name) lives
+    (λ floor remembers below. sym c.in-Halted.is ∙ c.in-Ok.ensures.decided h floor reads remembers below notes))
+    (c.end.ensures.decides h l is)
+
+pub returns-in-Halted-clause-stands : goal.returns-in-Halted-clause-stands
+returns-in-Halted-clause-stands g c h l reads is lives notes =
+    decides_leaving (StandsFor g.D.Held.HeldFile.bytes c.end.new.self.core) h l _ _ (answers.Halted (file_of c.in-Halted.name)) (ended c.args.txn.ticket l)
+    (ruling_so c.args.self.now.core h l is.fronts c.args.txn.ticket c.args.txn.number reads c.args.txn.writes (decisions.Halted c.in-Halted.name) lives
+    (λ floor remembers below. sym c.in-Halted.is ∙ c.in-Ok.ensures.decided h floor reads remembers below notes))
+    (c.end.ensures.stands h l is)
+
+pub returns-in-Halted-clause-carries : goal.returns-in-Halted-clause-carries
+returns-in-Halted-clause-carries g c h l reads is lives notes =
+    carries_refused_by g.D.Watched (record { only_now = g.met.D.Disk.only_now; counts_now = g.met.D.Disk.counts_now })
+    g.D.Held.HeldFile.bytes c.args.self.now.disk c.end.new.self.disk c.args.self.now.core c.end.new.self.core h l
+    c.args.txn.ticket c.args.txn.number reads c.args.txn.writes c.end.ensures.back (answers.Halted (file_of c.in-Halted.name)) (ended c.args.txn.ticket l)
+    (ruling_so c.args.self.now.core h l is.stands.fronts c.args.txn.ticket c.args.txn.number reads c.args.txn.writes (decisions.Halted c.in-Halted.name) lives
+    (λ floor remembers below. sym c.in-Halted.is ∙ c.in-Ok.ensures.decided h floor reads remembers below notes))
+    c.end.ensures.disk is (c.end.ensures.represents h l is)
+
+pub returns-in-Nothing-clause-decides : goal.returns-in-Nothing-clause-decides
+returns-in-Nothing-clause-decides g c h l reads is lives notes =
+    decides_leaving (Fronts c.end-in-Nothing.new.self.core) h l _ _ answers.Nothing (ended c.args.txn.ticket l)
+    (ruling_so c.args.self.now.core h l is c.args.txn.ticket c.args.txn.number reads c.args.txn.writes decisions.Nothing lives
+    (λ floor remembers below. sym c.in-Nothing.is ∙ c.in-Ok.ensures.decided h floor reads remembers below notes))
+    (c.end-in-Nothing.ensures.decides h l is)
+
+pub returns-in-Nothing-clause-stands : goal.returns-in-Nothing-clause-stands
+returns-in-Nothing-clause-stands g c h l reads is lives notes =
+    decides_leaving (StandsFor g.D.Held.HeldFile.bytes c.end-in-Nothing.new.self.core) h l _ _ answers.Nothing (ended c.args.txn.ticket l)
+    (ruling_so c.args.self.now.core h l is.fronts c.args.txn.ticket c.args.txn.number reads c.args.txn.writes decisions.Nothing lives
+    (λ floor remembers below. sym c.in-Nothing.is ∙ c.in-Ok.ensures.decided h floor reads remembers below notes))
+    (c.end-in-Nothing.ensures.stands h l is)
+
+pub returns-in-Nothing-clause-carries : goal.returns-in-Nothing-clause-carries
+returns-in-Nothing-clause-carries g c h l reads is lives notes =
+    carries_refused_by g.D.Watched (record { only_now = g.met.D.Disk.only_now; counts_now = g.met.D.Disk.counts_now })
+    g.D.Held.HeldFile.bytes c.args.self.now.disk c.end-in-Nothing.new.self.disk c.args.self.now.core c.end-in-Nothing.new.self.core h l
+    c.args.txn.ticket c.args.txn.number reads c.args.txn.writes c.end-in-Nothing.ensures.back answers.Nothing (ended c.args.txn.ticket l)
+    (ruling_so c.args.self.now.core h l is.stands.fronts c.args.txn.ticket c.args.txn.number reads c.args.txn.writes decisions.Nothing lives
+    (λ floor remembers below. sym c.in-Nothing.is ∙ c.in-Ok.ensures.decided h floor reads remembers below notes))
+    c.end-in-Nothing.ensures.disk is (c.end-in-Nothing.ensures.represents h l is)
+
+pub returns-in-Exhausted-clause-decides : goal.returns-in-Exhausted-clause-decides
+returns-in-Exhausted-clause-decides g c h l reads is lives notes =
+    decides_leaving (Fronts c.args.self.now.core) h l _ _ (answers.Exhausted counters.Commit) l
+    (ruling_so c.args.self.now.core h l is c.args.txn.ticket c.args.txn.number reads c.args.txn.writes decisions.Exhausted lives
+    (λ floor remembers below. sym c.in-Exhausted.is ∙ c.in-Ok.ensures.decided h floor reads remembers below notes))
+    is
+
+pub returns-in-Exhausted-clause-stands : goal.returns-in-Exhausted-clause-stands
+returns-in-Exhausted-clause-stands g c h l reads is lives notes =
+    decides_leaving (StandsFor g.D.Held.HeldFile.bytes c.args.self.now.core) h l _ _ (answers.Exhausted counters.Commit) l
+    (ruling_so c.args.self.now.core h l is.fronts c.args.txn.ticket c.args.txn.number reads c.args.txn.writes decisions.Exhausted lives
+    (λ floor remembers below. sym c.in-Exhausted.is ∙ c.in-Ok.ensures.decided h floor reads remembers below notes))
+    is
+
+pub returns-in-Exhausted-clause-carries : goal.returns-in-Exhausted-clause-carries
+returns-in-Exhausted-clause-carries g c h l reads is lives notes =
+    carries_refused_by g.D.Watched (record { only_now = g.met.D.Disk.only_now; counts_now = g.met.D.Disk.counts_now })
+    g.D.Held.HeldFile.bytes c.args.self.now.disk c.args.self.now.disk c.args.self.now.core c.args.self.now.core h l
+    c.args.txn.ticket c.args.txn.number reads c.args.txn.writes refl (answers.Exhausted counters.Commit) l
+    (ruling_so c.args.self.now.core h l is.stands.fronts c.args.txn.ticket c.args.txn.number reads c.args.txn.writes decisions.Exhausted lives
+    (λ floor remembers below. sym c.in-Exhausted.is ∙ c.in-Ok.ensures.decided h floor reads remembers below notes))
+    refl is is
+
+pub returns-in-Conflict-clause-decides : goal.returns-in-Conflict-clause-decides
+returns-in-Conflict-clause-decides g c h l reads is lives notes =
+    decides_leaving (Fronts c.end-in-Conflict.new.self.core) h l _ _ (answers.Conflict c.in-Conflict.key c.in-Conflict.number) (ended c.args.txn.ticket l)
+    (ruling_so c.args.self.now.core h l is c.args.txn.ticket c.args.txn.number reads c.args.txn.writes (decisions.Conflict c.in-Conflict.key c.in-Conflict.number) lives
+    (λ floor remembers below. sym c.in-Conflict.is ∙ c.in-Ok.ensures.decided h floor reads remembers below notes))
+    (c.end-in-Conflict.ensures.decides h l is)
+
+pub returns-in-Conflict-clause-stands : goal.returns-in-Conflict-clause-stands
+returns-in-Conflict-clause-stands g c h l reads is lives notes =
+    decides_leaving (StandsFor g.D.Held.HeldFile.bytes c.end-in-Conflict.new.self.core) h l _ _ (answers.Conflict c.in-Conflict.key c.in-Conflict.number) (ended c.args.txn.ticket l)
+    (ruling_so c.args.self.now.core h l is.fronts c.args.txn.ticket c.args.txn.number reads c.args.txn.writes (decisions.Conflict c.in-Conflict.key c.in-Conflict.number) lives
+    (λ floor remembers below. sym c.in-Conflict.is ∙ c.in-Ok.ensures.decided h floor reads remembers below notes))
+    (c.end-in-Conflict.ensures.stands h l is)
+
+pub returns-in-Conflict-clause-carries : goal.returns-in-Conflict-clause-carries
+returns-in-Conflict-clause-carries g c h l reads is lives notes =
+    carries_refused_by g.D.Watched (record { only_now = g.met.D.Disk.only_now; counts_now = g.met.D.Disk.counts_now })
+    g.D.Held.HeldFile.bytes c.args.self.now.disk c.end-in-Conflict.new.self.disk c.args.self.now.core c.end-in-Conflict.new.self.core h l
+    c.args.txn.ticket c.args.txn.number reads c.args.txn.writes c.end-in-Conflict.ensures.back (answers.Conflict c.in-Conflict.key c.in-Conflict.number) (ended c.args.txn.ticket l)
+    (ruling_so c.args.self.now.core h l is.stands.fronts c.args.txn.ticket c.args.txn.number reads c.args.txn.writes (decisions.Conflict c.in-Conflict.key c.in-Conflict.number) lives
+    (λ floor remembers below. sym c.in-Conflict.is ∙ c.in-Ok.ensures.decided h floor reads remembers below notes))
+    c.end-in-Conflict.ensures.disk is (c.end-in-Conflict.ensures.represents h l is)
+
+pub returns-in-Full-clause-decides : goal.returns-in-Full-clause-decides
+returns-in-Full-clause-decides g c h l reads is lives notes =
+    decides_leaving (Fronts c.args.self.now.core) h l _ _ (answers.Full c.in-Full.length c.in-Full.frame) l
+    (ruling_so c.args.self.now.core h l is c.args.txn.ticket c.args.txn.number reads c.args.txn.writes (decisions.Full c.in-Full.length c.in-Full.frame) lives
+    (λ floor remembers below. sym c.in-Full.is ∙ c.in-Ok.ensures.decided h floor reads remembers below notes))
+    is
+
+pub returns-in-Full-clause-stands : goal.returns-in-Full-clause-stands
+returns-in-Full-clause-stands g c h l reads is lives notes =
+    decides_leaving (StandsFor g.D.Held.HeldFile.bytes c.args.self.now.core) h l _ _ (answers.Full c.in-Full.length c.in-Full.frame) l
+    (ruling_so c.args.self.now.core h l is.fronts c.args.txn.ticket c.args.txn.number reads c.args.txn.writes (decisions.Full c.in-Full.length c.in-Full.frame) lives
+    (λ floor remembers below. sym c.in-Full.is ∙ c.in-Ok.ensures.decided h floor reads remembers below notes))
+    is
+
+pub returns-in-Full-clause-carries : goal.returns-in-Full-clause-carries
+returns-in-Full-clause-carries g c h l reads is lives notes =
+    carries_refused_by g.D.Watched (record { only_now = g.met.D.Disk.only_now; counts_now = g.met.D.Disk.counts_now })
+    g.D.Held.HeldFile.bytes c.args.self.now.disk c.args.self.now.disk c.args.self.now.core c.args.self.now.core h l
+    c.args.txn.ticket c.args.txn.number reads c.args.txn.writes refl (answers.Full c.in-Full.length c.in-Full.frame) l
+    (ruling_so c.args.self.now.core h l is.stands.fronts c.args.txn.ticket c.args.txn.number reads c.args.txn.writes (decisions.Full c.in-Full.length c.in-Full.frame) lives
+    (λ floor remembers below. sym c.in-Full.is ∙ c.in-Ok.ensures.decided h floor reads remembers below notes))
+    refl is is
+
+pub returns-in-Write-clause-decides : goal.returns-in-Write-clause-decides
+returns-in-Write-clause-decides g c h l reads is lives notes =
+    decides_by g.D.Watched (record { only_now = g.met.D.Disk.only_now; counts_now = g.met.D.Disk.counts_now })
+    g.D.Held.HeldFile.bytes c.args.self.now.disk c.write.new.self.disk c.args.self.now.core c.write.new.self.core h l
+    c.args.txn.ticket c.args.txn.number reads c.args.txn.writes c.write.ensures.steps
+    (ruling_so c.args.self.now.core h l is c.args.txn.ticket c.args.txn.number reads c.args.txn.writes decisions.Write lives
+    (λ floor remembers below. sym c.in-Write.is ∙ c.in-Ok.ensures.decided h floor reads remembers below notes))
+    c.write.result c.write.ensures.as_written is
+
+pub returns-in-Write-clause-stands : goal.returns-in-Write-clause-stands
+returns-in-Write-clause-stands g c h l reads is lives notes =
+    stands_by g.D.Watched (record { only_now = g.met.D.Disk.only_now; counts_now = g.met.D.Disk.counts_now })
+    g.D.Held.HeldFile.bytes c.args.self.now.disk c.write.new.self.disk c.args.self.now.core c.write.new.self.core h l
+    c.args.txn.ticket c.args.txn.number reads c.args.txn.writes c.write.ensures.steps
+    (ruling_so c.args.self.now.core h l is.fronts c.args.txn.ticket c.args.txn.number reads c.args.txn.writes decisions.Write lives
+    (λ floor remembers below. sym c.in-Write.is ∙ c.in-Ok.ensures.decided h floor reads remembers below notes))
+    c.write.result c.write.ensures.as_written is
+
+pub returns-in-Write-clause-carries : goal.returns-in-Write-clause-carries
+returns-in-Write-clause-carries g c h l reads is lives notes =
+    carries_by g.D.Watched (record { only_now = g.met.D.Disk.only_now; counts_now = g.met.D.Disk.counts_now })
+    g.D.Held.HeldFile.bytes c.args.self.now.disk c.write.new.self.disk c.args.self.now.core c.write.new.self.core h l
+    c.args.txn.ticket c.args.txn.number reads c.args.txn.writes c.write.ensures.steps
+    (ruling_so c.args.self.now.core h l is.stands.fronts c.args.txn.ticket c.args.txn.number reads c.args.txn.writes decisions.Write lives
+    (λ floor remembers below. sym c.in-Write.is ∙ c.in-Ok.ensures.decided h floor reads remembers below notes))
+    c.write.result c.write.ensures.as_written is
+
+pub returns-in-Write-clause-explained : goal.returns-in-Write-clause-explained
+returns-in-Write-clause-explained g c h l reads number is lives sees said =
+    c.reads_without_conflict_stay_explained.ensures h c.args.txn.number reads sees.version.readable
+    (no_conflict_by g.D.Watched (record { only_now = g.met.D.Disk.only_now; counts_now = g.met.D.Disk.counts_now })
+    g.D.Held.HeldFile.bytes c.args.self.now.disk c.write.new.self.disk c.args.self.now.core c.write.new.self.core h l
+    c.args.txn.ticket c.args.txn.number reads c.args.txn.writes c.write.ensures.steps
+    (ruling_so c.args.self.now.core h l is c.args.txn.ticket c.args.txn.number reads c.args.txn.writes decisions.Write lives
+    (λ floor remembers below. sym c.in-Write.is ∙ c.in-Ok.ensures.decided h floor reads remembers below sees.notes)))
+    sees.explained
+
+pub returns-in-Write-clause-stopped : goal.returns-in-Write-clause-stopped
+returns-in-Write-clause-stopped g c h l is clean failed =
+    stops_by g.D.Watched (record { only_now = g.met.D.Disk.only_now; counts_now = g.met.D.Disk.counts_now })
+    g.D.Held.HeldFile.bytes c.args.self.now.disk c.write.new.self.disk c.args.self.now.core c.write.new.self.core h l
+    c.args.txn.ticket c.args.txn.number [] c.args.txn.writes c.write.ensures.steps
+    c.write.result c.write.ensures.as_written is clean failed
+
+pub returns-in-Write-clause-files : goal.returns-in-Write-clause-files
+returns-in-Write-clause-files g c =
+    files_by g.D.Watched (record { only_now = g.met.D.Disk.only_now; counts_now = g.met.D.Disk.counts_now })
+    c.args.self.now.disk c.write.new.self.disk c.args.self.now.core c.write.new.self.core c.args.txn.ticket c.args.txn.writes
+    c.write.result c.write.ensures.as_written

@@ -1,0 +1,80 @@
+use Rattle.std.proofs.Common.{◌≡◌, ◌+◌, ◌-◌, ◌^◌, length, min, ℕ, ap, sym, subst, ◌∙◌}
+use Rattle.std.specs.Prelude.{Some}
+use Rattle.vl_disk.specs.Disk.{Stands}
+use Rattle.vl_disk.specs.declared.name.Name.TheVariants as names
+use Rattle.vl_engine.proofs.Written.{changed_by, hands_by, known_then, knows_alike, longer, stopped_by}
+use Rattle.vl_oracle.specs.LiveTickets.{LiveTickets}
+use Rattle.vl_oracle.specs.LiveTickets as oracle
+use Rattle.vl_seglog.specs.declared.active.ActiveLog.{ActiveLog}
+use Rattle.vl_version.specs.declared.version.Version.{Version}
+use Rattle.vl_engine.proofs.engine.Engine.write.Goals as goal
+
+pub returns-in_default-append_durably-clause-as_written : goal.returns-in_default-append_durably-clause-as_written
+returns-in_default-append_durably-clause-as_written g c =
+    let before = c.args.self.now.core.front in
+    let then_front = c.stage_commit.new.core.front in
+    let same = c.in-Ok.ensures.same in
+    let writes = c.args.txn.writes in
+    let number : then_front.log.number ≡ before.log.number = ap (λ (log : ActiveLog). log.number) same.log.log in
+    let staged = c.in-Ok.ensures.staged in (
+      ap (λ (n : ℕ). names.Log n) number,
+      record {
+        hands = hands_by g.D.Watched before writes then_front.log.number c.in-Ok.staged.frame number staged.frame
+            c.args.self.now.disk c.stage_commit.new.disk c.append_durably.new.disk c.in-Ok.ensures.no_change
+            c.append_durably.ensures.time c.append_durably.ensures.tells;
+        stopped = λ clean. stopped_by g.D.Watched before writes then_front.log.number c.in-Ok.staged.frame number staged.frame
+            c.stage_commit.new.disk c.append_durably.new.disk (c.in_default-append_durably.ensures.stopped clean);
+        live = c.end.ensures.oracle ∙ ap (oracle.ended c.args.txn.ticket) same.oracle;
+        log = c.end.ensures.log.log ∙ same.log.log;
+        room = c.end.ensures.log.room ∙ same.log.room;
+        halted = c.end.ensures.log.halted ∙ ap (λ (n : ℕ). Some (names.Log n)) number;
+        knows = λ h knows. c.end.ensures.knows h (knows_alike before _ h same.oracle same.named knows);
+        version = c.in-Ok.ensures.version;
+      },
+    )
+
+pub invariant_of-self-2 : goal.invariant_of-self-2
+invariant_of-self-2 g c =
+    let before = c.args.self.now.core in
+    let same = c.in-Ok.ensures.same in
+    let staged = c.in-Ok.ensures.staged in
+    record {
+      stands = λ state told. subst (λ (n : ℕ). Stands (names.Log n) state)
+          (sym (ap (λ (log : ActiveLog). log.number) c.committed.ensures.log.log)) (c.append_durably.ensures.stands state told);
+      known = known_then before.front c.args.txn.writes before.version.active.entries _ _
+          (ap (λ (o : LiveTickets). o.last) c.committed.ensures.oracle
+          ∙ ap (λ (o : LiveTickets). o.last + 1) same.oracle)
+          (ap (λ (v : Version g.row.D-Held.Denot). v.active.entries) c.set_active.ensures ∙ staged.more)
+          c.args.self.now.known;
+    }
+
+pub returns-clause-as_written : goal.returns-clause-as_written
+returns-clause-as_written g c =
+    let before = c.args.self.now.core in
+    let then_front = c.stage_commit.new.core.front in
+    let same = c.in-Ok.ensures.same in
+    let writes = c.args.txn.writes in
+    let number : then_front.log.number ≡ before.front.log.number = ap (λ (log : ActiveLog). log.number) same.log.log in
+    let staged = c.in-Ok.ensures.staged in (
+      ap (λ (n : ℕ). n + 1) c.last-number.ensures.last ∙ ap (λ (o : LiveTickets). o.last + 1) same.oracle,
+      record {
+        hands = hands_by g.D.Watched before.front writes then_front.log.number c.in-Ok.staged.frame number staged.frame
+            c.args.self.now.disk c.stage_commit.new.disk c.append_durably.new.disk c.in-Ok.ensures.no_change
+            c.append_durably.ensures.time c.append_durably.ensures.tells;
+        changed = changed_by g.D.Watched before.front writes then_front.log.number c.in-Ok.staged.frame number staged.frame
+            c.stage_commit.new.disk c.append_durably.new.disk (rw c.in-Ok-append_durably.is at c.append_durably.ensures.written);
+        calls = rw c.in-Ok-append_durably.is at c.append_durably.ensures.calls;
+        live = c.committed.ensures.oracle
+            ∙ ap (λ (o : LiveTickets). oracle.ended c.args.txn.ticket (oracle.advanced (o.last + 1) o)) same.oracle;
+        number = ap (λ (log : ActiveLog). log.number) c.committed.ensures.log.log ∙ c.append_durably.ensures.number ∙ number;
+        long = longer g.D.Watched before.front writes then_front.log.number c.in-Ok.staged.frame number staged.frame _
+            (ap (λ (log : ActiveLog). log.length) c.committed.ensures.log.log ∙ (rw c.in-Ok-append_durably.is at c.append_durably.ensures.longer)
+            ∙ ap (λ (log : ActiveLog). min (log.length + length c.in-Ok.staged.frame.frame.items) (2 ^ 64 - 1)) same.log.log);
+        room = c.committed.ensures.log.room ∙ same.log.room;
+        halted = c.committed.ensures.log.halted ∙ same.log.halted;
+        knows = λ h knows. c.committed.ensures.knows h writes (knows_alike before.front _ h same.oracle same.named knows) staged.keys;
+        behind = ap (λ (v : Version g.row.D-Held.Denot). v.behind) c.set_active.ensures
+            ∙ ap (λ (v : Version g.row.D-Held.Denot). v.behind) c.in-Ok.ensures.version;
+        more = ap (λ (v : Version g.row.D-Held.Denot). v.active.entries) c.set_active.ensures ∙ staged.more;
+      },
+    )

@@ -1,0 +1,79 @@
+//! A shop's stock in a store: what a service does with the calls of `vlstore`. The program is given a folder, and prints what it
+//! did.
+#![tactic(auto)]
+
+mod refusals;
+mod stock;
+
+use crate::refusals::{not_committed, not_opened};
+use crate::stock::{add, change, rows};
+use anyhow::{Result, bail};
+use std::env;
+use vlstore::{CommitFail, Disk, Engine, FolderDisk, MAX_ROOM};
+
+/// The store in a folder.
+type Store<'a> = Engine<FolderDisk<&'a HostRuntime>>;
+
+fn main(rt: HostRuntime) -> Result<()> {
+    let alloc = rt.alloc();
+    let mut store = open(&rt)?;
+    println!(rt; "opened at {}", store.number())?;
+
+    // Each change is a transaction of its own.
+    let number = change(alloc, &mut store, "apples", 3)?;
+    println!(rt; "3 apples came, by commit {number}")?;
+    let number = change(alloc, &mut store, "pears", 5)?;
+    println!(rt; "5 pears came, by commit {number}")?;
+
+    overtake(&rt, &mut store)?;
+    print_stock(&rt, &mut store)?;
+
+    let _disk = store.close();
+    let mut store = open(&rt)?;
+    println!(rt; "opened again at {}", store.number())?;
+    print_stock(&rt, &mut store)
+}
+
+/// Opens the store in the folder that the first word names.
+fn open(rt: &HostRuntime) -> Result<Store<'_>> {
+    let Some(folder) = env::args(rt)?.nth(1) else {
+        bail!("usage: vl_example DIR");
+    };
+    let disk = FolderDisk::new(rt, rt.alloc(), folder);
+    match Engine::open(rt.alloc(), disk, MAX_ROOM) {
+        Ok(store) => Ok(store),
+        Err(fail) => Err(not_opened(fail.why)),
+    }
+}
+
+/// Begins a transaction on the apples, and lets another change them before it commits.
+fn overtake<D: Disk>(rt: &HostRuntime, store: &mut Engine<D>) -> Result<()> {
+    let alloc = rt.alloc();
+    let mut slow = store.begin()?;
+    if let Err(error) = add(alloc, &mut slow, "apples", 10) {
+        store.forget(slow);
+        return Err(error);
+    }
+    let number = change(alloc, store, "apples", 4)?;
+    println!(rt; "4 apples came, by commit {number}")?;
+    match store.commit(slow) {
+        Err(CommitFail::Conflict { key, number }) => {
+            let fruit = str::from_utf8(key.as_slice())?;
+            println!(rt; "10 apples came too late: commit {number} changed {fruit}")?;
+        }
+        Err(fail) => return Err(not_committed(store, fail)),
+        Ok(_) => bail!("no conflict was found"),
+    }
+    let number = change(alloc, store, "apples", 10)?;
+    println!(rt; "so they were counted anew, by commit {number}")?;
+    Ok(())
+}
+
+fn print_stock<D: Disk>(rt: &HostRuntime, store: &mut Engine<D>) -> Result<()> {
+    for (fruit, count) in &rows(store)? {
+        let fruit = str::from_utf8(fruit.as_slice())?;
+        let count = str::from_utf8(count.as_slice())?;
+        println!(rt; "{fruit}: {count}")?;
+    }
+    Ok(())
+}

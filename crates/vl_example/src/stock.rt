@@ -1,0 +1,60 @@
+//! The stock: under each fruit's name how many there are, as text.
+
+use crate::refusals::not_committed;
+use anyhow::{Result, bail};
+use std::alloc::Global;
+use vlstore::{CommitFail, Disk, Done, Engine, HeldFile, Reader, Rows, Txn, Way};
+
+/// How often a change is begun anew.
+const TRIES: u32 = 10;
+
+/// Counts so many more of a fruit, in a transaction.
+pub fn add<H: HeldFile, R: Reader<Held = H>>(
+    alloc: Global,
+    txn: &mut Txn<H, R>,
+    fruit: &str,
+    more: u64,
+) -> Result<()> {
+    let had = match txn.get(fruit.as_bytes())? {
+        Some(count) => str::from_utf8(count.as_slice())?.parse::<u64>()?,
+        None => 0,
+    };
+    let Some(count) = had.checked_add(more) else {
+        bail!("too many {fruit}");
+    };
+    let text = format!(in alloc; "{count}")?;
+    txn.set(fruit.as_bytes(), text.as_bytes())?;
+    Ok(())
+}
+
+/// Counts so many more of a fruit, in a transaction of its own, and gives the commit's number. Where another commit came before
+/// it, it begins anew.
+pub fn change<D: Disk>(
+    alloc: Global,
+    store: &mut Engine<D>,
+    fruit: &str,
+    more: u64,
+) -> Result<u64> {
+    for _ in 0..TRIES {
+        let mut txn = store.begin()?;
+        if let Err(error) = add(alloc, &mut txn, fruit, more) {
+            store.forget(txn);
+            return Err(error);
+        }
+        match store.commit(txn) {
+            Ok(Done::At(number)) => return Ok(number),
+            Err(CommitFail::Conflict { .. }) => {}
+            Err(fail) => return Err(not_committed(store, fail)),
+            Ok(Done::Nothing) => bail!("nothing was written"),
+        }
+    }
+    bail!("others always came first")
+}
+
+/// All that is there, in the order of the names.
+pub fn rows<D: Disk>(store: &mut Engine<D>) -> Result<Rows> {
+    let mut view = store.view()?;
+    let rows = view.scan(b"", b"", 1000, Way::Up);
+    store.release(view);
+    Ok(rows?)
+}

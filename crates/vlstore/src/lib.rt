@@ -1,0 +1,11 @@
+//! The store that a service embeds: an engine over a folder, or over any other disk. docs/API.md tells what its calls answer
+//! and cost, and what to do about each error.
+#![tactic(auto)]
+
+pub use vl_disk::{Disk, HeldFile, Name, Reader};
+pub use vl_engine::{
+    BeginFail, CommitFail, Done, Engine, Found, OpenError, OpenFail, ReadFail, ReadFault, Rows,
+    SetFail, Txn, View,
+};
+pub use vl_folder::FolderDisk;
+pub use vl_model::{Bytes, Counter, Key, MAX_KEY_BYTES, MAX_ROOM, MAX_VALUE_BYTES, Value, Way};
