@@ -149,8 +149,11 @@ past_out span b all = none_within span b (each b all)
 pub above_out : (span : Span) (es : List Entry) → IsRising es → is_up_to span.hi span.closed (first_key es) ≡ false → within span es ≡ []
 above_out span [] rises is = refl
 above_out span (e ∷ es) rises is =
-    past_out span (e ∷ es) (is, all_map (λ f. entry_cmp e f ≡ Less) (λ f. is_up_to span.hi span.closed f.key ≡ false)
-    (λ f less. fails (is_up_to span.hi span.closed f.key) (is_up_to span.hi span.closed e.key) is (up_to_falls span.hi span.closed e f less)) es rises.0)
+    past_out span (e ∷ es) (
+      is,
+      all_map (λ f. entry_cmp e f ≡ Less) (λ f. is_up_to span.hi span.closed f.key ≡ false)
+          (λ f less. fails (is_up_to span.hi span.closed f.key) (is_up_to span.hi span.closed e.key) is (up_to_falls span.hi span.closed e f less)) es rises.0,
+    )
   where
     fails : (t b : Bool) → b ≡ false → (t ≡ true → b ≡ true) → t ≡ false
     fails true b is sends = let same = sends refl in cc

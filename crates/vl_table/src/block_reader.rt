@@ -60,7 +60,11 @@ impl<R: Reader> BlockReader<R> {
     ghost use Rattle.vl_table.specs.KeptBlocks.{AreKept, ReadsOf, keeps};
 
     /// Brings a block of a table to the front, and reads and tests it where it isn't kept. After a fault one slot is empty.
-    pub(crate) fn load<H: HeldFile>(&mut self, table: &Table<H>, at: usize) -> Result<(), TableFault>
+    pub(crate) fn load<H: HeldFile>(
+        &mut self,
+        table: &Table<H>,
+        at: usize,
+    ) -> Result<(), TableFault>
     where
         R: Reader<Held = H>,
         requires { at < length (shape_of table.now).blocks.items }
