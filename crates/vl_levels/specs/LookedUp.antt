@@ -65,7 +65,8 @@ module _ {H : Type 0} (bytes_of : H → Option (List ℕ)) where
   LooksThrough look key best (t ∷ ts) found = (next : Option Entry) × LooksAt look key best t next × LooksThrough look key next ts found
 
   -- So were these tables up to one that was to be asked, and there it failed.
-  pub record StopsAt (look : Look) (key : List ℕ) (best : Option Entry) (ts : List (Table H)) (name : Name) (P : Table H → Type 0) : Type 0 where
+  pub record StopsAt (look : Look) (key : List ℕ) (best : Option Entry) (ts : List (Table H)) (name : Name)
+      (P : Table H → Type 0) : Type 0 where
     pub front : List (Table H)
     pub table : Table H
     pub back : List (Table H)

@@ -34,8 +34,8 @@ fn two_blocks(alloc: Global) -> Result<Table<MemHeld>, Fail> {
 }
 
 // Whether reading failed, and not otherwise.
-fn is_disk_fault<T>(result: &Result<T, TableFault>) -> bool {
-    matches!(result, Err(TableFault::Disk(_)))
+fn is_disk_fault<T>(answer: &Result<T, TableFault>) -> bool {
+    matches!(answer, Err(TableFault::Disk { .. }))
 }
 
 #[test]
