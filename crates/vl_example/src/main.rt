@@ -28,7 +28,8 @@ fn main(rt: HostRuntime) -> Result<()> {
     overtake(&rt, &mut store)?;
     print_stock(&rt, &mut store)?;
 
-    let _disk = store.close();
+    // The folder is free for the next store once its disk is gone.
+    drop(store.close());
     let mut store = open(&rt)?;
     println!(rt; "opened again at {}", store.number())?;
     print_stock(&rt, &mut store)
