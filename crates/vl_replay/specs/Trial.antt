@@ -5,12 +5,12 @@ use Rattle.vl_replay.specs.Text.{reopened_text}
 use Rattle.vl_io.specs.Sink.{Takes}
 use Rattle.vl_mem.specs.declared.outcome.Outcome.{Outcome}
 use Rattle.vl_model.specs.History.{contents_at, last_number}
-use Rattle.vl_script.specs.Script.{lines_of, text_of}
+use Rattle.vl_script.specs.Script.{lines_of}
 use Rattle.vl_replay.specs.Endings.{bad_line, last_line, no_memory_line, read_fault_line}
 use Rattle.vl_replay.specs.Exchanges.{Exchange, answers_text, exchanges_from, last_state}
 use Rattle.vl_replay.specs.Reopens.{state_left}
 use Rattle.vl_replay.specs.Runs.{IsFront}
-use Rattle.vl_replay.specs.Sequential.{State}
+use Rattle.vl_replay.specs.Sequential.{State, answer_text, history_of}
 use Rattle.vl_replay.specs.laws.StartLaws.{empty_store}
 use Rattle.vl_replay.specs.declared.ending.Ending.{Ending}
 use Rattle.vl_replay.specs.declared.ending.Ending.TheVariants.{Complete, BadLine, BadWords, DiskFault, Refused, Damaged, NoMemory, ReadFault, WriteFault, AnswerCut, Stopped}
@@ -72,7 +72,7 @@ reopened_state t = state_behind_stop t.outcome t.stop (answered_state t) (stoppe
 
 -- the text that is printed of it: the number of its last commit, which is their count, and what it has there
 abbrev pub state_text : State → List ℕ
-state_text s = reopened_text (last_number s.history) (contents_at s.history (last_number s.history))
+state_text s = reopened_text (last_number (history_of s)) (contents_at (history_of s) (last_number (history_of s)))
 
 abbrev pub trial_text : Trial → List ℕ
 trial_text t = state_text (reopened_state t)
@@ -103,7 +103,7 @@ IsLastFront t count piece =
 -- some first bytes of the answer to the next line
 abbrev pub IsAnswerFront : Trial → (count : ℕ) → (piece : List ℕ) → Type 0
 IsAnswerFront t count piece =
-    (e : Exchange) × (slice_get (answered_lines t) count ≡ Some e) × IsFront piece (text_of e.answer)
+    (e : Exchange) × (slice_get (answered_lines t) count ≡ Some e) × IsFront piece (answer_text e.answer)
 
 -- What a trial that ended so printed. It comes to no other endings: a stop is no fault of the disk, what is opened behind it
 -- isn't refused, and nothing is damaged.

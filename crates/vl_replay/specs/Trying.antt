@@ -16,7 +16,7 @@ use Rattle.vl_replay.specs.Durable.{HoldsState}
 use Rattle.vl_replay.specs.Endings.{no_memory_line, read_fault_line}
 use Rattle.vl_replay.specs.Exchanges.{answers_text}
 use Rattle.vl_replay.specs.Reopens.{Reopens}
-use Rattle.vl_replay.specs.Sequential.{State}
+use Rattle.vl_replay.specs.Sequential.{State, history_of}
 use Rattle.vl_replay.specs.Steps.{Finishes}
 use Rattle.vl_replay.specs.Stored.{IsStored}
 use Rattle.vl_replay.specs.Trial.{EndsTrial, MeetsStop, ReachesEnd, Trial, answered_lines, begun, reopened_state}
@@ -35,7 +35,7 @@ pub record IsOnTrial (stop : ℕ) (stands : State → Type 0) (disk : MemDisk) :
 -- whatever a crash does to the disk, what it leaves opens showing the last commit of this state
 abbrev pub LeavesToOpen : MemDisk → (Outcome → State) → Type 0
 LeavesToOpen disk shown = (outcome : Outcome)
-    → Reopens (crash_image outcome (state_of disk)) (shown outcome).history (last_number (shown outcome).history)
+    → Reopens (crash_image outcome (state_of disk)) (history_of (shown outcome)) (last_number (history_of (shown outcome)))
 
 -- none was opened: memory ran out, or the stop was met, and no commit is left
 abbrev pub StopsOpening : ℕ → OpenError → MemDisk → Type 0

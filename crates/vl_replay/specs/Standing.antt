@@ -1,0 +1,57 @@
+-- What a replayer's names stand for, and those of the sequential store.
+use Rattle.std.specs.Prelude.{◌≡◌, ◌≢◌, ℕ, true, if◌then◌else◌, List, [], ◌∷◌, Option, None, Some}
+use Rattle.std.specs.Ordering.{eq_by_cmp}
+use Rattle.vl_engine.specs.Represents.{IsLive}
+use Rattle.vl_engine.specs.declared.txn.Txn.{Txn}
+use Rattle.vl_engine.specs.Sees.{Sees, SeesAlone, asked, asked_view}
+use Rattle.vl_layout.specs.Rulings.Commit.{Transaction as ATxn}
+use Rattle.vl_layout.specs.Store.Lines.{Name}
+use Rattle.vl_layout.specs.Store.Things as store
+use Rattle.vl_layout.specs.Store.Things.{AJob, APass, ATransaction, AView, thing_in}
+use Rattle.vl_layout.specs.declared.layout.Layout.{Layout}
+use Rattle.vl_model.specs.History.{History}
+use Rattle.vl_model.specs.Keys.{key_cmp}
+use Rattle.vl_replay.specs.declared.replayer.open.Open.{Open}
+use Rattle.vl_replay.specs.declared.replayer.open.Thing.{Thing}
+use Rattle.vl_replay.specs.declared.replayer.open.Thing.TheVariants.{Transaction, View}
+
+-- what a name stands for among these
+abbrev pub open_in : {H R : Type 0} → List (Open H R) → Name → Option (Thing H R)
+open_in [] name = None
+open_in (o ∷ os) name = if eq_by_cmp key_cmp name o.name then Some o.thing else open_in os name
+
+-- its ticket
+abbrev pub ticket_of : store.Thing → ℕ
+ticket_of (ATransaction t b) = t.ticket
+ticket_of (AView v b) = v.ticket
+ticket_of (AJob job made) = 0
+ticket_of (APass pass batch) = 0
+
+-- A transaction is the one of the store: it made the same reads and writes, which it sees; and it is live. So it is with a
+-- view.
+pub record IsTransaction {H R : Type 0} (bytes : H → Option (List ℕ)) (txn : Txn H R) (t : ATxn) (h : History) (l : Layout)
+    : Type 0 where
+  pub same : asked txn t.reads ≡ t
+  pub sees : Sees bytes txn h t.reads
+  pub live : IsLive l txn.ticket txn.number
+
+-- nothing, on both sides, or the same
+abbrev pub Corresponds : {H R : Type 0} → (H → Option (List ℕ)) → History → Layout → Option (Thing H R) → Option store.Thing → Type 0
+Corresponds bytes h l None None = Unit {0}
+Corresponds bytes h l (Some (Transaction txn)) (Some (ATransaction t b)) = IsTransaction bytes txn t h l
+Corresponds bytes h l (Some (View view)) (Some (AView v b)) =
+    (asked_view view ≡ v) × SeesAlone bytes view h × IsLive l view.ticket view.number
+Corresponds bytes h l x y = ⊥
+
+-- no name is there twice
+abbrev pub AreOnce : {H R : Type 0} → List (Open H R) → Type 0
+AreOnce [] = Unit {0}
+AreOnce (o ∷ os) = (open_in os o.name ≡ None) × AreOnce os
+
+-- Each name stands for the same on both sides, and no two have one ticket.
+pub record Stand {H R : Type 0} (bytes : H → Option (List ℕ)) (opens : List (Open H R)) (ts : List (Name × store.Thing))
+    (h : History) (l : Layout) : Type 0 where
+  pub each : (name : Name) → Corresponds bytes h l (open_in opens name) (thing_in ts name)
+  pub once : AreOnce opens
+  pub apart : (name other : Name) (x y : store.Thing) → thing_in ts name ≡ Some x → thing_in ts other ≡ Some y
+      → ticket_of x ≡ ticket_of y → name ≡ other
