@@ -1,5 +1,6 @@
 -- Runs of lines: what they read and print, and how they end.
 pub mod Ends
+pub mod Extending
 pub mod Lines
 pub mod OpenedRuns
 pub mod ReadingOn

@@ -1,10 +1,11 @@
 -- The store as one thread of script lines sees it: what each line is answered, and what it leaves. The store is vl_layout's; of
 -- the disk it counts bytes, changing calls and files.
-use Rattle.std.specs.Prelude.{ℕ, List, [], map}
+use Rattle.std.specs.Prelude.{◌≡◌, ℕ, List, [], map}
 use Rattle.vl_disk.specs.Faults.{after_calls}
 use Rattle.vl_layout.specs.Store.Commits.{history_in}
 use Rattle.vl_layout.specs.Store.Dispatch.{step_of}
 use Rattle.vl_layout.specs.Store.Lines as store
+use Rattle.vl_layout.specs.Store.Reading.{rows_told}
 use Rattle.vl_layout.specs.Store.Things as things
 use Rattle.vl_layout.specs.Store.Things.{Step}
 use Rattle.vl_manifest.specs.declared.state.ManifestState.{ManifestState}
@@ -13,6 +14,7 @@ use Rattle.vl_model.specs.Keys.{Row, untagged}
 use Rattle.vl_script.specs.Script.{rows_text, text_of}
 use Rattle.vl_script.specs.declared.line.Line.{Line}
 use Rattle.vl_script.specs.declared.line.Line.TheVariants as lines
+use Rattle.vl_script.specs.declared.answer.Answer.{Answer}
 use Rattle.vl_script.specs.declared.answer.Answer.TheVariants as answers
 
 -- the store, what its manifest says, how many changing calls the disk was asked for, and a number that none of its files passes
@@ -86,3 +88,32 @@ answer_text (store.Moved count) = []
 answer_text (store.Removed count) = []
 answer_text (store.Segments stats) = []
 answer_text (store.Halted file) = []
+
+-- ---- what a script is told
+
+-- an answer of a script, as the store has it; its log's lengths aren't told
+abbrev pub as_told : Answer → store.Answer
+as_told answers.Done = store.Done
+as_told (answers.Number n) = store.Number n
+as_told (answers.Found value) = store.Value value.bytes
+as_told (answers.FoundTagged value) = store.ValueTagged value
+as_told answers.NoValue = store.NoValue
+as_told (answers.Rows rows) = store.Rows (rows_told rows.items)
+as_told (answers.Taken name) = store.Taken name
+as_told (answers.Unknown name) = store.Unknown name
+as_told answers.ReadOnly = store.ReadOnly
+as_told answers.Invalid = store.Invalid
+as_told answers.TooBig = store.TooBig
+as_told answers.TooMany = store.TooMany
+as_told answers.Nothing = store.Nothing
+as_told (answers.Conflict key number) = store.Conflict key number
+as_told answers.Full = store.Full 0 0
+as_told (answers.Exhausted counter) = store.Exhausted counter
+
+-- the same but for the lengths
+abbrev pub without_lengths : store.Answer → store.Answer
+without_lengths (store.Full length frame) = store.Full 0 0
+without_lengths answer = answer
+
+abbrev pub IsTold : Answer → store.Answer → Type 0
+IsTold told answer = as_told told ≡ without_lengths answer

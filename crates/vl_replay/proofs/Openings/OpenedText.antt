@@ -18,8 +18,8 @@ use Rattle.vl_run.specs.Order.{along}
 use Rattle.vl_seglog.specs.declared.active.ActiveLog.{ActiveLog}
 use Rattle.vl_replay.specs.Contents.{GiveEntries}
 use Rattle.vl_replay.specs.Opened.{IsOpenedStore, entries_in}
-use Rattle.vl_replay.specs.Sequential.{State}
-use Rattle.vl_replay.specs.Stored.{no_logs}
+use Rattle.vl_replay.specs.Sequential.{State, history_of}
+use Rattle.vl_engine.specs.Shown.{no_logs}
 
 -- ---- source by source
 
@@ -68,8 +68,8 @@ give_next logs i log held sources left now within is same give joined so =
 -- the winners at the last number have what the history has there
 pub winners_have : (number : ℕ) (frozen : List FrozenLog) (log : ActiveLog) (s : State) (left : List (List Entry)) → GiveEntries (entries_in frozen) left
     → IsOpenedStore number frozen log s
-    → WinnersHave (contents_at s.history number) number (flat_map (λ (fs : List Entry). fs) left)
+    → WinnersHave (contents_at (history_of s) number) number (flat_map (λ (fs : List Entry). fs) left)
 winners_have number frozen log s left give opened key =
     ap (resolved_at no_logs) (give.winners key number ∙ ap (λ es. winner es key number) opened.entries)
     ∙ opened.shows.shows.values key number (omega arith) (omega arith)
-    ∙ sym (ap Some (get-contents_at s.history number key))
+    ∙ sym (ap Some (get-contents_at (history_of s) number key))

@@ -28,10 +28,11 @@ use Rattle.vl_recover.specs.declared.parts.FrozenLog.{FrozenLog}
 use Rattle.vl_recover.specs.declared.parts.Parts.{Parts}
 use Rattle.vl_replay.specs.Opened.{IsOpenedStore, entries_in}
 use Rattle.vl_replay.specs.Opening.{IsRefused}
-use Rattle.vl_replay.specs.Sequential.{State}
+use Rattle.vl_replay.specs.Sequential.{State, history_of}
 use Rattle.vl_replay.specs.Start.{StartsIn}
 use Rattle.vl_replay.specs.Stopped.{AreNumberedUpTo, GivesUpTo}
-use Rattle.vl_replay.specs.Stored.{IsStored, LogsShow, logs_entries, logs_of, no_logs}
+use Rattle.vl_replay.specs.Stored.{IsStored, logs_of}
+use Rattle.vl_engine.specs.Shown.{LogsShow, logs_entries, no_logs}
 use Rattle.vl_replay.specs.declared.fails.Refusal.{Refusal}
 use Rattle.vl_replay.specs.declared.fails.Refusal.TheVariants.{NotAStore, NewerFormat, Damaged, Exhausted}
 use Rattle.vl_replay.proofs.Disk.LogsShown.{held-entries}
@@ -95,7 +96,7 @@ module _ {D : Type 0} (g : Ghosts D) (disk : D) (s : State) (starts : StartsIn g
   opened_store short = record {
     logs = found.opening.logs;
     entries = entries_kept parts.frozen.items ∙ ap (λ (o : Opened). entries_of o.frozen) is ∙ entries_found found.opening.logs;
-    shows = subst (LogsShow found.opening.logs s.history) (sym parts_number) starts.shows;
+    shows = subst (LogsShow found.opening.logs (history_of s)) (sym parts_number) starts.shows;
     first = starts.first ∙ sym parts_number;
     commits = starts.commits;
     log_is = starts.log ∙ (λ i. record { number = ap (λ (o : Opened). o.active) (sym is) i; length = sym short i });
@@ -140,16 +141,16 @@ module _ {D : Type 0} (g : Ghosts D) (disk : D) (s : State) (starts : StartsIn g
       (frozen, is_last ∙ ap (λ (n : ℕ). frozen ++ new_segment log_format n [] ∷ []) (sym (ap (λ l. l.number) starts.log)))
 
   -- the number of the last commit
-  last_is : found.opening.number ≡ last_number s.history
+  last_is : found.opening.number ≡ last_number (history_of s)
   last_is = omega (arith, starts.first, ap length starts.commits)
 
   -- the logs that stand then show what those with frames show
-  shows_then : LogsShow (logs_then found) s.history found.opening.number
+  shows_then : LogsShow (logs_then found) (history_of s) found.opening.number
   shows_then =
       let same : logs_entries (logs_then found) ≡ logs_entries found.opening.logs =
       sym (held-entries (logs_then found)) ∙ ap logs_entries (found_shows found).logs in
       record {
-        shows = subst (λ es. Shows no_logs es s.history (λ _. found.opening.number) found.opening.number) (sym same) starts.shows.shows;
+        shows = subst (λ es. Shows no_logs es (history_of s) (λ _. found.opening.number) found.opening.number) (sym same) starts.shows.shows;
         up_to = subst (AreUpTo found.opening.number) (sym same) starts.shows.up_to;
       }
 
@@ -180,11 +181,11 @@ module _ {D : Type 0} (g : Ghosts D) (disk : D) (s : State) (starts : StartsIn g
         frozen = frozen;
         frames = [];
         holds = subst (λ (logs : List Segment). HoldsStore parts.state logs now) last holds;
-        numbers = subst (λ (logs : List Segment). GoOn parts.state.covered logs (last_number s.history)) last
+        numbers = subst (λ (logs : List Segment). GoOn parts.state.covered logs (last_number (history_of s))) last
             (subst (GoOn parts.state.covered (logs_then found)) last_is
             (subst (λ (m : ManifestState). GoOn m.covered (logs_then found) found.opening.number) (sym parts_state) (found_goes_on found)));
-        shows = subst (λ (logs : List Segment). LogsShow logs s.history (last_number s.history)) last
-            (subst (LogsShow (logs_then found) s.history) last_is shows_then);
+        shows = subst (λ (logs : List Segment). LogsShow logs (history_of s) (last_number (history_of s))) last
+            (subst (LogsShow (logs_then found) (history_of s)) last_is shows_then);
         length_is = ap (λ l. l.length) starts.log;
         lawful = lawful;
         numbered = opened_numbered now is_repaired;

@@ -20,14 +20,15 @@ use Rattle.vl_recover.specs.declared.parts.FrozenLog.{FrozenLog}
 use Rattle.vl_seglog.specs.declared.active.ActiveLog.{ActiveLog}
 use Rattle.vl_replay.specs.Opened.{IsOpenedStore, any_number, body_value, entries_in, entry_value, opened_value}
 use Rattle.vl_replay.specs.Represents.{ShowsHistory}
-use Rattle.vl_replay.specs.Sequential.{State}
+use Rattle.vl_replay.specs.Sequential.{State, history_of}
 use Rattle.vl_disk.specs.Moments.{HoldsThroughout, holds_weaker}
 use Rattle.vl_disk.specs.declared.watched.Watched.{Ghosts}
 use Rattle.vl_replay.specs.Between.{ShowsBetween}
 use Rattle.vl_replay.specs.Durable.{CrashesShow, Leaves}
 use Rattle.vl_replay.proofs.Disk.Betweens.{between_exactly}
-use Rattle.vl_replay.specs.Start.{IsDurable, StartsIn}
-use Rattle.vl_replay.specs.Stored.{LogsShow, Shown, logs_entries, no_logs}
+use Rattle.vl_replay.specs.Start.{StartsIn}
+use Rattle.vl_engine.specs.Opening.{IsDurable}
+use Rattle.vl_engine.specs.Shown.{LogsShow, Shown, logs_entries, no_logs}
 
 -- ---- what is kept
 
@@ -67,19 +68,19 @@ value_led (Some e) v is = by e.body is
 
 -- the logs that were opened have what the history has at its first number
 pub opened_values : (last : ℕ) (frozen : List FrozenLog) (log : ActiveLog) (s : State) → last ≤ any_number → IsOpenedStore last frozen log s
-    → (key : List ℕ) → opened_value frozen key ≡ value_at s.history last key
+    → (key : List ℕ) → opened_value frozen key ≡ value_at (history_of s) last key
 opened_values last frozen log s fits opened key =
-    value_led (winner (entries_in frozen) key any_number) (value_at s.history last key)
+    value_led (winner (entries_in frozen) key any_number) (value_at (history_of s) last key)
     (ap (λ es. resolved_at no_logs (winner es key any_number)) opened.entries
     ∙ ap (resolved_at no_logs) (same_from last any_number key (logs_entries opened.logs) opened.shows.up_to fits)
     ∙ opened.shows.shows.values key last (omega arith) (omega arith))
 
 pub shows_opened : (last : ℕ) (frozen : List FrozenLog) (log : ActiveLog) (s : State) (entries : List Rattle.vl_replay.specs.declared.replayer.entry.Entry.Entry) → last ≤ any_number → IsOpenedStore last frozen log s
-    → entries ≡ [] → ShowsHistory (opened_value frozen) entries s.history
-shows_opened last frozen log s entries fits opened none = subst (λ es. ShowsHistory (opened_value frozen) es s.history) (sym none) (record {
+    → entries ≡ [] → ShowsHistory (opened_value frozen) entries (history_of s)
+shows_opened last frozen log s entries fits opened none = subst (λ es. ShowsHistory (opened_value frozen) es (history_of s)) (sym none) (record {
   values = λ number key readable.
       let same : number ≡ last = omega (arith, opened.first, ap length opened.commits, readable.0, readable.1) in
-      opened_values last frozen log s fits opened key ∙ ap (λ n. value_at s.history n key) (sym same);
+      opened_values last frozen log s fits opened key ∙ ap (λ n. value_at (history_of s) n key) (sym same);
   versions = tt;
 })
 
@@ -103,14 +104,14 @@ module _ (state : DiskState) (durable : IsDurable state) (read : Image) (is_read
 
 -- while the store is opened it shows what is opened
 pub opening_goes : {D : Type 0} (g : Ghosts D) (old new : D) (s : State) → StartsIn g old s → (state : DiskState) → g.told old ≡ Some state → IsDurable state
-    → HoldsThroughout g old new (OpensAsOf state) → CrashesShow g Shown old new s.history s.history
+    → HoldsThroughout g old new (OpensAsOf state) → CrashesShow g Shown old new (history_of s) (history_of s)
 opening_goes g old new s starts state is durable through =
     let same : starts.state ≡ state = some_same starts.state state (sym starts.told ∙ is) in
     let read = subst (IsRead starts.read) same starts.is_read in
-    let number : starts.found.opening.number ≡ last_number s.history = omega (arith, starts.first, ap length starts.commits) in
-    holds_weaker g (OpensAsOf state) (Leaves (ShowsBetween Shown s.history s.history)) old new through
-    (λ now as_of image left. between_exactly Shown s.history image (subst (Shown image s.history) number
-    (opening_shows state durable starts.read read starts.found s.history starts.shows now as_of image left)))
+    let number : starts.found.opening.number ≡ last_number (history_of s) = omega (arith, starts.first, ap length starts.commits) in
+    holds_weaker g (OpensAsOf state) (Leaves (ShowsBetween Shown (history_of s) (history_of s))) old new through
+    (λ now as_of image left. between_exactly Shown (history_of s) image (subst (Shown image (history_of s)) number
+    (opening_shows state durable starts.read read starts.found (history_of s) starts.shows now as_of image left)))
 
 -- ---- how many calls an opening makes
 

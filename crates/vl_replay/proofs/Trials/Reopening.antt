@@ -30,11 +30,13 @@ use Rattle.vl_recover.specs.declared.parts.Parts.{Parts}
 use Rattle.vl_replay.specs.Durable.{HoldsState, Tells}
 use Rattle.vl_replay.specs.Endings.{no_memory_line}
 use Rattle.vl_replay.specs.Opened.{IsOpenedStore}
-use Rattle.vl_replay.specs.Opening.{AnswersOpening, IsFault, IsRefused, disk_behind, ending_unopened, why_of}
+use Rattle.vl_replay.specs.Opening.{IsRefused, disk_behind, ending_unopened}
+use Rattle.vl_engine.specs.Opening.{AnswersOpening, IsFault, why_of}
 use Rattle.vl_replay.specs.Reopens.{Reopens}
 use Rattle.vl_replay.specs.Replaying.{StandsFor, disk_of}
-use Rattle.vl_replay.specs.Sequential.{State}
-use Rattle.vl_replay.specs.Start.{IsDurable, OpensUpTo, StartsIn}
+use Rattle.vl_replay.specs.Sequential.{State, history_of}
+use Rattle.vl_replay.specs.Start.{OpensUpTo, StartsIn}
+use Rattle.vl_engine.specs.Opening.{IsDurable}
 use Rattle.vl_replay.specs.laws.StartLaws.{finds_nothing, gone_on_from, opens_up_to, reopened, started_durable, starts_empty}
 use Rattle.vl_replay.specs.Steps.{EndsUnopened, Finishes, FinishesBy}
 use Rattle.vl_replay.specs.Stored.{IsStored}
@@ -154,7 +156,7 @@ module _ (image : Image) (h : History) (m : ℕ) (disk : MemDisk) (started : Sta
 
   -- its number and contents are printed
   pub text_is : (parts : Parts MemDisk) (other : Finds again_starts.read) → opened_of parts ≡ opened_from other → parts.active.length ≡ 16
-      → (text : List ℕ) → ((t : State) → IsOpenedStore parts.number parts.frozen.items parts.active t → text ≡ reopened_text parts.number (contents_at t.history parts.number))
+      → (text : List ℕ) → ((t : State) → IsOpenedStore parts.number parts.frozen.items parts.active t → text ≡ reopened_text parts.number (contents_at (history_of t) parts.number))
       → text ≡ reopened_text m (contents_at h m)
   text_is parts other opened short text said =
       let store = opened_store memory.ghosts disk s again_starts parts other opened short in

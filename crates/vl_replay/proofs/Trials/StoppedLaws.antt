@@ -41,9 +41,10 @@ use Rattle.vl_seglog.specs.Frames.{frame_at, frames_end, frames_grammar, log_byt
 use Rattle.vl_seglog.specs.LogReading.{IsLogFormat}
 use Rattle.vl_seglog.specs.laws.LogReadingLaws.{SaysFrames, reads_with_tail}
 use Rattle.vl_replay.specs.Reopens.{NamesUpTo, Reopens, commits_of, state_left}
-use Rattle.vl_replay.specs.Sequential.{State}
+use Rattle.vl_replay.specs.Sequential.{State, history_of}
 use Rattle.vl_replay.specs.Stopped.{AreNumberedUpTo, Commits, GivesUpTo, append_failed, sync_failed, with_taken}
-use Rattle.vl_replay.specs.Stored.{IsStopped, IsStored, Shown, logs_of}
+use Rattle.vl_replay.specs.Stored.{IsStopped, IsStored, logs_of}
+use Rattle.vl_engine.specs.Shown.{Shown}
 use Rattle.vl_replay.specs.Writing.{written}
 use Rattle.vl_replay.proofs.Disk.Logged.{shown_by}
 use Rattle.vl_replay.proofs.Openings.NumbersLeft.{names_left, numbered_changed, numbers_left, reopens_by}
@@ -212,19 +213,19 @@ kept_left name disk = read_left (crash_image Kept disk) (synced name disk) (reco
 -- the image opens as the store that the disk holds of the state
 abbrev pub OpensAsHeld : (s : State) (disk : DiskState) → IsStored s disk → Image → Type 0
 OpensAsHeld s disk stored image =
-    Opens image (Ok (opening_held stored.manifest (logs_of s stored.frozen stored.frames) (last_number s.history)))
+    Opens image (Ok (opening_held stored.manifest (logs_of s stored.frozen stored.frames) (last_number (history_of s))))
 
 -- then it shows the state's history
 pub held_shows : (s : State) (disk : DiskState) (stored : IsStored s disk) (image : Image) → OpensAsHeld s disk stored image
-    → Shown image s.history (last_number s.history)
+    → Shown image (history_of s) (last_number (history_of s))
 held_shows s disk stored image opens =
-    shown_by image stored.manifest (logs_of s stored.frozen stored.frames) s.history (last_number s.history) opens stored.shows
+    shown_by image stored.manifest (logs_of s stored.frozen stored.frames) (history_of s) (last_number (history_of s)) opens stored.shows
 
 -- Whatever a crash leaves of the disk opens so.
 pub stored_opens : (s : State) (disk : DiskState) (stored : IsStored s disk) (image : Image) → MayLeave disk image
     → OpensAsHeld s disk stored image
 stored_opens s disk stored image may =
-    held_opens stored.manifest (logs_of s stored.frozen stored.frames) (last_number s.history) disk stored.holds stored.numbers image may
+    held_opens stored.manifest (logs_of s stored.frozen stored.frames) (last_number (history_of s)) disk stored.holds stored.numbers image may
 
 module _ (before after : State) (commits : Commits IsStored before after) where
   abbrev old : DiskState
@@ -244,21 +245,21 @@ module _ (before after : State) (commits : Commits IsStored before after) where
   append_failed_opens outcome = subst
       (λ (frame : List ℕ). OpensAsHeld before old stored (crash_image outcome (appended (Log number) frame 0 old))) same_frame
       (none_opens stored.manifest stored.frozen (new_segment log_format number stored.frames) commits.item old stored.holds commits.has
-      stored.lawful (last_number before.history) stored.numbers outcome)
+      stored.lawful (last_number (history_of before)) stored.numbers outcome)
 
   -- and where its sync failed too, if what wasn't durable was lost,
   sync_failed_lost : OpensAsHeld before old stored (crash_image Lost (with_taken commits (length commits.frame)))
   sync_failed_lost = subst
       (λ (frame : List ℕ). OpensAsHeld before old stored (crash_image Lost (appended (Log number) frame (length frame) old))) same_frame
       (lost_opens stored.manifest stored.frozen (new_segment log_format number stored.frames) commits.item old stored.holds commits.has
-      stored.lawful (last_number before.history) stored.numbers)
+      stored.lawful (last_number (history_of before)) stored.numbers)
 
   -- or half of it.
   sync_failed_halved : OpensAsHeld before old stored (crash_image Halved (with_taken commits (length commits.frame)))
   sync_failed_halved = subst
       (λ (frame : List ℕ). OpensAsHeld before old stored (crash_image Halved (appended (Log number) frame (length frame) old))) same_frame
       (half_opens stored.manifest stored.frozen (new_segment log_format number stored.frames) commits.item old stored.holds commits.has
-      stored.lawful (last_number before.history) stored.numbers)
+      stored.lawful (last_number (history_of before)) stored.numbers)
 
   -- If all of it was kept, it opens as the store after.
   sync_failed_kept : OpensAsHeld after (written (Log number) commits.frame old) commits.done
@@ -272,12 +273,12 @@ module _ (n : ℕ) (fits : n + 2 ≤ max_file_number) (s : State) (disk : DiskSt
     (numbered : AreNumberedUpTo n disk) (gives : GivesUpTo n stored.manifest) where
   -- An image that opens as what a disk holds of a state, whose files have small numbers, opens again.
   pub held_reopens : (image : Image) → OpensAsHeld s disk stored image → NamesUpTo n image
-      → Reopens image s.history (last_number s.history)
+      → Reopens image (history_of s) (last_number (history_of s))
   held_reopens image opens names =
-      reopens_by n image names s.history (last_number s.history) (held_shows s disk stored image opens) (λ found.
+      reopens_by n image names (history_of s) (last_number (history_of s)) (held_shows s disk stored image opens) (λ found.
       let last = last_held stored.manifest.head stored.frozen (new_segment log_format s.log.number stored.frames) disk stored.holds.logs_are in
       let within : s.log.number ≤ n = numbered.standing (Log s.log.number) (λ none. some_none _ (sym last.stands ∙ none)) in
-      let same : found.opening ≡ opening_held stored.manifest (logs_of s stored.frozen stored.frames) (last_number s.history) =
+      let same : found.opening ≡ opening_held stored.manifest (logs_of s stored.frozen stored.frames) (last_number (history_of s)) =
       ok_same {E = Refusal} found.opening _ (single_opening image (Ok found.opening) _ found.opens opens) in
       let state : found.opening.state ≡ stored.manifest = ap (λ (o : Opening). o.state) same in
       numbers_left n fits image names found
@@ -285,7 +286,7 @@ module _ (n : ℕ) (fits : n + 2 ≤ max_file_number) (s : State) (disk : DiskSt
       (subst (λ (x : ManifestState). x.next_log ≤ n + 1) (sym state) gives))
 
   -- So does the image of a disk that holds a state.
-  pub stored_reopens : (outcome : Outcome) → Reopens (crash_image outcome disk) s.history (last_number s.history)
+  pub stored_reopens : (outcome : Outcome) → Reopens (crash_image outcome disk) (history_of s) (last_number (history_of s))
   stored_reopens outcome =
       let may = crash_left outcome disk stored.lawful in
       held_reopens (crash_image outcome disk) (stored_opens s disk stored (crash_image outcome disk) may)
@@ -302,7 +303,7 @@ module _ (before after : State) (commits : Commits IsStored before after) (n : �
 
   -- where the append failed,
   append_failed_reopens : (outcome : Outcome)
-      → Reopens (crash_image outcome (with_taken commits 0)) before.history (last_number before.history)
+      → Reopens (crash_image outcome (with_taken commits 0)) (history_of before) (last_number (history_of before))
   append_failed_reopens outcome = held_reopens n fits before commits.old commits.held numbered gives
       (crash_image outcome (with_taken commits 0)) (append_failed_opens before after commits outcome) (names_torn 0 outcome)
 
@@ -310,7 +311,7 @@ module _ (before after : State) (commits : Commits IsStored before after) (n : �
   sync_failed_reopens : (k : ℕ) → k + 2 ≤ max_file_number
       → AreNumberedUpTo k (written (Log before.log.number) commits.frame commits.old) → GivesUpTo k commits.done.manifest
       → (outcome : Outcome) → let s = state_left outcome true before after in
-      Reopens (crash_image outcome (with_taken commits (length commits.frame))) s.history (last_number s.history)
+      Reopens (crash_image outcome (with_taken commits (length commits.frame))) (history_of s) (last_number (history_of s))
   sync_failed_reopens k fits_after numbered_after gives_after Lost = held_reopens n fits before commits.old commits.held numbered gives
       (crash_image Lost (with_taken commits (length commits.frame))) (sync_failed_lost before after commits)
       (names_torn (length commits.frame) Lost)
@@ -330,11 +331,11 @@ pub stopped_reopens : (before after : State) (passed : ℕ) (now : DiskState) (s
     → AreNumberedUpTo n (commits_of stopped).old → GivesUpTo n (commits_of stopped).held.manifest
     → AreNumberedUpTo k (written (Log before.log.number) (commits_of stopped).frame (commits_of stopped).old)
     → GivesUpTo k (commits_of stopped).done.manifest → let s = state_left outcome (nat_le 1 passed) before after in
-    Reopens (crash_image outcome now) s.history (last_number s.history)
+    Reopens (crash_image outcome now) (history_of s) (last_number (history_of s))
 stopped_reopens before after passed now (append_failed commits none is) outcome n k fits fits_after numbered gives numbered_after gives_after =
-    subst (λ (m : ℕ). let s = state_left outcome (nat_le 1 m) before after in Reopens (crash_image outcome now) s.history (last_number s.history)) (sym none)
-    (subst (λ (s : State). Reopens (crash_image outcome now) s.history (last_number s.history)) (of outcome)
-    (subst (λ (d : DiskState). Reopens (crash_image outcome d) before.history (last_number before.history)) (sym is)
+    subst (λ (m : ℕ). let s = state_left outcome (nat_le 1 m) before after in Reopens (crash_image outcome now) (history_of s) (last_number (history_of s))) (sym none)
+    (subst (λ (s : State). Reopens (crash_image outcome now) (history_of s) (last_number (history_of s))) (of outcome)
+    (subst (λ (d : DiskState). Reopens (crash_image outcome d) (history_of before) (last_number (history_of before))) (sym is)
     (append_failed_reopens before after commits n fits numbered gives outcome)))
   where
     of : (o : Outcome) → before ≡ state_left o false before after
@@ -342,6 +343,6 @@ stopped_reopens before after passed now (append_failed commits none is) outcome 
     of Kept = refl
     of Halved = refl
 stopped_reopens before after passed now (sync_failed commits one is) outcome n k fits fits_after numbered gives numbered_after gives_after =
-    subst (λ (m : ℕ). let s = state_left outcome (nat_le 1 m) before after in Reopens (crash_image outcome now) s.history (last_number s.history)) (sym one)
-    (subst (λ (d : DiskState). let s = state_left outcome true before after in Reopens (crash_image outcome d) s.history (last_number s.history)) (sym is)
+    subst (λ (m : ℕ). let s = state_left outcome (nat_le 1 m) before after in Reopens (crash_image outcome now) (history_of s) (last_number (history_of s))) (sym one)
+    (subst (λ (d : DiskState). let s = state_left outcome true before after in Reopens (crash_image outcome d) (history_of s) (last_number (history_of s))) (sym is)
     (sync_failed_reopens before after commits n fits numbered gives k fits_after numbered_after gives_after outcome))

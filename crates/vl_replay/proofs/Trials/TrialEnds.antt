@@ -16,8 +16,9 @@ use Rattle.vl_recover.specs.declared.fails.OpenError.TheVariants as why
 use Rattle.vl_replay.specs.Endings.{Culprit, CountsFaultsOf, TheDisk, culprit_of, no_memory_line, read_fault_line}
 use Rattle.vl_replay.specs.Exchanges.{Exchange, answers_text, last_state}
 use Rattle.vl_replay.specs.Reopens.{Reopens}
-use Rattle.vl_replay.specs.Sequential.{State}
-use Rattle.vl_replay.specs.Opening.{IsFault, ending_unopened}
+use Rattle.vl_replay.specs.Sequential.{State, history_of}
+use Rattle.vl_replay.specs.Opening.{ending_unopened}
+use Rattle.vl_engine.specs.Opening.{IsFault}
 use Rattle.vl_replay.specs.Runs.{IsFront}
 use Rattle.vl_replay.specs.Steps.{EndsUnopened, Finishes}
 use Rattle.vl_replay.specs.Trial.{EndsTrial, IsLastFront, ReachesEnd, TakesFirst, Trial, exchanges_unstopped, answered_lines, answered_state, at_stop, before_stop, begun, reopened_state, state_behind_stop, trial_text}
@@ -76,7 +77,7 @@ module _ (t : Trial) (held mid : Option (List ℕ)) (taken : Takes held mid (ans
 
     -- the contents were printed
     pub ends_reopened : (result : Ending) → ReachesEnd t → left ≡ Some []
-        → ReopensAs k (reopened_state t).history (last_number (reopened_state t).history) old new result → EndsTrial t held (k.held new) left result
+        → ReopensAs k (history_of (reopened_state t)) (last_number (history_of (reopened_state t))) old new result → EndsTrial t held (k.held new) left result
     ends_reopened result reaches all reopens = ⊎_elim printed (ends_memory result) reopens
       where
         printed : Finishes k old new (trial_text t) Complete result → EndsTrial t held (k.held new) left result
@@ -125,7 +126,7 @@ stopped_opening stop input disk held left below leaves rest told = (
   (rest, told),
   record {
     taken = λ o. subst (λ (es : List Exchange). Takes held held (answers_text es)) (sym (none_answered o)) (takes_nothing held);
-    leaves = λ o. subst (λ (s : State). Reopens (crash_image o (state_of disk)) s.history (last_number s.history)) (sym (nothing_left o)) (leaves o);
+    leaves = λ o. subst (λ (s : State). Reopens (crash_image o (state_of disk)) (history_of s) (last_number (history_of s))) (sym (nothing_left o)) (leaves o);
   },
 )
   where

@@ -14,7 +14,7 @@ use Rattle.vl_script.specs.declared.line.Line.{Line}
 use Rattle.vl_script.specs.declared.line.Line.TheVariants.{Begin, View, Get, Set, SetTagged, GetTagged, Delete as DeleteLine, Commit as CommitLine, Drop}
 use Rattle.vl_model.specs.declared.change.Change.TheVariants.{Set as Put, Delete}
 use Rattle.vl_replay.specs.Exchanges.{Exchange, and_later, exchange_at, exchanges_from, last_state}
-use Rattle.vl_replay.specs.Sequential.{Handle, OpenTransaction, OpenView, Outcome, State, after_commit, bytes_in_log, committed, state_after, without_handle}
+use Rattle.vl_replay.specs.Sequential.{Handle, OpenTransaction, OpenView, Outcome, State, after_commit, bytes_in_log, committed, state_after, without_handle, history_of}
 use Rattle.vl_replay.specs.Trial.{at_stop, before_stop}
 use Rattle.vl_replay.proofs.Disk.DiskSteps.{exchange_after}
 use Rattle.vl_replay.proofs.Store.Outcomes.{either, kept_dropped, kept_opened, kept_read, kept_written}
@@ -128,16 +128,16 @@ committed_files s name None = refl
 committed_files s name (Some (OpenView number)) = refl
 committed_files s name (Some (OpenTransaction number reads writes)) =
     let fits = nat_le (s.log.length + bytes_in_log writes) max_room in
-    let done : Outcome = (Number (last_number s.history + 1), after_commit s name writes) in
+    let done : Outcome = (Number (last_number (history_of s) + 1), after_commit s name writes) in
     let has_number : Outcome = cond fits done (Full, s) in
-    let some : Outcome = cond (nat_le max_commit_number (last_number s.history)) (Exhausted CommitNumber, s) has_number in
+    let some : Outcome = cond (nat_le max_commit_number (last_number (history_of s))) (Exhausted CommitNumber, s) has_number in
     either (KeepsFiles s) (len writes == 0) (Nothing, without_handle s name) some refl
-    (either (KeepsFiles s) (nat_le max_commit_number (last_number s.history)) (Exhausted CommitNumber, s) has_number refl
+    (either (KeepsFiles s) (nat_le max_commit_number (last_number (history_of s))) (Exhausted CommitNumber, s) has_number refl
     (either (KeepsFiles s) fits done (Full, s) refl refl))
 
 line_files : (s : State) (line : Line) → (state_after s line).files ≡ s.files
-line_files s (Begin name) = (kept_opened s name (OpenTransaction (last_number s.history) [] _)).files
-line_files s (View name) = (kept_opened s name (OpenView (last_number s.history))).files
+line_files s (Begin name) = (kept_opened s name (OpenTransaction (last_number (history_of s)) [] _)).files
+line_files s (View name) = (kept_opened s name (OpenView (last_number (history_of s)))).files
 line_files s (Get name key) = (kept_read s name key (get s.handles name)).files
 line_files s (Set name key value) = (kept_written s name key (Put (untagged value)) (get s.handles name)).files
 line_files s (GetTagged name key) = (kept_read s name key (get s.handles name)).files
