@@ -108,7 +108,7 @@ no_strays head = record {
     none_among name (i, less, is) = behind i less
 
 -- the plain lists of no commits are those of a new store
-no_commits : history_in (new_store max_room).commits ≡ no_history
+pub no_commits : history_in (new_store max_room).commits ≡ no_history
 no_commits = ap (λ (base : Past). record { first = 0; base = base; commits = [] })
     (empty_of_len (from_sorted []) (len-entries (from_sorted []) ∙ ap length (entries-from_sorted nat_cmp [] tt)))
 

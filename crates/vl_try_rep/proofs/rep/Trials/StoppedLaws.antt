@@ -1,0 +1,347 @@
+-- What a stop leaves of a disk: which history the image of its crash shows.
+use Rattle.std.proofs.Common.{◌≡◌, ⊎_elim, ℕ, ◌+◌, ◌<◌, ◌≤◌, List, [], ◌∷◌, ◌++◌, length, map, take, Option, Some, None, Ok, true, false, refl, sym, ◌∙◌, ap, subst, arith, length-append}
+use Rattle.std.specs.Prelude.{◌≢◌, ◌-◌, ◌/◌, nat_le}
+use Rattle.std.specs.FinMap.{get}
+use Rattle.std.specs.List.{AllByRecursion}
+use Rattle.std.specs.Option.{option_map}
+use Rattle.std.proofs.Math.Seq.{take-append-add}
+use Rattle.std.proofs.lemmas.List.{length-take, map-append, take-take, take_all, take_at}
+use Rattle.vl_model.specs.Formats.{log_format}
+use Rattle.vl_disk.specs.Changes.{changed_elsewhere, changed_there}
+use Rattle.vl_disk.specs.Crash.{Image, MayLeave}
+use Rattle.vl_disk.specs.DiskState.{DiskState, File, IsLawful, appended, lengthened, synced, synced_file}
+use Rattle.vl_disk.specs.laws.Lawful.{appended_lawful}
+use Rattle.vl_disk.specs.laws.NameMap.{same_or_other}
+use Rattle.vl_disk.specs.Started.{read_left}
+use Rattle.vl_disk.specs.declared.name.Name.{Name}
+use Rattle.vl_disk.specs.declared.name.Name.TheVariants.{Log}
+use Rattle.vl_frame.specs.laws.RunLaws.{frame_is_some, one_front}
+use Rattle.vl_frame.specs.Runs.{HasFrame, StandsNone, item_frame}
+use Rattle.vl_layout.specs.Logs.{new_segment}
+use Rattle.vl_layout.specs.declared.segment.Segment.{Segment}
+use Rattle.vl_manifest.specs.declared.state.ManifestState.{ManifestState}
+use Rattle.vl_mem.specs.CrashImage.{crash_image, left_of}
+use Rattle.vl_mem.specs.laws.CrashLaws.{crash_left, image_left}
+use Rattle.vl_mem.specs.declared.outcome.Outcome.{Outcome}
+use Rattle.vl_mem.specs.declared.outcome.Outcome.TheVariants.{Lost, Kept, Halved}
+use Rattle.vl_model.specs.History.{last_number}
+use Rattle.vl_model.specs.Limits.{max_file_number}
+use Rattle.vl_model.specs.declared.log_frame.LogFrame.{LogFrame}
+use Rattle.vl_try_rep.specs.recover.opening.Walk.{standing_log}
+use Rattle.vl_try_rep.specs.recover.laws.crash.AppendLaws.{last_held, manifest_kept, standing_with, walked_with}
+use Rattle.vl_try_rep.specs.recover.crash.Held.{HoldsStore}
+use Rattle.vl_try_rep.specs.recover.laws.opening.HeldLaws.{held_current, held_opens, held_says}
+use Rattle.vl_try_rep.specs.recover.crash.Held.{GoOn, log_as_held, opening_held}
+use Rattle.vl_try_rep.specs.recover.opening.Opening.{Led, Opening, Opens, Refusal, StandingLogs}
+use Rattle.vl_try_rep.specs.recover.laws.opening.OpeningLaws.{opens_by, single_opening, some_none}
+use Rattle.vl_try_rep.specs.recover.laws.repairing.StageLaws.{ok_same}
+use Rattle.vl_try_rep.specs.recover.laws.crash.TornFrames.{frame_behind, torn_log}
+use Rattle.vl_try_rep.specs.recover.opening.Walk.{StandingLog, filled, walked, with_frames}
+use Rattle.vl_seglog.specs.Frames.{frame_at, frames_end, frames_grammar, log_bytes}
+use Rattle.vl_seglog.specs.LogReading.{IsLogFormat}
+use Rattle.vl_seglog.specs.laws.LogReadingLaws.{SaysFrames, reads_with_tail}
+use Rattle.vl_try_rep.specs.replay.Reopens.{NamesUpTo, Reopens, commits_of, state_left}
+use Rattle.vl_try_rep.specs.replay.Sequential.{State}
+use Rattle.vl_try_rep.specs.replay.Stopped.{AreNumberedUpTo, Commits, GivesUpTo, append_failed, sync_failed, with_taken}
+use Rattle.vl_try_rep.specs.replay.Stored.{IsStopped, IsStored, Shown, logs_of}
+use Rattle.vl_try_rep.specs.replay.Writing.{written}
+use Rattle.vl_try_rep.proofs.rep.Disk.Logged.{shown_by}
+use Rattle.vl_try_rep.proofs.rep.Openings.NumbersLeft.{names_left, numbered_changed, numbers_left, reopens_by}
+
+-- ---- a log that ends with a part of a frame
+
+module _ (format number : ℕ) (is_read : IsLogFormat format) (frames : List LogFrame) (f : LogFrame)
+    (has : HasFrame (frames_grammar format) f) (k : ℕ) where
+  abbrev whole : List ℕ
+  whole = frame_behind format number frames f
+
+  -- no frame is spelled in a part of one,
+  part_says_none : k < length whole → StandsNone (frames_grammar format) number (frames_end format frames) (take k whole)
+  part_says_none less g rest stands =
+      let some = item_frame (frames_grammar format) number (frames_end format frames) g in
+      let parts : take k whole ≡ some ++ rest = stands.spelled in
+      let within : length some ≤ k = omega (arith, ap length parts, length-append some rest, length-take k whole) in
+      let front : take (length some) whole ≡ some =
+      sym (take-take (length some) k whole within) ∙ ap (take (length some)) parts ∙ take_at some rest (length some) refl in
+      let same : g ≡ f = one_front (frames_grammar format) number (frames_end format frames) f g has
+      (record { lawful = stands.lawful; short = stands.short }) front in
+      let all : length some ≡ length whole =
+      ap (λ (x : LogFrame). length (item_frame (frames_grammar format) number (frames_end format frames) x)) same in
+      omega (arith, less, within, all)
+
+  -- so the log says the frames before it
+  part_says : k < length whole → AllByRecursion (HasFrame (frames_grammar format)) frames
+      → SaysFrames format number (log_bytes format number frames ++ take k whole) frames
+  part_says less have = (_, reads_with_tail format number is_read frames have (take k whole) (part_says_none less))
+
+-- the logs with frames are the same where the last one has the same, in the same format
+filled_with : (a b : StandingLog) → a.number ≡ b.number → a.reading.header ≡ b.reading.header
+    → a.reading.frames ≡ b.reading.frames → (logs : List StandingLog)
+    → filled (logs ++ a ∷ []) ≡ filled (logs ++ b ∷ [])
+filled_with a b number header frames [] = λ i. with_frames (number i) (header i) (frames i) []
+filled_with a b number header frames (q ∷ logs) =
+    ap (with_frames q.number q.reading.header q.reading.frames) (filled_with a b number header frames logs)
+
+-- ---- images of a disk whose log took a part of a frame
+
+-- of a disk that holds a store, and a frame for its last log
+module _ (state : ManifestState) (before : List Segment) (last : Segment) (f : LogFrame) (disk : DiskState)
+    (holds : HoldsStore state (before ++ last ∷ []) disk) (has : HasFrame (frames_grammar last.format) f) where
+  abbrev frame : List ℕ
+  frame = frame_behind last.format last.number last.frames f
+
+  abbrev torn : ℕ → DiskState
+  torn taken = appended (Log last.number) frame taken disk
+
+  abbrev log : List ℕ
+  log = log_bytes last.format last.number last.frames
+
+  torn_there : (taken : ℕ) → get (torn taken).standing (Log last.number)
+      ≡ Some (torn_log last.format last.number last.frames f taken)
+  torn_there taken = changed_there (Log last.number) disk (lengthened frame taken)
+      ∙ ap (option_map (lengthened frame taken)) (last_held state.head before last disk holds.logs_are).stands
+
+  -- An image that has only a part of the frame opens with the logs before it.
+  part_opens : (number : ℕ) → GoOn state.covered (before ++ last ∷ []) number → (taken : ℕ) (image : Image) → MayLeave (torn taken) image
+      → (k : ℕ) → k < length frame → get image (Log last.number) ≡ Some (log ++ take k frame)
+      → Opens image (Ok (opening_held state (before ++ last ∷ []) number))
+  part_opens number goes taken image may k less is =
+      let elsewhere = changed_elsewhere (Log last.number) disk (lengthened frame taken) in
+      let held = manifest_kept last.number state disk (torn taken) elsewhere holds.manifest in
+      let is_last = last_held state.head before last disk holds.logs_are in
+      let says = part_says last.format last.number is_last.is_read last.frames f has k less is_last.have in
+      let found = standing_log last.number (log ++ take k frame)
+      (record { header = Some last.format; frames = last.frames; whole = says.0 }) in
+      let logs = map log_as_held before ++ found ∷ [] in
+      let standing : StandingLogs image state.head logs =
+      standing_with last disk (torn taken) image elsewhere may (log ++ take k frame) found.reading is says.1 state.head before holds.logs_are in
+      let split = map-append log_as_held before (last ∷ []) in
+      let walk : walked state.covered logs ≡ Ok number =
+      walked_with (log_as_held last) found number number (λ m e. e) state.covered (map log_as_held before)
+      (subst (λ (l : List StandingLog). walked state.covered l ≡ Ok number) split goes) in
+      let filled_same : filled logs ≡ filled (map log_as_held (before ++ last ∷ [])) =
+      filled_with found (log_as_held last) refl refl refl (map log_as_held before) ∙ ap filled (sym split) in
+      subst (λ (l : List Segment). Opens image (Ok (record { state = state; logs = l; number = number }))) filled_same
+      (opens_by image (Led held.number held.bytes) state logs number (record {
+        headed = held_current state (torn taken) held image may;
+        says = held_says state (torn taken) held;
+        standing = standing;
+        walk = walk;
+      }))
+
+  -- the log with so many bytes of what it took
+  part_of : (taken n : ℕ) → take (length log + n) (log ++ take taken frame) ≡ log ++ take n (take taken frame)
+  part_of taken n = take-append-add log (take taken frame) n
+
+  -- what a crash leaves of it, where the log took nothing,
+  none_left : (outcome : Outcome) → get (crash_image outcome (torn 0)) (Log last.number) ≡ Some (log ++ take 0 frame)
+  none_left outcome = image_left outcome (torn 0) (Log last.number)
+      ∙ ap (λ (o : Option File). left_of outcome o (get (torn 0).removed (Log last.number))) (torn_there 0) ∙ of outcome
+    where
+      file : File
+      file = torn_log last.format last.number last.frames f 0
+
+      removed : Option File
+      removed = get (torn 0).removed (Log last.number)
+
+      cut : (n : ℕ) → take (length log + n) (log ++ take 0 frame) ≡ log ++ take 0 frame
+      cut n = part_of 0 n ∙ ap (λ (b : List ℕ). log ++ b) (take_all n (take 0 frame) (omega (arith, length-take 0 frame)))
+
+      of : (o : Outcome) → left_of o (Some file) removed ≡ Some (log ++ take 0 frame)
+      of Lost = let end : length log + 0 ≡ length log = omega arith in
+          ap Some (sym (ap (λ (n : ℕ). take n (log ++ take 0 frame)) end) ∙ cut 0)
+      of Kept = refl
+      of Halved = ap Some (cut ((length (log ++ take 0 frame) - length log) / 2))
+
+  -- where it took all but what isn't durable is lost,
+  lost_left : (taken : ℕ) → get (crash_image Lost (torn taken)) (Log last.number) ≡ Some (log ++ take 0 frame)
+  lost_left taken = image_left Lost (torn taken) (Log last.number)
+      ∙ ap (λ (o : Option File). left_of Lost o (get (torn taken).removed (Log last.number))) (torn_there taken)
+      ∙ (let end : length log + 0 ≡ length log = omega arith in
+      ap Some (sym (ap (λ (n : ℕ). take n (log ++ take taken frame)) end) ∙ part_of taken 0))
+
+  abbrev half : ℕ
+  half = (length (log ++ take (length frame) frame) - length log) / 2
+
+  -- and where half of it is left
+  half_left : get (crash_image Halved (torn (length frame))) (Log last.number) ≡ Some (log ++ take half frame)
+  half_left = image_left Halved (torn (length frame)) (Log last.number)
+      ∙ ap (λ (o : Option File). left_of Halved o (get (torn (length frame)).removed (Log last.number))) (torn_there (length frame))
+      ∙ ap Some (part_of (length frame) half ∙ ap (λ (b : List ℕ). log ++ take half b) (take_all (length frame) frame (omega arith)))
+
+  frame_some : 1 ≤ length frame
+  frame_some = frame_is_some (frames_grammar last.format) last.number (frames_end last.format last.frames) f
+
+  half_less : half < length frame
+  half_less =
+      let size : length (log ++ take (length frame) frame) ≡ length log + length frame =
+      length-append log (take (length frame) frame) ∙ ap (λ (n : ℕ). length log + n) (ap length (take_all (length frame) frame (omega arith))) in
+      omega (arith, size, frame_some)
+
+  module _ (lawful : IsLawful disk) (number : ℕ) (goes : GoOn state.covered (before ++ last ∷ []) number) where
+    -- each outcome's image is one that the disk may leave,
+    left : (outcome : Outcome) (taken : ℕ) → MayLeave (torn taken) (crash_image outcome (torn taken))
+    left outcome taken = crash_left outcome (torn taken) (appended_lawful disk lawful (Log last.number) frame taken)
+
+    -- and opens with the logs before the frame where nothing of it was taken, where it is lost, and where half of it is left
+    none_opens : (outcome : Outcome) → Opens (crash_image outcome (torn 0)) (Ok (opening_held state (before ++ last ∷ []) number))
+    none_opens outcome = part_opens number goes 0 (crash_image outcome (torn 0)) (left outcome 0) 0 frame_some (none_left outcome)
+
+    lost_opens : Opens (crash_image Lost (torn (length frame))) (Ok (opening_held state (before ++ last ∷ []) number))
+    lost_opens = part_opens number goes (length frame) (crash_image Lost (torn (length frame))) (left Lost (length frame)) 0 frame_some (lost_left (length frame))
+
+    half_opens : Opens (crash_image Halved (torn (length frame))) (Ok (opening_held state (before ++ last ∷ []) number))
+    half_opens = part_opens number goes (length frame) (crash_image Halved (torn (length frame))) (left Halved (length frame)) half half_less half_left
+
+-- What is kept of a disk whose last sync failed is what it would have had behind it.
+kept_left : (name : Name) (disk : DiskState) → MayLeave (synced name disk) (crash_image Kept disk)
+kept_left name disk = read_left (crash_image Kept disk) (synced name disk) (record {
+  each = λ q. image_left Kept disk q ∙ ⊎_elim
+      (λ (same : q ≡ name). subst (λ (n : Name). option_map (λ (file : File). file.bytes) (get disk.standing n) ≡ option_map (λ (file : File). file.bytes) (get (synced name disk).standing n))
+      (sym same) (of (get disk.standing name) ∙ sym (ap (option_map (λ (file : File). file.bytes)) (changed_there name disk synced_file))))
+      (λ (other : q ≢ name). ap (option_map (λ (file : File). file.bytes)) (sym ((changed_elsewhere name disk synced_file).standing q other)))
+      (same_or_other q name);
+})
+  where
+    of : (o : Option File) → option_map (λ (file : File). file.bytes) o ≡ option_map (λ (file : File). file.bytes) (option_map synced_file o)
+    of None = refl
+    of (Some file) = refl
+
+-- ---- images of a disk that holds a state, and of one on which a commit was stopped
+
+-- the image opens as the store that the disk holds of the state
+abbrev pub OpensAsHeld : (s : State) (disk : DiskState) → IsStored s disk → Image → Type 0
+OpensAsHeld s disk stored image =
+    Opens image (Ok (opening_held stored.manifest (logs_of s stored.frozen stored.frames) (last_number s.history)))
+
+-- then it shows the state's history
+pub held_shows : (s : State) (disk : DiskState) (stored : IsStored s disk) (image : Image) → OpensAsHeld s disk stored image
+    → Shown image s.history (last_number s.history)
+held_shows s disk stored image opens =
+    shown_by image stored.manifest (logs_of s stored.frozen stored.frames) s.history (last_number s.history) opens stored.shows
+
+-- Whatever a crash leaves of the disk opens so.
+pub stored_opens : (s : State) (disk : DiskState) (stored : IsStored s disk) (image : Image) → MayLeave disk image
+    → OpensAsHeld s disk stored image
+stored_opens s disk stored image may =
+    held_opens stored.manifest (logs_of s stored.frozen stored.frames) (last_number s.history) disk stored.holds stored.numbers image may
+
+module _ (before after : State) (commits : Commits IsStored before after) where
+  abbrev old : DiskState
+  old = commits.old
+
+  abbrev stored : IsStored before old
+  stored = commits.held
+
+  abbrev number : ℕ
+  number = before.log.number
+
+  same_frame : frame_behind log_format number stored.frames commits.item ≡ commits.frame
+  same_frame = ap (λ (place : ℕ). frame_at log_format number place commits.item) (sym stored.length_is) ∙ sym commits.frame_is
+
+  -- Where its append failed, the image opens as the store before,
+  append_failed_opens : (outcome : Outcome) → OpensAsHeld before old stored (crash_image outcome (with_taken commits 0))
+  append_failed_opens outcome = subst
+      (λ (frame : List ℕ). OpensAsHeld before old stored (crash_image outcome (appended (Log number) frame 0 old))) same_frame
+      (none_opens stored.manifest stored.frozen (new_segment log_format number stored.frames) commits.item old stored.holds commits.has
+      stored.lawful (last_number before.history) stored.numbers outcome)
+
+  -- and where its sync failed too, if what wasn't durable was lost,
+  sync_failed_lost : OpensAsHeld before old stored (crash_image Lost (with_taken commits (length commits.frame)))
+  sync_failed_lost = subst
+      (λ (frame : List ℕ). OpensAsHeld before old stored (crash_image Lost (appended (Log number) frame (length frame) old))) same_frame
+      (lost_opens stored.manifest stored.frozen (new_segment log_format number stored.frames) commits.item old stored.holds commits.has
+      stored.lawful (last_number before.history) stored.numbers)
+
+  -- or half of it.
+  sync_failed_halved : OpensAsHeld before old stored (crash_image Halved (with_taken commits (length commits.frame)))
+  sync_failed_halved = subst
+      (λ (frame : List ℕ). OpensAsHeld before old stored (crash_image Halved (appended (Log number) frame (length frame) old))) same_frame
+      (half_opens stored.manifest stored.frozen (new_segment log_format number stored.frames) commits.item old stored.holds commits.has
+      stored.lawful (last_number before.history) stored.numbers)
+
+  -- If all of it was kept, it opens as the store after.
+  sync_failed_kept : OpensAsHeld after (written (Log number) commits.frame old) commits.done
+      (crash_image Kept (with_taken commits (length commits.frame)))
+  sync_failed_kept = stored_opens after (written (Log number) commits.frame old) commits.done
+      (crash_image Kept (with_taken commits (length commits.frame))) (kept_left (Log number) (with_taken commits (length commits.frame)))
+
+-- ---- numbers that are left
+
+module _ (n : ℕ) (fits : n + 2 ≤ max_file_number) (s : State) (disk : DiskState) (stored : IsStored s disk)
+    (numbered : AreNumberedUpTo n disk) (gives : GivesUpTo n stored.manifest) where
+  -- An image that opens as what a disk holds of a state, whose files have small numbers, opens again.
+  pub held_reopens : (image : Image) → OpensAsHeld s disk stored image → NamesUpTo n image
+      → Reopens image s.history (last_number s.history)
+  held_reopens image opens names =
+      reopens_by n image names s.history (last_number s.history) (held_shows s disk stored image opens) (λ found.
+      let last = last_held stored.manifest.head stored.frozen (new_segment log_format s.log.number stored.frames) disk stored.holds.logs_are in
+      let within : s.log.number ≤ n = numbered.standing (Log s.log.number) (λ none. some_none _ (sym last.stands ∙ none)) in
+      let same : found.opening ≡ opening_held stored.manifest (logs_of s stored.frozen stored.frames) (last_number s.history) =
+      ok_same {E = Refusal} found.opening _ (single_opening image (Ok found.opening) _ found.opens opens) in
+      let state : found.opening.state ≡ stored.manifest = ap (λ (o : Opening). o.state) same in
+      numbers_left n fits image names found
+      (subst (λ (x : ManifestState). x.head ≤ n + 1) (sym state) (let from = last.from in omega (arith, from, within)))
+      (subst (λ (x : ManifestState). x.next_log ≤ n + 1) (sym state) gives))
+
+  -- So does the image of a disk that holds a state.
+  pub stored_reopens : (outcome : Outcome) → Reopens (crash_image outcome disk) s.history (last_number s.history)
+  stored_reopens outcome =
+      let may = crash_left outcome disk stored.lawful in
+      held_reopens (crash_image outcome disk) (stored_opens s disk stored (crash_image outcome disk) may)
+      (names_left n disk (crash_image outcome disk) may numbered)
+
+-- And so does the image of a disk on which a commit was stopped.
+module _ (before after : State) (commits : Commits IsStored before after) (n : ℕ) (fits : n + 2 ≤ max_file_number)
+    (numbered : AreNumberedUpTo n commits.old) (gives : GivesUpTo n commits.held.manifest) where
+  -- its names are among those of the disk before
+  names_torn : (taken : ℕ) (outcome : Outcome) → NamesUpTo n (crash_image outcome (with_taken commits taken))
+  names_torn taken outcome = names_left n (with_taken commits taken) (crash_image outcome (with_taken commits taken))
+      (crash_left outcome (with_taken commits taken) (appended_lawful commits.old commits.held.lawful (Log before.log.number) commits.frame taken))
+      (numbered_changed n (Log before.log.number) (lengthened commits.frame taken) commits.old numbered)
+
+  -- where the append failed,
+  append_failed_reopens : (outcome : Outcome)
+      → Reopens (crash_image outcome (with_taken commits 0)) before.history (last_number before.history)
+  append_failed_reopens outcome = held_reopens n fits before commits.old commits.held numbered gives
+      (crash_image outcome (with_taken commits 0)) (append_failed_opens before after commits outcome) (names_torn 0 outcome)
+
+  -- and where the sync failed
+  sync_failed_reopens : (k : ℕ) → k + 2 ≤ max_file_number
+      → AreNumberedUpTo k (written (Log before.log.number) commits.frame commits.old) → GivesUpTo k commits.done.manifest
+      → (outcome : Outcome) → let s = state_left outcome true before after in
+      Reopens (crash_image outcome (with_taken commits (length commits.frame))) s.history (last_number s.history)
+  sync_failed_reopens k fits_after numbered_after gives_after Lost = held_reopens n fits before commits.old commits.held numbered gives
+      (crash_image Lost (with_taken commits (length commits.frame))) (sync_failed_lost before after commits)
+      (names_torn (length commits.frame) Lost)
+  sync_failed_reopens k fits_after numbered_after gives_after Kept =
+      let durable = written (Log before.log.number) commits.frame commits.old in
+      let image = crash_image Kept (with_taken commits (length commits.frame)) in
+      held_reopens k fits_after after durable commits.done numbered_after gives_after image (sync_failed_kept before after commits)
+      (names_left k durable image (kept_left (Log before.log.number) (with_taken commits (length commits.frame))) numbered_after)
+  sync_failed_reopens k fits_after numbered_after gives_after Halved = held_reopens n fits before commits.old commits.held numbered gives
+      (crash_image Halved (with_taken commits (length commits.frame))) (sync_failed_halved before after commits)
+      (names_torn (length commits.frame) Halved)
+
+-- Behind a stop in a commit the image opens again, showing the commits before it, or with it where its append passed and all
+-- is kept.
+pub stopped_reopens : (before after : State) (passed : ℕ) (now : DiskState) (stopped : IsStopped before after passed now)
+    (outcome : Outcome) (n k : ℕ) → n + 2 ≤ max_file_number → k + 2 ≤ max_file_number
+    → AreNumberedUpTo n (commits_of stopped).old → GivesUpTo n (commits_of stopped).held.manifest
+    → AreNumberedUpTo k (written (Log before.log.number) (commits_of stopped).frame (commits_of stopped).old)
+    → GivesUpTo k (commits_of stopped).done.manifest → let s = state_left outcome (nat_le 1 passed) before after in
+    Reopens (crash_image outcome now) s.history (last_number s.history)
+stopped_reopens before after passed now (append_failed commits none is) outcome n k fits fits_after numbered gives numbered_after gives_after =
+    subst (λ (m : ℕ). let s = state_left outcome (nat_le 1 m) before after in Reopens (crash_image outcome now) s.history (last_number s.history)) (sym none)
+    (subst (λ (s : State). Reopens (crash_image outcome now) s.history (last_number s.history)) (of outcome)
+    (subst (λ (d : DiskState). Reopens (crash_image outcome d) before.history (last_number before.history)) (sym is)
+    (append_failed_reopens before after commits n fits numbered gives outcome)))
+  where
+    of : (o : Outcome) → before ≡ state_left o false before after
+    of Lost = refl
+    of Kept = refl
+    of Halved = refl
+stopped_reopens before after passed now (sync_failed commits one is) outcome n k fits fits_after numbered gives numbered_after gives_after =
+    subst (λ (m : ℕ). let s = state_left outcome (nat_le 1 m) before after in Reopens (crash_image outcome now) s.history (last_number s.history)) (sym one)
+    (subst (λ (d : DiskState). let s = state_left outcome true before after in Reopens (crash_image outcome d) s.history (last_number s.history)) (sym is)
+    (sync_failed_reopens before after commits n fits numbered gives k fits_after numbered_after gives_after outcome))

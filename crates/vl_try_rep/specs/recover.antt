@@ -1,0 +1,4 @@
+pub mod laws
+pub mod opening
+pub mod repairing
+pub mod crash

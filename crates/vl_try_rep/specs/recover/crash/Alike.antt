@@ -1,0 +1,56 @@
+-- When one image opens like another, and when whatever a crash leaves of a disk opens like something that it could have left
+-- of an earlier one.
+use Rattle.std.specs.Prelude.{◌≡◌, ℕ, List, Ok}
+use Rattle.vl_disk.specs.Chance.{NoChanceMatch}
+use Rattle.vl_disk.specs.Crash.{Image, MayLeave}
+use Rattle.vl_disk.specs.DiskState.{DiskState}
+use Rattle.vl_disk.specs.declared.name.Name.{Name}
+use Rattle.vl_disk.specs.declared.name.Name.TheVariants.{Log, Table, Manifest}
+use Rattle.vl_frame.specs.Begins.{SpellsAt}
+use Rattle.vl_manifest.specs.Grammar.{edits_grammar}
+use Rattle.vl_manifest.specs.declared.state.ManifestState.{ManifestState}
+use Rattle.vl_model.specs.Formats.{manifest_format}
+use Rattle.vl_seglog.specs.Frames.{frames_grammar}
+use Rattle.vl_seglog.specs.LogReading.{HasHeader, IsLogFormat}
+use Rattle.vl_try_rep.specs.recover.opening.Opening.{Opening, Opens}
+
+-- Two manifests say the same, but for the numbers that may still be given. Neither is `gone` among it: where a crash tears
+-- the new manifest's header into one of an older format, its covered number is read for it.
+pub record SameState (a b : ManifestState) : Type 0 where
+  pub levels : a.levels ≡ b.levels
+  pub head : a.head ≡ b.head
+  pub covered : a.covered ≡ b.covered
+  pub keep : a.keep ≡ b.keep
+  pub since : a.since ≡ b.since
+
+-- so do two openings, which have the same logs and the same last commit
+pub record ShowsAs (a b : Opening) : Type 0 where
+  pub state : SameState a.state b.state
+  pub logs : a.logs ≡ b.logs
+  pub number : a.number ≡ b.number
+
+-- where the other image opens, this one opens as it
+abbrev pub OpensLike : (image other : Image) → Type 0
+OpensLike image other =
+    (o : Opening) → Opens other (Ok o) → (p : Opening) × Opens image (Ok p) × ShowsAs p o
+
+-- the frames of a log, in the format that its header says
+abbrev pub SpellsLogged : ℕ → List ℕ → ℕ → List ℕ → Type 0
+SpellsLogged number bytes at frame = (format : ℕ) × IsLogFormat format × HasHeader format number bytes
+    × SpellsAt (frames_grammar format) number bytes at frame
+
+-- the frames that are looked for when a crash has left torn bytes: those of logs and manifests
+abbrev pub Spells : Name → List ℕ → ℕ → List ℕ → Type 0
+Spells (Log number) bytes at frame = SpellsLogged number bytes at frame
+Spells (Table number) bytes at frame = ⊥
+Spells (Manifest number) bytes at frame = SpellsAt (edits_grammar manifest_format) number bytes at frame
+
+-- the image may be left by a crash, and no torn bytes of it spell a frame by chance
+pub record IsLeft (disk : DiskState) (image : Image) : Type 0 where
+  pub left : MayLeave disk image
+  pub no_chance : NoChanceMatch Spells disk image
+
+-- Whatever a crash leaves of this disk opens as something that it could have left of the old one.
+abbrev pub OpensAsOf : (old now : DiskState) → Type 0
+OpensAsOf old now =
+    (image : Image) → IsLeft now image → (before : Image) × IsLeft old before × OpensLike image before

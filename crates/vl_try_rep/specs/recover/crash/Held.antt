@@ -1,0 +1,68 @@
+-- What a disk holds of an opened store, of which all files are durable.
+use Rattle.std.specs.Prelude.{◌≡◌, ℕ, ◌+◌, ◌≤◌, ◌<◌, List, [], ◌∷◌, map, true, None, Some, Ok}
+use Rattle.std.specs.FinMap.{get}
+use Rattle.std.specs.List.{AllByRecursion}
+use Rattle.vl_disk.specs.DiskState.{DiskState, File, settled}
+use Rattle.vl_disk.specs.declared.name.Name.{Name}
+use Rattle.vl_disk.specs.declared.name.Name.TheVariants.{Log, Manifest}
+use Rattle.vl_layout.specs.declared.segment.Segment.{Segment}
+use Rattle.vl_manifest.specs.Tables.{SaysBareState}
+use Rattle.vl_manifest.specs.declared.state.ManifestState.{ManifestState}
+use Rattle.vl_frame.specs.Runs.{HasFrame}
+use Rattle.vl_try_rep.specs.recover.opening.Opening.{Opening}
+use Rattle.vl_try_rep.specs.recover.opening.Walk.{StandingLog, filled, standing_log, walked}
+use Rattle.vl_seglog.specs.Frames.{frames_grammar, log_bytes}
+use Rattle.vl_seglog.specs.LogReading.{IsLogFormat}
+
+-- no file stands under this name, and none was removed since the disk was started
+pub record IsNowhere (disk : DiskState) (name : Name) : Type 0 where
+  pub free : get disk.standing name ≡ None
+  pub never : get disk.removed name ≡ None
+
+-- the file stands, durable, with these bytes
+abbrev pub IsSettled : DiskState → Name → List ℕ → Type 0
+IsSettled disk name bytes = get disk.standing name ≡ Some (settled bytes)
+
+-- the manifest that says this state is durable, and no greater one stands or was removed
+pub record HoldsManifest (state : ManifestState) (disk : DiskState) : Type 0 where
+  pub number : ℕ
+  pub bytes : List ℕ
+  pub stands : IsSettled disk (Manifest number) bytes
+  pub says : SaysBareState number bytes state
+  pub above : (m : ℕ) → number < m → IsNowhere disk (Manifest m)
+
+-- from a number on stand just these logs, rising, each durable with its frames and nothing else, and none other was removed
+abbrev pub HoldsLogs : ℕ → List Segment → DiskState → Type 0
+HoldsLogs least [] disk = (m : ℕ) → least ≤ m → IsNowhere disk (Log m)
+HoldsLogs least (s ∷ ss) disk =
+    (least ≤ s.number)
+    × ((m : ℕ) → least ≤ m → m < s.number → IsNowhere disk (Log m))
+    × IsLogFormat s.format
+    × AllByRecursion (HasFrame (frames_grammar s.format)) s.frames
+    × IsSettled disk (Log s.number) (log_bytes s.format s.number s.frames)
+    × HoldsLogs (s.number + 1) ss disk
+
+-- each file that stands is durable
+abbrev pub AllSettled : DiskState → Type 0
+AllSettled disk = (name : Name) (file : File) → get disk.standing name ≡ Some file → file ≡ settled file.bytes
+
+-- The disk holds a store: a manifest that says this state, these logs from its head on, and nothing that isn't durable.
+pub record HoldsStore (state : ManifestState) (logs : List Segment) (disk : DiskState) : Type 0 where
+  pub manifest : HoldsManifest state disk
+  pub logs_are : HoldsLogs state.head logs disk
+  pub durable : AllSettled disk
+
+-- ---- what it opens as
+
+-- a log as it stands that is held: whole
+abbrev pub log_as_held : Segment → StandingLog
+log_as_held s = standing_log s.number (log_bytes s.format s.number s.frames)
+    (record { header = Some s.format; frames = s.frames; whole = true })
+
+-- their commits go on from a number to another
+abbrev pub GoOn : ℕ → List Segment → ℕ → Type 0
+GoOn covered logs number = walked covered (map log_as_held logs) ≡ Ok number
+
+-- what a store that is held opens as
+abbrev pub opening_held : ManifestState → List Segment → ℕ → Opening
+opening_held state logs number = record { state = state; logs = filled (map log_as_held logs); number = number }

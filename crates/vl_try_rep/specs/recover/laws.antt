@@ -1,0 +1,4 @@
+-- Laws of the definitions beside this folder, which proofs in other crates cite. Nothing here is needed to read a contract.
+pub mod opening
+pub mod repairing
+pub mod crash

@@ -1,0 +1,13 @@
+-- What an opening finds and answers.
+pub mod Answers
+pub mod Counting
+pub mod Finding
+pub mod Leading
+pub mod LogsSoFar
+pub mod Named
+pub mod Opening
+pub mod Plans
+pub mod ReadLogs
+pub mod Results
+pub mod Stages
+pub mod Walk

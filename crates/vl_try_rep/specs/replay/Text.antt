@@ -1,0 +1,24 @@
+-- What is printed of a store's contents.
+use Rattle.std.specs.Prelude.{ℕ, List, [], ◌∷◌, ◌++◌, codes, length}
+use Rattle.std.specs.FinMap.{entries}
+use Rattle.std.specs.Fmt.{decimal}
+use Rattle.vl_model.specs.Keys.{Pairs, Row}
+use Rattle.vl_script.specs.Script.{bytes_text}
+
+-- a key and its value, with a space between them, as a line
+abbrev pub row_text : Row → List ℕ
+row_text row = bytes_text row.0 ++ (32 ∷ []) ++ bytes_text row.1.bytes ++ (10 ∷ [])
+
+-- a line for each row
+abbrev pub rows_text : List Row → List ℕ
+rows_text [] = []
+rows_text (row ∷ rows) = row_text row ++ rows_text rows
+
+-- the number at which the store was reopened, how many rows there are, and the rows
+abbrev pub contents_text : ℕ → List Row → List ℕ
+contents_text number rows =
+    codes "reopened " ++ decimal number ++ (10 ∷ []) ++ codes "rows " ++ decimal (length rows) ++ (10 ∷ []) ++ rows_text rows
+
+-- the same of pairs, which are printed with their keys rising
+abbrev pub reopened_text : ℕ → Pairs → List ℕ
+reopened_text number pairs = contents_text number (entries pairs)

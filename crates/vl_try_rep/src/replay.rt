@@ -1,0 +1,4 @@
+pub mod ending;
+pub mod fails;
+pub mod replayer;
+pub mod input;

@@ -1,0 +1,4 @@
+//! Laws of the sequential store.
+#![tactic(auto)]
+
+fn nothing() {}
