@@ -1,2 +1,3 @@
 pub mod Bodies
 pub mod Scans
+pub mod StartSteps

@@ -17,7 +17,7 @@ pub record UnderWay (format : ℕ) (bytes : List ℕ) (total count : ℕ) (last 
   pub so_far : SoFar (entries format) bytes total count taken rest
   pub last_is : last_item taken ≡ option_map entry_of last
 
-pub reads_one : (format : ℕ) (bytes : List ℕ) (total count : ℕ) (last : Option EntryRef) (rest : List ℕ) (e : EntryRef) (after : List ℕ)
+unfoldable pub reads_one : (format : ℕ) (bytes : List ℕ) (total count : ℕ) (last : Option EntryRef) (rest : List ℕ) (e : EntryRef) (after : List ℕ)
     → UnderWay format bytes total count last rest → IsEntry format (entry_of e) → rest ≡ entry_bytes format (entry_of e) ++ after
     → IsNext (entries format) (option_map entry_of last) (entry_of e) → UnderWay format bytes total (count + 1) (Some e) after
 reads_one format bytes total count last rest e after u lawful spelled follows = record {

@@ -1,8 +1,9 @@
 -- What a block's body spells in a format.
-use Rattle.std.specs.Prelude.{◌≡◌, ℕ, List}
+use Rattle.std.specs.Prelude.{◌≡◌, ◌≤◌, ℕ, List, length}
 use Rattle.std.specs.declared.cmp.Ordering.TheVariants.{Less}
 use Rattle.vl_model.specs.Entries.{entry_cmp}
 use Rattle.vl_model.specs.declared.entry.Entry.{Entry}
+use Rattle.vl_block.specs.Cutting.{longest_body}
 use Rattle.vl_block.specs.Entries.{entry_bytes, IsEntry}
 use Rattle.vl_block.specs.laws.EntryLaws.{one_entry}
 use Rattle.vl_block.specs.Lists.{Spelling, counted_bytes, AreLawful}
@@ -26,5 +27,6 @@ IsBlock format es = AreLawful (entries format) es
 
 -- the body is a block's, of these entries
 pub record SpellsBlock (format : ℕ) (body : List ℕ) (es : List Entry) : Type 0 where
+  pub short : length body ≤ longest_body
   pub lawful : IsBlock format es
   pub spelled : body ≡ block_body format es

@@ -17,11 +17,16 @@ use Rattle.vl_block.specs.declared.points.Point.{Point}
 abbrev pub max_block_bytes : ℕ
 max_block_bytes = 4096
 
--- a value's user byte, where the format has them
+-- So the longest body is that of one entry, with the longest key and the longest value beside it. No store writes a longer
+-- one, and none is read.
+abbrev pub longest_body : ℕ
+longest_body = 4177
+
+-- a value's tag, where the format has them
 abbrev pub tag_length : ℕ → ℕ
 tag_length format = if has_tags format then 1 else 0
 
--- behind its kind a value's user byte, length and bytes, nothing, or a pointer; a table has no other bodies
+-- behind its kind a value's tag, length and bytes, nothing, or a pointer; a table has no other bodies
 abbrev pub body_length : ℕ → Body → ℕ
 body_length format (Inline value) = tag_length format + 1 + length value.bytes
 body_length format Gone = 0

@@ -32,15 +32,15 @@ pub record IsPointer (p : Pointer) : Type 0 where
 
 -- ---- values beside their keys
 
--- a value's user byte, where the format has them
+-- a value's tag, where the format has them
 abbrev pub tag_bytes : ℕ → ℕ → List ℕ
 tag_bytes format tag = if has_tags format then tag ∷ [] else []
 
--- the user byte, and the value behind its length
+-- the tag, and the value behind its length
 abbrev pub inline_bytes : ℕ → Value → List ℕ
 inline_bytes format value = tag_bytes format value.tag ++ length value.bytes ∷ value.bytes
 
--- at most 64 bytes; the user byte is one, and 0 where the format has none
+-- at most 64 bytes; the tag is one, and 0 where the format has none
 pub record IsInline (format : ℕ) (value : Value) : Type 0 where
   pub short : length value.bytes ≤ max_inline_bytes
   pub tag : value.tag < 2 ^ 8

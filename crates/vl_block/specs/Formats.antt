@@ -1,7 +1,7 @@
 -- What differs between the formats of tables. Each is read that this store wrote; the last is written.
 use Rattle.std.specs.Prelude.{ℕ, Bool, nat_le}
 
--- whether a value beside its key has its user byte before it; where not, that byte is 0
+-- whether a value beside its key has its tag before it; where not, that byte is 0
 abbrev pub has_tags : ℕ → Bool
 has_tags format = nat_le 2 format
 

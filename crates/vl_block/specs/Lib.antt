@@ -4,6 +4,9 @@ pub mod Cutting
 pub mod Entries
 pub mod Footer
 pub mod Formats
+pub mod Founds
 pub mod Index
 pub mod laws
 pub mod Lists
+pub mod Shapes
+pub mod Starts

@@ -1,11 +1,12 @@
-//! How a block's body is read. A body that isn't a block's to its last byte is none.
+//! How a block's body is read. A body that isn't a block's to its last byte is none, and so is one that is too long.
 
-ghost use Rattle.std.specs.Prelude.{◌≡◌, ◌↔◌, ◌<◌, List, Option, IfOk, IfNone, IfSome, IsTrue};
+ghost use Rattle.std.specs.Prelude.{◌≡◌, ◌↔◌, ◌+◌, ◌<◌, ◌≤◌, List, Option, IfOk, IfNone, IfSome, IsTrue, drop, length, take};
 ghost use Rattle.std.specs.Option.{option_map};
 ghost use Rattle.vl_model.specs.declared.entry.Entry.{Entry};
 ghost use Rattle.vl_block.specs.Blocks.{SpellsBlock, entries};
 ghost use Rattle.vl_block.specs.Entries.{entry_of};
 ghost use Rattle.vl_block.specs.Lists.{IsNext, IsRun};
+ghost use Rattle.vl_block.specs.Starts.{AreStarts};
 
 use crate::entry_ref::EntryRef;
 use crate::taking::take_entry;
@@ -13,15 +14,29 @@ use std::alloc::{AllocError, Global};
 use vl_frame::take_u32;
 use vl_model::{Entry, place_order};
 
-/// Whether a frame's body is a block's.
-pub fn is_block(format: u32, body: &[u8]) -> bool
-    ensures found { IsTrue result → (es : List Entry) × SpellsBlock format body.now es }
-    ensures whole { (es : List Entry) → SpellsBlock format body.now es → IsTrue result }
+/// The longest body of a block. No store writes a longer one, and none is read.
+pub const MAX_BODY_BYTES: usize = 4177;
+
+/// So many entries a block has at most: an entry has at least 12 bytes, and their count 4.
+pub const MAX_BLOCK_ENTRIES: usize = 347;
+
+/// Tests a block's body, and finds where its entries begin, in the bytes behind their count. It gives how many there are,
+/// and puts as many places to the front of `starts`; None where the body isn't a block's.
+pub fn find_starts(format: u32, body: &[u8], starts: &mut [u16]) -> Option<usize>
+    requires { MAX_BLOCK_ENTRIES ≤ length starts.old }
+    ensures found { IfSome result (λ count. (es : List Entry) × SpellsBlock format body.now es
+        × AreStarts format (drop 4 body.now) (take count starts.new) es) }
+    ensures none { IfNone result ((es : List Entry) → SpellsBlock format body.now es → ⊥) }
+    ensures within { IfSome result (λ count. count ≤ MAX_BLOCK_ENTRIES) }
 {
-    match take_u32(body) {
-        None => false,
-        Some((count, rest)) => are_entries(format, count, rest),
+    if body.len() > MAX_BODY_BYTES {
+        return None;
     }
+    let (count, bytes) = take_u32(body)?;
+    if !are_entries(format, count, bytes, starts) {
+        return None;
+    }
+    Some(count as usize)
 }
 
 /// The entries of a block's body, each with a key and a value of its own.
@@ -43,31 +58,25 @@ pub fn block_entries(alloc: Global, format: u32, body: &[u8]) -> Result<Vec<Entr
     }
 }
 
-/// The entries that a frame's body spells, or None where it isn't a block's.
-pub fn read_block(alloc: Global, format: u32, body: &[u8]) -> Result<Option<Vec<Entry>>, AllocError>
-    ensures found { IfOk result (λ read. IfSome read (λ entries. SpellsBlock format body.now entries.items)) }
-    ensures none { IfOk result (λ read. IfNone read ((es : List Entry) → SpellsBlock format body.now es → ⊥)) }
-{
-    if !is_block(format, body) {
-        return Ok(None);
-    }
-    Ok(Some(block_entries(alloc, format, body)?))
-}
-
-// Whether these bytes are so many entries, one behind the other, in order.
-fn are_entries(format: u32, count: u32, bytes: &[u8]) -> bool
-    ensures found { IsTrue result → (es : List Entry) × IsRun (entries format) bytes.now count es }
+// Whether these bytes are so many entries, one behind the other, in order. Where they are, it finds where each begins.
+fn are_entries(format: u32, count: u32, bytes: &[u8], starts: &mut [u16]) -> bool
+    requires room { MAX_BLOCK_ENTRIES ≤ length starts.old }
+    requires short { length bytes.now + 4 ≤ MAX_BODY_BYTES }
+    ensures found { IsTrue result → (es : List Entry) × IsRun (entries format) bytes.now count es
+        × AreStarts format bytes.now (take count starts.new) es }
+    ensures few { IsTrue result → count ≤ MAX_BLOCK_ENTRIES }
     ensures whole { (es : List Entry) → IsRun (entries format) bytes.now count es → IsTrue result }
 {
     let mut last: Option<EntryRef> = None;
     let mut rest = bytes;
-    for _ in 0..count {
+    for i in 0..count {
         match take_entry(format, rest) {
             None => return false,
             Some((entry, after)) => {
                 if !is_next(format, &last, &entry) {
                     return false;
                 }
+                starts[i as usize] = (bytes.len() - rest.len()) as u16;
                 last = Some(entry);
                 rest = after;
             }

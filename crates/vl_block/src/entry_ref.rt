@@ -4,7 +4,7 @@ ghost use Rattle.vl_block.specs.Entries.{body_of, entry_of, value_of};
 use std::alloc::{AllocError, Global};
 use vl_model::{Body, Bytes, Entry, Place, Pointer, Value};
 
-/// A value and its user byte where they lie in a block.
+/// A value and its tag where they lie in a block.
 #[derive(Clone, Copy, Debug)]
 pub struct ValueRef<'a> {
     pub bytes: &'a [u8],

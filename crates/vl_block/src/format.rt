@@ -3,7 +3,7 @@
 ghost use Rattle.std.specs.Prelude.{◌≡◌};
 ghost use Rattle.vl_block.specs.Formats as formats;
 
-/// Whether tables of a format have user bytes beside short values.
+/// Whether tables of a format have tags beside short values.
 pub fn has_tags(format: u32) -> bool
     ensures { result ≡ formats.has_tags format }
 {

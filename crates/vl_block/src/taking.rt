@@ -1,10 +1,11 @@
 //! How the entry at the front of some bytes is read.
 
-ghost use Rattle.std.specs.Prelude.{◌≡◌, ◌++◌, ◌∷◌, ◌≤◌, ◌<◌, ◌^◌, ℕ, false, List, length, IfNone, IfSome};
+ghost use Rattle.std.specs.Prelude.{◌≡◌, ◌++◌, ◌∷◌, ◌≤◌, ◌<◌, ◌^◌, ℕ, false, List, length, IfNone, IfSome, IsSomeAnd};
 ghost use Rattle.vl_model.specs.declared.entry.Entry.{Entry};
 ghost use Rattle.vl_model.specs.declared.entry.Body.{Body};
 ghost use Rattle.vl_block.specs.Formats as formats;
 ghost use Rattle.vl_block.specs.Entries.{IsBody, IsEntry, IsInline, body_bytes, body_of, entry_bytes, entry_of, inline_bytes, tag_bytes, value_of};
+ghost use Rattle.vl_block.specs.Starts.{StartsAt};
 ghost use Rattle.vl_model.specs.declared.value.Value.{Value};
 
 use crate::entry_ref::{BodyRef, EntryRef, ValueRef};
@@ -36,6 +37,20 @@ pub fn take_entry(format: u32, bytes: &[u8]) -> Option<(EntryRef<'_>, &[u8])>
     Some((EntryRef { key, version, body }, rest))
 }
 
+/// The entry that begins at a place; none where no entry stands there.
+pub fn entry_at(format: u32, bytes: &[u8], start: u16) -> Option<EntryRef<'_>>
+    ensures found { (e : Entry) → IsEntry format e → StartsAt format bytes.now start e → IsSomeAnd result (λ r. entry_of r ≡ e) }
+    ensures lawful { IfSome result (λ r. IsEntry format (entry_of r)) }
+{
+    if start as usize > bytes.len() {
+        return None;
+    }
+    match take_entry(format, &bytes[start as usize..]) {
+        None => None,
+        Some((entry, _)) => Some(entry),
+    }
+}
+
 // The body at the front, with its kind.
 fn take_body(format: u32, bytes: &[u8]) -> Option<(BodyRef<'_>, &[u8])>
     ensures found { IfSome result (λ r. bytes.now ≡ body_bytes format (body_of r.0) ++ r.1.now) }
@@ -63,7 +78,7 @@ fn take_inline(format: u32, bytes: &[u8]) -> Option<(BodyRef<'_>, &[u8])>
     Some((BodyRef::Inline(value), rest))
 }
 
-// The value with its user byte.
+// The value with its tag.
 fn take_value(format: u32, bytes: &[u8]) -> Option<(ValueRef<'_>, &[u8])>
     ensures found { IfSome result (λ r. bytes.now ≡ inline_bytes format (value_of r.0) ++ r.1.now) }
     ensures lawful { IfSome result (λ r. IsInline format (value_of r.0)) }
@@ -75,7 +90,7 @@ fn take_value(format: u32, bytes: &[u8]) -> Option<(ValueRef<'_>, &[u8])>
     Some((ValueRef { bytes, tag }, rest))
 }
 
-// A user byte, where the format has them, and else 0.
+// A tag, where the format has them, and else 0.
 fn take_tag(format: u32, bytes: &[u8]) -> Option<(u8, &[u8])>
     ensures found { IfSome result (λ r. bytes.now ≡ tag_bytes format r.0 ++ r.1.now) }
     ensures fits { IfSome result (λ r. r.0 < 2 ^ 8) }

@@ -1,5 +1,5 @@
 -- The least of what two searches find.
-use Rattle.std.proofs.Common.{◌≡◌, ℕ, ◌+◌, ◌<◌, Bool, true, false, cond, not, ◌&&◌, ◌||◌, List, [], ◌∷◌, ◌++◌, length, take, get_or, refl, ap, sym, ◌∙◌, T, Option, Some, None}
+use Rattle.std.proofs.Common.{◌≡◌, ℕ, ◌+◌, ◌<◌, Bool, true, false, cond, not, ◌&&◌, ◌||◌, List, [], ◌∷◌, ◌++◌, length, take, get_or, refl, ap, sym, ◌∙◌, T, Option, Some, None, map}
 use Rattle.std.proofs.lemmas.List.{take_more}
 use Rattle.std.specs.Prelude.{nat_lt}
 use Rattle.std.specs.List.{AllByRecursion, filter, list_any}
@@ -15,7 +15,7 @@ use Rattle.vl_model.specs.Conflicts.{Named, first_of}
 use Rattle.vl_model.specs.Reads.{is_in_span}
 use Rattle.vl_model.specs.declared.span.Span.{Span}
 use Rattle.vl_conflict.specs.Notes.{is_late_within, span_of}
-use Rattle.vl_conflict.proofs.OrderLaws.{as_T, two_parts, above-all}
+use Rattle.vl_conflict.specs.laws.OrderLaws.{as_T, two_parts, above-all}
 use Rattle.vl_conflict.specs.Recent.{first_newer_than, is_late, is_late_at, is_late_at_any, is_late_within_any, lesser_of}
 
 -- ---- two tests
@@ -89,15 +89,14 @@ at-key number key e = ap (λ b. nat_lt number e.1 && b) (ap (λ r. not (is_lt (k
 module _ (number : ℕ) (es : List Named) (sorted : is_sorted key_cmp es ≡ true) (first found now : Option Named)
     (now_is : now ≡ lesser_of first found) where
   -- what was found so far, with one key more
-  pub one_key_more : (keys : List (List ℕ)) (i : ℕ) (key : List ℕ) → i < length keys → key ≡ get_or keys i key → first ≡ first_of (filter (is_late_at_any number (take i keys)) es)
-      → found ≡ first_of (filter (is_late_within number (span_of (Some key) (Some key) true)) es) → now ≡ first_of (filter (is_late_at_any number (take (i + 1) keys)) es)
-  one_key_more keys i key within is so_far one =
-      now_is ∙ ap (λ o. lesser_of o found) so_far ∙ ap (lesser_of (first_of (filter (is_late_at_any number (take i keys)) es))) one
-      ∙ either (is_late_at_any number (take i keys)) (is_late_within number (span_of (Some key) (Some key) true)) es (as_T (is_sorted key_cmp es) sorted)
-      ∙ ap first_of (filter-same (λ e. is_late_at_any number (take i keys) e || is_late_within number (span_of (Some key) (Some key) true) e) (is_late_at_any number (take (i + 1) keys)) es (λ e.
-      ap (λ b. is_late_at_any number (take i keys) e || b) (at-key number key e)
-      ∙ sym (any-last (λ k. is_late_at number k e) (take i keys) key)
-      ∙ ap (λ ks. list_any (λ k. is_late_at number k e) ks) (ap (λ k. take i keys ++ k ∷ []) is ∙ sym (take_more keys i key within))))
+  pub one_key_more : (so_far : List (List ℕ)) (key : List ℕ) → first ≡ first_of (filter (is_late_at_any number so_far) es)
+      → found ≡ first_of (filter (is_late_within number (span_of (Some key) (Some key) true)) es) → now ≡ first_of (filter (is_late_at_any number (so_far ++ key ∷ [])) es)
+  one_key_more so_far key is one =
+      now_is ∙ ap (λ o. lesser_of o found) is ∙ ap (lesser_of (first_of (filter (is_late_at_any number so_far) es))) one
+      ∙ either (is_late_at_any number so_far) (is_late_within number (span_of (Some key) (Some key) true)) es (as_T (is_sorted key_cmp es) sorted)
+      ∙ ap first_of (filter-same (λ e. is_late_at_any number so_far e || is_late_within number (span_of (Some key) (Some key) true) e) (is_late_at_any number (so_far ++ key ∷ [])) es (λ e.
+      ap (λ b. is_late_at_any number so_far e || b) (at-key number key e)
+      ∙ sym (any-last (λ k. is_late_at number k e) so_far key)))
 
   pub one_span_more : (spans : List Span) (i : ℕ) (span : Span) → i < length spans → span ≡ get_or spans i span → first ≡ first_of (filter (is_late_within_any number (take i spans)) es)
       → found ≡ first_of (filter (is_late_within number span) es) → now ≡ first_of (filter (is_late_within_any number (take (i + 1) spans)) es)
@@ -133,3 +132,13 @@ all_late number keys spans es sorted =
     ap (λ b. b || is_late_within_any number spans e) (any-and (nat_lt number e.1) (eq_by_cmp key_cmp e.0) keys)
     ∙ ap (λ b. (nat_lt number e.1 && list_any (eq_by_cmp key_cmp e.0) keys) || b) (any-and (nat_lt number e.1) (λ span. is_in_span span e.0) spans)
     ∙ or_of_and (nat_lt number e.1) (list_any (eq_by_cmp key_cmp e.0) keys) (list_any (λ span. is_in_span span e.0) spans)))
+
+-- ---- lists seen through a function
+
+pub map-one_more : {X Y : Type 0} (f : X → Y) (xs : List X) (x : X) → map f (xs ++ x ∷ []) ≡ map f xs ++ f x ∷ []
+map-one_more f [] x = refl
+map-one_more f (y ∷ ys) x = ap (λ zs. f y ∷ zs) (map-one_more f ys x)
+
+pub map-through : {X Y Z : Type 0} (f : Y → Z) (g : X → Y) (xs : List X) → map (λ x. f (g x)) xs ≡ map f (map g xs)
+map-through f g [] = refl
+map-through f g (x ∷ xs) = ap (λ zs. f (g x) ∷ zs) (map-through f g xs)

@@ -1,4 +1,3 @@
 pub mod Lesser
-mod OrderLaws
-mod RecentLaws
+mod Balance
 pub mod TreeLaws

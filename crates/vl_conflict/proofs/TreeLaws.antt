@@ -1,5 +1,5 @@
 -- Laws of a list in rising order of keys, cut at one of them.
-use Rattle.std.proofs.Common.{◌≡◌, ℕ, ◌<◌, ◌≤◌, Bool, true, false, cond, not, ◌&&◌, List, [], ◌∷◌, ◌++◌, refl, ap, sym, ◌∙◌, append-nil, arith, T, Option, Some, None, is_some, Bor}
+use Rattle.std.proofs.Common.{◌≡◌, ℕ, ◌<◌, ◌≤◌, Bool, true, false, cond, not, ◌&&◌, List, [], ◌∷◌, ◌++◌, refl, ap, sym, subst, ◌∙◌, append-nil, arith, T, Option, Some, None, is_some, Bor}
 use Rattle.std.proofs.lemmas.Bool.Decides.{nat_tests}
 use Rattle.std.proofs.lemmas.List.Elements.{filter-append}
 use Rattle.std.specs.Prelude.{nat_lt}
@@ -15,9 +15,9 @@ use Rattle.vl_model.specs.Keys.{key_cmp}
 use Rattle.vl_model.specs.Conflicts.{Named, first_of}
 use Rattle.vl_model.specs.Reads.{is_in_span, is_from, is_up_to}
 use Rattle.vl_model.specs.declared.span.Span.{Span}
-use Rattle.vl_conflict.specs.Notes.{is_late_within}
-use Rattle.vl_conflict.proofs.OrderLaws.{as_T, from_T, two_parts, both_parts, lt-is, above-all}
-use Rattle.vl_conflict.specs.Trees.{named, greatest_of, KnowsGreatest, node_named, NodeKnows, found_named}
+use Rattle.vl_conflict.specs.Notes.{is_late_within, is_above_floor}
+use Rattle.vl_conflict.specs.laws.OrderLaws.{as_T, from_T, two_parts, both_parts, lt-is, above-all}
+use Rattle.vl_conflict.specs.Trees.{named, least_of, greatest_of, height_of, IsWhole, node_named, NodeWhole, found_named}
 use Rattle.vl_conflict.specs.declared.tree.Tree.{Tree, Leaf, Fork'}
 use Rattle.vl_conflict.specs.declared.tree.Node.{Node}
 
@@ -223,12 +223,19 @@ all-join : (P : Named → Type 0) (es fs : List Named) → AllByRecursion P es �
 all-join P [] fs here there = there
 all-join P (e ∷ es) fs here there = (here.0, all-join P es fs here.1 there)
 
-pub greatest-most : (tree : Tree) (n : ℕ) → KnowsGreatest tree → greatest_of tree ≤ n → AllByRecursion (λ (e : Named). e.1 ≤ n) (named tree)
-greatest-most Leaf n knows le = tt
-greatest-most (Fork' p left key number greatest height right) n knows le =
-    let is = knows.0 in
+pub greatest-most : (tree : Tree) (n : ℕ) → IsWhole tree → greatest_of tree ≤ n → AllByRecursion (λ (e : Named). e.1 ≤ n) (named tree)
+greatest-most Leaf n whole le = tt
+greatest-most (Fork' p left key number least greatest height right) n whole le =
+    let is = whole.1 in
     all-join (λ (e : Named). e.1 ≤ n) (named left) ((key, number) ∷ named right)
-    (greatest-most left n knows.1 (omega arith)) (omega arith, greatest-most right n knows.2 (omega arith))
+    (greatest-most left n whole.4 (omega arith)) (omega arith, greatest-most right n whole.5 (omega arith))
+
+pub least-least : (tree : Tree) (n : ℕ) → IsWhole tree → n < least_of tree → AllByRecursion (λ (e : Named). n < e.1) (named tree)
+least-least Leaf n whole lt = tt
+least-least (Fork' p left key number least greatest height right) n whole lt =
+    let is = whole.0 in
+    all-join (λ (e : Named). n < e.1) (named left) ((key, number) ∷ named right)
+    (least-least left n whole.4 (omega arith)) (omega arith, least-least right n whole.5 (omega arith))
 
 -- ---- as the code has them
 
@@ -239,12 +246,14 @@ pub right_sorted : (n : Node) → is_sorted key_cmp (node_named n) ≡ true → 
 right_sorted n sorted = (is_cut (named n.left) (n.key, n.number) (named n.right) sorted).right
 
 module _ (number : ℕ) (span : Span) (n : Node) where
-  pub node-pruned : NodeKnows n → n.greatest ≤ number → first_of (filter (is_late_within number span) (node_named n)) ≡ None
-  node-pruned knows le =
-      late-none number span (node_named n)
-      (all-join (λ (e : Named). e.1 ≤ number) (named n.left) ((n.key, n.number) ∷ named n.right)
-      (greatest-most n.left number knows.1 (let is = knows.0 in omega arith))
-      ((let is = knows.0 in omega arith), greatest-most n.right number knows.2 (let is = knows.0 in omega arith)))
+  node-most : NodeWhole n → n.greatest ≤ number → AllByRecursion (λ (e : Named). e.1 ≤ number) (node_named n)
+  node-most whole le =
+      all-join (λ (e : Named). e.1 ≤ number) (named n.left) ((n.key, n.number) ∷ named n.right)
+      (greatest-most n.left number whole.4 (let is = whole.1 in omega arith))
+      ((let is = whole.1 in omega arith), greatest-most n.right number whole.5 (let is = whole.1 in omega arith))
+
+  pub node-none : NodeWhole n → n.greatest ≤ number → first_of (filter (is_late_within number span) (node_named n)) ≡ None
+  node-none whole le = late-none number span (node_named n) (node-most whole le)
 
   pub node-right : is_sorted key_cmp (node_named n) ≡ true → is_from span.lo n.key ≡ false
       → first_of (filter (is_late_within number span) (node_named n)) ≡ first_of (filter (is_late_within number span) (named n.right))
@@ -276,3 +285,81 @@ module _ (number : ℕ) (span : Span) (n : Node) where
 pub some-copied : {X : Type 0} (r : Option (Bor X)) → is_some (option_copied r) ≡ is_some r
 some-copied None = refl
 some-copied (Some x) = refl
+
+-- ---- what is pruned
+
+none-above : (floor : ℕ) (es : List Named) → AllByRecursion (λ (e : Named). e.1 ≤ floor) es → [] ≡ filter (is_above_floor floor) es
+none-above floor [] most = refl
+none-above floor (e ∷ es) most = none-above floor es most.1 ∙ sym (ap (λ b. cond b (e ∷ filter (is_above_floor floor) es) (filter (is_above_floor floor) es)) test)
+  where
+    test : nat_lt floor e.1 ≡ false
+    test = let le = most.0 in grind (arith, nat_tests)
+
+all-above : (floor : ℕ) (es : List Named) → AllByRecursion (λ (e : Named). floor < e.1) es → es ≡ filter (is_above_floor floor) es
+all-above floor [] above = refl
+all-above floor (e ∷ es) above =
+    ap (λ l. e ∷ l) (all-above floor es above.1)
+    ∙ sym (ap (λ b. cond b (e ∷ filter (is_above_floor floor) es) (filter (is_above_floor floor) es)) test)
+  where
+    test : nat_lt floor e.1 ≡ true
+    test = let lt = above.0 in grind (arith, nat_tests)
+
+module _ (floor : ℕ) (n : Node) (whole : NodeWhole n) where
+  pub all-go : n.greatest ≤ floor → [] ≡ filter (is_above_floor floor) (node_named n)
+  all-go le = none-above floor (node_named n) (
+      all-join (λ (e : Named). e.1 ≤ floor) (named n.left) ((n.key, n.number) ∷ named n.right)
+      (greatest-most n.left floor whole.4 (let is = whole.1 in omega arith))
+      ((let is = whole.1 in omega arith), greatest-most n.right floor whole.5 (let is = whole.1 in omega arith)))
+
+  pub all-stay : floor < n.least → node_named n ≡ filter (is_above_floor floor) (node_named n)
+  all-stay lt = all-above floor (node_named n) (
+      all-join (λ (e : Named). floor < e.1) (named n.left) ((n.key, n.number) ∷ named n.right)
+      (least-least n.left floor whole.4 (let is = whole.0 in omega arith))
+      ((let is = whole.0 in omega arith), least-least n.right floor whole.5 (let is = whole.0 in omega arith)))
+
+-- ---- what is put below a node
+
+-- a half of a node may take another one
+pub record MayTake (n : Node) (half : Tree) : Type 0 where
+  pub sorted : is_sorted key_cmp (named half) ≡ true
+  pub whole : IsWhole half
+  pub low : height_of half < n.height
+
+module _ (n : Node) (sorted : is_sorted key_cmp (node_named n) ≡ true) (whole : NodeWhole n) where
+  pub left_may : (half : Tree) → half ≡ n.left → MayTake n half
+  left_may half is =
+      let height = whole.2 in
+      let low : height_of n.left < n.height = omega arith in
+      subst (MayTake n) (sym is) (record { sorted = left_sorted n sorted; whole = whole.4; low = low })
+
+  pub right_may : (half : Tree) → half ≡ n.right → MayTake n half
+  right_may half is =
+      let height = whole.2 in
+      let low : height_of n.right < n.height = omega arith in
+      subst (MayTake n) (sym is) (record { sorted = right_sorted n sorted; whole = whole.5; low = low })
+
+module _ (n : Node) (key : List ℕ) (number : ℕ) (left right : Tree) (left_is : left ≡ n.left) (right_is : right ≡ n.right)
+    (sorted : is_sorted key_cmp (node_named n) ≡ true) where
+  parts_are : (l : List Named) (x : Named) → l ++ x ∷ named right ≡ l ++ x ∷ named n.right
+  parts_are l x = ap (λ (t : Tree). l ++ x ∷ named t) right_is
+
+  pub put-below_left : key_cmp key n.key ≡ Less
+      → put key_cmp key number (named left) ++ (n.key, n.number) ∷ named right ≡ put key_cmp key number (node_named n)
+  put-below_left less =
+      parts_are (put key_cmp key number (named left)) (n.key, n.number)
+      ∙ ap (λ (t : Tree). put key_cmp key number (named t) ++ (n.key, n.number) ∷ named n.right) left_is
+      ∙ sym (put-left key number (named n.left) (n.key, n.number) (named n.right) less)
+
+  pub put-below_here : key_cmp key n.key ≡ Equal → named left ++ (n.key, number) ∷ named right ≡ put key_cmp key number (node_named n)
+  put-below_here equal =
+      parts_are (named left) (n.key, number) ∙ ap (λ (t : Tree). named t ++ (n.key, number) ∷ named n.right) left_is
+      ∙ sym (put-here key number (named n.left) (n.key, n.number) (named n.right) equal
+      (is_cut (named n.left) (n.key, n.number) (named n.right) sorted).before)
+
+  pub put-below_right : key_cmp key n.key ≡ Greater
+      → named left ++ (n.key, n.number) ∷ put key_cmp key number (named right) ≡ put key_cmp key number (node_named n)
+  put-below_right greater =
+      ap (λ (t : Tree). named left ++ (n.key, n.number) ∷ put key_cmp key number (named t)) right_is
+      ∙ ap (λ (t : Tree). named t ++ (n.key, n.number) ∷ put key_cmp key number (named n.right)) left_is
+      ∙ sym (put-right key number (named n.left) (n.key, n.number) (named n.right) greater
+      (is_cut (named n.left) (n.key, n.number) (named n.right) sorted).before)

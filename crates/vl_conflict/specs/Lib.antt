@@ -1,3 +1,4 @@
 pub mod Notes
 pub mod Recent
 pub mod Trees
+pub mod laws

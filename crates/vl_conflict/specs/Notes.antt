@@ -1,5 +1,5 @@
 -- What an ordered map from keys to numbers holds, and which of it is late.
-use Rattle.std.specs.Prelude.{ℕ, Bool, ◌&&◌, nat_lt, List, Option}
+use Rattle.std.specs.Prelude.{ℕ, ◌≤◌, ◌+◌, ◌/◌, ◌^◌, Bool, ◌&&◌, nat_lt, List, length, Option}
 use Rattle.std.proofs.Common.{Bor}
 use Rattle.std.specs.List.{filter}
 use Rattle.std.specs.Option.{option_map}
@@ -7,11 +7,16 @@ use Rattle.vl_model.specs.Conflicts.{Named, first_of}
 use Rattle.vl_model.specs.Reads.{is_in_span}
 use Rattle.vl_model.specs.declared.span.Span.{Span}
 
--- keys in rising order, each with the number of the last commit that names it; and how many more may be noted without
--- memory
+-- keys in rising order, each with the number of the last commit that names it; how many more may be noted without
+-- memory; and how many nodes stand above one another at most in the tree that has the keys
 pub record Kept : Type 0 where
   pub named : List Named
   pub room : ℕ
+  pub depth : ℕ
+
+-- With n keys the tree is at most twice as deep as the logarithm of n + 1.
+abbrev pub IsShallow : Kept → Type 0
+IsShallow kept = 2 ^ (kept.depth / 2) ≤ length kept.named + 1
 
 -- what a number above the floor is noted for
 abbrev pub is_above_floor : ℕ → Named → Bool

@@ -1,12 +1,12 @@
 //! Which keys the commits above a floor named, each with the last that did, so that a transaction's reads
 //! can be checked against them.
 //!
-//! They stand in a `LastCommitMap`, a height-balanced search tree, each part of which knows the greatest number in it. With n
-//! keys noted: `check` costs a search for each key that was
-//! read and for each interval, of a logarithm of n comparisons of whole keys, however many keys are noted
-//! inside an interval. `note` costs such a search, moves no other note and wants no memory: `reserve` makes
-//! the nodes. `prune` goes through all n without a comparison. How many commits there were counts nowhere.
-//! Keys are shared, never copied.
+//! They stand in a `LastCommitMap`, a height-balanced search tree, each part of which knows the least and the greatest
+//! number in it. With n keys noted it is at most twice as deep as the logarithm of n + 1 (`IsShallow`). `check` costs a
+//! search for each key that was read and for each interval, of so many comparisons of whole keys, however many keys are
+//! noted inside an interval. `note` costs such a search, moves no other note and wants no memory: `reserve` makes the
+//! nodes. `prune` costs a search for each key that goes, without a comparison; where all go or none does, it looks at the
+//! root alone. How many commits there were counts nowhere. Keys are shared, never copied.
 #![tactic(auto)]
 
 mod last_commit_map;
@@ -21,6 +21,8 @@ pub use recent::Recent;
 #[cfg(test)]
 mod tests {
     use super::*;
+    use std::boxed::BoxedSlice;
+    use std::collections::BTreeSet;
     use std::test::Fail;
     use vl_model::Key;
 
@@ -29,8 +31,9 @@ mod tests {
         let key = Key::copy_of(rt.alloc(), b"key")?;
         let mut recent = Recent::new(rt.alloc());
         recent.reserve(1)?;
-        recent.note(key.share()?, 5);
-        let keys = [key];
+        recent.note(key, 5);
+        let mut keys = BTreeSet::new(rt.alloc());
+        keys.insert(BoxedSlice::from_slice(rt.alloc(), b"key")?)?;
         assert!(rt; recent.check(4, &keys, &[])?.is_some());
         assert!(rt; recent.check(5, &keys, &[])?.is_none());
         recent.prune(5);

@@ -1,13 +1,16 @@
-ghost use Rattle.std.specs.Prelude.{◌≡◌, ◌≤◌, ◌+◌, [], OnOk, OnErr, IfOk};
+ghost use Rattle.std.specs.Prelude.{◌≡◌, ◌≤◌, ◌+◌, [], OnOk, OnErr, IfOk, map};
+ghost use Rattle.std.specs.Box.{boxed_slice_items};
 ghost use Rattle.std.specs.List.{filter};
 ghost use Rattle.std.specs.FinMap.{put};
 ghost use Rattle.vl_model.specs.Keys.{key_cmp};
-ghost use Rattle.vl_conflict.specs.Notes.{is_above_floor};
+ghost use Rattle.vl_conflict.specs.Notes.{is_above_floor, IsShallow};
 ghost use Rattle.vl_conflict.specs.Recent.{first_newer_than, IsFirstConflict, StillRemembers};
 
 use crate::last_commit_map::LastCommitMap;
 use crate::search::{first_of_keys, first_of_spans, lesser};
 use std::alloc::{AllocError, Global};
+use std::boxed::BoxedSlice;
+use std::collections::BTreeSet;
 use std::marker::Model;
 use vl_model::{Key, Span};
 
@@ -21,13 +24,13 @@ impl Model for Recent {
     ghost use Rattle.std.specs.Prelude.{◌≡◌, true};
     ghost use Rattle.std.specs.FinMap.{is_sorted};
     ghost use Rattle.vl_model.specs.Keys.{key_cmp};
-    ghost use Rattle.vl_conflict.specs.Notes.{Kept};
+    ghost use Rattle.vl_conflict.specs.Notes.{Kept, IsShallow};
 
     ghost Value = { Kept };
 
     ghost view = { λ a. a.notes };
 
-    ghost invariant = { λ a. is_sorted key_cmp a.notes.named ≡ true };
+    ghost invariant = { λ a. (is_sorted key_cmp a.notes.named ≡ true) × IsShallow a.notes };
 }
 
 impl Recent {
@@ -44,11 +47,13 @@ impl Recent {
     pub fn check(
         &self,
         number: u64,
-        keys: &[Key],
+        keys: &BTreeSet<BoxedSlice<u8>>,
         spans: &[Span],
     ) -> Result<Option<(Key, u64)>, AllocError>
-        ensures first { IfOk result (λ found. found ≡ first_newer_than number keys.now spans.now self.now.named) }
-        ensures conflict { IfOk result (IsFirstConflict self.now.named number keys.now spans.now) }
+        ensures first { IfOk result (λ found.
+            found ≡ first_newer_than number (map boxed_slice_items keys.now.keys) spans.now self.now.named) }
+        ensures conflict { IfOk result (IsFirstConflict self.now.named number (map boxed_slice_items keys.now.keys) spans.now) }
+        ensures shallow { IsShallow self.now }
     {
         let of_keys = first_of_keys(&self.notes, number, keys);
         let of_spans = first_of_spans(&self.notes, number, spans);
@@ -72,6 +77,7 @@ impl Recent {
         requires { 1 ≤ self.old.room }
         ensures named { self.new.named ≡ put key_cmp key number self.old.named }
         ensures room { self.old.room ≤ self.new.room + 1 }
+        ensures shallow { IsShallow self.new }
     {
         self.notes.insert(key, number);
     }
@@ -81,6 +87,7 @@ impl Recent {
         ensures named { self.new.named ≡ filter (is_above_floor floor) self.old.named }
         ensures remembers { StillRemembers floor self.old.named self.new.named }
         ensures room { self.old.room ≤ self.new.room }
+        ensures shallow { IsShallow self.new }
     {
         self.notes.retain_above(floor);
     }

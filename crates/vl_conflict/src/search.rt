@@ -1,5 +1,6 @@
 // The least of what several searches in a map find.
-ghost use Rattle.std.specs.Prelude.{◌≡◌, true};
+ghost use Rattle.std.specs.Prelude.{◌≡◌, true, map};
+ghost use Rattle.std.specs.Box.{boxed_slice_items};
 ghost use Rattle.std.specs.Option.{option_copied};
 ghost use Rattle.std.specs.FinMap.{is_sorted};
 ghost use Rattle.vl_model.specs.Keys.{key_cmp};
@@ -7,16 +8,18 @@ ghost use Rattle.vl_conflict.specs.Notes.{lent, first_in, is_late_within};
 ghost use Rattle.vl_conflict.specs.Recent.{is_late_at_any, is_late_within_any, lesser_of};
 
 use crate::last_commit_map::LastCommitMap;
+use std::boxed::BoxedSlice;
+use std::collections::BTreeSet;
 use vl_model::{Key, Span};
 
 /// The first of one of the keys with a number above this one.
 pub fn first_of_keys<'a>(
     notes: &'a LastCommitMap,
     number: u64,
-    keys: &[Key],
+    keys: &BTreeSet<BoxedSlice<u8>>,
 ) -> Option<(&'a Key, u64)>
     requires { is_sorted key_cmp notes.now.named ≡ true }
-    ensures { lent result ≡ first_in (is_late_at_any number keys.now) notes.now.named }
+    ensures { lent result ≡ first_in (is_late_at_any number (map boxed_slice_items keys.now.keys)) notes.now.named }
 {
     let mut first = None;
     for key in keys {

@@ -1,12 +1,11 @@
-ghost use Rattle.std.specs.Prelude.{◌≡◌, ◌++◌, ◌∷◌, max, true};
+ghost use Rattle.std.specs.Prelude.{◌≡◌, ◌≤◌, ◌<◌, ◌+◌, ◌-◌, ◌^◌, ◌++◌, ◌∷◌, ◌↔◌, max, min, true, IsTrue};
 ghost use Rattle.std.specs.FinMap as map;
 ghost use Rattle.vl_model.specs.Keys.{key_cmp};
 ghost use Rattle.std.specs.Option.{option_copied};
 ghost use Rattle.std.specs.List.{filter};
 ghost use Rattle.vl_model.specs.Reads.{is_from, is_up_to};
 ghost use Rattle.vl_conflict.specs.Notes.{first_in, is_late_within, is_above_floor, span_of};
-ghost use Rattle.vl_conflict.specs.Trees.{named, greatest_of, KnowsGreatest, node_named, NodeKnows, HalvesKnow, IsAlone};
-ghost use Rattle.vl_conflict.specs.Trees.{found};
+ghost use Rattle.vl_conflict.specs.Trees.{named, least_of, greatest_of, height_of, highest, IsWhole, AreLevel, AreNearlyLevel, AreLow, IsGrown, node_named, NodeWhole, IsAlone, found};
 
 use std::cmp::Ordering;
 use std::mem;
@@ -27,9 +26,10 @@ pub struct Node {
     pub left: Tree,
     pub key: Key,
     pub number: u64,
-    // The greatest number in this node and below it.
+    // The least and the greatest number in this node and below it.
+    pub least: u64,
     pub greatest: u64,
-    // How many nodes stand above one another here. It decides how the tree is turned, and nothing else.
+    // How many nodes stand above one another here.
     pub height: u8,
     // The greater keys.
     pub right: Tree,
@@ -46,10 +46,20 @@ impl Node {
             left: Tree::Leaf,
             key,
             number,
+            least: number,
             greatest: number,
             height: 1,
             right: Tree::Leaf,
         }
+    }
+}
+
+fn least(tree: &Tree) -> u64
+    ensures { result ≡ least_of tree.now }
+{
+    match tree {
+        Tree::Leaf => u64::MAX,
+        Tree::Fork(node) => node.least,
     }
 }
 
@@ -62,163 +72,191 @@ fn greatest(tree: &Tree) -> u64
     }
 }
 
-fn height(tree: &Tree) -> u8 {
+fn height(tree: &Tree) -> u8
+    ensures { result ≡ height_of tree.now }
+{
     match tree {
         Tree::Leaf => 0,
         Tree::Fork(node) => node.height,
     }
 }
 
-// What a node knows of its halves, after one of them changed.
-fn repair(node: &mut Node)
-    requires { HalvesKnow node.old }
-    ensures named { node_named node.new ≡ node_named node.old }
-    ensures knows { NodeKnows node.new }
+// Whether a tree is more than one level higher than another.
+fn is_far_higher(tree: &Tree, other: &Tree) -> bool
+    ensures { IsTrue result ↔ (height_of other.now + 1 < height_of tree.now) }
 {
-    node.greatest = node
-        .number
-        .max(greatest(&node.left).max(greatest(&node.right)));
-    node.height = height(&node.left)
-        .max(height(&node.right))
-        .saturating_add(1);
+    height(tree) > height(other).saturating_add(1)
 }
 
-// The left half's root above this node; where it has none, the node stays.
-fn turned_right(mut node: Box<Node>) -> Box<Node>
-    requires { HalvesKnow node.value }
-    ensures named { node_named result.value ≡ node_named node.value }
-    ensures knows { NodeKnows result.value }
+// ---- balance
+
+// The node above these halves.
+fn above(left: Tree, mut node: Box<Node>, right: Tree) -> Box<Node>
+    requires left { IsWhole left }
+    requires right { IsWhole right }
+    requires level { AreLevel left right }
+    requires low { AreLow left right }
+    ensures named { node_named result.value
+        ≡ named left ++ (node.value.key, node.value.number) ∷ named right }
+    ensures whole { NodeWhole result.value }
+    ensures height { result.value.height ≡ 1 + highest left right }
 {
-    match mem::replace(&mut node.left, Tree::Leaf) {
-        Tree::Leaf => {
-            repair(&mut node);
-            node
-        }
-        Tree::Fork(mut left) => {
-            node.left = mem::replace(&mut left.right, Tree::Leaf);
-            repair(&mut node);
-            left.right = Tree::Fork(node);
-            repair(&mut left);
-            left
-        }
-    }
-}
-
-// The right half's root above this node; where it has none, the node stays.
-fn turned_left(mut node: Box<Node>) -> Box<Node>
-    requires { HalvesKnow node.value }
-    ensures named { node_named result.value ≡ node_named node.value }
-    ensures knows { NodeKnows result.value }
-{
-    match mem::replace(&mut node.right, Tree::Leaf) {
-        Tree::Leaf => {
-            repair(&mut node);
-            node
-        }
-        Tree::Fork(mut right) => {
-            node.right = mem::replace(&mut right.left, Tree::Leaf);
-            repair(&mut node);
-            right.left = Tree::Fork(node);
-            repair(&mut right);
-            right
-        }
-    }
-}
-
-// How much higher a half is than the other one of a tree's root.
-fn leans_left(tree: &Tree) -> bool {
-    match tree {
-        Tree::Leaf => false,
-        Tree::Fork(node) => height(&node.left) > height(&node.right),
-    }
-}
-
-fn leans_right(tree: &Tree) -> bool {
-    match tree {
-        Tree::Leaf => false,
-        Tree::Fork(node) => height(&node.right) > height(&node.left),
-    }
-}
-
-// A tree with its root turned.
-fn turn_left(tree: &mut Tree)
-    requires { KnowsGreatest tree.old }
-    ensures named { named tree.new ≡ named tree.old }
-    ensures knows { KnowsGreatest tree.new }
-{
-    match mem::replace(tree, Tree::Leaf) {
-        Tree::Leaf => {}
-        Tree::Fork(node) => *tree = Tree::Fork(turned_left(node)),
-    }
-}
-
-fn turn_right(tree: &mut Tree)
-    requires { KnowsGreatest tree.old }
-    ensures named { named tree.new ≡ named tree.old }
-    ensures knows { KnowsGreatest tree.new }
-{
-    match mem::replace(tree, Tree::Leaf) {
-        Tree::Leaf => {}
-        Tree::Fork(node) => *tree = Tree::Fork(turned_right(node)),
-    }
-}
-
-// A node whose halves changed by one level at most, turned so that their heights differ by one at most.
-fn balanced(mut node: Box<Node>) -> Box<Node>
-    requires { HalvesKnow node.value }
-    ensures named { node_named result.value ≡ node_named node.value }
-    ensures knows { NodeKnows result.value }
-{
-    let (left, right) = (height(&node.left), height(&node.right));
-    if left > right && left - right > 1 {
-        if leans_right(&node.left) {
-            turn_left(&mut node.left);
-        }
-        return turned_right(node);
-    }
-    if right > left && right - left > 1 {
-        if leans_left(&node.right) {
-            turn_right(&mut node.right);
-        }
-        return turned_left(node);
-    }
-    repair(&mut node);
+    node.least = node.number.min(least(&left).min(least(&right)));
+    node.greatest = node.number.max(greatest(&left).max(greatest(&right)));
+    node.height = height(&left).max(height(&right)) + 1;
+    node.left = left;
+    node.right = right;
     node
 }
 
-// Notes what a node has, below which nothing stands. Where its key is noted already, that gets the
-// number, and the node goes.
-#[cycle(put)]
-pub fn put(tree: &mut Tree, node: Box<Node>)
-    requires sorted { map.is_sorted key_cmp (named tree.old) ≡ true }
-    requires knows { KnowsGreatest tree.old }
-    requires alone { IsAlone node.value }
-    ensures named { named tree.new ≡ map.put key_cmp node.value.key node.value.number (named tree.old) }
-    ensures knows { KnowsGreatest tree.new }
+// The node above these halves, which are turned so that their heights differ by one at most.
+fn balanced(left: Tree, node: Box<Node>, right: Tree) -> Box<Node>
+    requires left { IsWhole left }
+    requires right { IsWhole right }
+    requires nearly { AreNearlyLevel left right }
+    requires low { AreLow left right }
+    ensures named { node_named result.value
+        ≡ named left ++ (node.value.key, node.value.number) ∷ named right }
+    ensures whole { NodeWhole result.value }
+    ensures height { IsGrown (highest left right) result.value.height }
+    ensures level { AreLevel left right → result.value.height ≡ 1 + highest left right }
 {
-    match mem::replace(tree, Tree::Leaf) {
-        Tree::Leaf => *tree = Tree::Fork(node),
-        Tree::Fork(mut top) => {
-            put_below(&mut top, node);
-            *tree = Tree::Fork(balanced(top));
-        }
+    if is_far_higher(&left, &right) {
+        return match left {
+            Tree::Leaf => unreachable!(),
+            Tree::Fork(top) => turned_right(top, node, right),
+        };
+    }
+    if is_far_higher(&right, &left) {
+        return match right {
+            Tree::Leaf => unreachable!(),
+            Tree::Fork(top) => turned_left(left, node, top),
+        };
+    }
+    above(left, node, right)
+}
+
+// The root of the left half, which is two levels higher, above the node; or that of its right half, where
+// this is the higher one.
+fn turned_right(mut top: Box<Node>, node: Box<Node>, right: Tree) -> Box<Node>
+    requires top { NodeWhole top.value }
+    requires right { IsWhole right }
+    requires higher { top.value.height ≡ height_of right + 2 }
+    requires low { top.value.height ≤ 254 }
+    ensures named { node_named result.value
+        ≡ node_named top.value ++ (node.value.key, node.value.number) ∷ named right }
+    ensures whole { NodeWhole result.value }
+    ensures height { IsGrown top.value.height result.value.height }
+{
+    let outer = mem::replace(&mut top.left, Tree::Leaf);
+    let inner = mem::replace(&mut top.right, Tree::Leaf);
+    if height(&inner) <= height(&outer) {
+        let below = above(inner, node, right);
+        return above(outer, top, Tree::Fork(below));
+    }
+    match inner {
+        Tree::Leaf => unreachable!(),
+        Tree::Fork(middle) => turned_twice(outer, top, middle, node, right),
+    }
+}
+
+// The same of a right half.
+fn turned_left(left: Tree, node: Box<Node>, mut top: Box<Node>) -> Box<Node>
+    requires left { IsWhole left }
+    requires top { NodeWhole top.value }
+    requires higher { top.value.height ≡ height_of left + 2 }
+    requires low { top.value.height ≤ 254 }
+    ensures named { node_named result.value
+        ≡ named left ++ (node.value.key, node.value.number) ∷ node_named top.value }
+    ensures whole { NodeWhole result.value }
+    ensures height { IsGrown top.value.height result.value.height }
+{
+    let inner = mem::replace(&mut top.left, Tree::Leaf);
+    let outer = mem::replace(&mut top.right, Tree::Leaf);
+    if height(&inner) <= height(&outer) {
+        let below = above(left, node, inner);
+        return above(Tree::Fork(below), top, outer);
+    }
+    match inner {
+        Tree::Leaf => unreachable!(),
+        Tree::Fork(middle) => turned_twice(left, node, middle, top, outer),
+    }
+}
+
+// The middle node above two others, which take its halves.
+fn turned_twice(
+    left: Tree,
+    lesser: Box<Node>,
+    mut middle: Box<Node>,
+    greater: Box<Node>,
+    right: Tree,
+) -> Box<Node>
+    requires left { IsWhole left }
+    requires middle { NodeWhole middle.value }
+    requires right { IsWhole right }
+    requires higher { (middle.value.height ≡ height_of left + 1) × (middle.value.height ≡ height_of right + 1) }
+    requires low { middle.value.height ≤ 253 }
+    ensures named { node_named result.value
+        ≡ named left ++ (lesser.value.key, lesser.value.number)
+        ∷ (node_named middle.value ++ (greater.value.key, greater.value.number) ∷ named right) }
+    ensures whole { NodeWhole result.value }
+    ensures height { result.value.height ≡ middle.value.height + 1 }
+{
+    let inner_left = mem::replace(&mut middle.left, Tree::Leaf);
+    let inner_right = mem::replace(&mut middle.right, Tree::Leaf);
+    let lesser = above(left, lesser, inner_left);
+    let greater = above(inner_right, greater, right);
+    above(Tree::Fork(lesser), middle, Tree::Fork(greater))
+}
+
+// ---- one key more
+
+// The root, after a node was put in, below which nothing stands. Where its key is noted already, that gets
+// the number, and the node goes.
+#[cycle(put)]
+pub fn put(tree: Tree, node: Box<Node>) -> Box<Node>
+    requires sorted { map.is_sorted key_cmp (named tree) ≡ true }
+    requires whole { IsWhole tree }
+    requires alone { IsAlone node.value }
+    requires low { height_of tree ≤ 254 }
+    ensures named { node_named result.value
+        ≡ map.put key_cmp node.value.key node.value.number (named tree) }
+    ensures whole { NodeWhole result.value }
+    ensures height { IsGrown (height_of tree) result.value.height }
+{
+    match tree {
+        Tree::Leaf => node,
+        Tree::Fork(top) => put_below(top, node),
     }
 }
 
 #[cycle(put)]
-fn put_below(top: &mut Node, node: Box<Node>)
-    requires sorted { map.is_sorted key_cmp (node_named top.old) ≡ true }
-    requires knows { HalvesKnow top.old }
+fn put_below(mut top: Box<Node>, node: Box<Node>) -> Box<Node>
+    requires sorted { map.is_sorted key_cmp (node_named top.value) ≡ true }
+    requires whole { NodeWhole top.value }
     requires alone { IsAlone node.value }
-    ensures named { node_named top.new
-        ≡ map.put key_cmp node.value.key node.value.number (node_named top.old) }
-    ensures knows { HalvesKnow top.new }
+    requires low { top.value.height ≤ 254 }
+    ensures named { node_named result.value
+        ≡ map.put key_cmp node.value.key node.value.number (node_named top.value) }
+    ensures whole { NodeWhole result.value }
+    ensures height { IsGrown top.value.height result.value.height }
 {
-    let number = node.number;
-    match order(&node, top) {
-        Ordering::Less => put(&mut top.left, node),
-        Ordering::Equal => top.number = number,
-        Ordering::Greater => put(&mut top.right, node),
+    let order = order(&node, &top);
+    let left = mem::replace(&mut top.left, Tree::Leaf);
+    let right = mem::replace(&mut top.right, Tree::Leaf);
+    match order {
+        Ordering::Less => {
+            let left = Tree::Fork(put(left, node));
+            balanced(left, top, right)
+        }
+        Ordering::Equal => {
+            top.number = node.number;
+            above(left, top, right)
+        }
+        Ordering::Greater => {
+            let right = Tree::Fork(put(right, node));
+            balanced(left, top, right)
+        }
     }
 }
 
@@ -227,6 +265,8 @@ fn order(a: &Node, b: &Node) -> Ordering
 {
     a.key.as_slice().cmp(&b.key.as_slice())
 }
+
+// ---- searches
 
 // The first late one within bounds, of which those that aren't there are no end.
 #[cycle(first_newer_than)]
@@ -238,7 +278,7 @@ pub fn first_newer_than<'a>(
     closed: bool,
 ) -> Option<&'a Node>
     requires sorted { map.is_sorted key_cmp (named tree.now) ≡ true }
-    requires knows { KnowsGreatest tree.now }
+    requires whole { IsWhole tree.now }
     ensures { found result ≡ first_in
         (is_late_within number (span_of (option_copied lo.entry) (option_copied hi.entry) closed))
         (named tree.now) }
@@ -258,7 +298,7 @@ fn first_newer_than_below<'a>(
     closed: bool,
 ) -> Option<&'a Node>
     requires sorted { map.is_sorted key_cmp (node_named node.now) ≡ true }
-    requires knows { NodeKnows node.now }
+    requires whole { NodeWhole node.now }
     ensures { found result ≡ first_in
         (is_late_within number (span_of (option_copied lo.entry) (option_copied hi.entry) closed))
         (node_named node.now) }
@@ -301,29 +341,40 @@ fn is_up_to(hi: Option<&[u8]>, closed: bool, key: &[u8]) -> bool
     }
 }
 
-// Forgets those whose numbers aren't above the floor.
+// ---- fewer keys
+
+// The tree without those whose numbers aren't above the floor.
 #[cycle(prune)]
-pub fn prune(tree: &mut Tree, floor: u64)
-    requires { KnowsGreatest tree.old }
-    ensures named { named tree.new ≡ filter (is_above_floor floor) (named tree.old) }
-    ensures knows { KnowsGreatest tree.new }
+pub fn pruned(tree: Tree, floor: u64) -> Tree
+    requires whole { IsWhole tree }
+    requires low { height_of tree ≤ 255 }
+    ensures named { named result ≡ filter (is_above_floor floor) (named tree) }
+    ensures whole { IsWhole result }
+    ensures height { height_of result ≤ height_of tree }
 {
-    match mem::replace(tree, Tree::Leaf) {
-        Tree::Leaf => {}
-        Tree::Fork(node) => *tree = pruned(node, floor),
+    match tree {
+        Tree::Leaf => Tree::Leaf,
+        Tree::Fork(node) => pruned_below(node, floor),
     }
 }
 
+// What goes all together, or stays so, isn't looked through.
 #[cycle(prune)]
-fn pruned(mut node: Box<Node>, floor: u64) -> Tree
-    requires { HalvesKnow node.value }
+fn pruned_below(mut node: Box<Node>, floor: u64) -> Tree
+    requires whole { NodeWhole node.value }
+    requires low { node.value.height ≤ 255 }
     ensures named { named result ≡ filter (is_above_floor floor) (node_named node.value) }
-    ensures knows { KnowsGreatest result }
+    ensures whole { IsWhole result }
+    ensures height { height_of result ≤ node.value.height }
 {
-    let mut left = mem::replace(&mut node.left, Tree::Leaf);
-    let mut right = mem::replace(&mut node.right, Tree::Leaf);
-    prune(&mut left, floor);
-    prune(&mut right, floor);
+    if node.least > floor {
+        return Tree::Fork(node);
+    }
+    if node.greatest <= floor {
+        return Tree::Leaf;
+    }
+    let left = pruned(mem::replace(&mut node.left, Tree::Leaf), floor);
+    let right = pruned(mem::replace(&mut node.right, Tree::Leaf), floor);
     if node.number > floor {
         Tree::Fork(joined(left, node, right))
     } else {
@@ -333,10 +384,12 @@ fn pruned(mut node: Box<Node>, floor: u64) -> Tree
 
 // What two trees have, the lesser keys first.
 fn merged(left: Tree, right: Tree) -> Tree
-    requires left { KnowsGreatest left }
-    requires right { KnowsGreatest right }
+    requires left { IsWhole left }
+    requires right { IsWhole right }
+    requires low { AreLow left right }
     ensures named { named result ≡ named left ++ named right }
-    ensures knows { KnowsGreatest result }
+    ensures whole { IsWhole result }
+    ensures height { height_of result ≤ highest left right + 1 }
 {
     match right {
         Tree::Leaf => left,
@@ -349,50 +402,48 @@ fn merged(left: Tree, right: Tree) -> Tree
 
 // The node of the least key, and the others.
 fn first_taken(mut node: Box<Node>) -> (Box<Node>, Tree)
-    requires { HalvesKnow node.value }
+    requires whole { NodeWhole node.value }
+    requires low { node.value.height ≤ 255 }
     ensures named { node_named node.value ≡ (result.0.value.key, result.0.value.number) ∷ named result.1 }
-    ensures knows { KnowsGreatest result.1 }
+    ensures whole { IsWhole result.1 }
+    ensures height { IsGrown (height_of result.1) node.value.height }
 {
-    match mem::replace(&mut node.left, Tree::Leaf) {
-        Tree::Leaf => {
-            let right = mem::replace(&mut node.right, Tree::Leaf);
-            (node, right)
-        }
+    let left = mem::replace(&mut node.left, Tree::Leaf);
+    let right = mem::replace(&mut node.right, Tree::Leaf);
+    match left {
+        Tree::Leaf => (node, right),
         Tree::Fork(left) => {
             let (first, rest) = first_taken(left);
-            node.left = rest;
-            (first, Tree::Fork(balanced(node)))
+            (first, Tree::Fork(balanced(rest, node, right)))
         }
     }
 }
 
 // A node with these halves, which may differ in height as they like.
-fn joined(left: Tree, mut node: Box<Node>, right: Tree) -> Box<Node>
-    requires left { KnowsGreatest left }
-    requires right { KnowsGreatest right }
+fn joined(left: Tree, node: Box<Node>, right: Tree) -> Box<Node>
+    requires left { IsWhole left }
+    requires right { IsWhole right }
+    requires low { AreLow left right }
     ensures named { node_named result.value
         ≡ named left ++ (node.value.key, node.value.number) ∷ named right }
-    ensures knows { NodeKnows result.value }
+    ensures whole { NodeWhole result.value }
+    ensures height { IsGrown (highest left right) result.value.height }
 {
-    let (left_height, right_height) = (height(&left), height(&right));
+    let left_high = is_far_higher(&left, &right);
+    let right_high = is_far_higher(&right, &left);
     match (left, right) {
-        (Tree::Fork(mut top), right)
-            if left_height > right_height && left_height - right_height > 1 => {
-            let below = mem::replace(&mut top.right, Tree::Leaf);
-            top.right = Tree::Fork(joined(below, node, right));
-            balanced(top)
+        (Tree::Fork(mut top), right) if left_high => {
+            let outer = mem::replace(&mut top.left, Tree::Leaf);
+            let inner = mem::replace(&mut top.right, Tree::Leaf);
+            let below = Tree::Fork(joined(inner, node, right));
+            balanced(outer, top, below)
         }
-        (left, Tree::Fork(mut top))
-            if right_height > left_height && right_height - left_height > 1 => {
-            let below = mem::replace(&mut top.left, Tree::Leaf);
-            top.left = Tree::Fork(joined(left, node, below));
-            balanced(top)
+        (left, Tree::Fork(mut top)) if right_high => {
+            let inner = mem::replace(&mut top.left, Tree::Leaf);
+            let outer = mem::replace(&mut top.right, Tree::Leaf);
+            let below = Tree::Fork(joined(left, node, inner));
+            balanced(below, top, outer)
         }
-        (left, right) => {
-            node.left = left;
-            node.right = right;
-            repair(&mut node);
-            node
-        }
+        (left, right) => above(left, node, right),
     }
 }

@@ -11,11 +11,11 @@ use Rattle.vl_model.specs.declared.entry.Entry.{Entry}
 use Rattle.vl_block.specs.Cutting.{joined}
 use Rattle.vl_run.specs.laws.OrderLaws.{all-append}
 use Rattle.vl_run.specs.Lookups.{IsParted}
-use Rattle.vl_table.specs.Opened.{IsOf}
+use Rattle.vl_table.specs.Tables.{IsOf, number_of, shape_of}
 use Rattle.vl_table.specs.declared.table.Table.{Table}
 use Rattle.vl_table.specs.laws.KeyRanges.{HasNone, above_turned, all_above, all_map, below_turned, none_above, of_last, up_to_below}
 use Rattle.vl_table.specs.laws.RangeLaws.{first_is, in_order, last_is, none_behind}
-use Rattle.vl_levels.specs.LevelTables.{AreApart, AreOf, ends_before}
+use Rattle.vl_levels.specs.LevelTables.{AreApart, AreOf, ends_before, footer_of}
 
 greater : (r : Ordering) → is_gt r ≡ true → r ≡ Greater
 greater Less is = absurd cc
@@ -26,36 +26,36 @@ module _ {H : Type 0} (bytes_of : H → Option (List ℕ)) where
   -- ---- tables that are apart
 
   -- the next table's entries, its last one too, are above a table's last key
-  next_above : (t u : Table H) (es : List Entry) → IsOf bytes_of u es → key_cmp t.footer.last u.footer.first ≡ Less
-      → AllByRecursion (λ e. key_cmp t.footer.last e.key ≡ Less) es × (key_cmp t.footer.last u.footer.last ≡ Less)
+  next_above : (t u : Table H) (es : List Entry) → IsOf bytes_of u es → key_cmp (footer_of t).last (footer_of u).first ≡ Less
+      → AllByRecursion (λ e. key_cmp (footer_of t).last e.key ≡ Less) es × (key_cmp (footer_of t).last (footer_of u).last ≡ Less)
   next_above t u es is less =
-      let all = all_above t.footer.last es (in_order bytes_of u es is) (ap (key_cmp t.footer.last) (sym (first_is bytes_of u es is)) ∙ less) in (
+      let all = all_above (footer_of t).last es (in_order (number_of u) (shape_of u) es is.shape) (ap (key_cmp (footer_of t).last) (sym (first_is (number_of u) (shape_of u) es is.shape)) ∙ less) in (
         all,
-        ap (key_cmp t.footer.last) (last_is bytes_of u es is) ∙ of_last (λ k. key_cmp t.footer.last k ≡ Less) es is.table.tabled.some all,
+        ap (key_cmp (footer_of t).last) (last_is (number_of u) (shape_of u) es is.shape) ∙ of_last (λ k. key_cmp (footer_of t).last k ≡ Less) es is.shape.table.tabled.some all,
       )
 
   -- so are those of all later ones
   later_above : (t : Table H) (ts : List (Table H)) (ess : List (List Entry)) → AreApart (t ∷ ts) → AreOf bytes_of ts ess
-      → AllByRecursion (λ e. key_cmp t.footer.last e.key ≡ Less) (joined ess)
+      → AllByRecursion (λ e. key_cmp (footer_of t).last e.key ≡ Less) (joined ess)
   later_above t [] [] apart are = tt
   later_above t [] (es ∷ ess) apart are = absurd are
   later_above t (u ∷ us) [] apart are = absurd are
   later_above t (u ∷ us) (es ∷ ess) apart are =
       let next = next_above t u es are.0 apart.0 in
       let later = later_above u us ess apart.1 are.1 in
-      all-append (λ e. key_cmp t.footer.last e.key ≡ Less) es (joined ess) next.0
-      (all_map (λ e. key_cmp u.footer.last e.key ≡ Less) (λ e. key_cmp t.footer.last e.key ≡ Less) (λ e less. nat_list_cmp_total.trans t.footer.last u.footer.last e.key next.1 less) (joined ess) later)
+      all-append (λ e. key_cmp (footer_of t).last e.key ≡ Less) es (joined ess) next.0
+      (all_map (λ e. key_cmp (footer_of u).last e.key ≡ Less) (λ e. key_cmp (footer_of t).last e.key ≡ Less) (λ e less. nat_list_cmp_total.trans (footer_of t).last (footer_of u).last e.key next.1 less) (joined ess) later)
 
   later_ends : (t : Table H) (ts : List (Table H)) (ess : List (List Entry)) → AreApart (t ∷ ts) → AreOf bytes_of ts ess
-      → AllByRecursion (λ (u : Table H). key_cmp t.footer.last u.footer.last ≡ Less) ts
+      → AllByRecursion (λ (u : Table H). key_cmp (footer_of t).last (footer_of u).last ≡ Less) ts
   later_ends t [] [] apart are = tt
   later_ends t [] (es ∷ ess) apart are = absurd are
   later_ends t (u ∷ us) [] apart are = absurd are
   later_ends t (u ∷ us) (es ∷ ess) apart are =
       let next = next_above t u es are.0 apart.0 in (
         next.1,
-        all_map (λ (v : Table H). key_cmp u.footer.last v.footer.last ≡ Less) (λ (v : Table H). key_cmp t.footer.last v.footer.last ≡ Less)
-            (λ v less. nat_list_cmp_total.trans t.footer.last u.footer.last v.footer.last next.1 less) us (later_ends u us ess apart.1 are.1),
+        all_map (λ (v : Table H). key_cmp (footer_of u).last (footer_of v).last ≡ Less) (λ (v : Table H). key_cmp (footer_of t).last (footer_of v).last ≡ Less)
+            (λ v less. nat_list_cmp_total.trans (footer_of t).last (footer_of u).last (footer_of v).last next.1 less) us (later_ends u us ess apart.1 are.1),
       )
 
   apart_rest : (t : Table H) (ts : List (Table H)) → AreApart (t ∷ ts) → AreApart ts
@@ -69,8 +69,8 @@ module _ {H : Type 0} (bytes_of : H → Option (List ℕ)) where
     level-parted [] (es ∷ ess) apart are = absurd are
     level-parted (t ∷ ts) [] apart are = absurd are
     level-parted (t ∷ ts) (es ∷ ess) apart are = (
-      all_map (λ (u : Table H). key_cmp t.footer.last u.footer.last ≡ Less) (λ (u : Table H). ends_before key u ≡ true → ends_before key t ≡ true)
-          (λ u less ends. ap is_gt (above_turned t.footer.last key (nat_list_cmp_total.trans t.footer.last u.footer.last key less (below_turned key u.footer.last (greater (key_cmp key u.footer.last) ends)))))
+      all_map (λ (u : Table H). key_cmp (footer_of t).last (footer_of u).last ≡ Less) (λ (u : Table H). ends_before key u ≡ true → ends_before key t ≡ true)
+          (λ u less ends. ap is_gt (above_turned (footer_of t).last key (nat_list_cmp_total.trans (footer_of t).last (footer_of u).last key less (below_turned key (footer_of u).last (greater (key_cmp key (footer_of u).last) ends)))))
           ts (later_ends t ts ess apart are.1),
       level-parted ts ess (apart_rest t ts apart) are.1,
     )
@@ -104,7 +104,7 @@ module _ {H : Type 0} (bytes_of : H → Option (List ℕ)) where
 
         by : IsCut ts ess count → (b : Bool) → ends_before key t ≡ b → IsCut (t ∷ ts) (es ∷ ess) (cond b (1 + count) 0)
         by later true ends =
-            let none = none_behind bytes_of key t es are.0 (greater (key_cmp key t.footer.last) ends) in
+            let none = none_behind (number_of t) key (shape_of t) es are.0.shape (greater (key_cmp key (footer_of t).last) ends) in
             record {
               past = λ past. all-append (λ e. eq_by_cmp key_cmp key e.key ≡ false) es (joined ess) none (later.past (omega (arith, past)));
               here = λ u within is.
@@ -128,7 +128,7 @@ module _ {H : Type 0} (bytes_of : H → Option (List ℕ)) where
             split = refl;
             is = subst (λ (v : Table H). IsOf bytes_of v es) (sym is) are.0;
             before = tt;
-            behind = none_above key (joined ess) (all_map (λ e. key_cmp t.footer.last e.key ≡ Less) (λ e. key_cmp key e.key ≡ Less)
-                (λ e less. up_to_below key t.footer.last e.key ends less) (joined ess) (later_above t ts ess apart are.1));
+            behind = none_above key (joined ess) (all_map (λ e. key_cmp (footer_of t).last e.key ≡ Less) (λ e. key_cmp key e.key ≡ Less)
+                (λ e less. up_to_below key (footer_of t).last e.key ends less) (joined ess) (later_above t ts ess apart are.1));
           };
         }

@@ -1,5 +1,7 @@
 mod LevelLaws
 mod LookLaws
 mod LookSteps
-mod LooksOn
+mod LooksSoFar
 mod Parts
+mod ReadsOfSome
+mod Through

@@ -23,7 +23,7 @@ module _ {X : Type 0} where
   all_get P (x ∷ xs) zero d all within = all.0
   all_get P (x ∷ xs) (suc i) d all within = all_get P xs i d all.1 (omega (arith, within))
 
-  all-front : (P : X → Type 0) (xs ys : List X) → AllByRecursion P (xs ++ ys) → AllByRecursion P xs
+  pub all-front : (P : X → Type 0) (xs ys : List X) → AllByRecursion P (xs ++ ys) → AllByRecursion P xs
   all-front P [] ys all = tt
   all-front P (x ∷ xs) ys all = (all.0, all-front P xs ys all.1)
 

@@ -1,14 +1,18 @@
 -- Tables of which entries are looked up: which entries they hold, and in which order they are.
-use Rattle.std.specs.Prelude.{◌≡◌, ℕ, Bool, List, [], ◌∷◌, ◌++◌, Option}
+use Rattle.std.specs.Prelude.{◌≡◌, ℕ, Bool, false, List, [], ◌∷◌, ◌++◌, Option}
 use Rattle.std.specs.List.{AllByRecursion}
 use Rattle.std.specs.Ordering.{is_gt}
 use Rattle.std.specs.declared.cmp.Ordering.TheVariants.{Less}
 use Rattle.vl_model.specs.Keys.{key_cmp}
 use Rattle.vl_model.specs.declared.entry.Entry.{Entry}
-use Rattle.vl_table.specs.Opened.{IsOf}
+use Rattle.vl_block.specs.declared.footer.Footer.{Footer}
+use Rattle.vl_table.specs.Tables.{IsOf, shape_of}
 use Rattle.vl_table.specs.declared.table.Table.{Table}
 
 module _ {H : Type 0} where
+  abbrev pub footer_of : Table H → Footer
+  footer_of t = (shape_of t).footer
+
   -- the tables are true ones with these entries, table by table
   abbrev pub AreOf : (H → Option (List ℕ)) → List (Table H) → List (List Entry) → Type 0
   AreOf bytes_of [] [] = Unit {0}
@@ -16,19 +20,19 @@ module _ {H : Type 0} where
   AreOf bytes_of (t ∷ ts) [] = ⊥
   AreOf bytes_of (t ∷ ts) (es ∷ others) = IsOf bytes_of t es × AreOf bytes_of ts others
 
-  -- of their files these are the bytes, by their numbers
-  abbrev pub AreFiles : (H → Option (List ℕ)) → (ℕ → Option (List ℕ)) → List (Table H) → Type 0
-  AreFiles bytes_of files ts = AllByRecursion (λ (t : Table H). files t.number ≡ bytes_of t.held) ts
-
   -- each table ends before the next one begins, by their footers
   abbrev pub AreApart : List (Table H) → Type 0
   AreApart [] = Unit {0}
   AreApart (t ∷ []) = Unit {0}
-  AreApart (t ∷ u ∷ us) = (key_cmp t.footer.last u.footer.first ≡ Less) × AreApart (u ∷ us)
+  AreApart (t ∷ u ∷ us) = (key_cmp (footer_of t).last (footer_of u).first ≡ Less) × AreApart (u ∷ us)
+
+  -- by its footer no table ends before it begins
+  abbrev pub AreRanged : List (Table H) → Type 0
+  AreRanged ts = AllByRecursion (λ (t : Table H). is_gt (key_cmp (footer_of t).first (footer_of t).last) ≡ false) ts
 
   -- the table's last key is below the key
   abbrev pub ends_before : List ℕ → Table H → Bool
-  ends_before key t = is_gt (key_cmp key t.footer.last)
+  ends_before key t = is_gt (key_cmp key (footer_of t).last)
 
   -- the tables of some levels, end to end
   abbrev pub all_tables : List (List (Table H)) → List (Table H)
@@ -38,3 +42,7 @@ module _ {H : Type 0} where
   -- in each level the tables are apart
   abbrev pub AreAllApart : List (List (Table H)) → Type 0
   AreAllApart levels = AllByRecursion AreApart levels
+
+  -- and have ranges, as far as footers can tell
+  abbrev pub AreAllRanged : List (List (Table H)) → Type 0
+  AreAllRanged levels = AllByRecursion AreRanged levels

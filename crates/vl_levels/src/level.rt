@@ -5,14 +5,14 @@ ghost use Rattle.std.specs.List.{prefix_len};
 ghost use Rattle.vl_run.specs.Lookups.{IsParted};
 ghost use Rattle.vl_levels.specs.LevelTables.{ends_before};
 
-use crate::shared_table::SharedTable;
 use std::marker::Model;
 use vl_disk::HeldFile;
+use vl_table::Table;
 
 /// The tables of a level below level 0, in key order. None of them overlaps.
 #[derive(Drop)]
 pub struct Level<H> {
-    tables: Vec<SharedTable<H>>,
+    tables: Vec<Table<H>>,
 }
 
 impl<H> Model for Level<H> {
@@ -26,14 +26,14 @@ impl<H> Model for Level<H> {
 
 impl<H> Level<H> {
     /// The level with these tables.
-    pub fn new(tables: Vec<SharedTable<H>>) -> Self
+    pub fn new(tables: Vec<Table<H>>) -> Self
         ensures { result ≡ tables.items }
     {
         Level { tables }
     }
 
     /// Its tables, in key order.
-    pub fn as_slice(&self) -> &[SharedTable<H>]
+    pub fn as_slice(&self) -> &[Table<H>]
         ensures { result.now ≡ self.now }
     {
         &self.tables
@@ -41,9 +41,9 @@ impl<H> Level<H> {
 }
 
 // How many tables end before a key.
-pub fn ending_before<H: HeldFile>(tables: &[SharedTable<H>], key: &[u8]) -> usize
+pub fn ending_before<H: HeldFile>(tables: &[Table<H>], key: &[u8]) -> usize
     ensures first { IsParted (ends_before key.now) tables.now → result ≡ prefix_len (ends_before key.now) tables.now }
     ensures within { result ≤ length tables.now }
 {
-    tables.partition_point(|table| { key.cmp(&table.table().footer().last.as_slice()).is_gt() })
+    tables.partition_point(|table| { key.cmp(&table.shape().footer.last.as_slice()).is_gt() })
 }

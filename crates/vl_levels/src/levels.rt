@@ -1,32 +1,35 @@
-ghost use Rattle.std.specs.Prelude.{◌≡◌, ℕ, List, Option};
+ghost use Rattle.std.specs.Prelude.{◌≡◌, ℕ, List, None};
+ghost use Rattle.std.specs.Option.{option_map};
 ghost use Rattle.vl_model.specs.Winners.{exact, winner};
-ghost use Rattle.vl_table.specs.Buffers.{IsKept};
-ghost use Rattle.vl_levels.specs.LevelTables.{AreAllApart, AreFiles, all_tables};
-ghost use Rattle.vl_levels.specs.LevelsLooked.{tables_of, AreInOrder};
-ghost use Rattle.vl_levels.specs.LookedUp.{LookedUp};
+ghost use Rattle.vl_block.specs.Founds.{found_of};
+ghost use Rattle.vl_table.specs.Answers.{NeedsNoMemory};
+ghost use Rattle.vl_table.specs.Kept.{Files};
+ghost use Rattle.vl_table.specs.KeptBlocks.{AreKept, ReadsOf};
+ghost use Rattle.vl_levels.specs.LevelTables.{AreAllApart, AreAllRanged, all_tables};
+ghost use Rattle.vl_levels.specs.LevelsLooked.{AreInOrder, AreLaidOut, tables_of};
+ghost use Rattle.vl_levels.specs.LookedUp.{LookedUp, LooksInAll, LooksOn};
 ghost use Rattle.vl_levels.specs.Looks.{sought};
+ghost use Rattle.vl_levels.specs.declared.look.Look.TheVariants as looks;
 
 use crate::level::Level;
-use crate::look::{Look, better, is_settled};
+use crate::look::Look;
 use crate::lookup::{look_in, look_in_level};
-use crate::shared_table::SharedTable;
-use std::alloc::Global;
+use vl_block::Found;
 use vl_disk::{HeldFile, Reader};
-use vl_model::Entry;
-use vl_table::{BlockBuffer, TableFault};
+use vl_table::{BlockReader, Table, TableFault};
 
 /// The tables of a store by their levels.
 #[derive(Drop)]
 pub struct Levels<H> {
     // Level 0, the newest table first. Its tables may overlap.
-    newest: Vec<SharedTable<H>>,
+    newest: Vec<Table<H>>,
     // The levels below it, the next one first.
     deeper: Vec<Level<H>>,
 }
 
 impl<H: HeldFile> Levels<H> {
     /// The levels with these tables: those of level 0, the newest first, and the levels below it.
-    pub fn new(newest: Vec<SharedTable<H>>, deeper: Vec<Level<H>>) -> Self
+    pub fn new(newest: Vec<Table<H>>, deeper: Vec<Level<H>>) -> Self
         ensures newest { result.newest ≡ newest }
         ensures deeper { result.deeper ≡ deeper }
     {
@@ -34,7 +37,7 @@ impl<H: HeldFile> Levels<H> {
     }
 
     /// The tables of level 0, the newest first.
-    pub fn newest(&self) -> &[SharedTable<H>]
+    pub fn newest(&self) -> &[Table<H>]
         ensures { result.now ≡ self.now.newest.items }
     {
         &self.newest
@@ -51,110 +54,102 @@ impl<H: HeldFile> Levels<H> {
     /// the newest source. Each level below level 0 is one source.
     pub fn find<R: Reader<Held = H>>(
         &self,
-        alloc: Global,
-        reader: &mut R,
-        buffer: &mut BlockBuffer,
+        reader: &mut BlockReader<R>,
         key: &[u8],
         number: u64,
-    ) -> Result<Option<Entry>, TableFault>
-        ensures kept { (files : ℕ → Option (List ℕ)) → IsKept files buffer.old → AreFiles H.bytes files (tables_of self.now)
-            → IsKept files buffer.new }
-        ensures answers { (files : ℕ → Option (List ℕ)) → IsKept files buffer.old → AreFiles H.bytes files (tables_of self.now)
-            → LookedUp H.bytes (tables_of self.now) (AreInOrder self.now) (λ es. winner es key.now number) key.now (R.faults reader.old)
-            (R.faults reader.new) result }
+    ) -> Result<Option<Found>, TableFault>
+        ensures kept { (files : Files) → ReadsOf H.bytes files reader.old (tables_of self.now) → AreKept files reader.new }
+        ensures answers { (files : Files) → ReadsOf H.bytes files reader.old (tables_of self.now)
+            → LookedUp H.bytes (tables_of self.now) (AreInOrder self.now) (λ es. winner es key.now number) key.now
+            (R.faults reader.old.reader) (R.faults reader.new.reader) result }
+
+        // No answer hides a block that doesn't stand, of each table that is to be asked, also where tables aren't true.
+        ensures looks { (files : Files) → ReadsOf H.bytes files reader.old (tables_of self.now) → AreLaidOut self.now
+            → LooksInAll H.bytes (looks.UpTo number) key.now None (tables_of self.now) result }
+        ensures no_memory { NeedsNoMemory result }
     {
-        self.look(alloc, reader, buffer, key, Look::UpTo(number))
+        self.look(reader, key, Look::UpTo(number))
     }
 
     /// The entry of a key and version in the newest source that has one.
     pub fn exact<R: Reader<Held = H>>(
         &self,
-        alloc: Global,
-        reader: &mut R,
-        buffer: &mut BlockBuffer,
+        reader: &mut BlockReader<R>,
         key: &[u8],
         version: u64,
-    ) -> Result<Option<Entry>, TableFault>
-        ensures kept { (files : ℕ → Option (List ℕ)) → IsKept files buffer.old → AreFiles H.bytes files (tables_of self.now)
-            → IsKept files buffer.new }
-        ensures answers { (files : ℕ → Option (List ℕ)) → IsKept files buffer.old → AreFiles H.bytes files (tables_of self.now)
-            → LookedUp H.bytes (tables_of self.now) (AreInOrder self.now) (λ es. exact es key.now version) key.now (R.faults reader.old)
-            (R.faults reader.new) result }
+    ) -> Result<Option<Found>, TableFault>
+        ensures kept { (files : Files) → ReadsOf H.bytes files reader.old (tables_of self.now) → AreKept files reader.new }
+        ensures answers { (files : Files) → ReadsOf H.bytes files reader.old (tables_of self.now)
+            → LookedUp H.bytes (tables_of self.now) (AreInOrder self.now) (λ es. exact es key.now version) key.now
+            (R.faults reader.old.reader) (R.faults reader.new.reader) result }
+        ensures looks { (files : Files) → ReadsOf H.bytes files reader.old (tables_of self.now) → AreLaidOut self.now
+            → LooksInAll H.bytes (looks.Exactly version) key.now None (tables_of self.now) result }
+        ensures no_memory { NeedsNoMemory result }
     {
-        self.look(alloc, reader, buffer, key, Look::Exactly(version))
+        self.look(reader, key, Look::Exactly(version))
     }
 
     // Looks from the newest source on.
     fn look<R: Reader<Held = H>>(
         &self,
-        alloc: Global,
-        reader: &mut R,
-        buffer: &mut BlockBuffer,
+        reader: &mut BlockReader<R>,
         key: &[u8],
         look: Look,
-    ) -> Result<Option<Entry>, TableFault>
-        ensures kept { (files : ℕ → Option (List ℕ)) → IsKept files buffer.old → AreFiles H.bytes files (tables_of self.now)
-            → IsKept files buffer.new }
-        ensures answers { (files : ℕ → Option (List ℕ)) → IsKept files buffer.old → AreFiles H.bytes files (tables_of self.now)
-            → LookedUp H.bytes (tables_of self.now) (AreInOrder self.now) (sought look key.now) key.now (R.faults reader.old)
-            (R.faults reader.new) result }
+    ) -> Result<Option<Found>, TableFault>
+        ensures kept { (files : Files) → ReadsOf H.bytes files reader.old (tables_of self.now) → AreKept files reader.new }
+        ensures answers { (files : Files) → ReadsOf H.bytes files reader.old (tables_of self.now)
+            → LookedUp H.bytes (tables_of self.now) (AreInOrder self.now) (sought look key.now) key.now
+            (R.faults reader.old.reader) (R.faults reader.new.reader) result }
+        ensures looks { (files : Files) → ReadsOf H.bytes files reader.old (tables_of self.now) → AreLaidOut self.now
+            → LooksInAll H.bytes look key.now None (tables_of self.now) result }
+        ensures no_memory { NeedsNoMemory result }
     {
-        let newer = look_in_each(alloc, reader, buffer, &self.newest, key, look)?;
-        if is_settled(look, &newer) {
-            return Ok(newer);
-        }
-        let older = look_in_levels(alloc, reader, buffer, &self.deeper, key, look)?;
-        Ok(better(look, newer, older))
+        let newer = look_in_each(reader, &self.newest, key, look)?;
+        look_in_levels(reader, &self.deeper, key, look, newer)
     }
 }
 
 // Looks in each of these tables, the newest first.
 fn look_in_each<H: HeldFile, R: Reader<Held = H>>(
-    alloc: Global,
-    reader: &mut R,
-    buffer: &mut BlockBuffer,
-    tables: &[SharedTable<H>],
+    reader: &mut BlockReader<R>,
+    tables: &[Table<H>],
     key: &[u8],
     look: Look,
-) -> Result<Option<Entry>, TableFault>
-    ensures kept { (files : ℕ → Option (List ℕ)) → IsKept files buffer.old → AreFiles H.bytes files tables.now
-        → IsKept files buffer.new }
-    ensures answers { (files : ℕ → Option (List ℕ)) → IsKept files buffer.old → AreFiles H.bytes files tables.now
-        → LookedUp H.bytes tables.now (Unit {0}) (sought look key.now) key.now (R.faults reader.old) (R.faults reader.new) result }
+) -> Result<Option<Found>, TableFault>
+    ensures kept { (files : Files) → ReadsOf H.bytes files reader.old tables.now → AreKept files reader.new }
+    ensures answers { (files : Files) → ReadsOf H.bytes files reader.old tables.now
+        → LooksOn H.bytes tables.now (Unit {0}) look key.now None (R.faults reader.old.reader) (R.faults reader.new.reader) result }
+    ensures looks { (files : Files) → ReadsOf H.bytes files reader.old tables.now
+        → LooksInAll H.bytes look key.now None tables.now result }
+    ensures no_memory { NeedsNoMemory result }
 {
     let mut best = None;
     for table in tables {
-        if is_settled(look, &best) {
-            return Ok(best);
-        }
-        let older = look_in(alloc, reader, buffer, table.table(), key, look)?;
-        best = better(look, best, older);
+        best = look_in(reader, table, key, look, best)?;
     }
     Ok(best)
 }
 
-// Looks in each of these levels, each of which is one source, the newest first.
+// Looks in each of these levels, each of which is one source, behind what was found in newer ones.
 fn look_in_levels<H: HeldFile, R: Reader<Held = H>>(
-    alloc: Global,
-    reader: &mut R,
-    buffer: &mut BlockBuffer,
+    reader: &mut BlockReader<R>,
     levels: &[Level<H>],
     key: &[u8],
     look: Look,
-) -> Result<Option<Entry>, TableFault>
-    ensures kept { (files : ℕ → Option (List ℕ)) → IsKept files buffer.old → AreFiles H.bytes files (all_tables levels.now)
-        → IsKept files buffer.new }
-    ensures answers { (files : ℕ → Option (List ℕ)) → IsKept files buffer.old → AreFiles H.bytes files (all_tables levels.now)
-        → LookedUp H.bytes (all_tables levels.now) (AreAllApart levels.now) (sought look key.now) key.now (R.faults reader.old)
-        (R.faults reader.new) result }
+    newer: Option<Found>,
+) -> Result<Option<Found>, TableFault>
+    ensures kept { (files : Files) → ReadsOf H.bytes files reader.old (all_tables levels.now) → AreKept files reader.new }
+    ensures answers { (files : Files) → ReadsOf H.bytes files reader.old (all_tables levels.now)
+        → LooksOn H.bytes (all_tables levels.now) (AreAllApart levels.now) look key.now (option_map (found_of key.now) newer)
+        (R.faults reader.old.reader) (R.faults reader.new.reader) result }
+    ensures looks { (files : Files) → ReadsOf H.bytes files reader.old (all_tables levels.now) → AreAllApart levels.now
+        → AreAllRanged levels.now
+        → LooksInAll H.bytes look key.now (option_map (found_of key.now) newer) (all_tables levels.now) result }
+    ensures no_memory { NeedsNoMemory result }
 {
-    let mut best = None;
+    let mut best = newer;
     for level in levels {
-        if is_settled(look, &best) {
-            return Ok(best);
-        }
-        let older = look_in_level(alloc, reader, buffer, level.as_slice(), key, look)?;
-        best = better(look, best, older);
+        best = look_in_level(reader, level.as_slice(), key, look, best)?;
     }
     Ok(best)
 }

@@ -7,10 +7,12 @@
 //! and `cursors` take a step for each run. Keys and values are shared, never copied.
 #![tactic(auto)]
 
+mod frozen_log;
 mod laws;
 mod memtable;
 mod over;
 mod runs;
 
+pub use frozen_log::FrozenLog;
 pub use laws::{lengths_after_commits_of_one, runs_are_few, runs_double};
 pub use memtable::{Frozen, Memtable};

@@ -1,2 +1,3 @@
 mod LiveLaws
+mod Places
 pub mod Tickets

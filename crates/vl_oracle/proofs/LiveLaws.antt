@@ -96,7 +96,7 @@ find-free_from low (t ∷ ts) rising are = by_test (t.0 == low) refl (find-free_
         skipped (free_from (low + 1) ts) (apart (free_from (low + 1) ts) (free_from-ge (low + 1) ts) (same is)) (further parts.1 (from_next (same is)))
     by_test false is further = find_less low (t ∷ ts) (higher is, later t.0 ts (above_first t.0 ts parts.0) are.0)
 
-all_from_zero : (live : List Ticket) → AreFrom 0 live
+pub all_from_zero : (live : List Ticket) → AreFrom 0 live
 all_from_zero [] = tt
 all_from_zero (t ∷ ts) = (omega arith, all_from_zero ts)
 

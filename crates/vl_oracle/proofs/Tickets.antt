@@ -1,9 +1,6 @@
 -- What a begin, an end and a new last number do to the tickets, to the counts and to the floor.
 use Rattle.std.proofs.Common.{◌≡◌, ℕ, ◌+◌, ◌^◌, ◌<◌, ◌≤◌, ◌==◌, Bool, true, false, cond, not, List, [], ◌∷◌, length, refl, ap, sym, ◌∙◌, subst, arith, T, min, Option, Some, None, IsSome, is_some, unwrap_or}
 use Rattle.std.proofs.lemmas.Bool.Decides.{nat_tests}
-use Rattle.std.specs.List.{filter}
-use Rattle.std.specs.Map.{remove_entry, lookup}
-use Rattle.std.specs.BTreeMap.{insert_entry, is_at}
 use Rattle.std.specs.FinMap.{put, find, is_sorted}
 use Rattle.std.specs.FinMap.Entries.{below_all, by_order, is_sorted-put, is_sorted-where_key, length-put}
 use Rattle.std.specs.Cmp.{nat_cmp_total}
@@ -11,27 +8,14 @@ use Rattle.std.specs.declared.cmp.Ordering.{Ordering}
 use Rattle.std.specs.declared.cmp.Ordering.TheVariants.{Less, Equal, Greater}
 use Rattle.std.specs.Ordering.{nat_cmp, eq_by_cmp, is_eq}
 use Rattle.vl_model.specs.Limits.{max_live}
-use Rattle.vl_oracle.specs.LiveTickets.{LiveTickets, Ticket, AreLive, free_from, free_ticket, least_number, floor_of, begun, ended}
+use Rattle.vl_oracle.specs.LiveTickets.{LiveTickets, Ticket, AreLive, free_ticket, least_number, floor_of, begun, ended, without}
 use Rattle.vl_oracle.specs.Counts.{uses, counted, with_count, IsLeastKey, IsKept}
 use Rattle.vl_oracle.proofs.LiveLaws.{as_T, from_T, two_parts, low_of, AreUpTo, floor_of-low_of, find-free_ticket, find_less, AreFrom, above_first, free_from-le}
 
--- ---- the map's edits
-
-pub insert_entry-put : (ticket number : ℕ) (live : List Ticket) → insert_entry nat_cmp live ticket number ≡ put nat_cmp ticket number live
-insert_entry-put ticket number [] = refl
-insert_entry-put ticket number (t ∷ ts) = by_cases (nat_cmp ticket t.0) (insert_entry-put ticket number ts)
-  where
-    by_cases : (r : Ordering) → insert_entry nat_cmp ts ticket number ≡ put nat_cmp ticket number ts
-        → by_order r ((ticket, number) ∷ t ∷ ts) ((t.0, number) ∷ ts) (t ∷ insert_entry nat_cmp ts ticket number) ≡ by_order r ((ticket, number) ∷ t ∷ ts) ((t.0, number) ∷ ts) (t ∷ put nat_cmp ticket number ts)
-    by_cases Less is = refl
-    by_cases Equal is = refl
-    by_cases Greater is = ap (λ rest. t ∷ rest) is
-
-abbrev pub without : ℕ → List Ticket → List Ticket
-without ticket live = filter (λ (other : Ticket). not (eq_by_cmp nat_cmp ticket other.0)) live
+-- ---- what is taken out
 
 -- where a ticket isn't found, none is taken away
-without-none : (ticket : ℕ) (live : List Ticket) → find nat_cmp ticket live ≡ None → without ticket live ≡ live
+pub without-none : (ticket : ℕ) (live : List Ticket) → find nat_cmp ticket live ≡ None → without ticket live ≡ live
 without-none ticket [] none = refl
 without-none ticket (t ∷ ts) none = by_test (eq_by_cmp nat_cmp ticket t.0) (without-none ticket ts) none
   where
@@ -39,22 +23,11 @@ without-none ticket (t ∷ ts) none = by_test (eq_by_cmp nat_cmp ticket t.0) (wi
     by_test true further is = cc
     by_test false further is = ap (λ rest. t ∷ rest) (further is)
 
-none_behind : (t : Ticket) (ts : List Ticket) (ticket : ℕ) → T (below_all nat_cmp t.0 ts) → eq_by_cmp nat_cmp ticket t.0 ≡ true → find nat_cmp ticket ts ≡ None
+pub none_behind : (t : Ticket) (ts : List Ticket) (ticket : ℕ) → T (below_all nat_cmp t.0 ts) → eq_by_cmp nat_cmp ticket t.0 ≡ true → find nat_cmp ticket ts ≡ None
 none_behind t ts ticket below is = find_less ticket ts (subst (λ (n : ℕ). AreFrom (n + 1) ts) (same t.0 ticket is) (above_first t.0 ts below))
   where
     same : (held ticket : ℕ) → eq_by_cmp nat_cmp ticket held ≡ true → held ≡ ticket
     same held ticket is = grind (arith, nat_tests)
-
-pub remove_entry-without : (ticket : ℕ) (live : List Ticket) → T (is_sorted nat_cmp live) → remove_entry (is_at (nat_cmp ticket)) live ≡ without ticket live
-remove_entry-without ticket [] rising = refl
-remove_entry-without ticket (t ∷ ts) rising = by_test (eq_by_cmp nat_cmp ticket t.0) refl (remove_entry-without ticket ts parts.1)
-  where
-    parts : T (below_all nat_cmp t.0 ts) × T (is_sorted nat_cmp ts)
-    parts = two_parts (below_all nat_cmp t.0 ts) (is_sorted nat_cmp ts) rising
-
-    by_test : (b : Bool) → eq_by_cmp nat_cmp ticket t.0 ≡ b → remove_entry (is_at (nat_cmp ticket)) ts ≡ without ticket ts → cond b ts (t ∷ remove_entry (is_at (nat_cmp ticket)) ts) ≡ cond (not b) (t ∷ without ticket ts) (without ticket ts)
-    by_test true is later = sym (without-none ticket ts (none_behind t ts ticket parts.0 is))
-    by_test false is later = ap (λ rest. t ∷ rest) later
 
 -- ---- counts
 
@@ -334,16 +307,7 @@ floor-least live standing (Some least) kept is =
     let all : (n : ℕ) → 0 < uses n live.tickets → least ≤ n = λ n used. is.1 n (subst IsSome (sym (kept.counts n)) (counted_is (uses n live.tickets) used)) in
     omega (arith, floor_of-low_of live kept.are, bounds.0, bounds.1, low_of-ge least live.last live.tickets bounds.1 all)
 
--- ---- the walk up to the first gap
-
-pub free_from-next : (ticket : ℕ) (old new : List Ticket) (t : Ticket) → old ≡ t ∷ new → t.0 ≡ ticket → free_from (ticket + 1) new ≡ free_from ticket old
-free_from-next ticket old new t is same = sym (ap (free_from ticket) is ∙ ap (λ b. cond b (free_from (ticket + 1) new) ticket) tied)
-  where
-    tied : (t.0 == ticket) ≡ true
-    tied = grind (arith, nat_tests)
-
-pub length-next : (n total : ℕ) (old new : List Ticket) (t : Ticket) → old ≡ t ∷ new → n + length old ≡ total → n + 1 + length new ≡ total
-length-next n total old new t is all = omega (arith, ap length is)
+-- ---- limits
 
 pub few_uses : (live : LiveTickets) (standing : ℕ → Option ℕ) → IsKept live standing → unwrap_or (standing live.last) 0 + 1 < 2 ^ 32
 few_uses live standing kept =
@@ -353,7 +317,3 @@ few_uses live standing kept =
 
 pub free_below : (live : LiveTickets) → length live.tickets < max_live → free_ticket live < max_live
 free_below live room = omega (arith, free_from-le 0 live.tickets)
-
-pub lookup-find : (ticket : ℕ) (live : List Ticket) → find nat_cmp ticket live ≡ lookup (is_at (nat_cmp ticket)) live
-lookup-find ticket [] = refl
-lookup-find ticket (t ∷ ts) = ap (cond (eq_by_cmp nat_cmp ticket t.0) (Some t.1)) (lookup-find ticket ts)

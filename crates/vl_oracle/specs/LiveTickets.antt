@@ -1,5 +1,5 @@
 -- The live transactions and views, which tickets are free, and the floor.
-use Rattle.std.specs.Prelude.{◌≡◌, ◌≤◌, ◌==◌, ◌+◌, ℕ, Bool, true, not, min, if◌then◌else◌, List, [], ◌∷◌, Option, Some, None, unwrap_or, IsTrue}
+use Rattle.std.specs.Prelude.{◌≡◌, ◌≤◌, ◌==◌, ◌+◌, ℕ, Bool, true, not, min, if◌then◌else◌, List, [], ◌∷◌, Option, Some, None, unwrap_or, IsTrue, nat_lt}
 use Rattle.std.specs.Option.{option_map}
 use Rattle.std.specs.List.{AllByRecursion, filter, list_any}
 use Rattle.std.specs.FinMap.{put, is_sorted}
@@ -27,10 +27,15 @@ free_ticket live = free_from 0 live.tickets
 abbrev pub begun : LiveTickets → LiveTickets
 begun live = record live { tickets = put nat_cmp (free_ticket live) live.last live.tickets }
 
+abbrev pub without : ℕ → List Ticket → List Ticket
+without ticket tickets = filter (λ (other : Ticket). not (eq_by_cmp nat_cmp ticket other.0)) tickets
+
 -- without the one that has the ticket
 abbrev pub ended : ℕ → LiveTickets → LiveTickets
-ended ticket live =
-    record live { tickets = filter (λ other. not (eq_by_cmp nat_cmp ticket other.0)) live.tickets }
+ended ticket live = record live { tickets = without ticket live.tickets }
+
+abbrev pub is_below : ℕ → Ticket → Bool
+is_below ticket live = nat_lt live.0 ticket
 
 abbrev pub advanced : ℕ → LiveTickets → LiveTickets
 advanced last live = record live { last = last }

@@ -1,9 +1,10 @@
 ghost use Rattle.std.specs.Prelude.{◌≡◌, ◌≤◌, ◌<◌, ◌↔◌, ◌∷◌, [], List, ℕ, length, IfOk, OnErr};
 ghost use Rattle.vl_model.specs.Limits.{max_live};
-ghost use Rattle.vl_oracle.specs.LiveTickets.{LiveTickets, AreLive, free_ticket, free_from, begun, ended, advanced, floor_of};
+ghost use Rattle.vl_oracle.specs.LiveTickets.{LiveTickets, AreLive, free_ticket, begun, ended, advanced, floor_of};
 
 use crate::BeginFail;
 use crate::numbers::{self, Numbers};
+use crate::ticket_list::{self, Tickets};
 use std::alloc::Global;
 use std::collections::BTreeMap;
 use std::marker::Model;
@@ -13,7 +14,7 @@ use vl_model::MAX_LIVE;
 #[derive(Drop)]
 pub struct Oracle {
     last: u64,
-    live: BTreeMap<u32, u64>,
+    live: Tickets,
     numbers: Numbers,
 }
 
@@ -25,9 +26,9 @@ impl Model for Oracle {
 
     ghost Value = { LiveTickets };
 
-    ghost view = { λ a. record { last = a.last; tickets = a.live.entries } };
+    ghost view = { λ a. record { last = a.last; tickets = a.live.items } };
 
-    ghost invariant = { λ a. IsKept (record { last = a.last; tickets = a.live.entries }) (get nat_cmp a.numbers) };
+    ghost invariant = { λ a. IsKept (record { last = a.last; tickets = a.live.items }) (get nat_cmp a.numbers) };
 }
 
 impl Oracle {
@@ -37,7 +38,7 @@ impl Oracle {
     {
         Oracle {
             last,
-            live: BTreeMap::new(alloc),
+            live: Vec::new(alloc),
             numbers: BTreeMap::new(alloc),
         }
     }
@@ -61,10 +62,10 @@ impl Oracle {
         if self.live.len() >= MAX_LIVE as usize {
             return Err(BeginFail::TooMany);
         }
-        let ticket = free_ticket(&self.live);
+        let ticket = ticket_list::free_ticket(&self.live);
         numbers::add(&mut self.numbers, self.last)?;
-        match self.live.insert(ticket, self.last) {
-            Ok(_) => Ok(ticket),
+        match self.live.insert(ticket, (ticket as u32, self.last)) {
+            Ok(()) => Ok(ticket as u32),
             Err(_) => {
                 numbers::remove(&mut self.numbers, self.last);
                 Err(BeginFail::NoMemory)
@@ -77,7 +78,7 @@ impl Oracle {
         ensures ended { self.new ≡ ended ticket self.old }
         ensures floor { floor_of self.old ≤ floor_of self.new }
     {
-        match self.live.remove(&ticket) {
+        match ticket_list::take(&mut self.live, ticket) {
             Some(number) => numbers::remove(&mut self.numbers, number),
             None => {}
         }
@@ -98,19 +99,4 @@ impl Oracle {
     {
         numbers::least(&self.numbers).unwrap_or(self.last)
     }
-}
-
-// The least ticket that none has: as far as the tickets go up without a gap.
-fn free_ticket(live: &BTreeMap<u32, u64>) -> u32
-    requires { length live.now.entries < max_live }
-    ensures { result ≡ free_from 0 live.now.entries }
-{
-    let mut ticket = 0;
-    for (held, _) in live.iter() {
-        if *held != ticket {
-            return ticket;
-        }
-        ticket += 1;
-    }
-    ticket
 }

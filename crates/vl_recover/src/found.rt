@@ -1,6 +1,6 @@
-use crate::FrozenLog;
 use vl_disk::Name;
 use vl_manifest::ManifestState;
+use vl_memtable::FrozenLog;
 use vl_model::Entry;
 
 /// The greatest number of each kind of file that stands, 0 where none does.

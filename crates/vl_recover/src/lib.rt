@@ -26,5 +26,5 @@ mod recovering;
 mod repairing;
 
 pub use fails::{NO_FILE, OpenError, OpenFail};
-pub use parts::{FrozenLog, Parts};
+pub use parts::Parts;
 pub use recovering::recover;

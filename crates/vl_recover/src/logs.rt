@@ -18,14 +18,15 @@ ghost use Rattle.vl_recover.specs.opening.Results.{frozen_log};
 ghost use Rattle.vl_recover.specs.opening.Walk as walk;
 ghost use Rattle.vl_seglog.specs.LogReading.{LogReading};
 
+use crate::OpenError;
 use crate::counting::count_end;
 use crate::found::{Content, DamagePlace, LastLog, LogFound, LogsFound};
 use crate::memtables::memtable_of;
 use crate::names::log_from;
 use crate::one_log::read_log;
-use crate::{FrozenLog, OpenError};
 use std::alloc::{AllocError, Global};
 use vl_disk::{Disk, Name};
+use vl_memtable::FrozenLog;
 use vl_model::LOG_FORMAT;
 
 /// Reads the logs from head on, each once, also behind a damage. The names are in order, and the greatest log has this

@@ -1,15 +1,6 @@
 use vl_manifest::{ManifestLog, ManifestState};
-use vl_memtable::Frozen;
+use vl_memtable::FrozenLog;
 use vl_seglog::ActiveLog;
-
-/// A log that takes no more commits, and the entries of its records.
-#[derive(Drop)]
-pub struct FrozenLog {
-    pub number: u32,
-    /// In bytes.
-    pub length: u64,
-    pub memtable: Frozen,
-}
 
 /// An opened store, and its disk.
 #[derive(Drop)]

@@ -1,6 +1,6 @@
-use crate::FrozenLog;
 use crate::plan::RepairingPlan;
 use vl_manifest::ManifestState;
+use vl_memtable::FrozenLog;
 
 /// What an opening is about to do, and what it gives then.
 #[derive(Drop)]

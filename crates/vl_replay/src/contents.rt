@@ -10,8 +10,8 @@ ghost use Rattle.vl_replay.specs.Sequential.{State};
 use crate::rows::rows_of;
 use crate::text::contents_text;
 use std::alloc::{AllocError, Global};
+use vl_memtable::FrozenLog;
 use vl_model::Way;
-use vl_recover::FrozenLog;
 use vl_run::RunCursor;
 
 /// What is printed of a store that was opened with these logs, which rise, and whose last commit has this number: the number,

@@ -1,2 +1,4 @@
+pub mod DigitPairs
+pub mod FirstBytes
 pub mod Spelling
 pub mod ScriptWords

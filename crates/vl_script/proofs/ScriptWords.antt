@@ -1,5 +1,6 @@
 -- The words of a line, where the first space is known.
-use Rattle.std.proofs.Common.{◌≡◌, ℕ, ◌+◌, ◌<◌, ◌≤◌, ◌==◌, cond, true, false, ltb, List, [], ◌∷◌, length, take, drop, Option, Some, None, refl, arith}
+use Rattle.std.proofs.Common.{◌≡◌, ℕ, ◌+◌, ◌<◌, ◌≤◌, ◌==◌, cond, true, false, ltb, refl, arith}
+use Rattle.std.proofs.Common.{List, [], ◌∷◌, length, take, drop, Option, Some, None}
 use denote.Ref.{Bor}
 use Rattle.std.specs.Option.{option_map_or, is_some}
 use Rattle.std.specs.List.{onto_first, position, position_or_len}
@@ -21,7 +22,8 @@ words_of_one text e =
     slice_split_none _ text (λ k d low. fails_before_first (λ b. b == 32) text k d (omega arith))
 
 -- the first space ends the first word
-pub words_of_first : (text : List ℕ) (i : ℕ) → position (λ b. b == 32) text ≡ Some i → words_of text ≡ take i text ∷ words_of (drop (i + 1) text)
+pub words_of_first : (text : List ℕ) (i : ℕ) → position (λ b. b == 32) text ≡ Some i
+    → words_of text ≡ take i text ∷ words_of (drop (i + 1) text)
 words_of_first text i e =
     let found = found_first _ (length text) i e in
     rw (← found.1) (slice_split_first (λ b. b == 32) text 0 found.0)
@@ -31,7 +33,8 @@ words_of_begins : (text : List ℕ) → (word : List ℕ) × (words : List (List
 words_of_begins [] = ([], [], refl)
 words_of_begins (b ∷ text) =
     let rest = words_of_begins text in
-    elim (b == 32) as (λ t. (word : List ℕ) × (words : List (List ℕ)) × (cond t ([] ∷ words_of text) (onto_first b (words_of text)) ≡ word ∷ words)) [
+    elim (b == 32) as (λ t. (word : List ℕ) × (words : List (List ℕ))
+    × (cond t ([] ∷ words_of text) (onto_first b (words_of text)) ≡ word ∷ words)) [
       | true ↦ ([], words_of text, refl)
       | false ↦ (b ∷ rest.0, rest.1, rw rest.2 refl)
     ]
@@ -40,22 +43,25 @@ words_of_begins (b ∷ text) =
 abbrev pub words_behind : Option (Bor (List ℕ)) → List (List ℕ)
 words_behind rest = option_map_or (λ text. words_of text.now) rest []
 
-words_behind_begins : (rest : Option (Bor (List ℕ))) → is_some rest ≡ true → (word : List ℕ) × (words : List (List ℕ)) × (words_behind rest ≡ word ∷ words)
+words_behind_begins : (rest : Option (Bor (List ℕ))) → is_some rest ≡ true
+    → (word : List ℕ) × (words : List (List ℕ)) × (words_behind rest ≡ word ∷ words)
 words_behind_begins (Some text) e = words_of_begins text.now
 words_behind_begins None e = cc
 
--- behind the one word that begin, view, commit and drop want, there is none
-pub ident_alone_of_more : (name : List ℕ) (rest : Option (Bor (List ℕ))) → is_some rest ≡ true → ident_alone (name ∷ words_behind rest) ≡ None
-ident_alone_of_more name rest e = rw (words_behind_begins rest e).2 refl
+module _ (rest : Option (Bor (List ℕ))) (more : is_some rest ≡ true) where
+  -- behind the one word that begin, view, commit and drop want, there is none
+  pub ident_alone_of_more : (name : List ℕ) → ident_alone (name ∷ words_behind rest) ≡ None
+  ident_alone_of_more name = rw (words_behind_begins rest more).2 refl
 
--- nor behind the two that get and del want
-pub ident_and_key_of_more : (name key : List ℕ) (rest : Option (Bor (List ℕ))) → is_some rest ≡ true → ident_and_key (name ∷ key ∷ words_behind rest) ≡ None
-ident_and_key_of_more name key rest e = rw (words_behind_begins rest e).2 refl
+  -- nor behind the two that get and del want
+  pub ident_and_key_of_more : (name key : List ℕ) → ident_and_key (name ∷ key ∷ words_behind rest) ≡ None
+  ident_and_key_of_more name key = rw (words_behind_begins rest more).2 refl
 
--- nor behind the three that set wants
-pub set_of_more : (name key value : List ℕ) (rest : Option (Bor (List ℕ))) → is_some rest ≡ true → set_of (name ∷ key ∷ value ∷ words_behind rest) ≡ None
-set_of_more name key value rest e = rw (words_behind_begins rest e).2 refl
+  -- nor behind the three that set wants
+  pub set_of_more : (name key value : List ℕ) → set_of (name ∷ key ∷ value ∷ words_behind rest) ≡ None
+  set_of_more name key value = rw (words_behind_begins rest more).2 refl
 
--- nor behind the four that setb wants
-pub set_tagged_of_more : (name key value tag : List ℕ) (rest : Option (Bor (List ℕ))) → is_some rest ≡ true → set_tagged_of (name ∷ key ∷ value ∷ tag ∷ words_behind rest) ≡ None
-set_tagged_of_more name key value tag rest e = rw (words_behind_begins rest e).2 refl
+  -- nor behind the four that setb wants
+  pub set_tagged_of_more : (name key value tag : List ℕ)
+      → set_tagged_of (name ∷ key ∷ value ∷ tag ∷ words_behind rest) ≡ None
+  set_tagged_of_more name key value tag = rw (words_behind_begins rest more).2 refl

@@ -1,5 +1,6 @@
 -- Numbers that words spell, by what parsing gives.
-use Rattle.std.proofs.Common.{◌≡◌, ◌⊎◌, ⊎_elim, inl, inr, ℕ, ◌^◌, ◌<◌, ◌≤◌, Bool, true, false, cond, List, Some, None, Result, Ok, Err, refl, sym, ◌∙◌, ap, arith}
+use Rattle.std.proofs.Common.{◌≡◌, ◌⊎◌, ⊎_elim, inl, inr, ℕ, ◌^◌, ◌<◌, ◌≤◌, refl, sym, ◌∙◌, ap, arith}
+use Rattle.std.proofs.Common.{Bool, true, false, cond, List, Some, None, Result, Ok, Err}
 use Rattle.std.specs.Prelude.{◌&&◌, nat_le, not}
 use Rattle.std.specs.Result.{result_ok}
 use Rattle.std.specs.Fmt.{decimal}
@@ -63,7 +64,8 @@ module _ (word : List ℕ) (most : ℕ) where
   some_spelled n small is le =
       let same : value ≡ n = ap (digits_value 10) is ∙ digits_value-decimal own n (omega (arith, small)) in
       let spelled : bytes_eq (decimal value) word ≡ true = (bytes_eq-Decides (decimal value) word).1 (ap decimal same ∙ sym is) in
-      chosen_true test (Some value) None (and_true (bytes_eq (decimal value) word) (nat_le value most) spelled (is_within value most (omega (arith, same, le))))
+      let fits : nat_le value most ≡ true = is_within value most (omega (arith, same, le)) in
+      chosen_true test (Some value) None (and_true (bytes_eq (decimal value) word) (nat_le value most) spelled fits)
       ∙ ap Some same
 
   module _ {E : Type 0} (small : most < 2 ^ 32) (r : Result ℕ E) (parses : ParsesUnsigned 32 10 word r) where
@@ -112,14 +114,17 @@ module _ {E : Type 0} (word : List ℕ) (most : ℕ) (small : most < 2 ^ 32) (r 
   pub no_number : None ≡ result_ok r → number_of most word ≡ None
   no_number none = none_parsed word most small r parses (λ n is. ok_none r n none is)
 
-  module _ (n : ℕ) (given : Some n ≡ result_ok r) (text other : List ℕ) (text_is : text ≡ decimal n) (other_is : other ≡ word) where
+  module _ (n : ℕ) (given : Some n ≡ result_ok r) (text other : List ℕ)
+      (text_is : text ≡ decimal n) (other_is : other ≡ word) where
     -- the number is written otherwise, or is too great
     pub other_number : (true ≡ not (bytes_eq text other)) ⊎ (most < n) → number_of most word ≡ None
     other_number either = none_fits word most small r parses n (ok_some r n given) (λ is le. ⊎_elim
-        (λ (apart : true ≡ not (bytes_eq text other)). not_true (bytes_eq text other) apart ((bytes_eq-Decides text other).1 (text_is ∙ sym is ∙ sym other_is)))
+        (λ (apart : true ≡ not (bytes_eq text other)).
+        not_true (bytes_eq text other) apart ((bytes_eq-Decides text other).1 (text_is ∙ sym is ∙ sym other_is)))
         (λ (past : most < n). omega (arith, past, le))
         either)
 
     pub this_number : false ≡ not (bytes_eq text other) → n ≤ most → number_of most word ≡ Some n
     this_number same le =
-        some_spelled word most n (omega (arith, small, le)) (sym other_is ∙ sym ((bytes_eq-Decides text other).0 (not_false (bytes_eq text other) same)) ∙ text_is) le
+        let alike : text ≡ other = (bytes_eq-Decides text other).0 (not_false (bytes_eq text other) same) in
+        some_spelled word most n (omega (arith, small, le)) (sym other_is ∙ sym alike ∙ text_is) le

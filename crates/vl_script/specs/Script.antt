@@ -1,5 +1,6 @@
 -- The script language: which bytes are a line, and the text of an answer.
-use Rattle.std.specs.Prelude.{◌==◌, ◌&&◌, ◌||◌, ℕ, Bool, nat_le, if◌then◌else◌, List, [], ◌∷◌, ◌++◌, length, codes, Option, Some, None, Result, Ok, Err}
+use Rattle.std.specs.Prelude.{◌==◌, ◌&&◌, ◌||◌, ℕ, Bool, nat_le, if◌then◌else◌}
+use Rattle.std.specs.Prelude.{List, [], ◌∷◌, ◌++◌, length, codes, Option, Some, None, Result, Ok, Err}
 use Rattle.std.specs.List.{list_all, slice_split, onto_first}
 use Rattle.std.specs.Option.{option_map}
 use Rattle.std.specs.Str.{bytes_eq}
@@ -12,7 +13,8 @@ use Rattle.vl_script.specs.Numbers.{number_of}
 use Rattle.vl_script.specs.declared.line.Line.{Line}
 use Rattle.vl_script.specs.declared.line.Line.TheVariants.{Begin, View, Get, Set, SetTagged, GetTagged, Delete, Commit, Drop}
 use Rattle.vl_script.specs.declared.answer.Answer.{Answer}
-use Rattle.vl_script.specs.declared.answer.Answer.TheVariants.{Done, Number, Found, FoundTagged, NoValue, Taken, Unknown, ReadOnly, Invalid, TooBig, TooMany, Nothing, Full, Exhausted}
+use Rattle.vl_script.specs.declared.answer.Answer.TheVariants.{Done, Number, Found, FoundTagged, NoValue, Taken, Unknown}
+use Rattle.vl_script.specs.declared.answer.Answer.TheVariants.{ReadOnly, Invalid, TooBig, TooMany, Nothing, Full, Exhausted}
 
 -- the longest line, in bytes without its end
 abbrev pub longest_line : ℕ
@@ -63,15 +65,20 @@ abbrev pub ident_and_key : List (List ℕ) → Option (List ℕ × List ℕ)
 ident_and_key (name ∷ key ∷ []) = ident_of name >>= λ t. bytes_of key >>= λ k. Some (t, k)
 ident_and_key words = None
 
+-- a name and two strings of bytes
+abbrev pub ident_and_two : (name first second : List ℕ) → Option (List ℕ × List ℕ × List ℕ)
+ident_and_two name first second =
+    ident_of name >>= λ t. bytes_of first >>= λ a. bytes_of second >>= λ b. Some (t, a, b)
+
 -- the words behind set
 abbrev pub set_of : List (List ℕ) → Option Line
-set_of (name ∷ key ∷ value ∷ []) = ident_of name >>= λ t. bytes_of key >>= λ k. bytes_of value >>= λ v. Some (Set t k v)
+set_of (name ∷ key ∷ value ∷ []) = option_map (λ w. Set w.0 w.1 w.2) (ident_and_two name key value)
 set_of words = None
 
 -- the words behind setb
 abbrev pub set_tagged_of : List (List ℕ) → Option Line
 set_tagged_of (name ∷ key ∷ value ∷ tag ∷ []) =
-    ident_of name >>= λ t. bytes_of key >>= λ k. bytes_of value >>= λ v. number_of 255 tag >>= λ u. Some (SetTagged t k v u)
+    number_of 255 tag >>= λ u. option_map (λ w. SetTagged w.0 w.1 w.2 u) (ident_and_two name key value)
 set_tagged_of words = None
 
 abbrev pub line_of_words : List (List ℕ) → Option Line

@@ -2,6 +2,8 @@
 #![tactic(auto)]
 
 mod answer;
+mod digits;
+mod finding;
 mod limits;
 mod line;
 mod numbers;
@@ -9,6 +11,7 @@ mod parse;
 mod print;
 
 pub use answer::Answer;
+pub use finding::find_byte;
 pub use limits::{MAX_IDENT_BYTES, MAX_LINE_BYTES};
 pub use line::{Ident, Line};
 pub use numbers::parse_number;

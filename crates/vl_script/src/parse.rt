@@ -1,10 +1,11 @@
-ghost use Rattle.std.specs.Prelude.{◌≡◌, ◌∷◌, [], ◌&&◌, length, nat_le, IfOk};
+ghost use Rattle.std.specs.Prelude.{◌≡◌, ◌∷◌, [], ◌&&◌, ◌<◌, length, nat_le, IfOk, MatchOption};
 ghost use Rattle.std.specs.List.{list_all};
 ghost use Rattle.std.specs.Option.{option_map_or};
-ghost use Rattle.vl_script.specs.Script.{longest_ident, is_ident_byte, ident_of, bytes_of, ident_alone, ident_and_key, set_of, set_tagged_of, words_of, line_of};
+ghost use Rattle.vl_script.specs.Script.{longest_ident, is_ident_byte, ident_of, bytes_of, words_of, line_of};
+ghost use Rattle.vl_script.specs.Script.{ident_alone, ident_and_key, ident_and_two, set_of, set_tagged_of};
 
-use crate::{Ident, Line, MAX_IDENT_BYTES, MAX_LINE_BYTES, parse_number};
-use hex::FromHexError;
+use crate::digits::decode;
+use crate::{Ident, Line, MAX_IDENT_BYTES, MAX_LINE_BYTES, find_byte, parse_number};
 use std::alloc::{AllocError, Global};
 use vl_model::Bytes;
 
@@ -50,7 +51,7 @@ pub fn parse_line(alloc: Global, text: &[u8]) -> Result<Option<Line>, AllocError
 fn next_word(text: &[u8]) -> (&[u8], Option<&[u8]>)
     ensures { words_of text.now ≡ result.0.now ∷ option_map_or (λ rest. words_of rest.now) result.1 [] }
 {
-    match text.iter().position(|b| *b == b' ') {
+    match find_byte(b' ', text) {
         Some(end) => (&text[..end], Some(&text[end + 1..])),
         None => (text, None),
     }
@@ -96,26 +97,11 @@ fn parse_ident_and_key(
 fn parse_set(alloc: Global, rest: Option<&[u8]>) -> Result<Option<Line>, AllocError>
     ensures { IfOk result (λ line. line ≡ set_of (option_map_or (λ rest. words_of rest.now) rest.entry [])) }
 {
-    let Some((name, Some(rest))) = rest.map(next_word) else {
+    let Some((name, key, value, None)) = three_words(rest) else {
         return Ok(None);
     };
-    let (key, Some(rest)) = next_word(rest) else {
-        return Ok(None);
-    };
-    let (value, rest) = next_word(rest);
-    if rest.is_some() {
-        return Ok(None);
-    }
-    let Some(name) = parse_ident(alloc, name)? else {
-        return Ok(None);
-    };
-    let Some(key) = parse_bytes(alloc, key)? else {
-        return Ok(None);
-    };
-    let Some(value) = parse_bytes(alloc, value)? else {
-        return Ok(None);
-    };
-    Ok(Some(Line::Set { name, key, value }))
+    let words = parse_ident_and_two(alloc, name, key, value)?;
+    Ok(words.map(|(name, key, value)| Line::Set { name, key, value }))
 }
 
 // Like `set`, with a tag behind the value.
@@ -123,37 +109,54 @@ fn parse_set(alloc: Global, rest: Option<&[u8]>) -> Result<Option<Line>, AllocEr
 fn parse_set_tagged(alloc: Global, rest: Option<&[u8]>) -> Result<Option<Line>, AllocError>
     ensures { IfOk result (λ line. line ≡ set_tagged_of (option_map_or (λ rest. words_of rest.now) rest.entry [])) }
 {
-    let Some((name, Some(rest))) = rest.map(next_word) else {
+    let Some((name, key, value, Some(rest))) = three_words(rest) else {
         return Ok(None);
     };
-    let (key, Some(rest)) = next_word(rest) else {
-        return Ok(None);
-    };
-    let (value, Some(rest)) = next_word(rest) else {
-        return Ok(None);
-    };
-    let (tag, rest) = next_word(rest);
-    if rest.is_some() {
-        return Ok(None);
-    }
-    let Some(name) = parse_ident(alloc, name)? else {
-        return Ok(None);
-    };
-    let Some(key) = parse_bytes(alloc, key)? else {
-        return Ok(None);
-    };
-    let Some(value) = parse_bytes(alloc, value)? else {
+    let (tag, None) = next_word(rest) else {
         return Ok(None);
     };
     let Some(tag) = parse_number(tag, 255) else {
         return Ok(None);
     };
-    Ok(Some(Line::SetTagged {
+    let words = parse_ident_and_two(alloc, name, key, value)?;
+    Ok(words.map(|(name, key, value)| Line::SetTagged {
         name,
         key,
         value,
         tag: tag as u8,
     }))
+}
+
+// The first three words, and what is behind the space that ends the third.
+fn three_words(rest: Option<&[u8]>) -> Option<(&[u8], &[u8], &[u8], Option<&[u8]>)>
+    ensures { let words = option_map_or (λ rest. words_of rest.now) rest.entry [] in
+        MatchOption result (length words < 3)
+        (λ w. words ≡ w.0.now ∷ w.1.now ∷ w.2.now ∷ option_map_or (λ rest. words_of rest.now) w.3 []) }
+{
+    let (first, rest) = next_word(rest?);
+    let (second, rest) = next_word(rest?);
+    let (third, rest) = next_word(rest?);
+    Some((first, second, third, rest))
+}
+
+fn parse_ident_and_two(
+    alloc: Global,
+    name: &[u8],
+    first: &[u8],
+    second: &[u8],
+) -> Result<Option<(Ident, Bytes, Bytes)>, AllocError>
+    ensures { IfOk result (λ words. words ≡ ident_and_two name.now first.now second.now) }
+{
+    let Some(name) = parse_ident(alloc, name)? else {
+        return Ok(None);
+    };
+    let Some(first) = parse_bytes(alloc, first)? else {
+        return Ok(None);
+    };
+    let Some(second) = parse_bytes(alloc, second)? else {
+        return Ok(None);
+    };
+    Ok(Some((name, first, second)))
 }
 
 fn parse_ident(alloc: Global, word: &[u8]) -> Result<Option<Ident>, AllocError>
@@ -185,9 +188,8 @@ fn parse_bytes(alloc: Global, word: &[u8]) -> Result<Option<Bytes>, AllocError>
     if word == b"-".as_slice() {
         return Ok(Some(Bytes::new(Vec::new(alloc))?));
     }
-    match hex::decode(alloc, word) {
-        Ok(bytes) => Ok(Some(Bytes::new(bytes)?)),
-        Err(FromHexError::OutOfMemory) => Err(AllocError),
-        Err(_) => Ok(None),
+    match decode(alloc, word)? {
+        Some(bytes) => Ok(Some(Bytes::new(bytes)?)),
+        None => Ok(None),
     }
 }

@@ -1,4 +1,5 @@
-ghost use Rattle.std.specs.Prelude.{◌≡◌, ◌+◌, ◌≤◌, ◌++◌, ◌∷◌, ℕ, [], codes, length, vec_capacity, IsOk, IfOk, OnOk};
+ghost use Rattle.std.specs.Prelude.{◌≡◌, ◌+◌, ◌≤◌, ◌++◌, ◌∷◌, ℕ, [], codes, length, vec_capacity};
+ghost use Rattle.std.specs.Prelude.{IsOk, IfOk, OnOk};
 ghost use Rattle.std.specs.Fmt.{decimal};
 ghost use Rattle.std.specs.String.{string_bytes};
 ghost use Rattle.vl_script.specs.Script.{bytes_text, counter_text, text_of};
@@ -15,7 +16,8 @@ pub const NUMBER_ROOM: usize = 24;
 /// have been appended. An answer with a number wants none where the text has `NUMBER_ROOM` left.
 pub fn print_answer(alloc: Global, text: &mut Vec<u8>, answer: &Answer) -> Result<(), AllocError>
     ensures text { OnOk result (text.new.items ≡ text.old.items ++ text_of answer.now) }
-    ensures room { (number : ℕ) → answer.now ≡ Number number → length text.old.items + NUMBER_ROOM ≤ vec_capacity text.old → IsOk result }
+    ensures room { (number : ℕ) → answer.now ≡ Number number
+        → length text.old.items + NUMBER_ROOM ≤ vec_capacity text.old → IsOk result }
 {
     match answer {
         Answer::Done => print_line(text, b"ok", b""),

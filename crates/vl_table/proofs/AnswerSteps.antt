@@ -6,7 +6,7 @@ use Rattle.vl_disk.specs.Faults.{HasCause}
 use Rattle.vl_disk.specs.declared.name.Name.TheVariants.{Table as table_name}
 use Rattle.vl_table.specs.declared.fault.TableFault.{TableFault}
 use Rattle.vl_table.specs.declared.fault.TableFault.TheVariants.{NoMemory, Disk, Damaged}
-use Rattle.vl_table.specs.Answers.{Failed, IsNamed, IsAnswer, Answers}
+use Rattle.vl_table.specs.Answers.{Failed, IsNamed, IsAnswer, NeedsNoMemory, Answers}
 
 -- ---- one stage behind another
 
@@ -100,3 +100,15 @@ pub no_memory : {T : Type 0} (now number : ℕ) (told : Option (List ℕ)) (good
 no_memory {T = T} now number told good bad e is =
     subst (λ (why : TableFault). Answers {T = T} now now number told good bad (Err why)) (sym is)
     (record { cause = no_failure now; named = tt; answer = λ bytes told_is. tt })
+
+-- ---- no memory
+
+handed_need : (S T : Type 0) (e : TableFault) → NeedsNoMemory {T = S} (Err e) → NeedsNoMemory {T = T} (Err e)
+handed_need S T NoMemory need = absurd need
+handed_need S T (Disk name) need = tt
+handed_need S T (Damaged name place) need = tt
+
+-- a fault that is handed on is no want of memory either
+pub none_needed : (S : Type 0) {T : Type 0} (e f : TableFault) (r : Result T TableFault) → r ≡ Err f → f ≡ e → NeedsNoMemory {T = S} (Err e) → NeedsNoMemory r
+none_needed S {T} e f r is same need =
+    subst (NeedsNoMemory {T = T}) (sym is) (subst (λ (why : TableFault). NeedsNoMemory {T = T} (Err why)) (sym same) (handed_need S T e need))

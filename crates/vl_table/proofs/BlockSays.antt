@@ -21,7 +21,7 @@ use Rattle.vl_block.specs.laws.EntryLaws.{entry-parts}
 use Rattle.vl_block.specs.declared.index.BlockPlace.{BlockPlace}
 use Rattle.vl_frame.specs.Frame.{check_of, frame_bytes}
 use Rattle.vl_frame.specs.declared.kinds.FrameKind.TheVariants as kinds
-use Rattle.vl_table.specs.Buffers.{StandsBlock}
+use Rattle.vl_table.specs.Kept.{StandsBlock}
 use Rattle.vl_table.specs.BlockEntries.{behind_key, block_entries, body_entries, body_in, entries_in, entry_in, pointer_in, short_in, value_in}
 
 -- ---- what the bytes say
@@ -57,7 +57,7 @@ body_in-says format (Logged value pointer) x fits = absurd fits
 key-fits : (n : ℕ) → is_key_length n ≡ true → n < 65536
 key-fits n lawful = grind (arith, nat_tests)
 
-entry_in-says : (format : ℕ) (e : Entry) (x : List ℕ) → IsEntry format e → entry_in format (entry_bytes format e ++ x) ≡ e
+pub entry_in-says : (format : ℕ) (e : Entry) (x : List ℕ) → IsEntry format e → entry_in format (entry_bytes format e ++ x) ≡ e
 unfolding entry_in behind_key
 entry_in-says format e x lawful =
     let rest : List ℕ = big_bytes 8 e.version ++ (body_bytes format e.body ++ x) in
@@ -95,7 +95,7 @@ body_entries-says format body x es says =
     ap (λ (n : ℕ). entries_in format n (drop 4 (body ++ x))) count ∙ ap (λ (l : List ℕ). entries_in format (length es) (drop 4 l)) parts ∙ entries_in-says format es x says.lawful.each
 
 -- a frame comes apart
-framed : (number place : ℕ) (body rest : List ℕ) → frame_bytes number place kinds.Block body ++ rest
+pub framed : (number place : ℕ) (body rest : List ℕ) → frame_bytes number place kinds.Block body ++ rest
     ≡ 3 ∷ big_bytes 4 (length body) ++ ((body ++ check_of number place kinds.Block body) ++ rest)
 unfolding frame_bytes
 framed number place body rest = refl

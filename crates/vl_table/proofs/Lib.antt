@@ -1,17 +1,22 @@
 mod AnswerSteps
 mod BlockSays
-mod BlockSteps
-mod BufferSteps
-mod CursorSteps
+mod EntrySteps
 mod Headers
+mod KeptSteps
 mod Lookups
 mod MeetSteps
+mod CursorLaws
+mod CursorSteps
+mod OpenSteps
 mod OpeningSteps
 mod PartFaults
 mod Parts
-mod ScanSteps
+mod ReadSteps
 mod SeekSteps
+mod SpanParts
 mod Stages
+mod StretchSteps
 mod TrueTables
-mod WayEntries
 pub mod Results
+mod WholeSpans
+mod WholeTables

@@ -5,19 +5,19 @@ use Rattle.std.proofs.lemmas.List.{drop_more}
 use Rattle.vl_block.specs.declared.index.BlockPlace.{BlockPlace}
 use Rattle.vl_model.specs.declared.entry.Entry.{Entry}
 use Rattle.vl_run.specs.Lookups.{is_ahead, first_failing}
-use Rattle.vl_table.specs.Buffers.{StandsBlock}
-use Rattle.vl_table.specs.declared.table.Table.{Table}
+use Rattle.vl_block.specs.declared.shape.TableShape.{TableShape}
+use Rattle.vl_table.specs.Kept.{StandsBlock}
 use Rattle.vl_table.specs.Meets.{MeetsFirst, Meets, passed_over, Rises, Looks}
 
 -- ---- block by block
 
 -- what is met from a position on is met from the first one on
-abbrev pub MetSoFar : {H : Type 0} → Table H → List ℕ → ℕ → List ℕ → (at : ℕ) → Type 0
+abbrev pub MetSoFar : TableShape → List ℕ → ℕ → List ℕ → (at : ℕ) → Type 0
 MetSoFar t key version bytes at = Rises key t.blocks.items → (first : Option Entry)
     → Meets t.format t.number bytes key version (drop at t.blocks.items) first
     → Meets t.format t.number bytes key version (drop (passed_over key t.blocks.items) t.blocks.items) first
 
-module _ {H : Type 0} (t : Table H) (key : List ℕ) (version : ℕ) (bytes : List ℕ) where
+module _ (t : TableShape) (key : List ℕ) (version : ℕ) (bytes : List ℕ) where
   pub met_at_first : (at : ℕ) → (Rises key t.blocks.items → at ≡ passed_over key t.blocks.items) → MetSoFar t key version bytes at
   met_at_first at is rises first meets =
       subst (λ (n : ℕ). Meets t.format t.number bytes key version (drop n t.blocks.items) first) (is rises) meets

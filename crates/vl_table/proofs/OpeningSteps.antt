@@ -30,10 +30,10 @@ module _ (format number : ℕ) (bytes : List ℕ) where
 
   -- all stages went well
   pub is_read : (place : ℕ) (parts : Parts) → IsBegun format number bytes → IsPlace bytes place → HasParts format number place bytes parts
-      → IsRead number bytes (record { format = format; foot = foot_of parts.footer; places = parts.blocks.items; bits = parts.filter.items })
+      → IsRead number bytes (record { format = format; foot = foot_of parts.footer; place = place; places = parts.blocks.items; bits = parts.filter.items })
   is_read place parts begun at has =
       let footer = has_footer place (foot_of parts.footer) begun at has.footer in
-      record { begun = begun; inside = footer.inside; footer = footer.footer; index = has.rest.index; filter = has.rest.filter }
+      record { begun = begun; inside = footer.inside; footer = footer.footer; index = has.rest.index; filter = has.rest.filter; place = at.0 }
 
 -- the last stage, behind the others
 pub opened : {T : Type 0} (format number : ℕ) (told : Option (List ℕ)) (a b c d place : ℕ) (good : List ℕ → T → Type 0) (r : Result T TableFault)

@@ -23,13 +23,14 @@ use Rattle.vl_block.specs.laws.ListLaws.{one_list}
 use Rattle.vl_block.specs.declared.footer_head.FramePlace.{FramePlace}
 use Rattle.vl_block.specs.declared.index.BlockPlace.{BlockPlace}
 use Rattle.vl_table.specs.declared.table.Table.{Table}
+use Rattle.vl_block.specs.Shapes.{IsShapeOf}
+use Rattle.vl_block.specs.declared.shape.TableShape.{TableShape}
 use Rattle.vl_block.specs.Bytes.{IsTable, block_places, blocks_bytes, filter_bits, filter_place, filter_said, foot, footer_bytes, footer_place, index_bytes, index_place, table_bytes}
 use Rattle.vl_block.specs.laws.Lengths.{length-filter_frame, length-footer, length-index, length-table_bytes}
-use Rattle.vl_table.specs.Opening.{HasFooter, IsDamaged, IsRead, Said, StandsFilter, StandsFooter, StandsIndex, no_filter, no_footer, no_header, no_index, no_place}
+use Rattle.vl_table.specs.Opening.{HasFooter, IsDamaged, IsRead, Said, StandsFilter, StandsFooter, StandsIndex, no_filter, no_footer, no_header, no_index, no_place, said_by, said_of}
 use Rattle.vl_table.specs.Begun.{IsBegun, IsInside, said_place}
-use Rattle.vl_table.specs.TableSaid.{said_by}
 use Rattle.vl_table.specs.laws.TablePlaces.{behind_index, drop-end, drop-filter, drop-footer, drop-index}
-use Rattle.vl_table.specs.Opened.{OpensAs, said_of}
+use Rattle.vl_table.specs.Tables.{OpensAs, number_of, shape_of}
 use Rattle.vl_table.specs.declared.fault.TableFault.{TableFault}
 use Rattle.vl_table.specs.declared.fault.TableFault.TheVariants.{NoMemory, Disk, Damaged}
 use Rattle.vl_table.specs.Answers.{Answers}
@@ -64,7 +65,8 @@ one_read number bytes said other a b =
     let filter = subst (λ (h : Foot). StandsFilter number bytes h.head.filter other.bits) (sym feet) b.filter in
     let ps = one_index number bytes said.foot.head.index_place said.foot.head.index_length said.places other.places a.index index in
     let bits = one_bits number bytes said.foot.head.filter said.bits other.bits a.filter filter in
-    λ k. record { format = formats k; foot = feet k; places = ps k; bits = bits k }
+    let place = a.place ∙ sym b.place in
+    λ k. record { format = formats k; foot = feet k; place = place k; places = ps k; bits = bits k }
 
 same_foot : (number : ℕ) (bytes : List ℕ) (said : Said) (format : ℕ) (f : Foot) → IsRead number bytes said → HasFooter number bytes format f → said.foot ≡ f
 same_foot number bytes said format f a b =
@@ -161,22 +163,35 @@ reads_table format number es first readable is =
         says = record { lawful = is.index; spelled = refl };
       };
       filter = stands_filter format number es is;
+      place = sym says;
+    }
+
+-- so it is opened as the shape that it has
+pub shape_is : (number : ℕ) (format : ℕ) (es : List Entry) (s : TableShape) → IsTable format number es → s.number ≡ number → said_by s ≡ said_of format es
+    → IsShapeOf number es s
+shape_is number format es s is numbered one =
+    let formats : s.format ≡ format = ap (λ (said : Said). said.format) one in
+    record {
+      numbered = numbered;
+      table = subst (λ (n : ℕ). IsTable n number es) (sym formats) is;
+      foot = ap (λ (said : Said). said.foot) one ∙ ap (λ (n : ℕ). foot n es (blocks n es)) (sym formats);
+      place = ap (λ (said : Said). said.place) one ∙ ap (λ (n : ℕ). footer_place n es (blocks n es)) (sym formats);
+      blocks = ap (λ (said : Said). said.places) one ∙ ap (λ (n : ℕ). block_places n 16 (blocks n es)) (sym formats);
+      filter = ap (λ (said : Said). said.bits) one ∙ ap (λ (n : ℕ). filter_bits n es) (sym formats);
     }
 
 pub opens_as : {H : Type 0} (bytes_of : H → Option (List ℕ)) (before now number : ℕ) (held : H) (format : ℕ) (es : List Entry) (r : Result (Table H) TableFault)
-    → Answers before now number (bytes_of held) (λ bytes (t : Table H). IsRead number bytes (said_by t)) (IsDamaged number) r
-    → IfOk r (λ (t : Table H). t.number ≡ number) → IfOk r (λ (t : Table H). t.held ≡ held) → 1 ≤ format → format ≤ table_format
+    → Answers before now number (bytes_of held) (λ bytes (t : Table H). IsRead number bytes (said_by (shape_of t))) (IsDamaged number) r
+    → IfOk r (λ (t : Table H). number_of t ≡ number) → IfOk r (λ (t : Table H). t.held ≡ held) → 1 ≤ format → format ≤ table_format
     → IsTable format number es → bytes_of held ≡ Some (table_bytes format number es) → OpensAs bytes_of es r
 opens_as bytes_of before now number held format es (Ok t) answers numbered same first readable is told =
     let read = answers.answer (table_bytes format number es) told in
-    let one = one_read number (table_bytes format number es) (said_by t) (said_of format es) read (reads_table format number es first readable is) in
-    let formats : t.format ≡ format = ap (λ (s : Said). s.format) one in
+    let one = one_read number (table_bytes format number es) (said_by (shape_of t)) (said_of format es) read (reads_table format number es first readable is) in
+    let formats : (shape_of t).format ≡ format = ap (λ (s : Said). s.format) one in
     record {
-      table = subst (λ (n : ℕ). IsTable t.format n es) (sym numbered) (subst (λ (n : ℕ). IsTable n number es) (sym formats) is);
-      told = ap bytes_of same ∙ told ∙ ap (λ (n : ℕ). Some (table_bytes format n es)) (sym numbered) ∙ ap (λ (n : ℕ). Some (table_bytes n t.number es)) (sym formats);
-      says = ap (λ (s : Said). s.foot) one ∙ ap (λ (n : ℕ). foot n es (blocks n es)) (sym formats);
-      blocks = ap (λ (s : Said). s.places) one ∙ ap (λ (n : ℕ). block_places n 16 (blocks n es)) (sym formats);
-      filter = ap (λ (s : Said). s.bits) one ∙ ap (λ (n : ℕ). filter_bits n es) (sym formats);
+      shape = subst (λ (n : ℕ). IsShapeOf n es (shape_of t)) (sym numbered) (shape_is number format es (shape_of t) is numbered one);
+      told = ap bytes_of same ∙ told ∙ ap (λ (n : ℕ). Some (table_bytes format n es)) (sym numbered)
+          ∙ ap (λ (n : ℕ). Some (table_bytes n (number_of t) es)) (sym formats);
     }
 opens_as bytes_of before now number held format es (Err NoMemory) answers numbered same first readable is told = tt
 opens_as bytes_of before now number held format es (Err (Disk name)) answers numbered same first readable is told = tt

@@ -27,6 +27,13 @@ IsAnswer good bad (Err NoMemory) = Unit {0}
 IsAnswer good bad (Err (Disk name)) = Unit {0}
 IsAnswer good bad (Err (Damaged name place)) = bad place
 
+-- the answer is never want of memory
+abbrev pub NeedsNoMemory : {T : Type 0} → Result T TableFault → Type 0
+NeedsNoMemory (Ok x) = Unit {0}
+NeedsNoMemory (Err NoMemory) = ⊥
+NeedsNoMemory (Err (Disk name)) = Unit {0}
+NeedsNoMemory (Err (Damaged name place)) = Unit {0}
+
 -- Of the table with this number and these bytes, where they are told, this is answered: what is good of the bytes, or a
 -- place at which it is bad; and reading failed only where that was counted.
 pub record Answers {T : Type 0} (before now number : ℕ) (told : Option (List ℕ))

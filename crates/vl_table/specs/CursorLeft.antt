@@ -1,44 +1,76 @@
--- What a cursor over a table has still to give.
-use Rattle.std.specs.Prelude.{ℕ, ◌+◌, ◌≡◌, Bool, true, false, List, ◌++◌, length, drop, reverse, Option}
-use Rattle.std.specs.List.{sum_by}
-use Rattle.std.specs.Option.{ForSome, option_map}
+-- What a cursor over tables has still to give.
+use Rattle.std.specs.Prelude.{◌≡◌, ◌+◌, ◌*◌, ◌-◌, ℕ, if◌then◌else◌, true, Option, None, List, [], ◌∷◌, ◌++◌}
+use Rattle.std.specs.List.{slice_get}
+use Rattle.std.specs.Option.{option_map}
 use Rattle.vl_model.specs.declared.entry.Entry.{Entry}
-use Rattle.vl_block.specs.declared.index.BlockPlace.{BlockPlace}
-use Rattle.vl_table.specs.declared.fault.TableFault.{TableFault}
-use Rattle.vl_table.specs.declared.fault.TableFault.TheVariants.{NoMemory, Disk, Damaged}
-use Rattle.vl_table.specs.BlocksRead.{blocks_entries, on_way}
-use Rattle.vl_table.specs.Seeks.{IsBadBlock}
+use Rattle.vl_run.specs.Order.{within}
+use Rattle.vl_table.specs.CursorParts.{AllStand, Block, StandsWith, block_count, blocks_at, blocks_over, entries_told, rise_over}
+use Rattle.vl_table.specs.Stretches.{on_way, stretch_of}
 use Rattle.vl_table.specs.declared.cursor.TableCursor.{TableCursor}
 use Rattle.vl_table.specs.declared.table.Table.{Table}
-use Rattle.vl_disk.specs.declared.name.Name.TheVariants.{Table as table_name}
 
--- the blocks that it hasn't read, as it goes
-abbrev pub unread : {H R : Type 0} → TableCursor H R → List BlockPlace
-unread c = drop c.read (on_way c.way c.table.now.blocks.items)
+module _ {H R : Type 0} where
+  -- the entries of the block that it has read, which it hasn't looked at
+  abbrev pub in_block : TableCursor H R → List Entry
+  in_block c = within c.span (on_way c.way (stretch_of c.entries c.block))
 
--- The entries that it took in and hasn't given, and those of the blocks that it hasn't read, where the table's bytes are told.
-abbrev pub cursor_left : {H R : Type 0} → (H → Option (List ℕ)) → TableCursor H R → Option (List Entry)
-cursor_left bytes_of c =
-    option_map (λ bytes. reverse c.entries.items ++ blocks_entries c.table.now.format c.way bytes (unread c)) (bytes_of c.table.now.held)
+  -- the tables that it hasn't begun
+  abbrev pub not_begun : TableCursor H R → List (Table H)
+  not_begun c = on_way c.way (stretch_of c.later c.tables.items)
 
--- the bytes of the blocks at these places; a block has fewer entries than bytes
-abbrev pub blocks_budget : List BlockPlace → ℕ
-blocks_budget ps = sum_by (λ (p : BlockPlace). p.length) ps
+  -- the blocks that it hasn't read, as it goes
+  abbrev pub unread : TableCursor H R → List (Block H)
+  unread c = blocks_at c.way (slice_get c.tables.items c.table) c.blocks ++ blocks_over c.span c.way (not_begun c)
 
--- the most entries that a cursor still gives
-abbrev pub cursor_budget : {H R : Type 0} → TableCursor H R → ℕ
-cursor_budget c = length c.entries.items + blocks_budget (unread c)
+  -- The entries within its interval of the block that it has read and of those that it hasn't, as it goes: where the tables'
+  -- bytes are told, and their indexes rise.
+  abbrev pub cursor_left : (H → Option (List ℕ)) → TableCursor H R → Option (List Entry)
+  cursor_left bytes_of c =
+      if rise_over c.span c.tables.items
+      then option_map (λ later. in_block c ++ later) (entries_told bytes_of c.span c.way (unread c))
+      else None
 
--- whether reading failed
-abbrev pub is_disk_fault : TableFault → Bool
-is_disk_fault NoMemory = false
-is_disk_fault (Disk name) = true
-is_disk_fault (Damaged name place) = false
+  -- at most so many blocks will still be read
+  abbrev pub blocks_left : TableCursor H R → ℕ
+  blocks_left c = (c.blocks.end - c.blocks.first) + block_count (not_begun c)
 
--- What a fault of a cursor over a table may be: want of memory, or one that names the table; and where it says that the table is
--- damaged, a block that the index names doesn't stand there.
-abbrev pub MayFailOn : {H : Type 0} → (H → Option (List ℕ)) → Table H → TableFault → Type 0
-MayFailOn bytes_of t NoMemory = Unit {0}
-MayFailOn bytes_of t (Disk name) = name ≡ table_name t.number
-MayFailOn bytes_of t (Damaged name place) =
-    (name ≡ table_name t.number) × ForSome (bytes_of t.held) (λ bytes. IsBadBlock t bytes place)
+  -- and so many entries still be given
+  abbrev pub cursor_budget : TableCursor H R → ℕ
+  cursor_budget c = (c.entries.end - c.entries.first) + 347 * blocks_left c
+
+  -- it goes over the same tables
+  pub record GoesOn (c d : TableCursor H R) : Type 0 where
+    pub tables : d.tables ≡ c.tables
+    pub span : d.span ≡ c.span
+    pub way : d.way ≡ c.way
+
+  -- and is at the same block of them
+  pub record StaysIn (c d : TableCursor H R) : Type 0 where
+    pub goes : GoesOn c d
+    pub later : d.later ≡ c.later
+    pub table : d.table ≡ c.table
+    pub blocks : d.blocks ≡ c.blocks
+
+  -- It read the next block, which stood, and is to look at its entries.
+  pub record ReadsNext (bytes_of : H → Option (List ℕ)) (c d : TableCursor H R) : Type 0 where
+    pub block : Block H
+    pub passed : rise_over c.span c.tables.items ≡ true → unread c ≡ block ∷ unread d
+    pub entries : List Entry
+    pub stood : StandsWith bytes_of block entries
+    pub taken : in_block d ≡ within c.span (on_way c.way entries)
+
+  -- it has the same blocks still to read, and none of the entries of one that it has read
+  pub record HasNotRead (c d : TableCursor H R) : Type 0 where
+    pub same : rise_over c.span c.tables.items ≡ true → unread d ≡ unread c
+    pub none : in_block d ≡ []
+
+  -- no block is left, nor entries of one
+  pub record EndsAt (c d : TableCursor H R) : Type 0 where
+    pub same : rise_over c.span c.tables.items ≡ true → unread d ≡ []
+    pub none : in_block d ≡ []
+
+  -- Between the two it read blocks of which each stood, where the indexes rise.
+  pub record HasRead (bytes_of : H → Option (List ℕ)) (c d : TableCursor H R) : Type 0 where
+    pub read : List (Block H)
+    pub passed : rise_over c.span c.tables.items ≡ true → unread c ≡ read ++ unread d
+    pub stood : AllStand bytes_of read

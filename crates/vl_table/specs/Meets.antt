@@ -1,12 +1,16 @@
 -- What a look-up meets in a table's blocks, also where the table isn't true: so no answer hides a block that doesn't stand.
 use Rattle.std.specs.Prelude.{◌≡◌, ℕ, List, [], ◌∷◌, drop, Option, Some, None, Result, Ok, Err}
 use Rattle.std.specs.List.{prefix_len}
-use Rattle.std.specs.Option.{ForSome}
+use Rattle.std.specs.Option.{ForSome, option_map}
 use Rattle.vl_block.specs.declared.index.BlockPlace.{BlockPlace}
 use Rattle.vl_model.specs.declared.entry.Entry.{Entry}
 use Rattle.vl_table.specs.declared.fault.TableFault.{TableFault}
 use Rattle.vl_run.specs.Lookups.{is_ahead, is_below, IsParted, first_failing}
-use Rattle.vl_table.specs.Buffers.{StandsBlock}
+use Rattle.vl_block.specs.Founds.{found_of}
+use Rattle.vl_block.specs.declared.found.Found.{Found}
+use Rattle.vl_block.specs.declared.shape.TableShape.{TableShape}
+use Rattle.vl_table.specs.Kept.{StandsBlock}
+use Rattle.vl_table.specs.Tables.{shape_of}
 use Rattle.vl_table.specs.declared.table.Table.{Table}
 
 -- what is found is a block's first entry at or behind the place, and where the block has none, what is met behind it
@@ -30,15 +34,15 @@ abbrev pub Rises : List ℕ → List BlockPlace → Type 0
 Rises key ps = IsParted (λ (p : BlockPlace). is_below key p.last) ps
 
 -- Where the index rises, this is what a look-up makes of the entry that it meets in the blocks that it doesn't pass over.
-pub record Looks {H : Type 0} (makes : Option Entry → Option Entry) (t : Table H) (key : List ℕ) (version : ℕ)
+pub record Looks (makes : Option Entry → Option Entry) (s : TableShape) (key : List ℕ) (version : ℕ)
     (bytes : List ℕ) (found : Option Entry) : Type 0 where
-  pub met : Rises key t.blocks.items
+  pub met : Rises key s.blocks.items
       → (first : Option Entry)
-      × Meets t.format t.number bytes key version (drop (passed_over key t.blocks.items) t.blocks.items) first
+      × Meets s.format s.number bytes key version (drop (passed_over key s.blocks.items) s.blocks.items) first
       × (found ≡ makes first)
 
 -- an answer is so, of a table that tells its bytes
 abbrev pub LooksIn : {H : Type 0} → (H → Option (List ℕ)) → (makes : Option Entry → Option Entry) → Table H → List ℕ → ℕ
-    → Result (Option Entry) TableFault → Type 0
-LooksIn bytes_of makes t key version (Ok found) = ForSome (bytes_of t.held) (λ bytes. Looks makes t key version bytes found)
+    → Result (Option Found) TableFault → Type 0
+LooksIn bytes_of makes t key version (Ok found) = ForSome (bytes_of t.held) (λ bytes. Looks makes (shape_of t) key version bytes (option_map (found_of key) found))
 LooksIn bytes_of makes t key version (Err e) = Unit {0}

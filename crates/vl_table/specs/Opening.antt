@@ -4,10 +4,14 @@ use Rattle.vl_filter.specs.Filters.{SpellsFilter}
 use Rattle.vl_frame.specs.Frame.{IsSpelled}
 use Rattle.vl_frame.specs.declared.kinds.FileKind.TheVariants as files
 use Rattle.vl_frame.specs.declared.kinds.FrameKind.TheVariants as kinds
-use Rattle.vl_block.specs.Footer.{Foot, SpellsFooter}
+use Rattle.vl_model.specs.declared.entry.Entry.{Entry}
+use Rattle.vl_block.specs.Bytes.{block_places, filter_bits, foot, footer_place}
+use Rattle.vl_block.specs.Cutting.{blocks}
+use Rattle.vl_block.specs.Footer.{Foot, SpellsFooter, foot_of}
 use Rattle.vl_block.specs.Index.{SpellsIndex}
 use Rattle.vl_block.specs.declared.footer_head.FramePlace.{FramePlace}
 use Rattle.vl_block.specs.declared.index.BlockPlace.{BlockPlace}
+use Rattle.vl_block.specs.declared.shape.TableShape.{TableShape}
 use Rattle.vl_table.specs.Begun.{FrameAt, IsBegun, IsInside, said_place}
 
 -- a footer stands at the front of the bytes, which are those of the table from a place on, and says this
@@ -37,12 +41,27 @@ abbrev pub StandsFilter : ℕ → List ℕ → Option FramePlace → List ℕ �
 StandsFilter number bytes None bits = bits ≡ []
 StandsFilter number bytes (Some p) bits = FilterAt number bytes p.place p.length bits
 
--- what a table says: its format, its footer, its blocks, and the bits of its filter
+-- what a table says: its format, its footer and where that stands, its blocks, and the bits of its filter
 pub record Said : Type 0 where
   pub format : ℕ
   pub foot : Foot
+  pub place : ℕ
   pub places : List BlockPlace
   pub bits : List ℕ
+
+-- what the table of this shape says
+abbrev pub said_by : TableShape → Said
+said_by s = record { format = s.format; foot = foot_of s.footer; place = s.footer_place; places = s.blocks.items; bits = s.filter.items }
+
+-- what the table with these entries says
+abbrev pub said_of : ℕ → List Entry → Said
+said_of format es = record {
+  format = format;
+  foot = foot format es (blocks format es);
+  place = footer_place format es (blocks format es);
+  places = block_places format 16 (blocks format es);
+  bits = filter_bits format es;
+}
 
 -- The table says this: its footer stands where the last eight bytes say, index and filter where the footer says.
 pub record IsRead (number : ℕ) (bytes : List ℕ) (said : Said) : Type 0 where
@@ -51,6 +70,7 @@ pub record IsRead (number : ℕ) (bytes : List ℕ) (said : Said) : Type 0 where
   pub footer : StandsFooter said.format number bytes (said_place bytes) said.foot
   pub index : StandsIndex number bytes said.foot.head.index_place said.foot.head.index_length said.places
   pub filter : StandsFilter number bytes said.foot.head.filter said.bits
+  pub place : said.place ≡ said_place bytes
 
 -- a footer and what comes before it stand
 pub record HasFooter (number : ℕ) (bytes : List ℕ) (format : ℕ) (f : Foot) : Type 0 where

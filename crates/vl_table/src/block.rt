@@ -1,38 +1,59 @@
-//! How a cursor reads one block.
+//! How a block is read and tested.
 
-ghost use Rattle.std.specs.Prelude.{◌≡◌, ◌≤◌, length, IfOk};
-ghost use Rattle.vl_table.specs.Answers.{Answers};
-ghost use Rattle.vl_table.specs.Buffers.{NoBlock};
-ghost use Rattle.vl_table.specs.BlockEntries.{block_entries};
+ghost use Rattle.std.specs.Prelude.{◌≡◌, ◌+◌, ◌≤◌, ℕ, IfOk, IsTrue, List, Some, drop, length, take};
+ghost use Rattle.std.specs.List.{AllByRecursion};
+ghost use Rattle.vl_model.specs.declared.entry.Entry.{Entry};
+ghost use Rattle.vl_table.specs.Answers.{Answers, NeedsNoMemory};
+ghost use Rattle.vl_table.specs.OpenBlocks.{Begins};
+ghost use Rattle.vl_table.specs.Kept.{HasFrame, IsMissing, StandsBlock};
 
-use crate::{BlockBuffer, TableFault};
-use std::alloc::Global;
-use vl_block::{BlockPlace, block_entries};
-use vl_disk::{HeldFile, Name, Reader};
-use vl_model::Entry;
+use crate::fault::{TableFault, damaged};
+use crate::part::{body_of, read_into};
+use crate::slot::{BlockId, MAX_FRAME_BYTES};
+use vl_block::{MAX_BLOCK_ENTRIES, find_starts};
+use vl_disk::{HeldFile, Reader};
+use vl_frame::FrameKind;
 
-// The entries of one block of the table with this number, each with a key and a value of its own.
-pub fn read_entries<H: HeldFile, R: Reader<Held = H>>(
-    alloc: Global,
+/// Reads the frame of a block to the front of one slice, and puts to the front of another where its entries begin. It says
+/// how many there are.
+pub fn read_block<H: HeldFile, R: Reader<Held = H>>(
     reader: &mut R,
     held: &H,
-    format: u32,
-    number: u32,
-    block: &BlockPlace,
-) -> Result<Vec<Entry>, TableFault>
-    ensures answers { Answers (R.faults reader.old) (R.faults reader.new) number (H.bytes held.now)
-        (λ bytes read. read.items ≡ block_entries format bytes block.now) (NoBlock format number block.now) result }
-    ensures few { IfOk result (λ read. length read.items ≤ block.now.length) }
+    id: BlockId,
+    frame: &mut [u8],
+    starts: &mut [u16],
+) -> Result<usize, TableFault>
+    requires frame { length frame.old ≡ MAX_FRAME_BYTES }
+    requires starts { length starts.old ≡ MAX_BLOCK_ENTRIES }
+    ensures answers { Answers (R.faults reader.old) (R.faults reader.new) id.number (H.bytes held.now)
+        (λ bytes count. (es : List Entry) × HasFrame id bytes (take id.length frame.new) (take count starts.new) es)
+        (IsMissing id) result }
+    ensures within { IfOk result (λ count. count ≤ MAX_BLOCK_ENTRIES) }
+
+    // Entries begin there also in a file that doesn't tell its bytes.
+    ensures begin { IfOk result (λ count. AllByRecursion (Begins id.format (drop 9 frame.new)) (take count starts.new)) }
+    ensures no_memory { NeedsNoMemory result }
 {
-    let mut buffer = BlockBuffer::new(alloc);
-    buffer.load(reader, held, format, number, block)?;
-    let entries = block_entries(alloc, format, buffer.body())?;
-    // A block has fewer entries than bytes. So a file that doesn't tell its bytes ends too.
-    if entries.len() > block.length as usize {
-        return Err(TableFault::Damaged {
-            name: Name::Table(number),
-            place: block.place,
-        });
+    if !lies_inside(held, &id) {
+        return Err(damaged(id.number, id.place));
     }
-    Ok(entries)
+    let size = id.length as usize;
+    let kind = FrameKind::Block;
+    read_into(reader, held, id.number, id.place, kind, &mut frame[..size])?;
+    match find_starts(id.format, body_of(&frame[..size]), starts) {
+        None => Err(damaged(id.number, id.place)),
+        Some(count) => Ok(count),
+    }
+}
+
+// Whether a block's frame has a length that is read, and lies inside the file.
+fn lies_inside<H: HeldFile>(held: &H, id: &BlockId) -> bool
+    ensures short { IsTrue result → id.now.length ≤ MAX_FRAME_BYTES }
+    ensures inside { IsTrue result → id.now.place + id.now.length ≤ H.size held.now }
+    ensures whole { (bytes : List ℕ) (es : List Entry) → H.bytes held.now ≡ Some bytes
+        → StandsBlock id.now.format id.now.number bytes id.now.place id.now.length es → IsTrue result }
+{
+    id.length as usize <= MAX_FRAME_BYTES
+        && id.place <= held.len()
+        && id.length as u64 <= held.len() - id.place
 }

@@ -1,122 +1,229 @@
-ghost use Rattle.std.specs.Prelude.{◌≡◌, ◌≤◌, ◌<◌, ◌+◌, [], List, Some, length, IfOk, IfErr, OnOk, OnErr, MatchResult};
-ghost use Rattle.vl_model.specs.Cursors.{Gives, Keeps, Spends, IsCounted};
-ghost use Rattle.vl_model.specs.declared.entry.Entry.{Entry};
-ghost use Rattle.vl_table.specs.declared.fault.TableFault.{TableFault};
-ghost use Rattle.vl_run.specs.Order.{along};
-ghost use Rattle.vl_table.specs.Answers.{Answers};
-ghost use Rattle.vl_table.specs.Opened.{IsOf};
-ghost use Rattle.vl_table.specs.Seeks.{IsBadBlock};
-ghost use Rattle.vl_table.specs.CursorLeft.{MayFailOn, blocks_budget, cursor_budget, cursor_left, is_disk_fault};
+//! The entries of tables, one after the other.
 
-use crate::block::read_entries;
-use crate::ways::{place_on, to_be_given};
-use crate::{Table, TableFault};
-use std::alloc::Global;
+ghost use Rattle.std.specs.Prelude.{◌≤◌, length};
+ghost use Rattle.std.specs.List.{slice_get};
+ghost use Rattle.vl_table.specs.CursorParts.{index_in};
+
+use crate::block_reader::BlockReader;
+use crate::fault::TableFault;
+use crate::open_block::OpenBlock;
+use crate::slot::BlockId;
+use crate::span_blocks::{blocks_of, is_in_span};
+use crate::stretch::Stretch;
+use crate::table::Table;
+use std::alloc::{AllocError, Global};
 use std::marker::PhantomData;
 use vl_disk::{HeldFile, Reader};
-use vl_model::{Cursor, Entry, Way};
+use vl_model::{Cursor, Entry, Span, Way};
 
-/// The entries of a table, one after the other. It lends the table, and is read with any reader of its files.
+/// The entries of tables whose keys are in an interval, one after the other. It shares the tables, and is read with any
+/// reader of their files; between two calls it may be kept. It reads each block that may have such keys once, and again only
+/// after a fault, into memory of its own.
 #[derive(Drop)]
-pub struct TableCursor<'a, H, R> {
-    table: &'a Table<H>,
+pub struct TableCursor<H, R> {
+    alloc: Global,
+    tables: Vec<Table<H>>,
+    span: Span,
     way: Way,
+    // The tables that it hasn't begun, the one that it is in, the blocks of this one that it hasn't read, and the entries of
+    // the block that it has read which it hasn't looked at.
+    later: Stretch,
+    table: usize,
+    blocks: Stretch,
+    entries: Stretch,
+    block: OpenBlock,
     read_with: PhantomData<R>,
-    // How many blocks were read, as the way goes.
-    read: usize,
-    // Of the last of them the entries that aren't given, the next one at the end.
-    entries: Vec<Entry>,
+    ghost known: { later.end ≤ length tables.items },
+    ghost named: { blocks.end ≤ length (index_in (slice_get tables.items table)) },
+    ghost inside: { entries.end ≤ length block },
+    ghost few: { length block ≤ 347 },
 }
 
-impl<'a, H: HeldFile, R: Reader<Held = H> + Drop> Cursor for TableCursor<'a, H, R> {
+impl<H: HeldFile, R: Reader<Held = H> + Drop> Cursor for TableCursor<H, R> {
+    ghost use Rattle.std.specs.Prelude.{◌≡◌, ◌≤◌, IfErr, IfOk, MatchResult, OnErr, OnOk};
+    ghost use Rattle.vl_model.specs.Cursors.{Gives, IsCounted, Keeps, Spends};
+    ghost use Rattle.vl_table.specs.CursorLeft.{GoesOn, HasRead, cursor_budget, cursor_left};
+    ghost use Rattle.vl_table.specs.CursorParts.{MayFailOn, is_disk_fault};
+    ghost use Rattle.vl_table.specs.declared.fault.TableFault.{TableFault};
+
     type Fault = TableFault;
 
-    type Reader = R;
+    type Reader = BlockReader<R>;
 
     ghost left = { λ c. cursor_left H.bytes c };
 
     ghost budget = { λ c. cursor_budget c };
 
-    ghost faults = { λ r. R.faults r };
+    ghost faults = { λ b. R.faults b.reader };
 
     ghost is_read_fault = { λ fault. is_disk_fault fault };
 
-    ghost may_fail = { λ c fault. MayFailOn H.bytes c.table.now fault };
+    ghost may_fail = { λ c fault. MayFailOn H.bytes c.tables.items fault };
 
-    fn next(&mut self, reader: &mut R) -> Result<Option<Entry>, TableFault>
+    fn next(&mut self, reader: &mut BlockReader<R>) -> Result<Option<Entry>, TableFault>
         // What each cursor promises.
         ensures given { IfOk result (λ next. Gives (cursor_left H.bytes self.old) (cursor_left H.bytes self.new) next) }
         ensures kept { OnErr result (Keeps (cursor_left H.bytes self.old) (cursor_left H.bytes self.new)) }
         ensures spends { MatchResult result (Spends (cursor_budget self.old) (cursor_budget self.new))
             (λ _. cursor_budget self.new ≤ cursor_budget self.old) }
-        ensures cause { MatchResult result (λ _. R.faults reader.new ≡ R.faults reader.old)
-            (λ fault. IsCounted (is_disk_fault fault) (R.faults reader.old) (R.faults reader.new)) }
-        ensures may_fail { IfErr result (λ fault. MayFailOn H.bytes self.old.table.now fault) }
-        ensures keeps { (fault : TableFault) → MayFailOn H.bytes self.new.table.now fault
-            → MayFailOn H.bytes self.old.table.now fault }
+        ensures cause { MatchResult result (λ _. R.faults reader.new.reader ≡ R.faults reader.old.reader)
+            (λ fault. IsCounted (is_disk_fault fault) (R.faults reader.old.reader) (R.faults reader.new.reader)) }
+        ensures may_fail { IfErr result (λ fault. MayFailOn H.bytes self.old.tables.items fault) }
+        ensures keeps { (fault : TableFault) → MayFailOn H.bytes self.new.tables.items fault
+            → MayFailOn H.bytes self.old.tables.items fault }
 
-        // What is wrong with the table where this one is damaged.
-        ensures answers { Answers (R.faults reader.old) (R.faults reader.new) self.old.table.now.number
-            (H.bytes self.old.table.now.held) (λ bytes next. Unit {0})
-            (λ bytes damage. IsBadBlock self.old.table.now bytes damage) result }
-        ensures table { self.new.table.now ≡ self.old.table.now }
+        // Each block that it read stood; after a fault the one that didn't is the next again.
+        ensures read { HasRead H.bytes self.old self.new }
+        ensures goes { GoesOn self.old self.new }
+
+        // The blocks that the reader keeps stay.
+        ensures front { reader.new.front ≡ reader.old.front }
+        ensures others { reader.new.others ≡ reader.old.others }
     {
         'steps: loop {
-            if let Some(entry) = self.entries.pop() {
+            if let Some(entry) = self.give()? {
                 return Ok(Some(entry));
             }
-            if self.read >= self.table.blocks().len() {
+            if !self.read(&mut reader.reader)? {
                 return Ok(None);
             }
-            self.read_block(reader)?;
         }
     }
 }
 
-impl<'a, H: HeldFile, R: Reader<Held = H> + Drop> TableCursor<'a, H, R> {
-    /// A cursor over all entries of a table. It reads nothing yet.
-    pub fn new(alloc: Global, table: &'a Table<H>, way: Way) -> Self
-        ensures left { (es : List Entry) → IsOf H.bytes table.now es
-            → ⟦<TableCursor<'a, H, R> as Cursor>⟧.left result ≡ Some (along way es) }
-        ensures budget { ⟦<TableCursor<'a, H, R> as Cursor>⟧.budget result ≡ blocks_budget table.now.blocks.items }
-        ensures may_fail { (fault : TableFault) → ⟦<TableCursor<'a, H, R> as Cursor>⟧.may_fail result fault
-            → MayFailOn H.bytes table.now fault }
+impl<H: HeldFile, R: Reader<Held = H> + Drop> TableCursor<H, R> {
+    ghost use Rattle.std.specs.Prelude.{◌≡◌, ◌≤◌, ◌<◌, ◌-◌, ◌∷◌, [], List, Some, true, IfErr, IfNone, IfOk, IfSome, IsFalse, IsTrue, MatchResult, OnErr, OnOk};
+    ghost use Rattle.vl_model.specs.Cursors.{IsCounted};
+    ghost use Rattle.vl_model.specs.declared.entry.Entry.{Entry};
+    ghost use Rattle.vl_run.specs.Order.{along, within};
+    ghost use Rattle.vl_block.specs.Cutting.{joined};
+    ghost use Rattle.vl_table.specs.CursorLeft.{EndsAt, GoesOn, HasNotRead, ReadsNext, StaysIn, blocks_left, cursor_budget, in_block, unread};
+    ghost use Rattle.vl_table.specs.CursorParts.{MayFailOn, is_disk_fault, rise_over};
+    ghost use Rattle.vl_table.specs.Stretches.{IsNextOn};
+    ghost use Rattle.vl_table.specs.OfTables.{AreOf};
+    ghost use Rattle.vl_table.specs.declared.fault.TableFault.{TableFault};
+
+    /// A cursor over the entries of these tables, as they stand in the list, whose keys are in an interval. It reads nothing
+    /// yet. All its memory but for what it gives is taken here.
+    pub fn new(
+        alloc: Global,
+        tables: Vec<Table<H>>,
+        span: Span,
+        way: Way,
+    ) -> Result<Self, AllocError>
+        ensures left { (ess : List (List Entry)) → AreOf H.bytes tables.items ess
+            → IfOk result (λ c. ⟦<TableCursor<H, R> as Cursor>⟧.left c ≡ Some (along way (within span (joined ess)))) }
+        ensures may_fail { IfOk result (λ c. (fault : TableFault)
+            → ⟦<TableCursor<H, R> as Cursor>⟧.may_fail c fault → MayFailOn H.bytes tables.items fault) }
     {
-        TableCursor {
-            table,
+        let none = Stretch { first: 0, end: 0 };
+        let end = tables.len();
+        Ok(TableCursor {
+            alloc,
+            tables,
+            span,
             way,
+            later: Stretch { first: 0, end },
+            table: 0,
+            blocks: none,
+            entries: none,
+            block: OpenBlock::new(alloc)?,
             read_with: PhantomData,
-            read: 0,
-            entries: Vec::new(alloc),
+        })
+    }
+
+    // The next entry of the block that was read, and None where none of it is left.
+    fn give(&mut self) -> Result<Option<Entry>, AllocError>
+        ensures given { IfOk result (λ next. IfSome next (λ e. in_block self.old ≡ e ∷ in_block self.new)) }
+        ensures none { IfOk result (λ next. IfNone next ((in_block self.old ≡ []) × (self.new.entries.end ≤ self.new.entries.first))) }
+        ensures kept { OnErr result (in_block self.new ≡ in_block self.old) }
+        ensures fewer { MatchResult result (λ next. IfSome next (λ e.
+            self.new.entries.end - self.new.entries.first < self.old.entries.end - self.old.entries.first))
+            (λ _. self.new.entries.end - self.new.entries.first ≤ self.old.entries.end - self.old.entries.first) }
+        ensures stays { StaysIn self.old self.new }
+    {
+        'skips: while let Some((at, rest)) = self.entries.next(self.way) {
+            let entry = self.block.get(at);
+            if is_in_span(&self.span, entry.key) {
+                let given = entry.to_entry(self.alloc)?;
+                self.entries = rest;
+                return Ok(Some(given));
+            }
+            self.entries = rest;
+        }
+        Ok(None)
+    }
+
+    // Reads the next block, and says whether there was one.
+    fn read(&mut self, reader: &mut R) -> Result<bool, TableFault>
+        requires { self.old.entries.end ≤ self.old.entries.first }
+        ensures there { IfOk result (λ more. IsTrue more → ReadsNext H.bytes self.old self.new) }
+        ensures none { IfOk result (λ more. IsFalse more
+            → (rise_over self.old.span self.old.tables.items ≡ true → unread self.old ≡ []) × EndsAt self.old self.new) }
+        ensures kept { OnErr result (HasNotRead self.old self.new) }
+        ensures budget { cursor_budget self.new ≤ cursor_budget self.old }
+        ensures fewer { IfOk result (λ more. IsTrue more → blocks_left self.new < blocks_left self.old) }
+        ensures cause { MatchResult result (λ _. R.faults reader.new ≡ R.faults reader.old)
+            (λ fault. IsCounted (is_disk_fault fault) (R.faults reader.old) (R.faults reader.new)) }
+        ensures may_fail { IfErr result (λ fault. MayFailOn H.bytes self.old.tables.items fault) }
+        ensures goes { GoesOn self.old self.new }
+    {
+        'tables: loop {
+            if let Some((at, rest)) = self.blocks.next(self.way) {
+                self.load(reader, at, rest)?;
+                return Ok(true);
+            }
+            if !self.enter() {
+                return Ok(false);
+            }
         }
     }
 
-    // Reads the next block and takes its entries in.
-    fn read_block(&mut self, reader: &mut R) -> Result<(), TableFault>
-        requires none { self.old.entries.items ≡ [] }
-        requires more { self.old.read < length self.old.table.now.blocks.items }
-        ensures kept { Keeps (cursor_left H.bytes self.old) (cursor_left H.bytes self.new) }
-        ensures spends { cursor_budget self.new ≤ cursor_budget self.old }
-        ensures moved { OnOk result (self.new.read ≡ self.old.read + 1) }
-        ensures answers { Answers (R.faults reader.old) (R.faults reader.new) self.old.table.now.number
-            (H.bytes self.old.table.now.held) (λ bytes done. Unit {0})
-            (λ bytes damage. IsBadBlock self.old.table.now bytes damage) result }
-        ensures table { self.new.table.now ≡ self.old.table.now }
+    // Reads the block at an index of the table that it is in, which is the next on its way, before these others.
+    fn load(&mut self, reader: &mut R, at: usize, rest: Stretch) -> Result<(), TableFault>
+        requires next { IsNextOn self.old.way self.old.blocks at rest }
+        requires none { self.old.entries.end ≤ self.old.entries.first }
+        ensures read { OnOk result (ReadsNext H.bytes self.old self.new) }
+        ensures kept { OnErr result (HasNotRead self.old self.new) }
+        ensures budget { cursor_budget self.new ≤ cursor_budget self.old }
+        ensures fewer { OnOk result (blocks_left self.new < blocks_left self.old) }
+        ensures cause { MatchResult result (λ _. R.faults reader.new ≡ R.faults reader.old)
+            (λ fault. IsCounted (is_disk_fault fault) (R.faults reader.old) (R.faults reader.new)) }
+        ensures may_fail { IfErr result (λ fault. MayFailOn H.bytes self.old.tables.items fault) }
+        ensures goes { GoesOn self.old self.new }
     {
-        let table = self.table;
-        let blocks = table.blocks();
-        let block = &blocks[place_on(self.way, self.read, blocks.len())];
-        let alloc = *self.entries.allocator();
-        let read = read_entries(
-            alloc,
-            reader,
-            table.held(),
-            table.format(),
-            table.number(),
-            block,
-        )?;
-        self.entries = to_be_given(read, self.way);
-        self.read += 1;
+        let Some(table) = self.tables.get(self.table) else {
+            unreachable!()
+        };
+        let shape = table.shape();
+        let id = BlockId::of(shape, &shape.blocks[at]);
+        self.entries = Stretch { first: 0, end: 0 };
+        self.block.load(reader, table.held(), id)?;
+        self.entries = Stretch {
+            first: 0,
+            end: self.block.len(),
+        };
+        self.blocks = rest;
         Ok(())
+    }
+
+    // Begins the next table, if one is left.
+    fn enter(&mut self) -> bool
+        requires { self.old.blocks.end ≤ self.old.blocks.first }
+        ensures unread { rise_over self.old.span self.old.tables.items ≡ true → unread self.new ≡ unread self.old }
+        ensures none { IsFalse result → unread self.old ≡ [] }
+        ensures fewer { blocks_left self.new ≤ blocks_left self.old }
+        ensures begun { IsTrue result → self.new.later.end - self.new.later.first < self.old.later.end - self.old.later.first }
+        ensures goes { GoesOn self.old self.new }
+        ensures entries { (self.new.entries ≡ self.old.entries) × (self.new.block ≡ self.old.block) }
+    {
+        let Some((at, rest)) = self.later.next(self.way) else {
+            return false;
+        };
+        let blocks = blocks_of(&self.tables[at].shape().blocks, &self.span);
+        self.later = rest;
+        self.table = at;
+        self.blocks = blocks;
+        true
     }
 }

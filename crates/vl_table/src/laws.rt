@@ -7,12 +7,11 @@ ghost use Rattle.vl_block.specs.Index.{SpellsIndex};
 ghost use Rattle.vl_block.specs.declared.index.BlockPlace.{BlockPlace};
 ghost use Rattle.vl_block.specs.Cutting.{blocks, points_of, table_length, with_point};
 ghost use Rattle.vl_block.specs.Bytes.{AreTabled, block_places, foot, table_bytes, IsTable};
-ghost use Rattle.vl_table.specs.Opened.{IsOf};
 ghost use Rattle.vl_table.specs.Seeks.{IsBadBlock};
 ghost use Rattle.vl_table.specs.declared.table.Table.{Table};
 ghost use Rattle.vl_model.specs.Formats.{table_format};
-ghost use Rattle.vl_table.specs.Opening.{IsDamaged, IsRead, Said};
-ghost use Rattle.vl_table.specs.Opened.{said_of};
+ghost use Rattle.vl_table.specs.Opening.{IsDamaged, IsRead, Said, said_of};
+ghost use Rattle.vl_table.specs.Tables.{IsOf, number_of, shape_of};
 ghost use Rattle.vl_table.specs.Worked.{filtered_bytes, two_entries, worked_bytes};
 
 use vl_disk::HeldFile;
@@ -52,5 +51,5 @@ pub fn true_tables_are_read()
 /// In a true table each block stands where the index says.
 pub fn true_tables_have_no_bad_block<H: HeldFile>()
     ensures { (table : Table H) (es : List Entry) (damage : ℕ) → IsOf H.bytes table es
-        → IsBadBlock table (table_bytes table.format table.number es) damage → ⊥ }
+        → IsBadBlock (shape_of table) (table_bytes (shape_of table).format (number_of table) es) damage → ⊥ }
 {}

@@ -5,17 +5,42 @@ ghost use Rattle.std.specs.Prelude.{◌≡◌, ◌+◌, ◌≤◌, List, length,
 ghost use Rattle.vl_block.specs.Footer.{Foot, foot_of};
 ghost use Rattle.vl_block.specs.declared.index.BlockPlace.{BlockPlace};
 ghost use Rattle.vl_table.specs.Answers.{Answers};
-ghost use Rattle.vl_table.specs.Opening.{FilterAt, FooterIn, StandsFooter, StandsIndex};
+ghost use Rattle.vl_table.specs.Opening.{FilterAt, FooterIn, IsDamaged, IsRead, StandsFooter, StandsIndex, said_by};
 ghost use Rattle.vl_table.specs.OpeningParts.{HasParts, LedTo, NoFilter, NoParts, NotLedTo};
 
+use crate::beginning::{read_begin, read_place};
 use crate::fault::{TableFault, damaged};
 use crate::part::{body_of, is_same, read_part};
 use crate::reading::read_bytes;
 use std::alloc::{AllocError, Global};
-use vl_block::{BlockPlace, Footer, FramePlace, read_footer, read_index};
+use vl_block::{BlockPlace, Footer, FramePlace, TableShape, read_footer, read_index};
 use vl_disk::{HeldFile, Reader};
 use vl_filter::read;
 use vl_frame::{FileKind, FrameKind, read_frame};
+
+/// What the table with this number says beside its blocks.
+pub fn read_shape<H: HeldFile, R: Reader<Held = H>>(
+    alloc: Global,
+    reader: &mut R,
+    held: &H,
+    number: u32,
+) -> Result<TableShape, TableFault>
+    ensures answers { Answers (R.faults reader.old) (R.faults reader.new) number (H.bytes held.now)
+        (λ bytes shape. IsRead number bytes (said_by shape)) (IsDamaged number) result }
+    ensures number { IfOk result (λ shape. shape.number ≡ number) }
+{
+    let format = read_begin(reader, held, number)?;
+    let place = read_place(reader, held, number)?;
+    let parts = read_parts(alloc, reader, held, format, number, place)?;
+    Ok(TableShape {
+        format,
+        number,
+        footer: parts.footer,
+        footer_place: place,
+        blocks: parts.blocks,
+        filter: parts.filter,
+    })
+}
 
 /// What an opened table has of its file.
 #[derive(Drop)]

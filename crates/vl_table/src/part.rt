@@ -1,10 +1,10 @@
 //! One frame of a table, of which it is known where it stands and how long it is.
 
-ghost use Rattle.std.specs.Prelude.{◌≡◌, ◌<◌, ◌↔◌, ℕ, List, length, IsTrue};
+ghost use Rattle.std.specs.Prelude.{◌≡◌, ◌+◌, ◌<◌, ◌≤◌, ◌↔◌, ℕ, List, length, IsTrue, OnOk};
 ghost use Rattle.vl_frame.specs.Frame.{IsSpelled, frame_bytes, frame_length};
 ghost use Rattle.vl_frame.specs.declared.kinds.FileKind.TheVariants as files;
 ghost use Rattle.vl_frame.specs.declared.kinds.FrameKind.{FrameKind};
-ghost use Rattle.vl_table.specs.Answers.{Answers};
+ghost use Rattle.vl_table.specs.Answers.{Answers, NeedsNoMemory};
 ghost use Rattle.vl_table.specs.Begun.{FrameAt};
 
 use crate::fault::{TableFault, damaged};
@@ -32,6 +32,31 @@ pub fn read_part<H: HeldFile, R: Reader<Held = H>>(
         return Err(damaged(number, place));
     }
     frame.resize(size as usize, 0)?;
+    fill(reader, held, number, place, frame)?;
+    if !is_frame(frame, number, place, kind) {
+        return Err(damaged(number, place));
+    }
+    Ok(())
+}
+
+/// Fills a slice with the frame of this kind that stands at a place of the table with this number. It wants no memory.
+pub fn read_into<H: HeldFile, R: Reader<Held = H>>(
+    reader: &mut R,
+    held: &H,
+    number: u32,
+    place: u64,
+    kind: FrameKind,
+    frame: &mut [u8],
+) -> Result<(), TableFault>
+    requires { place + length frame.old ≤ H.size held.now }
+    ensures answers { Answers (R.faults reader.old) (R.faults reader.new) number (H.bytes held.now)
+        (λ bytes done. (body : List ℕ) × FrameAt number bytes place (length frame.old) kind body
+        × (frame.new ≡ frame_bytes number place kind body))
+        (λ bytes damage. ((body : List ℕ) → FrameAt number bytes place (length frame.old) kind body → ⊥) × (damage ≡ place))
+        result }
+    ensures framed { OnOk result ((body : List ℕ) × (frame.new ≡ frame_bytes number place kind body)) }
+    ensures no_memory { NeedsNoMemory result }
+{
     fill(reader, held, number, place, frame)?;
     if !is_frame(frame, number, place, kind) {
         return Err(damaged(number, place));

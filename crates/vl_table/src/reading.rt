@@ -1,6 +1,6 @@
 ghost use Rattle.std.specs.Prelude.{◌≡◌, ◌+◌, ◌≤◌, length};
 ghost use Rattle.vl_disk.specs.DiskState.{bytes_at};
-ghost use Rattle.vl_table.specs.Answers.{Answers};
+ghost use Rattle.vl_table.specs.Answers.{Answers, NeedsNoMemory};
 
 use crate::fault::TableFault;
 use std::alloc::Global;
@@ -25,7 +25,7 @@ pub fn read_bytes<H: HeldFile, R: Reader<Held = H>>(
     Ok(bytes)
 }
 
-/// Fills a slice with the bytes of the table with this number, from a place on.
+/// Fills a slice with the bytes of the table with this number, from a place on. It wants no memory.
 pub fn fill<H: HeldFile, R: Reader<Held = H>>(
     reader: &mut R,
     held: &H,
@@ -34,8 +34,9 @@ pub fn fill<H: HeldFile, R: Reader<Held = H>>(
     out: &mut [u8],
 ) -> Result<(), TableFault>
     requires { place + length out.old ≤ H.size held.now }
-    ensures { Answers (R.faults reader.old) (R.faults reader.new) number (H.bytes held.now)
+    ensures answers { Answers (R.faults reader.old) (R.faults reader.new) number (H.bytes held.now)
         (λ bytes done. out.new ≡ bytes_at place (length out.old) bytes) (λ bytes damage. ⊥) result }
+    ensures no_memory { NeedsNoMemory result }
 {
     match reader.read(held, place, out) {
         Ok(()) => Ok(()),

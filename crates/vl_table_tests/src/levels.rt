@@ -1,54 +1,19 @@
 //! Look-ups in tables that overlap, and in those of a deeper level.
 
-ghost use Rattle.std.specs.Prelude.{◌≤◌};
-
-use crate::disk::open;
+use crate::disk::{blocks, versions_of};
 use std::alloc::Global;
 use std::test::Fail;
-use vl_disk::Disk;
-use vl_levels::{Level, Levels, SharedTable};
-use vl_mem::{MemDisk, MemHeld};
-use vl_model::{Body, Bytes, Entry};
-use vl_table::BlockBuffer;
-use vl_table_writer::TableWriter;
-
-fn new_disk(alloc: Global) -> MemDisk {
-    MemDisk::new(alloc, Vec::new(alloc), Vec::new(alloc))
-}
-
-fn gone(alloc: Global, key: &[u8], version: u64) -> Result<Entry, Fail> {
-    Ok(Entry {
-        key: Bytes::copy_of(alloc, key)?,
-        version,
-        body: Body::Gone,
-    })
-}
-
-// A table of one deletion.
-fn short_table(
-    alloc: Global,
-    number: u32,
-    key: &[u8],
-    version: u64,
-) -> Result<SharedTable<MemHeld>, Fail>
-    requires some { 1 ≤ number }
-    requires few { number ≤ 9 }
-{
-    let mut out = Vec::new(alloc);
-    let writer = TableWriter::begin(alloc, &mut out, number, &gone(alloc, key, version)?)?;
-    writer.finish(alloc, &mut out)?;
-    let (table, _) = open(alloc, number, &out)?;
-    Ok(SharedTable::new(alloc, table)?)
-}
+use vl_levels::{Level, Levels};
+use vl_mem::MemHeld;
 
 // Level 0 has the key b at version 3 in its newest table and at version 4 in the other; level 1 has c at 5, and e at 6.
 fn levels(alloc: Global) -> Result<Levels<MemHeld>, Fail> {
     let mut newest = Vec::new(alloc);
-    newest.push(short_table(alloc, 1, b"b", 3)?)?;
-    newest.push(short_table(alloc, 2, b"b", 4)?)?;
+    newest.push(versions_of(alloc, 1, b"b", &[3])?)?;
+    newest.push(versions_of(alloc, 2, b"b", &[4])?)?;
     let mut below = Vec::new(alloc);
-    below.push(short_table(alloc, 3, b"c", 5)?)?;
-    below.push(short_table(alloc, 4, b"e", 6)?)?;
+    below.push(versions_of(alloc, 3, b"c", &[5])?)?;
+    below.push(versions_of(alloc, 4, b"e", &[6])?)?;
     let mut deeper = Vec::new(alloc);
     deeper.push(Level::new(below))?;
     Ok(Levels::new(newest, deeper))
@@ -61,10 +26,9 @@ fn version_of(
     key: &[u8],
     number: u64,
 ) -> Result<u64, Fail> {
-    let mut reader = new_disk(alloc).reader(alloc)?;
-    let mut buffer = BlockBuffer::new(alloc);
-    match levels.find(alloc, &mut reader, &mut buffer, key, number)? {
-        Some(entry) => Ok(entry.version),
+    let mut reader = blocks(alloc, &[])?;
+    match levels.find(&mut reader, key, number)? {
+        Some(found) => Ok(found.version),
         None => Ok(0),
     }
 }
@@ -78,9 +42,25 @@ fn all_levels_are_looked_in(rt: HostRuntime) -> Result<(), Fail> {
     assert_eq!(rt; version_of(alloc, &levels, b"c", 9)?, 5);
     assert_eq!(rt; version_of(alloc, &levels, b"e", 6)?, 6);
     assert_eq!(rt; version_of(alloc, &levels, b"d", 9)?, 0);
-    let mut reader = new_disk(alloc).reader(alloc)?;
-    let mut buffer = BlockBuffer::new(alloc);
-    let exact = levels.exact(alloc, &mut reader, &mut buffer, b"e", 6)?;
-    assert!(rt; exact.is_some());
+    let mut reader = blocks(alloc, &[])?;
+    assert!(rt; levels.exact(&mut reader, b"e", 6)?.is_some());
+    Ok(())
+}
+
+// A table that has nothing newer than what was found isn't read: the second read would fail.
+#[test]
+fn older_tables_are_not_read(rt: HostRuntime) -> Result<(), Fail> {
+    let alloc = rt.alloc();
+    let mut newest = Vec::new(alloc);
+    newest.push(versions_of(alloc, 1, b"b", &[4])?)?;
+    newest.push(versions_of(alloc, 2, b"b", &[3])?)?;
+    let levels = Levels::new(newest, Vec::new(alloc));
+    let mut reader = blocks(alloc, &[2])?;
+    let found = levels.find(&mut reader, b"b", 9)?.ok_or("none")?;
+    assert_eq!(rt; found.version, 4);
+    assert!(rt; levels.exact(&mut reader, b"b", 4)?.is_some());
+    assert!(rt; levels.exact(&mut reader, b"b", 5)?.is_none());
+    assert!(rt; levels.exact(&mut reader, b"b", 3).is_err());
+    assert!(rt; levels.exact(&mut reader, b"b", 3)?.is_some());
     Ok(())
 }

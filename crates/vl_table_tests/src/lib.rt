@@ -2,15 +2,10 @@
 #![tactic(auto)]
 
 #[cfg(test)]
-mod cursors;
-#[cfg(test)]
 mod disk;
 #[cfg(test)]
 mod levels;
 #[cfg(test)]
-mod merging;
-mod source;
-#[cfg(test)]
 mod tables;
-
-pub use source::Source;
+#[cfg(test)]
+mod warm;

@@ -1,10 +1,11 @@
 //! The bytes of a whole table, which were computed apart from this crate; look-ups in it; and each damage once.
 
-use crate::disk::{held, open};
+use crate::disk::{blocks, failing, held, open};
 use std::alloc::Global;
 use std::test::Fail;
+use vl_block::FoundBody;
 use vl_model::{Body, Bytes, Entry, Pointer, Value};
-use vl_table::{BlockBuffer, Table, TableFault};
+use vl_table::{Table, TableFault};
 use vl_table_writer::TableWriter;
 
 // Table 1 of docs/FORMATS.md in format 1.
@@ -69,26 +70,25 @@ fn a_table_has_its_bytes(rt: HostRuntime) -> Result<(), Fail> {
     let mut out = Vec::new(alloc);
     let mut writer = TableWriter::begin(alloc, &mut out, 1, &short)?;
     writer.add(&mut out, &long)?;
-    writer.finish(alloc, &mut out)?;
+    writer.finish(alloc)?.append_to(&mut out)?;
     assert_eq!(rt; out.as_slice(), FILTERED.as_slice());
     Ok(())
 }
 
-// Whether the keys a and b are found in a table, and the user byte of a's value is this.
+// Whether the keys a and b are found in a table, and the tag of a's value is this.
 fn finds_both(alloc: Global, bytes: &[u8], tag: u8) -> Result<bool, Fail> {
-    let (table, mut reader) = open(alloc, 1, bytes)?;
-    let mut buffer = BlockBuffer::new(alloc);
-    let far = table.find(alloc, &mut reader, &mut buffer, b"b", 9)?;
-    let short = table.exact(alloc, &mut reader, &mut buffer, b"a", 1)?;
-    let none = table.exact(alloc, &mut reader, &mut buffer, b"a", 2)?;
-    let entry = short.ok_or("none")?;
-    Ok(far.is_some() && none.is_none() && has_tag(&entry.body, tag))
+    let table = open(alloc, 1, bytes)?;
+    let mut reader = blocks(alloc, &[])?;
+    let far = table.find(&mut reader, b"b", 9)?;
+    let short = table.exact(&mut reader, b"a", 1)?.ok_or("none")?;
+    let none = table.exact(&mut reader, b"a", 2)?;
+    Ok(far.is_some() && none.is_none() && has_tag(&short.body, tag))
 }
 
-// Whether a body is a value with this user byte.
-fn has_tag(body: &Body, tag: u8) -> bool {
+// Whether a body is a value with this tag.
+fn has_tag(body: &FoundBody, tag: u8) -> bool {
     match body {
-        Body::Inline(value) => value.tag == tag,
+        FoundBody::Inline(value) => value.tag() == tag,
         _ => false,
     }
 }
@@ -106,14 +106,14 @@ fn entries_are_found_in_tables_of_each_format(rt: HostRuntime) -> Result<(), Fai
 
 // Where a table is damaged that has these bytes: at opening, or at looking up its first key.
 fn damage(alloc: Global, bytes: &[u8]) -> Result<Option<u64>, Fail> {
-    let (held, mut reader) = held(alloc, 1, bytes)?;
-    let table = match Table::open(alloc, &mut reader, held, 1) {
+    let mut plain = failing(alloc, &[])?;
+    let table = match Table::open(alloc, &mut plain, held(alloc, 1, bytes)?, 1) {
         Ok(table) => table,
         Err(TableFault::Damaged { place, .. }) => return Ok(Some(place)),
         Err(_) => return Err("no damage".into()),
     };
-    let mut buffer = BlockBuffer::new(alloc);
-    match table.find(alloc, &mut reader, &mut buffer, b"a", 1) {
+    let mut reader = blocks(alloc, &[])?;
+    match table.find(&mut reader, b"a", 1) {
         Ok(_) => Ok(None),
         Err(TableFault::Damaged { place, .. }) => Ok(Some(place)),
         Err(_) => Err("no damage".into()),

@@ -1,3 +1,4 @@
+mod Behind
 pub mod Bodies
 mod Finished
 mod Fits

@@ -1,17 +1,27 @@
--- How a point finds its place among others, and that the order in which points are added makes no difference.
-use Rattle.std.specs.Prelude.{◌≡◌, ℕ, ◌+◌, ◌<◌, ◌≤◌, List, [], ◌∷◌, ◌++◌, length, get_or, ◌≢◌, ◌⊎◌, Bool, true, false, nat_lt}
+-- How a point finds its place among others, in a map and in a list, and that the order in which points are added makes no
+-- difference.
+use Rattle.std.specs.Prelude.{◌≡◌, ℕ, ◌+◌, ◌<◌, ◌≤◌, List, [], ◌∷◌, ◌++◌, ◌≢◌, ◌⊎◌, Bool, true, false, nat_lt, map, Option, None}
+use Rattle.std.specs.BTreeMap.{insert_entry, is_at}
+use Rattle.std.specs.Cmp.{nat_cmp_total}
+use Rattle.std.specs.List.Sorted.{IsStrictlySortedBy}
+use Rattle.std.specs.Map.{keys_of, lookup}
+use Rattle.std.specs.Option.{unwrap_or}
+use Rattle.std.specs.Ordering.{is_eq, match_ordering, nat_cmp}
+use Rattle.std.specs.declared.cmp.Ordering.{Ordering}
+use Rattle.std.specs.declared.cmp.Ordering.TheVariants.{Less, Equal, Greater}
+use Rattle.std.proofs.Common.{inl, inr, ⊎_elim, refl, ap, sym, ◌∙◌, arith}
 use Rattle.std.proofs.lemmas.Bool.{cases_eq}
-use Rattle.std.proofs.Common.{inl, inr, ⊎_elim, refl, ap, sym, subst, ◌∙◌, append_assoc, length-append, slice_set, arith}
 use Rattle.std.proofs.lemmas.Bool.Decides.{nat_tests}
+use Rattle.std.proofs.lemmas.Map.{lookup-none}
+use Rattle.std.proofs.lemmas.Map.Entries.{lookup_head, lookup_tail, none_below_head}
+use Rattle.std.proofs.lemmas.Map.Keys.{sorted_tail}
 use Rattle.vl_model.specs.Entries.{by_order}
 use Rattle.vl_model.specs.declared.entry.Entry.{Entry}
 use Rattle.vl_model.specs.declared.entry.Body.{Body}
 use Rattle.vl_model.specs.declared.entry.Body.TheVariants.{Inline, Gone, Far, Logged}
 use Rattle.vl_block.specs.Cutting.{pointed, points_of, with_point}
 use Rattle.vl_block.specs.declared.points.Point.{Point}
-use Rattle.vl_table_writer.specs.Stops.{IsStop, Passes, Stops}
-use Rattle.std.specs.Ordering.{nat_cmp}
-use Rattle.std.specs.declared.cmp.Ordering.TheVariants.{Less, Equal, Greater}
+use Rattle.vl_table_writer.specs.PointSums.{point_of}
 
 -- ---- one place
 
@@ -46,101 +56,47 @@ three_ways m n = ⊎_elim (λ (e : m ≡ n). inr (inl e)) (λ (o : m ≢ n). apa
     apart true is o = inl (grind (arith, nat_tests))
     apart false is o = inr (inr (grind (arith, nat_tests, o)))
 
--- the first of the points behind
-pub record Here (segment : ℕ) (points : List Point) (at : ℕ) (d : Point) (back : List Point) : Type 0 where
-  pub point : Point
-  pub rest : List Point
-  pub is : back ≡ point ∷ rest
-  pub found : get_or points at d ≡ point
+-- ---- a map of sums
 
-get-behind : (front : List Point) (p : Point) (rest : List Point) (d : Point)
-    → get_or ((front ++ p ∷ rest)) (length front) d ≡ p
-get-behind [] p rest d = refl
-get-behind (q ∷ front) p rest d = get-behind front p rest d
-
-here_of : (segment : ℕ) (points : List Point) (at : ℕ) (d : Point) (front back : List Point)
-    → points ≡ (front ++ back) → length front ≡ at → at < length points
-    → Here segment points at d back
-here_of segment points at d front [] is counted within = absurd (omega (arith, ap length is, length-append front [], counted))
-here_of segment points at d front (p ∷ rest) is counted within = record {
-  point = p;
-  rest = rest;
-  is = refl;
-  found = ap (λ l. get_or l at d) is ∙ ap (λ n. get_or ((front ++ p ∷ rest)) n d) (sym counted) ∙ get-behind front p rest d;
-}
-
-pub point_here : (segment : ℕ) (points : List Point) (at : ℕ) (d : Point) → (passes : Passes segment points at) → at < length points
-    → Here segment points at d passes.back
-point_here segment points at d passes within = here_of segment points at d passes.front passes.back passes.split passes.counted within
-
-pub pass_one : (segment : ℕ) (points : List Point) (at : ℕ) (d : Point) → Passes segment points at → at < length points
-    → (get_or points at d).segment < segment → Passes segment points (at + 1)
-pass_one segment points at d passes within less =
-    let here = point_here segment points at d passes within in
-    let p = here.point in
-    let low : p.segment < segment = subst (λ (n : ℕ). n < segment) (ap (λ (q : Point). q.segment) here.found) less in
-    record {
-      front = passes.front ++ p ∷ [];
-      back = here.rest;
-      split = passes.split ∙ ap (λ l. passes.front ++ l) here.is ∙ sym (append_assoc passes.front (p ∷ []) here.rest);
-      counted = length-append passes.front (p ∷ []) ∙ ap (λ (n : ℕ). n + 1) passes.counted;
-      passed = λ bytes. passes.passed bytes ∙ ap (λ l. passes.front ++ pointed segment bytes l) here.is
-          ∙ ap (λ l. passes.front ++ l) (pointed-above segment bytes p here.rest low)
-          ∙ sym (append_assoc passes.front (p ∷ []) (pointed segment bytes here.rest));
-    }
-
-pub stops_here : (segment : ℕ) (points : List Point) (at : ℕ) (d : Point) → Passes segment points at → at < length points
-    → segment ≤ (get_or points at d).segment → Stops segment points at
-stops_here segment points at d passes within le =
-    let here = point_here segment points at d passes within in
-    record {
-      passes = passes;
-      stop = subst (IsStop segment) (sym here.is) (subst (λ (n : ℕ). segment ≤ n) (ap (λ (q : Point). q.segment) here.found) le);
-    }
-
-none_behind : (segment : ℕ) (back : List Point) → length back ≡ 0 → IsStop segment back
-none_behind segment [] none = tt
-none_behind segment (p ∷ back) none = absurd (omega arith)
-
-pub stops_end : (segment : ℕ) (points : List Point) (at : ℕ) → Passes segment points at → length points ≤ at
-    → Stops segment points at
-stops_end segment points at passes past = record {
-  passes = passes;
-  stop = none_behind segment passes.back (omega (arith, ap length passes.split, length-append passes.front passes.back, passes.counted));
-}
-
-set-behind : (front : List Point) (p q : Point) (rest : List Point)
-    → slice_set ((front ++ p ∷ rest)) (length front) (q) ≡ (front ++ q ∷ rest)
-set-behind [] p q rest = refl
-set-behind (r ∷ front) p q rest = ap (λ l. r ∷ l) (set-behind front p q rest)
-
--- bytes are added to a point that is there
-pub adds_to : (segment bytes : ℕ) (points : List Point) (at : ℕ) (x y : Point)
-    → Stops segment points at → at < length points
-    → x ≡ get_or points at x → y ≡ get_or points at y → y.segment ≡ segment
-    → slice_set points at (record { segment = x.segment; bytes = x.bytes + bytes }) ≡ pointed segment bytes points
-adds_to segment bytes points at x y stops within x_is y_is same =
-    let passes = stops.passes in
-    let here = point_here segment points at x passes within in
-    let again = point_here segment points at y passes within in
-    let p = here.point in
-    let found : x ≡ p = x_is ∙ here.found in
-    let one : again.point ∷ again.rest ≡ p ∷ here.rest = sym again.is ∙ here.is in
-    let segments : segment ≡ p.segment = sym same ∙ ap (λ (q : Point). q.segment) (y_is ∙ again.found) ∙ first_segment again.point p again.rest here.rest one in
-    let list : points ≡ passes.front ++ p ∷ here.rest = passes.split ∙ ap (λ l. passes.front ++ l) here.is in
-    ap (λ l. slice_set l at (record { segment = x.segment; bytes = x.bytes + bytes })) list
-    ∙ ap (λ n. slice_set ((passes.front ++ p ∷ here.rest)) n (record { segment = x.segment; bytes = x.bytes + bytes })) (sym passes.counted)
-    ∙ ap (λ (q : Point). slice_set ((passes.front ++ p ∷ here.rest)) (length passes.front) (record { segment = q.segment; bytes = q.bytes + bytes })) found
-    ∙ set-behind passes.front p (record { segment = p.segment; bytes = p.bytes + bytes }) here.rest
-    ∙ sym (passes.passed bytes ∙ ap (λ l. passes.front ++ pointed segment bytes l) here.is
-    ∙ ap (λ l. passes.front ++ l) (pointed-same segment bytes p here.rest segments))
+-- a sum that grows in a map grows among the points
+pub points-insert : (segment bytes : ℕ) (es : List (ℕ × ℕ)) → IsStrictlySortedBy nat_cmp (keys_of es)
+    → map point_of (insert_entry nat_cmp es segment (unwrap_or (lookup (is_at (nat_cmp segment)) es) 0 + bytes))
+    ≡ pointed segment bytes (map point_of es)
+points-insert segment bytes [] ordered = let none : 0 + bytes ≡ bytes = omega arith in ap (λ (n : ℕ). record { segment = segment; bytes = n } ∷ []) none
+points-insert segment bytes (e ∷ es) ordered =
+    by (points-insert segment bytes es (sorted_tail nat_cmp e.0 (keys_of es) ordered)) (nat_cmp segment e.0) refl
   where
-    first_segment : (p q : Point) (ps qs : List Point) → p ∷ ps ≡ q ∷ qs → p.segment ≡ q.segment
-    first_segment p q ps qs e = ap (λ (l : List Point). segment_of l) e
-      where
-        segment_of : List Point → ℕ
-        segment_of [] = 0
-        segment_of (r ∷ rs) = r.segment
+    was : ℕ
+    was = unwrap_or (lookup (is_at (nat_cmp segment)) es) 0 + bytes
+
+    sum : ℕ
+    sum = unwrap_or (lookup (is_at (nat_cmp segment)) (e ∷ es)) 0 + bytes
+
+    none : unwrap_or {T = ℕ} None 0 + bytes ≡ bytes
+    none = omega arith
+
+    put : Ordering → ℕ → List Point
+    put r n = map point_of (match_ordering r ((segment, n) ∷ e ∷ es) ((e.0, n) ∷ es) (e ∷ insert_entry nat_cmp es segment n))
+
+    by : map point_of (insert_entry nat_cmp es segment was) ≡ pointed segment bytes (map point_of es)
+        → (r : Ordering) → nat_cmp segment e.0 ≡ r → put (nat_cmp segment e.0) sum ≡ pointed segment bytes (map point_of (e ∷ es))
+    by later Less is =
+        let absent = lookup-none (is_at (nat_cmp segment)) (e ∷ es) (none_below_head nat_cmp_total segment e es ordered is) in
+        ap (λ r. put r sum) is
+        ∙ ap (λ (o : Option ℕ). put Less (unwrap_or o 0 + bytes)) absent
+        ∙ ap (λ (n : ℕ). put Less n) none
+        ∙ sym (ap (λ r. by_order r (record { segment = segment; bytes = bytes } ∷ map point_of (e ∷ es)) (record { segment = e.0; bytes = e.1 + bytes } ∷ map point_of es) (point_of e ∷ pointed segment bytes (map point_of es))) is)
+    by later Equal is =
+        let found = lookup_head (is_at (nat_cmp segment)) e es (ap is_eq is) in
+        ap (λ r. put r sum) is
+        ∙ ap (λ (o : Option ℕ). put Equal (unwrap_or o 0 + bytes)) found
+        ∙ sym (ap (λ r. by_order r (record { segment = segment; bytes = bytes } ∷ map point_of (e ∷ es)) (record { segment = e.0; bytes = e.1 + bytes } ∷ map point_of es) (point_of e ∷ pointed segment bytes (map point_of es))) is)
+    by later Greater is =
+        let behind = lookup_tail (is_at (nat_cmp segment)) e es (ap is_eq is) in
+        ap (λ r. put r sum) is
+        ∙ ap (λ (o : Option ℕ). put Greater (unwrap_or o 0 + bytes)) behind
+        ∙ ap (λ (l : List Point). point_of e ∷ l) later
+        ∙ sym (ap (λ r. by_order r (record { segment = segment; bytes = bytes } ∷ map point_of (e ∷ es)) (record { segment = e.0; bytes = e.1 + bytes } ∷ map point_of es) (point_of e ∷ pointed segment bytes (map point_of es))) is)
 
 -- ---- the order makes no difference
 

@@ -1,6 +1,6 @@
 -- How what is written grows.
 use Rattle.vl_model.specs.Formats.{table_format}
-use Rattle.std.specs.Prelude.{◌≡◌, ℕ, ◌≤◌, ◌+◌, max, Bool, true, false, nat_le, if◌then◌else◌, List, [], ◌∷◌, ◌++◌, length, map}
+use Rattle.std.specs.Prelude.{◌≡◌, ℕ, ◌≤◌, ◌<◌, ◌^◌, ◌+◌, max, Bool, true, false, nat_le, if◌then◌else◌, List, [], ◌∷◌, ◌++◌, length, map}
 use Rattle.std.specs.List.{sum_by}
 use Rattle.std.proofs.Common.{cond, refl, ap, sym, subst, ◌∙◌, length-append, append-nil, append_assoc, arith}
 use Rattle.std.proofs.lemmas.List.Sums.{sum_by-cons}
@@ -21,7 +21,8 @@ use Rattle.vl_block.specs.declared.index.BlockPlace.{BlockPlace}
 use Rattle.vl_block.specs.Bytes.{block_places, blocks_bytes, greatest_version, table_header}
 use Rattle.vl_block.specs.laws.Lengths.{length-block_body}
 use Rattle.vl_block.specs.laws.Places.{blocks-split}
-use Rattle.vl_table_writer.specs.Writing.{HasBlocks, HasRoom, IsWriting, Sums}
+use Rattle.vl_table_writer.specs.Writing.{HasBlocks, HasRoom, IsWriting, MayCome, Sums}
+use Rattle.vl_table_writer.proofs.Behind.{in_order-push}
 use Rattle.vl_table_writer.specs.declared.summary.Summary.{Summary}
 use Rattle.vl_table_writer.specs.declared.writer.TableWriter.{TableWriter}
 
@@ -71,17 +72,19 @@ closed_frame number closed b said place frame numbered at written =
     ∙ sym (append-nil (frame_bytes number (16 + sum_by (block_frame_length table_format) closed) kinds.Block (block_body table_format b))))
     ∙ sym (blocks-split table_format number 16 closed b [])
 
-pub begins : (w : TableWriter) (number : ℕ) (e : Entry) → w.blocks.number ≡ number → HasBlocks w.blocks [] (e ∷ [])
+pub begins : (w : TableWriter) (number : ℕ) (e : Entry) → number < 2 ^ 32 → w.blocks.number ≡ number → HasBlocks w.blocks [] (e ∷ [])
     → Sums w.summary (e ∷ []) → IsEntry table_format e
     → IsWriting w number (e ∷ []) (table_header table_format number)
-begins w number e numbered has sums lawful = record {
+begins w number e fits numbered has sums lawful = record {
   some = omega arith;
   closed = [];
   open_block = e ∷ [];
   numbered = numbered;
+  fits = fits;
   has = has;
   sums = sums;
   each = (lawful, tt);
+  ordered = refl;
   given_out = sym (append-nil (table_header table_format number));
   last = refl;
   cut = λ later. ap (λ (n : ℕ). (blocks_from table_format) (e ∷ []) n later) (begun e);
@@ -114,9 +117,11 @@ stays_open w number es given e is fits = record {
   closed = is.closed;
   open_block = is.open_block;
   numbered = is.numbered;
+  fits = is.fits;
   has = is.has;
   sums = is.sums;
   each = is.each;
+  ordered = is.ordered;
   given_out = is.given_out;
   cut = λ later.
       let grown = blocks_from table_format (is.open_block ++ e ∷ []) (length (block_body table_format is.open_block) + entry_length table_format e) later in
@@ -136,9 +141,11 @@ closes w v number es given frame e is full has numbered summary written = record
   closed = is.closed ++ is.open_block ∷ [];
   open_block = [];
   numbered = numbered ∙ is.numbered;
+  fits = is.fits;
   has = has;
   sums = subst (λ (s : Summary). Sums s es) (sym summary) is.sums;
   each = is.each;
+  ordered = is.ordered;
   given_out =
       ap (λ (l : List ℕ). l ++ frame) is.given_out ∙ append_assoc (table_header table_format number) (blocks_bytes table_format number 16 is.closed) frame
       ∙ ap (λ (l : List ℕ). (table_header table_format) number ++ l) (closed_frame number is.closed is.open_block w.blocks.number w.blocks.place frame is.numbered is.has.place written);
@@ -157,16 +164,18 @@ closes w v number es given frame e is full has numbered summary written = record
 -- one entry more
 pub adds : (w v : TableWriter) (number : ℕ) (es : List Entry) (given : List ℕ) (e : Entry) → (room : HasRoom w number es given e)
     → HasBlocks v.blocks room.closed (room.open_block ++ e ∷ []) → v.blocks.number ≡ w.blocks.number
-    → Sums v.summary (es ++ e ∷ []) → IsEntry table_format e
+    → Sums v.summary (es ++ e ∷ []) → MayCome es e
     → IsWriting v number (es ++ e ∷ []) given
-adds w v number es given e room has numbered sums lawful = record {
+adds w v number es given e room has numbered sums comes = record {
   some = omega (arith, length-append es (e ∷ []));
   closed = room.closed;
   open_block = room.open_block ++ e ∷ [];
   numbered = numbered ∙ room.numbered;
+  fits = room.fits;
   has = has;
   sums = sums;
-  each = all-append (IsEntry table_format) es (e ∷ []) room.each (lawful, tt);
+  each = all-append (IsEntry table_format) es (e ∷ []) room.each (comes.entry, tt);
+  ordered = in_order-push es e room.ordered comes.next;
   given_out = room.given_out;
   last = last_key-push room.open_block e ∙ sym (last_key-push es e);
   cut = λ later. ap (blocks table_format) (append_assoc es (e ∷ []) later) ∙ room.cut later;

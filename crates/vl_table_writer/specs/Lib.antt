@@ -1,3 +1,5 @@
 pub mod Bodies
-pub mod Stops
+pub mod Framing
+pub mod PointSums
+pub mod Tails
 pub mod Writing

@@ -1,5 +1,5 @@
 ghost use Rattle.vl_model.specs.Formats.{table_format};
-ghost use Rattle.std.specs.Prelude.{◌≡◌, ◌≤◌, ◌++◌, ◌∷◌, ◌==◌, [], List, drop, length, take, IfOk, OnOk};
+ghost use Rattle.std.specs.Prelude.{◌≡◌, ◌≤◌, ◌<◌, ◌^◌, ◌++◌, ◌∷◌, ◌==◌, [], List, drop, length, take, IfOk, OnOk};
 ghost use Rattle.byteorder.specs.Endian.{big_bytes};
 ghost use Rattle.vl_frame.specs.Frame.{frame_bytes, frame_length};
 ghost use Rattle.vl_frame.specs.declared.kinds.FrameKind.TheVariants as kinds;
@@ -38,10 +38,10 @@ impl BlockWriter {
         Ok(BlockWriter { count: 0, frame })
     }
 
-    /// Adds an entry, which has its place behind the others. Want of memory is the answer too where no table may have it.
+    /// Adds an entry that a table may have.
     pub fn add(&mut self, entry: &Entry) -> Result<(), AllocError>
-        ensures added { (es : List Entry) → HasBody self.old es → OnOk result (HasBody self.new (es ++ entry.now ∷ [])) }
-        ensures lawful { OnOk result (IsEntry table_format entry.now) }
+        requires { IsEntry table_format entry.now }
+        ensures { (es : List Entry) → HasBody self.old es → OnOk result (HasBody self.new (es ++ entry.now ∷ [])) }
     {
         if self.count == u32::MAX || self.frame.len() < FRONT_BYTES {
             return Err(AllocError);
@@ -64,7 +64,8 @@ impl BlockWriter {
 
     /// The body's length, in bytes.
     pub fn len(&self) -> usize
-        ensures { (es : List Entry) → HasBody self.now es → result ≡ length (block_body table_format es) }
+        ensures exact { (es : List Entry) → HasBody self.now es → result ≡ length (block_body table_format es) }
+        ensures small { result < 2 ^ 63 }
     {
         self.as_slice().len()
     }

@@ -1,21 +1,24 @@
 ghost use Rattle.vl_model.specs.Formats.{table_format};
-ghost use Rattle.std.specs.Prelude.{◌≡◌, ◌+◌, ◌++◌, ◌∷◌, [], nat_le, List, length, IfOk, OnOk};
+ghost use Rattle.std.specs.Prelude.{◌≡◌, ◌≤◌, ◌<◌, ◌^◌, ◌+◌, ◌++◌, ◌∷◌, [], nat_le, List, length, IfOk, OnOk};
+ghost use Rattle.std.specs.List.{sum_by};
 ghost use Rattle.vl_frame.specs.Frame.{frame_bytes};
 ghost use Rattle.vl_frame.specs.declared.kinds.FrameKind.TheVariants as kinds;
 ghost use Rattle.vl_model.specs.declared.entry.Entry.{Entry};
-ghost use Rattle.vl_block.specs.Cutting.{body_length, entry_length, last_key, max_block_bytes};
+ghost use Rattle.vl_block.specs.Cutting.{block_frame_length, body_length, entry_length, last_key, max_block_bytes};
 ghost use Rattle.vl_block.specs.Blocks.{block_body};
 ghost use Rattle.vl_block.specs.Entries.{IsEntry};
-ghost use Rattle.vl_table_writer.specs.Writing.{HasBlocks};
 
 use crate::block_writer::BlockWriter;
 use std::alloc::{AllocError, Global};
 use vl_block::BlockPlace;
-use vl_frame::HEADER_BYTES;
+use vl_frame::{FRAME_BYTES, HEADER_BYTES};
 use vl_model::{Body, Entry, Key, is_key_len};
 
 // A block's body has at most so many bytes, or one entry.
 const MAX_BLOCK_BYTES: usize = 4096;
+
+// Behind its blocks no table is longer.
+const MAX_PLACE: u64 = u32::MAX as u64;
 
 /// The blocks of a table that is written: where those that are closed stand, and the body of the open one.
 #[derive(Drop)]
@@ -24,9 +27,13 @@ pub struct BlocksWriter {
     pub place: u64,
     pub written: BlockWriter,
     pub closed: Vec<BlockPlace>,
+    ghost begun: { 16 ≤ place },
+    ghost short: { place < 2 ^ 32 },
 }
 
 impl BlocksWriter {
+    ghost use Rattle.vl_table_writer.specs.Writing.{HasBlocks};
+
     pub fn new(alloc: Global, number: u32) -> Result<Self, AllocError>
         ensures blocks { IfOk result (λ w. HasBlocks w [] []) }
         ensures number { IfOk result (λ w. w.number ≡ number) }
@@ -48,17 +55,26 @@ impl BlocksWriter {
         used <= MAX_BLOCK_BYTES && fits(entry, MAX_BLOCK_BYTES - used)
     }
 
-    /// Adds an entry to the open block.
+    /// How many bytes the frames of the blocks have, that of the open one counted as if it were closed.
+    pub fn bytes(&self) -> u64
+        ensures { (closed : List (List Entry)) (open_block : List Entry) → HasBlocks self.now closed open_block
+            → result ≡ sum_by (block_frame_length table_format) (closed ++ open_block ∷ []) }
+    {
+        self.place - HEADER_BYTES as u64 + (self.written.len() + FRAME_BYTES) as u64
+    }
+
+    /// Adds an entry that a table may have to the open block.
     pub fn add(&mut self, entry: &Entry) -> Result<(), AllocError>
+        requires { IsEntry table_format entry.now }
         ensures blocks { (closed : List (List Entry)) (open_block : List Entry) → HasBlocks self.old closed open_block
             → OnOk result (HasBlocks self.new closed (open_block ++ entry.now ∷ [])) }
         ensures number { self.new.number ≡ self.old.number }
-        ensures lawful { OnOk result (IsEntry table_format entry.now) }
     {
         self.written.add(entry)
     }
 
-    /// Appends the frame of the open block, whose last key this is, and opens one without entries.
+    /// Appends the frame of the open block, whose last key this is, and opens one without entries. Want of memory is the
+    /// answer too where the blocks would reach 2^32 bytes.
     pub fn close(&mut self, out: &mut Vec<u8>, last: &Key) -> Result<(), AllocError>
         ensures blocks { (closed : List (List Entry)) (open_block : List Entry) → HasBlocks self.old closed open_block
             → last.now ≡ last_key open_block → OnOk result (HasBlocks self.new (closed ++ open_block ∷ []) []) }
@@ -68,7 +84,7 @@ impl BlocksWriter {
             ++ frame_bytes self.old.number self.old.place kinds.Block (block_body table_format open_block)) }
     {
         let length = self.written.append_frame(out, self.number, self.place)?;
-        if self.place > u64::MAX - length as u64 {
+        if self.place > MAX_PLACE - length as u64 {
             return Err(AllocError);
         }
         self.closed.push(BlockPlace {

@@ -1,13 +1,8 @@
 // Laws of the definitions: each is the contract of a function that does nothing.
-ghost use Rattle.std.specs.Prelude.{◌≡◌, ◌<◌, ◌^◌, ◌++◌, ◌∷◌, [], ℕ, List};
+ghost use Rattle.std.specs.Prelude.{◌<◌, ◌^◌, ℕ, List};
 ghost use Rattle.vl_model.specs.declared.entry.Entry.{Entry};
 ghost use Rattle.vl_block.specs.Bytes.{AreTabled, IsTable};
-ghost use Rattle.vl_block.specs.Cutting.{points_of, table_length, with_point};
-
-/// The order in which entries are noted makes no difference to the points.
-pub fn points_grow_behind()
-    ensures { (es : List Entry) (e : Entry) → points_of (es ++ e ∷ []) ≡ with_point e.body (points_of es) }
-{}
+ghost use Rattle.vl_block.specs.Cutting.{table_length};
 
 /// Of lawful entries in order there is a table, where it isn't longer than four bytes can say.
 pub fn tables_have_room()

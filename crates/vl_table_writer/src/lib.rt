@@ -2,23 +2,26 @@
 //! `vl_block` spells and reads. docs/FORMATS.md lists them.
 #![tactic(auto)]
 
+mod add_fail;
 mod block_writer;
 mod blocks_writer;
 mod entry;
+mod finishing;
 mod footer;
+mod framed;
 mod index;
 mod keys;
+mod lawful;
 mod laws;
 mod numbers;
 mod point_sums;
 mod pointers;
 mod points;
 mod summary;
+mod tail;
 mod writer;
 
-pub use block_writer::BlockWriter;
-pub use entry::write_entry;
-pub use footer::write_footer;
-pub use index::write_index;
-pub use laws::{points_grow_behind, tables_have_room};
+pub use add_fail::AddFail;
+pub use laws::tables_have_room;
+pub use tail::Tail;
 pub use writer::TableWriter;

@@ -1,41 +1,34 @@
-ghost use Rattle.std.specs.Prelude.{◌≡◌, ◌≤◌, length, OnOk};
+ghost use Rattle.std.specs.Prelude.{◌≡◌, IfOk, OnOk};
 ghost use Rattle.vl_block.specs.Cutting.{pointed};
-ghost use Rattle.vl_table_writer.specs.Stops.{Stops};
+ghost use Rattle.vl_table_writer.specs.PointSums.{points_in};
 
-use std::alloc::AllocError;
+use std::alloc::{AllocError, Global};
+use std::collections::BTreeMap;
 use vl_block::Point;
 
-/// Adds so many bytes of a segment's records to rising points. Want of memory is the answer too where the sum has no
-/// room.
-pub fn add_point(points: &mut Vec<Point>, segment: u32, bytes: u32) -> Result<(), AllocError>
-    ensures { OnOk result (points.new.items ≡ pointed segment bytes points.old.items) }
+/// By segment how many bytes of its records are pointed to.
+pub type PointSums = BTreeMap<u32, u64>;
+
+/// Adds so many bytes of a segment's records. Want of memory is the answer too where the sum has no room.
+pub fn add_point(sums: &mut PointSums, segment: u32, bytes: u32) -> Result<(), AllocError>
+    ensures { OnOk result (points_in sums.new ≡ pointed segment bytes (points_in sums.old)) }
 {
-    let at = place_of(points, segment);
-    if at < points.len() && points[at].segment == segment {
-        if points[at].bytes > u64::MAX - bytes as u64 {
-            return Err(AllocError);
-        }
-        points[at].bytes += bytes as u64;
-        return Ok(());
-    }
-    points.insert(
-        at,
-        Point {
-            segment,
-            bytes: bytes as u64,
-        },
-    )?;
+    let before = sums.get(&segment).copied().unwrap_or(0);
+    let Some(sum) = before.checked_add(bytes as u64) else {
+        return Err(AllocError);
+    };
+    sums.insert(segment, sum)?;
     Ok(())
 }
 
-// How many points stand before the place of a segment.
-fn place_of(points: &[Point], segment: u32) -> usize
-    ensures stops { Stops segment points.now result }
-    ensures within { result ≤ length points.now }
+/// The sums, as a footer has them.
+pub fn points_of(alloc: Global, sums: &PointSums) -> Result<Vec<Point>, AllocError>
+    ensures { IfOk result (λ points. points.items ≡ points_in sums.now) }
 {
-    let mut at = 0;
-    'points: while at < points.len() && points[at].segment < segment {
-        at += 1;
-    }
-    at
+    sums.iter()
+        .map(|(segment, bytes)| Point {
+            segment: *segment,
+            bytes: *bytes,
+        })
+        .collect(alloc)
 }

@@ -1,26 +1,33 @@
-ghost use Rattle.std.specs.Prelude.{◌≡◌, ◌≤◌, length, ◌++◌, ◌∷◌, [], Some, if◌then◌else◌, List, IfOk, OnOk};
+ghost use Rattle.std.specs.Prelude.{◌≡◌, ◌≤◌, ◌↔◌, length, ◌++◌, ◌∷◌, [], Some, if◌then◌else◌, List, IfOk, IsTrue, OnOk};
 ghost use Rattle.std.specs.Ordering.{eq_by_cmp};
 ghost use Rattle.vl_filter.specs.Places.{hashes_of};
+ghost use Rattle.vl_model.specs.Formats.{table_format};
 ghost use Rattle.vl_model.specs.Keys.{key_cmp};
 ghost use Rattle.vl_model.specs.declared.entry.Entry.{Entry};
+ghost use Rattle.vl_block.specs.Blocks.{entries};
 ghost use Rattle.vl_block.specs.Cutting.{with_point};
 ghost use Rattle.vl_block.specs.Footer.{foot_of};
+ghost use Rattle.vl_block.specs.Lists.{IsNext, last_item};
+ghost use Rattle.vl_table_writer.specs.PointSums.{points_in};
 ghost use Rattle.vl_table_writer.specs.Writing.{Sums};
 
-use crate::point_sums::add_point;
+use crate::point_sums::{PointSums, add_point, points_of};
 use std::alloc::{AllocError, Global};
-use vl_block::{Footer, FramePlace, Point};
+use std::collections::BTreeMap;
+use vl_block::{Footer, FramePlace};
 use vl_filter::Hashes;
-use vl_model::{Body, Entry, Key};
+use vl_model::{Body, Entry, Key, Place, place_order};
 
 /// What a table's footer will say of the entries so far.
 #[derive(Drop)]
 pub struct Summary {
     pub first: Key,
+    // The key and the version of the last entry.
     pub last: Key,
+    pub last_version: u64,
     pub count: u64,
     pub greatest: u64,
-    pub points: Vec<Point>,
+    pub points: PointSums,
     // The hashes of the keys, each once.
     pub keys: Vec<Hashes>,
 }
@@ -30,18 +37,31 @@ impl Summary {
     pub fn of(alloc: Global, entry: &Entry) -> Result<Self, AllocError>
         ensures { IfOk result (λ s. Sums s (entry.now ∷ [])) }
     {
-        let mut points = Vec::new(alloc);
+        let mut points = BTreeMap::new(alloc);
         note(&mut points, &entry.body)?;
         let mut keys = Vec::new(alloc);
         keys.push(Hashes::of(entry.key.as_slice()))?;
         Ok(Summary {
             first: entry.key.share()?,
             last: entry.key.share()?,
+            last_version: entry.version,
             count: 1,
             greatest: entry.version,
             points,
             keys,
         })
+    }
+
+    /// Whether an entry has its place behind the others.
+    pub fn is_behind(&self, entry: &Entry) -> bool
+        ensures { (es : List Entry) → 1 ≤ length es → Sums self.now es
+            → (IsTrue result ↔ IsNext (entries table_format) (last_item es) entry.now) }
+    {
+        let last = Place {
+            key: self.last.as_slice(),
+            version: self.last_version,
+        };
+        place_order(&last, &entry.place()).is_lt()
     }
 
     /// Of one entry more, behind the others.
@@ -55,34 +75,41 @@ impl Summary {
         note(&mut self.points, &entry.body)?;
         note_key(&mut self.keys, self.last.as_slice(), entry.key.as_slice())?;
         self.last = entry.key.share()?;
+        self.last_version = entry.version;
         self.count += 1;
         self.greatest = self.greatest.max(entry.version);
         Ok(())
     }
 
     /// The footer, once filter and index have their places and lengths.
-    pub fn footer(self, filter: FramePlace, index_place: u64, index_length: u32) -> Footer
-        ensures { foot_of result ≡ record {
-          head = record { filter = Some filter; index_place = index_place; index_length = index_length; count = self.count; greatest = self.greatest; first = self.first; last = self.last };
-          points = self.points.items;
-        } }
+    pub fn footer(
+        self,
+        alloc: Global,
+        filter: FramePlace,
+        index: FramePlace,
+    ) -> Result<Footer, AllocError>
+        ensures { IfOk result (λ footer. foot_of footer ≡ record {
+          head = record { filter = Some filter; index_place = index.place; index_length = index.length; count = self.count; greatest = self.greatest; first = self.first; last = self.last };
+          points = points_in self.points;
+        }) }
     {
-        Footer {
+        let points = points_of(alloc, &self.points)?;
+        Ok(Footer {
             filter: Some(filter),
-            index_place,
-            index_length,
+            index_place: index.place,
+            index_length: index.length,
             count: self.count,
             greatest: self.greatest,
             first: self.first,
             last: self.last,
-            points: self.points,
-        }
+            points,
+        })
     }
 }
 
 // Notes where a body leads.
-fn note(points: &mut Vec<Point>, body: &Body) -> Result<(), AllocError>
-    ensures { OnOk result (points.new.items ≡ with_point body.now points.old.items) }
+fn note(points: &mut PointSums, body: &Body) -> Result<(), AllocError>
+    ensures { OnOk result (points_in points.new ≡ with_point body.now (points_in points.old)) }
 {
     match body {
         Body::Far(pointer) => add_point(points, pointer.segment, pointer.length),

@@ -1,14 +1,17 @@
 -- What a transaction has noted of its reads, and of which reads it is the note.
-use Rattle.std.specs.Prelude.{◌≡◌, ℕ, true, false, ◌++◌, if◌then◌else◌, is_some, List, [], ◌∷◌, Option, Some, None}
+use Rattle.std.specs.Prelude.{◌≡◌, ℕ, Bool, true, false, ◌++◌, if◌then◌else◌, is_some, List, [], ◌∷◌, Option, Some, None}
+use Rattle.std.specs.BTreeSet.{insert_key}
 use Rattle.std.specs.FinMap.{get}
-use Rattle.vl_model.specs.Keys.{Stored, Row, Writes}
+use Rattle.std.specs.List.{list_any}
+use Rattle.std.specs.Ordering.{eq_by_cmp}
+use Rattle.vl_model.specs.Keys.{Stored, Row, Writes, key_cmp}
 use Rattle.vl_model.specs.Notes.{AreNotesOf}
 use Rattle.vl_model.specs.Reads.{Read, KeyRead, RangeRead, Scan, bound, covered}
 use Rattle.vl_model.specs.declared.span.Span.{Span}
 use Rattle.vl_model.specs.declared.way.Way.{Way}
 use Rattle.vl_model.specs.declared.way.Way.TheVariants.{Up, Down}
 
--- the keys that were read, and the intervals that scans covered
+-- the keys that were read, in rising order and each once, and the intervals that scans covered
 pub record Notes : Type 0 where
   pub keys : List (List ℕ)
   pub spans : List Span
@@ -16,8 +19,13 @@ pub record Notes : Type 0 where
 abbrev pub no_notes : Notes
 no_notes = record { keys = []; spans = [] }
 
+abbrev pub has_key : Notes → List ℕ → Bool
+has_key notes key = list_any (eq_by_cmp key_cmp key) notes.keys
+
+-- the notes with a key; one that is noted already takes no second note
 abbrev pub with_key : Notes → List ℕ → Notes
-with_key notes key = record notes { keys = notes.keys ++ key ∷ [] }
+with_key notes key =
+    if has_key notes key then notes else record notes { keys = insert_key key_cmp notes.keys key }
 
 abbrev pub with_span : Notes → Span → Notes
 with_span notes span = record notes { spans = notes.spans ++ span ∷ [] }

@@ -1,27 +1,34 @@
-ghost use Rattle.std.specs.Prelude.{◌≡◌, [], OnOk, OnErr, IfOk};
+ghost use Rattle.std.specs.Prelude.{◌≡◌, [], OnOk, OnErr, IfOk, map};
+ghost use Rattle.std.specs.Box.{boxed_slice_items};
+ghost use Rattle.std.specs.BTreeSet.{insert_key};
 ghost use Rattle.std.specs.Option.{option_copied};
+ghost use Rattle.vl_model.specs.Keys.{key_cmp};
 ghost use Rattle.vl_model.specs.Notes.{AreNotesOf};
 ghost use Rattle.vl_model.specs.Reads.{bound};
-ghost use Rattle.vl_txn.specs.Reads.{no_notes, after_get, scan_of, NotesGet, NotesScan, AddsSpan, covered_up_to};
+ghost use Rattle.vl_txn.specs.Reads.{no_notes, has_key, after_get, scan_of, NotesGet, NotesScan, AddsSpan, covered_up_to};
 
 use crate::Writes;
 use std::alloc::{AllocError, Global};
+use std::boxed::BoxedSlice;
+use std::collections::BTreeSet;
 use std::marker::Model;
 use vl_model::{Key, Span, Value, Way};
 
-/// What a transaction noted of its reads: each key that it read, and each interval that a scan covered.
+/// What a transaction noted of its reads: each key that it read, once, and each interval that a scan covered.
 #[derive(Drop)]
 pub struct Reads {
-    keys: Vec<Key>,
+    keys: BTreeSet<BoxedSlice<u8>>,
     spans: Vec<Span>,
 }
 
 impl Model for Reads {
+    ghost use Rattle.std.specs.Prelude.{map};
+    ghost use Rattle.std.specs.Box.{boxed_slice_items};
     ghost use Rattle.vl_txn.specs.Reads.{Notes};
 
     ghost Value = { Notes };
 
-    ghost view = { λ a. record { keys = a.keys.items; spans = a.spans.items } };
+    ghost view = { λ a. record { keys = map boxed_slice_items a.keys.keys; spans = a.spans.items } };
 }
 
 impl Reads {
@@ -30,23 +37,22 @@ impl Reads {
         ensures of_none { AreNotesOf [] result.keys result.spans }
     {
         Reads {
-            keys: Vec::new(alloc),
+            keys: BTreeSet::new(alloc),
             spans: Vec::new(alloc),
         }
     }
 
-    /// Notes a get of a key, which is none where the transaction has written the key itself.
+    /// Notes a get of a key, which is none where the transaction has written the key itself. A key that is noted
+    /// already stays noted once.
     pub fn note_get(&mut self, own: &Writes, key: &[u8]) -> Result<(), AllocError>
         ensures ok { OnOk result (self.new ≡ after_get own.now key.now self.old) }
         ensures noted { OnOk result (NotesGet own.now key.now self.old self.new) }
         ensures err { OnErr result (self.new ≡ self.old) }
     {
-        if own.get(key).is_some() {
+        if own.get(key).is_some() || self.has(key) {
             return Ok(());
         }
-        let key = Key::copy_of(*self.keys.allocator(), key)?;
-        self.keys.push(key)?;
-        Ok(())
+        self.add(key)
     }
 
     /// Notes a scan from `lo` on and below `hi` that gave these rows, of which there may be as many as the limit.
@@ -74,8 +80,8 @@ impl Reads {
     }
 
     /// The keys that were read.
-    pub fn keys(&self) -> &[Key]
-        ensures { result.now ≡ self.now.keys }
+    pub fn keys(&self) -> &BTreeSet<BoxedSlice<u8>>
+        ensures { map boxed_slice_items result.now.keys ≡ self.now.keys }
     {
         &self.keys
     }
@@ -85,6 +91,23 @@ impl Reads {
         ensures { result.now ≡ self.now.spans }
     {
         &self.spans
+    }
+
+    // Whether a key is noted.
+    fn has(&self, key: &[u8]) -> bool
+        ensures { result ≡ has_key self.now key.now }
+    {
+        self.keys.contains(key)
+    }
+
+    // Notes a key.
+    fn add(&mut self, key: &[u8]) -> Result<(), AllocError>
+        ensures ok { OnOk result (self.new ≡ record self.old { keys = insert_key key_cmp self.old.keys key.now }) }
+        ensures err { OnErr result (self.new ≡ self.old) }
+    {
+        let key = BoxedSlice::from_slice(*self.spans.allocator(), key)?;
+        self.keys.insert(key)?;
+        Ok(())
     }
 }
 

@@ -1,27 +1,37 @@
 -- How long a table and its parts are.
-use Rattle.std.specs.Prelude.{◌≡◌, ℕ, Bool, true, false, Some, None, ◌+◌, ◌*◌, List, [], ◌∷◌, ◌++◌, length}
-use Rattle.std.specs.List.{sum_by}
+use Rattle.std.specs.Prelude.{◌≡◌, ℕ, Bool, true, false, Some, None, ◌+◌, ◌*◌, ◌≤◌, List, [], ◌∷◌, ◌++◌, length}
+use Rattle.std.specs.List.{AllByRecursion, sum_by}
 use Rattle.std.proofs.Common.{cond, refl, arith, length-append}
+use Rattle.std.proofs.lemmas.Bool.Decides.{nat_tests}
 use Rattle.std.proofs.lemmas.List.Sums.{sum_by-cons}
 use Rattle.byteorder.specs.Endian.{big_bytes}
 use Rattle.vl_frame.specs.Frame.{frame_bytes}
 use Rattle.vl_frame.specs.laws.Laws.{length-frame_bytes}
 use Rattle.vl_frame.specs.declared.kinds.FrameKind.TheVariants as kinds
+use Rattle.vl_model.specs.Keys.{is_key_length}
 use Rattle.vl_model.specs.declared.value.Value.{Value}
 use Rattle.vl_model.specs.declared.entry.Entry.{Entry}
 use Rattle.vl_model.specs.declared.entry.Body.{Body}
 use Rattle.vl_model.specs.declared.entry.Body.TheVariants.{Inline, Gone, Far, Logged}
 use Rattle.vl_filter.specs.Filters.{byte_count, filter_body}
 use Rattle.vl_filter.specs.laws.Lengths.{length-filter_body}
-use Rattle.vl_block.specs.Cutting.{block_frame_length, blocks, body_length, entry_length, filter_frame_length, filter_place_length, first_key, footer_frame_length, index_frame_length, keys_of, last_key, points_of, table_length, tag_length}
+use Rattle.vl_block.specs.Cutting.{begun_length, block_frame_length, blocks, body_length, entry_length, filter_frame_length, filter_place_length, first_key, footer_frame_length, index_frame_length, keys_of, last_key, longest_body, points_of, table_length, tag_length}
 use Rattle.vl_block.specs.declared.points.Point.{Point}
 use Rattle.vl_block.specs.Blocks.{block_body, entries}
-use Rattle.vl_block.specs.Entries.{body_bytes, entry_bytes, inline_bytes, key_bytes, tag_bytes}
+use Rattle.vl_block.specs.laws.CuttingLaws.{blocks-fit}
+use Rattle.vl_block.specs.Entries.{IsBody, IsEntry, body_bytes, entry_bytes, inline_bytes, key_bytes, tag_bytes}
 use Rattle.vl_block.specs.Formats.{has_filter, has_tags}
 use Rattle.vl_block.specs.Footer.{footer_body, frame_place_bytes, head_bytes, points}
 use Rattle.vl_block.specs.Index.{index_body, places}
 use Rattle.vl_block.specs.Lists.{counted_bytes, items_bytes}
 use Rattle.vl_block.specs.Bytes.{block_places, blocks_bytes, filter_bytes, filter_place, filter_said, foot, footer_bytes, footer_place, index_bytes, index_place, table_bytes}
+
+key_short : (n : ℕ) → is_key_length n ≡ true → n ≤ 4096
+key_short n lawful = grind (arith, nat_tests)
+
+by_tag : (t : Bool) → cond t 1 0 ≤ 1
+by_tag true = omega arith
+by_tag false = omega arith
 
 by_format : (t : Bool) (tag : ℕ) → length (cond t (tag ∷ []) []) ≡ cond t 1 0
 by_format true tag = refl
@@ -54,6 +64,30 @@ length-entries format (e ∷ es) =
 
 pub length-block_body : (format : ℕ) (b : List Entry) → length (block_body format b) ≡ 4 + sum_by (entry_length format) b
 length-block_body format b = omega (arith, length-entries format b)
+
+-- an entry that a table may have fits into a block of its own
+pub entry-fits : (format : ℕ) (e : Entry) → IsEntry format e → begun_length format e ≤ longest_body
+entry-fits format e is = by e.body is.body
+  where
+    by : (body : Body) → IsBody format body → 4 + (2 + length e.key + 8 + 1 + body_length format body) ≤ longest_body
+    by (Inline value) fits = omega (arith, fits.short, key_short (length e.key) is.key, by_tag (has_tags format))
+    by Gone fits = omega (arith, key_short (length e.key) is.key)
+    by (Far pointer) fits = omega (arith, key_short (length e.key) is.key)
+    by (Logged value pointer) fits = absurd fits
+
+-- so no block of a table has a longer body
+pub bodies-fit : (format : ℕ) (es : List Entry) → AllByRecursion (IsEntry format) es
+    → AllByRecursion (λ (b : List Entry). length (block_body format b) ≤ longest_body) (blocks format es)
+bodies-fit format es each = all_bodies (blocks format es) (blocks-fit format es (all_entries es each))
+  where
+    all_entries : (fs : List Entry) → AllByRecursion (IsEntry format) fs → AllByRecursion (λ (e : Entry). begun_length format e ≤ longest_body) fs
+    all_entries [] all = tt
+    all_entries (f ∷ fs) all = (entry-fits format f all.0, all_entries fs all.1)
+
+    all_bodies : (bs : List (List Entry)) → AllByRecursion (λ (b : List Entry). 4 + sum_by (entry_length format) b ≤ longest_body) bs
+        → AllByRecursion (λ (b : List Entry). length (block_body format b) ≤ longest_body) bs
+    all_bodies [] all = tt
+    all_bodies (b ∷ bs) all = (omega (arith, length-block_body format b, all.0), all_bodies bs all.1)
 
 pub length-block : (format number at : ℕ) (b : List Entry)
     → length (frame_bytes number at kinds.Block (block_body format b)) ≡ block_frame_length format b

@@ -26,7 +26,7 @@ use Rattle.vl_recover.specs.declared.fails.OpenError.{OpenError}
 use Rattle.vl_recover.specs.declared.fails.OpenError.TheVariants as why
 use Rattle.vl_recover.specs.declared.found.Findings.{Findings}
 use Rattle.vl_recover.specs.declared.found.LastLog.{LastLog}
-use Rattle.vl_recover.specs.declared.parts.FrozenLog.{FrozenLog}
+use Rattle.vl_memtable.specs.declared.frozen_log.FrozenLog.{FrozenLog}
 use Rattle.vl_recover.specs.declared.prepared.Prepared.{Prepared}
 
 false_true : false ≡ true → ⊥

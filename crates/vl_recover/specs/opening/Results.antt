@@ -3,7 +3,7 @@ use Rattle.std.specs.Prelude.{map, Result, Ok, Err}
 use Rattle.vl_recover.specs.declared.fails.OpenFail.{OpenFail}
 use Rattle.vl_recover.specs.declared.fails.OpenError.{OpenError}
 use Rattle.vl_recover.specs.declared.fails.OpenError.TheVariants as why
-use Rattle.vl_recover.specs.declared.parts.FrozenLog.{FrozenLog}
+use Rattle.vl_memtable.specs.declared.frozen_log.FrozenLog.{FrozenLog}
 use Rattle.vl_recover.specs.declared.parts.Parts.{Parts}
 use Rattle.vl_recover.specs.opening.Answers.{Recovery, Faulted, HeldLog, NoMemory, Opened, Recovered, Refused, UsedUp}
 use Rattle.vl_recover.specs.opening.Opening.{Damaged, NewerFormat, NotAStore}

@@ -1,5 +1,4 @@
-ghost use Rattle.std.specs.Prelude.{◌==◌, ◌≡◌, ◌≢◌, ◌+◌, ◌<◌, ◌≤◌, ℕ, List, [], ◌∷◌, ◌++◌, Option, Some, length, IfOk, IsErr, OnErr};
-ghost use Rattle.std.specs.List.{position};
+ghost use Rattle.std.specs.Prelude.{◌≡◌, ◌+◌, ◌≤◌, [], length, IfOk, IsErr, OnErr};
 ghost use Rattle.vl_disk.specs.Faults.{HasCause};
 ghost use Rattle.vl_replay.specs.Input.{TakesLineEnd, Refills};
 
@@ -7,6 +6,7 @@ use std::alloc::{AllocError, Global};
 use std::marker::Model;
 use vl_disk::Failed;
 use vl_io::Source;
+use vl_script::find_byte;
 
 /// The most that a source is asked for at a time.
 const BUFFER_BYTES: usize = 65536;
@@ -29,13 +29,6 @@ impl Model for Buffer {
     ghost invariant = { λ b. (b.start ≤ b.end) × (b.end ≤ vec_len b.bytes) × (0 < vec_len b.bytes) };
 }
 
-/// The index of the first line's end.
-fn line_end(bytes: &[u8]) -> Option<usize>
-    ensures { result ≡ position (λ b. b == 10) bytes.now }
-{
-    bytes.iter().position(|b| *b == b'\n')
-}
-
 impl Buffer {
     pub fn new(alloc: Global) -> Result<Self, AllocError>
         ensures { IfOk result (λ buffer. buffer ≡ []) }
@@ -53,7 +46,7 @@ impl Buffer {
         ensures { IfOk result (λ ended. TakesLineEnd ended self.old self.new line.old.items line.new.items) }
     {
         let pending = &self.bytes[self.start..self.end];
-        match line_end(pending) {
+        match find_byte(b'\n', pending) {
             Some(length) => {
                 line.extend_from_slice(&pending[..length])?;
                 self.start += length + 1;

@@ -40,7 +40,7 @@ pub below_turned : (a b : List ℕ) → key_cmp a b ≡ Greater → key_cmp b a 
 below_turned a b is = nat_list_cmp_total.antisymm b a ∙ ap ordering_reverse is
 
 -- of two entries in order the first one's key isn't above the other's
-keys_up : (e f : Entry) → entry_cmp e f ≡ Less → is_gt (key_cmp e.key f.key) ≡ false
+pub keys_up : (e f : Entry) → entry_cmp e f ≡ Less → is_gt (key_cmp e.key f.key) ≡ false
 keys_up e f less = by (key_cmp e.key f.key) less
   where
     by : (r : Ordering) → ordering_then r (nat_cmp f.version e.version) ≡ Less → is_gt r ≡ false

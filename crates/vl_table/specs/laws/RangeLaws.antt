@@ -1,5 +1,5 @@
 -- A table that may not have a key hasn't got it.
-use Rattle.std.specs.Prelude.{◌≡◌, ◌^◌, ◌*◌, ℕ, Bool, true, false, ◌&&◌, ◌||◌, not, nat_le, nat_lt, List, [], ◌∷◌, length, Option}
+use Rattle.std.specs.Prelude.{◌≡◌, ◌^◌, ◌*◌, ℕ, Bool, true, false, ◌&&◌, ◌||◌, not, nat_le, nat_lt, List, [], ◌∷◌, length}
 use Rattle.std.specs.List.{AllByRecursion}
 use Rattle.std.specs.Ordering.{eq_by_cmp, is_gt, is_lt}
 use Rattle.std.specs.declared.cmp.Ordering.{Ordering}
@@ -14,11 +14,11 @@ use Rattle.vl_model.specs.declared.entry.Entry.{Entry}
 use Rattle.vl_block.specs.Bytes.{filter_bits}
 use Rattle.vl_block.specs.Cutting.{first_key, keys_of, last_key, with_key}
 use Rattle.vl_block.specs.Footer.{Foot}
+use Rattle.vl_block.specs.Shapes.{IsShapeOf}
+use Rattle.vl_block.specs.declared.shape.TableShape.{TableShape}
 use Rattle.vl_block.specs.Formats.{has_filter}
 use Rattle.vl_run.specs.laws.OrderLaws.{IsRising, rising}
 use Rattle.vl_table.specs.MayHold.{is_in_range, may_hold}
-use Rattle.vl_table.specs.Opened.{IsOf}
-use Rattle.vl_table.specs.declared.table.Table.{Table}
 use Rattle.vl_table.specs.laws.KeyRanges.{HasNone, all_above, all_below, all_map, none_above, none_below}
 
 -- ---- the filter
@@ -75,22 +75,22 @@ none_passes bits key (e ∷ es) refused all = (by (eq_by_cmp key_cmp key e.key) 
 
 -- ---- one table
 
-module _ {H : Type 0} (bytes_of : H → Option (List ℕ)) where
-  pub in_order : (t : Table H) (es : List Entry) → IsOf bytes_of t es → IsRising es
+module _ (number : ℕ) where
+  pub in_order : (t : TableShape) (es : List Entry) → IsShapeOf number es t → IsRising es
   in_order t es is = rising es is.table.tabled.ordered
 
-  pub first_is : (t : Table H) (es : List Entry) → IsOf bytes_of t es → t.footer.first ≡ first_key es
-  first_is t es is = ap (λ (f : Foot). f.head.first) is.says
+  pub first_is : (t : TableShape) (es : List Entry) → IsShapeOf number es t → t.footer.first ≡ first_key es
+  first_is t es is = ap (λ (f : Foot). f.head.first) is.foot
 
-  pub last_is : (t : Table H) (es : List Entry) → IsOf bytes_of t es → t.footer.last ≡ last_key es
-  last_is t es is = ap (λ (f : Foot). f.head.last) is.says
+  pub last_is : (t : TableShape) (es : List Entry) → IsShapeOf number es t → t.footer.last ≡ last_key es
+  last_is t es is = ap (λ (f : Foot). f.head.last) is.foot
 
   -- a key above the last one
-  pub none_behind : (key : List ℕ) (t : Table H) (es : List Entry) → IsOf bytes_of t es → key_cmp key t.footer.last ≡ Greater → HasNone key es
+  pub none_behind : (key : List ℕ) (t : TableShape) (es : List Entry) → IsShapeOf number es t → key_cmp key t.footer.last ≡ Greater → HasNone key es
   none_behind key t es is above =
       none_below key es (all_below key es (in_order t es is) (ap (key_cmp key) (sym (last_is t es is)) ∙ above))
 
-  none_outside : (key : List ℕ) (t : Table H) (es : List Entry) → IsOf bytes_of t es → is_in_range key t ≡ false → HasNone key es
+  none_outside : (key : List ℕ) (t : TableShape) (es : List Entry) → IsShapeOf number es t → is_in_range key t ≡ false → HasNone key es
   none_outside key t es is outside = by (key_cmp key t.footer.first) (key_cmp key t.footer.last) refl refl outside
     where
       below : key_cmp key t.footer.first ≡ Less → HasNone key es
@@ -106,7 +106,7 @@ module _ {H : Type 0} (bytes_of : H → Option (List ℕ)) where
       by Greater Equal first last test = absurd cc
 
   -- where a table may not have a key it hasn't
-  pub holds_none : (key : List ℕ) (t : Table H) (es : List Entry) → IsOf bytes_of t es → may_hold key t ≡ false → HasNone key es
+  pub holds_none : (key : List ℕ) (t : TableShape) (es : List Entry) → IsShapeOf number es t → may_hold key t ≡ false → HasNone key es
   holds_none key t es is refused = by (is_in_range key t) refl refused
     where
       by : (b : Bool) → is_in_range key t ≡ b → (b && passes t.filter.items key) ≡ false → HasNone key es

@@ -1,5 +1,5 @@
 -- The blocks of a true table stand where its index says.
-use Rattle.std.specs.Prelude.{◌≡◌, ◌<◌, ◌^◌, ℕ, List, [], ◌∷◌, ◌++◌, length, drop, get_or, Option}
+use Rattle.std.specs.Prelude.{◌≡◌, ◌<◌, ◌≤◌, ◌^◌, ℕ, List, [], ◌∷◌, ◌++◌, length, drop, get_or, Option}
 use Rattle.std.specs.List.{AllByRecursion}
 use Rattle.std.proofs.Common.{refl, ap, sym, subst, ◌∙◌, arith}
 use Rattle.std.proofs.lemmas.List.{take-append-drop}
@@ -7,17 +7,20 @@ use Rattle.vl_frame.specs.laws.Laws.{length-frame_bytes, one_frame}
 use Rattle.vl_frame.specs.declared.kinds.FileKind.TheVariants as files
 use Rattle.vl_frame.specs.declared.kinds.FrameKind.TheVariants as kinds
 use Rattle.vl_model.specs.declared.entry.Entry.{Entry}
-use Rattle.vl_block.specs.Cutting.{blocks}
+use Rattle.vl_block.specs.Cutting.{blocks, longest_body}
 use Rattle.vl_block.specs.Blocks.{IsBlock, SpellsBlock, block_body}
 use Rattle.vl_block.specs.laws.BlockLaws.{one_block}
 use Rattle.vl_block.specs.declared.index.BlockPlace.{BlockPlace}
-use Rattle.vl_table.specs.Buffers.{HasBlock, StandsBlock}
 use Rattle.vl_block.specs.Bytes.{table_bytes, IsTable}
-use Rattle.vl_block.specs.laws.Lengths.{length-block}
-use Rattle.vl_table.specs.Opened.{IsOf}
+use Rattle.vl_block.specs.laws.Lengths.{bodies-fit, length-block}
+use Rattle.vl_table.specs.Kept.{HasBlock, StandsBlock}
+use Rattle.vl_table.specs.Tables.{IsOf, number_of, shape_of}
 use Rattle.vl_table.specs.laws.TablePlaces.{BlockAt, block_at, block_bytes}
 use Rattle.vl_block.specs.laws.Places.{length-block_places}
-use Rattle.vl_table.specs.declared.block_buffer.BlockBuffer.{BlockBuffer}
+use Rattle.vl_table.specs.declared.slot.BlockId.{BlockId}
+use Rattle.vl_table.specs.declared.slot.Slot.{Slot}
+use Rattle.vl_block.specs.Shapes.{IsShapeOf}
+use Rattle.vl_block.specs.declared.shape.TableShape.{TableShape}
 use Rattle.vl_table.specs.declared.table.Table.{Table}
 use Rattle.vl_table.specs.Seeks.{IsBadBlock}
 
@@ -42,23 +45,30 @@ block_stands format number es i p is b =
         };
         sized = b.length ∙ sym (length-block format number p.place b.block) ∙ length-frame_bytes number p.place kinds.Block body;
       };
-      says = record { lawful = all_at (IsBlock format) b.front b.block b.back (subst (AllByRecursion (IsBlock format)) b.split is.each); spelled = refl };
+      says = record {
+        short = all_at (λ c. length (block_body format c) ≤ longest_body) b.front b.block b.back
+            (subst (AllByRecursion (λ c. length (block_body format c) ≤ longest_body)) b.split (bodies-fit format es is.tabled.each));
+        lawful = all_at (IsBlock format) b.front b.block b.back (subst (AllByRecursion (IsBlock format)) b.split is.each);
+        spelled = refl;
+      };
     }
 
--- so it is what the buffer has
-pub block_is : (buffer : BlockBuffer) (format number : ℕ) (bytes : List ℕ) (place size : ℕ) (es others : List Entry) → HasBlock buffer format number bytes place size es
-    → StandsBlock format number bytes place size others → es ≡ others
-block_is buffer format number bytes place size es others has stands =
-    let one = one_frame files.Table number place (drop place bytes) kinds.Block kinds.Block has.stands.body stands.body has.stands.frame.frame stands.frame.frame in
-    one_block format stands.body es others (subst (λ (l : List ℕ). SpellsBlock format l es) one.1 has.stands.says) stands.says
+-- so it is what a slot has
+pub block_is : (slot : Slot) (id : BlockId) (bytes : List ℕ) (es others : List Entry) → HasBlock slot id bytes es
+    → StandsBlock id.format id.number bytes id.place id.length others → es ≡ others
+block_is slot id bytes es others has stands =
+    let one = one_frame files.Table id.number id.place (drop id.place bytes) kinds.Block kinds.Block has.has.stands.body stands.body has.has.stands.frame.frame stands.frame.frame in
+    one_block id.format stands.body es others (subst (λ (l : List ℕ). SpellsBlock id.format l es) one.1 has.has.stands.says) stands.says
 
-pub named_block : {H : Type 0} (bytes_of : H → Option (List ℕ)) (t : Table H) (es : List Entry) (i : ℕ) (p : BlockPlace) → IsOf bytes_of t es → i < length t.blocks.items
-    → p ≡ get_or t.blocks.items i p → BlockAt t.format 16 (blocks t.format es) i p
-named_block bytes_of t es i p is within found =
-    block_at t.format 16 (blocks t.format es) i p (omega (arith, within, ap length is.blocks, length-block_places t.format 16 (blocks t.format es))) (found ∙ ap (λ l. get_or l i p) is.blocks)
+pub named_block : (number : ℕ) (s : TableShape) (es : List Entry) (i : ℕ) (p : BlockPlace) → IsShapeOf number es s → i < length s.blocks.items
+    → p ≡ get_or s.blocks.items i p → BlockAt s.format 16 (blocks s.format es) i p
+named_block number s es i p is within found =
+    block_at s.format 16 (blocks s.format es) i p (omega (arith, within, ap length is.blocks, length-block_places s.format 16 (blocks s.format es))) (found ∙ ap (λ l. get_or l i p) is.blocks)
 
 -- a true table has no bad block
-pub no_bad_block : {H : Type 0} (bytes_of : H → Option (List ℕ)) (t : Table H) (es : List Entry) (damage : ℕ) → IsOf bytes_of t es → IsBadBlock t (table_bytes t.format t.number es) damage → ⊥
+pub no_bad_block : {H : Type 0} (bytes_of : H → Option (List ℕ)) (t : Table H) (es : List Entry) (damage : ℕ) → IsOf bytes_of t es
+    → IsBadBlock (shape_of t) (table_bytes (shape_of t).format (number_of t) es) damage → ⊥
 no_bad_block bytes_of t es damage is bad =
-    let b = named_block bytes_of t es bad.at bad.place is bad.named bad.place_is in
-    bad.none.0 b.block (block_stands t.format t.number es bad.at bad.place is.table b)
+    let s = shape_of t in
+    let b = named_block s.number s es bad.at bad.place is.shape bad.named bad.place_is in
+    bad.none.0 b.block (block_stands s.format s.number es bad.at bad.place is.shape.table b)

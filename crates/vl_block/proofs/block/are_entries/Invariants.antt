@@ -1,5 +1,5 @@
-use Rattle.vl_block.proofs.Scans.{UnderWay}
+use Rattle.vl_block.proofs.StartSteps.{Finding}
 use Rattle.vl_block.proofs.block.are_entries.Given as goal
 
-abbrev pub invariant-loop : goal.invariant-loop
-invariant-loop l = UnderWay l.format l.bytes l.count l.counter l.last l.rest
+abbrev pub invariant-loop-i : goal.invariant-loop-i
+invariant-loop-i l = Finding l.format l.bytes l.count l.i l.starts l.last l.rest

@@ -1,71 +1,75 @@
-use Rattle.std.proofs.Common.{◌≡◌, ◌∙◌, ◌+◌, ap, sym, subst, suc, List, take, drop, get_or}
 use Rattle.std.specs.Prelude.{Ok, Err}
+use Rattle.std.specs.Option.{option_map}
+use Rattle.std.proofs.Common.{◌≡◌, ◌∙◌, ap, sym, subst, ◌+◌, suc, List, take, drop, get_or}
 use Rattle.std.proofs.lemmas.List.{take_all}
 use Rattle.std.proofs.lemmas.Result.{err_from_is_err_and}
+use Rattle.vl_block.specs.Founds.{found_of}
 use Rattle.vl_table.specs.declared.table.Table.{Table}
-use Rattle.vl_levels.specs.LevelTables.{AreAllApart, AreApart, AreFiles, all_tables}
-use Rattle.vl_levels.specs.LookedUp.{LookedUp}
-use Rattle.vl_levels.proofs.LooksOn.{fails_on, looks_on, stops_on}
-use Rattle.vl_levels.proofs.Parts.{all-middle, all_get, tables-next, tables-rest, tables-split}
-use Rattle.vl_levels.specs.Looks.{sought}
+use Rattle.vl_levels.specs.LevelTables.{AreAllApart, AreAllRanged, AreApart, AreRanged, all_tables}
+use Rattle.vl_levels.specs.LookedUp.{LooksOn, LooksThrough}
+use Rattle.vl_levels.proofs.LooksSoFar.{fails_there, looks_on}
+use Rattle.vl_levels.proofs.Parts.{all_get, tables-next, tables-split}
+use Rattle.vl_levels.proofs.ReadsOfSome.{read_level, read_on}
 use Rattle.vl_levels.proofs.levels.look_in_levels.Goals as goal
 
-pub returns-then-is_settled-clause-kept : goal.returns-then-is_settled-clause-kept
-returns-then-is_settled-clause-kept g c = λ files kept file. (c.loop-level.invariant files kept file).kept
-
-pub returns-then-is_settled-clause-answers : goal.returns-then-is_settled-clause-answers
-returns-then-is_settled-clause-answers g c = λ files kept file.
-    let i = c.loop-level.level-index in
-    let ls = c.args.levels.now in
-    stops_on g.H.HeldFile.bytes files c.args.look c.args.key.now (AreAllApart ls) (all_tables (take i ls)) _ _ c.loop-level.buffer c.loop-level.best (c.loop-level.invariant files kept file)
-    (all_tables (drop i ls)) (all_tables ls) (tables-rest ls i) (sym c.is_settled.ensures ∙ c.if-is_settled.true)
-
-pub returns-in_err-older-clause-kept : goal.returns-in_err-older-clause-kept
-returns-in_err-older-clause-kept g c = λ files kept file.
+pub returns-in_err-best-clause-kept : goal.returns-in_err-best-clause-kept
+returns-in_err-best-clause-kept g c = λ files reads.
     let i = c.loop-level.level-index in
     let ls = c.args.levels.now in
     let level = c.as_slice.result.now in
     let is = subst (λ (l : List (Table g.row.H.Denot)). l ≡ get_or ls i l) (sym c.as_slice.ensures) c.level-item.is in
-    let parts = tables-split ls i level c.loop-level-test.true is in
-    c.look_in_level.ensures.kept files (c.loop-level.invariant files kept file).kept
-    (all-middle (λ (t : Table g.row.H.Denot). files t.number ≡ g.H.HeldFile.bytes t.held) (all_tables (take i ls)) level (all_tables (drop (suc i) ls))
-    (subst (AreFiles g.H.HeldFile.bytes files) parts file))
+    let now = read_on g.H.HeldFile.bytes files c.args.reader.now c.loop-level.reader (all_tables ls) (c.loop-level.invariant files reads).kept reads in
+    c.look_in_level.ensures.kept files (read_level g.H.HeldFile.bytes files c.loop-level.reader ls i level c.loop-level-test.true is now)
 
-pub returns-in_err-older-clause-answers : goal.returns-in_err-older-clause-answers
-returns-in_err-older-clause-answers g c = λ files kept file.
+pub returns-in_err-best-clause-answers : goal.returns-in_err-best-clause-answers
+returns-in_err-best-clause-answers g c = λ files reads.
     let i = c.loop-level.level-index in
     let ls = c.args.levels.now in
     let level = c.as_slice.result.now in
     let is = subst (λ (l : List (Table g.row.H.Denot)). l ≡ get_or ls i l) (sym c.as_slice.ensures) c.level-item.is in
-    let parts = tables-split ls i level c.loop-level-test.true is in
-    let so = c.loop-level.invariant files kept file in
+    let so = c.loop-level.invariant files reads in
+    let now = read_on g.H.HeldFile.bytes files c.args.reader.now c.loop-level.reader (all_tables ls) so.kept reads in
     let p = err_from_is_err_and c.from_residual.result c.from_residual.ensures.1 in
-    fails_on g.H.HeldFile.bytes files c.args.look c.args.key.now (AreAllApart ls) (all_tables (take i ls)) _ _ c.loop-level.buffer c.loop-level.best so
-    level (all_tables (drop (suc i) ls)) (all_tables ls) (AreApart level) _ c.in_err-older.field-0.0 c.from_residual.result parts (p.1 ∙ ap Err p.2)
+    fails_there g.H.HeldFile.bytes files (AreAllApart ls) (AreAllApart ls × AreAllRanged ls) c.args.look c.args.key.now
+    (option_map (found_of c.args.key.now) c.args.newer) (all_tables (take i ls)) level
+    (g.R.Reader.faults c.args.reader.now.reader) (g.R.Reader.faults c.loop-level.reader.reader) (g.R.Reader.faults c.look_in_level.new.reader.reader)
+    c.loop-level.reader c.loop-level.best so (all_tables (drop (suc i) ls)) (all_tables ls) (AreApart level) c.in_err-best.field-0.0 c.from_residual.result
+    (tables-split ls i level c.loop-level-test.true is) (p.1 ∙ ap Err p.2)
     (λ apart. subst AreApart (sym is) (all_get AreApart ls i level apart c.loop-level-test.true))
-    (c.in_err-older.ensures.answers files so.kept
-    (all-middle (λ (t : Table g.row.H.Denot). files t.number ≡ g.H.HeldFile.bytes t.held) (all_tables (take i ls)) level (all_tables (drop (suc i) ls))
-    (subst (AreFiles g.H.HeldFile.bytes files) parts file)))
+    (c.in_err-best.ensures.answers files (read_level g.H.HeldFile.bytes files c.loop-level.reader ls i level c.loop-level-test.true is now))
 
 pub loop-level-preserved : goal.loop-level-preserved
-loop-level-preserved g c = λ files kept file.
+loop-level-preserved g c = λ files reads.
     let i = c.loop-level.level-index in
     let ls = c.args.levels.now in
     let level = c.as_slice.result.now in
     let is = subst (λ (l : List (Table g.row.H.Denot)). l ≡ get_or ls i l) (sym c.as_slice.ensures) c.level-item.is in
-    let parts = tables-split ls i level c.loop-level-test.true is in
-    let so = c.loop-level.invariant files kept file in
-    let at = all-middle (λ (t : Table g.row.H.Denot). files t.number ≡ g.H.HeldFile.bytes t.held) (all_tables (take i ls)) level (all_tables (drop (suc i) ls))
-    (subst (AreFiles g.H.HeldFile.bytes files) parts file) in
-    looks_on g.H.HeldFile.bytes files c.args.look c.args.key.now (AreAllApart ls) (all_tables (take i ls)) _ _ c.loop-level.buffer c.loop-level.best so
-    level (all_tables (take (i + 1) ls)) (AreApart level) _ c.look_in_level.new.buffer c.in_ok-older.older _ (tables-next ls i level c.loop-level-test.true is) c.better-best.ensures
+    let so = c.loop-level.invariant files reads in
+    let now = read_on g.H.HeldFile.bytes files c.args.reader.now c.loop-level.reader (all_tables ls) so.kept reads in
+    let at = read_level g.H.HeldFile.bytes files c.loop-level.reader ls i level c.loop-level-test.true is now in
+    looks_on g.H.HeldFile.bytes files (AreAllApart ls) (AreAllApart ls × AreAllRanged ls) c.args.look c.args.key.now
+    (option_map (found_of c.args.key.now) c.args.newer) (all_tables (take i ls)) level
+    (g.R.Reader.faults c.args.reader.now.reader) (g.R.Reader.faults c.loop-level.reader.reader) (g.R.Reader.faults c.look_in_level.new.reader.reader)
+    c.loop-level.reader c.loop-level.best so (all_tables (take (i + 1) ls)) (AreApart level) (AreApart level × AreRanged level)
+    c.look_in_level.new.reader c.in_ok-best.best (tables-next ls i level c.loop-level-test.true is)
     (λ apart. subst AreApart (sym is) (all_get AreApart ls i level apart c.loop-level-test.true))
-    (c.look_in_level.ensures.kept files so.kept at) (c.in_ok-older.ensures.answers files so.kept at)
+    (λ laid. (
+      subst AreApart (sym is) (all_get AreApart ls i level laid.0 c.loop-level-test.true),
+      subst AreRanged (sym is) (all_get AreRanged ls i level laid.1 c.loop-level-test.true),
+    )) (c.look_in_level.ensures.kept files at) (c.in_ok-best.ensures.answers files at) (λ laid. c.in_ok-best.ensures.looks files at laid.0 laid.1)
 
 pub returns-clause-kept : goal.returns-clause-kept
-returns-clause-kept g c = λ files kept file. (c.loop-level.invariant files kept file).kept
+returns-clause-kept g c = λ files reads. (c.loop-level.invariant files reads).kept
 
 pub returns-clause-answers : goal.returns-clause-answers
-returns-clause-answers g c = λ files kept file.
-    subst (λ (l : List (List (Table g.row.H.Denot))). LookedUp g.H.HeldFile.bytes (all_tables l) (AreAllApart c.args.levels.now) (sought c.args.look c.args.key.now) c.args.key.now (g.R.Reader.faults c.args.reader.now) (g.R.Reader.faults c.loop-level.reader) (Ok c.loop-level.best))
-    (take_all c.loop-level.level-index c.args.levels.now c.loop-level-test.false) (c.loop-level.invariant files kept file).asked
+returns-clause-answers g c = λ files reads.
+    subst (λ (l : List (List (Table g.row.H.Denot))). LooksOn g.H.HeldFile.bytes (all_tables l) (AreAllApart c.args.levels.now) c.args.look c.args.key.now
+    (option_map (found_of c.args.key.now) c.args.newer) (g.R.Reader.faults c.args.reader.now.reader) (g.R.Reader.faults c.loop-level.reader.reader)
+    (Ok c.loop-level.best))
+    (take_all c.loop-level.level-index c.args.levels.now c.loop-level-test.false) (c.loop-level.invariant files reads).answer
+
+pub returns-clause-looks : goal.returns-clause-looks
+returns-clause-looks g c = λ files reads apart ranged.
+    subst (λ (l : List (List (Table g.row.H.Denot))). LooksThrough g.H.HeldFile.bytes c.args.look c.args.key.now
+    (option_map (found_of c.args.key.now) c.args.newer) (all_tables l) (option_map (found_of c.args.key.now) c.loop-level.best))
+    (take_all c.loop-level.level-index c.args.levels.now c.loop-level-test.false) ((c.loop-level.invariant files reads).looks (apart, ranged))

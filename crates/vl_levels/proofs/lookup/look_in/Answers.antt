@@ -1,25 +1,50 @@
-use Rattle.std.proofs.Common.{◌∷◌, [], sym, subst}
-use Rattle.vl_levels.specs.LookedUp.{LookedUp}
-use Rattle.vl_levels.proofs.LookSteps.{asks}
+use Rattle.std.specs.Prelude.{ℕ, Bool, true, false, List, Err, Result, Option}
+use Rattle.std.specs.Option.{option_map}
+use Rattle.std.proofs.Common.{◌≡◌, ◌∙◌, ◌∷◌, [], ap, refl, sym, subst}
+use Rattle.std.proofs.lemmas.Result.{err_from_is_err_and}
+use Rattle.vl_block.specs.Founds.{found_of}
+use Rattle.vl_block.specs.declared.found.Found.{Found}
+use Rattle.vl_block.specs.declared.shape.TableShape.{TableShape}
+use Rattle.vl_table.specs.Tables.{shape_of}
+use Rattle.vl_table.specs.declared.fault.TableFault.{TableFault}
+use Rattle.vl_table.specs.declared.table.Table.{Table}
+use Rattle.vl_levels.specs.LookedUp.{LooksOn}
+use Rattle.vl_levels.specs.Looks.{is_wanted}
 use Rattle.vl_levels.specs.declared.look.Look.{Look}
-use Rattle.vl_levels.specs.declared.look.Look.TheVariants.{UpTo, Exactly}
-use Rattle.vl_levels.specs.Looks.{sought}
+use Rattle.vl_levels.proofs.LookSteps.{asks, asks_in_vain, skips}
+use Rattle.vl_levels.proofs.Through.{looks_in, through_one}
 use Rattle.vl_levels.proofs.lookup.look_in.Goals as goal
 
-pub returns-in-UpTo-clause-kept : goal.returns-in-UpTo-clause-kept
-returns-in-UpTo-clause-kept g c = λ files kept file. c.find.ensures.kept files kept file.0
+wants : {H : Type 0} (look : Look) (key : List ℕ) (best : Option Found) (t : Table H) (s : TableShape) (is b : Bool) → s ≡ shape_of t
+    → is ≡ is_wanted look (option_map (found_of key) best) s.footer.greatest → is ≡ b → is_wanted look (option_map (found_of key) best) (shape_of t).footer.greatest ≡ b
+wants look key best t s is b same wanted test =
+    ap (λ (u : TableShape). is_wanted look (option_map (found_of key) best) u.footer.greatest) (sym same) ∙ sym wanted ∙ test
 
-pub returns-in-UpTo-clause-answers : goal.returns-in-UpTo-clause-answers
-returns-in-UpTo-clause-answers g c = λ files kept file.
-    subst (λ (look : Look). LookedUp g.H.HeldFile.bytes (c.args.table.now ∷ []) (Unit {0}) (sought look c.args.key.now) c.args.key.now (g.R.Reader.faults c.args.reader.now) (g.R.Reader.faults c.find.new.reader) c.find.result) (sym c.in-UpTo.is)
-    (asks g.H.HeldFile.bytes (UpTo c.in-UpTo.number) c.args.key.now c.args.table.now (Unit {0}) _ _ c.find.result (λ no. (c.find.ensures.unread no).0)
-    (c.find.ensures.answers files kept file.0))
+pub returns-then-not-is_wanted-clause-answers : goal.returns-then-not-is_wanted-clause-answers
+returns-then-not-is_wanted-clause-answers g c = λ files reads.
+    skips g.H.HeldFile.bytes c.args.look c.args.key.now c.args.table.now (option_map (found_of c.args.key.now) c.args.best) (Unit {0}) c.args.best _ refl
+    (wants c.args.look c.args.key.now c.args.best c.args.table.now c.shape.result.now c.is_wanted.result false c.shape.ensures (c.is_wanted.ensures c.args.key.now) c.if-not-is_wanted.true)
 
-pub returns-in-Exactly-clause-kept : goal.returns-in-Exactly-clause-kept
-returns-in-Exactly-clause-kept g c = λ files kept file. c.exact.ensures.kept files kept file.0
+pub returns-in_err-older-clause-answers : goal.returns-in_err-older-clause-answers
+returns-in_err-older-clause-answers g c = λ files reads.
+    let p = err_from_is_err_and c.from_residual.result c.from_residual.ensures.1 in
+    subst (λ (r : Result (Option Found) TableFault). LooksOn g.H.HeldFile.bytes (c.args.table.now ∷ []) (Unit {0}) c.args.look c.args.key.now
+    (option_map (found_of c.args.key.now) c.args.best) (g.R.Reader.faults c.args.reader.now.reader) (g.R.Reader.faults c.ask.new.reader.reader) r)
+    (sym (p.1 ∙ ap Err p.2))
+    (asks_in_vain g.H.HeldFile.bytes c.args.look c.args.key.now c.args.table.now (option_map (found_of c.args.key.now) c.args.best) (Unit {0}) _ _
+    c.in_err-older.field-0.0 c.in_err-older.ensures.unread (c.in_err-older.ensures.answers files reads))
 
-pub returns-in-Exactly-clause-answers : goal.returns-in-Exactly-clause-answers
-returns-in-Exactly-clause-answers g c = λ files kept file.
-    subst (λ (look : Look). LookedUp g.H.HeldFile.bytes (c.args.table.now ∷ []) (Unit {0}) (sought look c.args.key.now) c.args.key.now (g.R.Reader.faults c.args.reader.now) (g.R.Reader.faults c.exact.new.reader) c.exact.result) (sym c.in-Exactly.is)
-    (asks g.H.HeldFile.bytes (Exactly c.in-Exactly.version) c.args.key.now c.args.table.now (Unit {0}) _ _ c.exact.result (λ no. (c.exact.ensures.unread no).0)
-    (c.exact.ensures.answers files kept file.0))
+pub returns-clause-answers : goal.returns-clause-answers
+returns-clause-answers g c = λ files reads.
+    asks g.H.HeldFile.bytes c.args.look c.args.key.now c.args.table.now (option_map (found_of c.args.key.now) c.args.best) (Unit {0}) _ _
+    c.in_ok-older.older c.better.result (c.better.ensures c.args.key.now) (c.in_ok-older.ensures.answers files reads)
+
+pub returns-clause-looks : goal.returns-clause-looks
+returns-clause-looks g c = λ files reads.
+    through_one g.H.HeldFile.bytes c.args.look c.args.key.now (option_map (found_of c.args.key.now) c.args.best) c.args.table.now
+    (option_map (found_of c.args.key.now) c.better.result)
+    (looks_in g.H.HeldFile.bytes c.args.look c.args.key.now (option_map (found_of c.args.key.now) c.args.best) c.args.table.now
+    c.in_ok-older.older c.better.result
+    (wants c.args.look c.args.key.now c.args.best c.args.table.now c.shape.result.now c.is_wanted.result true c.shape.ensures (c.is_wanted.ensures c.args.key.now) c.if-not-is_wanted.false)
+    (c.better.ensures c.args.key.now)
+    (λ refused. let unread = c.in_ok-older.ensures.unread refused in cc) (c.in_ok-older.ensures.looks files reads))

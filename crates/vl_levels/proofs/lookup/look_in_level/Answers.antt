@@ -1,30 +1,42 @@
-use Rattle.std.proofs.Common.{◌≡◌, ◌<◌, ◌∙◌, ◌∷◌, [], sym, subst, arith, length}
-use Rattle.vl_table.specs.declared.table.Table.{Table}
-use Rattle.vl_levels.proofs.Parts.{all_get}
-use Rattle.vl_levels.specs.LookedUp.{LookedUp}
+use Rattle.std.specs.Option.{option_map}
+use Rattle.std.proofs.Common.{◌<◌, arith, length, refl}
+use Rattle.vl_block.specs.Founds.{found_of}
 use Rattle.vl_levels.proofs.LookSteps.{level_asks, level_past}
-use Rattle.vl_levels.specs.Looks.{sought}
+use Rattle.vl_levels.proofs.ReadsOfSome.{read_at}
+use Rattle.vl_levels.proofs.Through.{laid-parted, level_reached, reaches}
 use Rattle.vl_levels.proofs.lookup.look_in_level.Goals as goal
 
 pub returns-then-at-tables-clause-answers : goal.returns-then-at-tables-clause-answers
-returns-then-at-tables-clause-answers g c = λ files kept file.
-    level_past g.H.HeldFile.bytes c.args.look c.args.key.now c.args.tables.now _ c.ending_before-at.result c.ending_before-at.ensures.first
-    (let all = c.if-at-tables.true in omega arith)
+returns-then-at-tables-clause-answers g c = λ files reads.
+    level_past g.H.HeldFile.bytes c.args.look c.args.key.now c.args.tables.now (option_map (found_of c.args.key.now) c.args.best) c.args.best _
+    c.ending_before-at.result refl c.ending_before-at.ensures.first (let all = c.if-at-tables.true in omega arith)
+
+pub returns-then-at-tables-clause-looks : goal.returns-then-at-tables-clause-looks
+returns-then-at-tables-clause-looks g c = λ files reads apart ranged.
+    let tables = c.args.tables.now in
+    let first = c.ending_before-at.ensures.first (laid-parted g.H.HeldFile.bytes c.args.look c.args.key.now tables apart ranged) in
+    let reached = level_reached g.H.HeldFile.bytes c.args.look c.args.key.now tables (option_map (found_of c.args.key.now) c.args.best) apart ranged in
+    reached.past (let all = c.if-at-tables.true in omega (arith, first))
 
 pub returns-clause-kept : goal.returns-clause-kept
-returns-clause-kept g c = λ files kept file.
+returns-clause-kept g c = λ files reads.
     let within : c.ending_before-at.result < length c.args.tables.now = let some = c.if-at-tables.false in omega (arith, c.ending_before-at.ensures.within) in
-    let at = all_get (λ (t : Table g.row.H.Denot). files t.number ≡ g.H.HeldFile.bytes t.held) c.args.tables.now c.ending_before-at.result c.index-tables-at.result file within in
-    c.look_in.ensures.kept files kept
-    (subst (λ (t : Table g.row.H.Denot). files t.number ≡ g.H.HeldFile.bytes t.held) (sym (c.table.ensures ∙ c.index-tables-at.is)) at, tt)
+    c.look_in.ensures.kept files (read_at g.H.HeldFile.bytes files c.args.reader.now c.args.tables.now c.ending_before-at.result c.index-tables-at.result within c.index-tables-at.is reads)
 
 pub returns-clause-answers : goal.returns-clause-answers
-returns-clause-answers g c = λ files kept file.
+returns-clause-answers g c = λ files reads.
     let t = c.index-tables-at.result in
     let within : c.ending_before-at.result < length c.args.tables.now = let some = c.if-at-tables.false in omega (arith, c.ending_before-at.ensures.within) in
-    let at = all_get (λ (u : Table g.row.H.Denot). files u.number ≡ g.H.HeldFile.bytes u.held) c.args.tables.now c.ending_before-at.result t file within in
-    level_asks g.H.HeldFile.bytes c.args.look c.args.key.now c.args.tables.now t (Unit {0}) _ _ c.ending_before-at.result c.look_in.result c.ending_before-at.ensures.first within
-    c.index-tables-at.is (λ apart. tt)
-    (subst (λ (u : Table g.row.H.Denot). LookedUp g.H.HeldFile.bytes (u ∷ []) (Unit {0}) (sought c.args.look c.args.key.now) c.args.key.now (g.R.Reader.faults c.args.reader.now) (g.R.Reader.faults c.look_in.new.reader) c.look_in.result) c.table.ensures
-    (c.look_in.ensures.answers files kept
-    (subst (λ (u : Table g.row.H.Denot). files u.number ≡ g.H.HeldFile.bytes u.held) (sym (c.table.ensures ∙ c.index-tables-at.is)) at, tt)))
+    level_asks g.H.HeldFile.bytes c.args.look c.args.key.now c.args.tables.now t (Unit {0}) (option_map (found_of c.args.key.now) c.args.best) _ _
+    c.ending_before-at.result c.look_in.result c.ending_before-at.ensures.first within c.index-tables-at.is (λ apart. tt)
+    (c.look_in.ensures.answers files (read_at g.H.HeldFile.bytes files c.args.reader.now c.args.tables.now c.ending_before-at.result t within c.index-tables-at.is reads))
+
+pub returns-clause-looks : goal.returns-clause-looks
+returns-clause-looks g c = λ files reads apart ranged.
+    let t = c.index-tables-at.result in
+    let tables = c.args.tables.now in
+    let within : c.ending_before-at.result < length tables = let some = c.if-at-tables.false in omega (arith, c.ending_before-at.ensures.within) in
+    let first = c.ending_before-at.ensures.first (laid-parted g.H.HeldFile.bytes c.args.look c.args.key.now tables apart ranged) in
+    reaches g.H.HeldFile.bytes c.args.look c.args.key.now tables t (option_map (found_of c.args.key.now) c.args.best) c.ending_before-at.result c.look_in.result
+    first within c.index-tables-at.is apart ranged
+    (c.look_in.ensures.looks files (read_at g.H.HeldFile.bytes files c.args.reader.now tables c.ending_before-at.result t within c.index-tables-at.is reads))

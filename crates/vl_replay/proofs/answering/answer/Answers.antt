@@ -4,7 +4,7 @@ use Rattle.std.specs.Prelude.{is_ok}
 use Rattle.vl_io.specs.Sink.{Takes, TakesPrefix}
 use Rattle.vl_disk.specs.Faults.{Rose}
 use Rattle.vl_replay.specs.Runs.{next_number}
-use Rattle.vl_replay.specs.Endings.{OnlyByDisk, TheSink, TheSource, culprit_of, ending_at, line_at, no_memory_line}
+use Rattle.vl_replay.specs.Endings.{OnlyByDisk, TheSink, TheSource, culprit_of, ending_at, line_at, no_memory_line, TheDisk}
 use Rattle.vl_replay.specs.Halts.{HaltsByDisk}
 use Rattle.vl_replay.specs.Replaying.{disk_of}
 use Rattle.vl_replay.specs.declared.ending.Ending.{Ending}
@@ -133,11 +133,11 @@ returns-in-Ok-clause-as_meant g c by = absurd (cc)
 
 pub returns-in-Err-Damaged-clause-printed : goal.returns-in-Err-Damaged-clause-printed
 returns-in-Err-Damaged-clause-printed g c script stands count next =
-    absurd (c.execute_line.ensures.undamaged script.start stands c.in-Err-Damaged.field-0-0 c.in-Err-Damaged.field-0-1 (c.in-Err-Damaged.is ∙ ap Err c.in-Err-Damaged.field-0-is))
+    absurd (c.execute_line.ensures.undamaged script.start stands c.in-Err-Damaged.name c.in-Err-Damaged.place (c.in-Err-Damaged.is ∙ ap Err c.in-Err-Damaged.field-0-is))
 
 pub returns-in-Err-Damaged-clause-moves : goal.returns-in-Err-Damaged-clause-moves
 returns-in-Err-Damaged-clause-moves g c s stands held =
-    absurd (c.execute_line.ensures.undamaged s stands c.in-Err-Damaged.field-0-0 c.in-Err-Damaged.field-0-1 (c.in-Err-Damaged.is ∙ ap Err c.in-Err-Damaged.field-0-is))
+    absurd (c.execute_line.ensures.undamaged s stands c.in-Err-Damaged.name c.in-Err-Damaged.place (c.in-Err-Damaged.is ∙ ap Err c.in-Err-Damaged.field-0-is))
 
 pub returns-in-Err-Damaged-clause-sink_faults : goal.returns-in-Err-Damaged-clause-sink_faults
 returns-in-Err-Damaged-clause-sink_faults g c = damage_counts_sink g.K.Sink _ _ _ _ c.end_at_damage.result c.end_at_damage.ensures
@@ -162,7 +162,7 @@ returns-in-Err-Damaged-clause-not_the_words g c =
 pub returns-in-Err-Damaged-clause-reads : goal.returns-in-Err-Damaged-clause-reads
 returns-in-Err-Damaged-clause-reads g c =
     finishes_damaged g.K.Sink _ _ _ _ c.end_at_damage.result _ _ c.args.answered
-    (c.execute_line.ensures.met c.in-Err-Damaged.field-0-0 c.in-Err-Damaged.field-0-1 (c.in-Err-Damaged.is ∙ ap Err c.in-Err-Damaged.field-0-is)) c.end_at_damage.ensures
+    (c.execute_line.ensures.met c.in-Err-Damaged.name c.in-Err-Damaged.place (c.in-Err-Damaged.is ∙ ap Err c.in-Err-Damaged.field-0-is)) c.end_at_damage.ensures
 
 pub returns-in-Err-Damaged-clause-as_meant : goal.returns-in-Err-Damaged-clause-as_meant
 returns-in-Err-Damaged-clause-as_meant g c =

@@ -1,5 +1,5 @@
 use Rattle.std.proofs.Common.{◌≡◌, ℕ, ◌+◌, ◌-◌, List, drop, arith, ap, sym, ◌∙◌, subst}
-use Rattle.vl_recover.specs.declared.parts.FrozenLog.{FrozenLog}
+use Rattle.vl_memtable.specs.declared.frozen_log.FrozenLog.{FrozenLog}
 use Rattle.vl_replay.specs.Contents.{GiveEntries}
 use Rattle.vl_replay.specs.Opened.{entries_in}
 use Rattle.vl_replay.proofs.Openings.OpenedText.{give_next}

@@ -9,8 +9,8 @@ returns-in-Ok g c = inl (
   damage_line c.args.name c.args.place,
   refl,
   subst (λ (line : List ℕ). Finishes g.K.Sink c.args.sink.now c.finish.new.sink line (Damaged c.args.name c.args.place) c.finish.result)
-      (c.as_bytes.ensures ∙ c.in-Ok.ensures) c.finish.ensures,
+      (c.as_bytes.ensures.value ∙ c.in-Ok.ensures) c.finish.ensures,
 )
 
-pub returns : goal.returns
-returns g c = inr (no_memory_line, refl, c.finish-in-Err.ensures)
+pub returns-in-Err : goal.returns-in-Err
+returns-in-Err g c = inr (no_memory_line, refl, c.finish-in-Err.ensures)

@@ -1,4 +1,4 @@
-use Rattle.std.proofs.Common.{◌≡◌, ◌+◌, ℕ, List, length, None, Some}
+use Rattle.std.proofs.Common.{◌≡◌, ◌+◌, ℕ, List, length, Some}
 use Rattle.vl_replay.specs.Reading.{HasRead, streams}
 use Rattle.vl_replay.specs.Replaying.{TakesLines, StandsFor, disk_of}
 use Rattle.vl_replay.specs.Runs.{script_of, outside}

@@ -1,5 +1,5 @@
 use Rattle.std.proofs.Common.{inl, inr, subst, sym, ◌∙◌, List, ℕ, refl}
-use Rattle.vl_recover.specs.declared.parts.FrozenLog.{FrozenLog}
+use Rattle.vl_memtable.specs.declared.frozen_log.FrozenLog.{FrozenLog}
 use Rattle.vl_replay.specs.Opened.{IsOpenedStore}
 use Rattle.vl_mem.specs.MemDisk.{state_of}
 use Rattle.vl_mem.specs.CrashImage.{crash_image}

@@ -7,5 +7,6 @@ use Rattle.vl_script.proofs.parse.is_ident.Goals as goal
 
 pub returns-then-word-le-MAX_IDENT_BYTES : goal.returns-then-word-le-MAX_IDENT_BYTES
 returns-then-word-le-MAX_IDENT_BYTES c =
-    let all = all_from_yields_List is_ident_byte _ _ c.all.result c.all.ensures.ran (YieldsList-from_slice c.args.word.now cc) (λ x b q k. search (rules, tests)) in
+    let all = all_from_yields_List is_ident_byte _ _ c.all.result c.all.ensures.ran
+    (YieldsList-from_slice c.args.word.now cc) (λ x b q k. search (rules, tests)) in
     grind (arith, nat_tests)

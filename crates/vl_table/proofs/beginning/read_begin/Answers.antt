@@ -12,7 +12,7 @@ returns-in-Some-clause-answers g c =
       long = omega (arith, g.met.H.HeldFile.sized c.args.held.now bytes told, c.len.ensures, c.if-len-lt-MIN_TABLE_BYTES.false);
       header = header_more format c.args.number bytes (subst (HasHeader format c.args.number) read c.in-Some.ensures.found);
     }))
-    (λ bytes told read p bad. absurd bad) c.in_ok-fill.ensures (gives _ c.args.number _ _ _ format (λ bytes told. refl))
+    (λ bytes told read p bad. absurd bad) c.in_ok-fill.ensures.answers (gives _ c.args.number _ _ _ format (λ bytes told. refl))
 
 pub returns-in-None-clause-answers : goal.returns-in-None-clause-answers
 returns-in-None-clause-answers g c =
@@ -21,5 +21,5 @@ returns-in-None-clause-answers g c =
       λ format begun. c.in-None.ensures.none format (subst (HasHeader format c.args.number) (sym read) (header_fewer format c.args.number bytes begun.header)),
       bad,
     ))
-    c.in_ok-fill.ensures
+    c.in_ok-fill.ensures.answers
     (refuses _ c.args.number 0 _ _ _ c.damaged-in-None.result c.damaged-in-None.ensures (λ bytes told. refl))

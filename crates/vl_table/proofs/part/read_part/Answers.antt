@@ -30,7 +30,7 @@ returns-then-not-is_frame g c =
                 let no = c.if-not-is_frame.true in cc,
             bad,
           ))
-          c.in_ok-fill.ensures
+          c.in_ok-fill.ensures.answers
           (refuses _ c.args.number c.args.place _ _ _ c.damaged-then-not-is_frame.result c.damaged-then-not-is_frame.ensures (λ bytes told. refl));
     }
 
@@ -50,6 +50,6 @@ returns g c =
           (sym (ap length whole ∙ length-cut c.args.place c.args.size bytes (omega (arith, inside, g.met.H.HeldFile.sized c.args.held.now bytes told)))) in
           (found.0, at, sym c.deref.ensures.value ∙ fills c.args.number c.args.place b c.args.kind found.0 found.1 found.2))
           (λ bytes told read p bad. absurd bad)
-          c.in_ok-fill.ensures
+          c.in_ok-fill.ensures.answers
           (gives _ c.args.number _ _ _ tt (λ bytes told. tt));
     }

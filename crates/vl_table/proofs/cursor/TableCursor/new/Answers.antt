@@ -1,24 +1,26 @@
-use Rattle.std.proofs.Common.{◌∙◌, ap, List, [], Some, length, arith}
+use Rattle.std.proofs.Common.{◌≤◌, ◌∙◌, ◌++◌, List, ap, arith}
+use Rattle.std.specs.List.{slice_get}
+use Rattle.std.specs.Option.{option_map}
 use Rattle.vl_model.specs.declared.entry.Entry.{Entry}
-use Rattle.vl_block.specs.declared.index.BlockPlace.{BlockPlace}
-use Rattle.vl_block.specs.Bytes.{table_bytes}
-use Rattle.vl_table.specs.BlocksRead.{blocks_entries, on_way}
-use Rattle.vl_table.proofs.WayEntries.{table_entries}
-use Rattle.vl_table.proofs.CursorSteps.{budget-on_way, left_from}
+use Rattle.vl_run.specs.Order.{within}
+use Rattle.vl_table.specs.CursorParts.{blocks_over, entries_told}
+use Rattle.vl_table.specs.Stretches.{on_way, stretch_of}
+use Rattle.vl_table.specs.declared.stretch.Stretch.{Stretch}
+use Rattle.vl_table.proofs.CursorSteps.{left_of, none_at}
+use Rattle.vl_table.proofs.StretchSteps.{end_on}
+use Rattle.vl_table.proofs.WholeTables.{told_whole}
 use Rattle.vl_table.proofs.cursor.TableCursor.new.Goals as goal
 
 pub returns-clause-left : goal.returns-clause-left
-returns-clause-left g c = λ es is.
+returns-clause-left g c = λ ess are.
+    let bytes = g.H.HeldFile.bytes in
+    let span = c.args.span in
     let way = c.args.way in
-    let number = c.args.table.now.number in
-    let format = c.args.table.now.format in
-    let ps = c.args.table.now.blocks.items in
-    let bytes = table_bytes format number es in
-    ap (λ (l : List Entry). left_from format (g.H.HeldFile.bytes c.args.table.now.held) way l (on_way way ps)) c.new.ensures.items
-    ∙ ap (λ told. left_from format told way [] (on_way way ps)) is.told
-    ∙ ap (λ (qs : List BlockPlace). Some (blocks_entries format way bytes (on_way way qs))) is.blocks
-    ∙ ap Some (table_entries way format number es is.table)
-
-pub returns-clause-budget : goal.returns-clause-budget
-returns-clause-budget g c =
-    omega (arith, ap length c.new.ensures.items, budget-on_way c.args.way c.args.table.now.blocks.items)
+    let ts = c.args.tables.items in
+    let nothing : Stretch = record { first = 0; end = 0 } in
+    let all : Stretch = record { first = 0; end = c.len-end.result } in
+    let past : 0 ≤ 0 = omega arith in
+    let w = told_whole bytes span way ts ess c.len-end.result (c.len-end.ensures ∙ c.args.tables.ok.0) are in
+    (λ i. left_of (w.0 i) (ap (within span) (end_on way nothing c.in_ok-new.field-0 past) i)
+    (entries_told bytes span way (none_at way (slice_get ts 0) nothing past i ++ blocks_over span way (on_way way (stretch_of all ts)))))
+    ∙ ap (option_map (λ (l : List Entry). l)) w.1

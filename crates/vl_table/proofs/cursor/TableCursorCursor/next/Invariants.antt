@@ -1,15 +1,18 @@
-use Rattle.std.proofs.Common.{◌≡◌, ◌≤◌, ◌-◌, length}
+use Rattle.std.proofs.Common.{◌≡◌, ◌≤◌}
 use Rattle.vl_model.specs.Cursors.{Keeps}
-use Rattle.vl_table.specs.CursorLeft.{cursor_budget, cursor_left}
+use Rattle.vl_table.specs.CursorLeft.{GoesOn, HasRead, blocks_left, cursor_budget, cursor_left}
 use Rattle.vl_table.proofs.cursor.TableCursorCursor.next.Given as goal
 
 abbrev pub invariant-steps : goal.invariant-steps
 invariant-steps g l = record {
   left : Keeps (cursor_left g.H.HeldFile.bytes l.fn.self) (cursor_left g.H.HeldFile.bytes l.self);
   budget : cursor_budget l.self ≤ cursor_budget l.fn.self;
-  steady : g.R.Reader.faults l.reader ≡ g.R.Reader.faults l.initial.reader;
-  table : l.self.table.now ≡ l.fn.self.table.now;
+  steady : g.R.Reader.faults l.reader.reader ≡ g.R.Reader.faults l.initial.reader.reader;
+  read : HasRead g.H.HeldFile.bytes l.fn.self l.self;
+  goes : GoesOn l.fn.self l.self;
+  front : l.reader.front ≡ l.initial.reader.front;
+  others : l.reader.others ≡ l.initial.reader.others;
 }
 
 abbrev pub decreases-steps : goal.decreases-steps
-decreases-steps g l = length l.self.table.now.blocks.items - l.self.read
+decreases-steps g l = blocks_left l.self

@@ -4,6 +4,7 @@ use Rattle.std.proofs.Common.{◌≡◌, ◌∷◌, ◌++◌, [], ℕ, List, ap,
 use Rattle.vl_filter.specs.Places.{hashes_of}
 use Rattle.vl_model.specs.Keys.{key_cmp}
 use Rattle.vl_block.specs.Cutting.{with_point}
+use Rattle.vl_table_writer.proofs.Behind.{last_version-push}
 use Rattle.vl_table_writer.proofs.PointLaws.{points_of-push}
 use Rattle.vl_table_writer.proofs.Written.{first_key-push, greatest-push, hashes-push, last_key-push}
 use Rattle.vl_table_writer.proofs.summary.Summary.add.Goals as goal
@@ -14,6 +15,7 @@ returns c = λ es some sums.
     record {
       first = sums.first ∙ sym (first_key-push es e some);
       last = c.in_ok-self.ensures ∙ sym (last_key-push es e);
+      last_version = sym (last_version-push es e);
       count = omega (arith, sums.count, length-append es (e ∷ []));
       greatest = omega (arith, c.max-self.ensures, sums.greatest, greatest-push es e);
       keys = hashes-push es e c.as_slice.result.now c.args.self.now.keys.items c.note_key.new.keys.items some (c.as_slice.ensures ∙ sums.last) sums.keys

@@ -1,5 +1,6 @@
-use Rattle.std.proofs.Common.{◌≡◌, ◌-◌, List, cond, sym, ap, ◌∙◌, ◌++◌, ◌∷◌, [], length, slice_get}
+use Rattle.std.proofs.Common.{◌≡◌, ◌-◌, List, cond, sym, ap, ◌∙◌, ◌++◌, ◌∷◌, [], length, slice_get, map}
 use Rattle.std.specs.Prelude.{None, nat_le}
+use Rattle.std.specs.Box.{boxed_slice_items}
 use Rattle.std.specs.Option.{option_copied}
 use Rattle.vl_model.specs.Reads.{covered}
 use Rattle.vl_model.specs.declared.span.Span.{Span}
@@ -18,10 +19,10 @@ returns-clause-ok c own =
     ] in
     let span = c.in_ok-span.ensures ∙ covered-scan c.args.lo.now c.args.hi.now c.args.limit c.args.way rows own _ last in
     let spans = c.in_ok-push.ensures.items ∙ ap (λ (s : Span). c.self.inside.spans.items ++ (s ∷ [])) span in
-    ap (λ (ss : List Span). record { keys = c.self.inside.keys.items; spans = ss }) spans
+    ap (λ (ss : List Span). record { keys = map boxed_slice_items c.self.inside.keys.keys; spans = ss }) spans
     ∙ ap (λ (notes : Notes). with_span notes (covered (scan_of c.args.lo.now c.args.hi.now c.args.limit c.args.way rows own))) c.self.view_is
 
 pub returns-clause-noted : goal.returns-clause-noted
 returns-clause-noted c =
-    let new : Notes = record { keys = c.self.inside.keys.items; spans = c.push.new.self.items } in
+    let new : Notes = record { keys = map boxed_slice_items c.self.inside.keys.keys; spans = c.push.new.self.items } in
     span_noted (scan_of c.args.lo.now c.args.hi.now c.args.limit c.args.way c.args.rows.now) c.args.self.now new (returns-clause-ok c)

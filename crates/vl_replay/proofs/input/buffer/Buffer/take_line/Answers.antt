@@ -11,7 +11,7 @@ returns-in_ok-extend_from_slice-in-Some c =
     let n = c.in-Some.length in
     let window : List ℕ = take (end - start) (drop start bytes) in
     let seen : window ≡ c.args.self.now = ap (λ (b : List ℕ). take (end - start) (drop start b)) c.deref.ensures.value ∙ c.self.view_is in
-    let split : IsSplit window n = split_at window n (sym c.line_end.ensures ∙ c.in-Some.is) in
+    let split : IsSplit window n = split_at window n (sym c.find_byte.ensures ∙ c.in-Some.is) in
     let behind : drop (n + 1) window ≡ take (end - (start + (n + 1))) (drop (start + (n + 1)) c.self.inside.bytes.items) =
     drop-window bytes start end (n + 1) (omega (arith, split.within, length-take (end - start) (drop start bytes), c.self.invariant))
     ∙ ap (λ (b : List ℕ). take (end - (start + (n + 1))) (drop (start + (n + 1)) b)) c.deref.ensures.value in (
@@ -29,6 +29,6 @@ returns-in_ok-extend_from_slice-in-None c =
     let window : List ℕ = take (end - start) (drop start bytes) in
     let seen : window ≡ c.args.self.now = ap (λ (b : List ℕ). take (end - start) (drop start b)) c.deref.ensures.value ∙ c.self.view_is in (
       empty_window c.self.inside.bytes.items end,
-      subst HasNoLineEnd seen (no_split window (sym c.line_end.ensures ∙ c.in-None.is)),
+      subst HasNoLineEnd seen (no_split window (sym c.find_byte.ensures ∙ c.in-None.is)),
       subst (λ (more : List ℕ). c.extend_from_slice-in-None.new.self.items ≡ c.args.line.now.items ++ more) seen c.in_ok-extend_from_slice-in-None.ensures.items,
     )

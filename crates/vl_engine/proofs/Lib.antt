@@ -1,0 +1,11 @@
+pub mod Appending
+pub mod Beginning
+pub mod Carrying
+pub mod Committing
+pub mod Filing
+pub mod Halted
+pub mod Knowing
+pub mod Opened
+pub mod Represented
+pub mod Seeing
+pub mod Standing

@@ -1,0 +1,27 @@
+use Rattle.std.proofs.Common.{refl, not}
+use Rattle.std.specs.List.{filter}
+use Rattle.std.specs.Prelude.{◌==◌}
+use Rattle.vl_engine.proofs.Knowing.{knows_of}
+use Rattle.vl_engine.proofs.Represented.{represents_live}
+use Rattle.vl_engine.proofs.Standing.{fronts_ended, stands_ended}
+use Rattle.vl_engine.specs.Represents.{Fronts}
+use Rattle.vl_layout.specs.Ruling.{ended}
+use Rattle.vl_layout.specs.declared.live.Live.{Live}
+use Rattle.vl_layout.specs.declared.layout.Layout.{Layout}
+use Rattle.vl_model.specs.History.{History}
+use Rattle.vl_engine.proofs.engine.Engine.end.Goals as goal
+
+pub returns-clause-decides : goal.returns-clause-decides
+returns-clause-decides g c h l is =
+    fronts_ended c.args.self.now.core h l is _ c.end.ensures.log refl (c.end.ensures.knows h (knows_of c.args.self.now.core h l is))
+    c.args.ticket c.end.ensures.oracle
+
+
+pub returns-clause-stands : goal.returns-clause-stands
+returns-clause-stands g c h l is =
+    stands_ended g.D.Held.HeldFile.bytes c.args.self.now.core _ h l is refl c.args.ticket (returns-clause-decides g c h l is.fronts)
+
+pub returns-clause-represents : goal.returns-clause-represents
+returns-clause-represents g c h l is =
+    represents_live g.D.Held.HeldFile.bytes c.args.self.now.core _ h l refl _ _ refl
+    (filter (λ (x : Live). not (x.ticket == c.args.ticket)) l.live) is (returns-clause-stands g c h l is.stands)

@@ -1,0 +1,74 @@
+use Rattle.std.proofs.Common.{ap, refl, sym, subst, ◌∙◌}
+use Rattle.std.specs.Prelude.{Err}
+use Rattle.vl_engine.proofs.Beginning.{decides_begun, decides_refused, has_room, is_full, sees_now, ticket_is}
+use Rattle.vl_engine.proofs.Knowing.{knows_of}
+use Rattle.vl_engine.proofs.Represented.{represents_live}
+use Rattle.vl_engine.proofs.Standing.{fronts_begun, stands_begun}
+use Rattle.vl_engine.specs.Represents.{Fronts, Represents, StandsFor}
+use Rattle.vl_front.specs.declared.front.Front.{Front}
+use Rattle.vl_layout.specs.Rulings.Begin.{begun}
+use Rattle.vl_layout.specs.Tickets.{free_ticket, tickets_of}
+use Rattle.vl_model.specs.History.{last_number}
+use Rattle.vl_oracle.specs.LiveTickets.{LiveTickets}
+use Rattle.vl_oracle.specs.declared.begin_fail.BeginFail.{BeginFail}
+use Rattle.vl_engine.proofs.engine.Engine.view.Goals as goal
+
+pub returns-in-Ok-begin-clause-decides : goal.returns-in-Ok-begin-clause-decides
+returns-in-Ok-begin-clause-decides g c h l is =
+    let core = c.args.self.now.core in
+    let room = has_room core h l is (λ full. let refused = c.in-Ok-begin.ensures.too_many.1 full in cc) in
+    decides_begun l h _ room _ _ (c.in-Ok-begin.ensures.ok.0 ∙ ticket_is core h l is)
+    (c.last.ensures.last ∙ ap (λ (o : LiveTickets). o.last) c.in-Ok-begin.ensures.ok.1 ∙ is.front.last)
+    (fronts_begun core h l is _ c.in-Ok-begin.ensures.log refl (c.in-Ok-begin.ensures.knows h (knows_of core h l is))
+    c.in-Ok-begin.ensures.ok.1 room)
+
+pub returns-in-Ok-begin-clause-stands : goal.returns-in-Ok-begin-clause-stands
+returns-in-Ok-begin-clause-stands g c h l is =
+    let core = c.args.self.now.core in
+    let f = is.fronts in
+    let room = has_room core h l f (λ full. let refused = c.in-Ok-begin.ensures.too_many.1 full in cc) in
+    decides_begun l h _ room _ _ (c.in-Ok-begin.ensures.ok.0 ∙ ticket_is core h l f)
+    (c.last.ensures.last ∙ ap (λ (o : LiveTickets). o.last) c.in-Ok-begin.ensures.ok.1 ∙ f.front.last)
+    (stands_begun g.D.Held.HeldFile.bytes core _ h l is refl
+    (fronts_begun core h l f _ c.in-Ok-begin.ensures.log refl (c.in-Ok-begin.ensures.knows h (knows_of core h l f))
+    c.in-Ok-begin.ensures.ok.1 room))
+
+pub returns-in-Ok-begin-clause-represents : goal.returns-in-Ok-begin-clause-represents
+returns-in-Ok-begin-clause-represents g c h l is =
+    let core = c.args.self.now.core in
+    let f = is.stands.fronts in
+    let room = has_room core h l f (λ full. let refused = c.in-Ok-begin.ensures.too_many.1 full in cc) in
+    decides_begun l h _ room _ _ (c.in-Ok-begin.ensures.ok.0 ∙ ticket_is core h l f)
+    (c.last.ensures.last ∙ ap (λ (o : LiveTickets). o.last) c.in-Ok-begin.ensures.ok.1 ∙ f.front.last)
+    (represents_live g.D.Held.HeldFile.bytes core _ h l refl _ _ refl
+    (begun l (free_ticket (tickets_of l.live)) (last_number h)).live is
+    (stands_begun g.D.Held.HeldFile.bytes core _ h l is.stands refl
+    (fronts_begun core h l f _ c.in-Ok-begin.ensures.log refl (c.in-Ok-begin.ensures.knows h (knows_of core h l f))
+    c.in-Ok-begin.ensures.ok.1 room)))
+
+pub returns-in-Ok-begin-clause-sees : goal.returns-in-Ok-begin-clause-sees
+returns-in-Ok-begin-clause-sees g c h l is =
+    sees_now g.D.Held.HeldFile.bytes c.args.self.now.core h l is c.in_ok-version.version c.in_ok-version.ensures _
+    (c.last.ensures.last ∙ ap (λ (o : LiveTickets). o.last) c.in-Ok-begin.ensures.ok.1 ∙ is.fronts.front.last)
+
+pub returns-in-Err-clause-decides : goal.returns-in-Err-clause-decides
+returns-in-Err-clause-decides g c h l is =
+    let core = c.args.self.now.core in
+    decides_refused l h _ g.row.D-Held.Denot g.row.D-Reader.Denot c.in-Err.why
+    (λ many. is_full core h l is (c.in-Err.ensures.too_many.0 (cc)))
+    (subst (λ (f : Front). Fronts (record core { front = f }) h l) (sym c.in-Err.ensures.err) is)
+
+pub returns-in-Err-clause-stands : goal.returns-in-Err-clause-stands
+returns-in-Err-clause-stands g c h l is =
+    let core = c.args.self.now.core in
+    decides_refused l h _ g.row.D-Held.Denot g.row.D-Reader.Denot c.in-Err.why
+    (λ many. is_full core h l is.fronts (c.in-Err.ensures.too_many.0 (cc)))
+    (subst (λ (f : Front). StandsFor g.D.Held.HeldFile.bytes (record core { front = f }) h l) (sym c.in-Err.ensures.err) is)
+
+pub returns-in-Err-clause-represents : goal.returns-in-Err-clause-represents
+returns-in-Err-clause-represents g c h l is =
+    let core = c.args.self.now.core in
+    decides_refused l h _ g.row.D-Held.Denot g.row.D-Reader.Denot c.in-Err.why
+    (λ many. is_full core h l is.stands.fronts (c.in-Err.ensures.too_many.0 (cc)))
+    (subst (λ (f : Front). Represents g.D.Held.HeldFile.bytes (record core { front = f }) (g.D.Watched.told c.args.self.now.disk) h l)
+    (sym c.in-Err.ensures.err) is)

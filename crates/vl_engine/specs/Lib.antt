@@ -1,0 +1,15 @@
+pub mod Answers
+pub mod Carries
+pub mod Held
+pub mod Known
+pub mod laws
+pub mod Opening
+pub mod Reading
+pub mod Refusing
+pub mod Reopened
+pub mod Represents
+pub mod Sees
+pub mod Shown
+pub mod Staging
+pub mod Steps
+pub mod Writing

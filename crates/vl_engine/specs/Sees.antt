@@ -1,0 +1,55 @@
+-- What a transaction and a view see: the history at their own number, whatever is committed meanwhile. No layout and no disk
+-- stands here, so that no step of the engine touches it.
+use Rattle.std.specs.Prelude.{◌≡◌, ◌≤◌, ℕ, List, [], Option}
+use Rattle.std.specs.FinMap.{empty, entries}
+use Rattle.vl_engine.specs.declared.txn.Txn.{Txn}
+use Rattle.vl_engine.specs.declared.view.View.{View}
+use Rattle.vl_layout.specs.Rulings.Commit.{Transaction}
+use Rattle.vl_layout.specs.Rulings.View as rulings
+use Rattle.vl_layout.specs.Shows.{Shows}
+use Rattle.vl_model.specs.History.{History, last_number}
+use Rattle.vl_model.specs.Notes.{AreNotesOf}
+use Rattle.vl_model.specs.Reads.{IsExplained, Read}
+use Rattle.vl_model.specs.Winners.{Logs}
+use Rattle.vl_model.specs.declared.entry.Entry.{Entry}
+use Rattle.vl_txn.specs.Reads.{no_notes}
+use Rattle.vl_version.specs.Sources.{HasEntries}
+use Rattle.vl_version.specs.declared.version.Version.{Version}
+
+-- The version shows the history at this number, which can be read.
+pub record ShowsAt {H : Type 0} (bytes : H → Option (List ℕ)) (version : Version H) (h : History) (number : ℕ)
+    : Type 0 where
+  pub entries_of : List Entry
+  pub logs : Logs
+  pub has : HasEntries bytes version entries_of logs
+  pub shows : Shows logs entries_of h (λ key. number) number
+  -- while there are no tables no file is read for it;
+  pub alone : version.behind.logs.items ≡ []
+  -- the number is one of the history's
+  pub readable : h.first ≤ number
+  pub known : number ≤ last_number h
+
+-- The transaction sees the history at its number; its notes are those of these reads, which the history explains there.
+pub record Sees {H R : Type 0} (bytes : H → Option (List ℕ)) (txn : Txn H R) (h : History) (reads : List Read)
+    : Type 0 where
+  pub version : ShowsAt bytes txn.version h txn.number
+  pub notes : AreNotesOf reads txn.reads.keys txn.reads.spans
+  pub explained : IsExplained h txn.number reads
+
+-- a view, which notes nothing
+abbrev pub SeesAlone : {H R : Type 0} → (H → Option (List ℕ)) → View H R → History → Type 0
+SeesAlone bytes view h = ShowsAt bytes view.version h view.number
+
+-- one that has read and written nothing yet
+pub record IsNew {H R : Type 0} (txn : Txn H R) : Type 0 where
+  pub reads : txn.reads ≡ no_notes
+  pub writes : txn.writes ≡ empty
+
+-- a transaction that made these reads, as a ruling is asked of it
+abbrev pub asked : {H R : Type 0} → Txn H R → List Read → Transaction
+asked txn reads =
+    record { ticket = txn.ticket; number = txn.number; reads = reads; writes = entries txn.writes }
+
+-- and a view
+abbrev pub asked_view : {H R : Type 0} → View H R → rulings.View
+asked_view view = record { ticket = view.ticket; number = view.number }

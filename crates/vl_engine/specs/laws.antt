@@ -1,0 +1,15 @@
+pub mod CommitLaws
+pub mod FrontLaws
+pub mod HeldLaws
+pub mod KnownLaws
+pub mod LiveLaws
+pub mod LogEntries
+pub mod MemtableLaws
+pub mod ReadLaws
+pub mod ReopenedLaws
+pub mod ReopenedShown
+pub mod RulingLaws
+pub mod SeesLaws
+pub mod ShownLaws
+pub mod StartLaws
+pub mod VersionLaws

@@ -1,0 +1,28 @@
+-- What sources that show the history at a number give to reads at it.
+use Rattle.std.specs.Prelude.{◌≡◌, ℕ, List, Option, Some, None}
+use Rattle.std.specs.FinMap.{get}
+use Rattle.std.proofs.Common.{sym, subst, ◌∙◌, arith}
+use Rattle.vl_layout.specs.Shows.{Shows}
+use Rattle.vl_model.specs.History.{History, contents_at, value_at}
+use Rattle.vl_model.specs.Keys.{Stored}
+use Rattle.vl_model.specs.Winners.{Logs, resolved_at, winner}
+use Rattle.vl_model.specs.declared.entry.Entry.{Entry}
+use Rattle.vl_model.specs.laws.HistoryLaws.{get-contents_at}
+use Rattle.vl_version.specs.Scans.{MayHave, MayStandFor}
+
+module _ (logs : Logs) (es : List Entry) (h : History) (number : ℕ) (shows : Shows logs es h (λ key. number) number) where
+  -- A key's winner leads to what the history has there,
+  pub winner_leads : (key : List ℕ) → resolved_at logs (winner es key number) ≡ Some (value_at h number key)
+  winner_leads key = shows.values key number (omega arith) (omega arith)
+
+  -- so that none leads nowhere,
+  pub none_astray : (key : List ℕ) → resolved_at logs (winner es key number) ≡ None → ⊥
+  none_astray key nowhere = apart (value_at h number key) (sym (winner_leads key) ∙ nowhere)
+    where
+      apart : (value : Option Stored) → Some value ≡ None → ⊥
+      apart value e = cc
+
+  -- and a scan's rows are those of all that stands there.
+  pub contents_stand : MayStandFor logs es number (contents_at h number)
+  contents_stand key =
+      subst (λ led. MayHave led (get (contents_at h number) key)) (sym (winner_leads key)) (get-contents_at h number key)

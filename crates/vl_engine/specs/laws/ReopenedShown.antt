@@ -1,0 +1,79 @@
+-- What logs show of a history they show of it as it is gone on with from that number; and a new store shows no commits.
+use Rattle.std.specs.Prelude.{◌≡◌, ◌≤◌, ℕ, ◌==◌, ◌||◌, Bool, true, false, nat_le, List, [], ◌∷◌, None, Some, refl}
+use Rattle.std.specs.List.{AllByRecursion, filter}
+use Rattle.std.proofs.Common.{sym, ap, subst, ◌∙◌, cond, arith}
+use Rattle.std.proofs.lemmas.Bool.Decides.{nat_tests}
+use Rattle.vl_disk.specs.Crash.{Image}
+use Rattle.vl_engine.specs.Reopened.{reopened}
+use Rattle.vl_engine.specs.Shown.{LogsShow, Shown, logs_entries}
+use Rattle.vl_engine.specs.laws.ReopenedLaws.{low-reopened, value_at-reopened, versions-reopened}
+use Rattle.vl_layout.specs.Shown.{IsOf}
+use Rattle.vl_layout.specs.Shows.{AreUpTo}
+use Rattle.vl_layout.specs.declared.segment.Segment.{Segment}
+use Rattle.vl_model.specs.History.{History, no_history}
+use Rattle.vl_model.specs.Numbers.{has}
+use Rattle.vl_model.specs.Versions.{versions}
+use Rattle.vl_model.specs.declared.entry.Entry.{Entry}
+use Rattle.vl_model.specs.laws.HistoryLaws.{past_value-empty, value_at-first}
+
+has-filtered : (m n : ℕ) → n ≤ m → (ns : List ℕ) → has n ns ≡ true → has n (filter (λ (k : ℕ). nat_le k m) ns) ≡ true
+has-filtered m n le [] there = there
+has-filtered m n le (k ∷ ks) there = by (nat_le k m) (k == n) refl refl there (has-filtered m n le ks)
+  where
+    by : (a b : Bool) → nat_le k m ≡ a → (k == n) ≡ b → (b || has n ks) ≡ true
+        → (has n ks ≡ true → has n (filter (λ (j : ℕ). nat_le j m) ks) ≡ true)
+        → has n (cond a (k ∷ filter (λ (j : ℕ). nat_le j m) ks) (filter (λ (j : ℕ). nat_le j m) ks)) ≡ true
+    by true true low at there later = ap (λ (t : Bool). t || has n (filter (λ (j : ℕ). nat_le j m) ks)) at
+    by true false low other there later =
+        ap (λ (t : Bool). t || has n (filter (λ (j : ℕ). nat_le j m) ks)) other ∙ later there
+    by false true high at there later = absurd (grind (arith, nat_tests, high, at, le))
+    by false false high other there later = later there
+
+of_reopened : (h : History) (m : ℕ) (es : List Entry) → AllByRecursion (IsOf h) es → AreUpTo m es
+    → AllByRecursion (IsOf (reopened h m)) es
+of_reopened h m [] all up = tt
+of_reopened h m (e ∷ es) all up = (
+  subst (λ (ns : List ℕ). has e.version ns ≡ true) (sym (versions-reopened h m e.key))
+      (has-filtered m e.version up.0 (versions h e.key) all.0),
+  of_reopened h m es all.1 up.1,
+)
+
+pub logs_show_reopened : (keep since : ℕ) (logs : List Segment) (h : History) (m : ℕ) → LogsShow keep since logs h m
+    → LogsShow keep since logs (reopened h m) m
+logs_show_reopened keep since logs h m show = record {
+  shows = record {
+    values = λ key number low high.
+        show.shows.values key number (subst (λ (n : ℕ). n ≤ number) (low-reopened h m keep since key) low) high
+        ∙ ap Some (sym (value_at-reopened h m number key high));
+    meaning = show.shows.meaning;
+    resolves = show.shows.resolves;
+    gone_once = show.shows.gone_once;
+  };
+  versions = of_reopened h m (logs_entries logs) show.versions show.up_to;
+  up_to = show.up_to;
+}
+
+-- An image shows, of the history as it is gone on with from a number, what it shows of the history there.
+pub shown_reopened : (image : Image) (h : History) (m : ℕ) → Shown image h m → Shown image (reopened h m) m
+shown_reopened image h m shown = record {
+  opening = shown.opening;
+  opens = shown.opens;
+  number = shown.number;
+  some = shown.some;
+  since = shown.since;
+  last = shown.last;
+  logs = logs_show_reopened shown.opening.state.keep shown.opening.state.since shown.opening.logs h m shown.logs;
+}
+
+-- No logs show a store without commits.
+pub none_show : LogsShow 1 0 [] no_history 0
+none_show = record {
+  shows = record {
+    values = λ key number from to. ap Some (sym (value_at-first no_history number key to ∙ past_value-empty number key));
+    meaning = λ key version. None;
+    resolves = tt;
+    gone_once = λ key version gone. omega arith;
+  };
+  versions = tt;
+  up_to = tt;
+}

@@ -1,0 +1,83 @@
+ghost use Rattle.std.specs.Prelude.{◌≡◌, [], IfOk};
+ghost use Rattle.vl_engine.specs.Answers.{begin_outcome, view_outcome};
+ghost use Rattle.vl_engine.specs.Represents.{Fronts, Represents, StandsFor};
+ghost use Rattle.vl_engine.specs.Sees.{IsNew, Sees, SeesAlone};
+ghost use Rattle.vl_layout.specs.Decides.{Decides, as_before, no_effects};
+ghost use Rattle.vl_layout.specs.Rulings.Begin.{begin_ruling};
+ghost use Rattle.vl_layout.specs.Rulings.View.{view_ruling};
+ghost use Rattle.vl_layout.specs.declared.layout.Layout.{Layout};
+ghost use Rattle.vl_model.specs.History.{History};
+
+use crate::{BeginFail, Engine, Txn, View};
+use vl_disk::Disk;
+use vl_txn::{Reads, Writes};
+
+impl<D: Disk> Engine<D> {
+    /// Begins a transaction, which reads what is committed now.
+    pub fn begin(&mut self) -> Result<Txn<D::Held, D::Reader>, BeginFail>
+        // It is answered as the ruling has it: too many are live exactly at the limit.
+        ensures decides { (h : History) (l : Layout) → Fronts self.old.core h l
+            → Decides (Fronts self.new.core) h l (begin_ruling l h) (as_before l l) (begin_outcome result) no_effects }
+        ensures stands { (h : History) (l : Layout) → StandsFor D.Held.bytes self.old.core h l
+            → Decides (StandsFor D.Held.bytes self.new.core) h l (begin_ruling l h) (as_before l l) (begin_outcome result) no_effects }
+        ensures represents { (h : History) (l : Layout) → Represents D.Held.bytes self.old.core (D.told self.old.disk) h l
+            → Decides (Represents D.Held.bytes self.new.core (D.told self.new.disk)) h l (begin_ruling l h) (as_before l l)
+            (begin_outcome result) no_effects }
+
+        // It sees the history at its last number, and has read and written nothing.
+        ensures sees { (h : History) (l : Layout) → StandsFor D.Held.bytes self.old.core h l
+            → IfOk result (λ txn. Sees D.Held.bytes txn h []) }
+        ensures fresh { IfOk result IsNew }
+
+        // The disk isn't asked, and what steps need stays.
+        ensures disk { self.new.disk ≡ self.old.disk }
+        ensures back { self.new.core.back ≡ self.old.core.back }
+    {
+        let View {
+            alloc,
+            ticket,
+            number,
+            version,
+            reader,
+        } = self.view()?;
+        Ok(Txn {
+            alloc,
+            ticket,
+            number,
+            version,
+            reader,
+            reads: Reads::new(alloc),
+            writes: Writes::new(alloc),
+        })
+    }
+
+    /// Begins a view, which reads what is committed now, and may not write.
+    pub fn view(&mut self) -> Result<View<D::Held, D::Reader>, BeginFail>
+        ensures decides { (h : History) (l : Layout) → Fronts self.old.core h l
+            → Decides (Fronts self.new.core) h l (view_ruling l h) (as_before l l) (view_outcome result) no_effects }
+        ensures stands { (h : History) (l : Layout) → StandsFor D.Held.bytes self.old.core h l
+            → Decides (StandsFor D.Held.bytes self.new.core) h l (view_ruling l h) (as_before l l) (view_outcome result) no_effects }
+        ensures represents { (h : History) (l : Layout) → Represents D.Held.bytes self.old.core (D.told self.old.disk) h l
+            → Decides (Represents D.Held.bytes self.new.core (D.told self.new.disk)) h l (view_ruling l h) (as_before l l)
+            (view_outcome result) no_effects }
+        ensures sees { (h : History) (l : Layout) → StandsFor D.Held.bytes self.old.core h l
+            → IfOk result (λ view. SeesAlone D.Held.bytes view h) }
+        ensures disk { self.new.disk ≡ self.old.disk }
+        ensures back { self.new.core.back ≡ self.old.core.back }
+    {
+        let Ok(reader) = self.disk.reader(self.alloc) else {
+            return Err(BeginFail::NoMemory);
+        };
+        let version = self.core.version.share()?;
+        match self.core.front.begin() {
+            Ok(ticket) => Ok(View {
+                alloc: self.alloc,
+                ticket,
+                number: self.core.front.oracle.last(),
+                version,
+                reader,
+            }),
+            Err(why) => Err(why),
+        }
+    }
+}

@@ -1,0 +1,142 @@
+ghost use Rattle.std.specs.Prelude.{◌≡◌, ℕ, List, IsTrue, None, Ok, Some};
+ghost use Rattle.std.specs.FinMap.{entries};
+ghost use Rattle.vl_disk.specs.DiskState.{DiskState};
+ghost use Rattle.vl_disk.specs.Faults.{HasCause};
+ghost use Rattle.vl_disk.specs.declared.name.Name.{Name};
+ghost use Rattle.vl_disk.specs.declared.name.Name.TheVariants as names;
+ghost use Rattle.vl_engine.specs.Answers.{CommitFailed, commit_effects, commit_outcome, handed_back};
+ghost use Rattle.vl_engine.specs.Carries.{Carries, SameFiles};
+ghost use Rattle.vl_engine.specs.Represents.{Fronts, IsLive, Represents, StandsFor};
+ghost use Rattle.vl_engine.specs.Sees.{Sees, asked};
+ghost use Rattle.vl_engine.specs.Steps.{WritesAs};
+ghost use Rattle.vl_engine.specs.Writing.{StopsWriting};
+ghost use Rattle.vl_front.specs.Decisions.{MayWrite};
+ghost use Rattle.vl_engine.specs.declared.engine.Done.TheVariants as done;
+ghost use Rattle.vl_engine.specs.declared.fails.CommitFail.TheVariants as fails;
+ghost use Rattle.vl_engine.specs.declared.txn.Txn.{Txn};
+ghost use Rattle.vl_layout.specs.Decides.{Decides, as_before};
+ghost use Rattle.vl_layout.specs.Rulings.Commit.{commit_frame, commit_lost, commit_ruling};
+ghost use Rattle.vl_layout.specs.declared.layout.Layout.{Layout};
+ghost use Rattle.vl_model.specs.Formats.{log_format};
+ghost use Rattle.vl_model.specs.History.{History, last_number};
+ghost use Rattle.vl_model.specs.Notes.{AreNotesOf};
+ghost use Rattle.vl_model.specs.Reads.{IsExplained, Read};
+ghost use Rattle.vl_seglog.specs.Frames.{frame_at};
+
+use crate::staging::{StagedCommit, stage_commit};
+use crate::{CommitFail, Done, Engine, Txn, append_durably};
+use vl_disk::{Disk, Name};
+use vl_front::Decision;
+use vl_seglog::ActiveLog;
+
+impl<D: Disk> Engine<D> {
+    /// Makes a transaction the next commit, or says why not. It is synced before it is answered, by one append and one sync,
+    /// and all memory is taken before these. A transaction that is handed back lives on as it was; otherwise it has ended.
+    pub fn commit(
+        &mut self,
+        txn: Txn<D::Held, D::Reader>,
+    ) -> Result<Done, CommitFail<D::Held, D::Reader>>
+        // It is answered as the ruling has it on whatever reads the transaction has noted, while it is live.
+        ensures decides { (h : History) (l : Layout) (reads : List Read) → Fronts self.old.core h l
+            → IsLive l txn.ticket txn.number → AreNotesOf reads txn.reads.keys txn.reads.spans
+            → Decides (Fronts self.new.core) h l (commit_ruling l h (asked txn reads)) (as_before l (commit_lost l (asked txn reads)))
+            (commit_outcome result) (commit_effects result) }
+        ensures stands { (h : History) (l : Layout) (reads : List Read) → StandsFor D.Held.bytes self.old.core h l
+            → IsLive l txn.ticket txn.number → AreNotesOf reads txn.reads.keys txn.reads.spans
+            → Decides (StandsFor D.Held.bytes self.new.core) h l (commit_ruling l h (asked txn reads))
+            (as_before l (commit_lost l (asked txn reads))) (commit_outcome result) (commit_effects result) }
+
+        // Over a disk that holds the layout: what a crash meanwhile leaves shows the history, or the history with the writes;
+        // where the commit is answered only the latter. However it ends, a store may be opened on the disk again.
+        ensures carries { (h : History) (l : Layout) (reads : List Read)
+            → Represents D.Held.bytes self.old.core (D.told self.old.disk) h l
+            → IsLive l txn.ticket txn.number → AreNotesOf reads txn.reads.keys txn.reads.spans
+            → Carries D.Watched D.Held.bytes self.old.disk self.new.disk self.new.core h l (commit_ruling l h (asked txn reads))
+            (as_before l (commit_lost l (asked txn reads))) (commit_outcome result) (commit_effects result) }
+
+        // What an accepted transaction read, and what it scanned, is so up to its own commit.
+        ensures explained { (h : History) (l : Layout) (reads : List Read) (number : ℕ) → Fronts self.old.core h l
+            → IsLive l txn.ticket txn.number → Sees D.Held.bytes txn h reads
+            → result ≡ Ok (done.At number) → IsExplained h (last_number h) reads }
+
+        // One that is handed back is as it was.
+        ensures back { (back : Txn D.Held D.Reader) → handed_back result ≡ Some back → back ≡ txn }
+
+        // A fault of the disk is counted, and named by the file; and nothing else raises the count.
+        ensures cause { HasCause (D.faults self.old.disk) (D.faults self.new.disk) (CommitFailed result) }
+        ensures named { (h : History) (l : Layout) (name : Name) → Fronts self.old.core h l
+            → result ≡ Err (fails.Disk name) → name ≡ names.Log l.active.number }
+
+        // A disk that fails cleanly was stopped within the append or the sync of the commit's frame.
+        ensures stopped { (h : History) (l : Layout) → Fronts self.old.core h l → IsTrue D.fails_cleanly → CommitFailed result
+            → StopsWriting D.Watched (names.Log l.active.number)
+            (frame_at log_format l.active.number l.active.length (commit_frame h (entries txn.writes))) self.old.disk self.new.disk }
+
+        // The same files stand, and what steps need stays.
+        ensures files { SameFiles (D.told self.old.disk) (D.told self.new.disk) }
+        ensures steps { self.new.core.back ≡ self.old.core.back }
+    {
+        let Ok(decision) = self
+            .core
+            .front
+            .decide(txn.number, &txn.reads, &txn.writes)
+        else {
+            return Err(CommitFail::NoMemory(txn));
+        };
+        match decision {
+            Decision::Halted(name) => {
+                self.end(txn.ticket);
+                Err(CommitFail::Halted { name })
+            }
+            Decision::Nothing => {
+                self.end(txn.ticket);
+                Ok(Done::Nothing)
+            }
+            Decision::Exhausted => Err(CommitFail::Exhausted(txn)),
+            Decision::Conflict { key, number } => {
+                self.end(txn.ticket);
+                Err(CommitFail::Conflict { key, number })
+            }
+            Decision::Full { length, frame } => Err(CommitFail::Full { txn, length, frame }),
+            Decision::Write => self.write(txn),
+        }
+    }
+
+    // Writes the commit of a transaction, which may be written.
+    fn write(
+        &mut self,
+        txn: Txn<D::Held, D::Reader>,
+    ) -> Result<Done, CommitFail<D::Held, D::Reader>>
+        requires { MayWrite self.old.core.front (entries txn.writes) }
+        ensures back { (back : Txn D.Held D.Reader) → handed_back result ≡ Some back → back ≡ txn }
+        ensures cause { HasCause (D.faults self.old.disk) (D.faults self.new.disk) (CommitFailed result) }
+        ensures steps { self.new.core.back ≡ self.old.core.back }
+        ensures as_written { WritesAs D.Watched self.old.disk self.new.disk self.old.core self.new.core txn.ticket txn.writes result }
+    {
+        let Ok(staged) = stage_commit(self.alloc, &mut self.disk, &mut self.core, &txn.writes)
+        else {
+            return Err(CommitFail::NoMemory(txn));
+        };
+        let StagedCommit {
+            frame,
+            active,
+            keys,
+        } = staged;
+        // Where the disk fails, the engine keeps the log as it was.
+        let mut log = ActiveLog {
+            number: self.core.front.log.number,
+            length: self.core.front.log.length,
+        };
+        let Ok(()) = append_durably(&mut log, &mut self.disk, &frame) else {
+            let name = Name::Log(self.core.front.log.number);
+            self.core.front.halted = Some(name);
+            self.core.front.end(txn.ticket);
+            return Err(CommitFail::Disk { name });
+        };
+        let number = self.core.front.oracle.last() + 1;
+        self.core.front.log = log;
+        self.core.version.set_active(active);
+        self.core.front.committed(txn.ticket, keys);
+        Ok(Done::At(number))
+    }
+}

@@ -1,0 +1,65 @@
+ghost use Rattle.std.specs.Prelude.{◌≡◌};
+ghost use Rattle.vl_engine.specs.Represents.{Fronts, Represents, StandsFor};
+ghost use Rattle.vl_engine.specs.Sees.{asked, asked_view};
+ghost use Rattle.vl_layout.specs.Ruling.{ended};
+ghost use Rattle.vl_layout.specs.declared.layout.Layout.{Layout};
+ghost use Rattle.vl_model.specs.History.{History, last_number};
+ghost use Rattle.vl_model.specs.Reads.{Read};
+
+use crate::{Engine, Txn, View};
+use vl_disk::Disk;
+
+impl<D: Disk> Engine<D> {
+    /// Gives up a transaction, and what it has written with it. It wants no memory.
+    pub fn forget(&mut self, txn: Txn<D::Held, D::Reader>)
+        ensures decides { (h : History) (l : Layout) → Fronts self.old.core h l → Fronts self.new.core h (ended txn.ticket l) }
+        ensures stands { (h : History) (l : Layout) → StandsFor D.Held.bytes self.old.core h l
+            → StandsFor D.Held.bytes self.new.core h (ended txn.ticket l) }
+        ensures represents { (h : History) (l : Layout) → Represents D.Held.bytes self.old.core (D.told self.old.disk) h l
+            → Represents D.Held.bytes self.new.core (D.told self.new.disk) h (ended txn.ticket l) }
+        ensures disk { self.new.disk ≡ self.old.disk }
+        ensures back { self.new.core.back ≡ self.old.core.back }
+    {
+        self.end(txn.ticket);
+    }
+
+    /// Ends a view. It wants no memory.
+    pub fn release(&mut self, view: View<D::Held, D::Reader>)
+        ensures decides { (h : History) (l : Layout) → Fronts self.old.core h l → Fronts self.new.core h (ended view.ticket l) }
+        ensures stands { (h : History) (l : Layout) → StandsFor D.Held.bytes self.old.core h l
+            → StandsFor D.Held.bytes self.new.core h (ended view.ticket l) }
+        ensures represents { (h : History) (l : Layout) → Represents D.Held.bytes self.old.core (D.told self.old.disk) h l
+            → Represents D.Held.bytes self.new.core (D.told self.new.disk) h (ended view.ticket l) }
+        ensures disk { self.new.disk ≡ self.old.disk }
+        ensures back { self.new.core.back ≡ self.old.core.back }
+    {
+        self.end(view.ticket);
+    }
+
+    // Ends what has this ticket.
+    pub(super) fn end(&mut self, ticket: u32)
+        ensures decides { (h : History) (l : Layout) → Fronts self.old.core h l → Fronts self.new.core h (ended ticket l) }
+        ensures stands { (h : History) (l : Layout) → StandsFor D.Held.bytes self.old.core h l
+            → StandsFor D.Held.bytes self.new.core h (ended ticket l) }
+        ensures represents { (h : History) (l : Layout) → Represents D.Held.bytes self.old.core (D.told self.old.disk) h l
+            → Represents D.Held.bytes self.new.core (D.told self.new.disk) h (ended ticket l) }
+        ensures disk { self.new.disk ≡ self.old.disk }
+        ensures back { self.new.core.back ≡ self.old.core.back }
+    {
+        self.core.front.end(ticket);
+    }
+
+    /// The number of the last commit.
+    pub fn number(&self) -> u64
+        ensures { (h : History) (l : Layout) → Fronts self.now.core h l → result ≡ last_number h }
+    {
+        self.core.front.oracle.last()
+    }
+
+    /// The disk. What lives may still read.
+    pub fn close(self) -> D
+        ensures { result ≡ self.disk }
+    {
+        self.disk
+    }
+}

@@ -1,0 +1,109 @@
+ghost use Rattle.std.specs.Prelude.{◌≡◌, ◌≤◌, List, length, Some, IfErr, IfOk, IsErr};
+ghost use Rattle.vl_disk.specs.Crash.{Image};
+ghost use Rattle.vl_disk.specs.DiskState.{DiskState};
+ghost use Rattle.vl_disk.specs.Faults.{HasCause, after_calls};
+ghost use Rattle.vl_disk.specs.Moments.{HoldsThroughout};
+ghost use Rattle.vl_disk.specs.Started.{IsRead};
+ghost use Rattle.vl_disk.specs.declared.name.Name.{Name};
+ghost use Rattle.vl_engine.specs.Carries.{CrashesShow, Tells};
+ghost use Rattle.vl_engine.specs.Opening.{AnswersOpening, IsAsBefore, IsDurable, IsFault, disk_behind, recovered, why_of};
+ghost use Rattle.vl_engine.specs.Represents.{Represents, StandsFor};
+ghost use Rattle.vl_engine.specs.Shown.{Shown};
+ghost use Rattle.vl_layout.specs.Start.{layout_at_start};
+ghost use Rattle.vl_model.specs.History.{History, last_number};
+ghost use Rattle.vl_model.specs.Limits.{max_room};
+ghost use Rattle.vl_recover.specs.crash.Meanwhile.{FaultsAt, IsMeanwhile, IsRepaired};
+ghost use Rattle.vl_recover.specs.crash.Starts.{MayOpen};
+ghost use Rattle.vl_recover.specs.opening.Answers.{AreStrayNames, Finds, IsNotOpened, calls_to_open};
+ghost use Rattle.vl_recover.specs.opening.Results.{recovery_by};
+ghost use Rattle.vl_recover.specs.repairing.Steps.{MakesSome};
+
+use crate::kept::{Back, Core};
+use crate::{Engine, OpenFail};
+use std::alloc::Global;
+use vl_disk::Disk;
+use vl_front::Front;
+use vl_recover::{Parts, recover};
+use vl_version::Version;
+
+impl<D: Disk> Engine<D> {
+    /// Opens the store on a disk, or makes one where nothing stands. Each log may have so many bytes.
+    pub fn open(alloc: Global, disk: D, room: u64) -> Result<Self, OpenFail<D>>
+        requires { room ≤ max_room }
+
+        // It stands for the history that reads of the disk show, and for the layout at its start; and represents it where a
+        // store may be opened.
+        ensures stands { (state : DiskState) (read : Image) (found : Finds read) (h : History) → D.told disk ≡ Some state
+            → IsRead read state → Shown read h (last_number h)
+            → IfOk result (λ engine. StandsFor D.Held.bytes engine.core h (layout_at_start room (recovered found))) }
+        ensures represents { (state : DiskState) (read : Image) (found : Finds read) (h : History) → D.told disk ≡ Some state
+            → MayOpen state → IsRead read state → Shown read h (last_number h)
+            → IfOk result (λ engine. Represents D.Held.bytes engine.core (D.told engine.disk) h (layout_at_start room (recovered found))) }
+
+        // What a crash leaves meanwhile shows what was opened.
+        ensures through { (state : DiskState) (read : Image) (h : History) → D.told disk ≡ Some state → IsDurable state
+            → IsRead read state → Shown read h (last_number h) → CrashesShow D.Watched disk (disk_behind result) h h }
+
+        // It answers what reads give, unless memory runs out or the disk fails. Where that is a refusal nothing is changed,
+        // whatever is answered; and nothing where memory ran out.
+        ensures answer { (state : DiskState) (read : Image) → D.told disk ≡ Some state → IsRead read state
+            → AnswersOpening read (why_of result) }
+        ensures not_opened { (state : DiskState) (read : Image) → D.told disk ≡ Some state → IsRead read state
+            → IsNotOpened read → IsAsBefore D.Watched disk (disk_behind result) }
+        ensures left_alone { (IsFault (why_of result) → ⊥) → IsErr result
+            → IsAsBefore D.Watched disk (disk_behind result) }
+
+        // A fault is counted, and named by the file at which it came.
+        ensures cause { HasCause (D.faults disk) (D.faults (disk_behind result)) (IsFault (why_of result)) }
+        ensures at { (state : DiskState) (read : Image) → D.told disk ≡ Some state → IsRead read state
+            → IfErr result (λ fail. FaultsAt read state (D.calls disk) (D.calls (disk_behind result)) (recovery_by fail.why)) }
+
+        // A store may be opened on the disk again, whatever is answered.
+        ensures again { (state now : DiskState) → D.told disk ≡ Some state → MayOpen state
+            → D.told (disk_behind result) ≡ Some now → MayOpen now }
+        ensures tells { (state : DiskState) → D.told disk ≡ Some state
+            → (now : DiskState) × (D.told (disk_behind result) ≡ Some now) }
+
+        // Meanwhile the disk is as it was, or is being repaired by a plan of what reads gave; and then it was, by just so many
+        // changing calls, or where it failed by some of them.
+        ensures meanwhile { (state : DiskState) (read : Image) → D.told disk ≡ Some state → IsRead read state
+            → HoldsThroughout D.Watched disk (disk_behind result) (IsMeanwhile read state) }
+        ensures repaired { (state : DiskState) (read : Image) → D.told disk ≡ Some state → IsRead read state
+            → IfOk result (λ engine. IsRepaired read state (D.told engine.disk)) }
+        ensures calls { (state : DiskState) (read : Image) (found : Finds read) (strays : List Name)
+            → D.told disk ≡ Some state → IsRead read state → AreStrayNames read found.opening.state.head strays
+            → IfOk result (λ engine. D.calls engine.disk ≡ after_calls (calls_to_open found (length strays)) (D.calls disk)) }
+        ensures stopped { (state : DiskState) (read : Image) (found : Finds read) (strays : List Name)
+            → D.told disk ≡ Some state → IsRead read state → AreStrayNames read found.opening.state.head strays
+            → IfErr result (λ fail. MakesSome (calls_to_open found (length strays)) (D.calls disk) (D.calls fail.disk)) }
+    {
+        let parts = match recover(alloc, disk, room) {
+            Ok(parts) => parts,
+            Err(fail) => return Err(fail),
+        };
+        let Parts {
+            disk,
+            room,
+            number,
+            state,
+            manifest,
+            frozen,
+            active,
+        } = parts;
+        let next_log = state.next_log.max(active.number.saturating_add(1));
+        Ok(Engine {
+            alloc,
+            disk,
+            core: Core {
+                version: Version::new(alloc, frozen, Vec::new(alloc)),
+                front: Front::new(alloc, number, active, room),
+                back: Back {
+                    manifest,
+                    state,
+                    next_log,
+                    version_number: 0,
+                },
+            },
+        })
+    }
+}

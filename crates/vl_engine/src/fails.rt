@@ -1,0 +1,112 @@
+//! What the engine's calls fail by.
+ghost use Rattle.std.specs.Prelude.{◌≡◌};
+
+use crate::Txn;
+use std::alloc::AllocError;
+use vl_disk::Name;
+use vl_model::Key;
+use vl_txn::KeyFail;
+use vl_version::ReadFault as VersionFault;
+
+/// Why a read gave nothing. Nothing was noted or changed.
+#[derive(Clone, Copy, Debug, PartialEq, Eq)]
+pub enum ReadFail {
+    EmptyKey,
+    /// The key, or a bound of the scan.
+    KeyTooLong,
+    NoMemory,
+    /// The reader failed at this file.
+    Disk { name: Name },
+    /// What stands at this place of a file isn't what was written there.
+    Damaged { name: Name, place: u64 },
+}
+
+impl From<KeyFail> for ReadFail {
+    ghost use Rattle.vl_engine.specs.Refusing.{as_read_fail};
+
+    ghost from_gives = { λ why e. e ≡ as_read_fail why };
+
+    fn from(why: KeyFail) -> Self {
+        match why {
+            KeyFail::EmptyKey => ReadFail::EmptyKey,
+            KeyFail::KeyTooLong => ReadFail::KeyTooLong,
+        }
+    }
+}
+
+impl From<VersionFault> for ReadFail {
+    ghost use Rattle.vl_engine.specs.Refusing.{as_failed_read};
+
+    ghost from_gives = { λ fault e. e ≡ as_failed_read fault };
+
+    fn from(fault: VersionFault) -> Self {
+        match fault {
+            VersionFault::NoMemory => ReadFail::NoMemory,
+            VersionFault::Disk { name } => ReadFail::Disk { name },
+            VersionFault::Damaged { name, place } => ReadFail::Damaged { name, place },
+        }
+    }
+}
+
+impl From<AllocError> for ReadFail {
+    ghost use Rattle.vl_engine.specs.declared.fails.ReadFail.TheVariants as why;
+
+    ghost from_gives = { λ _ e. e ≡ why.NoMemory };
+
+    fn from(_: AllocError) -> Self {
+        ReadFail::NoMemory
+    }
+}
+
+/// Why a read without memory gave nothing. After the last two the caller's bytes may be anything.
+#[derive(Clone, Copy, Debug, PartialEq, Eq)]
+pub enum ReadFault {
+    EmptyKey,
+    KeyTooLong,
+    /// The reader failed at this file.
+    Disk { name: Name },
+    /// What stands at this place of a file isn't what was written there.
+    Damaged { name: Name, place: u64 },
+}
+
+impl From<KeyFail> for ReadFault {
+    ghost use Rattle.vl_engine.specs.Refusing.{as_read_fault};
+
+    ghost from_gives = { λ why e. e ≡ as_read_fault why };
+
+    fn from(why: KeyFail) -> Self {
+        match why {
+            KeyFail::EmptyKey => ReadFault::EmptyKey,
+            KeyFail::KeyTooLong => ReadFault::KeyTooLong,
+        }
+    }
+}
+
+/// Why a transaction isn't a commit. Where it is handed back it lives on as it was, and else it has ended.
+#[derive(Drop)]
+pub enum CommitFail<H, R> {
+    /// An earlier step failed at this file, and nothing is changed any more.
+    Halted {
+        name: Name,
+    },
+    /// No commit number is left.
+    Exhausted(Txn<H, R>),
+    /// The least key that was read, or lies in an interval that was scanned, and was overwritten since; and the last commit
+    /// that did.
+    Conflict {
+        key: Key,
+        number: u64,
+    },
+    /// The log has no room for the commit: its length, and that of the frame.
+    Full {
+        txn: Txn<H, R>,
+        length: u64,
+        frame: u64,
+    },
+    NoMemory(Txn<H, R>),
+    /// The disk failed at this file, and the engine is halted. Whether the commit is found when the store is opened again is
+    /// open.
+    Disk {
+        name: Name,
+    },
+}

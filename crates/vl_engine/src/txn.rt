@@ -1,0 +1,24 @@
+//! A transaction: a snapshot of the store, what was read of it, and what is to be written.
+
+mod reading;
+mod writing;
+
+pub(crate) use reading::tagged_value;
+use std::alloc::Global;
+use vl_txn::{Reads, Writes};
+use vl_version::Version;
+
+/// A transaction that an engine began. It reads what was committed before it began, under its own writes, and is given back to
+/// that engine while it lives.
+#[derive(Drop)]
+pub struct Txn<H, R> {
+    pub(crate) alloc: Global,
+    /// Of the live things of its engine none other has this one.
+    pub(crate) ticket: u32,
+    /// Of the last commit that it sees.
+    pub(crate) number: u64,
+    pub(crate) version: Version<H>,
+    pub(crate) reader: R,
+    pub(crate) reads: Reads,
+    pub(crate) writes: Writes,
+}

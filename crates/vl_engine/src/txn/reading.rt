@@ -1,0 +1,138 @@
+ghost use Rattle.std.specs.Prelude.{◌≡◌, ◌≤◌, ◌++◌, ◌∷◌, [], List, IfOk, None, OnErr, OnOk};
+ghost use Rattle.std.specs.FinMap.{get};
+ghost use Rattle.std.specs.Option.{option_map};
+ghost use Rattle.vl_disk.specs.Faults.{HasCause};
+ghost use Rattle.vl_engine.specs.Reading.{IsRefusedBy, IsSound, NotesNothing, OnlyNotes, ReadFailed, refused_bounds, rows_under, tagged_under, value_under, written_value};
+ghost use Rattle.vl_engine.specs.Sees.{Sees};
+ghost use Rattle.vl_model.specs.History.{History, value_at};
+ghost use Rattle.vl_model.specs.Reads.{KeyRead, Read};
+ghost use Rattle.vl_txn.specs.Reads.{scan_of, with_get, with_scan};
+ghost use Rattle.vl_txn.specs.Refusals.{refused_key};
+
+use crate::{ReadFail, Rows, Txn};
+use std::alloc::AllocError;
+use vl_disk::{HeldFile, Reader};
+use vl_model::{Change, Value, Way};
+use vl_txn::{Writes, check_bound, check_key};
+use vl_version::Wanted;
+
+impl<H: HeldFile, R: Reader<Held = H>> Txn<H, R> {
+    /// The number at which it reads: that of the last commit before it began.
+    pub fn number(&self) -> u64
+        ensures { result ≡ self.now.number }
+    {
+        self.number
+    }
+
+    /// The value of a key, if it has one: that of the transaction's own last write, else the one that is seen, and then the read
+    /// is noted.
+    pub fn get(&mut self, key: &[u8]) -> Result<Option<Value>, ReadFail>
+        ensures value { (h : History) (reads : List Read) → Sees H.bytes self.old h reads
+            → IfOk result (λ value. value ≡ value_under self.old.writes h self.old.number key.now) }
+        ensures sees { (h : History) (reads : List Read) → Sees H.bytes self.old h reads
+            → OnOk result (Sees H.bytes self.new h (with_get self.old.writes reads key.now (value_at h self.old.number key.now))) }
+        ensures keeps { OnlyNotes self.old self.new }
+
+        // It is refused exactly by the limits, and then nothing is noted.
+        ensures refused { IsRefusedBy (refused_key key.now) result }
+        ensures kept { OnErr result (NotesNothing self.old self.new) }
+
+        // A fault is the reader's. What is seen is never damaged, and while there are no tables nothing of it is read.
+        ensures cause { HasCause (R.faults self.old.reader) (R.faults self.new.reader) (ReadFailed result) }
+        ensures sound { (h : History) (reads : List Read) → Sees H.bytes self.old h reads → IsSound result }
+    {
+        check_key(key)?;
+        match own_value(&self.writes, key)? {
+            Some(value) => Ok(value),
+            None => self.look_up(key),
+        }
+    }
+
+    /// The same, with the value's tag.
+    pub fn get_tagged(&mut self, key: &[u8]) -> Result<Option<(Value, u8)>, ReadFail>
+        ensures value { (h : History) (reads : List Read) → Sees H.bytes self.old h reads
+            → IfOk result (λ value. value ≡ tagged_under self.old.writes h self.old.number key.now) }
+        ensures sees { (h : History) (reads : List Read) → Sees H.bytes self.old h reads
+            → OnOk result (Sees H.bytes self.new h (with_get self.old.writes reads key.now (value_at h self.old.number key.now))) }
+        ensures keeps { OnlyNotes self.old self.new }
+        ensures refused { IsRefusedBy (refused_key key.now) result }
+        ensures kept { OnErr result (NotesNothing self.old self.new) }
+        ensures cause { HasCause (R.faults self.old.reader) (R.faults self.new.reader) (ReadFailed result) }
+        ensures sound { (h : History) (reads : List Read) → Sees H.bytes self.old h reads → IsSound result }
+    {
+        Ok(self.get(key)?.map(tagged_value))
+    }
+
+    /// The first `limit` rows with keys from `low` on and below `high`, as the way goes, under the transaction's own writes. An
+    /// empty bound is none. What is covered is noted: as far as the last row, or all of the interval where there are fewer.
+    pub fn scan(&mut self, low: &[u8], high: &[u8], limit: u16, way: Way) -> Result<Rows, ReadFail>
+        requires { 1 ≤ limit }
+        ensures rows { (h : History) (reads : List Read) → Sees H.bytes self.old h reads
+            → IfOk result (λ rows. rows.items ≡ rows_under self.old.writes h self.old.number low.now high.now limit way) }
+        ensures sees { (h : History) (reads : List Read) → Sees H.bytes self.old h reads
+            → IfOk result (λ rows. Sees H.bytes self.new h
+            (with_scan reads (scan_of low.now high.now limit way rows.items self.old.writes))) }
+        ensures keeps { OnlyNotes self.old self.new }
+        ensures refused { IsRefusedBy (refused_bounds low.now high.now) result }
+        ensures kept { OnErr result (NotesNothing self.old self.new) }
+        ensures cause { HasCause (R.faults self.old.reader) (R.faults self.new.reader) (ReadFailed result) }
+        ensures sound { (h : History) (reads : List Read) → Sees H.bytes self.old h reads → IsSound result }
+    {
+        check_bound(low)?;
+        check_bound(high)?;
+        let wanted = Wanted {
+            low,
+            high,
+            limit,
+            way,
+        };
+        let rows = self.version.rows(
+            self.alloc,
+            &mut self.reader,
+            &self.writes,
+            wanted,
+            self.number,
+        )?;
+        self.reads.note_scan(low, high, limit, way, &rows)?;
+        Ok(rows)
+    }
+
+    // The value of a key that the transaction hasn't written itself, noted.
+    fn look_up(&mut self, key: &[u8]) -> Result<Option<Value>, ReadFail>
+        requires { get self.old.writes key.now ≡ None }
+        ensures value { (h : History) (reads : List Read) → Sees H.bytes self.old h reads
+            → IfOk result (λ value. value ≡ value_at h self.old.number key.now) }
+        ensures sees { (h : History) (reads : List Read) → Sees H.bytes self.old h reads
+            → OnOk result (Sees H.bytes self.new h (reads ++ KeyRead key.now (value_at h self.old.number key.now) ∷ [])) }
+        ensures keeps { OnlyNotes self.old self.new }
+        ensures allowed { IsRefusedBy None result }
+        ensures kept { OnErr result (NotesNothing self.old self.new) }
+        ensures cause { HasCause (R.faults self.old.reader) (R.faults self.new.reader) (ReadFailed result) }
+        ensures sound { (h : History) (reads : List Read) → Sees H.bytes self.old h reads → IsSound result }
+    {
+        let value = self
+            .version
+            .get(self.alloc, &mut self.reader, key, self.number)?;
+        self.reads.note_get(&self.writes, key)?;
+        Ok(value)
+    }
+}
+
+// The value that the transaction has written to a key itself: none where it has deleted it.
+fn own_value(writes: &Writes, key: &[u8]) -> Result<Option<Option<Value>>, AllocError>
+    ensures { IfOk result (λ own. own ≡ option_map written_value (get writes.now key.now)) }
+{
+    match writes.get(key) {
+        None => Ok(None),
+        Some(Change::Delete) => Ok(Some(None)),
+        Some(Change::Set(value)) => Ok(Some(Some(value.share()?))),
+    }
+}
+
+/// A value with its tag.
+pub fn tagged_value(value: Value) -> (Value, u8)
+    ensures { result ≡ (value, value.tag) }
+{
+    let tag = value.tag;
+    (value, tag)
+}

@@ -1,0 +1,18 @@
+//! A view: a snapshot of the store, which is read alone.
+
+mod reading;
+
+use std::alloc::Global;
+use vl_version::Version;
+
+/// A view that an engine began. It reads what was committed before it began, and is given back to that engine while it lives.
+#[derive(Drop)]
+pub struct View<H, R> {
+    pub(crate) alloc: Global,
+    /// Of the live things of its engine none other has this one.
+    pub(crate) ticket: u32,
+    /// Of the last commit that it sees.
+    pub(crate) number: u64,
+    pub(crate) version: Version<H>,
+    pub(crate) reader: R,
+}

@@ -1,0 +1,96 @@
+ghost use Rattle.std.specs.Prelude.{◌≡◌, ◌≤◌, IfOk};
+ghost use Rattle.std.specs.FinMap.{empty};
+ghost use Rattle.vl_disk.specs.Faults.{HasCause};
+ghost use Rattle.vl_engine.specs.Reading.{IsFound, IsRefusedBy, IsRefusedInto, IsSound, IsSoundInto, OnlyReads, ReadFailed, ReadIntoFailed, refused_bounds, rows_under, with_its_tag};
+ghost use Rattle.vl_engine.specs.Sees.{SeesAlone};
+ghost use Rattle.vl_model.specs.History.{History, value_at};
+ghost use Rattle.vl_txn.specs.Refusals.{refused_key};
+
+use crate::txn::tagged_value;
+use crate::{Found, ReadFail, ReadFault, Rows, View};
+use vl_disk::{HeldFile, Reader};
+use vl_model::{Value, Way};
+use vl_txn::{Writes, check_bound, check_key};
+use vl_version::{ReadFault as VersionFault, Wanted};
+
+impl<H: HeldFile, R: Reader<Held = H>> View<H, R> {
+    /// The number at which it reads: that of the last commit before it began.
+    pub fn number(&self) -> u64
+        ensures { result ≡ self.now.number }
+    {
+        self.number
+    }
+
+    /// The value of a key, if it has one.
+    pub fn get(&mut self, key: &[u8]) -> Result<Option<Value>, ReadFail>
+        ensures value { (h : History) → SeesAlone H.bytes self.old h
+            → IfOk result (λ value. value ≡ value_at h self.old.number key.now) }
+        ensures keeps { OnlyReads self.old self.new }
+        ensures refused { IsRefusedBy (refused_key key.now) result }
+        ensures cause { HasCause (R.faults self.old.reader) (R.faults self.new.reader) (ReadFailed result) }
+        ensures sound { (h : History) → SeesAlone H.bytes self.old h → IsSound result }
+    {
+        check_key(key)?;
+        Ok(self
+            .version
+            .get(self.alloc, &mut self.reader, key, self.number)?)
+    }
+
+    /// The same, with the value's tag.
+    pub fn get_tagged(&mut self, key: &[u8]) -> Result<Option<(Value, u8)>, ReadFail>
+        ensures value { (h : History) → SeesAlone H.bytes self.old h
+            → IfOk result (λ value. value ≡ with_its_tag (value_at h self.old.number key.now)) }
+        ensures keeps { OnlyReads self.old self.new }
+        ensures refused { IsRefusedBy (refused_key key.now) result }
+        ensures cause { HasCause (R.faults self.old.reader) (R.faults self.new.reader) (ReadFailed result) }
+        ensures sound { (h : History) → SeesAlone H.bytes self.old h → IsSound result }
+    {
+        Ok(self.get(key)?.map(tagged_value))
+    }
+
+    /// The value of a key read to the front of the caller's bytes, where it fits. It wants no memory. After a fault of the
+    /// reader or damage these bytes may be anything.
+    pub fn get_into(&mut self, key: &[u8], out: &mut [u8]) -> Result<Found, ReadFault>
+        ensures value { (h : History) → SeesAlone H.bytes self.old h
+            → IfOk result (IsFound (value_at h self.old.number key.now) out.old out.new) }
+        ensures keeps { OnlyReads self.old self.new }
+        ensures refused { IsRefusedInto (refused_key key.now) result }
+        ensures cause { HasCause (R.faults self.old.reader) (R.faults self.new.reader) (ReadIntoFailed result) }
+        ensures sound { (h : History) → SeesAlone H.bytes self.old h → IsSoundInto result }
+    {
+        check_key(key)?;
+        let result = self
+            .version
+            .get_into(&mut self.reader, key, self.number, out);
+        match result {
+            Ok(found) => Ok(found),
+            Err(VersionFault::NoMemory) => unreachable!(),
+            Err(VersionFault::Disk { name }) => Err(ReadFault::Disk { name }),
+            Err(VersionFault::Damaged { name, place }) => Err(ReadFault::Damaged { name, place }),
+        }
+    }
+
+    /// The first `limit` rows with keys from `low` on and below `high`, as the way goes. An empty bound is none.
+    pub fn scan(&mut self, low: &[u8], high: &[u8], limit: u16, way: Way) -> Result<Rows, ReadFail>
+        requires { 1 ≤ limit }
+        ensures rows { (h : History) → SeesAlone H.bytes self.old h
+            → IfOk result (λ rows. rows.items ≡ rows_under empty h self.old.number low.now high.now limit way) }
+        ensures keeps { OnlyReads self.old self.new }
+        ensures refused { IsRefusedBy (refused_bounds low.now high.now) result }
+        ensures cause { HasCause (R.faults self.old.reader) (R.faults self.new.reader) (ReadFailed result) }
+        ensures sound { (h : History) → SeesAlone H.bytes self.old h → IsSound result }
+    {
+        check_bound(low)?;
+        check_bound(high)?;
+        let wanted = Wanted {
+            low,
+            high,
+            limit,
+            way,
+        };
+        let own = Writes::new(self.alloc);
+        Ok(self
+            .version
+            .rows(self.alloc, &mut self.reader, &own, wanted, self.number)?)
+    }
+}

@@ -1,5 +1,0 @@
-pub mod Disk
-pub mod Openings
-pub mod Runs
-pub mod Store
-pub mod Trials

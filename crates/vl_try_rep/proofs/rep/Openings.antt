@@ -1,8 +1,0 @@
--- A store that was opened: what is kept and stored of it, and what is printed of it.
-pub mod Numbered
-pub mod NumbersLeft
-pub mod OpenedText
-pub mod Recovering
-pub mod Rising
-pub mod Starting
-mod TextRows

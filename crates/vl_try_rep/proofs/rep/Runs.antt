@@ -1,9 +1,0 @@
--- Runs of lines: what they read and print, and how they end.
-pub mod Ends
-pub mod Lines
-pub mod OpenedRuns
-pub mod ReadingOn
-pub mod Refusals
-pub mod Stepping
-pub mod Texts
-pub mod UnderWay

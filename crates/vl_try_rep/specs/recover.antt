@@ -1,4 +1,0 @@
-pub mod laws
-pub mod opening
-pub mod repairing
-pub mod crash

@@ -1,8 +1,0 @@
--- Laws of what is found.
-pub mod ContentLaws
-pub mod LeadsLaws
-pub mod LogsLaws
-pub mod OneFinding
-pub mod OpeningLaws
-pub mod ReadImage
-pub mod HeldLaws

@@ -1,7 +1,0 @@
--- What an opening changes, by a plan.
-pub mod Deciding
-pub mod Fitting
-pub mod NextLogs
-pub mod PlanViews
-pub mod Repairing
-pub mod Steps

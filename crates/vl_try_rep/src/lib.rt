@@ -1,4 +1,0 @@
-#![tactic(auto)]
-
-mod recover;
-mod replay;

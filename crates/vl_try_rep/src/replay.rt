@@ -1,4 +1,0 @@
-pub mod ending;
-pub mod fails;
-pub mod replayer;
-pub mod input;

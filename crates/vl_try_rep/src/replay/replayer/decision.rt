@@ -1,7 +1,0 @@
-use vl_script::Answer;
-#[derive(Drop)]
-pub enum Decision {
-    Refuse(Answer),
-    Empty,
-    Write,
-}

@@ -1,4 +1,0 @@
-//! Laws of the sequential store.
-#![tactic(auto)]
-
-fn nothing() {}

@@ -1,0 +1,11 @@
+mod AnswerLaws
+mod CutLaws
+mod FrozenLaws
+mod GatherLaws
+mod LogLaws
+mod LookLaws
+mod OwnLaws
+mod RowLaws
+mod ScanLaws
+mod TakeLaws
+mod Winning

@@ -1,0 +1,70 @@
+use Rattle.std.proofs.Common.{ap, sym, subst, ◌∙◌, arith, inr, take, Vec, Global}
+use Rattle.std.specs.Prelude.{◌⊎◌, Err, Option, Result, Some}
+use Rattle.std.proofs.lemmas.Result.{err_from_is_err_and}
+use Rattle.vl_model.specs.Cursors.{Gives}
+use Rattle.vl_model.specs.Keys.{Row}
+use Rattle.vl_model.specs.declared.entry.Entry.{Entry}
+use Rattle.vl_version.specs.Answers.{IsAnswer, IsAstray}
+use Rattle.vl_version.specs.Rows.{AreRowsOf, OneAstray, PushesRow}
+use Rattle.vl_version.specs.Sources.{stored_in}
+use Rattle.vl_version.specs.declared.fault.ReadFault.{ReadFault}
+use Rattle.vl_version.specs.declared.fault.ReadFault.TheVariants.{Damaged}
+use Rattle.vl_version.proofs.TakeLaws.{astray_next, err_answer, next_kept, takes_all, takes_end, takes_next}
+use Rattle.vl_version.proofs.rows.take_rows.Goals as goal
+
+pub returns-in_default-clause-answers : goal.returns-in_default-clause-answers
+returns-in_default-clause-answers g c told left is kept =
+    let before = g.C.Cursor.left c.taking.entries in
+    let now = g.C.Cursor.left c.next.new.self in
+    let gives = subst (λ (o : Option Entry). Gives before now o) c.in_default.is c.in_ok-entry.ensures.given in
+    (takes_end (stored_in g.H.HeldFile.bytes c.args.logs.now) left before now c.taking.rows.items c.args.limit (c.taking.invariant.taken told left is kept) gives).0
+
+pub returns-in_default-clause-no_further : goal.returns-in_default-clause-no_further
+returns-in_default-clause-no_further g c told left is kept =
+    let before = g.C.Cursor.left c.taking.entries in
+    let now = g.C.Cursor.left c.next.new.self in
+    let gives = subst (λ (o : Option Entry). Gives before now o) c.in_default.is c.in_ok-entry.ensures.given in
+    (takes_end (stored_in g.H.HeldFile.bytes c.args.logs.now) left before now c.taking.rows.items c.args.limit (c.taking.invariant.taken told left is kept) gives).1
+
+pub taking-preserved : goal.taking-preserved
+taking-preserved g c = record {
+  steady =
+      c.in_ok-push_row.ensures.cause.steady (λ none. none) ∙ sym (c.requires.counts c.next.new.reader) ∙ c.in_ok-entry.ensures.cause
+      ∙ c.requires.counts c.taking.reader ∙ c.taking.invariant.steady;
+  fails = λ fault now. c.taking.invariant.fails fault (c.next.ensures.keeps fault now);
+  taken = λ told left is kept.
+      let logs = stored_in g.H.HeldFile.bytes c.args.logs.now in
+      let before = g.C.Cursor.left c.taking.entries in
+      let now = g.C.Cursor.left c.next.new.self in
+      let rows = c.taking.rows.items in
+      let so = c.taking.invariant.taken told left is kept in
+      let gives = subst (λ (o : Option Entry). Gives before now o) c.in-Some.is c.in_ok-entry.ensures.given in
+      let pushes : PushesRow logs c.in-Some.entry rows c.push_row.new.rows.items =
+      c.in_ok-push_row.ensures.answers told (next_kept logs left before now rows c.args.limit so c.in-Some.entry gives) in
+      takes_next logs left before now rows c.args.limit so c.in-Some.entry c.push_row.new.rows.items gives (omega arith) pushes;
+}
+
+pub returns-in_err-push_row-clause-answers : goal.returns-in_err-push_row-clause-answers
+returns-in_err-push_row-clause-answers g c told left is kept =
+    let logs = stored_in g.H.HeldFile.bytes c.args.logs.now in
+    let before = g.C.Cursor.left c.taking.entries in
+    let now = g.C.Cursor.left c.next.new.self in
+    let rows = c.taking.rows.items in
+    let so = c.taking.invariant.taken told left is kept in
+    let gives = subst (λ (o : Option Entry). Gives before now o) c.in-Some.is c.in_ok-entry.ensures.given in
+    let p = err_from_is_err_and c.from_residual-in_err-push_row.result c.from_residual-in_err-push_row.ensures.1 in
+    subst (λ (r : Result (Vec Row Global) ReadFault). IsAnswer (λ rows. AreRowsOf logs (take c.args.limit left) rows.items) (λ name place. g.C.Cursor.may_fail c.args.entries.now (Damaged name place) ⊎ OneAstray logs left name place) r)
+    (sym (p.1 ∙ ap Err p.2))
+    (err_answer {T = Unit {0}} {U = Vec Row Global} (λ _. PushesRow logs c.in-Some.entry rows c.push_row.new.rows.items) (λ rows. AreRowsOf logs (take c.args.limit left) rows.items) (IsAstray logs (Some c.in-Some.entry)) (λ name place. g.C.Cursor.may_fail c.args.entries.now (Damaged name place) ⊎ OneAstray logs left name place) c.in_err-push_row.field-0.0
+    (λ name place astray. inr (astray_next logs left before now rows c.args.limit so c.in-Some.entry name place gives astray))
+    (c.in_err-push_row.ensures.answers told (next_kept logs left before now rows c.args.limit so c.in-Some.entry gives)))
+
+pub returns-clause-answers : goal.returns-clause-answers
+returns-clause-answers g c told left is kept =
+    let at = g.C.Cursor.left c.taking.entries in
+    (takes_all (stored_in g.H.HeldFile.bytes c.args.logs.now) left at at c.taking.rows.items c.args.limit (c.taking.invariant.taken told left is kept) (omega arith)).0
+
+pub returns-clause-no_further : goal.returns-clause-no_further
+returns-clause-no_further g c told left is kept =
+    let at = g.C.Cursor.left c.taking.entries in
+    (takes_all (stored_in g.H.HeldFile.bytes c.args.logs.now) left at at c.taking.rows.items c.args.limit (c.taking.invariant.taken told left is kept) (omega arith)).1

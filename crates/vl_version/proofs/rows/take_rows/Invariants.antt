@@ -1,0 +1,18 @@
+use Rattle.std.proofs.Common.{◌≡◌, List, Some}
+use Rattle.std.specs.List.{AllByRecursion}
+use Rattle.vl_model.specs.declared.entry.Entry.{Entry}
+use Rattle.vl_version.specs.Rows.{IsKept}
+use Rattle.vl_version.specs.Sources.{AreTold, stored_in}
+use Rattle.vl_version.proofs.TakeLaws.{TakesFront}
+use Rattle.vl_version.proofs.rows.take_rows.Given as goal
+
+abbrev pub invariant-taking : goal.invariant-taking
+invariant-taking g l = record {
+  steady : g.R.Reader.faults l.reader ≡ g.R.Reader.faults l.initial.reader;
+  fails : (fault : _) → g.C.Cursor.may_fail l.entries fault → g.C.Cursor.may_fail l.initial.entries fault;
+  taken : AreTold g.H.HeldFile.bytes l.logs → (left : List Entry) → g.C.Cursor.left l.initial.entries ≡ Some left → AllByRecursion IsKept left
+      → TakesFront (stored_in g.H.HeldFile.bytes l.logs) left (g.C.Cursor.left l.entries) l.rows.items l.limit;
+}
+
+abbrev pub decreases-taking : goal.decreases-taking
+decreases-taking g l = g.C.Cursor.budget l.entries

@@ -1,0 +1,18 @@
+-- The faults of a read: which one says that reading failed, and what becomes of a log's.
+use Rattle.std.specs.Prelude.{Result, Ok, Err}
+use Rattle.vl_seglog.specs.declared.fault.LogFault.{LogFault}
+use Rattle.vl_seglog.specs.declared.fault.LogFault.TheVariants as log
+use Rattle.vl_version.specs.declared.fault.ReadFault.{ReadFault}
+use Rattle.vl_version.specs.declared.fault.ReadFault.TheVariants.{NoMemory, Disk, Damaged}
+
+abbrev pub as_read_fault : LogFault → ReadFault
+as_read_fault log.NoMemory = NoMemory
+as_read_fault (log.Disk name) = Disk name
+as_read_fault (log.Damaged name place) = Damaged name place
+
+-- reading failed
+abbrev pub Failed : {T : Type 0} → Result T ReadFault → Type 0
+Failed (Ok x) = ⊥
+Failed (Err NoMemory) = ⊥
+Failed (Err (Disk name)) = Unit {0}
+Failed (Err (Damaged name place)) = ⊥

@@ -1,0 +1,10 @@
+pub mod Answers
+pub mod Faults
+pub mod Gathered
+pub mod Gives
+pub mod Own
+pub mod Place
+pub mod Rows
+pub mod Scans
+pub mod Sources
+pub mod Values

@@ -1,0 +1,74 @@
+//! The rows of a scan.
+
+ghost use Rattle.std.specs.Prelude.{◌≡◌, ◌⊎◌, [], List, Some, false, take, drop, OnOk};
+ghost use Rattle.std.specs.List.{AllByRecursion};
+ghost use Rattle.vl_disk.specs.Faults.{HasCause};
+ghost use Rattle.vl_model.specs.declared.entry.Entry.{Entry};
+ghost use Rattle.vl_version.specs.Answers.{IsAnswer, IsAstray};
+ghost use Rattle.vl_version.specs.Faults.{Failed};
+ghost use Rattle.vl_version.specs.Gives.{is_disk_fault};
+ghost use Rattle.vl_version.specs.Rows.{AreRowsOf, IsKept, OneAstray, PushesRow};
+ghost use Rattle.vl_version.specs.Sources.{AreTold, stored_in};
+ghost use Rattle.vl_version.specs.declared.fault.ReadFault.{ReadFault};
+ghost use Rattle.vl_version.specs.declared.fault.ReadFault.TheVariants as why;
+
+use crate::ReadFault;
+use crate::resolving::resolve;
+use std::alloc::Global;
+use vl_disk::{HeldFile, Reader};
+use vl_model::{Cursor, Entry, Key, Value};
+use vl_seglog::SealedLog;
+
+/// The rows of the first so many of these entries, which aren't deletions. No entry behind them is asked for.
+pub fn take_rows<H: HeldFile, R: Reader<Held = H>, C: Cursor<Fault = ReadFault, Reader = R>>(
+    alloc: Global,
+    reader: &mut R,
+    logs: &[SealedLog<H>],
+    entries: &mut C,
+    limit: u16,
+) -> Result<Vec<(Key, Value)>, ReadFault>
+    requires counts { (r : R) → C.faults r ≡ R.faults r }
+    requires told { (fault : ReadFault) → C.is_read_fault fault ≡ is_disk_fault fault }
+    ensures cause { HasCause (R.faults reader.old) (R.faults reader.new) (Failed result) }
+    ensures alone { logs.now ≡ [] → ((fault : ReadFault) → C.may_fail entries.old fault → is_disk_fault fault ≡ false)
+        → Failed result → ⊥ }
+    ensures answers { AreTold H.bytes logs.now → (left : List Entry) → C.left entries.old ≡ Some left → AllByRecursion IsKept left
+        → IsAnswer (λ rows. AreRowsOf (stored_in H.bytes logs.now) (take limit left) rows.items)
+        (λ name place. C.may_fail entries.old (why.Damaged name place)
+        ⊎ OneAstray (stored_in H.bytes logs.now) left name place) result }
+    ensures no_further { AreTold H.bytes logs.now → (left : List Entry) → C.left entries.old ≡ Some left → AllByRecursion IsKept left
+        → OnOk result (C.left entries.new ≡ Some (drop limit left)) }
+{
+    let mut rows = Vec::new(alloc);
+    'taking: while rows.len() < limit as usize {
+        let Some(entry) = entries.next(reader)? else {
+            return Ok(rows);
+        };
+        push_row(alloc, reader, logs, &mut rows, entry)?;
+    }
+    Ok(rows)
+}
+
+// The key of an entry, with the value to which it leads.
+fn push_row<H: HeldFile, R: Reader<Held = H>>(
+    alloc: Global,
+    reader: &mut R,
+    logs: &[SealedLog<H>],
+    rows: &mut Vec<(Key, Value)>,
+    entry: Entry,
+) -> Result<(), ReadFault>
+    ensures cause { HasCause (R.faults reader.old) (R.faults reader.new) (Failed result) }
+    ensures alone { logs.now ≡ [] → Failed result → ⊥ }
+    ensures answers { AreTold H.bytes logs.now → IsKept entry
+        → IsAnswer (λ _. PushesRow (stored_in H.bytes logs.now) entry rows.old.items rows.new.items)
+        (IsAstray (stored_in H.bytes logs.now) (Some entry)) result }
+{
+    let value = resolve(alloc, reader, logs, &entry)?;
+    let Entry { key, .. } = entry;
+    if let Some(value) = value
+        && rows.push((key, value)).is_err()
+    {
+        return Err(ReadFault::NoMemory);
+    }
+    Ok(())
+}
