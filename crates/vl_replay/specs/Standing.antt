@@ -1,5 +1,6 @@
 -- What a replayer's names stand for, and those of the sequential store.
-use Rattle.std.specs.Prelude.{◌≡◌, ◌≢◌, ℕ, true, if◌then◌else◌, List, [], ◌∷◌, Option, None, Some}
+use Rattle.std.specs.Prelude.{◌≡◌, ◌+◌, ℕ, if◌then◌else◌, List, [], ◌∷◌, Option, None, Some}
+use Rattle.std.specs.Option.{option_map}
 use Rattle.std.specs.Ordering.{eq_by_cmp}
 use Rattle.vl_engine.specs.Represents.{IsLive}
 use Rattle.vl_engine.specs.declared.txn.Txn.{Txn}
@@ -55,3 +56,17 @@ pub record Stand {H R : Type 0} (bytes : H → Option (List ℕ)) (opens : List 
   pub once : AreOnce opens
   pub apart : (name other : Name) (x y : store.Thing) → thing_in ts name ≡ Some x → thing_in ts other ≡ Some y
       → ticket_of x ≡ ticket_of y → name ≡ other
+
+-- ---- taking a name out
+
+-- where the name stands first
+abbrev pub place_of : {H R : Type 0} → Name → List (Open H R) → Option ℕ
+place_of name [] = None
+place_of name (o ∷ os) = if eq_by_cmp key_cmp name o.name then Some 0 else option_map (λ n. n + 1) (place_of name os)
+
+-- the name was taken out, if it was there, with what it stood for; the others stand as they did
+pub record IsTaken {H R : Type 0} (old new : List (Open H R)) (name : Name) (thing : Option (Thing H R)) : Type 0 where
+  pub found : open_in old name ≡ thing
+  pub none : open_in new name ≡ None
+  pub others : (other : Name) → (other ≡ name → ⊥) → open_in new other ≡ open_in old other
+  pub once : AreOnce new
