@@ -1,6 +1,7 @@
 -- What a replayer's names stand for, and those of the sequential store.
-use Rattle.std.specs.Prelude.{◌≡◌, ◌+◌, ℕ, if◌then◌else◌, List, [], ◌∷◌, Option, None, Some}
+use Rattle.std.specs.Prelude.{◌≡◌, ◌+◌, ℕ, Result, Ok, Err, if◌then◌else◌, List, [], ◌∷◌, Option, None, Some}
 use Rattle.std.specs.Option.{option_map}
+use Rattle.std.specs.Bool.{⊤}
 use Rattle.std.specs.Ordering.{eq_by_cmp}
 use Rattle.vl_engine.specs.Represents.{IsLive}
 use Rattle.vl_engine.specs.declared.txn.Txn.{Txn}
@@ -12,7 +13,13 @@ use Rattle.vl_layout.specs.Store.Things.{AJob, APass, ATransaction, AView, thing
 use Rattle.vl_layout.specs.declared.layout.Layout.{Layout}
 use Rattle.vl_model.specs.History.{History}
 use Rattle.vl_model.specs.Keys.{key_cmp}
+use Rattle.vl_replay.specs.declared.fails.Halt.{Halt}
+use Rattle.vl_replay.specs.declared.fails.Halt.TheVariants as halts
 use Rattle.vl_replay.specs.declared.replayer.open.Open.{Open}
+use Rattle.vl_script.specs.declared.answer.Answer.{Answer}
+use Rattle.vl_script.specs.declared.answer.Answer.TheVariants as answers
+use Rattle.vl_txn.specs.declared.set_fail.SetFail.{SetFail}
+use Rattle.vl_txn.specs.declared.set_fail.SetFail.TheVariants.{EmptyKey, KeyTooLong, NoMemory, TooBig, ValueTooLong}
 use Rattle.vl_replay.specs.declared.replayer.open.Thing.{Thing}
 use Rattle.vl_replay.specs.declared.replayer.open.Thing.TheVariants.{Transaction, View}
 
@@ -70,3 +77,14 @@ pub record IsTaken {H R : Type 0} (old new : List (Open H R)) (name : Name) (thi
   pub none : open_in new name ≡ None
   pub others : (other : Name) → (other ≡ name → ⊥) → open_in new other ≡ open_in old other
   pub once : AreOnce new
+
+-- ---- what writes are told
+
+-- a refusal of a write; memory may run out instead
+abbrev pub told_write : Result ⊤ SetFail → Result Answer Halt
+told_write (Ok done) = Ok answers.Done
+told_write (Err EmptyKey) = Ok answers.Invalid
+told_write (Err KeyTooLong) = Ok answers.Invalid
+told_write (Err ValueTooLong) = Ok answers.Invalid
+told_write (Err TooBig) = Ok answers.TooBig
+told_write (Err NoMemory) = Err halts.NoMemory

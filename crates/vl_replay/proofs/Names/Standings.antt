@@ -14,10 +14,10 @@ use Rattle.vl_replay.specs.declared.replayer.open.Thing.{Thing}
 use Rattle.vl_replay.proofs.Names.Lookups.{named_so, once_put, own_name, open_beside, open_put, thing_beside, thing_gone, thing_left, thing_put}
 
 -- two names, by whether they are one
-abbrev Same : Name → Name → Type 0
+abbrev pub Same : Name → Name → Type 0
 Same a b = (a ≡ b) ⊎ (a ≡ b → ⊥)
 
-same_or_not : (a b : Name) → Same a b
+pub same_or_not : (a b : Name) → Same a b
 same_or_not a b = of (eq_by_cmp key_cmp a b) refl
   where
     of : (t : Bool) → eq_by_cmp key_cmp a b ≡ t → Same a b
