@@ -5,3 +5,4 @@ pub mod Standings
 pub mod Writing
 pub mod Ending
 pub mod Scanning
+pub mod Quiet

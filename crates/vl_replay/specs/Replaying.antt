@@ -1,10 +1,15 @@
 -- What the loop sees of a replayer: for which state it stands, its disk, and whether it takes lines.
-use Rattle.std.specs.Prelude.{◌≡◌, ℕ, List, Option, None}
+use Rattle.std.specs.Prelude.{◌≡◌, ℕ, List, Option, None, Result, IfOk, IfErr}
+use Rattle.vl_disk.specs.Faults.{after_calls}
 use Rattle.vl_engine.specs.Represents as engine
 use Rattle.vl_engine.specs.declared.kept.Core.{Core}
-use Rattle.vl_replay.specs.Sequential.{State, history_of}
+use Rattle.vl_layout.specs.Store.Things.{Step}
+use Rattle.vl_replay.specs.Sequential.{IsTold, State, history_of}
 use Rattle.vl_replay.specs.Standing.{Stand}
+use Rattle.vl_replay.specs.declared.fails.Halt.{Halt}
+use Rattle.vl_replay.specs.declared.fails.Halt.TheVariants.{NoMemory}
 use Rattle.vl_replay.specs.declared.replayer.open.Open.{Open}
+use Rattle.vl_script.specs.declared.answer.Answer.{Answer}
 use Rattle.vl_replay.specs.declared.replayer.Replayer.{Replayer}
 use Rattle.vl_replay.specs.laws.Laws.{IsSound}
 
@@ -33,3 +38,16 @@ StandsFor bytes replayer s = StandsIn bytes replayer.engine.core replayer.opens.
 abbrev pub TakesLines : {D Held Reader Writer : Type 0} {watched : _} {held : _} {cloned : _} {read : _} {write : _}
     → Replayer D Held Reader Writer watched held cloned read write → Type 0
 TakesLines replayer = replayer.halted ≡ None
+
+-- ---- what a line leaves
+
+abbrev pub state_by : State → Step → State
+state_by s x = record s { store = x.state; calls = after_calls x.calls s.calls }
+
+-- a line whose step is this was carried out so: it is told the step's answer, and stands for the state that it leaves
+abbrev pub MakesStep : {H R : Type 0} → (H → Option (List ℕ)) → Core H → List (Open H R) → State → Step → Result Answer Halt → Type 0
+MakesStep bytes core opens s x result = IfOk result (λ answer. IsTold answer x.answer × StandsIn bytes core opens (state_by s x))
+
+-- it fails by want of memory alone
+abbrev pub OnlyNoMemory : {T : Type 0} → Result T Halt → Type 0
+OnlyNoMemory result = IfErr result (λ halt. halt ≡ NoMemory)

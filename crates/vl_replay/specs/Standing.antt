@@ -12,7 +12,9 @@ use Rattle.vl_layout.specs.Store.Things as store
 use Rattle.vl_layout.specs.Store.Things.{AJob, APass, ATransaction, AView, thing_in}
 use Rattle.vl_layout.specs.declared.layout.Layout.{Layout}
 use Rattle.vl_model.specs.History.{History}
-use Rattle.vl_model.specs.Keys.{key_cmp}
+use Rattle.vl_model.specs.Keys.{key_cmp, tagged}
+use Rattle.vl_model.specs.declared.change.Change.{Change}
+use Rattle.vl_model.specs.declared.change.Change.TheVariants as changes
 use Rattle.vl_replay.specs.declared.fails.Halt.{Halt}
 use Rattle.vl_replay.specs.declared.fails.Halt.TheVariants as halts
 use Rattle.vl_replay.specs.declared.replayer.open.Open.{Open}
@@ -88,3 +90,8 @@ told_write (Err KeyTooLong) = Ok answers.Invalid
 told_write (Err ValueTooLong) = Ok answers.Invalid
 told_write (Err TooBig) = Ok answers.TooBig
 told_write (Err NoMemory) = Err halts.NoMemory
+
+-- what a line writes to a key: a value with its tag, or that it is deleted
+abbrev pub change_of : Option (List ℕ × ℕ) → Change
+change_of None = changes.Delete
+change_of (Some (bytes, tag)) = changes.Set (tagged bytes tag)

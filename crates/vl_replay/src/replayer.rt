@@ -1,6 +1,7 @@
 //! A store over a disk, which answers a script's lines.
 
 pub mod open;
+mod writing;
 
 use crate::fails::Halt;
 use open::Open;

@@ -1,9 +1,11 @@
 -- Looking names up, where one is put, or taken out.
-use Rattle.std.proofs.Common.{◌≡◌, ◌+◌, ◌<◌, ℕ, zero, suc, Bool, true, false, true≢false, cond, not, List, [], ◌∷◌, ◌++◌, length, refl, ap, sym, ◌∙◌, subst, arith}
+use Rattle.std.proofs.Common.{◌≡◌, ◌+◌, ◌<◌, ℕ, zero, suc, Bool, true, false, true≢false, cond, not, List, [], ◌∷◌, ◌++◌, ◌≤◌, drop, get_or, length, refl, ap, sym, ◌∙◌, subst, arith}
 use Rattle.std.specs.Prelude.{Option, None, Some}
 use Rattle.std.specs.List.{filter, remove, slice_index_or}
 use Rattle.std.specs.Option.{option_map}
 use Rattle.std.specs.Ordering.{eq_by_cmp}
+use Rattle.std.specs.Str.{bytes_eq}
+use Rattle.std.proofs.lemmas.List.{drop_all, drop_more}
 use Rattle.std.proofs.lemmas.Slice.Eq.{bytes_eq-Decides}
 use Rattle.std.proofs.lemmas.Map.Text.{is_eq-slice_cmp}
 use Rattle.vl_layout.specs.Store.Lines.{Name}
@@ -82,6 +84,14 @@ behind_some (Some n) at is = (n, refl, same (n + 1) at is ∙ (let one : n + 1 �
   where
     same : (a b : ℕ) → Some a ≡ Some b → b ≡ a
     same a b e = cc
+
+none_more : (x : Option ℕ) → x ≡ option_map (λ n. n + 0) x
+none_more None = refl
+none_more (Some n) = ap (λ (m : ℕ). Some m) (let same : n ≡ n + 0 = omega arith in same)
+
+one_more : (at : ℕ) (x : Option ℕ) → option_map (λ n. n + at) (option_map (λ n. n + 1) x) ≡ option_map (λ n. n + (at + 1)) x
+one_more at None = refl
+one_more at (Some n) = ap (λ (m : ℕ). Some m) (let same : n + 1 + at ≡ n + (at + 1) = omega arith in same)
 
 -- ---- the replayer's names
 
@@ -200,3 +210,41 @@ module _ {H R : Type 0} where
   -- where it isn't there, they stay
   pub taken_none : (name : Name) (os : List (Open H R)) → AreOnce os → open_in os name ≡ None → IsTaken os os name None
   taken_none name os once none = record { found = none; none = none; others = λ other apart. refl; once = once }
+
+  -- ---- finding a name's place, one after the other
+
+  -- the place among those from here on
+  abbrev pub PlaceFrom : Name → List (Open H R) → ℕ → Type 0
+  PlaceFrom name os at = place_of name os ≡ option_map (λ n. n + at) (place_of name (drop at os))
+
+  pub place_begins : (name : Name) (os : List (Open H R)) → PlaceFrom name os 0
+  place_begins name os = none_more (place_of name os)
+
+  here_is : (name : Name) (os : List (Open H R)) (at : ℕ) (o : Open H R) → at < length os → o ≡ get_or os at o → (b : Bool)
+      → bytes_eq name o.name ≡ b
+      → place_of name (drop at os) ≡ cond b (Some 0) (option_map (λ n. n + 1) (place_of name (drop (at + 1) os)))
+  here_is name os at o within is b same =
+      ap (place_of name) (drop_more os at o within ∙ ap (λ (x : Open H R). x ∷ drop (at + 1) os) (sym is))
+      ∙ ap (λ (t : Bool). cond t (Some 0) (option_map (λ n. n + 1) (place_of name (drop (at + 1) os)))) (is_eq-slice_cmp name o.name ∙ same)
+
+  pub place_goes_on : (name : Name) (os : List (Open H R)) (at : ℕ) (o : Open H R) → at < length os → o ≡ get_or os at o
+      → bytes_eq name o.name ≡ false → PlaceFrom name os at → PlaceFrom name os (at + 1)
+  place_goes_on name os at o within is other from =
+      from ∙ ap (option_map (λ n. n + at)) (here_is name os at o within is false other) ∙ one_more at (place_of name (drop (at + 1) os))
+
+  pub place_found : (name : Name) (os : List (Open H R)) (at : ℕ) (o : Open H R) → at < length os → o ≡ get_or os at o
+      → bytes_eq name o.name ≡ true → PlaceFrom name os at → Some at ≡ place_of name os
+  place_found name os at o within is same from =
+      sym (from ∙ ap (option_map (λ n. n + at)) (here_is name os at o within is true same) ∙ ap (λ (m : ℕ). Some m) (let first : 0 + at ≡ at = omega arith in first))
+
+  pub place_ends : (name : Name) (os : List (Open H R)) (at : ℕ) → length os ≤ at → PlaceFrom name os at → None ≡ place_of name os
+  place_ends name os at past from = sym (from ∙ ap (λ (xs : List (Open H R)). option_map (λ n. n + at) (place_of name xs)) (drop_all at os past))
+
+  -- What stands at a name's place is taken out.
+  pub taken_at : (name : Name) (os new : List (Open H R)) (at : ℕ) (o : Open H R) → Some at ≡ place_of name os → AreOnce os
+      → o ≡ slice_index_or os at o → new ≡ remove os at → IsTaken os new name (Some o.thing)
+  taken_at name os new at o is once there left =
+      let (removed, found, within) = place_there name os at (sym is) in
+      let thing : open_in os name ≡ Some o.thing = found o ∙ ap (λ (p : Open H R). Some p.thing) (sym there) in
+      subst (λ (xs : List (Open H R)). IsTaken os xs name (Some o.thing)) (sym (left ∙ removed))
+      (subst (IsTaken os (without_open name os) name) thing (taken name os once))
