@@ -11,7 +11,7 @@ HaltsByDisk (Err (Disk name)) = Unit {0}
 HaltsByDisk (Err (Read name)) = ⊥
 HaltsByDisk (Err (Damaged name place)) = ⊥
 
--- a read failed, or met damage
+-- a read met damage, or its reader failed
 abbrev pub HaltsByRead : {T : Type 0} → Result T Halt → Type 0
 HaltsByRead (Ok answer) = ⊥
 HaltsByRead (Err NoMemory) = ⊥

@@ -1,3 +1,4 @@
+pub mod Asking
 pub mod Between
 pub mod Contents
 pub mod Durable

@@ -1,5 +1,5 @@
 -- What the loop sees of a replayer: for which state it stands, its disk, and whether it takes lines.
-use Rattle.std.specs.Prelude.{◌≡◌, ◌≤◌, ℕ, List, Option, None, Result, IfOk, IfErr}
+use Rattle.std.specs.Prelude.{◌≡◌, ℕ, List, Option, None, Result, IfOk, IfErr}
 use Rattle.vl_disk.specs.Faults.{after_calls}
 use Rattle.vl_engine.specs.Represents as engine
 use Rattle.vl_engine.specs.declared.kept.Core.{Core}
@@ -10,8 +10,6 @@ use Rattle.vl_replay.specs.declared.fails.Halt.{Halt}
 use Rattle.vl_replay.specs.declared.fails.Halt.TheVariants.{NoMemory}
 use Rattle.vl_replay.specs.declared.replayer.open.Open.{Open}
 use Rattle.vl_script.specs.declared.answer.Answer.{Answer}
-use Rattle.vl_script.specs.declared.line.Line.{Line}
-use Rattle.vl_script.specs.declared.line.Line.TheVariants.{Begin, View, Get, Set, SetTagged, GetTagged, Scan, Delete, Commit, Drop}
 use Rattle.vl_replay.specs.declared.replayer.Replayer.{Replayer}
 use Rattle.vl_replay.specs.laws.Laws.{IsSound}
 
@@ -53,16 +51,3 @@ MakesStep bytes core opens s x result = IfOk result (λ answer. IsTold answer x.
 -- it fails by want of memory alone
 abbrev pub OnlyNoMemory : {T : Type 0} → Result T Halt → Type 0
 OnlyNoMemory result = IfErr result (λ halt. halt ≡ NoMemory)
-
--- a scan asks for a row at least, as each line that is read does
-abbrev pub AsksForRows : Line → Type 0
-AsksForRows (Begin name) = Unit {0}
-AsksForRows (View name) = Unit {0}
-AsksForRows (Get name key) = Unit {0}
-AsksForRows (Set name key value) = Unit {0}
-AsksForRows (SetTagged name key value tag) = Unit {0}
-AsksForRows (GetTagged name key) = Unit {0}
-AsksForRows (Scan name low high limit way) = 1 ≤ limit
-AsksForRows (Delete name key) = Unit {0}
-AsksForRows (Commit name) = Unit {0}
-AsksForRows (Drop name) = Unit {0}

@@ -13,7 +13,7 @@ use Rattle.vl_replay.specs.Runs.{IsFront}
 use Rattle.vl_replay.specs.Sequential.{State, answer_text, history_of}
 use Rattle.vl_replay.specs.laws.StartLaws.{empty_store}
 use Rattle.vl_replay.specs.declared.ending.Ending.{Ending}
-use Rattle.vl_replay.specs.declared.ending.Ending.TheVariants.{Complete, BadLine, BadWords, DiskFault, Refused, Damaged, NoMemory, ReadFault, WriteFault, AnswerCut, Stopped}
+use Rattle.vl_replay.specs.declared.ending.Ending.TheVariants.{Complete, BadLine, BadWords, DiskFault, ReaderFault, Refused, Damaged, NoMemory, ReadFault, WriteFault, AnswerCut, Stopped}
 
 -- what is tried: the lines of some bytes, over an empty disk of which each changing call behind so many fails; and what a
 -- crash then does to what isn't durable
@@ -106,7 +106,7 @@ IsAnswerFront t count piece =
     (e : Exchange) × (slice_get (answered_lines t) count ≡ Some e) × IsFront piece (answer_text e.answer)
 
 -- What a trial that ended so printed. It comes to no other endings: a stop is no fault of the disk, what is opened behind it
--- isn't refused, and nothing is damaged.
+-- isn't refused, and all that was written can be read.
 abbrev pub EndsTrial : Trial → (held held' left : Option (List ℕ)) → Ending → Type 0
 EndsTrial t held held' left Complete =
     ReachesEnd t × (left ≡ Some []) × Takes held held' (answers_text (answered_lines t) ++ trial_text t)
@@ -114,6 +114,7 @@ EndsTrial t held held' left BadLine =
     ReachesBadLine t × Takes held held' (answers_text (exchanges_unstopped t) ++ bad_line (length (exchanges_unstopped t) + 1))
 EndsTrial t held held' left BadWords = ⊥
 EndsTrial t held held' left DiskFault = ⊥
+EndsTrial t held held' left ReaderFault = ⊥
 EndsTrial t held held' left (Refused refusal) = ⊥
 EndsTrial t held held' left (Damaged name place) = ⊥
 EndsTrial t held held' left NoMemory = (count : ℕ) × TakesFirst t held held' count no_memory_line

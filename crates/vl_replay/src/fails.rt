@@ -28,7 +28,7 @@ pub enum Halt {
     /// The disk failed at this file.
     #[error("disk fault")]
     Disk { name: Name },
-    /// The store's reader failed at this file.
+    /// A read failed at this file.
     #[error("disk fault")]
     Read { name: Name },
     /// A read met bytes of this file that aren't what should stand at this place.

@@ -18,11 +18,11 @@ use Rattle.vl_script.specs.Script.{text_of, lines_of, line_of}
 use Rattle.vl_replay.specs.Sequential.{State, answer_to, state_after, answer_text}
 use Rattle.vl_replay.specs.Input.{HasNoLineEnd}
 use Rattle.vl_replay.specs.Exchanges.{Exchange, exchange_at, exchanged, exchanges_from, and_later, answers_text, ended_lines, KeepsUp}
-use Rattle.vl_replay.specs.Endings.{Culprit, NoOne, TheLine, TheWords, TheDisk, TheFiles, TheBytes, Memory, TheSource, TheSink, LastPiece, NoPiece, BadLinePiece, Line, LineFront, AnswerFront, CountsFaultsOf, EndsAs, Evidence, CutsAnswer, culprit_of, end_of, ending_at, last_line, line_at, line_of_piece, line_number, bad_line}
+use Rattle.vl_replay.specs.Endings.{Culprit, NoOne, TheLine, TheWords, TheDisk, TheReader, TheFiles, TheBytes, Memory, TheSource, TheSink, LastPiece, NoPiece, BadLinePiece, Line, LineFront, AnswerFront, CountsFaultsOf, EndsAs, Evidence, CutsAnswer, culprit_of, end_of, ending_at, last_line, line_at, line_of_piece, line_number, bad_line}
 use Rattle.vl_replay.specs.Runs.{Script, exchanges, next_number, IsFront, Stops, Puts, EndsSo}
 use Rattle.vl_replay.specs.Steps.{EndsAtDamage, Finishes, FinishesBy, IsNext, EndsBefore}
 use Rattle.vl_replay.specs.declared.ending.Ending.{Ending}
-use Rattle.vl_replay.specs.declared.ending.Ending.TheVariants.{Complete, Damaged, DiskFault, NoMemory, WriteFault, AnswerCut, Stopped}
+use Rattle.vl_replay.specs.declared.ending.Ending.TheVariants.{Complete, Damaged, DiskFault, NoMemory, ReaderFault, WriteFault, AnswerCut, Stopped}
 use Rattle.vl_replay.specs.declared.ending.OnFault.{OnFault}
 use Rattle.vl_replay.specs.declared.ending.OnFault.TheVariants.{Report, Stop}
 use Rattle.vl_replay.specs.laws.Laws.{ended_lines-cons}
@@ -194,6 +194,7 @@ module _ (cause cause' : Culprit → Type 0) (weaker : (culprit : Culprit) → c
   stops_weaker TheLine h = h
   stops_weaker TheWords h = h
   stops_weaker TheDisk h = weaker TheDisk h
+  stops_weaker TheReader h = h
   stops_weaker TheFiles h = h
   stops_weaker (TheBytes name place) h = h
   stops_weaker Memory h = h
@@ -220,6 +221,7 @@ evidence_weaker A B A' B' f g NoOne c = c
 evidence_weaker A B A' B' f g TheLine c = c
 evidence_weaker A B A' B' f g TheWords c = c
 evidence_weaker A B A' B' f g TheDisk c = g c
+evidence_weaker A B A' B' f g TheReader c = c
 evidence_weaker A B A' B' f g TheFiles c = c
 evidence_weaker A B A' B' f g (TheBytes name place) c = c
 evidence_weaker A B A' B' f g Memory c = c
@@ -255,6 +257,7 @@ module _ (whole rest : Script) (line : List ℕ) (e : Exchange) (parts : whole.b
     stops_later TheLine (at, less) = (ap suc at ∙ sym (ap length longer), let count = ap length lines in omega arith)
     stops_later TheWords h = h
     stops_later TheDisk h = h
+    stops_later TheReader h = h
     stops_later TheFiles h = h
     stops_later (TheBytes name place) h = h
     stops_later Memory h = h
@@ -409,6 +412,13 @@ damage_counts_sink g old new name place result ends = ⊎_elim
     (λ (met : FinishesBy g old new (Damaged name place) result). finish_counts g old new met.0 (Damaged name place) result (λ e. cc) met.2)
     (λ (short : FinishesBy g old new NoMemory result). finish_counts g old new short.0 NoMemory result (λ e. cc) short.2)
     ends
+
+-- and so it is where a read failed
+pub unread_counts : {K : Type 0} (g : sink.Ghosts K) (old new : K) (line : List ℕ) (result : Ending) → Finishes g old new line ReaderFault result
+    → (before now : ℕ) → now ≡ before → CountsFaultsOf TheDisk (Some result) before now
+unread_counts g old new line result finishes before now same =
+    subst (λ (n : ℕ). CountsFaultsOf TheDisk (Some result) before n) (sym same)
+    (counts_none TheDisk result before (or_cut g old new line ReaderFault result (λ (e : Ending). culprit_of e ≢ TheDisk) finishes (λ e. cc) (λ e. cc)))
 
 pub damage_counts : {K : Type 0} (g : sink.Ghosts K) (old new : K) (name : Name) (place : ℕ) (result : Ending) → EndsAtDamage g old new name place result
     → (before now : ℕ) → now ≡ before → CountsFaultsOf TheDisk (Some result) before now

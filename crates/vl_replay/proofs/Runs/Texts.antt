@@ -12,7 +12,7 @@ use Rattle.vl_script.specs.Script.{line_of}
 use Rattle.vl_replay.specs.Sequential.{State, answer_to, state_after, history_of, IsTold}
 use Rattle.vl_replay.specs.Exchanges.{exchange_at, exchanged, state_behind}
 use Rattle.vl_disk.specs.declared.name.Name.{Name}
-use Rattle.vl_replay.specs.Halts.{HaltsByDisk}
+use Rattle.vl_replay.specs.Halts.{HaltsByDisk, HaltsByRead}
 use Rattle.vl_replay.specs.Endings.{CutsAnswer, IsBetweenLines, TheDisk, culprit_of, ending_at}
 use Rattle.vl_replay.specs.Durable.{HoldsState, HoldsCommits, LeadsTo, DiskEnds}
 use Rattle.vl_replay.specs.Stored.{IsStopped, IsStored}
@@ -55,6 +55,12 @@ same_halt {T = T} r h e is same = sym (subst (λ (x : Result T Halt). IsErrAnd x
 
 pub halts : {T : Type 0} (r : Result T Halt) (name : Name) → r ≡ Err (why.Disk name) → HaltsByDisk r
 halts {T = T} r name is = subst (λ (x : Result T Halt). HaltsByDisk x) (sym is) tt
+
+pub by_damage : {T : Type 0} (r : Result T Halt) (name : Name) (place : ℕ) → r ≡ Err (why.Damaged name place) → HaltsByRead r
+by_damage {T = T} r name place is = subst (λ (x : Result T Halt). HaltsByRead x) (sym is) tt
+
+pub by_read : {T : Type 0} (r : Result T Halt) (name : Name) → r ≡ Err (why.Read name) → HaltsByRead r
+by_read {T = T} r name is = subst (λ (x : Result T Halt). HaltsByRead x) (sym is) tt
 
 -- ---- the state behind a text
 

@@ -27,7 +27,7 @@ use Rattle.vl_engine.specs.Shown.{Shown}
 use Rattle.vl_replay.specs.Trial.{MeetsStop, TakesFirst, Trial, answered_lines, at_stop, before_stop, begun, reopened_state, state_behind_stop, stopped_line}
 use Rattle.vl_replay.specs.Trying.{ComesTo, IsOnTrial, trial_of}
 use Rattle.vl_replay.specs.declared.ending.Ending.{Ending}
-use Rattle.vl_replay.specs.declared.ending.Ending.TheVariants.{Complete, BadLine, BadWords, DiskFault, Refused, Damaged, NoMemory, ReadFault, WriteFault, AnswerCut, Stopped}
+use Rattle.vl_replay.specs.declared.ending.Ending.TheVariants.{Complete, BadLine, BadWords, DiskFault, ReaderFault, Refused, Damaged, NoMemory, ReadFault, WriteFault, AnswerCut, Stopped}
 use Rattle.vl_replay.specs.declared.ending.OnFault.TheVariants.{Stop}
 use Rattle.vl_replay.proofs.Trials.StoppedLaws.{stopped_reopens, stored_reopens}
 use Rattle.vl_replay.proofs.Trials.TrialLines.{Passes, all_next, before_all, before_front, before_get, before_met, chosen_true, is_within, last_files, last_next, last_within, none_next}
@@ -252,6 +252,7 @@ module _ (stop : ℕ) (small : stop < 2 ^ 64 - 3) (input : List ℕ) (stands : S
     where
       not_so : ◌≡◌ {A = Option Ending} (Some DiskFault) (Some Stopped) → ⊥
       not_so e = cc
+  comes ReaderFault run as_meant counts rest told = absurd run.ends.puts.0
   comes (Refused refusal) run as_meant counts rest told = absurd run.ends.puts.0
   comes (Damaged name place) run as_meant counts rest told = absurd run.ends.puts.0
   comes NoMemory run as_meant counts rest told = λ o. (run.answered, takes_first NoMemory run o no_memory_line run.ends.puts.1)

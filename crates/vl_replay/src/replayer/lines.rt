@@ -1,9 +1,9 @@
 //! A script's lines, one after the other.
-ghost use Rattle.std.specs.Prelude.{◌≡◌, ◌≢◌, ℕ, Err, IfOk, OnOk, Some};
+ghost use Rattle.std.specs.Prelude.{◌≡◌, Err, IfOk, OnOk, Some};
 ghost use Rattle.vl_disk.specs.Faults.{HasCause};
-ghost use Rattle.vl_disk.specs.declared.name.Name.{Name};
+ghost use Rattle.vl_replay.specs.Asking.{AsksForRow};
 ghost use Rattle.vl_replay.specs.Halts.{HaltsByDisk, HaltsByRead};
-ghost use Rattle.vl_replay.specs.Replaying.{AsksForRows, MakesStep, StandsFor, TakesLines, disk_of};
+ghost use Rattle.vl_replay.specs.Replaying.{MakesStep, StandsFor, TakesLines, disk_of};
 ghost use Rattle.vl_replay.specs.Sequential.{IsTold, State, answer_to, state_after, step_to};
 ghost use Rattle.vl_replay.specs.declared.fails.Halt.{Halt as Halts};
 
@@ -13,28 +13,21 @@ use vl_disk::Disk;
 use vl_script::{Answer, Line};
 
 impl<D: Disk> Replayer<D> {
-    /// Answers a line. A line that is given no answer is the last one: each line behind it is halted as it was.
+    /// Answers a line. A line that is given no answer is the last one.
     pub fn line(&mut self, line: Line) -> Result<Answer, Halt>
-        requires { AsksForRows line }
-        ensures answer { TakesLines self.old → (s : State) → StandsFor D.Held.bytes self.old s
+        requires goes { TakesLines self.old }
+        requires rows { AsksForRow line }
+        ensures answer { (s : State) → StandsFor D.Held.bytes self.old s
             → IfOk result (λ answer. IsTold answer (answer_to s line)) }
-        ensures after { TakesLines self.old → (s : State) → StandsFor D.Held.bytes self.old s
+        ensures after { (s : State) → StandsFor D.Held.bytes self.old s
             → OnOk result (StandsFor D.Held.bytes self.new (state_after s line)) }
-
-        // A halt stays: each line behind it is halted so too, and changes nothing.
-        ensures halts { (halt : Halts) → result ≡ Err halt → self.new.halted ≡ Some halt }
         ensures goes_on { OnOk result (TakesLines self.new) }
-        ensures stays_halted { (halt : Halts) → self.old.halted ≡ Some halt
-            → (result ≡ Err halt) × (self.new ≡ self.old) }
+        ensures halts { (halt : Halts) → result ≡ Err halt → self.new.halted ≡ Some halt }
 
         // What the store has can be read.
-        ensures sound { TakesLines self.old → (s : State) → StandsFor D.Held.bytes self.old s → HaltsByRead result → ⊥ }
-        ensures cause { TakesLines self.old
-            → HasCause (D.faults (disk_of self.old)) (D.faults (disk_of self.new)) (HaltsByDisk result) }
+        ensures sound { (s : State) → StandsFor D.Held.bytes self.old s → HaltsByRead result → ⊥ }
+        ensures cause { HasCause (D.faults (disk_of self.old)) (D.faults (disk_of self.new)) (HaltsByDisk result) }
     {
-        if let Some(halt) = self.halted {
-            return Err(halt);
-        }
         match self.carry_out(line) {
             Ok(answer) => Ok(answer),
             Err(halt) => {
@@ -46,7 +39,7 @@ impl<D: Disk> Replayer<D> {
 
     // Carries a line out, by what it asks for.
     fn carry_out(&mut self, line: Line) -> Result<Answer, Halt>
-        requires { AsksForRows line }
+        requires { AsksForRow line }
         ensures makes { (s : State) → StandsFor D.Held.bytes self.old s
             → MakesStep D.Held.bytes self.new.engine.core self.new.opens.items s (step_to s line) result }
         ensures sound { (s : State) → StandsFor D.Held.bytes self.old s → HaltsByRead result → ⊥ }

@@ -45,4 +45,4 @@ returns-in-Ok-clause-reads g c =
 
 pub returns-clause-reads : goal.returns-clause-reads
 returns-clause-reads g c =
-    finishes_otherwise g.K.Sink c.args.sink.now c.finish-in-Err.new.sink no_memory_line NoMemory c.finish-in-Err.result (Unit {0}) ⊥ c.args.answered (λ e. cc, λ e. cc, λ name place e. cc) c.finish-in-Err.ensures
+    finishes_otherwise g.K.Sink c.args.sink.now c.finish-in-Err.new.sink no_memory_line NoMemory c.finish-in-Err.result (Unit {0}) ⊥ c.args.answered (λ e. cc, λ e. cc, λ name place e. cc, λ e. cc) c.finish-in-Err.ensures

@@ -2,7 +2,7 @@ use Rattle.std.proofs.Common.{◌≡◌, arith, true, false, sym, ◌∙◌}
 use Rattle.vl_replay.specs.Replaying.{StandsFor, disk_of}
 use Rattle.vl_replay.specs.Runs.{outside}
 use Rattle.vl_replay.specs.Trial.{begun}
-use Rattle.vl_replay.specs.Trying.{trial_of}
+use Rattle.vl_replay.specs.Trying.{all_told, trial_of}
 use Rattle.vl_replay.proofs.Trials.Reopening.{memory_line}
 use Rattle.vl_replay.proofs.Trials.TrialEnds.{comes_nowhere, stopped_opening, stops_by_fault, stops_by_memory}
 use Rattle.vl_replay.proofs.Trials.TrialRun.{comes}
@@ -14,7 +14,7 @@ not_both e = cc
 pub returns-in-Ok-clause-comes : goal.returns-in-Ok-clause-comes
 returns-in-Ok-clause-comes g c input told =
     let still = c.answer_lines.ensures.still_told input told in
-    comes c.args.stop (omega (arith, c.ranges.stop.fits)) input (StandsFor c.in-Ok.replayer)
+    comes c.args.stop (omega (arith, c.ranges.stop.fits)) input (StandsFor all_told c.in-Ok.replayer)
     (outside g.S.Source g.K.Sink c.args.source.now c.args.sink.now (disk_of c.in-Ok.replayer))
     (outside g.S.Source g.K.Sink c.answer_lines.new.source c.answer_lines.new.sink c.answer_lines.result.disk)
     c.in-Ok.ensures.opened c.answer_lines.result.ending (c.answer_lines.ensures.runs begun input c.in-Ok.ensures.opened.stands_for told)

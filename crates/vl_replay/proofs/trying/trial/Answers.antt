@@ -1,4 +1,5 @@
 use Rattle.std.proofs.Common.{◌≡◌, ⊎_elim, inl, [], Some, refl, sym, subst, ◌∙◌, true, false}
+use Rattle.vl_replay.specs.Sequential.{history_of}
 use Rattle.vl_replay.specs.Endings.{read_fault_line}
 use Rattle.vl_replay.specs.Steps.{Finishes}
 use Rattle.vl_replay.specs.Trial.{reopened_state}
@@ -30,11 +31,11 @@ returns-then-has_stopped-clause-ends g c input told =
     let t = trial_of c.args.stop input c.args.outcome in
     let s = reopened_state t in
     ⊎_elim
-    (λ (all : (g.S.Source.left c.pass_and_reopen.new.source ≡ Some []) × ReopensAs g.K.Sink s.history (last_number s.history) ran.new.sink c.pass_and_reopen.new.sink c.pass_and_reopen.result).
+    (λ (all : (g.S.Source.left c.pass_and_reopen.new.source ≡ Some []) × ReopensAs g.K.Sink (history_of s) (last_number (history_of s)) ran.new.sink c.pass_and_reopen.new.sink c.pass_and_reopen.result).
     ends_reopened t _ _ (tried.taken c.args.outcome) g.K.Sink ran.new.sink c.pass_and_reopen.new.sink refl _ c.pass_and_reopen.result (inl (meets c.args.outcome)) all.0 all.1)
     (λ (failed : Finishes g.K.Sink ran.new.sink c.pass_and_reopen.new.sink read_fault_line ReadFault c.pass_and_reopen.result).
     ends_source t _ _ (tried.taken c.args.outcome) g.K.Sink ran.new.sink c.pass_and_reopen.new.sink refl _ c.pass_and_reopen.result failed)
-    (c.pass_and_reopen.ensures.reopens rest s.history (last_number s.history) left (tried.leaves c.args.outcome))
+    (c.pass_and_reopen.ensures.reopens rest (history_of s) (last_number (history_of s)) left (tried.leaves c.args.outcome))
 
 pub returns-clause-ends : goal.returns-clause-ends
 returns-clause-ends g c input told =
