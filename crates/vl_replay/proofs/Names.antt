@@ -11,3 +11,4 @@ pub mod ReadMaking
 pub mod ScanMaking
 pub mod BeginMaking
 pub mod CommitMaking
+pub mod Returning
