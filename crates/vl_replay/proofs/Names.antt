@@ -12,3 +12,4 @@ pub mod ScanMaking
 pub mod BeginMaking
 pub mod CommitMaking
 pub mod Returning
+pub mod Halts
