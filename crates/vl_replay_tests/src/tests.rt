@@ -5,6 +5,7 @@ use std::alloc::Global;
 use std::test::Fail;
 use vl_cli::{Ended, run};
 use vl_disk::{Failed, Name};
+use vl_engine::{CommitFail, Done, Engine};
 use vl_io::{SliceSource, VecSink};
 use vl_mem::MemDisk;
 use vl_replay::Halt;
@@ -228,6 +229,32 @@ fn one_key_more_than_a_transaction_may_write_is_refused(rt: HostRuntime) -> Resu
     let (printed, status) = ran(alloc, "replay .", "", "", input.as_str())?;
     assert!(rt; printed.as_slice() == wanted.as_slice());
     assert!(rt; status.as_str() == "0");
+    Ok(())
+}
+
+/// Over a log with room for 100 bytes, of which the header takes 16 and each of these commits 35, the third finds none.
+#[test]
+fn a_commit_without_room_is_refused(rt: HostRuntime) -> Result<(), Fail> {
+    let alloc = rt.alloc();
+    let disk = MemDisk::new(alloc, Vec::new(alloc), Vec::new(alloc));
+    let Ok(mut engine) = Engine::open(alloc, disk, 100) else {
+        assert!(rt; false, "not opened");
+        return Ok(());
+    };
+    for number in 1..4 {
+        let Ok(mut txn) = engine.begin() else {
+            assert!(rt; false, "not begun");
+            return Ok(());
+        };
+        assert!(rt; txn.set(b"a", b"\x01").is_ok());
+        let answer = engine.commit(txn);
+        let wanted = if number < 3 {
+            matches!(answer, Ok(Done::At(given)) if given == number)
+        } else {
+            matches!(answer, Err(CommitFail::Full { length: 86, frame: 35, .. }))
+        };
+        assert!(rt; wanted, "commit {number}");
+    }
     Ok(())
 }
 
