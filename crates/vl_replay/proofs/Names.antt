@@ -6,3 +6,8 @@ pub mod Writing
 pub mod Ending
 pub mod Scanning
 pub mod Quiet
+pub mod Making
+pub mod ReadMaking
+pub mod ScanMaking
+pub mod BeginMaking
+pub mod CommitMaking

@@ -1,5 +1,5 @@
 -- What a replayer's names stand for, and those of the sequential store.
-use Rattle.std.specs.Prelude.{◌≡◌, ◌+◌, ℕ, Result, Ok, Err, if◌then◌else◌, List, [], ◌∷◌, Option, None, Some}
+use Rattle.std.specs.Prelude.{◌≡◌, ◌+◌, ℕ, Bool, true, false, Result, Ok, Err, if◌then◌else◌, List, [], ◌∷◌, Option, None, Some}
 use Rattle.std.specs.Option.{option_map}
 use Rattle.std.specs.Bool.{⊤}
 use Rattle.std.specs.Ordering.{eq_by_cmp}
@@ -20,6 +20,11 @@ use Rattle.vl_replay.specs.declared.fails.Halt.TheVariants as halts
 use Rattle.vl_replay.specs.declared.replayer.open.Open.{Open}
 use Rattle.vl_script.specs.declared.answer.Answer.{Answer}
 use Rattle.vl_script.specs.declared.answer.Answer.TheVariants as answers
+use Rattle.vl_layout.specs.Store.Lines as store_lines
+use Rattle.vl_layout.specs.Store.Reading.{answer_of, answer_with_tag}
+use Rattle.vl_engine.specs.declared.fails.ReadFail.{ReadFail}
+use Rattle.vl_engine.specs.declared.fails.ReadFail.TheVariants as unread
+use Rattle.vl_model.specs.Keys.{Stored}
 use Rattle.vl_txn.specs.declared.set_fail.SetFail.{SetFail}
 use Rattle.vl_txn.specs.declared.set_fail.SetFail.TheVariants.{EmptyKey, KeyTooLong, NoMemory, TooBig, ValueTooLong}
 use Rattle.vl_replay.specs.declared.replayer.open.Thing.{Thing}
@@ -95,3 +100,24 @@ told_write (Err NoMemory) = Err halts.NoMemory
 abbrev pub change_of : Option (List ℕ × ℕ) → Change
 change_of None = changes.Delete
 change_of (Some (bytes, tag)) = changes.Set (tagged bytes tag)
+
+-- ---- what reads are told
+
+-- how the store tells a value: with its tag, or without
+abbrev pub tell_of : Bool → Option Stored → store_lines.Answer
+tell_of true = answer_with_tag
+tell_of false = answer_of
+
+abbrev pub told_value : Bool → Option Stored → Answer
+told_value with_tag None = answers.NoValue
+told_value true (Some value) = answers.FoundTagged value
+told_value false (Some value) = answers.Found value
+
+-- what was read, or why nothing was
+abbrev pub told_by : {V : Type 0} → (V → Answer) → Result V ReadFail → Result Answer Halt
+told_by tell (Ok value) = Ok (tell value)
+told_by tell (Err unread.EmptyKey) = Ok answers.Invalid
+told_by tell (Err unread.KeyTooLong) = Ok answers.Invalid
+told_by tell (Err unread.NoMemory) = Err halts.NoMemory
+told_by tell (Err (unread.Disk name)) = Err (halts.Read name)
+told_by tell (Err (unread.Damaged name place)) = Err (halts.Damaged name place)

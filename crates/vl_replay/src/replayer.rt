@@ -1,6 +1,11 @@
 //! A store over a disk, which answers a script's lines.
 
+mod beginning;
+mod committing;
+mod dropping;
+mod lines;
 pub mod open;
+mod reading;
 mod writing;
 
 use crate::fails::Halt;

@@ -35,6 +35,14 @@ use Rattle.vl_replay.proofs.Disk.Betweens.{extends_itself, last-extends}
 use Rattle.vl_replay.proofs.Names.Lookups.{taken_none}
 use Rattle.vl_replay.proofs.Names.Standings.{stands_with, stands_without}
 
+-- nothing is written at first
+pub no_entries : entries (empty {K = List ℕ} {X = Change} {R = key_cmp}) ≡ []
+no_entries = none (entries (empty {K = List ℕ} {X = Change} {R = key_cmp})) (sym (len-entries (empty {K = List ℕ} {X = Change} {R = key_cmp})) ∙ len-empty key_cmp Change)
+  where
+    none : (xs : Changes) → length xs ≡ 0 → xs ≡ []
+    none [] e = refl
+    none (x ∷ xs) e = absurd (omega (arith, e))
+
 -- a thing's ticket is live
 live_of : {H R : Type 0} (bytes : H → Option (List ℕ)) (h : History) (l : Layout) (x : Option (Thing H R)) (y : store.Thing)
     → Corresponds bytes h l x (Some y) → (number : ℕ) × IsLive l (ticket_of y) number
@@ -146,13 +154,6 @@ module _ {H R : Type 0} (bytes : H → Option (List ℕ)) (h : History) (l : Lay
     sees = sees;
     live = subst (λ (n : ℕ). IsLive next n txn.number) (sym own) (subst (IsLive next ticket) (sym number) (begun_lives l h lived));
   })
-    where
-      no_entries : entries (empty {K = List ℕ} {X = Change} {R = key_cmp}) ≡ []
-      no_entries = none (entries (empty {K = List ℕ} {X = Change} {R = key_cmp})) (sym (len-entries (empty {K = List ℕ} {X = Change} {R = key_cmp})) ∙ len-empty key_cmp Change)
-        where
-          none : (xs : Changes) → length xs ≡ 0 → xs ≡ []
-          none [] e = refl
-          none (x ∷ xs) e = absurd (omega (arith, e))
 
   pub begins_view : (view : EngineView H R) (b : Beginning) → view.ticket ≡ ticket → view.number ≡ last_number h → SeesAlone bytes view h
       → Stand bytes (os ++ record { name = name; thing = View view } ∷ [])

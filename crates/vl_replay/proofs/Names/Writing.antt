@@ -36,7 +36,7 @@ abbrev tested : (empty short_key short_value fits : Bool) → Option SetFail
 tested empty short_key short_value fits =
     cond empty (Some EmptyKey) (cond (not short_key) (Some KeyTooLong) (cond (not short_value) (Some ValueTooLong) (cond fits None (Some TooBig))))
 
-some_byte : (n : ℕ) → nat_le 1 n ≡ not (n == 0)
+pub some_byte : (n : ℕ) → nat_le 1 n ≡ not (n == 0)
 some_byte n = grind (arith, nat_tests)
 
 -- both count alike whether a transaction may have these writes

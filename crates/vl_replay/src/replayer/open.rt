@@ -1,7 +1,8 @@
 //! What the names of a script stand for.
 ghost use Rattle.std.specs.Prelude.{◌≡◌, ◌++◌, ◌∷◌, [], OnOk};
+ghost use Rattle.std.specs.Option.{is_some};
 ghost use Rattle.std.specs.Str.{bytes_eq};
-ghost use Rattle.vl_replay.specs.Standing.{AreOnce, IsTaken, place_of};
+ghost use Rattle.vl_replay.specs.Standing.{AreOnce, IsTaken, open_in, place_of};
 
 use std::alloc::AllocFailed;
 use vl_engine::{Txn, View};
@@ -41,6 +42,13 @@ fn place<H, R>(opens: &[Open<H, R>], name: &[u8]) -> Option<usize>
         at += 1;
     }
     None
+}
+
+/// Whether the name is in use.
+pub fn is_taken<H, R>(opens: &[Open<H, R>], name: &[u8]) -> bool
+    ensures { result ≡ is_some (open_in opens.now name.now) }
+{
+    place(opens, name).is_some()
 }
 
 /// What a name stands for, taken out: it is free then.
