@@ -2,7 +2,7 @@
 use Rattle.std.proofs.Common.{append_assoc, append-nil, ◌≡◌, ◌≢◌, ◌⊎◌, inl, inr, ⊎_elim, ◌+◌, ◌-◌, ◌^◌, ◌<◌, ℕ, suc, min, List, [], ◌∷◌, ◌++◌, length, take, drop, refl, ap, sym, ◌∙◌, Bool, true, false, arith, subst, zero-le, one-add, cond}
 use Rattle.std.proofs.lemmas.List.{take-append-drop}
 use Rattle.std.proofs.lemmas.Bool.{ne_eqb}
-use Rattle.std.specs.Prelude.{Option, Some, None, codes, ◌==◌, nat_le}
+use Rattle.std.specs.Prelude.{Option, Some, None, codes, unwrap_or, ◌==◌, nat_le}
 use Rattle.std.specs.List.{slice_get}
 use Rattle.std.specs.Option.{option_map}
 use Rattle.std.specs.Fmt.{decimal}
@@ -338,6 +338,11 @@ pub fault_stops : (cause : Culprit → Type 0) (script : Script) (left : Option 
     → Stops cause script left m (culprit_of (ending_at f))
 fault_stops cause script left m by Report = by
 fault_stops cause script left m by Stop = by
+
+-- where the last line was answered, the run didn't end at a read that failed
+pub last_readable : (ended : Option Ending) (result : Ending) → result ≡ unwrap_or ended Complete → ended ≢ Some ReaderFault → Some result ≢ Some ReaderFault
+last_readable None result is fine by = cc
+last_readable (Some ending) result is fine by = fine (ap Some (sym is) ∙ by)
 
 -- a run that ended by its disk did so as it was to
 pub ends_as : (f : OnFault) (ending : Ending) → (culprit_of ending ≢ TheDisk) ⊎ (ending ≡ ending_at f) → EndsAs f (Some ending)

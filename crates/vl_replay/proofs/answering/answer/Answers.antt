@@ -1,5 +1,5 @@
-use Rattle.std.proofs.Common.{◌≢◌, inl, ◌∙◌, ap, Err, ℕ, List, refl, subst, sym}
-use Rattle.std.specs.Prelude.{Some}
+use Rattle.std.proofs.Common.{◌≡◌, ◌≢◌, inl, ◌∙◌, ap, Err, ℕ, List, refl, subst, sym}
+use Rattle.std.specs.Prelude.{None, Some}
 use Rattle.std.specs.Prelude.{is_ok}
 use Rattle.vl_io.specs.Sink.{Takes, TakesPrefix}
 use Rattle.vl_disk.specs.Faults.{Rose}
@@ -200,6 +200,12 @@ returns-in-Err-Read-clause-readable g c s stands =
 
 -- ---- no read of a told store fails, and the run goes on over one
 
+some_ending : (a b : Ending) → Some a ≡ Some b → a ≡ b
+some_ending a b e = cc
+
+some_none : (a : Ending) → Some a ≡ None → ⊥
+some_none a e = cc
+
 pub returns-in-Ok-clause-stands : goal.returns-in-Ok-clause-stands
 returns-in-Ok-clause-stands g c s stands on =
     let made = rw c.in-Ok-Some.field-0-is at (c.in-Ok-Some.ensures.answers s stands) in
@@ -217,3 +223,36 @@ pub returns-clause-readable : goal.returns-clause-readable
 returns-clause-readable g c s stands =
     or_cut g.K.Sink _ _ _ (ending_at c.args.on_fault) c.end_at_fault.result (λ (e : Ending). Some e ≢ Some ReaderFault) c.end_at_fault.ensures
     (at_fault (λ (e : Ending). Some e ≢ Some ReaderFault) (λ e. cc) (λ e. cc) c.args.on_fault) (λ e. cc)
+
+pub returns-in-Ok-None-clause-readable : goal.returns-in-Ok-None-clause-readable
+returns-in-Ok-None-clause-readable g c s stands by = c.end_at_bad_line.ensures.readable (some_ending _ _ by)
+
+pub returns-in-Ok-Some-clause-stands : goal.returns-in-Ok-Some-clause-stands
+returns-in-Ok-Some-clause-stands g c s stands on = absurd (some_none _ on)
+
+pub returns-in-Ok-None-clause-stands : goal.returns-in-Ok-None-clause-stands
+returns-in-Ok-None-clause-stands g c s stands on = absurd (some_none _ on)
+
+pub returns-in-Err-NoMemory-clause-stands : goal.returns-in-Err-NoMemory-clause-stands
+returns-in-Err-NoMemory-clause-stands g c s stands on = absurd (some_none _ on)
+
+pub returns-in-Err-Damaged-clause-stands : goal.returns-in-Err-Damaged-clause-stands
+returns-in-Err-Damaged-clause-stands g c s stands on = absurd (some_none _ on)
+
+pub returns-in-Err-Read-clause-stands : goal.returns-in-Err-Read-clause-stands
+returns-in-Err-Read-clause-stands g c s stands on = absurd (some_none _ on)
+
+pub returns-clause-stands : goal.returns-clause-stands
+returns-clause-stands g c s stands on = absurd (some_none _ on)
+
+pub returns-in-Err-Read-clause-not_the_source : goal.returns-in-Err-Read-clause-not_the_source
+returns-in-Err-Read-clause-not_the_source g c =
+    or_cut g.K.Sink _ _ _ ReaderFault c.finish-in-Err-Read.result (λ (e : Ending). Some (culprit_of e) ≢ Some TheSource) c.finish-in-Err-Read.ensures (λ e. cc) (λ e. cc)
+
+pub returns-in-Err-Read-clause-not_the_files : goal.returns-in-Err-Read-clause-not_the_files
+returns-in-Err-Read-clause-not_the_files g c refusal =
+    or_cut g.K.Sink _ _ _ ReaderFault c.finish-in-Err-Read.result (λ (e : Ending). Some e ≢ Some (Refused refusal)) c.finish-in-Err-Read.ensures (λ e. cc) (λ e. cc)
+
+pub returns-in-Err-Read-clause-not_the_words : goal.returns-in-Err-Read-clause-not_the_words
+returns-in-Err-Read-clause-not_the_words g c =
+    or_cut g.K.Sink _ _ _ ReaderFault c.finish-in-Err-Read.result (λ (e : Ending). Some e ≢ Some BadWords) c.finish-in-Err-Read.ensures (λ e. cc) (λ e. cc)

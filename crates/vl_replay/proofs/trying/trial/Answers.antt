@@ -7,7 +7,7 @@ use Rattle.vl_replay.specs.Trying.{ComesTo, ReopensAs, trial_of}
 use Rattle.vl_model.specs.History.{last_number}
 use Rattle.vl_replay.specs.declared.ending.Ending.{Ending}
 use Rattle.vl_replay.specs.declared.ending.Ending.TheVariants.{ReadFault}
-use Rattle.vl_replay.proofs.Trials.TrialEnds.{ends_reopened, ends_so, ends_source}
+use Rattle.vl_replay.proofs.Trials.TrialEnds.{ends_reopened, ends_so, ends_source, no_fault}
 use Rattle.vl_replay.proofs.trying.trial.Goals as goal
 
 not_both : true ≡ false → ⊥
@@ -43,3 +43,17 @@ returns-clause-ends g c input told =
     ends_so (trial_of c.args.stop input) _ _ _ ran.result.disk ran.result.ending (ran.ensures.comes input told)
     (λ whole. not_both (sym (c.is_complete.ensures.1 whole) ∙ c.if-is_complete.false))
     (λ silent. not_both (sym (c.has_stopped.ensures.1 silent) ∙ c.if-has_stopped.false)) c.args.outcome
+
+-- ---- no fault is reported
+
+pub returns-then-is_complete-clause-no_disk_fault : goal.returns-then-is_complete-clause-no_disk_fault
+returns-then-is_complete-clause-no_disk_fault g c = c.reopen.ensures.no_disk_fault
+
+pub returns-then-has_stopped-clause-no_disk_fault : goal.returns-then-has_stopped-clause-no_disk_fault
+returns-then-has_stopped-clause-no_disk_fault g c = c.pass_and_reopen.ensures.no_disk_fault
+
+pub returns-clause-no_disk_fault : goal.returns-clause-no_disk_fault
+returns-clause-no_disk_fault g c =
+    let ran = c.run_to_stop-ending in
+    no_fault ran.result.ending ran.ensures.no_disk_fault ran.ensures.no_read_fault
+    (λ silent. not_both (sym (c.has_stopped.ensures.1 silent) ∙ c.if-has_stopped.false))
