@@ -3,3 +3,4 @@ pub mod Betweens
 pub mod DiskSteps
 pub mod Halting
 pub mod Shown
+pub mod Carried

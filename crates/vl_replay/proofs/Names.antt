@@ -11,3 +11,5 @@ pub mod ReadMaking
 pub mod ScanMaking
 pub mod BeginMaking
 pub mod CommitMaking
+pub mod Returning
+pub mod Halts

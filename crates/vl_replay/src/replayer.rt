@@ -5,6 +5,7 @@ mod committing;
 mod dropping;
 mod lines;
 pub mod open;
+mod opening;
 mod reading;
 mod writing;
 

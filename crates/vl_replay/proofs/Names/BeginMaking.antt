@@ -198,3 +198,15 @@ taken_makes {H} {R} bytes core os s stands name thing used =
     let (z, there) = some_there H R bytes (history_of s) s.store.layout (open_in os name) (thing_of s.store name) used (stands.names.each name) in
     only_makes bytes core os s stands os (begin_as s.store name thing (thing_of s.store name)) (answers.Taken name) (store_lines.Taken name)
     (ap (begin_as s.store name thing) there) refl stands.names
+
+-- ---- by the test of whether it is in use
+
+module _ {H R : Type 0} (os slice : List (Open H R)) (value : slice ≡ os) (q name : Name) (same : q ≡ name) (test : Bool) (is : test ≡ is_some (open_in slice q)) where
+  tested : is_some (open_in os name) ≡ test
+  tested = ap (λ (xs : List (Open H R)). is_some (open_in xs name)) (sym value) ∙ ap (λ (n : Name). is_some (open_in slice n)) (sym same) ∙ sym is
+
+  pub taken_of : test ≡ true → is_some (open_in os name) ≡ true
+  taken_of it = tested ∙ it
+
+  pub free_of : test ≡ false → open_in os name ≡ None
+  free_of it = none_or_some (open_in os name) (tested ∙ it)

@@ -7,7 +7,7 @@ use Rattle.vl_engine.specs.Sees.{asked}
 use Rattle.vl_engine.specs.declared.kept.Core.{Core}
 use Rattle.vl_engine.specs.declared.txn.Txn.{Txn}
 use Rattle.vl_layout.specs.AtAnswer.{Beginning}
-use Rattle.vl_layout.specs.Decides.{Answered, Decides, Effects, Otherwise, as_before}
+use Rattle.vl_layout.specs.Decides.{Answered, Decides, Effects, Otherwise, Outcome, as_before}
 use Rattle.vl_layout.specs.Ruling.{Ruling, ended, leaving, logged}
 use Rattle.vl_layout.specs.Rulings.Commit as commit
 use Rattle.vl_layout.specs.Rulings.Commit.{CommitAnswer, Transaction as ATxn, commit_checked, commit_ended, commit_frame, commit_lost, commit_ruling, commit_running, commit_unless, committed}
@@ -63,13 +63,13 @@ module _ (l : Layout) (h : History) (t : ATxn) where
   checked (Some named) = refl
   checked None = fitting (nat_le (l.active.length + frame_length l.active.format (commit_frame h t.writes)) l.room)
 
-  left : (b : Bool) (o : Option Named) → IsSo (cond b (leaving (commit.Exhausted CommitNumber) h l) (commit_checked l h t o))
-  left true o = refl
-  left false o = checked o
+  left_or : (b : Bool) (o : Option Named) → IsSo (cond b (leaving (commit.Exhausted CommitNumber) h l) (commit_checked l h t o))
+  left_or true o = refl
+  left_or false o = checked o
 
   some : (b : Bool) (o : Option Named) → IsSo (cond b (commit_ended commit.Nothing l h t) (cond (nat_le max_commit_number (last_number h)) (leaving (commit.Exhausted CommitNumber) h l) (commit_checked l h t o)))
   some true o = refl
-  some false o = left (nat_le max_commit_number (last_number h)) o
+  some false o = left_or (nat_le max_commit_number (last_number h)) o
 
   unless : (halted : Option FileName) (o : Option Named) → IsSo (commit_unless halted l h t o)
   unless (Some file) o = refl
@@ -207,3 +207,12 @@ module _ {H R : Type 0} (bytes : H → Option (List ℕ)) (before after : Core H
       -- an engine that stands for what isn't halted isn't halted
       pub never_halted : (file : FileName) → AnsweredBy (commit.Halted file) → ⊥
       never_halted file decides = subst (λ (a : CommitAnswer). IsNoHalt l h t a) (sym (same_of (commit.Halted file) decides)) (goes_on l h t stands.running)
+
+-- ---- what the engine decided, over the reads that the store has
+
+pub decided_so : {H R : Type 0} (bytes : H → Option (List ℕ)) (after : Core H) (h : History) (l : Layout) (txn : Txn H R) (t : ATxn) (is : IsTransaction bytes txn t h l)
+    (outcome : Outcome CommitAnswer) (effects : Effects)
+    → Decides (engine.StandsFor bytes after) h l (commit_ruling l h (asked txn t.reads)) (as_before l (commit_lost l (asked txn t.reads))) outcome effects
+    → Decides (engine.StandsFor bytes after) h l (commit_ruling l h t) (as_before l (commit_lost l t)) outcome effects
+decided_so bytes after h l txn t is outcome effects decides =
+    subst (λ (u : ATxn). Decides (engine.StandsFor bytes after) h l (commit_ruling l h u) (as_before l (commit_lost l u)) outcome effects) is.same decides

@@ -2,7 +2,7 @@
 use Rattle.std.proofs.Common.{◌≡◌, ◌+◌, ◌<◌, ℕ, zero, suc, Bool, true, false, true≢false, cond, not, List, [], ◌∷◌, ◌++◌, ◌≤◌, drop, get_or, length, refl, ap, sym, ◌∙◌, subst, arith}
 use Rattle.std.specs.Prelude.{Option, None, Some}
 use Rattle.std.specs.List.{filter, remove, slice_index_or}
-use Rattle.std.specs.Option.{option_map}
+use Rattle.std.specs.Option.{is_some, option_map}
 use Rattle.std.specs.Ordering.{eq_by_cmp}
 use Rattle.std.specs.Str.{bytes_eq}
 use Rattle.std.proofs.lemmas.List.{drop_all, drop_more}
@@ -93,6 +93,10 @@ one_more : (at : ℕ) (x : Option ℕ) → option_map (λ n. n + at) (option_map
 one_more at None = refl
 one_more at (Some n) = ap (λ (m : ℕ). Some m) (let same : n + 1 + at ≡ n + (at + 1) = omega arith in same)
 
+used_more : (x : Option ℕ) → is_some (option_map (λ n. n + 1) x) ≡ is_some x
+used_more None = refl
+used_more (Some n) = refl
+
 -- ---- the replayer's names
 
 module _ {H R : Type 0} where
@@ -130,6 +134,16 @@ module _ {H R : Type 0} where
   without_open name (o ∷ os) = cond (eq_by_cmp key_cmp name o.name) os (o ∷ without_open name os)
 
   -- ---- where a name stands
+
+  -- somewhere where it is in use
+  pub same_use : (name : Name) (os : List (Open H R)) → is_some (place_of name os) ≡ is_some (open_in os name)
+  same_use name [] = refl
+  same_use name (o ∷ os) = of (eq_by_cmp key_cmp name o.name) (same_use name os)
+    where
+      of : (b : Bool) → is_some (place_of name os) ≡ is_some (open_in os name)
+          → is_some (cond b (Some 0) (option_map (λ n. n + 1) (place_of name os))) ≡ is_some (cond b (Some o.thing) (open_in os name))
+      of true later = refl
+      of false later = used_more (place_of name os) ∙ later
 
   -- nowhere
   pub place_none : (name : Name) (os : List (Open H R)) → place_of name os ≡ None → open_in os name ≡ None

@@ -12,6 +12,7 @@ use Rattle.vl_engine.specs.declared.txn.Txn.{Txn}
 use Rattle.vl_engine.specs.declared.view.View.{View as EngineView}
 use Rattle.vl_layout.specs.AtAnswer.{Beginning}
 use Rattle.vl_layout.specs.Rulings.Commit.{Transaction as ATxn}
+use Rattle.vl_layout.specs.Rulings.View.{View as LayoutView}
 use Rattle.vl_layout.specs.Store.Commits.{history_in}
 use Rattle.vl_layout.specs.Store.Lines as store_lines
 use Rattle.vl_layout.specs.Store.Lines.{Name}
@@ -151,7 +152,7 @@ module _ {H R : Type 0} (bytes : H → Option (List ℕ)) (core : Core H) (os : 
           (subst (Corresponds bytes h l (Some (View new))) is (view_only bytes h l view new (thing_of s.store name) keeps there_view))
 
       -- a view isn't written
-      pub read_only_makes : (x : Option store.Thing → Step) → ((v : _) (b : Beginning) → x (Some (AView v b)) ≡ only store_lines.ReadOnly s.store)
+      pub read_only_makes : (x : Option store.Thing → Step) → ((v : LayoutView) (b : Beginning) → x (Some (AView v b)) ≡ only store_lines.ReadOnly s.store)
           → MakesStep bytes core (left ++ record { name = name; thing = View view } ∷ []) s (x (thing_of s.store name)) (Ok answers.ReadOnly)
       read_only_makes x is =
           let (b, there, sees, live) = its in

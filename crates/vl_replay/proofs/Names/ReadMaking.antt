@@ -28,11 +28,14 @@ use Rattle.vl_txn.specs.declared.key_fail.KeyFail.TheVariants.{EmptyKey, KeyTooL
 use Rattle.vl_replay.specs.Replaying.{MakesStep, OnlyNoMemory, StandsIn, state_by}
 use Rattle.vl_replay.specs.Sequential.{IsTold, State, as_told, history_of, without_lengths}
 use Rattle.vl_replay.specs.Standing.{IsTaken, Stand, tell_of, told_by, told_value}
+use Rattle.vl_replay.specs.Halts.{HaltsByDisk}
+use Rattle.vl_replay.specs.declared.fails.Halt.{Halt}
 use Rattle.vl_replay.specs.declared.replayer.open.Open.{Open}
 use Rattle.vl_replay.specs.declared.replayer.open.Thing.TheVariants.{Transaction, View}
 use Rattle.vl_replay.specs.laws.Explained.{rows_are}
 use Rattle.vl_replay.specs.laws.Laws.{IsSound, state_after-sound}
 use Rattle.vl_script.specs.declared.answer.Answer.{Answer}
+use Rattle.vl_script.specs.declared.answer.Answer.TheVariants as answers
 use Rattle.vl_script.specs.declared.line.Line.TheVariants as lines
 use Rattle.vl_replay.proofs.Names.Lookups.{on_false, on_true}
 use Rattle.vl_replay.proofs.Names.Making.{itself, its, only_makes, txn_back, view_back}
@@ -88,6 +91,21 @@ sound_told tell (Err unread.NoMemory) sound = refl
 sound_told tell (Err (unread.Disk name)) sound = absurd (sound.1 tt)
 sound_told tell (Err (unread.Damaged name place)) sound = absurd (sound.0 tt)
 
+pub not_by_disk : {V : Type 0} (tell : V → Answer) (result : Result V ReadFail) → HaltsByDisk (told_by tell result) → ⊥
+not_by_disk tell (Ok value) halts = halts
+not_by_disk tell (Err unread.EmptyKey) halts = halts
+not_by_disk tell (Err unread.KeyTooLong) halts = halts
+not_by_disk tell (Err unread.NoMemory) halts = halts
+not_by_disk tell (Err (unread.Disk name)) halts = halts
+not_by_disk tell (Err (unread.Damaged name place)) halts = halts
+
+-- so it is with what a call answers that tells it
+pub call_sound : {V : Type 0} (tell : V → Answer) (read : Result V ReadFail) (result : Result Answer Halt) → result ≡ told_by tell read → IsSoundRead read → OnlyNoMemory result
+call_sound tell read result is sound = subst (λ (r : Result Answer Halt). OnlyNoMemory r) (sym is) (sound_told tell read sound)
+
+pub call_not_by_disk : {V : Type 0} (tell : V → Answer) (read : Result V ReadFail) (result : Result Answer Halt) → result ≡ told_by tell read → HaltsByDisk result → ⊥
+call_not_by_disk tell read result is halts = not_by_disk tell read (subst (λ (r : Result Answer Halt). HaltsByDisk r) is halts)
+
 module _ {H R : Type 0} (bytes : H → Option (List ℕ)) (core : Core H) (os : List (Open H R)) (s : State) (stands : StandsIn bytes core os s)
     (left : List (Open H R)) (name : Name) where
   abbrev h : History
@@ -102,6 +120,11 @@ module _ {H R : Type 0} (bytes : H → Option (List ℕ)) (core : Core H) (os : 
   read_sound true key = state_after-sound s (lines.GetTagged name key) stands.sound
   read_sound false key = state_after-sound s (lines.Get name key) stands.sound
 
+  -- a view's step, by whether the key fits
+  abbrev view_step : List ℕ → Bool → ℕ → Bool → Step
+  view_step key with_tag number fits =
+      cond fits (only (tell_of with_tag (value_in s.store.commits number key)) s.store) (only store_lines.Invalid s.store)
+
   module _ (view new : EngineView H R) (taken : IsTaken os left name (Some (View view))) (keeps : OnlyReads view new) where
     abbrev behind : List (Open H R)
     behind = left ++ record { name = name; thing = View new } ∷ []
@@ -111,26 +134,21 @@ module _ {H R : Type 0} (bytes : H → Option (List ℕ)) (core : Core H) (os : 
         → MakesStep bytes core behind s (reading with_tag key) (told_by (told_value with_tag) result)
     view_read_makes key with_tag result refused value = of result refused (let (b, there, sees, live) = its bytes core os s stands left name view taken in value h sees)
       where
-        step : Bool → Step
-        step fits = cond fits (only (tell_of with_tag (value_in s.store.commits view.number key)) s.store) (only store_lines.Invalid s.store)
-
-        step_is : reading with_tag key ≡ step (is_key_length (length key))
+        step_is : reading with_tag key ≡ view_step key with_tag view.number (is_key_length (length key))
         step_is = let (b, there, sees, live) = its bytes core os s stands left name view taken in ap (get_by s.store name (tell_of with_tag) key) there
 
         of : (result : Result (Option Stored) ReadFail) → IsRefusedBy (refused_key key) result → IfOk result (λ value. value ≡ value_at h view.number key)
             → MakesStep bytes core behind s (reading with_tag key) (told_by (told_value with_tag) result)
         of (Ok value) refused is =
             only_makes bytes core os s stands behind (reading with_tag key) (told_value with_tag value) (tell_of with_tag (value_in s.store.commits view.number key))
-            (step_is ∙ ap step (key_fits key refused))
+            (step_is ∙ ap (view_step key with_tag view.number) (key_fits key refused))
             (told_is with_tag value ∙ ap (λ (v : Option Stored). without_lengths (tell_of with_tag v)) (is ∙ sym (value_in-is s.store.commits stands.sound.proper.commits view.number key)))
             (view_back bytes core os s stands left name view taken new keeps)
-        of (Err unread.EmptyKey) refused is = invalid EmptyKey refused
-          where
-            invalid : (why : KeyFail) → refused_key key ≡ Some why → MakesStep bytes core behind s (reading with_tag key) (told_by (told_value with_tag) (Err unread.EmptyKey))
-            invalid why is = only_makes bytes core os s stands behind (reading with_tag key) _ store_lines.Invalid (step_is ∙ ap step (key_unfit key why is)) refl
-                (view_back bytes core os s stands left name view taken new keeps)
+        of (Err unread.EmptyKey) refused is =
+            only_makes bytes core os s stands behind (reading with_tag key) answers.Invalid store_lines.Invalid (step_is ∙ ap (view_step key with_tag view.number) (key_unfit key EmptyKey refused)) refl
+            (view_back bytes core os s stands left name view taken new keeps)
         of (Err unread.KeyTooLong) refused is =
-            only_makes bytes core os s stands behind (reading with_tag key) _ store_lines.Invalid (step_is ∙ ap step (key_unfit key KeyTooLong refused)) refl
+            only_makes bytes core os s stands behind (reading with_tag key) answers.Invalid store_lines.Invalid (step_is ∙ ap (view_step key with_tag view.number) (key_unfit key KeyTooLong refused)) refl
             (view_back bytes core os s stands left name view taken new keeps)
         of (Err unread.NoMemory) refused is = tt
         of (Err (unread.Disk file)) refused is = tt
@@ -151,7 +169,7 @@ module _ {H R : Type 0} (bytes : H → Option (List ℕ)) (core : Core H) (os : 
             → MakesStep bytes core behind_it s (reading with_tag key) (told_by (told_value with_tag) (Err unread.EmptyKey))
         invalid why refused same =
             let (t, b, there, is) = itself bytes core os s stands left name txn taken in
-            only_makes bytes core os s stands behind_it (reading with_tag key) _ store_lines.Invalid
+            only_makes bytes core os s stands behind_it (reading with_tag key) answers.Invalid store_lines.Invalid
             (ap (get_by s.store name (tell_of with_tag) key) there ∙ on_false (is_key_length (length key)) _ (only store_lines.Invalid s.store) (key_unfit key why refused)) refl
             (txn_back bytes core os s stands left name txn taken new same)
 

@@ -54,6 +54,11 @@ module _ {H R : Type 0} (bytes : H → Option (List ℕ)) (core : Core H) (os : 
   abbrev within : Bool
   within = nat_le (length low) max_key_bytes && nat_le (length high) max_key_bytes
 
+  -- a view's step, by whether the bounds fit
+  abbrev view_step : ℕ → Bool → Step
+  view_step number fits =
+      cond fits (only (store_lines.Rows (rows_told (scanned_rows s.store way low high limit [] number))) s.store) (only store_lines.Invalid s.store)
+
   fit : refused_bounds low high ≡ None → within ≡ true
   fit is = bound_tests (nat_le (length low) max_key_bytes) (nat_le (length high) max_key_bytes) is
 
@@ -67,13 +72,7 @@ module _ {H R : Type 0} (bytes : H → Option (List ℕ)) (core : Core H) (os : 
         → MakesStep bytes core (left ++ record { name = name; thing = View new } ∷ []) s scanning (told_by tell result)
     view_scan_makes view new taken keeps result refused rows_are_so = of result refused (let (b, there, sees, live) = its bytes core os s stands left name view taken in rows_are_so h sees)
       where
-        behind : List (Open H R)
-        behind = left ++ record { name = name; thing = View new } ∷ []
-
-        step : Bool → Step
-        step fits = cond fits (only (store_lines.Rows (rows_told (scanned_rows s.store way low high limit [] view.number))) s.store) (only store_lines.Invalid s.store)
-
-        step_is : scanning ≡ step within
+        step_is : scanning ≡ view_step view.number within
         step_is = let (b, there, sees, live) = its bytes core os s stands left name view taken in ap (scan_by s.store way name low high limit) there
 
         store_rows : scanned_rows s.store way low high limit [] view.number ≡ rows_under empty h view.number low high limit way
@@ -81,14 +80,14 @@ module _ {H R : Type 0} (bytes : H → Option (List ℕ)) (core : Core H) (os : 
             ∙ ap (λ (w : Writes). rows_of (contents_at h view.number) (noting.scan_of low high limit way [] w)) no_writes
 
         invalid : (why : KeyFail) → refused_bounds low high ≡ Some why → MakesStep bytes core (left ++ record { name = name; thing = View new } ∷ []) s scanning (Ok answers.Invalid)
-        invalid why is = only_makes bytes core os s stands (left ++ record { name = name; thing = View new } ∷ []) scanning answers.Invalid store_lines.Invalid (step_is ∙ ap step (unfit why is)) refl
+        invalid why is = only_makes bytes core os s stands (left ++ record { name = name; thing = View new } ∷ []) scanning answers.Invalid store_lines.Invalid (step_is ∙ ap (view_step view.number) (unfit why is)) refl
             (view_back bytes core os s stands left name view taken new keeps)
 
         of : (result : Result V ReadFail) → IsRefusedBy (refused_bounds low high) result → IfOk result (λ rows. items rows ≡ rows_under empty h view.number low high limit way)
             → MakesStep bytes core (left ++ record { name = name; thing = View new } ∷ []) s scanning (told_by tell result)
         of (Ok rows) refused is =
             only_makes bytes core os s stands (left ++ record { name = name; thing = View new } ∷ []) scanning (tell rows) (store_lines.Rows (rows_told (scanned_rows s.store way low high limit [] view.number)))
-            (step_is ∙ ap step (fit refused))
+            (step_is ∙ ap (view_step view.number) (fit refused))
             (as_rows rows ∙ ap (λ (rs : List Row). store_lines.Rows (rows_told rs)) (is ∙ sym store_rows))
             (view_back bytes core os s stands left name view taken new keeps)
         of (Err unread.EmptyKey) refused is = invalid EmptyKey refused

@@ -1,11 +1,14 @@
 //! Commits through a name.
 ghost use Rattle.std.specs.Prelude.{◌≡◌};
 ghost use Rattle.vl_disk.specs.Faults.{HasCause};
+ghost use Rattle.vl_engine.specs.Shown.{Shown};
 ghost use Rattle.vl_layout.specs.Store.Reading.{commit_by};
 ghost use Rattle.vl_layout.specs.Store.Things.{thing_of};
+ghost use Rattle.vl_replay.specs.Durable.{CarriesOut};
 ghost use Rattle.vl_replay.specs.Halts.{HaltsByDisk, HaltsByRead};
-ghost use Rattle.vl_replay.specs.Replaying.{MakesStep, StandsFor};
+ghost use Rattle.vl_replay.specs.Replaying.{MakesStep, StandsFor, state_by};
 ghost use Rattle.vl_replay.specs.Sequential.{State};
+ghost use Rattle.vl_replay.specs.Stored.{IsStopped, IsStored};
 
 use crate::fails::Halt;
 use crate::replayer::Replayer;
@@ -21,6 +24,9 @@ impl<D: Disk> Replayer<D> {
         ensures makes { (s : State) → StandsFor D.Held.bytes self.old s
             → MakesStep D.Held.bytes self.new.engine.core self.new.opens.items s
             (commit_by s.store name (thing_of s.store name)) result }
+        ensures carries { (s : State) → StandsFor D.Held.bytes self.old s
+            → CarriesOut D.Watched IsStored Shown IsStopped self.old.engine.disk self.new.engine.disk s
+            (state_by s (commit_by s.store name (thing_of s.store name))) result }
         ensures sound { (s : State) → StandsFor D.Held.bytes self.old s → HaltsByRead result → ⊥ }
         ensures cause { HasCause (D.faults self.old.engine.disk) (D.faults self.new.engine.disk) (HaltsByDisk result) }
         ensures halted { self.new.halted ≡ self.old.halted }

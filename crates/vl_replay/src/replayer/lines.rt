@@ -2,9 +2,12 @@
 ghost use Rattle.std.specs.Prelude.{◌≡◌, Err, IfOk, OnOk, Some};
 ghost use Rattle.vl_disk.specs.Faults.{HasCause};
 ghost use Rattle.vl_replay.specs.Asking.{AsksForRow};
+ghost use Rattle.vl_engine.specs.Shown.{Shown};
+ghost use Rattle.vl_replay.specs.Durable.{CarriesOut};
 ghost use Rattle.vl_replay.specs.Halts.{HaltsByDisk, HaltsByRead};
 ghost use Rattle.vl_replay.specs.Replaying.{MakesStep, StandsFor, TakesLines, disk_of};
 ghost use Rattle.vl_replay.specs.Sequential.{IsTold, State, answer_to, state_after, step_to};
+ghost use Rattle.vl_replay.specs.Stored.{IsStopped, IsStored};
 ghost use Rattle.vl_replay.specs.declared.fails.Halt.{Halt as Halts};
 
 use crate::fails::Halt;
@@ -24,6 +27,11 @@ impl<D: Disk> Replayer<D> {
         ensures goes_on { OnOk result (TakesLines self.new) }
         ensures halts { (halt : Halts) → result ≡ Err halt → self.new.halted ≡ Some halt }
 
+        // Over a disk that holds the state: where there is an answer it holds the state behind the line, in which a commit has
+        // made two calls and its log is longer by a frame. However the line ends, a store may be opened on the disk again.
+        ensures carries { (s : State) → StandsFor D.Held.bytes self.old s
+            → CarriesOut D.Watched IsStored Shown IsStopped (disk_of self.old) (disk_of self.new) s (state_after s line) result }
+
         // What the store has can be read.
         ensures sound { (s : State) → StandsFor D.Held.bytes self.old s → HaltsByRead result → ⊥ }
         ensures cause { HasCause (D.faults (disk_of self.old)) (D.faults (disk_of self.new)) (HaltsByDisk result) }
@@ -42,6 +50,8 @@ impl<D: Disk> Replayer<D> {
         requires { AsksForRow line }
         ensures makes { (s : State) → StandsFor D.Held.bytes self.old s
             → MakesStep D.Held.bytes self.new.engine.core self.new.opens.items s (step_to s line) result }
+        ensures carries { (s : State) → StandsFor D.Held.bytes self.old s
+            → CarriesOut D.Watched IsStored Shown IsStopped (disk_of self.old) (disk_of self.new) s (state_after s line) result }
         ensures sound { (s : State) → StandsFor D.Held.bytes self.old s → HaltsByRead result → ⊥ }
         ensures cause { HasCause (D.faults (disk_of self.old)) (D.faults (disk_of self.new)) (HaltsByDisk result) }
         ensures halted { self.new.halted ≡ self.old.halted }

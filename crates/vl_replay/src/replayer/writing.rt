@@ -1,18 +1,21 @@
 //! Writes through a name.
-ghost use Rattle.std.specs.Prelude.{◌≡◌};
+ghost use Rattle.std.specs.Prelude.{◌≡◌, List};
+ghost use Rattle.vl_engine.specs.Reading.{OnlyWrites};
+ghost use Rattle.vl_engine.specs.Sees.{Sees};
 ghost use Rattle.vl_layout.specs.Store.Reading.{write_by};
 ghost use Rattle.vl_layout.specs.Store.Things.{thing_of};
-ghost use Rattle.vl_model.specs.declared.change.Change.{Change as Changes};
-ghost use Rattle.vl_replay.specs.Halts.{HaltsByDisk};
+ghost use Rattle.vl_model.specs.History.{History};
+ghost use Rattle.vl_model.specs.Reads.{Read};
 ghost use Rattle.vl_replay.specs.Replaying.{MakesStep, OnlyNoMemory, StandsFor};
 ghost use Rattle.vl_replay.specs.Sequential.{State};
 ghost use Rattle.vl_replay.specs.Standing.{change_of, told_write};
+ghost use Rattle.vl_txn.specs.Refusals.{IsWritten};
 
 use crate::fails::Halt;
 use crate::replayer::Replayer;
 use crate::replayer::open::{Thing, put, take_out};
-use vl_disk::Disk;
-use vl_engine::SetFail;
+use vl_disk::{Disk, HeldFile, Reader};
+use vl_engine::{SetFail, Txn};
 use vl_model::Bytes;
 use vl_script::{Answer, Ident};
 
@@ -38,14 +41,27 @@ impl<D: Disk> Replayer<D> {
                 Ok(Answer::ReadOnly)
             }
             Some(Thing::Transaction(mut txn)) => {
-                let result = match value {
-                    Some((bytes, tag)) => txn.set_tagged(key.as_slice(), bytes.as_slice(), tag),
-                    None => txn.delete(key.as_slice()),
-                };
+                let result = change(&mut txn, &key, value);
                 put(&mut self.opens, name, Thing::Transaction(txn))?;
                 told(result)
             }
         }
+    }
+}
+
+// Writes a value with its tag in a transaction, or that there is none.
+fn change<H: HeldFile, R: Reader<Held = H> + Drop>(
+    txn: &mut Txn<H, R>,
+    key: &Bytes,
+    value: Option<(Bytes, u8)>,
+) -> Result<(), SetFail>
+    ensures written { IsWritten txn.old.writes key.now (change_of value) txn.new.writes result }
+    ensures keeps { OnlyWrites txn.old txn.new }
+    ensures sees { (h : History) (reads : List Read) → Sees H.bytes txn.old h reads → Sees H.bytes txn.new h reads }
+{
+    match value {
+        Some((bytes, tag)) => txn.set_tagged(key.as_slice(), bytes.as_slice(), tag),
+        None => txn.delete(key.as_slice()),
     }
 }
 

@@ -1,0 +1,40 @@
+-- Not checked yet. `store` and `holds` wait for a clause of Engine::open on what steps need (core.back).
+use Rattle.std.proofs.Common.{◌≡◌, sym, subst, ◌∙◌, refl, arith}
+use Rattle.vl_recover.specs.laws.opening.OneFinding.{opened_not}
+use Rattle.vl_replay.proofs.Openings.Recovering.{refused_not}
+use Rattle.vl_replay.proofs.Openings.Starting.{at_most}
+use Rattle.vl_replay.proofs.replayer.Replayer.new.Goals as goal
+
+pub returns-in-Err-clause-refused : goal.returns-in-Err-clause-refused
+returns-in-Err-clause-refused g c state read refusal is is_read refused =
+    (refl, c.in-Err.ensures.not_opened state read is is_read (refused_not read refusal refused))
+
+pub returns-in-Err-clause-through : goal.returns-in-Err-clause-through
+returns-in-Err-clause-through g c s starts (state, is, durable) =
+    let same : state ≡ starts.state = cc in
+    c.in-Err.ensures.through starts.state starts.read _ starts.told (subst _ same durable) starts.is_read starts.shown
+
+pub returns-in-Err-clause-tells : goal.returns-in-Err-clause-tells
+returns-in-Err-clause-tells g c state is = let told = c.in-Err.ensures.tells state is in (told.0, told.1, tt)
+
+pub returns-in-Ok-clause-through : goal.returns-in-Ok-clause-through
+returns-in-Ok-clause-through g c s starts (state, is, durable) =
+    let same : state ≡ starts.state = cc in
+    c.in-Ok.ensures.through starts.state starts.read _ starts.told (subst _ same durable) starts.is_read starts.shown
+
+pub returns-in-Ok-clause-tells : goal.returns-in-Ok-clause-tells
+returns-in-Ok-clause-tells g c state is = let told = c.in-Ok.ensures.tells state is in (told.0, told.1, tt)
+
+pub returns-in-Ok-clause-refused : goal.returns-in-Ok-clause-refused
+returns-in-Ok-clause-refused g c state read refusal is is_read refused =
+    let (found, unused) = c.in-Ok.ensures.answer state read is is_read in
+    absurd (opened_not read found unused (refused_not read refusal refused))
+
+pub returns-in-Err-clause-at_most : goal.returns-in-Err-clause-at_most
+returns-in-Err-clause-at_most g c s starts below =
+    at_most _ _ _ s.calls below (c.in-Err.ensures.stopped starts.state starts.read starts.found starts.strays starts.told starts.is_read starts.are_strays) starts.calls
+
+pub returns-in-Ok-clause-at_most : goal.returns-in-Ok-clause-at_most
+returns-in-Ok-clause-at_most g c s starts below =
+    let made = c.in-Ok.ensures.calls starts.state starts.read starts.found starts.strays starts.told starts.is_read starts.are_strays in
+    let same = made ∙ sym starts.calls in omega (arith, same)
