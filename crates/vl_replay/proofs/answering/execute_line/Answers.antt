@@ -105,3 +105,15 @@ returns-in_err-answer-clause-met g c by = (c.in-Some.line, sym c.in_ok-line.ensu
 
 pub returns-in_err-print_answer-clause-met : goal.returns-in_err-print_answer-clause-met
 returns-in_err-print_answer-clause-met g c by = (c.in-Some.line, sym c.in_ok-line.ensures ∙ c.in-Some.is)
+
+pub returns-in_default-clause-readable : goal.returns-in_default-clause-readable
+returns-in_default-clause-readable g c s stands by = by
+
+pub returns-clause-readable : goal.returns-clause-readable
+returns-clause-readable g c s stands by = by
+
+pub returns-in_default-clause-met : goal.returns-in_default-clause-met
+returns-in_default-clause-met g c by = absurd by
+
+pub returns-clause-met : goal.returns-clause-met
+returns-clause-met g c by = absurd by
