@@ -71,9 +71,11 @@ fn a_block_that_is_kept_is_not_read(rt: HostRuntime) -> Result<(), Fail> {
 fn a_reader_of_one_block_keeps_the_last(rt: HostRuntime) -> Result<(), Fail> {
     let alloc = rt.alloc();
     let table = two_blocks(alloc)?;
+    // All entries are of one key, so each look-up begins in the first block.
     let mut reader = BlockReader::new(alloc, failing(alloc, &[3])?, 1)?;
+    assert!(rt; table.find(&mut reader, b"k", 100)?.is_some());
+    assert!(rt; table.find(&mut reader, b"k", 49)?.is_some());
     assert!(rt; table.find(&mut reader, b"k", 48)?.is_some());
-    assert!(rt; table.find(&mut reader, b"k", 40)?.is_some());
     assert!(rt; is_disk_fault(&table.find(&mut reader, b"k", 100)));
     Ok(())
 }
