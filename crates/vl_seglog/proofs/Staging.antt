@@ -1,5 +1,5 @@
--- A frame that was written behind nothing.
-use Rattle.std.proofs.Common.{◌≡◌, ℕ, ◌+◌, ◌<◌, ◌^◌, List, [], ◌++◌, length, ap, ◌∙◌, arith}
+-- A frame that was written for a place of a log.
+use Rattle.std.proofs.Common.{◌≡◌, ℕ, ◌+◌, ◌<◌, ◌^◌, List, length, ap, ◌∙◌, arith}
 use Rattle.vl_frame.specs.Runs.{HasFrame}
 use Rattle.vl_model.specs.Formats.{log_format}
 use Rattle.vl_model.specs.declared.change.Change.{Change}
@@ -19,10 +19,11 @@ pub record IsWritten (log place : ℕ) (f : LogFrame) (out : List ℕ) : Type 0 
   pub long : length out ≡ length (frame_body log_format f) + 13
   pub short : length out < 2 ^ 32
 
-pub written : (log place : ℕ) (f : LogFrame) (none out : List ℕ) → out ≡ none ++ frame_at log_format log place f → none ≡ [] → IsFrame log_format f → length (frame_body log_format f) + 13 < 2 ^ 32 → IsWritten log place f out
-written log place f none out is empty lawful short =
-    let frame : out ≡ frame_at log_format log place f = is ∙ ap (λ (l : List ℕ). l ++ frame_at log_format log place f) empty in
-    let long : length out ≡ length (frame_body log_format f) + 13 = ap length frame ∙ length-frame_bytes log place (frame_kind f) (frame_body log_format f) in
+pub written : (log place : ℕ) (f : LogFrame) (out : List ℕ) → out ≡ frame_at log_format log place f → IsFrame log_format f
+    → length (frame_body log_format f) + 13 < 2 ^ 32 → IsWritten log place f out
+written log place f out frame lawful short =
+    let long : length out ≡ length (frame_body log_format f) + 13 =
+    ap length frame ∙ length-frame_bytes log place (frame_kind f) (frame_body log_format f) in
     record { frame = frame; has = record { lawful = lawful; short = omega (arith, short) }; long = long; short = omega (arith, short, long) }
 
 -- its parts

@@ -1,5 +1,5 @@
 -- What a staged frame is, and where it belongs.
-use Rattle.std.specs.Prelude.{◌≡◌, ◌+◌, ◌<◌, ◌^◌, ℕ, length}
+use Rattle.std.specs.Prelude.{◌≡◌, ◌+◌, ◌<◌, ◌^◌, ℕ, List, [], ◌∷◌, length}
 use Rattle.vl_frame.specs.Runs.{HasFrame}
 use Rattle.vl_model.specs.Formats.{log_format}
 use Rattle.vl_model.specs.declared.log_frame.LogFrame.{LogFrame}
@@ -7,6 +7,10 @@ use Rattle.vl_seglog.specs.Frames.{frame_at, frames_grammar}
 use Rattle.vl_seglog.specs.Stored.{frame_pointers}
 use Rattle.vl_seglog.specs.declared.active.ActiveLog.{ActiveLog}
 use Rattle.vl_seglog.specs.declared.staged.Staged.{Staged}
+
+-- what stands before a frame's body until its head is written
+abbrev pub head_room : List ℕ
+head_room = 0 ∷ 0 ∷ 0 ∷ 0 ∷ 0 ∷ []
 
 -- It was staged for this log's end.
 pub record IsStagedFor (log : ActiveLog) (staged : Staged) : Type 0 where

@@ -11,7 +11,7 @@ ghost use Rattle.vl_seglog.specs.Stored.{moved_pointers, pointer_at, pointers_fr
 
 use crate::RECORD_HEAD_BYTES;
 use crate::lengths::{BEFORE_MOVES, BEFORE_RECORDS, VERSION_BYTES};
-use crate::write::{write_commit, write_move};
+use crate::write::{commit_frame, move_frame};
 use std::alloc::{AllocError, Global};
 use vl_model::{Change, Key, Moved, Pointer, Value};
 
@@ -40,8 +40,7 @@ pub fn staged_commit(
     ensures staged { IfOk result (IsStaged log place (Committed number writes.now)) }
     ensures staged_for { IfOk result (λ s. (s.log ≡ log) × (s.place ≡ place)) }
 {
-    let mut frame = Vec::new(alloc);
-    write_commit(alloc, &mut frame, log, place, number, writes)?;
+    let frame = commit_frame(alloc, log, place, number, writes)?;
     if frame.len() as u64 > u64::MAX - place {
         return Err(AllocError);
     }
@@ -65,8 +64,7 @@ pub fn staged_move(
     ensures staged { IfOk result (IsStaged log place (Relocated records.now)) }
     ensures staged_for { IfOk result (λ s. (s.log ≡ log) × (s.place ≡ place)) }
 {
-    let mut frame = Vec::new(alloc);
-    write_move(alloc, &mut frame, log, place, records)?;
+    let frame = move_frame(alloc, log, place, records)?;
     if frame.len() as u64 > u64::MAX - place {
         return Err(AllocError);
     }

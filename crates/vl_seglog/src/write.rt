@@ -6,14 +6,17 @@ ghost use Rattle.vl_model.specs.declared.change.Change.{Change};
 ghost use Rattle.vl_seglog.specs.Record.{record_bytes};
 ghost use Rattle.vl_seglog.specs.Commit as commits;
 ghost use Rattle.vl_seglog.specs.Frames as log;
-ghost use Rattle.vl_seglog.specs.Relocation.{relocation_body, relocation_frame};
+ghost use Rattle.vl_seglog.specs.Relocation.{moves_bytes, relocation_body, relocation_frame};
 ghost use Rattle.vl_seglog.specs.Moves.{moved_bytes};
+ghost use Rattle.vl_seglog.specs.Staging.{head_room};
 
-use crate::lengths::COMMIT_HEAD_BYTES;
+use crate::lengths::{COMMIT_HEAD_BYTES, MOVES_HEAD_BYTES, VERSION_BYTES};
 use crate::{RECORD_HEAD_BYTES, write_record};
 use byteorder::{BigEndian, ByteOrder};
 use std::alloc::{AllocError, Global};
-use vl_frame::{FRAME_BYTES, FileKind, FrameKind, HEADER_BYTES, file_header, write_frame};
+use vl_frame::{
+    FRAME_BYTES, FileKind, FrameKind, HEAD_BYTES, HEADER_BYTES, file_header, finish_frame,
+};
 use vl_model::{Change, Key, LOG_FORMAT, Moved};
 
 /// The first bytes of the log with this number, in the format that is written.
@@ -49,24 +52,69 @@ pub fn write_commit(
         (length (commits.commit_body log_format (record { number = number; writes = writes.now }))) < 2 ^ 32) }
     ensures err { OnErr result (out.new.items ≡ out.old.items) }
 {
-    let body = commit_body(alloc, number, writes)?;
-    write_frame(out, file, at, FrameKind::Commit, &body)
+    let frame = commit_frame(alloc, file, at, number, writes)?;
+    out.extend_from_slice(&frame)
 }
 
-// The body of a commit's frame.
+/// The same frame alone, in which each byte is written once.
+pub fn commit_frame(
+    alloc: Global,
+    file: u32,
+    at: u64,
+    number: u64,
+    writes: &[(Key, Change)],
+) -> Result<Vec<u8>, AllocError>
+    ensures written { IfOk result (λ frame. frame.items ≡
+        commits.commit_frame log_format file at (record { number = number; writes = writes.now })) }
+    ensures short { OnOk result (frame_length
+        (length (commits.commit_body log_format (record { number = number; writes = writes.now }))) < 2 ^ 32) }
+{
+    let mut frame = unfinished_commit(alloc, number, writes)?;
+    finish_frame(&mut frame, file, at, FrameKind::Commit)?;
+    Ok(frame)
+}
+
+// The body of a commit's frame, behind room for the frame's head and in memory that has room for its check.
 #[tactic(auto, unfolding(crate::specs::Commit::commit_body))]
-fn commit_body(alloc: Global, number: u64, writes: &[(Key, Change)]) -> Result<Vec<u8>, AllocError>
-    ensures { IfOk result (λ body. body.items ≡ commits.commit_body log_format (record { number = number; writes = writes.now })) }
+fn unfinished_commit(
+    alloc: Global,
+    number: u64,
+    writes: &[(Key, Change)],
+) -> Result<Vec<u8>, AllocError>
+    ensures { IfOk result (λ frame. frame.items ≡
+        head_room ++ commits.commit_body log_format (record { number = number; writes = writes.now })) }
 {
     if writes.len() > u32::MAX as usize {
         return Err(AllocError);
     }
-    let mut body = Vec::new(alloc);
-    body.extend_from_slice(&head(number, writes.len() as u32))?;
+    let mut frame = Vec::new(alloc);
+    frame.reserve((FRAME_BYTES + COMMIT_HEAD_BYTES).saturating_add(room_for(writes)))?;
+    frame.extend_from_slice(&[0; HEAD_BYTES])?;
+    frame.extend_from_slice(&head(number, writes.len() as u32))?;
+    write_changes(&mut frame, writes)?;
+    Ok(frame)
+}
+
+// How many bytes the records of these changes want, so that room for them is made at once. Nothing else hangs on it.
+fn room_for(writes: &[(Key, Change)]) -> usize {
+    let mut room: usize = 0;
     for (key, change) in writes {
-        write_change(&mut body, key, change)?;
+        room = room
+            .saturating_add(RECORD_HEAD_BYTES)
+            .saturating_add(key.len())
+            .saturating_add(change.value_len());
     }
-    Ok(body)
+    room
+}
+
+// Appends the records of changes, in their order.
+fn write_changes(out: &mut Vec<u8>, writes: &[(Key, Change)]) -> Result<(), AllocError>
+    ensures { OnOk result (out.new.items ≡ out.old.items ++ commits.records_bytes log_format writes.now) }
+{
+    for (key, change) in writes {
+        write_change(out, key, change)?;
+    }
+    Ok(())
 }
 
 // What stands before the records.
@@ -103,24 +151,61 @@ pub fn write_move(
     ensures short { OnOk result (frame_length (length (relocation_body log_format records.now)) < 2 ^ 32) }
     ensures err { OnErr result (out.new.items ≡ out.old.items) }
 {
-    let body = relocation_body(alloc, records)?;
-    write_frame(out, file, at, FrameKind::Move, &body)
+    let frame = move_frame(alloc, file, at, records)?;
+    out.extend_from_slice(&frame)
 }
 
-// The body of a relocation's frame.
+/// The same frame alone, in which each byte is written once.
+pub fn move_frame(
+    alloc: Global,
+    file: u32,
+    at: u64,
+    records: &[Moved],
+) -> Result<Vec<u8>, AllocError>
+    ensures written { IfOk result (λ frame. frame.items ≡ relocation_frame log_format file at records.now) }
+    ensures short { OnOk result (frame_length (length (relocation_body log_format records.now)) < 2 ^ 32) }
+{
+    let mut frame = unfinished_move(alloc, records)?;
+    finish_frame(&mut frame, file, at, FrameKind::Move)?;
+    Ok(frame)
+}
+
+// The body of a relocation's frame, likewise behind room for the frame's head.
 #[tactic(auto, unfolding(crate::specs::Relocation::relocation_body))]
-fn relocation_body(alloc: Global, records: &[Moved]) -> Result<Vec<u8>, AllocError>
-    ensures { IfOk result (λ body. body.items ≡ relocation_body log_format records.now) }
+fn unfinished_move(alloc: Global, records: &[Moved]) -> Result<Vec<u8>, AllocError>
+    ensures { IfOk result (λ frame. frame.items ≡ head_room ++ relocation_body log_format records.now) }
 {
     if records.len() > u32::MAX as usize {
         return Err(AllocError);
     }
-    let mut body = Vec::new(alloc);
-    body.extend_from_slice(&u32_bytes(records.len() as u32))?;
+    let mut frame = Vec::new(alloc);
+    frame.reserve((FRAME_BYTES + MOVES_HEAD_BYTES).saturating_add(room_for_moved(records)))?;
+    frame.extend_from_slice(&[0; HEAD_BYTES])?;
+    frame.extend_from_slice(&u32_bytes(records.len() as u32))?;
+    write_all_moved(&mut frame, records)?;
+    Ok(frame)
+}
+
+// How many bytes these records want behind their versions, as `room_for` says it of changes.
+fn room_for_moved(records: &[Moved]) -> usize {
+    let mut room: usize = 0;
     for moved in records {
-        write_moved(&mut body, moved)?;
+        room = room
+            .saturating_add(VERSION_BYTES as usize + RECORD_HEAD_BYTES)
+            .saturating_add(moved.key.len())
+            .saturating_add(moved.value.len());
     }
-    Ok(body)
+    room
+}
+
+// Appends moved records, in their order.
+fn write_all_moved(out: &mut Vec<u8>, records: &[Moved]) -> Result<(), AllocError>
+    ensures { OnOk result (out.new.items ≡ out.old.items ++ moves_bytes log_format records.now) }
+{
+    for moved in records {
+        write_moved(out, moved)?;
+    }
+    Ok(())
 }
 
 // Appends a moved record behind its version.

@@ -1,8 +1,0 @@
-use Rattle.std.proofs.Common.{◌≡◌, ◌++◌, drop}
-use Rattle.vl_model.specs.Formats.{log_format}
-use Rattle.vl_seglog.specs.Commit.{commit_body, records_bytes}
-use Rattle.vl_seglog.proofs.write.commit_body.Given as goal
-
--- the records that are still to be written stand behind what was written
-abbrev pub invariant-loop-key : goal.invariant-loop-key
-invariant-loop-key l = l.body.items ++ records_bytes log_format (drop l.key-index l.writes) ≡ commit_body log_format (record { number = l.number; writes = l.writes })
