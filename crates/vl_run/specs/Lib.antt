@@ -1,3 +1,4 @@
 pub mod laws
+pub mod Heads
 pub mod Lookups
 pub mod Order

@@ -4,33 +4,52 @@ ghost use Rattle.std.specs.Option.{option_copied};
 ghost use Rattle.vl_model.specs.Entries.{in_order};
 ghost use Rattle.vl_model.specs.Winners.{winner, exact};
 ghost use Rattle.vl_model.specs.Reads.{is_from, is_up_to};
+ghost use Rattle.vl_run.specs.Heads.{AreHeads};
 ghost use Rattle.vl_run.specs.Order.{IsInOrder, along, within};
-ghost use Rattle.vl_run.specs.Lookups.{is_ahead, first_failing, is_not_past, is_short_of};
+ghost use Rattle.vl_run.specs.Lookups.{
+  is_ahead,
+  first_failing,
+  if_exact,
+  if_of_key,
+  is_not_past,
+  is_short_of,
+};
 
 use crate::RunCursor;
+use crate::heads::{head_of, heads_of};
 use crate::merged::merged;
+use crate::place::{Sought, first_alike};
 use std::alloc::{AllocError, Global};
 use std::marker::Model;
-use std::sync::ArcSlice;
-use vl_model::{Entry, Place, Span, Way, place_order};
+use std::sync::Arc;
+use vl_model::{Entry, Span, Way};
 
 /// Entries that don't change, in order, with no key and version twice. Several may share them.
 #[derive(Drop)]
 pub struct Run {
-    entries: ArcSlice<Entry>,
+    held: Arc<Held, Global>,
+}
+
+// What is shared: the entries, and the heads of their keys, which stand together so that few are fetched from far.
+#[derive(Drop)]
+struct Held {
+    entries: Vec<Entry>,
+    heads: Vec<u64>,
 }
 
 impl Model for Run {
     ghost use Rattle.std.specs.Prelude.{List};
-    ghost use Rattle.std.specs.Arc.{arc_slice_items};
+    ghost use Rattle.std.specs.Arc.{arc_value};
     ghost use Rattle.vl_model.specs.declared.entry.Entry.{Entry};
+    ghost use Rattle.vl_run.specs.Heads.{AreHeads};
     ghost use Rattle.vl_run.specs.Order.{IsInOrder};
 
     ghost Value = { List Entry };
 
-    ghost view = { λ a. arc_slice_items a.entries };
+    ghost view = { λ a. (arc_value a.held).entries.items };
 
-    ghost invariant = { λ a. IsInOrder (arc_slice_items a.entries) };
+    ghost invariant = { λ a. IsInOrder (arc_value a.held).entries.items
+        × AreHeads (arc_value a.held).heads.items (arc_value a.held).entries.items };
 }
 
 impl Run {
@@ -39,8 +58,10 @@ impl Run {
         requires { IsInOrder entries.items }
         ensures { IfOk result (λ run. run ≡ entries.items) }
     {
+        let alloc = *entries.allocator();
+        let heads = heads_of(alloc, &entries)?;
         Ok(Run {
-            entries: ArcSlice::from_vec(entries)?,
+            held: Arc::new(alloc, Held { entries, heads })?,
         })
     }
 
@@ -49,14 +70,14 @@ impl Run {
         ensures { IfOk result (λ shared. shared ≡ self.now) }
     {
         Ok(Run {
-            entries: self.entries.clone()?,
+            held: self.held.clone()?,
         })
     }
 
     pub fn len(&self) -> usize
         ensures { result ≡ length self.now }
     {
-        self.entries.len()
+        self.held.entries.len()
     }
 
     pub fn is_empty(&self) -> bool
@@ -70,7 +91,7 @@ impl Run {
         ensures entries { result.now ≡ self.now }
         ensures in_order { IsInOrder result.now }
     {
-        &self.entries
+        &self.held.entries
     }
 
     /// Of the entries of a key with a version of at most a number the one of the greatest version.
@@ -120,13 +141,30 @@ impl Run {
         Ok(RunCursor::between(self.share()?, first, end, way))
     }
 
-    // The first entry that doesn't come before the place of a key and version.
+    // The first entry that doesn't come before the place of a key and version, or none where its key's head shows that
+    // it is of another key.
     fn first_at(&self, key: &[u8], version: u64) -> Option<&Entry>
-        ensures first { option_copied result ≡ first_failing (is_ahead key.now version) self.now }
+        ensures of_key { if_of_key key.now (option_copied result)
+            ≡ if_of_key key.now (first_failing (is_ahead key.now version) self.now) }
+        ensures exact { if_exact key.now version (option_copied result)
+            ≡ if_exact key.now version (first_failing (is_ahead key.now version) self.now) }
         ensures in_order { IsInOrder self.now }
     {
-        let entries = self.as_slice();
-        entries.get(place(entries, key, version))
+        let sought = Sought {
+            key,
+            head: head_of(key),
+            version,
+        };
+        let held = self.held();
+        first_alike(&held.entries, &held.heads, &sought)
+    }
+
+    fn held(&self) -> &Held
+        ensures entries { result.now.entries.items ≡ self.now }
+        ensures in_order { IsInOrder result.now.entries.items }
+        ensures heads { AreHeads result.now.heads.items result.now.entries.items }
+    {
+        &self.held
     }
 }
 
@@ -163,13 +201,4 @@ fn is_up_to(span: &Span, key: &[u8]) -> bool
         Some(high) => key.cmp(&high.as_slice()).is_lt(),
         None => true,
     }
-}
-
-// How many of the entries come before the place of a key and version.
-fn place(entries: &[Entry], key: &[u8], version: u64) -> usize
-    requires { IsInOrder entries.now }
-    ensures { result ≡ prefix_len (is_ahead key.now version) entries.now }
-{
-    let place = Place { key, version };
-    entries.partition_point(|entry| place_order(&place, &entry.place()).is_gt())
 }

@@ -36,6 +36,34 @@ module _ {X : Type 0} (p : X → Bool) where
         | false ↦ refl
       ]
 
+  -- an element that passes stands before the place, and one that fails doesn't
+  pub before_point : (xs : List X) (i : ℕ) (d : X) → IsParted p xs → i < length xs → p (get_or xs i d) ≡ true → i < prefix_len p xs
+  before_point [] i d parted within is = absurd (omega (arith, within))
+  before_point (x ∷ xs) zero d parted within is =
+      let more : prefix_len p (x ∷ xs) ≡ 1 + prefix_len p xs = ap (λ b. cond b (1 + prefix_len p xs) 0) is in
+      omega (arith, more)
+  before_point (x ∷ xs) (suc i) d parted within is =
+      let later = before_point xs i d parted.1 (omega (arith, within)) is in
+      let first : p x ≡ true = passes_at (λ later. p later ≡ true → p x ≡ true) xs i d parted.0 (omega (arith, within)) is in
+      let more : prefix_len p (x ∷ xs) ≡ 1 + prefix_len p xs = ap (λ b. cond b (1 + prefix_len p xs) 0) first in
+      omega (arith, more, later)
+
+  pub from_point : (xs : List X) (i : ℕ) (d : X) → i < length xs → p (get_or xs i d) ≡ false → prefix_len p xs ≤ i
+  from_point [] i d within is = absurd (omega (arith, within))
+  from_point (x ∷ xs) zero d within is =
+      let none : prefix_len p (x ∷ xs) ≡ 0 = ap (λ b. cond b (1 + prefix_len p xs) 0) is in
+      omega (arith, none)
+  from_point (x ∷ xs) (suc i) d within is =
+      let later = from_point xs i d (omega (arith, within)) is in
+      elim (p x) as (λ b. cond b (1 + prefix_len p xs) 0 ≤ suc i) [
+        | true ↦ omega (arith, later)
+        | false ↦ omega arith
+      ]
+
+  -- what stands at the place
+  pub first-none : (xs : List X) (i : ℕ) → i ≡ prefix_len p xs → length xs ≤ i → first_failing p xs ≡ None
+  first-none xs i is past = sym (slice_get-prefix xs) ∙ ap (slice_get xs) (sym is) ∙ slice_get_past xs i past
+
 module _ {X : Type 0} where
   pub slice_get-within : (xs : List X) (i : ℕ) (d : X) → i < length xs → slice_get xs i ≡ Some (get_or xs i d)
   slice_get-within [] i d within = absurd (omega arith)
@@ -46,3 +74,7 @@ module _ {X : Type 0} where
   pub slice_get-lent : (xs : List X) (i : ℕ) (r : Option (Bor X)) → IsItemAt xs i r → option_copied r ≡ slice_get xs i
   slice_get-lent xs i None item = sym (slice_get_past xs i item.3)
   slice_get-lent xs i (Some x) item = ap Some item.1 ∙ sym (slice_get-within xs i x.now item.3.0)
+
+  pub first-some : (p : X → Bool) (xs : List X) (i : ℕ) (d : X) → i ≡ prefix_len p xs → i < length xs
+      → first_failing p xs ≡ Some (get_or xs i d)
+  first-some p xs i d is within = sym (slice_get-prefix p xs) ∙ ap (slice_get xs) (sym is) ∙ slice_get-within xs i d within

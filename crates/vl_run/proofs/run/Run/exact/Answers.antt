@@ -1,8 +1,8 @@
-use Rattle.std.proofs.Common.{◌≡◌, true, false, sym, ap, ◌∙◌}
+use Rattle.std.proofs.Common.{◌≡◌, true, false, refl, sym, ap, ◌∙◌}
 use Rattle.std.specs.Str.{bytes_eq}
 use Rattle.std.specs.Option.{option_copied}
 use Rattle.vl_run.specs.laws.Lookup.{found_exact, of_version, of_other_version, of_other_key}
-use Rattle.vl_run.specs.Lookups.{if_exact}
+use Rattle.vl_run.specs.Lookups.{first_failing, if_exact, is_ahead}
 use Rattle.vl_run.proofs.run.Run.exact.Goals as goal
 use Rattle.vl_run.proofs.run.Run.exact.Goals.{in_default-via-in-Some+then-eq+else-entry-version, in_default-via-in-Some+else-eq, in_default-via-in_default}
 
@@ -11,7 +11,8 @@ returns-in-Some c =
     let key = c.args.key.now in
     let version = c.args.version in
     let entry = c.in-Some.entry.now in
-    let is = found_exact key version c.args.self.now c.first_at.ensures.in_order _ c.first_at.ensures.first in
+    let first = first_failing (is_ahead key version) c.args.self.now in
+    let is = c.first_at.ensures.exact ∙ found_exact key version c.args.self.now c.first_at.ensures.in_order first refl in
     let same : bytes_eq key entry.key ≡ true = ap (bytes_eq key) (sym c.as_slice.ensures) ∙ sym c.eq.ensures ∙ c.if-eq.true in
     sym (of_version key version entry same c.if-entry-version.true) ∙ ap (λ r. if_exact key version (option_copied r)) (sym c.in-Some.is) ∙ is
 
@@ -19,7 +20,8 @@ pub returns-in_default : goal.returns-in_default
 returns-in_default c =
     let key = c.args.key.now in
     let version = c.args.version in
-    let is = found_exact key version c.args.self.now c.first_at.ensures.in_order _ c.first_at.ensures.first in
+    let first = first_failing (is_ahead key version) c.args.self.now in
+    let is = c.first_at.ensures.exact ∙ found_exact key version c.args.self.now c.first_at.ensures.in_order first refl in
     elim c.in_default.branch [
       | in_default-via-in-Some+then-eq+else-entry-version w ↦
           let entry = w.in-Some.entry.now in

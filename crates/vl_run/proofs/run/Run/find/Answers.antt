@@ -1,8 +1,8 @@
-use Rattle.std.proofs.Common.{◌≡◌, true, false, sym, ap, ◌∙◌}
+use Rattle.std.proofs.Common.{◌≡◌, true, false, refl, sym, ap, ◌∙◌}
 use Rattle.std.specs.Str.{bytes_eq}
 use Rattle.std.specs.Option.{option_copied}
 use Rattle.vl_run.specs.laws.Lookup.{found_winner, of_key}
-use Rattle.vl_run.specs.Lookups.{if_of_key}
+use Rattle.vl_run.specs.Lookups.{first_failing, if_of_key, is_ahead}
 use Rattle.vl_run.proofs.run.Run.find.Goals as goal
 use Rattle.vl_run.proofs.run.Run.find.Goals.{in_default-via-in-Some+else-eq, in_default-via-in_default}
 
@@ -10,14 +10,16 @@ pub returns-in-Some : goal.returns-in-Some
 returns-in-Some c =
     let key = c.args.key.now in
     let entry = c.in-Some.entry.now in
-    let is = found_winner key c.args.number c.args.self.now c.first_at.ensures.in_order _ c.first_at.ensures.first in
+    let first = first_failing (is_ahead key c.args.number) c.args.self.now in
+    let is = c.first_at.ensures.of_key ∙ found_winner key c.args.number c.args.self.now c.first_at.ensures.in_order first refl in
     let same : bytes_eq key entry.key ≡ true = ap (bytes_eq key) (sym c.as_slice.ensures) ∙ sym c.eq.ensures ∙ c.if-eq.true in
     sym (of_key key c.args.number entry true same) ∙ ap (λ r. if_of_key key (option_copied r)) (sym c.in-Some.is) ∙ is
 
 pub returns-in_default : goal.returns-in_default
 returns-in_default c =
     let key = c.args.key.now in
-    let is = found_winner key c.args.number c.args.self.now c.first_at.ensures.in_order _ c.first_at.ensures.first in
+    let first = first_failing (is_ahead key c.args.number) c.args.self.now in
+    let is = c.first_at.ensures.of_key ∙ found_winner key c.args.number c.args.self.now c.first_at.ensures.in_order first refl in
     elim c.in_default.branch [
       | in_default-via-in-Some+else-eq w ↦
           let entry = w.in-Some.entry.now in
