@@ -133,7 +133,7 @@ fn ran(
     }
     let input = spelled(alloc, input)?;
     let mut source = SliceSource::new(&input, failing(alloc, reads)?);
-    let mut sink = VecSink::new(alloc, 4096, failing(alloc, puts)?)?;
+    let mut sink = VecSink::new(alloc, 16_384, failing(alloc, puts)?)?;
     let disk = MemDisk::new(alloc, Vec::new(alloc), Vec::new(alloc));
     let Ended { status, disk: _ } = run(alloc, all.as_slice(), &mut source, &mut sink, disk);
     Ok((sink.into_bytes(), status.to_string(alloc)?))

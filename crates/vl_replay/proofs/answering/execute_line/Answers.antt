@@ -43,7 +43,7 @@ returns-in_err-out-clause-carries g c s stands held =
 pub returns-in_err-answer-clause-carries : goal.returns-in_err-answer-clause-carries
 returns-in_err-answer-clause-carries g c s stands held =
     let residual = c.from_residual-in_err-answer in
-    let carried = c.line.ensures.carries s stands held in
+    let carried = c.line.ensures.carries c.requires s stands held in
     carries_line g.D.Watched (record { only_now = g.met.D.Disk.only_now; counts_now = g.met.D.Disk.counts_now }) s c.args.text.now (disk_of c.args.replayer.now) (disk_of c.line.new.self) c.in-Some.line c.line.result residual.result
     (sym c.in_ok-line.ensures ∙ c.in-Some.is) carried
     (λ ok. absurd (ok_not_err residual.result ok residual.ensures.0))
@@ -53,7 +53,7 @@ returns-in_err-answer-clause-carries g c s stands held =
 pub returns-in_err-print_answer-clause-carries : goal.returns-in_err-print_answer-clause-carries
 returns-in_err-print_answer-clause-carries g c s stands held =
     let residual = c.from_residual-in_err-print_answer in
-    let carried = c.line.ensures.carries s stands held in
+    let carried = c.line.ensures.carries c.requires s stands held in
     let ok = ap is_ok c.in_ok-answer.was in
     carries_line g.D.Watched (record { only_now = g.met.D.Disk.only_now; counts_now = g.met.D.Disk.counts_now }) s c.args.text.now (disk_of c.args.replayer.now) (disk_of c.line.new.self) c.in-Some.line c.line.result residual.result
     (sym c.in_ok-line.ensures ∙ c.in-Some.is) carried
@@ -66,7 +66,7 @@ returns-in_err-print_answer-clause-carries g c s stands held =
 pub returns-clause-carries : goal.returns-clause-carries
 returns-clause-carries g c s stands held =
     carries_line g.D.Watched (record { only_now = g.met.D.Disk.only_now; counts_now = g.met.D.Disk.counts_now }) s c.args.text.now (disk_of c.args.replayer.now) (disk_of c.line.new.self) c.in-Some.line c.line.result _
-    (sym c.in_ok-line.ensures ∙ c.in-Some.is) (c.line.ensures.carries s stands held) (λ ok. ap is_ok c.in_ok-answer.was) (λ by. absurd by) (λ out. absurd (ok_not_out _ out))
+    (sym c.in_ok-line.ensures ∙ c.in-Some.is) (c.line.ensures.carries c.requires s stands held) (λ ok. ap is_ok c.in_ok-answer.was) (λ by. absurd by) (λ out. absurd (ok_not_out _ out))
 
 pub returns-in_default-clause-reads : goal.returns-in_default-clause-reads
 returns-in_default-clause-reads g c = sym c.in_ok-line.ensures ∙ c.in_default.is
@@ -88,7 +88,7 @@ returns-in_err-out-clause-readable g c s stands = out_readable c.from_residual-i
 
 pub returns-in_err-answer-clause-readable : goal.returns-in_err-answer-clause-readable
 returns-in_err-answer-clause-readable g c s stands by =
-    c.line.ensures.sound s stands
+    c.line.ensures.sound c.requires s stands
     (by_read_still c.line.result c.from_residual-in_err-answer.result _ c.in_err-answer.was c.from_residual-in_err-answer.ensures.1 by)
 
 pub returns-in_err-print_answer-clause-readable : goal.returns-in_err-print_answer-clause-readable
