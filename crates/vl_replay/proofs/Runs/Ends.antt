@@ -418,12 +418,12 @@ damage_counts_sink g old new name place result ends = ⊎_elim
     (λ (short : FinishesBy g old new NoMemory result). finish_counts g old new short.0 NoMemory result (λ e. cc) short.2)
     ends
 
--- and so it is where a read failed
-pub unread_counts : {K : Type 0} (g : sink.Ghosts K) (old new : K) (line : List ℕ) (result : Ending) → Finishes g old new line ReaderFault result
-    → (before now : ℕ) → now ≡ before → CountsFaultsOf TheDisk (Some result) before now
-unread_counts g old new line result finishes before now same =
+-- where a run ends by no fault of the disk, it counts none
+pub otherwise_counts : {K : Type 0} (g : sink.Ghosts K) (old new : K) (line : List ℕ) (ending result : Ending) → culprit_of ending ≢ TheDisk
+    → Finishes g old new line ending result → (before now : ℕ) → now ≡ before → CountsFaultsOf TheDisk (Some result) before now
+otherwise_counts g old new line ending result apart finishes before now same =
     subst (λ (n : ℕ). CountsFaultsOf TheDisk (Some result) before n) (sym same)
-    (counts_none TheDisk result before (or_cut g old new line ReaderFault result (λ (e : Ending). culprit_of e ≢ TheDisk) finishes (λ e. cc) (λ e. cc)))
+    (counts_none TheDisk result before (or_cut g old new line ending result (λ (e : Ending). culprit_of e ≢ TheDisk) finishes apart (λ e. cc)))
 
 pub damage_counts : {K : Type 0} (g : sink.Ghosts K) (old new : K) (name : Name) (place : ℕ) (result : Ending) → EndsAtDamage g old new name place result
     → (before now : ℕ) → now ≡ before → CountsFaultsOf TheDisk (Some result) before now

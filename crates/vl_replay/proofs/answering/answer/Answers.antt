@@ -9,7 +9,7 @@ use Rattle.vl_replay.specs.Halts.{HaltsByDisk}
 use Rattle.vl_replay.specs.Replaying.{disk_of}
 use Rattle.vl_replay.specs.declared.ending.Ending.{Ending}
 use Rattle.vl_replay.specs.declared.ending.Ending.TheVariants.{AnswerCut, BadWords, NoMemory, ReaderFault, Refused}
-use Rattle.vl_replay.proofs.Runs.Ends.{answer_cut, finished, finish_counts, before_weaker, at_damage, at_fault, damage_counts, damage_counts_sink, ends_as, fault_as, fault_counts, fault_line, fault_stops, or_cut, otherwise_as, unread_counts}
+use Rattle.vl_replay.proofs.Runs.Ends.{answer_cut, finished, finish_counts, before_weaker, at_damage, at_fault, damage_counts, damage_counts_sink, ends_as, fault_as, fault_counts, fault_line, fault_stops, or_cut, otherwise_as, otherwise_counts}
 use Rattle.vl_replay.proofs.Runs.Texts.{by_damage, by_read, halts, of_ok, ends_cut, ends_bad, ends_out, ends_fault}
 use Rattle.vl_replay.proofs.Runs.ReadingOn.{IsOtherwise, ends_for, ends_otherwise, finishes_damaged, finishes_otherwise, finishes_unread}
 use Rattle.vl_replay.proofs.answering.answer.Goals as goal
@@ -183,7 +183,7 @@ returns-in-Err-Read-clause-sink_faults g c = finish_counts g.K.Sink _ _ _ Reader
 
 pub returns-in-Err-Read-clause-disk_faults : goal.returns-in-Err-Read-clause-disk_faults
 returns-in-Err-Read-clause-disk_faults g c =
-    unread_counts g.K.Sink _ _ _ c.finish-in-Err-Read.result c.finish-in-Err-Read.ensures _ _
+    otherwise_counts g.K.Sink _ _ _ ReaderFault c.finish-in-Err-Read.result (λ e. cc) c.finish-in-Err-Read.ensures _ _
     (c.execute_line.ensures.cause.steady (subst (λ r. HaltsByDisk r → ⊥) (sym (c.in-Err-Read.is ∙ ap Err c.in-Err-Read.field-0-is)) (λ by. by)))
 
 pub returns-in-Err-Read-clause-reads : goal.returns-in-Err-Read-clause-reads

@@ -51,5 +51,5 @@ returns-clause-reads g c =
 pub returns-in-Ok-clause-readable : goal.returns-in-Ok-clause-readable
 returns-in-Ok-clause-readable g c = or_cut g.K.Sink _ _ _ BadLine c.finish.result (λ (e : Ending). e ≢ ReaderFault) c.finish.ensures (λ e. cc) (λ e. cc)
 
-pub returns-in-Err-clause-readable : goal.returns-in-Err-clause-readable
-returns-in-Err-clause-readable g c = or_cut g.K.Sink _ _ _ NoMemory c.finish-in-Err.result (λ (e : Ending). e ≢ ReaderFault) c.finish-in-Err.ensures (λ e. cc) (λ e. cc)
+pub returns-clause-readable : goal.returns-clause-readable
+returns-clause-readable g c = or_cut g.K.Sink _ _ _ NoMemory c.finish-in-Err.result (λ (e : Ending). e ≢ ReaderFault) c.finish-in-Err.ensures (λ e. cc) (λ e. cc)

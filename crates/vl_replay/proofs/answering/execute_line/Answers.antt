@@ -13,8 +13,8 @@ use Rattle.vl_replay.proofs.Runs.Extending.{is_told_text}
 use Rattle.vl_replay.proofs.Runs.Texts.{carries_nothing, carries_bad, carries_line, kept_without_number, of_ok, ok_not_err, ok_not_out, same_halt}
 use Rattle.vl_replay.proofs.answering.execute_line.Goals as goal
 
-pub line-requires-clause-rows : goal.line-requires-clause-rows
-line-requires-clause-rows g c = line_asks c.args.text.now c.in-Some.line (sym c.in_ok-line.ensures ∙ c.in-Some.is)
+pub line-requires : goal.line-requires
+line-requires g c = line_asks c.args.text.now c.in-Some.line (sym c.in_ok-line.ensures ∙ c.in-Some.is)
 
 pub returns-clause-answers : goal.returns-clause-answers
 returns-clause-answers g c s stands =

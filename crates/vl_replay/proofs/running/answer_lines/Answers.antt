@@ -11,7 +11,7 @@ use Rattle.vl_replay.specs.Steps.{kept}
 use Rattle.vl_replay.specs.Stored.{IsStopped, IsStored}
 use Rattle.vl_engine.specs.Shown.{Shown}
 use Rattle.vl_replay.specs.declared.ending.Ending.TheVariants.{NoMemory, ReaderFault}
-use Rattle.vl_replay.proofs.Runs.Ends.{finished, line_leaves_disk, or_cut, otherwise_as}
+use Rattle.vl_replay.proofs.Runs.Ends.{finish_counts, finished, line_leaves_disk, or_cut, otherwise_as, otherwise_counts}
 use Rattle.vl_replay.proofs.Disk.Shown.{shown_stays, stored_exactly}
 use Rattle.vl_replay.proofs.Runs.ReadingOn.{finished_otherwise, read_nothing, reads_nothing}
 use Rattle.vl_replay.proofs.Runs.Stepping.{step_apart}
@@ -80,6 +80,21 @@ returns-in_default-clause-input g c input told =
 
 pub returns-in-Some-clause-input : goal.returns-in-Some-clause-input
 returns-in-Some-clause-input g c input told = c.in-Some.ensures.reads input (streams g.S.Source g.K.Sink c.args.source.now c.args.sink.now) (c.lines.invariant.has_read input told)
+
+-- ---- the faults that are counted, and the measure
+
+pub returns-in_default-clause-sink_faults : goal.returns-in_default-clause-sink_faults
+returns-in_default-clause-sink_faults g c = finish_counts g.K.Sink _ _ _ NoMemory c.finish.result (λ e. cc) c.finish.ensures
+
+pub returns-in_default-clause-disk_faults : goal.returns-in_default-clause-disk_faults
+returns-in_default-clause-disk_faults g c =
+    otherwise_counts g.K.Sink _ _ _ NoMemory c.finish.result (λ e. cc) c.finish.ensures _ _ (ap g.D.Watched.faults c.close.ensures)
+
+pub returns-in-Some-clause-not_the_files : goal.returns-in-Some-clause-not_the_files
+returns-in-Some-clause-not_the_files g c refusal is = c.in-Some.ensures.not_the_files refusal (ap Some is)
+
+pub lines-smaller : goal.lines-smaller
+lines-smaller g c = c.in_default-step.ensures.shorter refl
 
 -- ---- how it ends where the disk fails
 
