@@ -1,7 +1,7 @@
 -- The name is taken out, its thing scanned, and put back.
-use Rattle.std.proofs.Common.{◌≡◌, ◌∙◌, refl, ap}
+use Rattle.std.proofs.Common.{◌≡◌, ◌∙◌, ℕ, List, refl, ap}
 use Rattle.vl_layout.specs.Store.Reading.{scan_by}
-use Rattle.vl_layout.specs.Store.Things.{thing_of}
+use Rattle.vl_layout.specs.Store.Things.{Step, thing_of}
 use Rattle.vl_replay.specs.Sequential.{history_of}
 use Rattle.vl_replay.proofs.Names.Making.{its, itself}
 use Rattle.vl_replay.proofs.Names.ReadMaking.{call_not_by_disk, call_sound}
@@ -23,7 +23,7 @@ returns-in-Some-View-clause-makes g c s stands =
     let os = c.args.self.now.opens.items in
     let left = c.take_out.new.opens.items in
     let taken = taken_out bytes core os left s stands c.as_slice.result.now c.args.name c.as_slice.ensures _ _ c.in-Some-View.field-0-is c.in-Some-View.ensures in
-    let step = λ low high. scan_by s.store c.args.way c.args.name low high c.args.limit (thing_of s.store c.args.name) in
+    let step : List ℕ → List ℕ → Step = λ low high. scan_by s.store c.args.way c.args.name low high c.args.limit (thing_of s.store c.args.name) in
     returns_so bytes core _ c.put.new.opens.items s (step c.as_slice-in-Some-View.result.now c.as_slice-in-Some-View-2.result.now) (step c.args.low c.args.high) _ c.told_rows.result
     c.in_ok-put-in-Some-View.ensures (ap (λ low. step low c.as_slice-in-Some-View-2.result.now) c.as_slice-in-Some-View.ensures ∙ ap (λ high. step c.args.low high) c.as_slice-in-Some-View-2.ensures) c.told_rows.ensures
     (view_scan_makes bytes core os s stands left c.args.name c.args.way c.as_slice-in-Some-View.result.now c.as_slice-in-Some-View-2.result.now c.args.limit (λ rows. rows.items) (λ rows. answers.Rows rows) (λ rows. refl) c.in-Some-View.view c.scan-result.new.self taken c.scan-result.ensures.keeps
@@ -49,7 +49,7 @@ returns-clause-makes g c s stands =
     let os = c.args.self.now.opens.items in
     let left = c.take_out.new.opens.items in
     let taken = taken_out bytes core os left s stands c.as_slice.result.now c.args.name c.as_slice.ensures _ _ c.in-Some-Transaction.field-0-is c.in-Some-Transaction.ensures in
-    let step = λ low high. scan_by s.store c.args.way c.args.name low high c.args.limit (thing_of s.store c.args.name) in
+    let step : List ℕ → List ℕ → Step = λ low high. scan_by s.store c.args.way c.args.name low high c.args.limit (thing_of s.store c.args.name) in
     returns_so bytes core _ c.put-in-Some-Transaction.new.opens.items s (step c.as_slice-in-Some-Transaction.result.now c.as_slice-in-Some-Transaction-2.result.now) (step c.args.low c.args.high) _ c.told_rows-in-Some-Transaction.result
     c.in_ok-put-in-Some-Transaction.ensures (ap (λ low. step low c.as_slice-in-Some-Transaction-2.result.now) c.as_slice-in-Some-Transaction.ensures ∙ ap (λ high. step c.args.low high) c.as_slice-in-Some-Transaction-2.ensures) c.told_rows-in-Some-Transaction.ensures
     (txn_scan_makes bytes core os s stands left c.args.name c.args.way c.as_slice-in-Some-Transaction.result.now c.as_slice-in-Some-Transaction-2.result.now c.args.limit (λ rows. rows.items) (λ rows. answers.Rows rows) (λ rows. refl) c.in-Some-Transaction.txn c.scan-result-in-Some-Transaction.new.self taken c.scan-result-in-Some-Transaction.ensures.keeps
