@@ -1,8 +1,9 @@
 -- Why a line that was carried out was given no answer.
-use Rattle.std.proofs.Common.{◌≡◌, ◌≤◌, ℕ, arith}
+use Rattle.std.proofs.Common.{◌≡◌, ◌≤◌, ℕ, arith, subst, sym}
 use Rattle.std.specs.Prelude.{Ok, Err, Result}
 use Rattle.vl_disk.specs.Faults.{HasCause}
-use Rattle.vl_replay.specs.Halts.{HaltsByRead}
+use Rattle.vl_disk.specs.declared.name.Name.{Name}
+use Rattle.vl_replay.specs.Halts.{HaltsByDisk, HaltsByRead}
 use Rattle.vl_replay.specs.Replaying.{OnlyNoMemory}
 use Rattle.vl_replay.specs.declared.fails.Halt.{Halt}
 use Rattle.vl_replay.specs.declared.fails.Halt.TheVariants as why
@@ -22,3 +23,7 @@ no_cause before now failed same sound = record {
   rose = λ fails. absurd (sound fails);
   steady = λ none. same;
 }
+
+-- what wasn't halted by the disk wasn't halted at a file of it
+pub not_at : {T P : Type 0} (result : Result T Halt) → (HaltsByDisk result → ⊥) → (file : Name) → result ≡ Err (why.Disk file) → P
+not_at {T} result sound file is = absurd (sound (subst (λ (r : Result T Halt). HaltsByDisk r) (sym is) tt))

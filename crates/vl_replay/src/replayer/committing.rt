@@ -1,6 +1,8 @@
 //! Commits through a name.
-ghost use Rattle.std.specs.Prelude.{◌≡◌};
+ghost use Rattle.std.specs.Prelude.{◌≡◌, Err};
 ghost use Rattle.vl_disk.specs.Faults.{HasCause};
+ghost use Rattle.vl_disk.specs.declared.name.Name.{Name};
+ghost use Rattle.vl_disk.specs.declared.name.Name.TheVariants as names;
 ghost use Rattle.vl_engine.specs.Shown.{Shown};
 ghost use Rattle.vl_layout.specs.Store.Reading.{commit_by};
 ghost use Rattle.vl_layout.specs.Store.Things.{thing_of};
@@ -9,6 +11,7 @@ ghost use Rattle.vl_replay.specs.Halts.{HaltsByDisk, HaltsByRead};
 ghost use Rattle.vl_replay.specs.Replaying.{MakesStep, StandsFor, state_by};
 ghost use Rattle.vl_replay.specs.Sequential.{State};
 ghost use Rattle.vl_replay.specs.Stored.{IsStopped, IsStored};
+ghost use Rattle.vl_replay.specs.declared.fails.Halt.TheVariants as halts;
 
 use crate::fails::Halt;
 use crate::replayer::Replayer;
@@ -29,6 +32,8 @@ impl<D: Disk> Replayer<D> {
             (state_by s (commit_by s.store name (thing_of s.store name))) result }
         ensures sound { (s : State) → StandsFor D.Held.bytes self.old s → HaltsByRead result → ⊥ }
         ensures cause { HasCause (D.faults self.old.engine.disk) (D.faults self.new.engine.disk) (HaltsByDisk result) }
+        ensures named { (s : State) (file : Name) → StandsFor D.Held.bytes self.old s
+            → result ≡ Err (halts.Disk file) → file ≡ names.Log s.store.layout.active.number }
         ensures halted { self.new.halted ≡ self.old.halted }
     {
         match take_out(&mut self.opens, name.as_slice()) {

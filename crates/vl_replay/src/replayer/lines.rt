@@ -1,6 +1,8 @@
 //! A script's lines, one after the other.
 ghost use Rattle.std.specs.Prelude.{◌≡◌, Err, IfOk, OnOk, Some};
 ghost use Rattle.vl_disk.specs.Faults.{HasCause};
+ghost use Rattle.vl_disk.specs.declared.name.Name.{Name};
+ghost use Rattle.vl_disk.specs.declared.name.Name.TheVariants as names;
 ghost use Rattle.vl_replay.specs.Asking.{AsksForRow};
 ghost use Rattle.vl_engine.specs.Shown.{Shown};
 ghost use Rattle.vl_replay.specs.Durable.{CarriesOut};
@@ -9,6 +11,7 @@ ghost use Rattle.vl_replay.specs.Replaying.{MakesStep, StandsFor, TakesLines, di
 ghost use Rattle.vl_replay.specs.Sequential.{IsTold, State, answer_to, state_after, step_to};
 ghost use Rattle.vl_replay.specs.Stored.{IsStopped, IsStored};
 ghost use Rattle.vl_replay.specs.declared.fails.Halt.{Halt as Halts};
+ghost use Rattle.vl_replay.specs.declared.fails.Halt.TheVariants as halts;
 
 use crate::fails::Halt;
 use crate::replayer::Replayer;
@@ -16,26 +19,35 @@ use vl_disk::Disk;
 use vl_script::{Answer, Line};
 
 impl<D: Disk> Replayer<D> {
-    /// Answers a line. A line that is given no answer is the last one.
+    /// Answers a line. A line that is given no answer is the last one: each line behind it is halted as it was.
     pub fn line(&mut self, line: Line) -> Result<Answer, Halt>
-        requires goes { TakesLines self.old }
         requires rows { AsksForRow line }
         ensures answer { (s : State) → StandsFor D.Held.bytes self.old s
             → IfOk result (λ answer. IsTold answer (answer_to s line)) }
         ensures after { (s : State) → StandsFor D.Held.bytes self.old s
             → OnOk result (StandsFor D.Held.bytes self.new (state_after s line)) }
-        ensures goes_on { OnOk result (TakesLines self.new) }
+
+        // A halt stays: each line behind it is halted so too, and changes nothing.
         ensures halts { (halt : Halts) → result ≡ Err halt → self.new.halted ≡ Some halt }
+        ensures goes_on { OnOk result (TakesLines self.new) }
+        ensures stays_halted { (halt : Halts) → self.old.halted ≡ Some halt
+            → (result ≡ Err halt) × (self.new ≡ self.old) }
 
         // Over a disk that holds the state: where there is an answer it holds the state behind the line, in which a commit has
         // made two calls and its log is longer by a frame. However the line ends, a store may be opened on the disk again.
-        ensures carries { (s : State) → StandsFor D.Held.bytes self.old s
+        ensures carries { TakesLines self.old → (s : State) → StandsFor D.Held.bytes self.old s
             → CarriesOut D.Watched IsStored Shown IsStopped (disk_of self.old) (disk_of self.new) s (state_after s line) result }
 
         // What the store has can be read.
-        ensures sound { (s : State) → StandsFor D.Held.bytes self.old s → HaltsByRead result → ⊥ }
-        ensures cause { HasCause (D.faults (disk_of self.old)) (D.faults (disk_of self.new)) (HaltsByDisk result) }
+        ensures sound { TakesLines self.old → (s : State) → StandsFor D.Held.bytes self.old s → HaltsByRead result → ⊥ }
+        ensures cause { TakesLines self.old
+            → HasCause (D.faults (disk_of self.old)) (D.faults (disk_of self.new)) (HaltsByDisk result) }
+        ensures named { (s : State) (name : Name) → TakesLines self.old → StandsFor D.Held.bytes self.old s
+            → result ≡ Err (halts.Disk name) → name ≡ names.Log s.store.layout.active.number }
     {
+        if let Some(halt) = self.halted {
+            return Err(halt);
+        }
         match self.carry_out(line) {
             Ok(answer) => Ok(answer),
             Err(halt) => {
@@ -54,6 +66,8 @@ impl<D: Disk> Replayer<D> {
             → CarriesOut D.Watched IsStored Shown IsStopped (disk_of self.old) (disk_of self.new) s (state_after s line) result }
         ensures sound { (s : State) → StandsFor D.Held.bytes self.old s → HaltsByRead result → ⊥ }
         ensures cause { HasCause (D.faults (disk_of self.old)) (D.faults (disk_of self.new)) (HaltsByDisk result) }
+        ensures named { (s : State) (name : Name) → StandsFor D.Held.bytes self.old s
+            → result ≡ Err (halts.Disk name) → name ≡ names.Log s.store.layout.active.number }
         ensures halted { self.new.halted ≡ self.old.halted }
     {
         match line {

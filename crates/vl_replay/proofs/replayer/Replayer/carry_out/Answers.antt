@@ -1,4 +1,4 @@
--- Each line's call makes the line's step. (Not checked yet: the steps' names are guesses.)
+-- Each line's call makes the line's step.
 use Rattle.std.proofs.Common.{◌≡◌, ap, sym, subst}
 use Rattle.std.specs.Prelude.{Ok}
 use Rattle.vl_engine.specs.Shown.{Shown}
@@ -15,7 +15,7 @@ use Rattle.vl_replay.specs.laws.Explained.{only_readers}
 use Rattle.vl_script.specs.declared.line.Line.TheVariants as lines
 use Rattle.vl_replay.proofs.Disk.Carried.{quiet_carries}
 use Rattle.vl_replay.proofs.Disk.Halting.{not_by_disk}
-use Rattle.vl_replay.proofs.Names.Halts.{no_cause, not_by_read}
+use Rattle.vl_replay.proofs.Names.Halts.{no_cause, not_at, not_by_read}
 use Rattle.vl_replay.proofs.replayer.Replayer.carry_out.Goals as goal
 
 pub returns-in-Begin-clause-makes : goal.returns-in-Begin-clause-makes
@@ -187,3 +187,30 @@ returns-in-Drop-clause-carries g c s stands =
     c.end.new.self.engine.core c.end.new.self.opens.items s (step_to s (lines.Drop c.in-Drop.name))
     (drop_keeps s.store c.in-Drop.name (thing_of s.store c.in-Drop.name) (only_readers s.store stands.sound c.in-Drop.name)) (Ok c.end.result)
     (c.end.ensures.makes s stands) tt c.args.self.now.engine.disk c.end.new.self.engine.disk c.end.ensures.disk)
+
+pub returns-in-Begin-clause-named : goal.returns-in-Begin-clause-named
+returns-in-Begin-clause-named g c s file stands is = not_at c.begin.result (not_by_disk c.begin.result c.begin.ensures.fails) file is
+
+pub returns-in-View-clause-named : goal.returns-in-View-clause-named
+returns-in-View-clause-named g c s file stands is = not_at c.view.result (not_by_disk c.view.result c.view.ensures.fails) file is
+
+pub returns-in-Get-clause-named : goal.returns-in-Get-clause-named
+returns-in-Get-clause-named g c s file stands is = not_at c.read.result c.read.ensures.not_the_disk file is
+
+pub returns-in-GetTagged-clause-named : goal.returns-in-GetTagged-clause-named
+returns-in-GetTagged-clause-named g c s file stands is = not_at c.read-in-GetTagged.result c.read-in-GetTagged.ensures.not_the_disk file is
+
+pub returns-in-Set-clause-named : goal.returns-in-Set-clause-named
+returns-in-Set-clause-named g c s file stands is = not_at c.write.result (not_by_disk c.write.result c.write.ensures.fails) file is
+
+pub returns-in-SetTagged-clause-named : goal.returns-in-SetTagged-clause-named
+returns-in-SetTagged-clause-named g c s file stands is = not_at c.write-in-SetTagged.result (not_by_disk c.write-in-SetTagged.result c.write-in-SetTagged.ensures.fails) file is
+
+pub returns-in-Delete-clause-named : goal.returns-in-Delete-clause-named
+returns-in-Delete-clause-named g c s file stands is = not_at c.write-in-Delete.result (not_by_disk c.write-in-Delete.result c.write-in-Delete.ensures.fails) file is
+
+pub returns-in-Scan-clause-named : goal.returns-in-Scan-clause-named
+returns-in-Scan-clause-named g c s file stands is = not_at c.scan.result c.scan.ensures.not_the_disk file is
+
+pub returns-in-Commit-clause-named : goal.returns-in-Commit-clause-named
+returns-in-Commit-clause-named g c s file stands is = c.commit.ensures.named s file stands is

@@ -6,7 +6,7 @@ use Rattle.vl_replay.specs.Sequential.{history_of}
 use Rattle.vl_replay.specs.Standing.{tell_of, told_value}
 use Rattle.vl_replay.proofs.Names.Making.{its, itself}
 use Rattle.vl_replay.proofs.Names.ReadMaking.{call_not_by_disk, call_sound, txn_read_makes, view_read_makes}
-use Rattle.vl_replay.proofs.Names.Returning.{returns_so, taken_as, unknown_returns}
+use Rattle.vl_replay.proofs.Names.Returning.{returns_so, taken_out, unknown_returns}
 use Rattle.vl_replay.proofs.replayer.Replayer.read.Goals as goal
 
 pub returns-in-None-clause-makes : goal.returns-in-None-clause-makes
@@ -21,7 +21,7 @@ returns-in-Some-View-clause-makes g c s stands =
     let core = c.args.self.now.engine.core in
     let os = c.args.self.now.opens.items in
     let left = c.take_out.new.opens.items in
-    let taken = taken_as bytes core os left s stands c.as_slice.result.now c.args.name c.as_slice.ensures _ c.in-Some-View.ensures in
+    let taken = taken_out bytes core os left s stands c.as_slice.result.now c.args.name c.as_slice.ensures _ _ c.in-Some-View.field-0-is c.in-Some-View.ensures in
     returns_so bytes core _ c.put.new.opens.items s
     (get_by s.store c.args.name (tell_of c.args.with_tag) c.as_slice-in-Some-View.result.now (thing_of s.store c.args.name))
     (get_by s.store c.args.name (tell_of c.args.with_tag) c.args.key (thing_of s.store c.args.name)) _ c.told.result
@@ -34,7 +34,7 @@ returns-in-Some-View-clause-sound g c s stands =
     let core = c.args.self.now.engine.core in
     let os = c.args.self.now.opens.items in
     let left = c.take_out.new.opens.items in
-    let taken = taken_as bytes core os left s stands c.as_slice.result.now c.args.name c.as_slice.ensures _ c.in-Some-View.ensures in
+    let taken = taken_out bytes core os left s stands c.as_slice.result.now c.args.name c.as_slice.ensures _ _ c.in-Some-View.field-0-is c.in-Some-View.ensures in
     let (b, there, sees, live) = its bytes core os s stands left c.args.name c.in-Some-View.view taken in
     call_sound (told_value c.args.with_tag) c.get-result.result c.told.result c.told.ensures (c.get-result.ensures.sound (history_of s) sees)
 
@@ -47,7 +47,7 @@ returns-clause-makes g c s stands =
     let core = c.args.self.now.engine.core in
     let os = c.args.self.now.opens.items in
     let left = c.take_out.new.opens.items in
-    let taken = taken_as bytes core os left s stands c.as_slice.result.now c.args.name c.as_slice.ensures _ c.in-Some-Transaction.ensures in
+    let taken = taken_out bytes core os left s stands c.as_slice.result.now c.args.name c.as_slice.ensures _ _ c.in-Some-Transaction.field-0-is c.in-Some-Transaction.ensures in
     returns_so bytes core _ c.put-in-Some-Transaction.new.opens.items s
     (get_by s.store c.args.name (tell_of c.args.with_tag) c.as_slice-in-Some-Transaction.result.now (thing_of s.store c.args.name))
     (get_by s.store c.args.name (tell_of c.args.with_tag) c.args.key (thing_of s.store c.args.name)) _ c.told-in-Some-Transaction.result
@@ -61,7 +61,7 @@ returns-clause-sound g c s stands =
     let core = c.args.self.now.engine.core in
     let os = c.args.self.now.opens.items in
     let left = c.take_out.new.opens.items in
-    let taken = taken_as bytes core os left s stands c.as_slice.result.now c.args.name c.as_slice.ensures _ c.in-Some-Transaction.ensures in
+    let taken = taken_out bytes core os left s stands c.as_slice.result.now c.args.name c.as_slice.ensures _ _ c.in-Some-Transaction.field-0-is c.in-Some-Transaction.ensures in
     let (t, b, there, is) = itself bytes core os s stands left c.args.name c.in-Some-Transaction.txn taken in
     call_sound (told_value c.args.with_tag) c.get-result-in-Some-Transaction.result c.told-in-Some-Transaction.result c.told-in-Some-Transaction.ensures (c.get-result-in-Some-Transaction.ensures.sound (history_of s) t.reads is.sees)
 

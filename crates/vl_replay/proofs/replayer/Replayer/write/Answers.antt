@@ -4,7 +4,7 @@ use Rattle.vl_layout.specs.Store.Reading.{write_by}
 use Rattle.vl_layout.specs.Store.Things.{thing_of}
 use Rattle.vl_replay.specs.Standing.{change_of}
 use Rattle.vl_replay.proofs.Names.Making.{write_makes}
-use Rattle.vl_replay.proofs.Names.Returning.{read_only_returns, returns_so, taken_as, unknown_returns}
+use Rattle.vl_replay.proofs.Names.Returning.{read_only_returns, returns_so, taken_out, unknown_returns}
 use Rattle.vl_replay.proofs.replayer.Replayer.write.Goals as goal
 
 pub returns-in-None-clause-makes : goal.returns-in-None-clause-makes
@@ -16,7 +16,7 @@ returns-in-None-clause-makes g c s stands =
 pub returns-in-Some-View-clause-makes : goal.returns-in-Some-View-clause-makes
 returns-in-Some-View-clause-makes g c s stands =
     read_only_returns g.D.Held.HeldFile.bytes c.args.self.now.engine.core c.args.self.now.opens.items c.take_out.new.opens.items s stands
-    c.as_slice.result.now c.args.name c.as_slice.ensures c.in-Some-View.view c.put.new.opens.items c.in-Some-View.ensures c.in_ok-put-in-Some-View.ensures
+    c.as_slice.result.now c.args.name c.as_slice.ensures c.in-Some-View.view c.put.new.opens.items _ c.in-Some-View.field-0-is c.in-Some-View.ensures c.in_ok-put-in-Some-View.ensures
     (write_by s.store c.args.name c.args.key (change_of c.args.value)) (λ v b. refl)
 
 pub returns-clause-makes : goal.returns-clause-makes
@@ -25,7 +25,7 @@ returns-clause-makes g c s stands =
     let core = c.args.self.now.engine.core in
     let os = c.args.self.now.opens.items in
     let left = c.take_out.new.opens.items in
-    let taken = taken_as bytes core os left s stands c.as_slice.result.now c.args.name c.as_slice.ensures _ c.in-Some-Transaction.ensures in
+    let taken = taken_out bytes core os left s stands c.as_slice.result.now c.args.name c.as_slice.ensures _ _ c.in-Some-Transaction.field-0-is c.in-Some-Transaction.ensures in
     let txn = c.in-Some-Transaction.txn in
     let changed = c.change-result.new.txn in
     returns_so bytes core _ c.put-in-Some-Transaction.new.opens.items s
