@@ -4,3 +4,4 @@ pub mod DiskSteps
 pub mod Halting
 pub mod Shown
 pub mod Carried
+pub mod Committed

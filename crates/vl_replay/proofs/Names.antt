@@ -12,4 +12,5 @@ pub mod ScanMaking
 pub mod BeginMaking
 pub mod CommitMaking
 pub mod Returning
+pub mod Placing
 pub mod Halts

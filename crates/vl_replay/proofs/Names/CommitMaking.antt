@@ -2,8 +2,13 @@
 use Rattle.std.proofs.Common.{◌≡◌, ℕ, ◌==◌, ◌+◌, Bool, true, false, cond, List, [], ◌∷◌, ◌++◌, length, refl, ap, sym, ◌∙◌, subst}
 use Rattle.std.specs.Prelude.{Option, None, Some, Ok, Err, Result, nat_le}
 use Rattle.std.specs.FinMap.{from_sorted}
+use Rattle.vl_disk.specs.declared.name.Name.{Name as FileNamed}
+use Rattle.vl_engine.specs.Answers.{CommitFailed, commit_outcome, handed_back}
 use Rattle.vl_engine.specs.Represents as engine
 use Rattle.vl_engine.specs.Sees.{asked}
+use Rattle.vl_engine.specs.declared.engine.Done.{Done}
+use Rattle.vl_engine.specs.declared.fails.CommitFail.{CommitFail}
+use Rattle.vl_engine.specs.declared.fails.CommitFail.TheVariants as fails
 use Rattle.vl_engine.specs.declared.kept.Core.{Core}
 use Rattle.vl_engine.specs.declared.txn.Txn.{Txn}
 use Rattle.vl_layout.specs.AtAnswer.{Beginning}
@@ -210,9 +215,26 @@ module _ {H R : Type 0} (bytes : H → Option (List ℕ)) (before after : Core H
 
 -- ---- what the engine decided, over the reads that the store has
 
-pub decided_so : {H R : Type 0} (bytes : H → Option (List ℕ)) (after : Core H) (h : History) (l : Layout) (txn : Txn H R) (t : ATxn) (is : IsTransaction bytes txn t h l)
-    (outcome : Outcome CommitAnswer) (effects : Effects)
-    → Decides (engine.StandsFor bytes after) h l (commit_ruling l h (asked txn t.reads)) (as_before l (commit_lost l (asked txn t.reads))) outcome effects
-    → Decides (engine.StandsFor bytes after) h l (commit_ruling l h t) (as_before l (commit_lost l t)) outcome effects
-decided_so bytes after h l txn t is outcome effects decides =
-    subst (λ (u : ATxn). Decides (engine.StandsFor bytes after) h l (commit_ruling l h u) (as_before l (commit_lost l u)) outcome effects) is.same decides
+module _ {H R : Type 0} (txn : Txn H R) where
+  -- what a commit came to is that of its answer
+  pub outcome_done : (d e : Done) → d ≡ e → commit_outcome {H = H} {R = R} (Ok d) ≡ commit_outcome {H = H} {R = R} (Ok e)
+  outcome_done d e is = ap (λ (x : Done). commit_outcome {H = H} {R = R} (Ok x)) is
+
+  pub outcome_fail : (f e : CommitFail H R) → f ≡ e → commit_outcome (Err f) ≡ commit_outcome (Err e)
+  outcome_fail f e is = ap (λ (x : CommitFail H R). commit_outcome (Err x)) is
+
+  -- a transaction is handed back, and a fault of the disk is one
+  pub handed_so : (f e : CommitFail H R) → f ≡ e → handed_back (Err f) ≡ handed_back (Err e)
+  handed_so f e is = ap (λ (x : CommitFail H R). handed_back (Err x)) is
+
+  pub failed_so : (f : CommitFail H R) (file : FileNamed) → f ≡ fails.Disk file → CommitFailed (Err f)
+  failed_so f file is = subst (λ (x : CommitFail H R). CommitFailed (Err x)) (sym is) tt
+
+  module _ (bytes : H → Option (List ℕ)) (after : Core H) (h : History) (l : Layout) (t : ATxn) (is : IsTransaction bytes txn t h l)
+      (outcome : Outcome CommitAnswer) (effects : Effects) (a : CommitAnswer) (answered : outcome ≡ Answered a) where
+    -- it was decided on the transaction of the store
+    pub decided_so : Decides (engine.StandsFor bytes after) h l (commit_ruling l h (asked txn t.reads)) (as_before l (commit_lost l (asked txn t.reads))) outcome effects
+        → Decides (engine.StandsFor bytes after) h l (commit_ruling l h t) (as_before l (commit_lost l t)) (Answered a) effects
+    decided_so decides =
+        subst (λ (o : Outcome CommitAnswer). Decides (engine.StandsFor bytes after) h l (commit_ruling l h t) (as_before l (commit_lost l t)) o effects) answered
+        (subst (λ (u : ATxn). Decides (engine.StandsFor bytes after) h l (commit_ruling l h u) (as_before l (commit_lost l u)) outcome effects) is.same decides)

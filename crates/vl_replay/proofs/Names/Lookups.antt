@@ -78,7 +78,7 @@ behind_none : (x : Option ℕ) → option_map (λ n. n + 1) x ≡ None → x ≡
 behind_none None is = refl
 behind_none (Some n) is = absurd cc
 
-behind_some : (x : Option ℕ) (at : ℕ) → option_map (λ n. n + 1) x ≡ Some at → (n : ℕ) × (x ≡ Some n) × (at ≡ suc n)
+pub behind_some : (x : Option ℕ) (at : ℕ) → option_map (λ n. n + 1) x ≡ Some at → (n : ℕ) × (x ≡ Some n) × (at ≡ suc n)
 behind_some None at is = absurd cc
 behind_some (Some n) at is = (n, refl, same (n + 1) at is ∙ (let one : n + 1 ≡ suc n = omega arith in one))
   where

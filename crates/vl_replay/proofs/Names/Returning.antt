@@ -27,17 +27,21 @@ module _ {H R : Type 0} (bytes : H → Option (List ℕ)) (core : Core H) (os le
   pub taken_as : (thing : Option (Thing H R)) → (AreOnce os → IsTaken os left q thing) → IsTaken os left name thing
   taken_as thing taken = subst (λ (n : Name). IsTaken os left n thing) same (taken stands.names.once)
 
+  -- with this thing, which was found there
+  pub taken_out : (found thing : Thing H R) → found ≡ thing → (AreOnce os → IsTaken os left q (Some found)) → IsTaken os left name (Some thing)
+  taken_out found thing is taken = subst (λ (x : Thing H R). IsTaken os left name (Some x)) is (taken_as (Some found) taken)
+
   pub unknown_returns : (AreOnce os → IsTaken os left q None) → (x : Option store.Thing → Step) → x None ≡ only (store_lines.Unknown name) s.store
       → MakesStep bytes core left s (x (thing_of s.store name)) (Ok (answers.Unknown name))
   unknown_returns taken x is = unknown_makes bytes core os s stands left name (taken_as None taken) x is
 
-  pub read_only_returns : (view : EngineView H R) (new : List (Open H R)) → (AreOnce os → IsTaken os left q (Some (View view)))
+  pub read_only_returns : (view : EngineView H R) (new : List (Open H R)) (found : Thing H R) → found ≡ View view → (AreOnce os → IsTaken os left q (Some found))
       → new ≡ left ++ record { name = name; thing = View view } ∷ []
       → (x : Option store.Thing → Step) → ((v : LayoutView) (b : Beginning) → x (Some (AView v b)) ≡ only store_lines.ReadOnly s.store)
       → MakesStep bytes core new s (x (thing_of s.store name)) (Ok answers.ReadOnly)
-  read_only_returns view new taken put x is =
+  read_only_returns view new found found_is taken put x is =
       subst (λ (os' : List (Open H R)). MakesStep bytes core os' s (x (thing_of s.store name)) (Ok answers.ReadOnly)) (sym put)
-      (read_only_makes bytes core os s stands left name view (taken_as (Some (View view)) taken) x is)
+      (read_only_makes bytes core os s stands left name view (taken_out found (View view) found_is taken) x is)
 
 -- over the names that there are then, for the same step, and as the call answers
 pub returns_so : {H R : Type 0} (bytes : H → Option (List ℕ)) (core : Core H) (put new : List (Open H R)) (s : State) (x y : Step) (told result : Result Answer Halt)

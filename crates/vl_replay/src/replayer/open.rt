@@ -30,8 +30,8 @@ impl<H, R> Open<H, R> {
     }
 }
 
-// Where a name stands.
-fn place<H, R>(opens: &[Open<H, R>], name: &[u8]) -> Option<usize>
+/// Where a name stands.
+pub fn place<H, R>(opens: &[Open<H, R>], name: &[u8]) -> Option<usize>
     ensures { result ≡ place_of name.now opens.now }
 {
     let mut at = 0;

@@ -10,7 +10,7 @@ ghost use Rattle.vl_script.specs.declared.answer.Answer.TheVariants.{Rows as The
 
 use crate::fails::Halt;
 use crate::replayer::Replayer;
-use crate::replayer::open::{Thing, put, take_out};
+use crate::replayer::open::{Thing, place};
 use vl_disk::Disk;
 use vl_engine::{ReadFail, Rows};
 use vl_model::{Bytes, Value, Way};
@@ -27,18 +27,12 @@ impl<D: Disk> Replayer<D> {
         ensures engine { self.new.engine ≡ self.old.engine }
         ensures halted { self.new.halted ≡ self.old.halted }
     {
-        match take_out(&mut self.opens, name.as_slice()) {
-            None => Ok(Answer::Unknown { name }),
-            Some(Thing::View(mut view)) => {
-                let result = view.get(key.as_slice());
-                put(&mut self.opens, name, Thing::View(view))?;
-                told(result, with_tag)
-            }
-            Some(Thing::Transaction(mut txn)) => {
-                let result = txn.get(key.as_slice());
-                put(&mut self.opens, name, Thing::Transaction(txn))?;
-                told(result, with_tag)
-            }
+        let Some(at) = place(&self.opens, name.as_slice()) else {
+            return Ok(Answer::Unknown { name });
+        };
+        match &mut self.opens[at].thing {
+            Thing::View(view) => told(view.get(key.as_slice()), with_tag),
+            Thing::Transaction(txn) => told(txn.get(key.as_slice()), with_tag),
         }
     }
 
@@ -60,17 +54,13 @@ impl<D: Disk> Replayer<D> {
         ensures engine { self.new.engine ≡ self.old.engine }
         ensures halted { self.new.halted ≡ self.old.halted }
     {
-        match take_out(&mut self.opens, name.as_slice()) {
-            None => Ok(Answer::Unknown { name }),
-            Some(Thing::View(mut view)) => {
-                let result = view.scan(low.as_slice(), high.as_slice(), limit, way);
-                put(&mut self.opens, name, Thing::View(view))?;
-                told_rows(result)
-            }
-            Some(Thing::Transaction(mut txn)) => {
-                let result = txn.scan(low.as_slice(), high.as_slice(), limit, way);
-                put(&mut self.opens, name, Thing::Transaction(txn))?;
-                told_rows(result)
+        let Some(at) = place(&self.opens, name.as_slice()) else {
+            return Ok(Answer::Unknown { name });
+        };
+        match &mut self.opens[at].thing {
+            Thing::View(view) => told_rows(view.scan(low.as_slice(), high.as_slice(), limit, way)),
+            Thing::Transaction(txn) => {
+                told_rows(txn.scan(low.as_slice(), high.as_slice(), limit, way))
             }
         }
     }

@@ -13,7 +13,7 @@ ghost use Rattle.vl_txn.specs.Refusals.{IsWritten};
 
 use crate::fails::Halt;
 use crate::replayer::Replayer;
-use crate::replayer::open::{Thing, put, take_out};
+use crate::replayer::open::{Thing, place};
 use vl_disk::{Disk, HeldFile, Reader};
 use vl_engine::{SetFail, Txn};
 use vl_model::Bytes;
@@ -34,17 +34,12 @@ impl<D: Disk> Replayer<D> {
         ensures engine { self.new.engine ≡ self.old.engine }
         ensures halted { self.new.halted ≡ self.old.halted }
     {
-        match take_out(&mut self.opens, name.as_slice()) {
-            None => Ok(Answer::Unknown { name }),
-            Some(Thing::View(view)) => {
-                put(&mut self.opens, name, Thing::View(view))?;
-                Ok(Answer::ReadOnly)
-            }
-            Some(Thing::Transaction(mut txn)) => {
-                let result = change(&mut txn, &key, value);
-                put(&mut self.opens, name, Thing::Transaction(txn))?;
-                told(result)
-            }
+        let Some(at) = place(&self.opens, name.as_slice()) else {
+            return Ok(Answer::Unknown { name });
+        };
+        match &mut self.opens[at].thing {
+            Thing::View(_) => Ok(Answer::ReadOnly),
+            Thing::Transaction(txn) => told(change(txn, &key, value)),
         }
     }
 }

@@ -1,6 +1,9 @@
--- Not checked yet. `store` and `holds` wait for a clause of Engine::open on what steps need (core.back).
 use Rattle.std.proofs.Common.{◌≡◌, sym, subst, ◌∙◌, refl, arith}
+use Rattle.vl_engine.specs.Opening.{IsDurable}
+use Rattle.vl_recover.specs.crash.Starts.{MayOpen}
 use Rattle.vl_recover.specs.laws.opening.OneFinding.{opened_not}
+use Rattle.vl_replay.specs.Sequential.{history_of}
+use Rattle.vl_replay.proofs.Openings.Begun.{opened_holds, opened_stands}
 use Rattle.vl_replay.proofs.Openings.Recovering.{refused_not}
 use Rattle.vl_replay.proofs.Openings.Starting.{at_most}
 use Rattle.vl_replay.proofs.replayer.Replayer.new.Goals as goal
@@ -12,7 +15,7 @@ returns-in-Err-clause-refused g c state read refusal is is_read refused =
 pub returns-in-Err-clause-through : goal.returns-in-Err-clause-through
 returns-in-Err-clause-through g c s starts (state, is, durable) =
     let same : state ≡ starts.state = cc in
-    c.in-Err.ensures.through starts.state starts.read _ starts.told (subst _ same durable) starts.is_read starts.shown
+    c.in-Err.ensures.through starts.state starts.read _ starts.told (subst IsDurable same durable) starts.is_read starts.shown
 
 pub returns-in-Err-clause-tells : goal.returns-in-Err-clause-tells
 returns-in-Err-clause-tells g c state is = let told = c.in-Err.ensures.tells state is in (told.0, told.1, tt)
@@ -20,7 +23,7 @@ returns-in-Err-clause-tells g c state is = let told = c.in-Err.ensures.tells sta
 pub returns-in-Ok-clause-through : goal.returns-in-Ok-clause-through
 returns-in-Ok-clause-through g c s starts (state, is, durable) =
     let same : state ≡ starts.state = cc in
-    c.in-Ok.ensures.through starts.state starts.read _ starts.told (subst _ same durable) starts.is_read starts.shown
+    c.in-Ok.ensures.through starts.state starts.read _ starts.told (subst IsDurable same durable) starts.is_read starts.shown
 
 pub returns-in-Ok-clause-tells : goal.returns-in-Ok-clause-tells
 returns-in-Ok-clause-tells g c state is = let told = c.in-Ok.ensures.tells state is in (told.0, told.1, tt)
@@ -38,3 +41,21 @@ pub returns-in-Ok-clause-at_most : goal.returns-in-Ok-clause-at_most
 returns-in-Ok-clause-at_most g c s starts below =
     let made = c.in-Ok.ensures.calls starts.state starts.read starts.found starts.strays starts.told starts.is_read starts.are_strays in
     let same = made ∙ sym starts.calls in omega (arith, same)
+
+-- ---- what was opened
+
+pub returns-in-Ok-clause-store : goal.returns-in-Ok-clause-store
+returns-in-Ok-clause-store g c s starts =
+    opened_stands g.D.Watched g.D.Held.HeldFile.bytes c.args.disk s starts c.in-Ok.engine.core
+    (c.in-Ok.ensures.back starts.state starts.read starts.found starts.told starts.is_read)
+    c.new.result.items c.new.ensures.items
+    (c.in-Ok.ensures.stands starts.state starts.read starts.found (history_of s) starts.told starts.is_read starts.shown)
+
+pub returns-in-Ok-clause-holds : goal.returns-in-Ok-clause-holds
+returns-in-Ok-clause-holds g c s starts (state, told, may) =
+    let same : state ≡ starts.state = cc in
+    opened_holds g.D.Watched g.D.Held.HeldFile.bytes c.args.disk s starts c.in-Ok.engine.core
+    (c.in-Ok.ensures.back starts.state starts.read starts.found starts.told starts.is_read) c.in-Ok.engine.disk
+    (c.in-Ok.ensures.represents starts.state starts.read starts.found (history_of s) starts.told (subst MayOpen same may) starts.is_read starts.shown)
+    (c.in-Ok.ensures.repaired starts.state starts.read starts.told starts.is_read)
+    (c.in-Ok.ensures.calls starts.state starts.read starts.found starts.strays starts.told starts.is_read starts.are_strays)

@@ -26,13 +26,13 @@ returns-in-Ok-clause-makes g c s stands =
     let free = free_of os c.deref.result.now c.deref.ensures.value c.as_slice.result.now c.args.name c.as_slice.ensures c.is_taken.result c.is_taken.ensures c.if-is_taken.false in
     returns_so bytes c.view.new.self.core _ c.put.new.opens.items s
     (begin_as s.store c.args.name a_view (thing_of s.store c.args.name)) (begin_as s.store c.args.name a_view (thing_of s.store c.args.name)) _ _
-    c.in_ok-put.ensures refl (ap (λ n. Ok (answers.Number n)) c.number-number.ensures)
+    c.in_ok-put-in-Ok.ensures refl (ap (λ n. Ok (answers.Number n)) c.number-number.ensures)
     (view_makes bytes core c.view.new.self.core os s stands c.view.ensures.back c.args.name free c.in-Ok.view (c.in-Ok.ensures.sees (history_of s) s.store.layout stands.engine)
     (c.in-Ok.ensures.stands (history_of s) s.store.layout stands.engine))
 
-pub returns-in-TooMany-clause-makes : goal.returns-in-TooMany-clause-makes
-returns-in-TooMany-clause-makes g c s stands =
+pub returns-in-Err-TooMany-clause-makes : goal.returns-in-Err-TooMany-clause-makes
+returns-in-Err-TooMany-clause-makes g c s stands =
     let os = c.args.self.now.opens.items in
     let free = free_of os c.deref.result.now c.deref.ensures.value c.as_slice.result.now c.args.name c.as_slice.ensures c.is_taken.result c.is_taken.ensures c.if-is_taken.false in
     too_many_makes g.D.Held.HeldFile.bytes c.args.self.now.engine.core c.view.new.self.core os s stands c.view.ensures.back c.args.name a_view
-    (state_after-sound s (lines.View c.args.name) stands.sound) free (c.in-TooMany.ensures.stands (history_of s) s.store.layout stands.engine)
+    (state_after-sound s (lines.View c.args.name) stands.sound) free (rw c.in-Err-TooMany.field-0-is at (c.in-Err-TooMany.ensures.stands (history_of s) s.store.layout stands.engine))

@@ -1,35 +1,51 @@
-use Rattle.std.proofs.Common.{◌≡◌, List, ◌++◌, ◌∷◌, [], refl, sym, ap, subst}
-use Rattle.std.specs.Prelude.{Some, None}
+-- The name's transaction is written in its place.
+use Rattle.std.proofs.Common.{◌≡◌, ◌∙◌, refl, sym, arith}
+use Rattle.std.specs.Prelude.{Ok}
 use Rattle.vl_layout.specs.Store.Reading.{write_by}
 use Rattle.vl_layout.specs.Store.Things.{thing_of}
 use Rattle.vl_replay.specs.Standing.{change_of}
-use Rattle.vl_replay.proofs.Names.Making.{write_makes}
-use Rattle.vl_replay.proofs.Names.Returning.{read_only_returns, returns_so, taken_as, unknown_returns}
+use Rattle.vl_replay.specs.declared.replayer.open.Thing.TheVariants.{Transaction}
+use Rattle.vl_replay.proofs.Names.Lookups.{place_there, without_open}
+use Rattle.vl_replay.proofs.Names.Making.{read_only_makes, write_makes}
+use Rattle.vl_replay.proofs.Names.Placing.{free_returns, in_place, out_of_place, still_in_place}
+use Rattle.vl_script.specs.declared.answer.Answer.TheVariants as answers
 use Rattle.vl_replay.proofs.replayer.Replayer.write.Goals as goal
 
-pub returns-in-None-clause-makes : goal.returns-in-None-clause-makes
-returns-in-None-clause-makes g c s stands =
-    unknown_returns g.D.Held.HeldFile.bytes c.args.self.now.engine.core c.args.self.now.opens.items c.take_out.new.opens.items s stands
-    c.as_slice.result.now c.args.name c.as_slice.ensures c.in-None.ensures
+pub returns-in_default-clause-makes : goal.returns-in_default-clause-makes
+returns-in_default-clause-makes g c s stands =
+    free_returns g.D.Held.HeldFile.bytes c.args.self.now.engine.core c.args.self.now.opens.items s stands
+    c.deref.result.now c.deref.ensures.value c.as_slice.result.now c.args.name c.as_slice.ensures (sym c.place.ensures ∙ c.in_default.is)
     (write_by s.store c.args.name c.args.key (change_of c.args.value)) refl
 
-pub returns-in-Some-View-clause-makes : goal.returns-in-Some-View-clause-makes
-returns-in-Some-View-clause-makes g c s stands =
-    read_only_returns g.D.Held.HeldFile.bytes c.args.self.now.engine.core c.args.self.now.opens.items c.take_out.new.opens.items s stands
-    c.as_slice.result.now c.args.name c.as_slice.ensures c.in-Some-View.view c.put.new.opens.items c.in-Some-View.ensures c.in_ok-put-in-Some-View.ensures
-    (write_by s.store c.args.name c.args.key (change_of c.args.value)) (λ v b. refl)
+pub index_mut-requires : goal.index_mut-requires
+index_mut-requires g c =
+    let there = place_there c.as_slice.result.now c.deref.result.now c.in-Some.at (sym c.place.ensures ∙ c.in-Some.is) in
+    let within = there.2 in
+    let len = c.deref.ensures.len in
+    omega (arith, within, len)
 
 pub returns-clause-makes : goal.returns-clause-makes
 returns-clause-makes g c s stands =
     let bytes = g.D.Held.HeldFile.bytes in
     let core = c.args.self.now.engine.core in
     let os = c.args.self.now.opens.items in
-    let left = c.take_out.new.opens.items in
-    let taken = taken_as bytes core os left s stands c.as_slice.result.now c.args.name c.as_slice.ensures _ c.in-Some-Transaction.ensures in
-    let txn = c.in-Some-Transaction.txn in
-    let changed = c.change-result.new.txn in
-    returns_so bytes core _ c.put-in-Some-Transaction.new.opens.items s
-    (write_by s.store c.args.name c.args.key (change_of c.args.value) (thing_of s.store c.args.name)) _ _ c.told.result
-    c.in_ok-put-in-Some-Transaction.ensures refl c.told.ensures
-    (write_makes bytes core os s stands left c.args.name txn taken changed c.args.key (change_of c.args.value) c.change-result.ensures.keeps c.change-result.ensures.sees
-    c.change-result.result c.change-result.ensures.written)
+    let taken = out_of_place bytes core os s stands c.deref.result.now c.deref.ensures.value c.as_slice.result.now c.args.name c.as_slice.ensures
+        c.in-Some.at (sym c.place.ensures ∙ c.in-Some.is) c.index_mut.result.now c.index_mut.ensures.value _ c.in-Transaction.is in
+    in_place bytes core os s stands c.deref.result.now c.deref.ensures.value c.as_slice.result.now c.args.name c.as_slice.ensures
+    c.in-Some.at (sym c.place.ensures ∙ c.in-Some.is) c.index_mut.result.now c.index_mut.ensures.value (Transaction c.change.new.txn)
+    (write_by s.store c.args.name c.args.key (change_of c.args.value) (thing_of s.store c.args.name)) _ _ c.told.result refl c.told.ensures
+    (write_makes bytes core os s stands (without_open c.args.name os) c.args.name c.in-Transaction.txn taken c.change.new.txn c.args.key (change_of c.args.value)
+    c.change.ensures.keeps c.change.ensures.sees c.change.result c.change.ensures.written)
+
+pub returns-in-View-clause-makes : goal.returns-in-View-clause-makes
+returns-in-View-clause-makes g c s stands =
+    let bytes = g.D.Held.HeldFile.bytes in
+    let core = c.args.self.now.engine.core in
+    let os = c.args.self.now.opens.items in
+    let taken = out_of_place bytes core os s stands c.deref.result.now c.deref.ensures.value c.as_slice.result.now c.args.name c.as_slice.ensures
+        c.in-Some.at (sym c.place.ensures ∙ c.in-Some.is) c.index_mut.result.now c.index_mut.ensures.value _ c.in-View.is in
+    still_in_place bytes core os s stands c.deref.result.now c.deref.ensures.value c.as_slice.result.now c.args.name c.as_slice.ensures
+    c.in-Some.at (sym c.place.ensures ∙ c.in-Some.is) c.index_mut.result.now c.index_mut.ensures.value _ c.in-View.is
+    (write_by s.store c.args.name c.args.key (change_of c.args.value) (thing_of s.store c.args.name)) (Ok answers.ReadOnly)
+    (read_only_makes bytes core os s stands (without_open c.args.name os) c.args.name c.in-View.field-0 taken
+    (write_by s.store c.args.name c.args.key (change_of c.args.value)) (λ v b. refl))
