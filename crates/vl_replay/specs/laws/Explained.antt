@@ -188,8 +188,12 @@ module _ (s : State) (sound : IsSound s) where
       let rows = scanned_rows s way low high limit t.writes t.number in
       let read : Read = RangeRead (record (scan_of way low high limit t.writes) { rows = rows }) in
       let x : Thing = ATransaction (record t { reads = t.reads ++ read ∷ [] }) b in
-      let is_sound : IsSoundThing h' x = (explained-more h' t.number t.reads read explained
-      (rows_are s sound.proper.commits way low high limit t.writes t.number rising), from, known) in
+      let is_sound : IsSoundThing h' x = (
+        explained-more h' t.number t.reads read explained
+            (rows_are s sound.proper.commits way low high limit t.writes t.number rising),
+        from,
+        known,
+      ) in
       either (nat_le (length low) max_key_bytes && nat_le (length high) max_key_bytes) _ _
       (stays _ refl (with_named name x is_sound))
       (same_things _ refl refl)
