@@ -90,10 +90,10 @@ module _ {H R : Type 0} (bytes : H → Option (List ℕ)) (before after : Core H
     abbrev by_ruling : Bool → Step
     by_ruling full = begun_by s.store name (thing (beginning_of (by_room full).layout h)) (by_room full) (by_room full).answer
 
-
     not_there : open_in os name ≡ None → thing_of s.store name ≡ None
     not_there free = no_thing H R bytes h l (thing_of s.store name)
         (subst (λ (o : Option (Thing H R)). Corresponds bytes h l o (thing_of s.store name)) free (stands.names.each name))
+
     abbrev full : Bool
     full = nat_le max_live (length l.live)
 
@@ -102,7 +102,7 @@ module _ {H R : Type 0} (bytes : H → Option (List ℕ)) (before after : Core H
 
     pub begin_makes : (free : open_in os name ≡ None) (new : Thing H R) (own number : ℕ)
         → ((b : Beginning) → own ≡ ticket → number ≡ last_number h
-            → Stand bytes (os ++ record { name = name; thing = new } ∷ []) (named name (thing b ticket (last_number h)) s.store.things) h (begun l ticket (last_number h)))
+        → Stand bytes (os ++ record { name = name; thing = new } ∷ []) (named name (thing b ticket (last_number h)) s.store.things) h (begun l ticket (last_number h)))
         → Decides (engine.StandsFor bytes after) h l (begin_ruling l h) (as_before l l) (Answered (Begun own number)) no_effects
         → MakesStep bytes after (os ++ record { name = name; thing = new } ∷ []) s (begin_as s.store name thing (thing_of s.store name)) (Ok (answers.Number number))
     begin_makes free new own number names decides =
@@ -168,19 +168,23 @@ module _ {H R : Type 0} (bytes : H → Option (List ℕ)) (before after : Core H
     view_ends view taken on =
         let (b, there, sees, live) = its bytes before os s stands left name view taken in
         let same : dropping ≡ drop_by s.store name (Some (AView (asked_view view) b)) = ap (drop_by s.store name) there in
-        subst (λ (y : Step). MakesStep bytes after left s y (Ok answers.Done)) (sym same)
-        (refl, ended_stands (View view) taken (AView (asked_view view) b) there on store_lines.Done
-        (subst (λ (y : Step). IsSound (state_by s y)) same (state_after-sound s (lines.Drop name) stands.sound)))
+        subst (λ (y : Step). MakesStep bytes after left s y (Ok answers.Done)) (sym same) (
+          refl,
+          ended_stands (View view) taken (AView (asked_view view) b) there on store_lines.Done
+              (subst (λ (y : Step). IsSound (state_by s y)) same (state_after-sound s (lines.Drop name) stands.sound)),
+        )
 
     pub transaction_ends : (txn : Txn H R) → IsTaken os left name (Some (Transaction txn)) → engine.StandsFor bytes after h (ended txn.ticket l)
         → MakesStep bytes after left s dropping (Ok answers.Done)
     transaction_ends txn taken on =
         let (t, b, there, is) = itself bytes before os s stands left name txn taken in
         let same : dropping ≡ drop_by s.store name (Some (ATransaction t b)) = ap (drop_by s.store name) there in
-        subst (λ (y : Step). MakesStep bytes after left s y (Ok answers.Done)) (sym same)
-        (refl, ended_stands (Transaction txn) taken (ATransaction t b) there
-        (subst (λ (u : ATxn). engine.StandsFor bytes after h (ended u.ticket l)) is.same on) store_lines.Done
-        (subst (λ (y : Step). IsSound (state_by s y)) same (state_after-sound s (lines.Drop name) stands.sound)))
+        subst (λ (y : Step). MakesStep bytes after left s y (Ok answers.Done)) (sym same) (
+          refl,
+          ended_stands (Transaction txn) taken (ATransaction t b) there
+              (subst (λ (u : ATxn). engine.StandsFor bytes after h (ended u.ticket l)) is.same on) store_lines.Done
+              (subst (λ (y : Step). IsSound (state_by s y)) same (state_after-sound s (lines.Drop name) stands.sound)),
+        )
 
 -- ---- a name that is in use
 

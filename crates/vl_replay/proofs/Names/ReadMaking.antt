@@ -179,12 +179,12 @@ module _ {H R : Type 0} (bytes : H → Option (List ℕ)) (core : Core H) (os : 
             → MakesStep bytes core behind_it s (reading with_tag key) (told_by (told_value with_tag) result)
         of (Ok found) refused kept value sees =
             let (t, b, there, is) = itself bytes core os s stands left name txn taken in
-            let so = reads_so bytes s.store stands.sound.proper.commits os left stands.names name txn new taken key (key_fits key refused) keeps (tell_of with_tag) t b there is (sees h t.reads is.sees) in
-            (told_is with_tag found ∙ ap without_lengths (ap (tell_of with_tag) (value h t.reads is.sees) ∙ sym so.answer),
-              quiet_stands bytes core os behind_it s (reading with_tag key) (get_quiet s.store name (tell_of with_tag) key (thing_of s.store name)) stands so.names (read_sound with_tag key))
+            let so = reads_so bytes s.store stands.sound.proper.commits os left stands.names name txn new taken key (key_fits key refused) keeps (tell_of with_tag) t b there is (sees h t.reads is.sees) in (
+              told_is with_tag found ∙ ap without_lengths (ap (tell_of with_tag) (value h t.reads is.sees) ∙ sym so.answer),
+              quiet_stands bytes core os behind_it s (reading with_tag key) (get_quiet s.store name (tell_of with_tag) key (thing_of s.store name)) stands so.names (read_sound with_tag key),
+            )
         of (Err unread.EmptyKey) refused kept value sees = invalid EmptyKey refused kept
         of (Err unread.KeyTooLong) refused kept value sees = invalid KeyTooLong refused kept
         of (Err unread.NoMemory) refused kept value sees = tt
         of (Err (unread.Disk file)) refused kept value sees = tt
         of (Err (unread.Damaged file place)) refused kept value sees = tt
-
