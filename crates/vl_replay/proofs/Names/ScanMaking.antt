@@ -1,5 +1,5 @@
 -- What scans through a name make.
-use Rattle.std.proofs.Common.{◌≡◌, ℕ, Bool, true, false, cond, ◌&&◌, List, [], ◌∷◌, ◌++◌, length, refl, ap, sym, ◌∙◌, subst}
+use Rattle.std.proofs.Common.{◌≡◌, ℕ, Bool, true, false, cond, ◌&&◌, List, [], ◌∷◌, ◌++◌, length, refl, ap, sym, ◌∙◌}
 use Rattle.std.specs.Prelude.{Option, None, Some, Ok, Err, Result, IfOk, OnErr, nat_le}
 use Rattle.std.specs.FinMap.{empty, from_sorted}
 use Rattle.vl_engine.specs.Reading.{IsRefusedBy, NotesNothing, OnlyNotes, OnlyReads, refused_bounds, rows_under}
@@ -22,13 +22,13 @@ use Rattle.vl_model.specs.declared.way.Way.{Way}
 use Rattle.vl_txn.specs.Reads as noting
 use Rattle.vl_txn.specs.declared.key_fail.KeyFail.{KeyFail}
 use Rattle.vl_txn.specs.declared.key_fail.KeyFail.TheVariants.{EmptyKey, KeyTooLong}
-use Rattle.vl_replay.specs.Replaying.{MakesStep, StandsIn, state_by}
+use Rattle.vl_replay.specs.Replaying.{MakesStep, StandsIn}
 use Rattle.vl_replay.specs.Sequential.{IsTold, State, history_of, without_lengths}
 use Rattle.vl_replay.specs.Standing.{IsTaken, told_by}
 use Rattle.vl_replay.specs.declared.replayer.open.Open.{Open}
 use Rattle.vl_replay.specs.declared.replayer.open.Thing.TheVariants.{Transaction, View}
 use Rattle.vl_replay.specs.laws.Explained.{rows_are}
-use Rattle.vl_replay.specs.laws.Laws.{IsSound, state_after-sound}
+use Rattle.vl_replay.specs.laws.Laws.{state_after-sound}
 use Rattle.vl_script.specs.declared.answer.Answer.{Answer}
 use Rattle.vl_script.specs.declared.answer.Answer.TheVariants as answers
 use Rattle.vl_script.specs.declared.line.Line.TheVariants as lines

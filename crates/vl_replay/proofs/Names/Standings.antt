@@ -8,7 +8,7 @@ use Rattle.vl_layout.specs.Store.Things.{named, thing_in, without_name}
 use Rattle.vl_layout.specs.declared.layout.Layout.{Layout}
 use Rattle.vl_model.specs.History.{History}
 use Rattle.vl_model.specs.Keys.{key_cmp}
-use Rattle.vl_replay.specs.Standing.{AreOnce, Corresponds, IsTaken, Stand, open_in, ticket_of}
+use Rattle.vl_replay.specs.Standing.{Corresponds, IsTaken, Stand, open_in, ticket_of}
 use Rattle.vl_replay.specs.declared.replayer.open.Open.{Open}
 use Rattle.vl_replay.specs.declared.replayer.open.Thing.{Thing}
 use Rattle.vl_replay.proofs.Names.Lookups.{named_so, once_put, own_name, open_beside, open_put, thing_beside, thing_gone, thing_left, thing_put}

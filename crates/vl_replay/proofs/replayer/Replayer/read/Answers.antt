@@ -1,5 +1,5 @@
 -- The name's thing is read in its place.
-use Rattle.std.proofs.Common.{◌≡◌, ◌∙◌, ℕ, List, refl, ap, sym, arith}
+use Rattle.std.proofs.Common.{◌∙◌, ℕ, List, refl, ap, sym, arith}
 use Rattle.vl_layout.specs.Store.Reading.{get_by}
 use Rattle.vl_layout.specs.Store.Things.{thing_of}
 use Rattle.vl_replay.specs.Sequential.{history_of}

@@ -1,5 +1,5 @@
 -- The name's transaction is written in its place.
-use Rattle.std.proofs.Common.{◌≡◌, ◌∙◌, refl, sym, arith}
+use Rattle.std.proofs.Common.{◌∙◌, refl, sym, arith}
 use Rattle.std.specs.Prelude.{Ok}
 use Rattle.vl_layout.specs.Store.Reading.{write_by}
 use Rattle.vl_layout.specs.Store.Things.{thing_of}
